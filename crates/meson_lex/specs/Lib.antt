@@ -1,0 +1,11 @@
+-- What the contracts of this crate cite.
+pub mod Bytes
+pub mod Kinds
+pub mod Neighbours
+pub mod Items
+pub mod Faults
+pub mod Lexed
+pub mod Literals
+pub mod Scan
+pub mod Significant
+pub mod Located

@@ -1,0 +1,10 @@
+pub mod Written
+pub mod Tallies
+pub mod TreeViews
+pub mod CallsFound
+pub mod SameTrees
+pub mod NewTexts
+pub mod InOrder
+pub mod Inside
+pub mod Splices
+pub mod Endings

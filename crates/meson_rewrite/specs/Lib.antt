@@ -1,0 +1,10 @@
+pub mod Content
+pub mod MemoryStore
+pub mod Finding
+pub mod Editing
+pub mod Lines
+pub mod Words
+pub mod Asked
+pub mod Found
+pub mod Outcome
+pub mod Runs

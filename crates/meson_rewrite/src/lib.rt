@@ -1,0 +1,23 @@
+//! Edits `meson.build` files in place: stores of named files, and the program over any of them.
+#![tactic(auto)]
+
+mod compare;
+mod edit;
+mod find;
+mod folder;
+mod lines;
+mod memory;
+mod program;
+mod refusal;
+mod stop;
+mod store;
+mod store_fault;
+mod tally;
+mod words;
+
+pub use folder::Folder;
+pub use memory::Memory;
+pub use program::rewrite;
+pub use refusal::Refusal;
+pub use store::{Store, StoreError};
+pub use store_fault::StoreFault;

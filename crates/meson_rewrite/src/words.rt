@@ -1,0 +1,94 @@
+//! What the words of a command line ask for.
+
+ghost use Rattle.std.specs.Prelude.{◌≡◌, ◌++◌, codes, IfOk, map, option_map, string_bytes};
+ghost use Rattle.meson_rewrite.specs.Words.{is_value, requested, command, setting, file_name};
+ghost use Rattle.meson_rewrite.specs.Asked.{request_of};
+
+use std::alloc::{AllocError, Global};
+
+/// What is asked for.
+pub(crate) enum Asked<'a> {
+    Help,
+    SetVersion(SetVersion<'a>),
+}
+
+/// Sets the version of the project.
+#[derive(Clone, Copy)]
+pub(crate) struct SetVersion<'a> {
+    /// Where its `meson.build` stands, if not in the working folder.
+    pub folder: Option<&'a str>,
+    pub id: &'a str,
+    pub value: &'a str,
+}
+
+/// The build file of a folder.
+pub(crate) fn file_name(alloc: Global, folder: Option<&str>) -> Result<String, AllocError>
+    ensures { IfOk result (λ name. string_bytes name ≡ file_name (option_map (λ f. f.now) folder.entry)) }
+{
+    let Some(folder) = folder else {
+        return Ok(String::from_str(alloc, "meson.build")?);
+    };
+    let mut name = String::from_str(alloc, folder)?;
+    name.push_str("/meson.build")?;
+    Ok(name)
+}
+
+/// A word that begins with a dash is no value.
+fn is_value(word: &str) -> bool
+    ensures { result ≡ is_value word.now }
+{
+    word.as_bytes().first() != Some(&b'-')
+}
+
+/// Reads `kwargs set project ID version VALUE`.
+fn setting<'a>(folder: Option<&'a str>, words: &'a [String]) -> Option<Asked<'a>>
+    ensures { option_map request_of result ≡ setting (option_map (λ f. f.now) folder.entry) (map string_bytes words.now) }
+{
+    let [kwargs, set, project, id, version, value] = words else {
+        return None;
+    };
+    if kwargs.as_str() == "kwargs"
+        && set.as_str() == "set"
+        && project.as_str() == "project"
+        && version.as_str() == "version"
+        && is_value(id.as_str())
+        && is_value(value.as_str())
+    {
+        Some(Asked::SetVersion(SetVersion {
+            folder,
+            id: id.as_str(),
+            value: value.as_str(),
+        }))
+    } else {
+        None
+    }
+}
+
+/// Reads the words after the program's name.
+fn command<'a>(words: &'a [String]) -> Option<Asked<'a>>
+    ensures { option_map request_of result ≡ command (map string_bytes words.now) }
+{
+    let [option, folder, rest @ ..] = words else {
+        return None;
+    };
+    if option.as_str() != "--sourcedir" {
+        return setting(None, words);
+    }
+    if !is_value(folder.as_str()) {
+        return None;
+    }
+    setting(Some(folder.as_str()), rest)
+}
+
+/// What the words ask for, of which the first is the program's name; none where the usage is wrong.
+pub(crate) fn asked_by(words: &[String]) -> Option<Asked<'_>>
+    ensures { option_map request_of result ≡ requested (map string_bytes words.now) }
+{
+    let (_, words) = words.split_first()?;
+    if let [word] = words {
+        if word.as_str() == "--help" {
+            return Some(Asked::Help);
+        }
+    }
+    command(words)
+}

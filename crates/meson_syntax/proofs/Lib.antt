@@ -1,0 +1,7 @@
+pub mod Turns
+pub mod Views
+pub mod Slices
+pub mod Gathered
+pub mod parsing
+pub mod places
+pub mod exchange

@@ -1,0 +1,5 @@
+pub mod Brackets
+pub mod Nesting
+pub mod Items
+pub mod Lists
+pub mod Levels

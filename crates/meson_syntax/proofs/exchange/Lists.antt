@@ -1,0 +1,137 @@
+-- A list's bytes exchanged for the text of another list: the new text spells the tree with the other list in that place.
+use Rattle.std.proofs.Common.{◌≡◌, ℕ, List, [], ◌∷◌, ◌++◌, length, Some, refl, sym, ap, ap₂, subst, ◌∙◌, append_assoc, length-append, arith, inl, inr}
+use Rattle.meson_lex.specs.declared.kinds.Kind.{Kind}
+use Rattle.meson_lex.specs.declared.kinds.Span.{Span}
+use Rattle.meson_lex.specs.Items.{Lexeme, joined, AreItems}
+use Rattle.meson_lex.specs.Significant.{Opens, Closes, State, start, after, emitted, closing, significant}
+use Rattle.meson_lex.proofs.Seams.{joined-append}
+use Rattle.meson_syntax.specs.Tree.{Listing, listing, File, erase}
+use Rattle.meson_syntax.specs.Grammar.{mark, listing_words, file_words, LevelFile}
+use Rattle.meson_syntax.specs.Reads.{Spells, IsSpanned}
+use Rattle.meson_syntax.specs.Paths.{ListAt, list_at, list_span}
+use Rattle.meson_syntax.specs.Places.{spoken, inner_words, ListStands}
+use Rattle.meson_syntax.specs.Exchange.{IsListText}
+use Rattle.meson_syntax.proofs.parsing.Erased.{file-words-erased, file-level-erased}
+use Rattle.meson_syntax.proofs.places.Spots.{after-append}
+use Rattle.meson_syntax.proofs.places.Standing.{joined-lengths, lists-stand}
+use Rattle.meson_syntax.proofs.places.Backs.{AreBrackets, FileFits, file-fits}
+use Rattle.meson_syntax.proofs.exchange.Brackets.{IsBracket, open-round, close-round, open-square, close-square}
+use Rattle.meson_syntax.proofs.exchange.Nesting.{nest, inner-flat}
+use Rattle.meson_syntax.proofs.exchange.Items.{listed, behind, exchanged-items, list-after, list-significant}
+
+opens-bracket : (κ ι : Kind) → AreBrackets κ ι → IsBracket κ Opens
+opens-bracket κ ι (inl h) = subst (λ x. IsBracket x Opens) (sym h.0) open-round
+opens-bracket κ ι (inr h) = subst (λ x. IsBracket x Opens) (sym h.0) open-square
+
+closes-bracket : (κ ι : Kind) → AreBrackets κ ι → IsBracket ι Closes
+closes-bracket κ ι (inl h) = subst (λ x. IsBracket x Closes) (sym h.1) close-round
+closes-bracket κ ι (inr h) = subst (λ x. IsBracket x Closes) (sym h.1) close-square
+
+listing-inner : {S : Type 0} (l : Listing S) (κ ι : Kind) → listing_words l κ ι ≡ mark κ ++ (inner_words l ++ mark ι)
+listing-inner (listing s trailing list) κ ι = refl
+
+-- ---- texts cut at the same place
+
+same-cut : {A : Type 0} (a b c d : List A) → a ++ b ≡ c ++ d → length a ≡ length c → (a ≡ c) × (b ≡ d)
+same-cut [] b [] d e n = (refl, e)
+same-cut [] b (y ∷ c) d e n = absurd (omega arith)
+same-cut (x ∷ a) b [] d e n = absurd (omega arith)
+same-cut (x ∷ a) b (y ∷ c) d e n =
+    let rest : a ++ b ≡ c ++ d = cc in
+    let shorter : length a ≡ length c = omega arith in
+    let head : x ≡ y = cc in
+    let r = same-cut a b c d rest shorter in
+    (ap₂ (λ u v. u ∷ v) head r.0, r.1)
+
+joined-three : (left own right : List Lexeme) → joined (left ++ (own ++ right)) ≡ joined left ++ (joined own ++ joined right)
+joined-three left own right = joined-append left (own ++ right) ∙ ap (λ t. joined left ++ t) (joined-append own right)
+
+-- the items of a list, and those behind it
+own-first : (o : Lexeme) (inner : List Lexeme) (c : Lexeme) (right : List Lexeme) → listed o inner c right ≡ listed o inner c [] ++ right
+own-first o inner c right = ap (λ l. o ∷ l) (sym (append_assoc inner (c ∷ []) right))
+
+joined-list : (left : List Lexeme) (o : Lexeme) (inner : List Lexeme) (c : Lexeme) (right : List Lexeme)
+    → joined (left ++ listed o inner c right) ≡ joined left ++ (joined (listed o inner c []) ++ joined right)
+joined-list left o inner c right = ap (λ l. joined (left ++ l)) (own-first o inner c right) ∙ joined-three left (listed o inner c []) right
+
+module _ (bytes : List ℕ) (f : File Span) (s : IsSpanned bytes f) (path : List ℕ) (p : ListAt Span) (is : list_at f path ≡ Some p) where
+  place : ListStands s.reads.spells.items p
+  place = (lists-stand bytes f s path p is).list
+
+  fits : FileFits Span f p
+  fits = file-fits Span f path p is
+
+  -- the parts of the text that the list's span cuts out are the texts of the items
+  cut-is : (front was back : List ℕ) → bytes ≡ front ++ (was ++ back) → length front ≡ (list_span p.list).from → length (front ++ was) ≡ (list_span p.list).to
+      → (front ≡ joined place.left) × (back ≡ joined place.right)
+  cut-is front was back parts from to =
+      let own = listed place.open_item place.inner place.close_item [] in
+      let whole : joined place.left ++ (joined own ++ joined place.right) ≡ front ++ (was ++ back) =
+      sym (joined-list place.left place.open_item place.inner place.close_item place.right) ∙ ap joined (sym place.parts) ∙ s.reads.spells.are_items.joins ∙ parts in
+      let first = same-cut (joined place.left) (joined own ++ joined place.right) front (was ++ back) whole (sym place.from ∙ sym from) in
+      let n0 = joined-lengths place.left own in
+      let n1 = length-append front was in
+      let n2 = place.to in
+      let n3 = place.from in
+      let second = same-cut (joined own) (joined place.right) was back first.1 (omega arith) in
+      (sym first.0, sym second.1)
+
+  module _ (l : Listing Span) (text : List ℕ) (t : IsListText text p.opens p.closes (inner_words l)) where
+    opens : IsBracket p.opens Opens
+    opens = opens-bracket p.opens p.closes fits.brackets
+
+    closes : IsBracket p.closes Closes
+    closes = closes-bracket p.opens p.closes fits.brackets
+
+    abbrev now : List Lexeme
+    now = place.left ++ listed t.open_item t.inner t.close_item place.right
+
+    now-items : AreItems now []
+    now-items =
+        exchanged-items p.opens p.closes opens closes place.left place.inner place.right t.inner place.open_item place.close_item t.open_item t.close_item place.opens place.closes t.is_open t.is_close
+        (subst (λ xs. AreItems xs []) place.parts s.reads.spells.are_items.each) t.are_items.each
+
+    old-flat : nest 0 (spoken place.inner) ≡ Some 0
+    old-flat = ap (nest 0) place.is_inner ∙ inner-flat Span p.list
+
+    new-flat : nest 0 (spoken t.inner) ≡ Some 0
+    new-flat = ap (nest 0) t.is_inner ∙ inner-flat Span l
+
+    -- the words behind the list stay
+    rest-words : emitted (behind (after start place.left)) place.right ++ closing (after (behind (after start place.left)) place.right).fresh ≡ p.behind
+    rest-words =
+        let st = after start place.left in
+        let list-end : after start (place.left ++ listed place.open_item place.inner place.close_item []) ≡ behind st =
+        after-append start place.left (listed place.open_item place.inner place.close_item [])
+        ∙ list-after p.opens p.closes opens closes place.inner place.open_item place.close_item place.opens place.closes old-flat st [] in
+        let text-end : after start s.reads.spells.items ≡ after (behind st) place.right =
+        ap (after start) place.parts ∙ after-append start place.left (listed place.open_item place.inner place.close_item place.right)
+        ∙ list-after p.opens p.closes opens closes place.inner place.open_item place.close_item place.opens place.closes old-flat st place.right in
+        ap₂ (λ (a b : State). emitted a place.right ++ closing b.fresh) (sym list-end) (sym text-end) ∙ place.is_right
+
+    now-words : significant now ≡ file_words (p.back l)
+    now-words =
+        list-significant p.opens p.closes opens closes t.inner t.open_item t.close_item t.is_open t.is_close new-flat place.left place.right
+        ∙ ap₂ (λ u v. u ++ v) place.is_left
+        (ap₂ (λ u v. u ++ v) (ap (λ w. mark p.opens ++ (w ++ mark p.closes)) t.is_inner ∙ sym (listing-inner l p.opens p.closes)) rest-words)
+        ∙ sym (fits.words l)
+
+    exchanged : LevelFile (p.back l) → (front back : List ℕ) → front ≡ joined place.left → back ≡ joined place.right → Spells (front ++ (text ++ back)) (erase (p.back l))
+    exchanged level front back is-front is-back = record {
+      items = now;
+      are_items = record {
+        joins = joined-list place.left t.open_item t.inner t.close_item place.right ∙ ap (λ x. joined place.left ++ (x ++ joined place.right)) t.are_items.joins
+            ∙ ap₂ (λ x y. x ++ (text ++ y)) (sym is-front) (sym is-back);
+        each = now-items;
+      };
+      words = now-words ∙ sym (file-words-erased (p.back l));
+      level = subst (λ A. A) (sym (file-level-erased (p.back l))) level;
+    }
+
+pub lists-exchange : (bytes : List ℕ) (f : File Span) (s : IsSpanned bytes f) (path : List ℕ) (p : ListAt Span) → list_at f path ≡ Some p
+    → (l : Listing Span) (text : List ℕ) → IsListText text p.opens p.closes (inner_words l) → LevelFile (p.back l)
+    → (front was back : List ℕ) → bytes ≡ front ++ (was ++ back) → length front ≡ (list_span p.list).from → length (front ++ was) ≡ (list_span p.list).to
+    → Spells (front ++ (text ++ back)) (erase (p.back l))
+lists-exchange bytes f s path p is l text t level front was back parts from to =
+    let cut = cut-is bytes f s path p is front was back parts from to in
+    exchanged bytes f s path p is l text t level front back cut.0 cut.1

@@ -1,0 +1,127 @@
+-- The words of a list open no bracket that they do not close, so the items between its brackets give their words and no line end.
+use Rattle.std.proofs.Common.{◌≡◌, ℕ, zero, suc, pred, ◌+◌, Bool, true, false, List, [], ◌∷◌, ◌++◌, Option, Some, None, refl, sym, ap, ◌∙◌, append_assoc, arith}
+use Rattle.std.specs.Prelude.{option_and_then}
+use Rattle.meson_lex.specs.declared.kinds.Kind.{Kind}
+use Rattle.meson_lex.specs.declared.kinds.Kind.TheVariants as k
+use Rattle.meson_lex.specs.Items.{Lexeme}
+use Rattle.meson_lex.specs.Significant.{Word, kept, new_line, Role, Gap, Ends, Opens, Closes, Other, role, State, step_by, ends_line, only_if, emit_by, emitted, after}
+use Rattle.meson_syntax.specs.Tree.{Expression, identifier, string, array, call, Listing, listing, Argument, plain, named, Arguments, no_arguments, argument}
+use Rattle.meson_syntax.specs.Grammar.{mark, comma_words, expression_words, listing_words, argument_words, arguments_words}
+use Rattle.meson_syntax.specs.Places.{spoken_by, spoken, inner_words}
+use Rattle.meson_syntax.proofs.parsing.Steps.{some-injective}
+
+-- how many brackets are open after a word, where `n` are before it
+abbrev nest_by : Role → ℕ → Option ℕ
+nest_by Gap n = Some n
+nest_by Ends n = Some n
+nest_by Opens n = Some (suc n)
+nest_by Closes zero = None
+nest_by Closes (suc n) = Some n
+nest_by Other n = Some n
+
+abbrev pub nest : ℕ → List Word → Option ℕ
+nest n [] = Some n
+nest n (w ∷ ws) = option_and_then (λ m. nest m ws) (nest_by (role w.0) n)
+
+-- ---- what the words of a tree open they close
+
+-- words that open nothing that they do not close, wherever they stand
+abbrev Flat : List Word → Type 0
+Flat a = (n : ℕ) (b : List Word) → nest n (a ++ b) ≡ nest n b
+
+flat-append : (a b : List Word) → Flat a → Flat b → Flat (a ++ b)
+flat-append a b f g n c = ap (nest n) (append_assoc a b c) ∙ f n (b ++ c) ∙ g n c
+
+flat-word : (κ : Kind) (x : List ℕ) → role κ ≡ Other → Flat ((κ, x) ∷ [])
+flat-word κ x other n b = rw other refl
+
+flat-brackets : (opens closes : Kind) (a : List Word) → role opens ≡ Opens → role closes ≡ Closes → Flat a → Flat (mark opens ++ (a ++ mark closes))
+flat-brackets opens closes a o c f n b =
+    let inside : nest (suc n) ((a ++ mark closes) ++ b) ≡ nest n b =
+    ap (nest (suc n)) (append_assoc a (mark closes) b) ∙ f (suc n) (mark closes ++ b) ∙ closed in
+    opened ∙ inside where
+      closed : nest (suc n) (mark closes ++ b) ≡ nest n b
+      closed = rw c refl
+
+      opened : nest n ((mark opens ++ (a ++ mark closes)) ++ b) ≡ nest (suc n) ((a ++ mark closes) ++ b)
+      opened = rw o refl
+
+module _ (S : Type 0) where
+  comma-flat : (more : Arguments S) (trailing : Bool) → Flat (comma_words more trailing)
+  comma-flat no_arguments true = flat-word k.Comma [] refl
+  comma-flat no_arguments false = λ n b. refl
+  comma-flat (argument a more) trailing = flat-word k.Comma [] refl
+
+  mutual
+    expression-flat : (e : Expression S) → Flat (expression_words e)
+    expression-flat (identifier s x) = flat-word k.Identifier x refl
+    expression-flat (string s x) = flat-word k.PlainString x refl
+    expression-flat (array l) = listing-flat l k.OpenSquare k.CloseSquare refl refl
+    expression-flat (call s x l) =
+        flat-append ((k.Identifier, x) ∷ []) (listing_words l k.OpenRound k.CloseRound) (flat-word k.Identifier x refl) (listing-flat l k.OpenRound k.CloseRound refl refl)
+
+    listing-flat : (l : Listing S) (opens closes : Kind) → role opens ≡ Opens → role closes ≡ Closes → Flat (listing_words l opens closes)
+    listing-flat (listing s trailing list) opens closes o c = flat-brackets opens closes (arguments_words list trailing) o c (arguments-flat list trailing)
+
+    argument-flat : (a : Argument S) → Flat (argument_words a)
+    argument-flat (plain e) = expression-flat e
+    argument-flat (named s x e) =
+        flat-append ((k.Identifier, x) ∷ []) (mark k.Colon ++ expression_words e) (flat-word k.Identifier x refl) (flat-append (mark k.Colon) (expression_words e) (flat-word k.Colon [] refl) (expression-flat e))
+
+    arguments-flat : (list : Arguments S) (trailing : Bool) → Flat (arguments_words list trailing)
+    arguments-flat no_arguments trailing = λ n b. refl
+    arguments-flat (argument a more) trailing =
+        flat-append (argument_words a) (comma_words more trailing ++ arguments_words more trailing) (argument-flat a)
+        (flat-append (comma_words more trailing) (arguments_words more trailing) (comma-flat more trailing) (arguments-flat more trailing))
+
+  pub inner-flat : (l : Listing S) → nest 0 (inner_words l) ≡ Some 0
+  inner-flat (listing s trailing list) = ap (nest 0) (sym (append-nothing (arguments_words list trailing))) ∙ arguments-flat list trailing 0 [] where
+    append-nothing : (a : List Word) → a ++ [] ≡ a
+    append-nothing [] = refl
+    append-nothing (w ∷ a) = ap (λ b. w ∷ b) (append-nothing a)
+
+-- ---- items inside brackets
+
+-- what items give that stand inside brackets of which `outer + 1` stay open, and the state after them
+record Given (s : State) (xs : List Lexeme) (m outer : ℕ) : Type 0 where
+  is_spoken : emitted s xs ≡ spoken xs
+  depth : (after s xs).depth ≡ m + suc outer
+
+abbrev Gives : List Lexeme → Type 0
+Gives xs = (n m outer : ℕ) (s : State) → s.depth ≡ n + suc outer → nest n (spoken xs) ≡ Some m → Given s xs m outer
+
+quiet-line : (depth n outer : ℕ) (fresh : Bool) → depth ≡ n + suc outer → ends_line depth fresh ≡ false
+quiet-line zero n outer fresh e = absurd (omega arith)
+quiet-line (suc d) n outer fresh e = refl
+
+gives-by : (r : Role) (w : Word) → role w.0 ≡ r → (xs : List Lexeme) → Gives xs → (n m outer : ℕ) (s : State) → s.depth ≡ n + suc outer → nest n (spoken_by r w ++ spoken xs) ≡ Some m
+    → (emit_by r s w ++ emitted (step_by r s) xs ≡ spoken_by r w ++ spoken xs) × ((after (step_by r s) xs).depth ≡ m + suc outer)
+gives-by Gap w is xs ih n m outer s e h = let g = ih n m outer s e h in (g.is_spoken, g.depth)
+gives-by Ends w is xs ih n m outer s e h =
+    let quiet = quiet-line s.depth n outer s.fresh e in
+    let g = ih n m outer (step_by Ends s) e h in
+    (ap (λ b. only_if b new_line ++ emitted (step_by Ends s) xs) quiet ∙ g.is_spoken, g.depth)
+gives-by Opens w is xs ih n m outer s e h =
+    let g = ih (suc n) m outer (step_by Opens s) (omega arith) (rw is at h) in
+    (ap (λ l. w ∷ l) g.is_spoken, g.depth)
+gives-by Closes w is xs ih zero m outer s e h = let no-close : None ≡ Some m = rw is at h in absurd cc
+gives-by Closes w is xs ih (suc n) m outer s e h =
+    let more : s.depth ≡ suc (n + suc outer) = omega arith in
+    let g = ih n m outer (step_by Closes s) (ap pred more) (rw is at h) in
+    (ap (λ l. w ∷ l) g.is_spoken, g.depth)
+gives-by Other w is xs ih n m outer s e h =
+    let g = ih n m outer (step_by Other s) e (rw is at h) in
+    (ap (λ l. w ∷ l) g.is_spoken, g.depth)
+
+gives : (xs : List Lexeme) → Gives xs
+gives [] n m outer s e h = let same : n ≡ m = some-injective n m h in record { is_spoken = refl; depth = omega arith }
+gives (x ∷ xs) n m outer s e h =
+    let g = gives-by (role x.kind) (x.kind, kept x.kind x.text) refl xs (gives xs) n m outer s e h in
+    record { is_spoken = g.0; depth = g.1 }
+
+-- items between the brackets of a list, at a state with a bracket open
+pub inside-emitted : (xs : List Lexeme) (outer : ℕ) (s : State) → s.depth ≡ suc outer → nest 0 (spoken xs) ≡ Some 0 → emitted s xs ≡ spoken xs
+inside-emitted xs outer s e h = (gives xs 0 0 outer s (omega arith) h).is_spoken
+
+pub inside-depth : (xs : List Lexeme) (outer : ℕ) (s : State) → s.depth ≡ suc outer → nest 0 (spoken xs) ≡ Some 0 → (after s xs).depth ≡ suc outer
+inside-depth xs outer s e h = let d = (gives xs 0 0 outer s (omega arith) h).depth in omega arith

@@ -1,0 +1,15 @@
+pub mod Steps
+pub mod Sound
+pub mod SoundFiles
+pub mod Splits
+pub mod Firsts
+pub mod Complete
+pub mod CompleteFiles
+pub mod Words
+pub mod Levels
+pub mod Erased
+pub mod Cuts
+pub mod Placing
+pub mod Answers
+pub mod Unique
+pub mod Refusals

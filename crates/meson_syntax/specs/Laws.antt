@@ -1,0 +1,40 @@
+-- Laws of build files and their trees.
+use Rattle.std.specs.Prelude.{◌≡◌, ℕ, List, ◌++◌, Some}
+use Rattle.meson_lex.specs.declared.kinds.Span.{Span}
+use Rattle.meson_syntax.specs.Tree.{Listing, Block, File, Plain, erase}
+use Rattle.meson_syntax.specs.Grammar.{block_words, file_words, listing_words}
+use Rattle.meson_syntax.specs.Tree.{Nowhere}
+use Rattle.meson_syntax.specs.Reads.{Reads, IsSpanned}
+use Rattle.meson_syntax.specs.Paths.{of_block, Node, node_words, Hole, reach, block_of, ListAt, list_at}
+use Rattle.meson_syntax.specs.Places.{NodeStands, ListPlaces}
+
+-- A text reads as at most one tree.
+abbrev pub OneTree : Type 0
+OneTree = (bytes : List ℕ) (s t : Plain) → Reads bytes s → Reads bytes t → s ≡ t
+
+-- What a text reads as stands in it.
+abbrev pub HasSpans : Type 0
+HasSpans = (bytes : List ℕ) (t : Plain) → Reads bytes t → (f : File Span) × IsSpanned bytes f × (erase f ≡ t)
+
+-- And each node stands at one place.
+abbrev pub OneSpannedTree : Type 0
+OneSpannedTree = (bytes : List ℕ) (f g : File Span) → IsSpanned bytes f → IsSpanned bytes g → f ≡ g
+
+-- Each expression and statement that a path names stands at its span: the items of the text are those left of it, its own, and those right of it.
+abbrev pub NodesStand : Type 0
+NodesStand = (bytes : List ℕ) (f : File Span) (s : IsSpanned bytes f) (path : List ℕ) (h : Hole Span of_block) → reach Span of_block (block_of f) path ≡ Some h
+    → NodeStands s.reads.spells.items h.sort h.inside h.before h.behind
+
+-- So does each list, and within it each element and its value.
+abbrev pub ListsStand : Type 0
+ListsStand = (bytes : List ℕ) (f : File Span) (s : IsSpanned bytes f) (path : List ℕ) (p : ListAt Span) → list_at f path ≡ Some p → ListPlaces s.reads.spells.items p
+
+-- The words of a node with another one in a hole are those before the hole, of the other one, and behind the hole.
+abbrev pub HolesFit : Type 0
+HolesFit = (b : Block Nowhere) (path : List ℕ) (h : Hole Nowhere of_block) → reach Nowhere of_block b path ≡ Some h
+    → (h.back h.inside ≡ b) × ((x : Node h.sort Nowhere) → block_words (h.back x) ≡ h.before ++ (node_words Nowhere h.sort x ++ h.behind))
+
+-- The same of a file with another list where a path names one.
+abbrev pub ListsFit : Type 0
+ListsFit = (f : Plain) (path : List ℕ) (p : ListAt Nowhere) → list_at f path ≡ Some p
+    → (p.back p.list ≡ f) × ((l : Listing Nowhere) → file_words (p.back l) ≡ p.before ++ (listing_words l p.opens p.closes ++ p.behind))

@@ -1,0 +1,16 @@
+pub mod Tree
+pub mod View
+pub mod Input
+pub mod Reading
+pub mod Spelling
+pub mod Grammar
+pub mod Reads
+pub mod Tokens
+pub mod Cursor
+pub mod Nests
+pub mod Gathering
+pub mod Paths
+pub mod Places
+pub mod Exchange
+pub mod Laws
+pub mod formers

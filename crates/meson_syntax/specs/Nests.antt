@@ -1,0 +1,40 @@
+-- What the functions that parse ensure, by the rules of `Reading`.
+use Rattle.std.specs.Prelude.{ℕ, Bool, List, Result, IfErr, ⊤}
+use Rattle.std.specs.declared.alloc.Global.{Global}
+use denote.Ref.{Bor, MutBor}
+use Rattle.meson_lex.specs.declared.kinds.Span.{Span}
+use Rattle.meson_syntax.specs.declared.fault.ParseFault.{ParseFault}
+use Rattle.meson_syntax.specs.declared.fault.ParseFault.TheVariants.{Unexpected, TooDeep, OutOfMemory}
+use Rattle.meson_syntax.specs.declared.tree.Arg.{Arg}
+use Rattle.meson_syntax.specs.declared.tree.Expr.{Expr}
+use Rattle.meson_syntax.specs.Cursor.{Bytes, Cursor, input}
+use Rattle.meson_syntax.specs.Input.{Parser, Gives}
+use Rattle.meson_syntax.specs.Reading.{room, expression}
+use Rattle.meson_syntax.specs.Tree.{Argument, Expression}
+use Rattle.meson_syntax.specs.View.{expr_view, args_view}
+
+-- a fault by which a token is refused, or want of memory
+abbrev pub IsGrammatical : ParseFault → Type 0
+IsGrammatical (Unexpected at) = ⊤
+IsGrammatical (TooDeep at) = ⊤
+IsGrammatical OutOfMemory = ⊤
+IsGrammatical _ = ⊥
+
+-- The function answers as the rule does over this source, and leaves the tokens that it leaves.
+abbrev pub Runs : {X Y : Type 0} → Parser Y → (Bytes → X → Y) → Bytes → Cursor → Result X ParseFault → Cursor → Type 0
+Runs rule view source old result new = Gives (view source) (rule (input source old)) result (input source new) × IfErr result IsGrammatical
+
+-- the same for a rule of expressions, where so many lists may still stand inside one another
+abbrev pub Follows : {X Y : Type 0} → (Bool → Parser (Expression Span) → Parser Y) → (Bytes → X → Y) → Bytes → ℕ → Cursor → Result X ParseFault → Cursor → Type 0
+Follows rule view source depth old result new = Runs (rule (room depth) (expression depth)) view source old result new
+
+-- A function with this precondition and postcondition reads expressions in which fewer than so many lists stand inside one another.
+pub record Nests (depth : ℕ) (pre : Global → Bor Bytes → MutBor Cursor → ℕ → Type 0)
+    (post : Global → Bor Bytes → MutBor Cursor → ℕ → Result Expr ParseFault → MutBor Cursor → Type 0) : Type 0 where
+  pub callable : (alloc : Global) (source : Bor Bytes) (old : MutBor Cursor) → pre alloc source old depth
+  pub reads : (alloc : Global) (source : Bor Bytes) (old new : MutBor Cursor) (r : Result Expr ParseFault) → post alloc source old depth r new
+      → Runs (expression depth) expr_view source.now old.now r new.now
+
+-- elements, with whether a comma stands behind the last
+abbrev pub elements_view : Bytes → Bool × List Arg → Bool × List (Argument Span)
+elements_view source p = (p.0, args_view source p.1)

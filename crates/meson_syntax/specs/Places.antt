@@ -1,0 +1,124 @@
+-- Where nodes of a tree stand among the items of their text.
+use Rattle.std.specs.Prelude.{◌≡◌, ℕ, Bool, true, false, List, [], ◌∷◌, ◌++◌, length, Some, ⊤}
+use Rattle.meson_lex.specs.declared.kinds.Span.{Span}
+use Rattle.meson_lex.specs.Items.{Lexeme, joined}
+use Rattle.meson_lex.specs.Significant.{Word, kept, Role, Gap, Ends, Opens, Closes, Other, role, start, after, emitted, closing}
+use Rattle.meson_syntax.specs.Tree.{Expression, identifier, string, array, call, Listing, listing, Argument, plain, named, Statement, evaluate, assign}
+use Rattle.meson_syntax.specs.Grammar.{expression_words, argument_words, arguments_words, statement_words}
+use Rattle.meson_syntax.specs.Paths.{Sort, of_expression, of_statement, of_block, Node, ListAt, Split, split_at, list_span, elements_of, is_trailing, value_of, name_words, lead_words, rest_words}
+
+-- ---- spans of nodes
+
+abbrev pub expression_span : {S : Type 0} → Expression S → S
+expression_span (identifier s x) = s
+expression_span (string s x) = s
+expression_span (array l) = list_span l
+expression_span (call s x l) = s
+
+abbrev pub argument_span : {S : Type 0} → Argument S → S
+argument_span (plain e) = expression_span e
+argument_span (named s x e) = s
+
+abbrev pub statement_span : {S : Type 0} → Statement S → S
+statement_span (evaluate e) = expression_span e
+statement_span (assign s x e) = s
+
+-- ---- items
+
+-- whether an item with this role is always a token by itself
+abbrev pub speaks : Role → Bool
+speaks Gap = false
+speaks Ends = false
+speaks Opens = true
+speaks Closes = true
+speaks Other = true
+
+abbrev pub spoken_by : Role → Word → List Word
+spoken_by Gap w = []
+spoken_by Ends w = []
+spoken_by Opens w = w ∷ []
+spoken_by Closes w = w ∷ []
+spoken_by Other w = w ∷ []
+
+-- the words of items, line ends left out: inside brackets these are all of their tokens
+abbrev pub spoken : List Lexeme → List Word
+spoken [] = []
+spoken (x ∷ xs) = spoken_by (role x.kind) (x.kind, kept x.kind x.text) ++ spoken xs
+
+-- the first and the last of the items are tokens by themselves: no blank, comment, continuation or line end stands at either end
+pub record IsTight (own : List Lexeme) : Type 0 where
+  pub first : Lexeme
+  pub more : List Lexeme
+  pub begins : own ≡ first ∷ more
+  pub first_speaks : speaks (role first.kind) ≡ true
+  pub front : List Lexeme
+  pub last : Lexeme
+  pub ends : own ≡ front ++ last ∷ []
+  pub last_speaks : speaks (role last.kind) ≡ true
+
+-- ---- nodes among items
+
+-- the words between the brackets of a list
+abbrev pub inner_words : {S : Type 0} → Listing S → List Word
+inner_words (listing s trailing list) = arguments_words list trailing
+
+-- The node of this span and these words: left of its own items stand those whose tokens come before its words, right of them the others.
+pub record Stands (items : List Lexeme) (s : Span) (before words behind : List Word) : Type 0 where
+  pub left : List Lexeme
+  pub own : List Lexeme
+  pub right : List Lexeme
+  pub parts : items ≡ left ++ (own ++ right)
+  pub from : s.from ≡ length (joined left)
+  pub to : s.to ≡ length (joined (left ++ own))
+  pub is_left : emitted start left ≡ before
+  pub is_own : emitted (after start left) own ≡ words
+  pub is_right : emitted (after start (left ++ own)) right ++ closing (after start items).fresh ≡ behind
+  pub tight : IsTight own
+
+-- The expression or statement in a hole. (A block ends with a line end, which is no item of its own.)
+abbrev pub NodeStands : List Lexeme → (sort : Sort) → Node sort Span → (before behind : List Word) → Type 0
+NodeStands items of_expression e before behind = Stands items (expression_span e) before (expression_words e) behind
+NodeStands items of_statement s before behind = Stands items (statement_span s) before (statement_words s) behind
+NodeStands items of_block b before behind = ⊤
+
+-- A list, from its opening bracket to its closing one.
+pub record ListStands (items : List Lexeme) (p : ListAt Span) : Type 0 where
+  pub left : List Lexeme
+  pub open_item : Lexeme
+  pub inner : List Lexeme
+  pub close_item : Lexeme
+  pub right : List Lexeme
+  pub parts : items ≡ left ++ open_item ∷ (inner ++ close_item ∷ right)
+  pub opens : open_item.kind ≡ p.opens
+  pub closes : close_item.kind ≡ p.closes
+  pub from : (list_span p.list).from ≡ length (joined left)
+  pub to : (list_span p.list).to ≡ length (joined (left ++ open_item ∷ (inner ++ close_item ∷ [])))
+  pub is_left : emitted start left ≡ p.before
+  pub is_inner : spoken inner ≡ inner_words p.list
+  pub is_right : emitted (after start (left ++ open_item ∷ (inner ++ close_item ∷ []))) right ++ closing (after start items).fresh ≡ p.behind
+
+-- A part of a list, between the words before it and those behind it.
+pub record PartStands (items : List Lexeme) (p : ListAt Span) (l : ListStands items p) (s : Span) (before words behind : List Word) : Type 0 where
+  pub left : List Lexeme
+  pub own : List Lexeme
+  pub right : List Lexeme
+  pub parts : l.inner ≡ left ++ (own ++ right)
+  pub from : s.from ≡ length (joined (l.left ++ l.open_item ∷ left))
+  pub to : s.to ≡ length (joined (l.left ++ l.open_item ∷ (left ++ own)))
+  pub is_left : spoken left ≡ before
+  pub is_own : spoken own ≡ words
+  pub is_right : spoken right ≡ behind
+  pub tight : IsTight own
+
+-- An element of the list, and its value.
+abbrev pub ElementStands : (items : List Lexeme) (p : ListAt Span) → ListStands items p → Split (Argument Span) → Type 0
+ElementStands items p l e = PartStands items p l (argument_span e.here) (lead_words e.front) (argument_words e.here) (rest_words e.rest (is_trailing p.list))
+
+abbrev pub ValueStands : (items : List Lexeme) (p : ListAt Span) → ListStands items p → Split (Argument Span) → Type 0
+ValueStands items p l e = PartStands items p l (expression_span (value_of e.here)) (lead_words e.front ++ name_words e.here) (expression_words (value_of e.here)) (rest_words e.rest (is_trailing p.list))
+
+-- The list, each of its elements, and the value of each.
+pub record ListPlaces (items : List Lexeme) (p : ListAt Span) : Type 0 where
+  pub list : ListStands items p
+  pub elements : (n : ℕ) (e : Split (Argument Span)) → split_at (elements_of p.list) n ≡ Some e → ElementStands items p list e
+  pub values : (n : ℕ) (e : Split (Argument Span)) → split_at (elements_of p.list) n ≡ Some e → ValueStands items p list e

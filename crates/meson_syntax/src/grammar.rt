@@ -1,0 +1,208 @@
+//! What the rules of the grammar stand on: the tokens that are left of a source, and the steps that each rule is made of.
+
+ghost use Rattle.std.specs.Prelude.{◌≡◌, IfErr, length};
+ghost use Rattle.meson_syntax.specs.Cursor.{Bytes, input, place_of};
+ghost use Rattle.meson_syntax.specs.Input as spec;
+ghost use Rattle.meson_syntax.specs.Input.{Gives};
+ghost use Rattle.meson_syntax.specs.Nests.{IsGrammatical};
+ghost use Rattle.meson_syntax.specs.Tokens.{tokens_of};
+ghost use Rattle.meson_syntax.specs.View.{text_at};
+
+use crate::fault::ParseFault;
+use crate::token::Token;
+use meson_lex::{Kind, Span};
+use std::alloc::Global;
+use std::marker::Model;
+
+/// The tokens that are left, and where the last one ended.
+#[derive(Drop)]
+pub(crate) struct Cursor<'a> {
+    rest: &'a [Token],
+    last: usize,
+}
+
+impl<'a> Model for Cursor<'a> {
+    ghost use Rattle.meson_syntax.specs.Cursor.{Cursor};
+
+    ghost Value = { Cursor };
+
+    ghost view = { λ t. record { last = t.last; rest = t.rest.now } };
+}
+
+impl<'a> Cursor<'a> {
+    /// All of the tokens.
+    pub(crate) fn new(tokens: &'a [Token]) -> Cursor<'a>
+        ensures { result ≡ record { last = 0; rest = tokens.now } }
+    {
+        Cursor {
+            rest: tokens,
+            last: 0,
+        }
+    }
+
+    /// The offset that a refusal names: the next token's place, or the source's length.
+    pub(crate) fn place(&self, source: &[u8]) -> usize
+        ensures { result ≡ place_of (length source.now) self.now.rest }
+    {
+        match self.rest {
+            [] => source.len(),
+            [first, ..] => first.place,
+        }
+    }
+}
+
+/// The rules of the grammar over a source. What reads the expressions one level deeper is a field, so that each rule is proved by itself.
+#[derive(Clone, Copy)]
+pub(crate) struct Grammar<'a, F> {
+    pub alloc: Global,
+    /// The text that the tokens' spans are of.
+    pub source: &'a [u8],
+    /// How many lists may still stand inside one another.
+    pub depth: usize,
+    /// Reads an expression in which fewer lists than the number that it is given stand inside one another.
+    pub expr: F,
+}
+
+/// Whether the two are one kind.
+#[tactic(auto, unfolding(crate::specs::Input::same_kind))]
+fn same_kind(kind: Kind, other: Kind) -> bool
+    ensures { result ≡ spec.same_kind kind other }
+{
+    kind == other
+}
+
+/// Whether the tokens begin with one of this kind.
+fn begins_with(tokens: &[Token], kind: Kind) -> bool
+    ensures { (source : Bytes) → result ≡ spec.begins_with kind (tokens_of source tokens.now) }
+{
+    match tokens {
+        [] => false,
+        [first, ..] => same_kind(first.kind, kind),
+    }
+}
+
+impl<'a, F> Grammar<'a, F> {
+    /// The kind of the next token.
+    #[tactic(auto, unfolding(crate::specs::Input::kind, crate::specs::Cursor::input))]
+    pub(crate) fn peek(&self, tokens: &Cursor<'_>) -> Option<Kind>
+        ensures { result ≡ spec.kind (input self.now.source.now tokens.now) }
+    {
+        match tokens.rest {
+            [] => None,
+            [first, ..] => Some(first.kind),
+        }
+    }
+
+    /// Where the next token begins.
+    #[tactic(auto, unfolding(crate::specs::Input::from, crate::specs::Cursor::input))]
+    pub(crate) fn from(&self, tokens: &Cursor<'_>) -> usize
+        ensures { result ≡ spec.from (input self.now.source.now tokens.now) }
+    {
+        match tokens.rest {
+            [] => tokens.last,
+            [first, ..] => first.span.from,
+        }
+    }
+
+    /// From a place to the end of the last token.
+    #[tactic(auto, unfolding(crate::specs::Input::span_from, crate::specs::Cursor::input))]
+    pub(crate) fn since(&self, tokens: &Cursor<'_>, from: usize) -> Span
+        ensures { result ≡ spec.span_from from (input self.now.source.now tokens.now) }
+    {
+        Span {
+            from,
+            to: tokens.last,
+        }
+    }
+
+    /// How many tokens are left.
+    #[tactic(auto, unfolding(crate::specs::Input::left, crate::specs::Cursor::input))]
+    pub(crate) fn left(&self, tokens: &Cursor<'_>) -> usize
+        ensures { result ≡ spec.left (input self.now.source.now tokens.now) }
+    {
+        tokens.rest.len()
+    }
+
+    /// Whether no token is left.
+    #[tactic(auto, unfolding(crate::specs::Cursor::input))]
+    pub(crate) fn is_over(&self, tokens: &Cursor<'_>) -> bool
+        ensures { result ≡ spec.is_over (input self.now.source.now tokens.now).rest }
+    {
+        tokens.rest.is_empty()
+    }
+
+    /// Whether a token of this kind comes next.
+    #[tactic(auto, unfolding(crate::specs::Input::sees, crate::specs::Cursor::input))]
+    pub(crate) fn sees(&self, tokens: &Cursor<'_>, kind: Kind) -> bool
+        ensures { result ≡ spec.sees kind (input self.now.source.now tokens.now) }
+    {
+        begins_with(tokens.rest, kind)
+    }
+
+    /// Whether tokens of these two kinds come next.
+    #[tactic(auto, unfolding(crate::specs::Input::sees_two, crate::specs::Cursor::input))]
+    pub(crate) fn sees_two(&self, tokens: &Cursor<'_>, kind: Kind, second: Kind) -> bool
+        ensures { result ≡ spec.sees_two kind second (input self.now.source.now tokens.now) }
+    {
+        match tokens.rest {
+            [] => false,
+            [first, rest @ ..] => { same_kind(first.kind, kind) && begins_with(rest, second) }
+        }
+    }
+
+    /// Takes the next token, and gives its span.
+    #[tactic(auto, unfolding(crate::specs::Input::spelling, crate::specs::Input::next, crate::specs::Input::from, crate::specs::Input::span_from, crate::specs::Cursor::input))]
+    pub(crate) fn take(&self, tokens: &mut Cursor<'_>) -> Span
+        ensures text { text_at self.now.source.now result ≡ spec.spelling (input self.now.source.now tokens.old) }
+        ensures next { input self.now.source.now tokens.new ≡ spec.next (input self.now.source.now tokens.old) }
+        ensures span { result ≡ spec.span_from (spec.from (input self.now.source.now tokens.old)) (spec.next (input self.now.source.now tokens.old)) }
+    {
+        match tokens.rest {
+            [] => Span {
+                from: tokens.last,
+                to: tokens.last,
+            },
+            [first, rest @ ..] => {
+                tokens.rest = rest;
+                tokens.last = first.span.to;
+                first.span
+            }
+        }
+    }
+
+    /// Takes the next token if it is of this kind, and says whether it was.
+    #[tactic(auto, unfolding(crate::specs::Input::after))]
+    pub(crate) fn eat(&self, tokens: &mut Cursor<'_>, kind: Kind) -> bool
+        ensures found { result ≡ spec.sees kind (input self.now.source.now tokens.old) }
+        ensures after { input self.now.source.now tokens.new ≡ spec.after kind (input self.now.source.now tokens.old) }
+    {
+        let found = self.sees(tokens, kind);
+        if found {
+            self.take(tokens);
+        }
+        found
+    }
+
+    /// Takes the next token, which has to be of this kind.
+    #[tactic(auto, unfolding(crate::specs::Input::expect))]
+    pub(crate) fn expect(&self, tokens: &mut Cursor<'_>, kind: Kind) -> Result<(), ParseFault>
+        ensures gives { Gives (λ u. u) (spec.expect kind (input self.now.source.now tokens.old)) result (input self.now.source.now tokens.new) }
+        ensures grammatical { IfErr result IsGrammatical }
+    {
+        if self.sees(tokens, kind) {
+            self.take(tokens);
+            Ok(())
+        } else {
+            Err(self.unexpected(tokens))
+        }
+    }
+
+    /// The refusal that the next token can't stand there.
+    #[cold]
+    #[inline(never)]
+    pub(crate) fn unexpected(&self, tokens: &Cursor<'_>) -> ParseFault
+        ensures { result ≡ ParseFault.Unexpected (place_of (length self.now.source.now) tokens.now.rest) }
+    {
+        ParseFault::Unexpected(tokens.place(self.source))
+    }
+}

@@ -1,0 +1,13 @@
+//! Significant tokens, as the parser takes them.
+
+use meson_lex::{Kind, Span};
+
+/// A significant token.
+#[derive(Clone, Copy, Debug, PartialEq, Eq)]
+pub(crate) struct Token {
+    pub kind: Kind,
+    /// The bytes that it stands for. A line end is empty, at the end of the token before it.
+    pub span: Span,
+    /// The offset to report where it can't stand: its first byte, or the source's length for a line end that isn't written.
+    pub place: usize,
+}
