@@ -1,11 +1,16 @@
 -- How a run ends, from what its steps did.
-use Rattle.std.proofs.Common.{◌≡◌, ◌⊎◌, ℕ, List, Option, None, Some, Result, Ok, Err, Bool, true, false, inl, inr, sym, ap, ◌∙◌, subst, arith}
+use Rattle.std.proofs.Common.{◌≡◌, ◌⊎◌, ◌≤◌, ℕ, List, [], ◌∷◌, Option, None, Some, Result, Ok, Err, Bool, true, false, inl, inr, refl, sym, ap, ◌∙◌, subst, arith}
+use Rattle.std.specs.Prelude.{codes, if◌then◌else◌}
 use Rattle.std.specs.Str.{bytes_eq}
 use Rattle.std.proofs.lemmas.Slice.Eq.{bytes_eq-Decides}
 use Rattle.meson_rewrite.specs.Content.{Content, replaced}
 use Rattle.meson_rewrite.specs.Outcome.{Edits}
 use Rattle.meson_rewrite.specs.Lines.{store_fault_status, status}
-use Rattle.meson_rewrite.specs.Runs.{HoldsFile, Changes, Leaves, StoreStops, Stops, Replaces, Does, CommandEnds, Ends}
+use Rattle.meson_splice.specs.Files.{bytes_at}
+use Rattle.meson_splice.specs.declared.file_set.File.{File}
+use Rattle.meson_rewrite.specs.Commit.{Put, path_in, puts, put_all, CommitFails}
+use Rattle.meson_rewrite.specs.Project.{root_file}
+use Rattle.meson_rewrite.specs.Runs.{FaultCounted, HoldsFile, Changes, Leaves, StoreStops, Stops, Replaces, Does, CommandEnds, Ends}
 use Rattle.meson_rewrite.specs.Words.{Request, help, set_version, file_name}
 use Rattle.meson_rewrite.specs.declared.stop.Done.{Done}
 use Rattle.meson_rewrite.specs.declared.stop.Done.TheVariants.{Unchanged}
@@ -13,51 +18,87 @@ use Rattle.meson_rewrite.specs.declared.stop.Stop.{Stop}
 use Rattle.meson_rewrite.specs.declared.stop.Stop.TheVariants.{Usage, Parse, Refused, Store}
 use Rattle.meson_rewrite.specs.declared.store_fault.StoreFault.{StoreFault}
 use Rattle.meson_rewrite.specs.declared.store_fault.StoreFault.TheVariants as store
+use Rattle.meson_rewrite.proofs.OnePut.{root_put, root_path, OneFails, one_put_fails, rose_before}
 use Rattle.meson_rewrite.proofs.Splices.{changes, leaves}
 
 -- the file's bytes have the property that the bytes that were read have
 holds : (before : Option Content) (file old : List ℕ) (P : List ℕ → Type 0) → P old → HoldsFile before file (λ bytes. bytes ≡ old) → HoldsFile before file P
 holds before file old P p read = λ files e. let r = read files e in (r.0, (r.1.0, subst P (sym r.1.1) p))
 
--- the path is the file's; the bytes that were read are the source, those that were made of it the target
-pub record Steps (path file id value source target old new : List ℕ) (before middle : Option Content) : Type 0 where
-  pub path_is : path ≡ file
-  pub source_is : source ≡ old
-  pub target_is : target ≡ new
-  pub kept : middle ≡ before
-  pub read : HoldsFile before path (λ bytes. bytes ≡ old)
-  pub edits : Edits id value source new
+-- the files before and after the command, of which the first was read at the path of the root file
+pub record Steps (folder : Option (List ℕ)) (path id value old : List ℕ) (before after : List File) (held middle : Option Content) : Type 0 where
+  pub path_is : path ≡ file_name folder
+  pub kept : middle ≡ held
+  pub read : HoldsFile held path (λ bytes. bytes ≡ old)
+  pub is_before : before ≡ root_file old
+  pub is_after : after ≡ root_file (bytes_at 0 after)
+  pub edits : Edits id value (bytes_at 0 before) (bytes_at 0 after)
 
-module _ {path file id value source target old new : List ℕ} {before middle : Option Content} (s : Steps path file id value source target old new before middle) where
-  edited_old : Edits id value old target
-  edited_old =
-      let E : List ℕ → Type 0 = λ z. Edits id value z new in
-      let F : List ℕ → Type 0 = λ z. Edits id value old z in
-      subst F (sym s.target_is) (subst E s.source_is s.edits)
+module _ {folder : Option (List ℕ)} {path id value old : List ℕ} {before after : List File} {held middle : Option Content} (s : Steps folder path id value old before after held middle)
+    (r : Bool) (x y : List ℕ) (is_r : r ≡ bytes_eq x y) (is_x : x ≡ bytes_at 0 before) (is_y : y ≡ bytes_at 0 after) where
+  abbrev new : List ℕ
+  new = bytes_at 0 after
 
-  different : (r : Bool) → r ≡ bytes_eq target source → r ≡ false → target ≡ old → ⊥
-  different r e f same = let t : bytes_eq target source ≡ true = (bytes_eq-Decides target source).1 (same ∙ sym s.source_is) in cc
+  edited_old : Edits id value old new
+  edited_old = let E : List ℕ → Type 0 = λ z. Edits id value z (bytes_at 0 after) in subst E (ap (bytes_at 0) s.is_before) s.edits
 
-  pub leaves_file : (r : Bool) → r ≡ bytes_eq target source → r ≡ true → Does file id value before middle Unchanged
-  leaves_file r e t =
-      let same : target ≡ old = (bytes_eq-Decides target source).0 (sym e ∙ t) ∙ s.source_is in
-      let H : List ℕ → Type 0 = λ f. HoldsFile before f (Leaves id value) in
-      (s.kept, subst H s.path_is (holds before path old (Leaves id value) (leaves id value old target edited_old same) s.read))
+  compared : r ≡ bytes_eq old new
+  compared = is_r ∙ ap (λ z. bytes_eq z y) (is_x ∙ ap (bytes_at 0) s.is_before) ∙ ap (bytes_eq old) is_y
 
-  changes_file : (r : Bool) → r ≡ bytes_eq target source → r ≡ false → HoldsFile before path (λ bytes. Changes id value bytes target)
-  changes_file r e f = holds before path old (λ bytes. Changes id value bytes target) (changes id value old target edited_old (different r e f)) s.read
+  different : r ≡ false → new ≡ old → ⊥
+  different f same = let t : bytes_eq old new ≡ true = (bytes_eq-Decides old new).1 (sym same) in let c : r ≡ bytes_eq old new = compared in cc
 
-  pub replaces_file : (r : Bool) (after : Option Content) → r ≡ bytes_eq target source → r ≡ false → after ≡ replaced middle path target → Replaces file id value before after
-  replaces_file r after e f is =
-      let H : List ℕ → Type 0 = λ z. HoldsFile before z (λ bytes. Changes id value bytes target) in
-      record { new = target; changes = subst H s.path_is (changes_file r e f); is_after = is ∙ ap (λ c. replaced c path target) s.kept ∙ ap (λ z. replaced before z target) s.path_is }
+  pub leaves_file : r ≡ true → Does (file_name folder) id value held middle Unchanged
+  leaves_file t =
+      let same : new ≡ old = sym ((bytes_eq-Decides old new).0 (sym compared ∙ t)) in
+      let H : List ℕ → Type 0 = λ f. HoldsFile held f (Leaves id value) in
+      (s.kept, subst H s.path_is (holds held path old (Leaves id value) (leaves id value old new edited_old same) s.read))
 
-  pub fails_to_replace : (r : Bool) (after : Option Content) (stop : Stop) → r ≡ bytes_eq target source → r ≡ false →
-      (HoldsFile middle path (λ bytes. Changes id value bytes target) → Stops path id value middle after stop) → Stops file id value before after stop
-  fails_to_replace r after stop e f stopped =
-      let B : Option Content → Type 0 = λ c. HoldsFile c path (λ bytes. Changes id value bytes target) → Stops path id value c after stop in
-      let S : List ℕ → Type 0 = λ z. Stops z id value before after stop in
-      subst S s.path_is (subst B s.kept stopped (changes_file r e f))
+  changes_file : r ≡ false → HoldsFile held (file_name folder) (λ bytes. Changes id value bytes new)
+  changes_file f =
+      let H : List ℕ → Type 0 = λ z. HoldsFile held z (λ bytes. Changes id value bytes new) in
+      subst H s.path_is (holds held path old (λ bytes. Changes id value bytes new) (changes id value old new edited_old (different f)) s.read)
+
+  -- the root file alone differs
+  one_put : r ≡ false → puts folder before after ≡ root_put folder new ∷ []
+  one_put f =
+      ap (λ b. puts folder b after) s.is_before
+      ∙ ap (puts folder (root_file old)) s.is_after
+      ∙ ap (λ t. if t then [] else (root_put folder new ∷ [])) (sym compared ∙ f)
+
+  pub replaces_file : (told : Option Content) → r ≡ false → told ≡ put_all (puts folder before after) middle → Replaces (file_name folder) id value held told
+  replaces_file told f is = record {
+    new = new;
+    changes = changes_file f;
+    is_after = is ∙ ap (λ files. put_all files middle) (one_put f) ∙ ap (λ c. replaced c (path_in folder (codes "meson.build")) new) s.kept ∙ ap (λ z. replaced held z new) (root_path folder);
+  }
+
+  one_fails : (told : Option Content) (failed failed' : ℕ) (fault : StoreFault) → r ≡ false → CommitFails (puts folder before after) middle told failed failed' fault →
+      OneFails (root_put folder new) held told failed failed' fault
+  one_fails told failed failed' fault f h =
+      let C : List Put → Type 0 = λ files. CommitFails files middle told failed failed' fault in
+      let O : Option Content → Type 0 = λ c. OneFails (root_put folder new) c told failed failed' fault in
+      subst O s.kept (one_put_fails (root_put folder new) middle told failed failed' fault (subst C (one_put f) h))
+
+  pub fails_to_replace : (told : Option Content) (failed failed' : ℕ) (fault : StoreFault) → r ≡ false → CommitFails (puts folder before after) middle told failed failed' fault →
+      Stops (file_name folder) id value held told (Store fault)
+  fails_to_replace told failed failed' fault f h = go (one_fails told failed failed' fault f h)
+    where
+      at_file : (told ≡ held) ⊎ (told ≡ replaced held (path_in folder (codes "meson.build")) new) → (told ≡ held) ⊎ (told ≡ replaced held (file_name folder) new)
+      at_file (inl e) = inl e
+      at_file (inr e) = inr (e ∙ ap (λ z. replaced held z new) (root_path folder))
+
+      go : OneFails (root_put folder new) held told failed failed' fault → StoreStops (file_name folder) id value held told fault
+      go (inl (e, kept)) = let T : StoreFault → Type 0 = λ z. StoreStops (file_name folder) id value held told z in subst T (sym e) kept
+      go (inr (e, rose, left)) = let T : StoreFault → Type 0 = λ z. StoreStops (file_name folder) id value held told z in subst T (sym e) (refl, record { new = new; changes = changes_file f; left = at_file left; listed = refl })
+
+  pub failure_counted : (told : Option Content) (first failed failed' : ℕ) (fault : StoreFault) → first ≤ failed → failed ≤ failed' → r ≡ false →
+      CommitFails (puts folder before after) middle told failed failed' fault → FaultCounted first failed' fault
+  failure_counted told first failed failed' fault h k f fails = go (one_fails told failed failed' fault f fails)
+    where
+      go : OneFails (root_put folder new) held told failed failed' fault → FaultCounted first failed' fault
+      go (inl (e, kept)) = subst (FaultCounted first failed') (sym e) tt
+      go (inr (e, rose, left)) = subst (FaultCounted first failed') (sym e) (rose_before first failed failed' h k rose)
 
 -- what stops a run at a path stops it at the file
 pub stops_at_path : (path file id value : List ℕ) (before after : Option Content) (stop : Stop) → path ≡ file → Stops path id value before after stop → Stops file id value before after stop

@@ -7,4 +7,7 @@ pub mod NewTexts
 pub mod InOrder
 pub mod Inside
 pub mod Splices
+pub mod RootFiles
+pub mod OnePut
 pub mod Endings
+pub mod Commits

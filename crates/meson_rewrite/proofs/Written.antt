@@ -1,10 +1,8 @@
 -- What a writer holds after several writes.
-use Rattle.std.proofs.Common.{◌≡◌, ℕ, List, [], ◌∷◌, ◌++◌, Option, Some, None, Result, Ok, Err, OnOk, sym, ap, ◌∙◌, string_bytes}
+use Rattle.std.proofs.Common.{◌≡◌, ℕ, List, [], ◌∷◌, ◌++◌, Option, Some, None, Result, Ok, Err, OnOk, sym, ap, ◌∙◌}
 use Rattle.std.proofs.lemmas.List.{append_assoc, append-nil}
 use Rattle.std.specs.Prelude.{codes}
 use Rattle.std.specs.Io.KnownBytes.{Appends, Keeps}
-use Rattle.std.specs.declared.alloc.Global.{Global}
-use Rattle.std.specs.declared.string.String.{String}
 use Rattle.meson_rewrite.specs.Lines.{left_lines}
 
 pub appends_nothing : (c : Option (List ℕ)) → Appends c c []
@@ -27,8 +25,8 @@ pub appends_thrice : (a b c d : Option (List ℕ)) (xs ys zs : List ℕ) → App
 appends_thrice a b c d xs ys zs h k l = appends_twice a b d xs (ys ++ zs) h (appends_twice b c d ys zs k l)
 
 -- one more line, before those of the names that are left
-pub left_line : (name : String Global) (names : List (String Global)) → left_lines (name ∷ names) ≡ (codes "left new: " ++ (string_bytes name ++ 10 ∷ [])) ++ left_lines names
-left_line name names = ap (λ l. codes "left new: " ++ l) (sym (append_assoc (string_bytes name) (10 ∷ []) (left_lines names)))
+pub left_line : (name : List ℕ) (names : List (List ℕ)) → left_lines (name ∷ names) ≡ (codes "left new: " ++ (name ++ 10 ∷ [])) ++ left_lines names
+left_line name names = ap (λ l. codes "left new: " ++ l) (sym (append_assoc name (10 ∷ []) (left_lines names)))
 
 -- two writes, the second after the first was done
 pub appends_then : {T E : Type 0} (r : Result T E) (a b c : Option (List ℕ)) (xs ys zs : List ℕ) → zs ≡ xs ++ ys → Appends a b xs → OnOk r (Appends b c ys) → OnOk r (Appends a c zs)

@@ -1,4 +1,6 @@
 pub mod Content
+pub mod Commit
+pub mod Planned
 pub mod MemoryStore
 pub mod Finding
 pub mod Editing
@@ -8,3 +10,4 @@ pub mod Asked
 pub mod Found
 pub mod Outcome
 pub mod Runs
+pub mod Project

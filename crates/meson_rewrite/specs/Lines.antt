@@ -1,7 +1,5 @@
 -- The lines that the program writes, and its status.
-use Rattle.std.specs.Prelude.{ℕ, List, [], ◌∷◌, ◌++◌, codes, decimal, string_bytes, Result, Ok, Err}
-use Rattle.std.specs.declared.alloc.Global.{Global}
-use Rattle.std.specs.declared.string.String.{String}
+use Rattle.std.specs.Prelude.{ℕ, List, [], ◌∷◌, ◌++◌, codes, decimal, Result, Ok, Err}
 use Rattle.meson_lex.specs.declared.fault.LexFault.{LexFault}
 use Rattle.meson_lex.specs.declared.fault.LexFault.TheVariants as lex
 use Rattle.meson_syntax.specs.declared.fault.ParseFault.{ParseFault}
@@ -24,15 +22,15 @@ abbrev pub error_line : List ℕ → List ℕ → List ℕ
 error_line label about = codes "error: " ++ line label about
 
 -- one line for each file that may have its new bytes
-abbrev pub left_lines : List (String Global) → List ℕ
+abbrev pub left_lines : List (List ℕ) → List ℕ
 left_lines [] = []
-left_lines (name ∷ names) = codes "left new: " ++ (string_bytes name ++ (10 ∷ left_lines names))
+left_lines (name ∷ names) = codes "left new: " ++ (name ++ (10 ∷ left_lines names))
 
 -- a fault of the output has no line, since there is nowhere to write it
 abbrev pub store_fault_lines : StoreFault → List ℕ
-store_fault_lines (store.ReadFailed name) = error_line (codes "W1 cannot read ") (string_bytes name)
-store_fault_lines (store.WriteFailed name still_new) = error_line (codes "W2 cannot write ") (string_bytes name) ++ left_lines still_new.items
-store_fault_lines (store.NoFile name) = error_line (codes "W3 no file ") (string_bytes name)
+store_fault_lines (store.ReadFailed name) = error_line (codes "W1 cannot read ") name
+store_fault_lines (store.WriteFailed name still_new) = error_line (codes "W2 cannot write ") name ++ left_lines still_new
+store_fault_lines (store.NoFile name) = error_line (codes "W3 no file ") name
 store_fault_lines store.OutputFailed = []
 store_fault_lines store.OutOfMemory = error_line (codes "out of memory") []
 

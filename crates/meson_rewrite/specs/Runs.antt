@@ -1,14 +1,14 @@
 -- How a run of the program ends: what it says, and what the store then holds.
-use Rattle.std.specs.Prelude.{◌≡◌, ◌≢◌, ◌⊎◌, ⊤, ℕ, ◌+◌, List, [], ◌∷◌, ◌++◌, length, codes, map, string_bytes, Option, Some, None, Result, Ok, Err}
+use Rattle.std.specs.Prelude.{◌≡◌, ◌≢◌, ◌⊎◌, ⊤, ℕ, ◌+◌, List, [], ◌∷◌, length, codes, Option, Some, None, Result, Ok, Err}
 use Rattle.std.specs.FinMap.{get}
 use Rattle.std.specs.Io.KnownBytes.{Appends}
-use Rattle.std.specs.declared.alloc.Global.{Global}
-use Rattle.std.specs.declared.string.String.{String}
 use Rattle.meson_lex.specs.declared.kinds.Span.{Span}
 use Rattle.meson_lex.specs.Literals.{literal}
 use Rattle.meson_syntax.specs.declared.fault.ParseFault.TheVariants as parse
 use Rattle.meson_syntax.specs.Tree.{Expression, File}
 use Rattle.meson_syntax.specs.Reads.{IsSpanned, Reads, MayRefuse}
+use Rattle.meson_splice.specs.declared.splice.Splice.{Splice}
+use Rattle.meson_splice.specs.Patch.{Patches, inverse_of}
 use Rattle.meson_rewrite.specs.Content.{Content, replaced, Rose}
 use Rattle.meson_rewrite.specs.Editing.{place, edited}
 use Rattle.meson_rewrite.specs.Finding.{version_value}
@@ -24,13 +24,9 @@ use Rattle.meson_rewrite.specs.declared.store_fault.StoreFault.TheVariants as st
 
 -- ---- one splice
 
--- at this offset the bytes `was` become `now`, and every other byte stays
-pub record Patches (old : List ℕ) (at : ℕ) (was now new : List ℕ) : Type 0 where
-  pub front : List ℕ
-  pub behind : List ℕ
-  pub is_old : old ≡ front ++ (was ++ behind)
-  pub is_at : length front ≡ at
-  pub is_new : new ≡ front ++ (now ++ behind)
+-- the splice of the build file that writes `now` in place of `was`, which begins at this offset
+abbrev pub root_splice : ℕ → List ℕ → List ℕ → Splice
+root_splice at was now = record { file = codes "meson.build"; at = at; was = was; now = now }
 
 -- The old text reads as a tree, in which the id names one project with one version. The new text is the old one with the
 -- literal of the value in place of the bytes of that version, it reads as the edited tree, and the inverse splice gives the
@@ -42,9 +38,9 @@ pub record SetsVersion (id value old new : List ℕ) : Type 0 where
   pub found : version_value id tree ≡ Ok version
   pub was : List ℕ
   pub was_whole : (place version).from + length was ≡ (place version).to
-  pub splice : Patches old (place version).from was (literal value) new
+  pub splice : Patches old (root_splice (place version).from was (literal value)) new
   pub reads : Reads new (edited (literal value) tree)
-  pub inverse : Patches new (place version).from (literal value) was old
+  pub inverse : Patches new (inverse_of (root_splice (place version).from was (literal value))) old
 
 pub record Changes (id value old new : List ℕ) : Type 0 where
   pub sets : SetsVersion id value old new
@@ -64,24 +60,19 @@ abbrev pub HasNoFile : Option Content → List ℕ → Type 0
 HasNoFile before file = (files : Content) → before ≡ Some files → get files file ≡ None
 
 -- the file's name in a line
-abbrev pub IsRoot : String Global → Type 0
-IsRoot name = string_bytes name ≡ codes "meson.build"
-
--- the fault of a write of `meson.build`, which may have its new bytes
-abbrev pub IsWriteFault : StoreFault → Type 0
-IsWriteFault (store.WriteFailed name still_new) = IsRoot name × (map string_bytes still_new.items ≡ codes "meson.build" ∷ [])
-IsWriteFault _ = ⊥
+abbrev pub IsRoot : List ℕ → Type 0
+IsRoot name = name ≡ codes "meson.build"
 
 module _ (file id value : List ℕ) (before after : Option Content) where
-  pub record WriteFails (still_new : List (String Global)) : Type 0 where
+  pub record WriteFails (still_new : List (List ℕ)) : Type 0 where
     pub new : List ℕ
     pub changes : HoldsFile before file (λ old. Changes id value old new)
     pub left : (after ≡ before) ⊎ (after ≡ replaced before file new)
-    pub listed : map string_bytes still_new ≡ codes "meson.build" ∷ []
+    pub listed : still_new ≡ codes "meson.build" ∷ []
 
   abbrev pub StoreStops : StoreFault → Type 0
   StoreStops (store.ReadFailed name) = (after ≡ before) × IsRoot name
-  StoreStops (store.WriteFailed name still_new) = IsRoot name × WriteFails still_new.items
+  StoreStops (store.WriteFailed name still_new) = IsRoot name × WriteFails still_new
   StoreStops (store.NoFile name) = (after ≡ before) × IsRoot name × HasNoFile before file
   StoreStops store.OutputFailed = ⊥
   StoreStops store.OutOfMemory = after ≡ before

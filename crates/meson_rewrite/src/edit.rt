@@ -1,19 +1,27 @@
-//! What the command makes of a text.
+//! What the command makes of the files.
 
-ghost use Rattle.std.specs.Prelude.{◌≡◌, ◌⊎◌, List, ℕ, IfOk, IfErr, OnOk};
+ghost use Rattle.std.specs.Prelude.{◌≡◌, ◌≤◌, ◌⊎◌, List, ℕ, Ok, IfOk, IfErr, OnOk, length};
 ghost use Rattle.meson_lex.specs.Literals.{literal};
 ghost use Rattle.meson_syntax.specs.Reads.{Reads};
 ghost use Rattle.meson_syntax.specs.View.{expr_view, view};
-ghost use Rattle.meson_rewrite.specs.Editing.{edited, patched, place};
+ghost use Rattle.meson_splice.specs.Files.{bytes_at};
+ghost use Rattle.meson_splice.specs.Patch.{patched_in};
+ghost use Rattle.meson_splice.specs.declared.file_set.File.{File};
+ghost use Rattle.meson_rewrite.specs.Editing.{edited, place};
 ghost use Rattle.meson_rewrite.specs.Outcome.{Edits, StopsAt};
+ghost use Rattle.meson_rewrite.specs.Project.{root_file, span_splice};
 
 use crate::compare::Comparison;
 use crate::find::version_value;
 use crate::stop::Stop;
 use crate::{Refusal, StoreFault};
 use meson_lex::{Span, write_literal};
+use meson_splice::{Bytes, FileSet, Splice, Text, apply};
 use meson_syntax::{Expr, MAX_LEN, ParseFault, Parsed, parse};
 use std::alloc::{AllocError, Global};
+
+/// The root build file's name.
+pub(crate) const ROOT: &str = "meson.build";
 
 /// Where an expression stands.
 fn place(expr: &Expr) -> Span
@@ -31,17 +39,34 @@ fn place(expr: &Expr) -> Span
     }
 }
 
-/// The source with the bytes of a span replaced.
-fn patched(alloc: Global, source: &[u8], span: Span, now: &[u8]) -> Result<Vec<u8>, AllocError>
-    ensures { IfOk result (λ new. new.items ≡ patched source.now span now.now) }
+/// The splice that puts new bytes in place of those of a span.
+fn replacement(alloc: Global, source: &[u8], span: Span, now: Vec<u8>) -> Result<Splice, AllocError>
+    requires ordered { span.from ≤ span.to }
+    requires within { span.to ≤ length source.now }
+    ensures { IfOk result (λ splice. splice ≡ span_splice source.now span now.items) }
 {
-    let from = span.from.min(source.len());
-    let to = span.to.min(source.len());
-    let mut new = Vec::with_capacity(alloc, source.len().saturating_add(now.len()))?;
-    new.extend_from_slice(&source[..from])?;
-    new.extend_from_slice(now)?;
-    new.extend_from_slice(&source[to..])?;
-    Ok(new)
+    let file = String::from_str(alloc, ROOT)?;
+    let was = Vec::from_slice(alloc, &source[span.from..span.to])?;
+    Ok(Splice {
+        file: Text::of(file),
+        at: span.from,
+        was: Bytes::of(was),
+        now: Bytes::of(now),
+    })
+}
+
+/// The files after a splice that can be done, so that memory alone may be refused.
+fn spliced(alloc: Global, before: &FileSet, splice: &Splice) -> Result<FileSet, AllocError>
+    requires { (after : List File) × (patched_in before.now splice.now ≡ Ok after) }
+    ensures { IfOk result (λ after. patched_in before.now splice.entry.now ≡ Ok after) }
+{
+    let Ok(mut after) = before.copy(alloc) else {
+        return Err(AllocError);
+    };
+    match apply(alloc, &mut after, splice) {
+        Ok(()) => Ok(after),
+        Err(_) => Err(AllocError),
+    }
 }
 
 /// Checks that the new source reads as the old tree with the literal in place of the version.
@@ -63,19 +88,22 @@ fn check(alloc: Global, sources: Comparison<'_>, old: &Parsed) -> Result<(), Sto
     }
 }
 
-/// The source with the value in place of the version of the project that the id names.
+/// The files with the value in place of the version of the project that the id names.
 ///
 /// # Errors
-/// Why the source is no build file, the first refusal of the command, or want of memory.
+/// Why the root file is no build file, the first refusal of the command, or want of memory.
 pub(crate) fn with_version(
     alloc: Global,
-    source: &[u8],
+    before: &FileSet,
     id: &str,
     value: &str,
-) -> Result<Vec<u8>, Stop>
-    ensures done { IfOk result (λ new. Edits id.now value.now source.now new.items) }
-    ensures stopped { IfErr result (StopsAt id.now value.now source.now) }
+) -> Result<FileSet, Stop>
+    requires { before.now ≡ root_file (bytes_at 0 before.now) }
+    ensures files { IfOk result (λ after. after ≡ root_file (bytes_at 0 after)) }
+    ensures done { IfOk result (λ after. Edits id.now value.now (bytes_at 0 before.now) (bytes_at 0 after)) }
+    ensures stopped { IfErr result (StopsAt id.now value.now (bytes_at 0 before.now)) }
 {
+    let source = before.bytes(0);
     let file = match parse(alloc, source) {
         Ok(file) => file,
         Err(ParseFault::OutOfMemory) => return Err(Stop::Store(StoreFault::OutOfMemory)),
@@ -88,21 +116,23 @@ pub(crate) fn with_version(
     let Ok(literal) = write_literal(alloc, value) else {
         return Err(Stop::Store(StoreFault::OutOfMemory));
     };
-    let now = literal.as_slice();
-    let new = match patched(alloc, source, place(version), now) {
-        Ok(new) => new,
-        Err(AllocError) => return Err(Stop::Store(StoreFault::OutOfMemory)),
+    let Ok(splice) = replacement(alloc, source, place(version), literal) else {
+        return Err(Stop::Store(StoreFault::OutOfMemory));
     };
+    let Ok(after) = spliced(alloc, before, &splice) else {
+        return Err(Stop::Store(StoreFault::OutOfMemory));
+    };
+    let new = after.bytes(0);
     if new.len() > MAX_LEN {
         return Err(Stop::Refused(Refusal::TooLarge));
     }
     let sources = Comparison {
         old: source,
-        new: new.as_slice(),
-        literal: now,
+        new,
+        literal: splice.now.get(),
     };
     match check(alloc, sources, &file) {
-        Ok(()) => Ok(new),
+        Ok(()) => Ok(after),
         Err(stop) => Err(stop),
     }
 }

@@ -29,7 +29,9 @@ pub struct Folder<R: Files + Drop> {
 
 impl<R: Files + Drop> Folder<R> {
     /// Keeps the runtime and the allocator, and takes no memory.
-    pub fn new(rt: R, alloc: Global) -> Self {
+    pub fn new(rt: R, alloc: Global) -> Self
+        ensures { ⟦<Folder<R> as Store>⟧.failures result ≡ 0 }
+    {
         Folder {
             rt,
             alloc,

@@ -1,6 +1,7 @@
 //! Edits `meson.build` files in place: stores of named files, and the program over any of them.
 #![tactic(auto)]
 
+mod committing;
 mod compare;
 mod edit;
 mod find;
@@ -15,6 +16,7 @@ mod store_fault;
 mod tally;
 mod words;
 
+pub use committing::commit;
 pub use folder::Folder;
 pub use memory::Memory;
 pub use program::rewrite;

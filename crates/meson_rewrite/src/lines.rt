@@ -7,6 +7,7 @@ ghost use Rattle.meson_rewrite.specs.Lines.{line, left_lines, store_fault_lines,
 use crate::stop::{Done, Stop};
 use crate::{Refusal, StoreFault};
 use meson_lex::LexFault;
+use meson_splice::Text;
 use meson_syntax::ParseFault;
 use std::io;
 use std::io::Write;
@@ -32,13 +33,13 @@ fn write_line_at<W: Write>(to: &mut W, label: &str, at: usize) -> io::Result<()>
 }
 
 /// Writes a line for each file that may have its new bytes.
-fn write_left<W: Write>(to: &mut W, still_new: &[String]) -> io::Result<()>
+fn write_left<W: Write>(to: &mut W, still_new: &[Text]) -> io::Result<()>
     ensures { OnOk result (Appends (W.contents to.old) (W.contents to.new) (left_lines still_new.now)) }
 {
     let Some((name, names)) = still_new.split_first() else {
         return Ok(());
     };
-    write_line(to, "left new: ", name.as_str())?;
+    write_line(to, "left new: ", name.get())?;
     write_left(to, names)
 }
 
@@ -46,12 +47,12 @@ fn write_store_fault<W: Write>(to: &mut W, fault: &StoreFault) -> io::Result<()>
     ensures { OnOk result (Appends (W.contents to.old) (W.contents to.new) (store_fault_lines fault.now)) }
 {
     match fault {
-        StoreFault::ReadFailed(name) => write_line(to, "error: W1 cannot read ", name.as_str()),
+        StoreFault::ReadFailed(name) => write_line(to, "error: W1 cannot read ", name.get()),
         StoreFault::WriteFailed { name, still_new } => {
-            write_line(to, "error: W2 cannot write ", name.as_str())?;
-            write_left(to, still_new.as_slice())
+            write_line(to, "error: W2 cannot write ", name.get())?;
+            write_left(to, still_new.get())
         }
-        StoreFault::NoFile(name) => write_line(to, "error: W3 no file ", name.as_str()),
+        StoreFault::NoFile(name) => write_line(to, "error: W3 no file ", name.get()),
         StoreFault::OutputFailed => Ok(()),
         StoreFault::OutOfMemory => write_line(to, "error: out of memory", ""),
     }

@@ -6,23 +6,27 @@ ghost use Rattle.std.specs.Io.KnownBytes.{Appends, Keeps};
 ghost use Rattle.meson_rewrite.specs.Content.{Content, replaced, Rose};
 ghost use Rattle.meson_rewrite.specs.Lines.{out_lines, err_lines, status, store_fault_status};
 ghost use Rattle.meson_rewrite.specs.Outcome.{Edits};
-ghost use Rattle.meson_rewrite.specs.Runs.{Changes, CommandEnds, IsWriteFault, Stops, HoldsFile, IsRoot, Counted, StopCounted, Ends, Run, NeedsNoStore};
+ghost use Rattle.meson_rewrite.specs.Runs.{CommandEnds, Stops, HoldsFile, IsRoot, Counted, StopCounted, Ends, Run, NeedsNoStore};
+ghost use Rattle.meson_rewrite.specs.Project.{root_file};
 ghost use Rattle.meson_rewrite.specs.Words.{requested, file_name};
 
-use crate::edit::with_version;
+use crate::committing::commit;
+use crate::edit::{ROOT, with_version};
 use crate::lines::{write_done, write_stop};
 use crate::stop::{Done, Stop};
 use crate::words::{Asked, SetVersion, asked_by, file_name};
 use crate::{Store, StoreError, StoreFault};
+use meson_splice::{FileSet, Text};
 use std::alloc::{AllocError, Global};
 use std::io;
 use std::io::Write;
 
 /// The file's name in a line.
-fn root(alloc: Global) -> Result<String, AllocError>
+fn root(alloc: Global) -> Result<Text, AllocError>
     ensures { IfOk result IsRoot }
 {
-    String::from_str(alloc, "meson.build")
+    let name = String::from_str(alloc, ROOT)?;
+    Ok(Text::of(name))
 }
 
 /// Reads the file, which has to be there.
@@ -44,31 +48,15 @@ fn read_file<S: Store>(alloc: Global, store: &mut S, file: &str) -> Result<Vec<u
     }
 }
 
-/// What a failed write has to say, of which the file may have its new bytes.
-fn write_fault(alloc: Global) -> Result<StoreFault, AllocError>
-    ensures { IfOk result IsWriteFault }
+/// The bytes of the root file as a set of files.
+fn file_set(alloc: Global, bytes: Vec<u8>) -> Result<FileSet, AllocError>
+    ensures { IfOk result (λ files. files ≡ root_file bytes.items) }
 {
-    let name = root(alloc)?;
-    let mut still_new = Vec::new(alloc);
-    still_new.push(root(alloc)?)?;
-    Ok(StoreFault::WriteFailed { name, still_new })
-}
-
-/// Puts the new bytes in place of the file's. Its own growths come before.
-fn replace_file<S: Store>(alloc: Global, store: &mut S, file: &str, new: &[u8]) -> Result<(), Stop>
-    ensures done { OnOk result (S.content store.new ≡ replaced (S.content store.old) file.now new.now) }
-    ensures stopped { IfErr result (λ stop. (id value : List ℕ) → HoldsFile (S.content store.old) file.now (λ old. Changes id value old new.now)
-        → Stops file.now id value (S.content store.old) (S.content store.new) stop) }
-    ensures counts { S.failures store.old ≤ S.failures store.new }
-    ensures device { IfErr result (StopCounted (S.failures store.old) (S.failures store.new)) }
-{
-    let Ok(fault) = write_fault(alloc) else {
-        return Err(Stop::Store(StoreFault::OutOfMemory));
-    };
-    match store.replace(file, new) {
-        Ok(()) => Ok(()),
-        Err(StoreError::Device) => Err(Stop::Store(fault)),
-        Err(StoreError::OutOfMemory) => Err(Stop::Store(StoreFault::OutOfMemory)),
+    let name = String::from_str(alloc, ROOT)?;
+    let mut files = FileSet::new(alloc);
+    match files.push(name, bytes) {
+        Ok(()) => Ok(files),
+        Err(_) => Err(AllocError),
     }
 }
 
@@ -90,18 +78,19 @@ fn set_version<S: Store>(
         Ok(old) => old,
         Err(stop) => return Err(stop),
     };
-    let source = old.as_slice();
-    let new = match with_version(alloc, source, command.id, command.value) {
-        Ok(new) => new,
+    let Ok(before) = file_set(alloc, old) else {
+        return Err(Stop::Store(StoreFault::OutOfMemory));
+    };
+    let after = match with_version(alloc, &before, command.id, command.value) {
+        Ok(after) => after,
         Err(stop) => return Err(stop),
     };
-    let bytes = new.as_slice();
-    if bytes == source {
+    if before.bytes(0) == after.bytes(0) {
         return Ok(Done::Unchanged);
     }
-    match replace_file(alloc, store, path, bytes) {
+    match commit(alloc, store, command.folder, &before, &after) {
         Ok(()) => Ok(Done::Changed),
-        Err(stop) => Err(stop),
+        Err(fault) => Err(Stop::Store(fault)),
     }
 }
 

@@ -1,5 +1,6 @@
 //! What can go wrong between the program and its store or its writers.
 
+use meson_splice::{Many, Text};
 use thiserror::Error;
 
 /// A fault of the store, of a writer, or want of memory.
@@ -7,16 +8,13 @@ use thiserror::Error;
 pub enum StoreFault {
     /// The store failed to read the file.
     #[error("W1 cannot read {0}")]
-    ReadFailed(String),
-    /// The store failed to write the file; the files `still_new` may have their new bytes.
+    ReadFailed(Text),
+    /// The store failed to write the file; the files `still_new`, last first, may have their new bytes.
     #[error("W2 cannot write {name}")]
-    WriteFailed {
-        name: String,
-        still_new: Vec<String>,
-    },
+    WriteFailed { name: Text, still_new: Many<Text> },
     /// The store has no file of that name.
     #[error("W3 no file {0}")]
-    NoFile(String),
+    NoFile(Text),
     /// What the program had to say could not be written.
     #[error("W4 output failed")]
     OutputFailed,

@@ -2,10 +2,18 @@
 #![tactic(auto)]
 
 #[cfg(test)]
+mod calls;
+#[cfg(test)]
+mod committing;
+#[cfg(test)]
 mod lexing;
 #[cfg(test)]
 mod literals;
 #[cfg(test)]
 mod parsing;
 #[cfg(test)]
+mod refusing;
+#[cfg(test)]
 mod rewriting;
+#[cfg(test)]
+mod splicing;

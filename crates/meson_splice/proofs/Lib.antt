@@ -1,0 +1,3 @@
+pub mod Sets
+pub mod Saving
+pub mod Inverses

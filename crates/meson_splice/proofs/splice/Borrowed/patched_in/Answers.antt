@@ -1,0 +1,29 @@
+use Rattle.std.proofs.Common.{◌≡◌, ◌∙◌, Some, None, Err, ap, sym}
+use Rattle.meson_splice.specs.Borrowed.{splice_of}
+use Rattle.meson_splice.specs.Files.{found}
+use Rattle.meson_splice.specs.Patch.{patched}
+use Rattle.meson_splice.specs.declared.fault.SpliceFault.TheVariants.{NoFile}
+use Rattle.meson_splice.proofs.Sets.{found-within, patched_in-done, patched_in-none, patched_in-refused}
+use Rattle.meson_splice.proofs.splice.Borrowed.patched_in.Goals as goal
+
+pub returns-in_default-clause-refused : goal.returns-in_default-clause-refused
+returns-in_default-clause-refused c = λ some.
+    let files = c.args.files.now in
+    let none : found c.args.self.file.now files ≡ None = ap (λ n. found n files) (sym c.get.ensures) ∙ sym c.find.ensures ∙ c.in_default.is in
+    patched_in-none files (splice_of c.args.self) none ∙ ap (λ n. Err (NoFile n)) (sym c.in_ok-clone.ensures.cases)
+
+pub returns-in-Err-clause-refused : goal.returns-in-Err-clause-refused
+returns-in-Err-clause-refused c = λ some.
+    let files = c.args.files.now in
+    let place = c.in-Some.place in
+    let here : found c.args.self.file.now files ≡ Some place = ap (λ n. found n files) (sym c.get.ensures) ∙ sym c.find.ensures ∙ c.in-Some.is in
+    let refused = ap (λ b. patched b (splice_of c.args.self)) (sym c.bytes.ensures) ∙ c.in-Err.ensures.refused some in
+    patched_in-refused files (splice_of c.args.self) place c.in-Err.fault here refused
+
+pub returns-in-Ok-clause-done : goal.returns-in-Ok-clause-done
+returns-in-Ok-clause-done c =
+    let files = c.args.files.now in
+    let place = c.in-Some.place in
+    let here : found c.args.self.file.now files ≡ Some place = ap (λ n. found n files) (sym c.get.ensures) ∙ sym c.find.ensures ∙ c.in-Some.is in
+    let done = ap (λ b. patched b (splice_of c.args.self)) (sym c.bytes.ensures) ∙ c.in-Ok.ensures.done in
+    (found-within c.args.self.file.now files place here, patched_in-done files (splice_of c.args.self) place c.in-Ok.bytes here done)

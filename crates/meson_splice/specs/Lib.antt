@@ -1,0 +1,6 @@
+pub mod Files
+pub mod Patch
+pub mod Borrowed
+pub mod Saved
+pub mod Past
+pub mod Laws

@@ -1,0 +1,162 @@
+//! A project's files: names and bytes in order, each name once.
+
+ghost use Rattle.std.specs.Prelude.{◌≡◌, ◌↔◌, ◌<◌, ◌++◌, ◌∷◌, [], IfErr, IfOk, IsNone, IsSome, IsTrue, OnErr, OnOk, length, slice_index_or, string_bytes};
+ghost use Rattle.meson_splice.specs.Files.{bytes_at, found, with_bytes};
+ghost use Rattle.meson_splice.specs.declared.file_set.File.{File};
+
+use crate::fault::SpliceFault;
+use meson_values::{Bytes, Text};
+use std::alloc::{AllocError, AllocFailed, Global};
+use std::marker::Model;
+use std::mem;
+use thiserror::Error;
+
+/// A file of the project.
+#[derive(Debug, Drop)]
+pub struct File {
+    pub name: Text,
+    pub bytes: Bytes,
+}
+
+/// Why a file can't be added.
+#[derive(Clone, Copy, Debug, PartialEq, Eq, Error)]
+pub enum PushFault {
+    /// A file of this name is there.
+    #[error("F1 name twice")]
+    NameTwice,
+    #[error("out of memory")]
+    OutOfMemory,
+}
+
+/// A file that was not added, with the reason.
+#[derive(Debug, Drop)]
+pub struct Unpushed {
+    pub name: Text,
+    pub bytes: Bytes,
+    pub fault: PushFault,
+}
+
+/// Files in order, no two of one name. Contracts see the list of them.
+#[derive(Debug, Drop)]
+pub struct FileSet {
+    files: Vec<File>,
+}
+
+impl Model for FileSet {
+    ghost use Rattle.std.specs.Prelude.{List};
+    ghost use Rattle.meson_splice.specs.Files.{IsDistinct};
+    ghost use Rattle.meson_splice.specs.declared.file_set.File.{File};
+
+    ghost Value = { List File };
+
+    ghost view = { λ s. s.files.items };
+
+    ghost invariant = { λ s. IsDistinct s.files.items };
+}
+
+impl FileSet {
+    /// No files. Takes no memory.
+    pub fn new(alloc: Global) -> Self
+        ensures { result ≡ [] }
+    {
+        FileSet {
+            files: Vec::new(alloc),
+        }
+    }
+
+    /// How many files there are.
+    pub fn len(&self) -> usize
+        ensures { result ≡ length self.now }
+    {
+        self.files.len()
+    }
+
+    /// Whether there is no file.
+    pub fn is_empty(&self) -> bool
+        ensures { IsTrue result ↔ (self.now ≡ []) }
+    {
+        self.files.is_empty()
+    }
+
+    /// The name of file `i`, counted from 0.
+    pub fn name(&self, i: usize) -> &str
+        requires { i < length self.now }
+        ensures { (d : File) → result.now ≡ (slice_index_or self.now i d).name }
+    {
+        self.files[i].name.get()
+    }
+
+    /// The bytes of file `i`, counted from 0.
+    pub fn bytes(&self, i: usize) -> &[u8]
+        requires { i < length self.now }
+        ensures { result.now ≡ bytes_at i self.now }
+    {
+        self.files[i].bytes.get()
+    }
+
+    /// The place of the file of this name.
+    pub fn find(&self, name: &str) -> Option<usize>
+        ensures { result ≡ found name.now self.now }
+    {
+        self.files.iter().position(|f| f.name.get() == name)
+    }
+
+    /// Adds a file behind the others, or hands both values back.
+    pub fn push(&mut self, name: String, bytes: Vec<u8>) -> Result<(), Unpushed>
+        ensures ok { OnOk result (self.new ≡ self.old ++ record { name = string_bytes name; bytes = bytes.items } ∷ []) }
+        // The name is there exactly where the fault says so.
+        ensures twice { IfErr result (λ u. (u.fault ≡ PushFault.NameTwice) ↔ IsSome (found (string_bytes name) self.old)) }
+        ensures new_name { OnOk result (IsNone (found (string_bytes name) self.old)) }
+        ensures handed_back { IfErr result (λ u. (u.name ≡ string_bytes name) × (u.bytes ≡ bytes.items)) }
+        ensures kept { OnErr result (self.new ≡ self.old) }
+    {
+        let fault = if self.find(name.as_str()).is_some() {
+            PushFault::NameTwice
+        } else if self.files.reserve(1).is_err() {
+            PushFault::OutOfMemory
+        } else {
+            self.files.push_reserved(File {
+                name: Text::of(name),
+                bytes: Bytes::of(bytes),
+            });
+            return Ok(());
+        };
+        Err(Unpushed {
+            name: Text::of(name),
+            bytes: Bytes::of(bytes),
+            fault,
+        })
+    }
+
+    /// An equal file set.
+    pub fn copy(&self, alloc: Global) -> Result<FileSet, SpliceFault>
+        ensures copied { IfOk result (λ s. s ≡ self.now) }
+        ensures refused { IfErr result (λ e. e ≡ SpliceFault.OutOfMemory) }
+    {
+        let mut files = Vec::with_capacity(alloc, self.files.len())?;
+        for file in self.files.iter() {
+            let name = file.name.clone()?;
+            let bytes = file.bytes.clone()?;
+            files.push(File { name, bytes }).map_err(AllocError::from)?;
+        }
+        Ok(FileSet { files })
+    }
+
+    /// Puts other bytes into file `i`, and gives those that it had.
+    pub(crate) fn exchange(&mut self, i: usize, bytes: Bytes) -> Bytes
+        requires { i < length self.old }
+        ensures files { self.new ≡ with_bytes i bytes self.old }
+        ensures old { result ≡ bytes_at i self.old }
+    {
+        mem::replace(&mut self.files[i].bytes, bytes)
+    }
+
+    /// Puts bytes back into file `i`, where there is one.
+    pub(crate) fn restore(&mut self, i: usize, bytes: Bytes)
+        ensures { self.new ≡ with_bytes i bytes self.old }
+    {
+        if i < self.files.len() {
+            self.exchange(i, bytes);
+        }
+    }
+}

@@ -1,0 +1,102 @@
+//! What was done to the files, and what was undone.
+
+ghost use Rattle.std.specs.Prelude.{◌≡◌, ◌≢◌, ◌++◌, ◌∷◌, [], Err, IfErr, Ok, OnErr, OnOk, length};
+ghost use Rattle.meson_splice.specs.Past.{redone, undone};
+ghost use Rattle.meson_splice.specs.declared.fault.SpliceFault.TheVariants.{OutOfMemory};
+
+use crate::change::{Change, applied, put_back, reverted};
+use crate::fault::SpliceFault;
+use crate::file_set::FileSet;
+use meson_values::Many;
+use std::alloc::Global;
+
+/// The changes that stand and those that were undone. In each the next to undo or redo comes last.
+#[derive(Debug, Drop)]
+pub struct History {
+    pub past: Many<Change>,
+    pub future: Many<Change>,
+}
+
+/// A change that was not kept, with the reason.
+#[derive(Debug, Drop)]
+pub struct Unkept {
+    pub change: Change,
+    pub fault: SpliceFault,
+}
+
+impl History {
+    /// No changes. Takes no memory.
+    pub fn new(alloc: Global) -> Self
+        ensures { result ≡ record { past = []; future = [] } }
+    {
+        History {
+            past: Many::new(alloc),
+            future: Many::new(alloc),
+        }
+    }
+
+    /// How many changes can be undone and redone.
+    pub fn depths(&self) -> (usize, usize)
+        ensures { result ≡ (length self.now.past, length self.now.future) }
+    {
+        (self.past.get().len(), self.future.get().len())
+    }
+
+    /// Puts a change that was done on the past. What was undone can't be redone from then on.
+    pub fn keep(&mut self, change: Change) -> Result<(), Unkept>
+        ensures ok { OnOk result (self.new ≡ record { past = self.old.past ++ change ∷ []; future = [] }) }
+        ensures err { IfErr result (λ u. u ≡ record { change = change; fault = OutOfMemory }) }
+        ensures kept { OnErr result (self.new ≡ self.old) }
+    {
+        match self.past.push(change) {
+            Ok(()) => {
+                self.future.clear();
+                Ok(())
+            }
+            Err(refused) => Err(Unkept {
+                change: refused.value,
+                fault: SpliceFault::OutOfMemory,
+            }),
+        }
+    }
+
+    /// Takes the newest change back. It is then the next to redo.
+    pub fn undo(&mut self, alloc: Global, files: &mut FileSet) -> Result<(), SpliceFault>
+        ensures done { OnOk result (undone self.old files.old ≡ Ok (self.new, files.new)) }
+        ensures refused { IfErr result (λ e. e ≢ OutOfMemory → undone self.old files.old ≡ Err e) }
+        ensures kept { OnErr result ((self.new ≡ self.old) × (files.new ≡ files.old)) }
+    {
+        let Some(change) = self.past.last() else {
+            return Err(SpliceFault::NothingToUndo);
+        };
+        let saved = match reverted(alloc, files, change) {
+            Ok(saved) => saved,
+            Err(fault) => return Err(fault),
+        };
+        if self.past.move_last(&mut self.future).is_err() {
+            put_back(files, saved);
+            return Err(SpliceFault::OutOfMemory);
+        }
+        Ok(())
+    }
+
+    /// Does the change that was undone last again. It is then the newest.
+    pub fn redo(&mut self, alloc: Global, files: &mut FileSet) -> Result<(), SpliceFault>
+        ensures done { OnOk result (redone self.old files.old ≡ Ok (self.new, files.new)) }
+        ensures refused { IfErr result (λ e. e ≢ OutOfMemory → redone self.old files.old ≡ Err e) }
+        ensures kept { OnErr result ((self.new ≡ self.old) × (files.new ≡ files.old)) }
+    {
+        let Some(change) = self.future.last() else {
+            return Err(SpliceFault::NothingToRedo);
+        };
+        let saved = match applied(alloc, files, change) {
+            Ok(saved) => saved,
+            Err(fault) => return Err(fault),
+        };
+        if self.future.move_last(&mut self.past).is_err() {
+            put_back(files, saved);
+            return Err(SpliceFault::OutOfMemory);
+        }
+        Ok(())
+    }
+}

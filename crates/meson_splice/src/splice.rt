@@ -1,0 +1,115 @@
+//! One splice: bytes of a file that become other bytes.
+
+ghost use Rattle.std.specs.Prelude.{◌≡◌, ◌≢◌, ◌<◌, Err, IfErr, IfOk, Ok, OnErr, OnOk, length};
+ghost use Rattle.meson_splice.specs.Borrowed.{splice_of};
+ghost use Rattle.meson_splice.specs.Files.{with_bytes};
+ghost use Rattle.meson_splice.specs.Patch.{inverse_of, patched, patched_in};
+ghost use Rattle.meson_splice.specs.declared.fault.SpliceFault.TheVariants.{OutOfMemory};
+
+use crate::fault::SpliceFault;
+use crate::file_set::FileSet;
+use meson_values::{Bytes, Text};
+use std::alloc::Global;
+
+/// In the file of that name, the bytes `was` at offset `at` become `now`.
+#[derive(Debug, Drop)]
+pub struct Splice {
+    pub file: Text,
+    pub at: usize,
+    pub was: Bytes,
+    pub now: Bytes,
+}
+
+/// The splice that takes this one back. Takes no memory.
+pub fn inverse(splice: Splice) -> Splice
+    ensures { result ≡ inverse_of splice }
+{
+    let Splice { file, at, was, now } = splice;
+    Splice {
+        file,
+        at,
+        was: now,
+        now: was,
+    }
+}
+
+/// A splice that is lent, as it is or taken back.
+#[derive(Clone, Copy)]
+pub(crate) struct Borrowed<'a> {
+    pub file: &'a Text,
+    pub at: usize,
+    pub old: &'a [u8],
+    pub new: &'a [u8],
+}
+
+impl<'a> Borrowed<'a> {
+    pub(crate) fn forward(splice: &'a Splice) -> Self
+        ensures { splice_of result ≡ splice.entry.now }
+    {
+        Borrowed {
+            file: &splice.file,
+            at: splice.at,
+            old: splice.was.get(),
+            new: splice.now.get(),
+        }
+    }
+
+    pub(crate) fn backward(splice: &'a Splice) -> Self
+        ensures { splice_of result ≡ inverse_of splice.entry.now }
+    {
+        Borrowed {
+            file: &splice.file,
+            at: splice.at,
+            old: splice.now.get(),
+            new: splice.was.get(),
+        }
+    }
+
+    /// The file's bytes after the splice.
+    fn patched(self, alloc: Global, bytes: &[u8]) -> Result<Bytes, SpliceFault>
+        ensures done { IfOk result (λ c. patched bytes.now (splice_of self.entry) ≡ Ok c) }
+        ensures refused { IfErr result (λ e. e ≢ OutOfMemory → patched bytes.now (splice_of self.entry) ≡ Err e) }
+    {
+        if self.at > bytes.len() || self.old.len() > bytes.len() - self.at {
+            return Err(SpliceFault::OutOfRange(self.file.clone()?, self.at));
+        }
+        let end = self.at + self.old.len();
+        if &bytes[self.at..end] != self.old {
+            return Err(SpliceFault::Stale(self.file.clone()?, self.at));
+        }
+        let mut patched = Vec::new(alloc);
+        patched.extend_from_slice(&bytes[..self.at])?;
+        patched.extend_from_slice(self.new)?;
+        patched.extend_from_slice(&bytes[end..])?;
+        Ok(Bytes::of(patched))
+    }
+
+    /// The place of the splice's file, and that file's bytes after the splice.
+    pub(crate) fn patched_in(
+        self,
+        alloc: Global,
+        files: &FileSet,
+    ) -> Result<(usize, Bytes), SpliceFault>
+        ensures done { IfOk result (λ r. (r.0 < length files.now) × (patched_in files.now (splice_of self.entry) ≡ Ok (with_bytes r.0 r.1 files.now))) }
+        ensures refused { IfErr result (λ e. e ≢ OutOfMemory → patched_in files.now (splice_of self.entry) ≡ Err e) }
+    {
+        let Some(place) = files.find(self.file.get()) else {
+            return Err(SpliceFault::NoFile(self.file.clone()?));
+        };
+        match self.patched(alloc, files.bytes(place)) {
+            Ok(bytes) => Ok((place, bytes)),
+            Err(fault) => Err(fault),
+        }
+    }
+}
+
+/// Does one splice. Copies the file once.
+pub fn apply(alloc: Global, files: &mut FileSet, splice: &Splice) -> Result<(), SpliceFault>
+    ensures done { OnOk result (patched_in files.old splice.entry.now ≡ Ok files.new) }
+    ensures refused { IfErr result (λ e. e ≢ OutOfMemory → patched_in files.old splice.entry.now ≡ Err e) }
+    ensures kept { OnErr result (files.new ≡ files.old) }
+{
+    let (place, bytes) = Borrowed::forward(splice).patched_in(alloc, files)?;
+    files.exchange(place, bytes);
+    Ok(())
+}
