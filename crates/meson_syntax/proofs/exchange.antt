@@ -2,4 +2,3 @@ pub mod Brackets
 pub mod Nesting
 pub mod Items
 pub mod Lists
-pub mod Levels

@@ -1,7 +1,9 @@
+pub mod Inside
+pub mod InExpressions
+pub mod InStatements
 pub mod Spots
 pub mod Owned
 pub mod Bounds
-pub mod Holes
 pub mod Spoken
+pub mod Elements
 pub mod Standing
-pub mod Backs

@@ -1,32 +1,33 @@
 -- The text of a list by itself, and the law that one may stand in the place of another.
 use Rattle.std.specs.Prelude.{◌≡◌, ℕ, List, [], ◌∷◌, ◌++◌, length, Some}
-use Rattle.meson_lex.specs.declared.kinds.Kind.{Kind}
 use Rattle.meson_lex.specs.declared.kinds.Span.{Span}
 use Rattle.meson_lex.specs.Items.{Lexeme, IsItemList}
 use Rattle.meson_lex.specs.Significant.{Word}
+use Rattle.meson_syntax.specs.declared.operator.Bracket.{Bracket}
+use Rattle.meson_syntax.specs.Operators.{opens, closes}
 use Rattle.meson_syntax.specs.Tree.{Listing, File, erase}
 use Rattle.meson_syntax.specs.Grammar.{LevelListing, LevelFile}
 use Rattle.meson_syntax.specs.Reads.{Spells, IsSpanned}
-use Rattle.meson_syntax.specs.Paths.{ListAt, list_at, list_span}
-use Rattle.meson_syntax.specs.Places.{spoken, inner_words}
+use Rattle.meson_syntax.specs.Paths.{ListAt, list_at, list_span, inner_words}
+use Rattle.meson_syntax.specs.Places.{spoken}
 
 -- The text is a list from its opening bracket to its closing one, with these words between them.
-pub record IsListText (text : List ℕ) (opens closes : Kind) (words : List Word) : Type 0 where
+pub record IsListText (text : List ℕ) (b : Bracket) (words : List Word) : Type 0 where
   pub open_item : Lexeme
   pub inner : List Lexeme
   pub close_item : Lexeme
   pub are_items : IsItemList text (open_item ∷ (inner ++ close_item ∷ []))
-  pub is_open : open_item.kind ≡ opens
-  pub is_close : close_item.kind ≡ closes
+  pub is_open : open_item.kind ≡ opens b
+  pub is_close : close_item.kind ≡ closes b
   pub is_inner : spoken inner ≡ words
 
 -- Where the bytes of a list are exchanged for the text of another one, the new text spells the tree with the other list in that place.
 abbrev pub ListsExchange : Type 0
 ListsExchange = (bytes : List ℕ) (f : File Span) (s : IsSpanned bytes f) (path : List ℕ) (p : ListAt Span) → list_at f path ≡ Some p
-    → (l : Listing Span) (text : List ℕ) → IsListText text p.opens p.closes (inner_words l) → LevelFile (p.back l)
+    → (l : Listing Span) (text : List ℕ) → IsListText text p.bracket (inner_words l) → LevelFile (p.back l)
     → (front was back : List ℕ) → bytes ≡ front ++ (was ++ back) → length front ≡ (list_span p.list).from → length (front ++ was) ≡ (list_span p.list).to
     → Spells (front ++ (text ++ back)) (erase (p.back l))
 
 -- The tree with the other list has its levels where the list has them.
 abbrev pub ListsLevel : Type 0
-ListsLevel = (f : File Span) (path : List ℕ) (p : ListAt Span) → list_at f path ≡ Some p → LevelFile f → (l : Listing Span) → LevelListing l p.names → LevelFile (p.back l)
+ListsLevel = (f : File Span) (path : List ℕ) (p : ListAt Span) → list_at f path ≡ Some p → LevelFile f → (l : Listing Span) → LevelListing l p.bracket → LevelFile (p.back l)

@@ -22,19 +22,19 @@ OneSpannedTree = (bytes : List ℕ) (f g : File Span) → IsSpanned bytes f → 
 
 -- Each expression and statement that a path names stands at its span: the items of the text are those left of it, its own, and those right of it.
 abbrev pub NodesStand : Type 0
-NodesStand = (bytes : List ℕ) (f : File Span) (s : IsSpanned bytes f) (path : List ℕ) (h : Hole Span of_block) → reach Span of_block (block_of f) path ≡ Some h
+NodesStand = (bytes : List ℕ) (f : File Span) (s : IsSpanned bytes f) (path : List ℕ) (h : Hole Span (Block Span)) → reach Span of_block (block_of f) path ≡ Some h
     → NodeStands s.reads.spells.items h.sort h.inside h.before h.behind
 
--- So does each list, and within it each element and its value.
+-- So does each list, and within it each element.
 abbrev pub ListsStand : Type 0
 ListsStand = (bytes : List ℕ) (f : File Span) (s : IsSpanned bytes f) (path : List ℕ) (p : ListAt Span) → list_at f path ≡ Some p → ListPlaces s.reads.spells.items p
 
 -- The words of a node with another one in a hole are those before the hole, of the other one, and behind the hole.
 abbrev pub HolesFit : Type 0
-HolesFit = (b : Block Nowhere) (path : List ℕ) (h : Hole Nowhere of_block) → reach Nowhere of_block b path ≡ Some h
+HolesFit = (b : Block Nowhere) (path : List ℕ) (h : Hole Nowhere (Block Nowhere)) → reach Nowhere of_block b path ≡ Some h
     → (h.back h.inside ≡ b) × ((x : Node h.sort Nowhere) → block_words (h.back x) ≡ h.before ++ (node_words Nowhere h.sort x ++ h.behind))
 
 -- The same of a file with another list where a path names one.
 abbrev pub ListsFit : Type 0
 ListsFit = (f : Plain) (path : List ℕ) (p : ListAt Nowhere) → list_at f path ≡ Some p
-    → (p.back p.list ≡ f) × ((l : Listing Nowhere) → file_words (p.back l) ≡ p.before ++ (listing_words l p.opens p.closes ++ p.behind))
+    → (p.back p.list ≡ f) × ((l : Listing Nowhere) → file_words (p.back l) ≡ p.before ++ (listing_words l p.bracket ++ p.behind))

@@ -1,7 +1,9 @@
 pub mod Tree
 pub mod View
 pub mod Input
+pub mod Operators
 pub mod Reading
+pub mod ReadingFiles
 pub mod Spelling
 pub mod Grammar
 pub mod Reads

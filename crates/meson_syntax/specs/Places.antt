@@ -3,25 +3,39 @@ use Rattle.std.specs.Prelude.{◌≡◌, ℕ, Bool, true, false, List, [], ◌�
 use Rattle.meson_lex.specs.declared.kinds.Span.{Span}
 use Rattle.meson_lex.specs.Items.{Lexeme, joined}
 use Rattle.meson_lex.specs.Significant.{Word, kept, Role, Gap, Ends, Opens, Closes, Other, role, start, after, emitted, closing}
-use Rattle.meson_syntax.specs.Tree.{Expression, identifier, string, array, call, Listing, listing, Argument, plain, named, Statement, evaluate, assign}
-use Rattle.meson_syntax.specs.Grammar.{expression_words, argument_words, arguments_words, statement_words}
-use Rattle.meson_syntax.specs.Paths.{Sort, of_expression, of_statement, of_block, Node, ListAt, Split, split_at, list_span, elements_of, is_trailing, value_of, name_words, lead_words, rest_words}
+use Rattle.meson_syntax.specs.Operators.{opens, closes}
+use Rattle.meson_syntax.specs.Tree.{Expression, identifier, boolean, integer, string, paren, array, dictionary, call, unary, row, postfix, conditional, Argument, plain, named, pair, Statement, evaluate, assign, selection, iteration, breaks, continues}
+use Rattle.meson_syntax.specs.Grammar.{expression_words, argument_words, statement_words}
+use Rattle.meson_syntax.specs.Paths.{Sort, of_expression, of_statement, of_block, Node, ListAt, ElementAt, element_at, list_span, inner_words}
 
 -- ---- spans of nodes
 
 abbrev pub expression_span : {S : Type 0} → Expression S → S
 expression_span (identifier s x) = s
-expression_span (string s x) = s
+expression_span (boolean s b) = s
+expression_span (integer s x) = s
+expression_span (string s q x) = s
+expression_span (paren s e) = s
 expression_span (array l) = list_span l
+expression_span (dictionary l) = list_span l
 expression_span (call s x l) = s
+expression_span (unary s o e) = s
+expression_span (row s e os) = s
+expression_span (postfix s e ts) = s
+expression_span (conditional s c y n) = s
 
 abbrev pub argument_span : {S : Type 0} → Argument S → S
 argument_span (plain e) = expression_span e
 argument_span (named s x e) = s
+argument_span (pair s e f) = s
 
 abbrev pub statement_span : {S : Type 0} → Statement S → S
 statement_span (evaluate e) = expression_span e
-statement_span (assign s x e) = s
+statement_span (assign s x a e) = s
+statement_span (selection s bs o) = s
+statement_span (iteration s xs e b) = s
+statement_span (breaks s) = s
+statement_span (continues s) = s
 
 -- ---- items
 
@@ -58,10 +72,6 @@ pub record IsTight (own : List Lexeme) : Type 0 where
 
 -- ---- nodes among items
 
--- the words between the brackets of a list
-abbrev pub inner_words : {S : Type 0} → Listing S → List Word
-inner_words (listing s trailing list) = arguments_words list trailing
-
 -- The node of this span and these words: left of its own items stand those whose tokens come before its words, right of them the others.
 pub record Stands (items : List Lexeme) (s : Span) (before words behind : List Word) : Type 0 where
   pub left : List Lexeme
@@ -89,8 +99,8 @@ pub record ListStands (items : List Lexeme) (p : ListAt Span) : Type 0 where
   pub close_item : Lexeme
   pub right : List Lexeme
   pub parts : items ≡ left ++ open_item ∷ (inner ++ close_item ∷ right)
-  pub opens : open_item.kind ≡ p.opens
-  pub closes : close_item.kind ≡ p.closes
+  pub is_open : open_item.kind ≡ opens p.bracket
+  pub is_close : close_item.kind ≡ closes p.bracket
   pub from : (list_span p.list).from ≡ length (joined left)
   pub to : (list_span p.list).to ≡ length (joined (left ++ open_item ∷ (inner ++ close_item ∷ [])))
   pub is_left : emitted start left ≡ p.before
@@ -110,15 +120,11 @@ pub record PartStands (items : List Lexeme) (p : ListAt Span) (l : ListStands it
   pub is_right : spoken right ≡ behind
   pub tight : IsTight own
 
--- An element of the list, and its value.
-abbrev pub ElementStands : (items : List Lexeme) (p : ListAt Span) → ListStands items p → Split (Argument Span) → Type 0
-ElementStands items p l e = PartStands items p l (argument_span e.here) (lead_words e.front) (argument_words e.here) (rest_words e.rest (is_trailing p.list))
+-- An element of the list.
+abbrev pub ElementStands : (items : List Lexeme) (p : ListAt Span) → ListStands items p → ElementAt Span → Type 0
+ElementStands items p l e = PartStands items p l (argument_span e.element) e.before (argument_words e.element) e.behind
 
-abbrev pub ValueStands : (items : List Lexeme) (p : ListAt Span) → ListStands items p → Split (Argument Span) → Type 0
-ValueStands items p l e = PartStands items p l (expression_span (value_of e.here)) (lead_words e.front ++ name_words e.here) (expression_words (value_of e.here)) (rest_words e.rest (is_trailing p.list))
-
--- The list, each of its elements, and the value of each.
+-- The list, and each of its elements.
 pub record ListPlaces (items : List Lexeme) (p : ListAt Span) : Type 0 where
   pub list : ListStands items p
-  pub elements : (n : ℕ) (e : Split (Argument Span)) → split_at (elements_of p.list) n ≡ Some e → ElementStands items p list e
-  pub values : (n : ℕ) (e : Split (Argument Span)) → split_at (elements_of p.list) n ≡ Some e → ValueStands items p list e
+  pub elements : (n : ℕ) (e : ElementAt Span) → element_at p.list n ≡ Some e → ElementStands items p list e

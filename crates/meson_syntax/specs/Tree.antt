@@ -1,14 +1,42 @@
 -- Trees of build files. What each node carries is an S: a span, or nothing.
 use Rattle.std.specs.Prelude.{ℕ, Bool, true, false, List, [], ◌∷◌}
+use Rattle.meson_syntax.specs.declared.operator.Operator.{Operator}
+use Rattle.meson_syntax.specs.declared.operator.UnaryOperator.{UnaryOperator}
+use Rattle.meson_syntax.specs.declared.operator.StringKind.{StringKind}
+use Rattle.meson_syntax.specs.declared.operator.Assignment.{Assignment}
 
 mutual
   pub data Expression (S : Type 0) : Type 0 where
     identifier : S → List ℕ → Expression S
-    -- a string, with its quotes
-    string : S → List ℕ → Expression S
+    boolean : S → Bool → Expression S
+    -- a number, and a string with its quotes, as they are written
+    integer : S → List ℕ → Expression S
+    string : S → StringKind → List ℕ → Expression S
+    -- an expression in round brackets
+    paren : S → Expression S → Expression S
     array : Listing S → Expression S
+    dictionary : Listing S → Expression S
     -- a function's name and its arguments
     call : S → List ℕ → Listing S → Expression S
+    unary : S → UnaryOperator → Expression S → Expression S
+    -- the first operand, and each further one with the operator before it
+    row : S → Expression S → Operands S → Expression S
+    -- an expression with the method calls and indexes behind it
+    postfix : S → Expression S → Tails S → Expression S
+    -- what is asked, and the answers for yes and for no
+    conditional : S → Expression S → Expression S → Expression S → Expression S
+
+  pub data Operands (S : Type 0) : Type 0 where
+    no_operands : Operands S
+    operand : Operator → Expression S → Operands S → Operands S
+
+  pub data Tail (S : Type 0) : Type 0 where
+    method : S → List ℕ → Listing S → Tail S
+    index : S → Expression S → Tail S
+
+  pub data Tails (S : Type 0) : Type 0 where
+    no_tails : Tails S
+    tail : Tail S → Tails S → Tails S
 
   -- a list from bracket to bracket: whether a comma stands after its last element, and its elements
   pub data Listing (S : Type 0) : Type 0 where
@@ -17,6 +45,8 @@ mutual
   pub data Argument (S : Type 0) : Type 0 where
     plain : Expression S → Argument S
     named : S → List ℕ → Expression S → Argument S
+    -- a dictionary's key and its value
+    pair : S → Expression S → Expression S → Argument S
 
   pub data Arguments (S : Type 0) : Type 0 where
     no_arguments : Arguments S
@@ -25,8 +55,24 @@ mutual
 mutual
   pub data Statement (S : Type 0) : Type 0 where
     evaluate : Expression S → Statement S
-    -- a variable and its value
-    assign : S → List ℕ → Expression S → Statement S
+    -- a variable, what is done with it, and the value
+    assign : S → List ℕ → Assignment → Expression S → Statement S
+    -- from `if` to `endif`
+    selection : S → Branches S → Otherwise S → Statement S
+    -- from `foreach` to `endforeach`: the variables, what they run through, and the body
+    iteration : S → List (List ℕ) → Expression S → Block S → Statement S
+    breaks : S → Statement S
+    continues : S → Statement S
+
+  -- the conditions of `if` and of each `elif`, each with the block behind it
+  pub data Branches (S : Type 0) : Type 0 where
+    no_branches : Branches S
+    branch : Expression S → Block S → Branches S → Branches S
+
+  -- the block behind `else`, if there is one
+  pub data Otherwise (S : Type 0) : Type 0 where
+    nothing_else : Otherwise S
+    otherwise : Block S → Otherwise S
 
   pub data Statements (S : Type 0) : Type 0 where
     no_statements : Statements S
@@ -38,7 +84,8 @@ mutual
 pub data File (S : Type 0) : Type 0 where
   file : S → Block S → File S
 
--- the same as lists, and back
+-- ---- the same as lists, and back
+
 abbrev pub arguments_of : {S : Type 0} → List (Argument S) → Arguments S
 arguments_of [] = no_arguments
 arguments_of (a ∷ more) = argument a (arguments_of more)
@@ -46,6 +93,30 @@ arguments_of (a ∷ more) = argument a (arguments_of more)
 abbrev pub argument_list : {S : Type 0} → Arguments S → List (Argument S)
 argument_list no_arguments = []
 argument_list (argument a more) = a ∷ argument_list more
+
+abbrev pub operands_of : {S : Type 0} → List (Operator × Expression S) → Operands S
+operands_of [] = no_operands
+operands_of (o ∷ more) = operand o.0 o.1 (operands_of more)
+
+abbrev pub operand_list : {S : Type 0} → Operands S → List (Operator × Expression S)
+operand_list no_operands = []
+operand_list (operand o e more) = (o, e) ∷ operand_list more
+
+abbrev pub tails_of : {S : Type 0} → List (Tail S) → Tails S
+tails_of [] = no_tails
+tails_of (t ∷ more) = tail t (tails_of more)
+
+abbrev pub tail_list : {S : Type 0} → Tails S → List (Tail S)
+tail_list no_tails = []
+tail_list (tail t more) = t ∷ tail_list more
+
+abbrev pub branches_of : {S : Type 0} → List (Expression S × Block S) → Branches S
+branches_of [] = no_branches
+branches_of (b ∷ more) = branch b.0 b.1 (branches_of more)
+
+abbrev pub branch_list : {S : Type 0} → Branches S → List (Expression S × Block S)
+branch_list no_branches = []
+branch_list (branch e b more) = (e, b) ∷ branch_list more
 
 abbrev pub statements_of : {S : Type 0} → List (Statement S) → Statements S
 statements_of [] = no_statements
@@ -58,6 +129,7 @@ statement_list (statement s more) = s ∷ statement_list more
 abbrev pub is_named : {S : Type 0} → Argument S → Bool
 is_named (plain e) = false
 is_named (named s x e) = true
+is_named (pair s e f) = false
 
 -- ---- trees without spans
 
@@ -70,9 +142,29 @@ Plain = File Nowhere
 abbrev mutual
   pub erase_expression : {S : Type 0} → Expression S → Expression Nowhere
   erase_expression (identifier s x) = identifier tt x
-  erase_expression (string s x) = string tt x
+  erase_expression (boolean s b) = boolean tt b
+  erase_expression (integer s x) = integer tt x
+  erase_expression (string s q x) = string tt q x
+  erase_expression (paren s e) = paren tt (erase_expression e)
   erase_expression (array l) = array (erase_listing l)
+  erase_expression (dictionary l) = dictionary (erase_listing l)
   erase_expression (call s x l) = call tt x (erase_listing l)
+  erase_expression (unary s o e) = unary tt o (erase_expression e)
+  erase_expression (row s e os) = row tt (erase_expression e) (erase_operands os)
+  erase_expression (postfix s e ts) = postfix tt (erase_expression e) (erase_tails ts)
+  erase_expression (conditional s c y n) = conditional tt (erase_expression c) (erase_expression y) (erase_expression n)
+
+  pub erase_operands : {S : Type 0} → Operands S → Operands Nowhere
+  erase_operands no_operands = no_operands
+  erase_operands (operand o e more) = operand o (erase_expression e) (erase_operands more)
+
+  pub erase_tail : {S : Type 0} → Tail S → Tail Nowhere
+  erase_tail (method s x l) = method tt x (erase_listing l)
+  erase_tail (index s e) = index tt (erase_expression e)
+
+  pub erase_tails : {S : Type 0} → Tails S → Tails Nowhere
+  erase_tails no_tails = no_tails
+  erase_tails (tail t more) = tail (erase_tail t) (erase_tails more)
 
   pub erase_listing : {S : Type 0} → Listing S → Listing Nowhere
   erase_listing (listing s trailing list) = listing tt trailing (erase_arguments list)
@@ -80,6 +172,7 @@ abbrev mutual
   pub erase_argument : {S : Type 0} → Argument S → Argument Nowhere
   erase_argument (plain e) = plain (erase_expression e)
   erase_argument (named s x e) = named tt x (erase_expression e)
+  erase_argument (pair s e f) = pair tt (erase_expression e) (erase_expression f)
 
   pub erase_arguments : {S : Type 0} → Arguments S → Arguments Nowhere
   erase_arguments no_arguments = no_arguments
@@ -88,7 +181,19 @@ abbrev mutual
 abbrev mutual
   pub erase_statement : {S : Type 0} → Statement S → Statement Nowhere
   erase_statement (evaluate e) = evaluate (erase_expression e)
-  erase_statement (assign s x e) = assign tt x (erase_expression e)
+  erase_statement (assign s x a e) = assign tt x a (erase_expression e)
+  erase_statement (selection s bs o) = selection tt (erase_branches bs) (erase_otherwise o)
+  erase_statement (iteration s xs e b) = iteration tt xs (erase_expression e) (erase_block b)
+  erase_statement (breaks s) = breaks tt
+  erase_statement (continues s) = continues tt
+
+  pub erase_branches : {S : Type 0} → Branches S → Branches Nowhere
+  erase_branches no_branches = no_branches
+  erase_branches (branch e b more) = branch (erase_expression e) (erase_block b) (erase_branches more)
+
+  pub erase_otherwise : {S : Type 0} → Otherwise S → Otherwise Nowhere
+  erase_otherwise nothing_else = nothing_else
+  erase_otherwise (otherwise b) = otherwise (erase_block b)
 
   pub erase_statements : {S : Type 0} → Statements S → Statements Nowhere
   erase_statements no_statements = no_statements

@@ -1,1 +1,2 @@
+pub mod boxed
 pub mod many

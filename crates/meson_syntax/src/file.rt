@@ -6,12 +6,15 @@ ghost use Rattle.meson_syntax.specs.Tree.{Plain, erase};
 ghost use Rattle.meson_syntax.specs.View.{view};
 ghost use Rattle.meson_syntax.specs.declared.fault.ParseFault.{ParseFault};
 
+use crate::block::read_tokens;
 use crate::fault::ParseFault;
 use crate::significant::tokens;
 use crate::source::check_source;
-use crate::statement::read_tokens;
 use crate::tree::Parsed;
 use std::alloc::Global;
+
+/// How many constructs may stand inside one another.
+const MAX_DEPTH: usize = 64;
 
 /// The tree of a file, with the bytes from and to which each node stands.
 pub fn parse(alloc: Global, source: &[u8]) -> Result<Parsed, ParseFault>
@@ -28,7 +31,7 @@ pub fn parse(alloc: Global, source: &[u8]) -> Result<Parsed, ParseFault>
         return Err(fault);
     }
     match tokens(alloc, source) {
-        Ok(tokens) => read_tokens(alloc, source, tokens.as_slice()),
+        Ok(tokens) => read_tokens(alloc, source, tokens.as_slice(), MAX_DEPTH),
         Err(fault) => Err(fault),
     }
 }

@@ -40,6 +40,13 @@ impl<'a> Cursor<'a> {
         }
     }
 
+    /// Whether no token is left.
+    pub(crate) fn is_over(&self) -> bool
+        ensures { (source : Bytes) → result ≡ spec.is_over (tokens_of source self.now.rest) }
+    {
+        self.rest.is_empty()
+    }
+
     /// The offset that a refusal names: the next token's place, or the source's length.
     pub(crate) fn place(&self, source: &[u8]) -> usize
         ensures { result ≡ place_of (length source.now) self.now.rest }
@@ -51,16 +58,17 @@ impl<'a> Cursor<'a> {
     }
 }
 
-/// The rules of the grammar over a source. What reads the expressions one level deeper is a field, so that each rule is proved by itself.
+/// The rules of the grammar over a source. What reads one level deeper is a field, so that each rule is proved by itself.
 #[derive(Clone, Copy)]
 pub(crate) struct Grammar<'a, F> {
     pub alloc: Global,
     /// The text that the tokens' spans are of.
     pub source: &'a [u8],
-    /// How many lists may still stand inside one another.
+    /// How many constructs may still stand inside one another.
     pub depth: usize,
-    /// Reads an expression in which fewer lists than the number that it is given stand inside one another.
-    pub expr: F,
+    /// Reads what a construct holds, in which fewer constructs than the number that it is given stand inside one another: an
+    /// expression for the rules of expressions, a block for those of statements.
+    pub deeper: F,
 }
 
 /// Whether the two are one kind.
@@ -123,12 +131,12 @@ impl<'a, F> Grammar<'a, F> {
         tokens.rest.len()
     }
 
-    /// Whether no token is left.
+    /// Where the last token ended.
     #[tactic(auto, unfolding(crate::specs::Cursor::input))]
-    pub(crate) fn is_over(&self, tokens: &Cursor<'_>) -> bool
-        ensures { result ≡ spec.is_over (input self.now.source.now tokens.now).rest }
+    pub(crate) fn last(&self, tokens: &Cursor<'_>) -> usize
+        ensures { result ≡ (input self.now.source.now tokens.now).last }
     {
-        tokens.rest.is_empty()
+        tokens.last
     }
 
     /// Whether a token of this kind comes next.
@@ -204,5 +212,14 @@ impl<'a, F> Grammar<'a, F> {
         ensures { result ≡ ParseFault.Unexpected (place_of (length self.now.source.now) tokens.now.rest) }
     {
         ParseFault::Unexpected(tokens.place(self.source))
+    }
+
+    /// The refusal that the next token opens a construct inside as many as may stand inside one another.
+    #[cold]
+    #[inline(never)]
+    pub(crate) fn too_deep(&self, tokens: &Cursor<'_>) -> ParseFault
+        ensures { result ≡ ParseFault.TooDeep (place_of (length self.now.source.now) tokens.now.rest) }
+    {
+        ParseFault::TooDeep(tokens.place(self.source))
     }
 }

@@ -1,20 +1,30 @@
 //! Build files as trees whose nodes carry the bytes from and to which they stand.
 #![tactic(auto)]
 
+mod block;
+mod boxed;
 mod expression;
 mod fault;
 mod file;
 mod grammar;
 pub mod laws;
+mod list;
 mod many;
+mod operator;
+mod primary;
+mod row;
+mod selection;
 mod significant;
 mod source;
 mod statement;
+mod tail;
 mod token;
 mod tree;
 
+pub use boxed::Boxed;
 pub use fault::ParseFault;
 pub use file::parse;
 pub use many::Many;
+pub use operator::{Assignment, Bracket, Operator, StringKind, UnaryOperator};
 pub use source::MAX_LEN;
-pub use tree::{Arg, Block, Expr, List, Parsed, Stmt};
+pub use tree::{Arg, Block, Branch, Expr, List, Operand, Parsed, Stmt, Tail};

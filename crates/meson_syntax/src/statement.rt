@@ -1,111 +1,148 @@
-//! Statements, and the tree of a file's tokens.
+//! Statements.
 //!
 //! The rules are those of the Syntax page of the Meson manual.
 
-ghost use Rattle.std.specs.Prelude.{IfErr, length};
-ghost use Rattle.meson_syntax.specs.Input.{GivesAll};
-ghost use Rattle.meson_syntax.specs.Nests.{IsGrammatical, Nests, Runs};
-ghost use Rattle.meson_syntax.specs.Reading as spec;
-ghost use Rattle.meson_syntax.specs.Reading.{expression};
-ghost use Rattle.meson_syntax.specs.Tokens.{tokens_of};
-ghost use Rattle.meson_syntax.specs.View.{block_view, stmt_view, stmts_view, view};
+ghost use Rattle.meson_syntax.specs.Nests.{NestsBlocks, Proceeds, Runs};
+ghost use Rattle.meson_syntax.specs.ReadingFiles as spec;
+ghost use Rattle.meson_syntax.specs.View.{stmt_view, text_at, texts_at};
 
-use crate::expression::read_expression;
 use crate::fault::ParseFault;
 use crate::grammar::{Cursor, Grammar};
 use crate::many::Many;
-use crate::token::Token;
-use crate::tree::{Block, Expr, Parsed, Stmt};
+use crate::operator::Assignment;
+use crate::tree::{Block, Stmt};
 use meson_lex::{Kind, Span};
 use std::alloc::Global;
 
-/// How many lists may stand inside one another.
-const MAX_DEPTH: usize = 64;
-
-/// The tree of the file whose significant tokens these are.
-#[tactic(auto, unfolding(crate::specs::Reading::whole, crate::specs::Cursor::input))]
-pub(crate) fn read_tokens(
-    alloc: Global,
-    source: &[u8],
-    tokens: &[Token],
-) -> Result<Parsed, ParseFault>
-    ensures gives { GivesAll (view source.now) (spec.whole (length source.now) (tokens_of source.now tokens.now)) result }
-    // A refusal is one of the grammar.
-    ensures refused { IfErr result IsGrammatical }
-{
-    let mut left = Cursor::new(tokens);
-    let grammar = Grammar {
-        alloc,
-        source,
-        depth: MAX_DEPTH + 1,
-        expr: read_expression,
-    };
-    let block = grammar.block(&mut left)?;
-    if !grammar.is_over(&left) {
-        return Err(grammar.unexpected(&left));
+impl<'a, F: Fn(Global, &[u8], &mut Cursor<'_>, usize) -> Result<Block, ParseFault>> Grammar<'a, F> {
+    /// A statement whose kind its first token tells.
+    #[tactic(auto, unfolding(crate::specs::ReadingFiles::stmt))]
+    pub(crate) fn statement(&self, tokens: &mut Cursor<'_>) -> Result<Stmt, ParseFault>
+        requires { NestsBlocks self.now.depth (F.pre self.now.deeper) (F.post self.now.deeper) }
+        ensures { Proceeds spec.stmt stmt_view self.now.source.now self.now.depth tokens.old result tokens.new }
+    {
+        match self.peek(tokens) {
+            Some(Kind::WordIf) => self.selected(tokens),
+            Some(Kind::WordForeach) => self.iterated(tokens),
+            Some(Kind::WordBreak) => self.broken(tokens),
+            Some(Kind::WordContinue) => self.continued(tokens),
+            _ => self.simple(tokens),
+        }
     }
-    let span = Span {
-        from: 0,
-        to: source.len(),
-    };
-    Ok(Parsed { block, span })
-}
 
-impl<'a, F: Fn(Global, &[u8], &mut Cursor<'_>, usize) -> Result<Expr, ParseFault>> Grammar<'a, F> {
-    /// The statements up to the end, from the first to the last.
-    #[tactic(auto, unfolding(crate::specs::Reading::blocked))]
-    fn block(&self, tokens: &mut Cursor<'_>) -> Result<Block, ParseFault>
-        requires { Nests self.now.depth (F.pre self.now.expr) (F.post self.now.expr) }
-        ensures { Runs (spec.blocked (expression self.now.depth)) block_view self.now.source.now tokens.old result tokens.new }
+    /// An assignment, or an expression by itself.
+    #[tactic(auto, unfolding(crate::specs::ReadingFiles::simple))]
+    fn simple(&self, tokens: &mut Cursor<'_>) -> Result<Stmt, ParseFault>
+        requires { NestsBlocks self.now.depth (F.pre self.now.deeper) (F.post self.now.deeper) }
+        ensures { Proceeds spec.simple stmt_view self.now.source.now self.now.depth tokens.old result tokens.new }
+    {
+        if self.sees_two(tokens, Kind::Identifier, Kind::Assign) {
+            return self.assigned(tokens, Assignment::Set);
+        }
+        if self.sees_two(tokens, Kind::Identifier, Kind::PlusAssign) {
+            return self.assigned(tokens, Assignment::Add);
+        }
+        self.evaluated(tokens)
+    }
+
+    /// An assignment, from its variable, which comes next with its sign.
+    #[tactic(auto, unfolding(crate::specs::ReadingFiles::assigned))]
+    fn assigned(&self, tokens: &mut Cursor<'_>, assignment: Assignment) -> Result<Stmt, ParseFault>
+        requires { NestsBlocks self.now.depth (F.pre self.now.deeper) (F.post self.now.deeper) }
+        ensures { Proceeds (λ room expr inner body. spec.assigned room expr inner body assignment) stmt_view self.now.source.now self.now.depth tokens.old result tokens.new }
     {
         let start = self.from(tokens);
-        let statements = self.lines(tokens)?;
+        let name = self.take(tokens);
+        self.take(tokens);
+        let value = self.value(tokens)?;
         let span = self.since(tokens, start);
-        Ok(Block { statements, span })
+        Ok(Stmt::Assign {
+            span,
+            name,
+            assignment,
+            value,
+        })
     }
 
-    /// The statements up to the end, each with its line end.
-    #[tactic(auto, unfolding(crate::specs::Reading::lines))]
-    fn lines(&self, tokens: &mut Cursor<'_>) -> Result<Many<Stmt>, ParseFault>
-        requires { Nests self.now.depth (F.pre self.now.expr) (F.post self.now.expr) }
-        ensures { Runs (spec.lines (expression self.now.depth)) stmts_view self.now.source.now tokens.old result tokens.new }
+    /// An expression by itself.
+    #[tactic(auto, unfolding(crate::specs::ReadingFiles::evaluated))]
+    fn evaluated(&self, tokens: &mut Cursor<'_>) -> Result<Stmt, ParseFault>
+        requires { NestsBlocks self.now.depth (F.pre self.now.deeper) (F.post self.now.deeper) }
+        ensures { Proceeds spec.evaluated stmt_view self.now.source.now self.now.depth tokens.old result tokens.new }
     {
+        Ok(Stmt::Expr(self.value(tokens)?))
+    }
+
+    /// A loop, from `foreach`, which comes next.
+    #[tactic(auto, unfolding(crate::specs::ReadingFiles::iterated))]
+    fn iterated(&self, tokens: &mut Cursor<'_>) -> Result<Stmt, ParseFault>
+        requires { NestsBlocks self.now.depth (F.pre self.now.deeper) (F.post self.now.deeper) }
+        ensures { Proceeds spec.iterated stmt_view self.now.source.now self.now.depth tokens.old result tokens.new }
+    {
+        if self.depth == 0 {
+            return Err(self.too_deep(tokens));
+        }
+        let start = self.from(tokens);
+        self.take(tokens);
+        let names = self.names(tokens)?;
+        self.expect(tokens, Kind::Colon)?;
+        let items = self.inner_value(tokens)?;
+        let body = self.bodied(tokens)?;
+        self.expect(tokens, Kind::WordEndforeach)?;
+        let span = self.since(tokens, start);
+        Ok(Stmt::Foreach {
+            span,
+            names,
+            items,
+            body,
+        })
+    }
+
+    /// `break`, which comes next.
+    #[tactic(auto, unfolding(crate::specs::ReadingFiles::broken))]
+    fn broken(&self, tokens: &mut Cursor<'_>) -> Result<Stmt, ParseFault>
+        ensures { Proceeds spec.broken stmt_view self.now.source.now self.now.depth tokens.old result tokens.new }
+    {
+        Ok(Stmt::Break(self.take(tokens)))
+    }
+
+    /// `continue`, which comes next.
+    #[tactic(auto, unfolding(crate::specs::ReadingFiles::continued))]
+    fn continued(&self, tokens: &mut Cursor<'_>) -> Result<Stmt, ParseFault>
+        ensures { Proceeds spec.continued stmt_view self.now.source.now self.now.depth tokens.old result tokens.new }
+    {
+        Ok(Stmt::Continue(self.take(tokens)))
+    }
+}
+
+impl<'a, F> Grammar<'a, F> {
+    /// Identifiers with commas between them.
+    #[tactic(auto, unfolding(crate::specs::ReadingFiles::names))]
+    fn names(&self, tokens: &mut Cursor<'_>) -> Result<Many<Span>, ParseFault>
+        ensures { Runs spec.names texts_at self.now.source.now tokens.old result tokens.new }
+    {
+        let first = self.name(tokens)?;
         let mut found = Many::new(self.alloc);
+        found.push(first)?;
         // Each turn takes a token at least.
         for _turn in 0..self.left(tokens) {
-            if self.is_over(tokens) {
+            if !self.eat(tokens, Kind::Comma) {
                 return Ok(found);
             }
-            found.push(self.line(tokens)?)?;
+            let name = self.name(tokens)?;
+            found.push(name)?;
         }
         Ok(found)
     }
 
-    /// A statement and its line end.
-    #[tactic(auto, unfolding(crate::specs::Reading::line))]
-    fn line(&self, tokens: &mut Cursor<'_>) -> Result<Stmt, ParseFault>
-        requires { Nests self.now.depth (F.pre self.now.expr) (F.post self.now.expr) }
-        ensures { Runs (spec.line (expression self.now.depth)) stmt_view self.now.source.now tokens.old result tokens.new }
+    /// An identifier.
+    #[tactic(auto, unfolding(crate::specs::ReadingFiles::name))]
+    fn name(&self, tokens: &mut Cursor<'_>) -> Result<Span, ParseFault>
+        ensures { Runs spec.name text_at self.now.source.now tokens.old result tokens.new }
     {
-        let statement = self.statement(tokens)?;
-        self.expect(tokens, Kind::LineEnd)?;
-        Ok(statement)
-    }
-
-    /// An assignment, or an expression by itself.
-    #[tactic(auto, unfolding(crate::specs::Reading::stmt))]
-    fn statement(&self, tokens: &mut Cursor<'_>) -> Result<Stmt, ParseFault>
-        requires { Nests self.now.depth (F.pre self.now.expr) (F.post self.now.expr) }
-        ensures { Runs (spec.stmt (expression self.now.depth)) stmt_view self.now.source.now tokens.old result tokens.new }
-    {
-        let start = self.from(tokens);
-        if !self.sees_two(tokens, Kind::Identifier, Kind::Assign) {
-            return Ok(Stmt::Expr(self.inner(tokens)?));
+        if !self.sees(tokens, Kind::Identifier) {
+            return Err(self.unexpected(tokens));
         }
-        let name = self.take(tokens);
-        self.take(tokens);
-        let value = self.inner(tokens)?;
-        let span = self.since(tokens, start);
-        Ok(Stmt::Assign { span, name, value })
+        Ok(self.take(tokens))
     }
 }

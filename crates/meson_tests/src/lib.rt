@@ -6,6 +6,8 @@ mod calls;
 #[cfg(test)]
 mod committing;
 #[cfg(test)]
+mod grammar;
+#[cfg(test)]
 mod lexing;
 #[cfg(test)]
 mod literals;
@@ -15,5 +17,7 @@ mod parsing;
 mod refusing;
 #[cfg(test)]
 mod rewriting;
+#[cfg(test)]
+mod shapes;
 #[cfg(test)]
 mod splicing;

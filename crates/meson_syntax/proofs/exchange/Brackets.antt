@@ -2,7 +2,9 @@
 use Rattle.std.proofs.Common.{◌≡◌, ℕ, Bool, true, false, List, [], ◌∷◌, ◌++◌, refl, sym, ◌∙◌, inl, inr, ◌⊎◌}
 use Rattle.std.specs.Prelude.{◌==◌}
 use Rattle.meson_lex.specs.declared.kinds.Kind.{Kind}
-use Rattle.meson_lex.specs.declared.kinds.Kind.TheVariants as k
+use Rattle.meson_syntax.specs.declared.operator.Bracket.{Bracket}
+use Rattle.meson_syntax.specs.declared.operator.Bracket.TheVariants as bracket
+use Rattle.meson_syntax.specs.Operators.{opens, closes}
 use Rattle.meson_lex.specs.Items.{Lexeme, joined, IsItem, AreItems}
 use Rattle.meson_lex.specs.Kinds.{OfKind}
 use Rattle.meson_lex.specs.Neighbours.{MayStand, Shape, StandsBefore, blanks, closed, extendable, format_quoted, name, note, quoted, shape, word}
@@ -18,17 +20,15 @@ pub record IsBracket (κ : Kind) (r : Role) : Type 0 where
   pub is_role : role κ ≡ r
   pub drops : (text : List ℕ) → kept κ text ≡ []
 
-pub open-round : IsBracket k.OpenRound Opens
-open-round = record { byte = 40; is_text = λ text h. h; no_return = refl; stands = λ text rest. tt; is_role = refl; drops = λ text. refl }
+pub open-bracket : (b : Bracket) → IsBracket (opens b) Opens
+open-bracket bracket.Round = record { byte = 40; is_text = λ text h. h; no_return = refl; stands = λ text rest. tt; is_role = refl; drops = λ text. refl }
+open-bracket bracket.Square = record { byte = 91; is_text = λ text h. h; no_return = refl; stands = λ text rest. tt; is_role = refl; drops = λ text. refl }
+open-bracket bracket.Curly = record { byte = 123; is_text = λ text h. h; no_return = refl; stands = λ text rest. tt; is_role = refl; drops = λ text. refl }
 
-pub close-round : IsBracket k.CloseRound Closes
-close-round = record { byte = 41; is_text = λ text h. h; no_return = refl; stands = λ text rest. tt; is_role = refl; drops = λ text. refl }
-
-pub open-square : IsBracket k.OpenSquare Opens
-open-square = record { byte = 91; is_text = λ text h. h; no_return = refl; stands = λ text rest. tt; is_role = refl; drops = λ text. refl }
-
-pub close-square : IsBracket k.CloseSquare Closes
-close-square = record { byte = 93; is_text = λ text h. h; no_return = refl; stands = λ text rest. tt; is_role = refl; drops = λ text. refl }
+pub close-bracket : (b : Bracket) → IsBracket (closes b) Closes
+close-bracket bracket.Round = record { byte = 41; is_text = λ text h. h; no_return = refl; stands = λ text rest. tt; is_role = refl; drops = λ text. refl }
+close-bracket bracket.Square = record { byte = 93; is_text = λ text h. h; no_return = refl; stands = λ text rest. tt; is_role = refl; drops = λ text. refl }
+close-bracket bracket.Curly = record { byte = 125; is_text = λ text h. h; no_return = refl; stands = λ text rest. tt; is_role = refl; drops = λ text. refl }
 
 begins-near : (test : ℕ → Bool) (front : List ℕ) (c : ℕ) (rest other : List ℕ) → begins test (front ++ c ∷ rest) ≡ begins test (front ++ c ∷ other)
 begins-near test [] c rest other = refl

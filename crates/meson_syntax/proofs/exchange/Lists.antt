@@ -1,34 +1,27 @@
 -- A list's bytes exchanged for the text of another list: the new text spells the tree with the other list in that place.
-use Rattle.std.proofs.Common.{◌≡◌, ℕ, List, [], ◌∷◌, ◌++◌, length, Some, refl, sym, ap, ap₂, subst, ◌∙◌, append_assoc, length-append, arith, inl, inr}
-use Rattle.meson_lex.specs.declared.kinds.Kind.{Kind}
+use Rattle.std.proofs.Common.{◌≡◌, ℕ, List, [], ◌∷◌, ◌++◌, length, Some, refl, sym, ap, ap₂, subst, ◌∙◌, append_assoc, length-append, arith}
 use Rattle.meson_lex.specs.declared.kinds.Span.{Span}
 use Rattle.meson_lex.specs.Items.{Lexeme, joined, AreItems}
 use Rattle.meson_lex.specs.Significant.{Opens, Closes, State, start, after, emitted, closing, significant}
 use Rattle.meson_lex.proofs.Seams.{joined-append}
+use Rattle.meson_syntax.specs.declared.operator.Bracket.{Bracket}
+use Rattle.meson_syntax.specs.Operators.{opens, closes}
 use Rattle.meson_syntax.specs.Tree.{Listing, listing, File, erase}
 use Rattle.meson_syntax.specs.Grammar.{mark, listing_words, file_words, LevelFile}
 use Rattle.meson_syntax.specs.Reads.{Spells, IsSpanned}
-use Rattle.meson_syntax.specs.Paths.{ListAt, list_at, list_span}
-use Rattle.meson_syntax.specs.Places.{spoken, inner_words, ListStands}
+use Rattle.meson_syntax.specs.Paths.{ListAt, list_at, list_span, inner_words}
+use Rattle.meson_syntax.specs.Places.{spoken, ListStands}
 use Rattle.meson_syntax.specs.Exchange.{IsListText}
-use Rattle.meson_syntax.proofs.parsing.Erased.{file-words-erased, file-level-erased}
+use Rattle.meson_syntax.proofs.parsing.FileErased.{file-words-erased, file-level-erased}
 use Rattle.meson_syntax.proofs.places.Spots.{after-append}
 use Rattle.meson_syntax.proofs.places.Standing.{joined-lengths, lists-stand}
-use Rattle.meson_syntax.proofs.places.Backs.{AreBrackets, FileFits, file-fits}
-use Rattle.meson_syntax.proofs.exchange.Brackets.{IsBracket, open-round, close-round, open-square, close-square}
+use Rattle.meson_syntax.proofs.paths.Reaching.{ListFits, list-fits}
+use Rattle.meson_syntax.proofs.exchange.Brackets.{IsBracket, open-bracket, close-bracket}
 use Rattle.meson_syntax.proofs.exchange.Nesting.{nest, inner-flat}
 use Rattle.meson_syntax.proofs.exchange.Items.{listed, behind, exchanged-items, list-after, list-significant}
 
-opens-bracket : (κ ι : Kind) → AreBrackets κ ι → IsBracket κ Opens
-opens-bracket κ ι (inl h) = subst (λ x. IsBracket x Opens) (sym h.0) open-round
-opens-bracket κ ι (inr h) = subst (λ x. IsBracket x Opens) (sym h.0) open-square
-
-closes-bracket : (κ ι : Kind) → AreBrackets κ ι → IsBracket ι Closes
-closes-bracket κ ι (inl h) = subst (λ x. IsBracket x Closes) (sym h.1) close-round
-closes-bracket κ ι (inr h) = subst (λ x. IsBracket x Closes) (sym h.1) close-square
-
-listing-inner : {S : Type 0} (l : Listing S) (κ ι : Kind) → listing_words l κ ι ≡ mark κ ++ (inner_words l ++ mark ι)
-listing-inner (listing s trailing list) κ ι = refl
+listing-inner : {S : Type 0} (l : Listing S) (b : Bracket) → listing_words l b ≡ mark (opens b) ++ (inner_words l ++ mark (closes b))
+listing-inner (listing s trailing list) b = refl
 
 -- ---- texts cut at the same place
 
@@ -58,8 +51,8 @@ module _ (bytes : List ℕ) (f : File Span) (s : IsSpanned bytes f) (path : List
   place : ListStands s.reads.spells.items p
   place = (lists-stand bytes f s path p is).list
 
-  fits : FileFits Span f p
-  fits = file-fits Span f path p is
+  fits : ListFits Span f p
+  fits = list-fits Span f path p is
 
   -- the parts of the text that the list's span cuts out are the texts of the items
   cut-is : (front was back : List ℕ) → bytes ≡ front ++ (was ++ back) → length front ≡ (list_span p.list).from → length (front ++ was) ≡ (list_span p.list).to
@@ -76,19 +69,19 @@ module _ (bytes : List ℕ) (f : File Span) (s : IsSpanned bytes f) (path : List
       let second = same-cut (joined own) (joined place.right) was back first.1 (omega arith) in
       (sym first.0, sym second.1)
 
-  module _ (l : Listing Span) (text : List ℕ) (t : IsListText text p.opens p.closes (inner_words l)) where
-    opens : IsBracket p.opens Opens
-    opens = opens-bracket p.opens p.closes fits.brackets
+  module _ (l : Listing Span) (text : List ℕ) (t : IsListText text p.bracket (inner_words l)) where
+    opening : IsBracket (opens p.bracket) Opens
+    opening = open-bracket p.bracket
 
-    closes : IsBracket p.closes Closes
-    closes = closes-bracket p.opens p.closes fits.brackets
+    closer : IsBracket (closes p.bracket) Closes
+    closer = close-bracket p.bracket
 
     abbrev now : List Lexeme
     now = place.left ++ listed t.open_item t.inner t.close_item place.right
 
     now-items : AreItems now []
     now-items =
-        exchanged-items p.opens p.closes opens closes place.left place.inner place.right t.inner place.open_item place.close_item t.open_item t.close_item place.opens place.closes t.is_open t.is_close
+        exchanged-items (opens p.bracket) (closes p.bracket) opening closer place.left place.inner place.right t.inner place.open_item place.close_item t.open_item t.close_item place.is_open place.is_close t.is_open t.is_close
         (subst (λ xs. AreItems xs []) place.parts s.reads.spells.are_items.each) t.are_items.each
 
     old-flat : nest 0 (spoken place.inner) ≡ Some 0
@@ -103,18 +96,18 @@ module _ (bytes : List ℕ) (f : File Span) (s : IsSpanned bytes f) (path : List
         let st = after start place.left in
         let list-end : after start (place.left ++ listed place.open_item place.inner place.close_item []) ≡ behind st =
         after-append start place.left (listed place.open_item place.inner place.close_item [])
-        ∙ list-after p.opens p.closes opens closes place.inner place.open_item place.close_item place.opens place.closes old-flat st [] in
+        ∙ list-after (opens p.bracket) (closes p.bracket) opening closer place.inner place.open_item place.close_item place.is_open place.is_close old-flat st [] in
         let text-end : after start s.reads.spells.items ≡ after (behind st) place.right =
         ap (after start) place.parts ∙ after-append start place.left (listed place.open_item place.inner place.close_item place.right)
-        ∙ list-after p.opens p.closes opens closes place.inner place.open_item place.close_item place.opens place.closes old-flat st place.right in
+        ∙ list-after (opens p.bracket) (closes p.bracket) opening closer place.inner place.open_item place.close_item place.is_open place.is_close old-flat st place.right in
         ap₂ (λ (a b : State). emitted a place.right ++ closing b.fresh) (sym list-end) (sym text-end) ∙ place.is_right
 
     now-words : significant now ≡ file_words (p.back l)
     now-words =
-        list-significant p.opens p.closes opens closes t.inner t.open_item t.close_item t.is_open t.is_close new-flat place.left place.right
+        list-significant (opens p.bracket) (closes p.bracket) opening closer t.inner t.open_item t.close_item t.is_open t.is_close new-flat place.left place.right
         ∙ ap₂ (λ u v. u ++ v) place.is_left
-        (ap₂ (λ u v. u ++ v) (ap (λ w. mark p.opens ++ (w ++ mark p.closes)) t.is_inner ∙ sym (listing-inner l p.opens p.closes)) rest-words)
-        ∙ sym (fits.words l)
+        (ap₂ (λ u v. u ++ v) (ap (λ w. mark (opens p.bracket) ++ (w ++ mark (closes p.bracket))) t.is_inner ∙ sym (listing-inner l p.bracket)) rest-words)
+        ∙ sym (fits.put l)
 
     exchanged : LevelFile (p.back l) → (front back : List ℕ) → front ≡ joined place.left → back ≡ joined place.right → Spells (front ++ (text ++ back)) (erase (p.back l))
     exchanged level front back is-front is-back = record {
@@ -129,7 +122,7 @@ module _ (bytes : List ℕ) (f : File Span) (s : IsSpanned bytes f) (path : List
     }
 
 pub lists-exchange : (bytes : List ℕ) (f : File Span) (s : IsSpanned bytes f) (path : List ℕ) (p : ListAt Span) → list_at f path ≡ Some p
-    → (l : Listing Span) (text : List ℕ) → IsListText text p.opens p.closes (inner_words l) → LevelFile (p.back l)
+    → (l : Listing Span) (text : List ℕ) → IsListText text p.bracket (inner_words l) → LevelFile (p.back l)
     → (front was back : List ℕ) → bytes ≡ front ++ (was ++ back) → length front ≡ (list_span p.list).from → length (front ++ was) ≡ (list_span p.list).to
     → Spells (front ++ (text ++ back)) (erase (p.back l))
 lists-exchange bytes f s path p is l text t level front was back parts from to =

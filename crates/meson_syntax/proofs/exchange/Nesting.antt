@@ -5,9 +5,19 @@ use Rattle.meson_lex.specs.declared.kinds.Kind.{Kind}
 use Rattle.meson_lex.specs.declared.kinds.Kind.TheVariants as k
 use Rattle.meson_lex.specs.Items.{Lexeme}
 use Rattle.meson_lex.specs.Significant.{Word, kept, new_line, Role, Gap, Ends, Opens, Closes, Other, role, State, step_by, ends_line, only_if, emit_by, emitted, after}
-use Rattle.meson_syntax.specs.Tree.{Expression, identifier, string, array, call, Listing, listing, Argument, plain, named, Arguments, no_arguments, argument}
-use Rattle.meson_syntax.specs.Grammar.{mark, comma_words, expression_words, listing_words, argument_words, arguments_words}
-use Rattle.meson_syntax.specs.Places.{spoken_by, spoken, inner_words}
+use Rattle.meson_syntax.specs.declared.operator.Operator.{Operator}
+use Rattle.meson_syntax.specs.declared.operator.Operator.TheVariants as op
+use Rattle.meson_syntax.specs.declared.operator.UnaryOperator.{UnaryOperator}
+use Rattle.meson_syntax.specs.declared.operator.UnaryOperator.TheVariants as unary_operator
+use Rattle.meson_syntax.specs.declared.operator.StringKind.{StringKind}
+use Rattle.meson_syntax.specs.declared.operator.StringKind.TheVariants as quotes
+use Rattle.meson_syntax.specs.declared.operator.Bracket.{Bracket}
+use Rattle.meson_syntax.specs.declared.operator.Bracket.TheVariants as bracket
+use Rattle.meson_syntax.specs.Operators.{opens, closes, string_kind, boolean_kind, unary_kind}
+use Rattle.meson_syntax.specs.Tree.{Expression, identifier, boolean, integer, string, paren, array, dictionary, call, unary, row, postfix, conditional, Operands, no_operands, operand, Tail, method, index, Tails, no_tails, tail, Listing, listing, Argument, plain, named, pair, Arguments, no_arguments, argument}
+use Rattle.meson_syntax.specs.Grammar.{mark, comma_words, operator_words, expression_words, operands_words, tail_words, tails_words, listing_words, argument_words, arguments_words}
+use Rattle.meson_syntax.specs.Paths.{inner_words}
+use Rattle.meson_syntax.specs.Places.{spoken_by, spoken}
 use Rattle.meson_syntax.proofs.parsing.Steps.{some-injective}
 
 -- how many brackets are open after a word, where `n` are before it
@@ -46,6 +56,49 @@ flat-brackets opens closes a o c f n b =
       opened : nest n ((mark opens ++ (a ++ mark closes)) ++ b) ≡ nest (suc n) ((a ++ mark closes) ++ b)
       opened = rw o refl
 
+-- ---- single words
+
+string-other : (q : StringKind) → role (string_kind q) ≡ Other
+string-other quotes.Plain = refl
+string-other quotes.Multiline = refl
+string-other quotes.Format = refl
+string-other quotes.FormatMultiline = refl
+
+boolean-other : (b : Bool) → role (boolean_kind b) ≡ Other
+boolean-other true = refl
+boolean-other false = refl
+
+unary-other : (o : UnaryOperator) → role (unary_kind o) ≡ Other
+unary-other unary_operator.Not = refl
+unary-other unary_operator.Minus = refl
+
+pub opens-role : (b : Bracket) → role (opens b) ≡ Opens
+opens-role bracket.Round = refl
+opens-role bracket.Square = refl
+opens-role bracket.Curly = refl
+
+pub closes-role : (b : Bracket) → role (closes b) ≡ Closes
+closes-role bracket.Round = refl
+closes-role bracket.Square = refl
+closes-role bracket.Curly = refl
+
+operator-flat : (o : Operator) → Flat (operator_words o)
+operator-flat op.Or = flat-word k.WordOr [] refl
+operator-flat op.And = flat-word k.WordAnd [] refl
+operator-flat op.Equal = flat-word k.Equal [] refl
+operator-flat op.NotEqual = flat-word k.NotEqual [] refl
+operator-flat op.Less = flat-word k.Less [] refl
+operator-flat op.LessEqual = flat-word k.LessEqual [] refl
+operator-flat op.Greater = flat-word k.Greater [] refl
+operator-flat op.GreaterEqual = flat-word k.GreaterEqual [] refl
+operator-flat op.In = flat-word k.WordIn [] refl
+operator-flat op.NotIn = flat-append (mark k.WordNot) (mark k.WordIn) (flat-word k.WordNot [] refl) (flat-word k.WordIn [] refl)
+operator-flat op.Plus = flat-word k.Plus [] refl
+operator-flat op.Minus = flat-word k.Minus [] refl
+operator-flat op.Times = flat-word k.Star [] refl
+operator-flat op.Divide = flat-word k.Slash [] refl
+operator-flat op.Remainder = flat-word k.Percent [] refl
+
 module _ (S : Type 0) where
   comma-flat : (more : Arguments S) (trailing : Bool) → Flat (comma_words more trailing)
   comma-flat no_arguments true = flat-word k.Comma [] refl
@@ -53,20 +106,47 @@ module _ (S : Type 0) where
   comma-flat (argument a more) trailing = flat-word k.Comma [] refl
 
   mutual
-    expression-flat : (e : Expression S) → Flat (expression_words e)
+    pub expression-flat : (e : Expression S) → Flat (expression_words e)
     expression-flat (identifier s x) = flat-word k.Identifier x refl
-    expression-flat (string s x) = flat-word k.PlainString x refl
-    expression-flat (array l) = listing-flat l k.OpenSquare k.CloseSquare refl refl
-    expression-flat (call s x l) =
-        flat-append ((k.Identifier, x) ∷ []) (listing_words l k.OpenRound k.CloseRound) (flat-word k.Identifier x refl) (listing-flat l k.OpenRound k.CloseRound refl refl)
+    expression-flat (boolean s b) = flat-word (boolean_kind b) [] (boolean-other b)
+    expression-flat (integer s x) = flat-word k.Integer x refl
+    expression-flat (string s q x) = flat-word (string_kind q) x (string-other q)
+    expression-flat (paren s e) = flat-brackets k.OpenRound k.CloseRound (expression_words e) refl refl (expression-flat e)
+    expression-flat (array l) = listing-flat l bracket.Square
+    expression-flat (dictionary l) = listing-flat l bracket.Curly
+    expression-flat (call s x l) = flat-append ((k.Identifier, x) ∷ []) (listing_words l bracket.Round) (flat-word k.Identifier x refl) (listing-flat l bracket.Round)
+    expression-flat (unary s o e) = flat-append (mark (unary_kind o)) (expression_words e) (flat-word (unary_kind o) [] (unary-other o)) (expression-flat e)
+    expression-flat (row s e os) = flat-append (expression_words e) (operands_words os) (expression-flat e) (operands-flat os)
+    expression-flat (postfix s e ts) = flat-append (expression_words e) (tails_words ts) (expression-flat e) (tails-flat ts)
+    expression-flat (conditional s c y n) =
+        flat-append (expression_words c) (mark k.Question ++ (expression_words y ++ (mark k.Colon ++ expression_words n))) (expression-flat c)
+        (flat-append (mark k.Question) (expression_words y ++ (mark k.Colon ++ expression_words n)) (flat-word k.Question [] refl)
+        (flat-append (expression_words y) (mark k.Colon ++ expression_words n) (expression-flat y) (flat-append (mark k.Colon) (expression_words n) (flat-word k.Colon [] refl) (expression-flat n))))
 
-    listing-flat : (l : Listing S) (opens closes : Kind) → role opens ≡ Opens → role closes ≡ Closes → Flat (listing_words l opens closes)
-    listing-flat (listing s trailing list) opens closes o c = flat-brackets opens closes (arguments_words list trailing) o c (arguments-flat list trailing)
+    operands-flat : (os : Operands S) → Flat (operands_words os)
+    operands-flat no_operands = λ n b. refl
+    operands-flat (operand o e more) =
+        flat-append (operator_words o) (expression_words e ++ operands_words more) (operator-flat o) (flat-append (expression_words e) (operands_words more) (expression-flat e) (operands-flat more))
+
+    tail-flat : (t : Tail S) → Flat (tail_words t)
+    tail-flat (method s x l) =
+        flat-append (mark k.Dot) ((k.Identifier, x) ∷ listing_words l bracket.Round) (flat-word k.Dot [] refl)
+        (flat-append ((k.Identifier, x) ∷ []) (listing_words l bracket.Round) (flat-word k.Identifier x refl) (listing-flat l bracket.Round))
+    tail-flat (index s e) = flat-brackets k.OpenSquare k.CloseSquare (expression_words e) refl refl (expression-flat e)
+
+    tails-flat : (ts : Tails S) → Flat (tails_words ts)
+    tails-flat no_tails = λ n b. refl
+    tails-flat (tail t more) = flat-append (tail_words t) (tails_words more) (tail-flat t) (tails-flat more)
+
+    listing-flat : (l : Listing S) (b : Bracket) → Flat (listing_words l b)
+    listing-flat (listing s trailing list) b = flat-brackets (opens b) (closes b) (arguments_words list trailing) (opens-role b) (closes-role b) (arguments-flat list trailing)
 
     argument-flat : (a : Argument S) → Flat (argument_words a)
     argument-flat (plain e) = expression-flat e
     argument-flat (named s x e) =
         flat-append ((k.Identifier, x) ∷ []) (mark k.Colon ++ expression_words e) (flat-word k.Identifier x refl) (flat-append (mark k.Colon) (expression_words e) (flat-word k.Colon [] refl) (expression-flat e))
+    argument-flat (pair s e f) =
+        flat-append (expression_words e) (mark k.Colon ++ expression_words f) (expression-flat e) (flat-append (mark k.Colon) (expression_words f) (flat-word k.Colon [] refl) (expression-flat f))
 
     arguments-flat : (list : Arguments S) (trailing : Bool) → Flat (arguments_words list trailing)
     arguments-flat no_arguments trailing = λ n b. refl

@@ -19,18 +19,18 @@ use Rattle.meson_syntax.specs.Tree.{File, Plain, erase}
 use Rattle.meson_syntax.specs.View.{view}
 use Rattle.meson_syntax.specs.Input.{GivesAll}
 use Rattle.meson_syntax.specs.Nests.{IsGrammatical}
-use Rattle.meson_syntax.specs.Reading.{whole}
+use Rattle.meson_syntax.specs.ReadingFiles.{whole}
 use Rattle.meson_syntax.specs.Spelling.{SpellsFile}
 use Rattle.meson_syntax.specs.Grammar.{file_words}
-use Rattle.meson_syntax.specs.Reads.{IsSource, Reads, IsSpanned, IsUnreadable, HasNoTree, MayRefuse, Is, Refuses}
+use Rattle.meson_syntax.specs.Reads.{max_depth, IsSource, Reads, IsSpanned, IsUnreadable, HasNoTree, MayRefuse, Is, Refuses}
 use Rattle.meson_syntax.specs.Reads.{too_large, not_utf8, marked, lexical}
 use Rattle.meson_syntax.proofs.parsing.Steps.{some-injective}
 use Rattle.meson_syntax.proofs.parsing.SoundFiles.{whole-sound}
 use Rattle.meson_syntax.proofs.parsing.CompleteFiles.{whole-complete}
-use Rattle.meson_syntax.proofs.parsing.Words.{file-words}
+use Rattle.meson_syntax.proofs.parsing.FileWords.{file-words}
 use Rattle.meson_syntax.proofs.parsing.Levels.{file-level}
-use Rattle.meson_syntax.proofs.parsing.Erased.{file-words-erased, file-level-erased, file-depth-erased}
-use Rattle.meson_syntax.proofs.parsing.Placing.{place-file}
+use Rattle.meson_syntax.proofs.parsing.FileErased.{file-words-erased, file-level-erased, file-depth-erased}
+use Rattle.meson_syntax.proofs.parsing.FilePlacing.{place-file}
 
 -- items have no fault among them
 no-fault : (at : ℕ) (xs : List Lexeme) (front : List (Result Item LexFault)) (fault : LexFault) → placed at xs ≡ front ++ Err fault ∷ [] → ⊥
@@ -41,46 +41,46 @@ no-fault at (x ∷ xs) (r ∷ front) fault e = no-fault (at + length x.text) xs 
 
 module _ (source : List ℕ) (items : List Lexeme) (is : IsSource source) (are : IsItemList source items) where
   -- the tree that the tokens spell is the text's
-  pub spelled-reads : (f : File Span) → SpellsFile f (length source) 64 (located items) → Reads source (erase f)
+  pub spelled-reads : (f : File Span) → SpellsFile f (length source) max_depth (located items) → Reads source (erase f)
   spelled-reads f h =
-      let l = file-level f (length source) 64 (located items) h in
+      let l = file-level f (length source) max_depth (located items) h in
       record {
         source = is;
         spells = record {
           items = items;
           are_items = are;
-          words = sym (words-located items) ∙ file-words f (length source) 64 (located items) h ∙ sym (file-words-erased f);
+          words = sym (words-located items) ∙ file-words f (length source) max_depth (located items) h ∙ sym (file-words-erased f);
           level = subst (λ A. A) (sym (file-level-erased f)) l.0;
         };
         depth = rw (file-depth-erased f) l.1;
       }
 
-  pub spelled-spanned : (f : File Span) → SpellsFile f (length source) 64 (located items) → IsSpanned source f
+  pub spelled-spanned : (f : File Span) → SpellsFile f (length source) max_depth (located items) → IsSpanned source f
   unfolding spelled-reads
   spelled-spanned f h = record { reads = spelled-reads f h; stands = h }
 
   -- what is read is a tree of the text
-  pub found-spanned : (f : File Span) → whole (length source) (located items) ≡ Some f → IsSpanned source f
-  found-spanned f h = spelled-spanned f (whole-sound (length source) (located items) f h)
+  pub found-spanned : (f : File Span) → whole max_depth (length source) (located items) ≡ Some f → IsSpanned source f
+  found-spanned f h = spelled-spanned f (whole-sound max_depth (length source) (located items) f h)
 
   -- a tree of the text is read
-  pub reads-found : (p : Plain) → Reads source p → (f : File Span) × (erase f ≡ p) × (whole (length source) (located items) ≡ Some f)
+  pub reads-found : (p : Plain) → Reads source p → (f : File Span) × (erase f ≡ p) × (whole max_depth (length source) (located items) ≡ Some f)
   reads-found p r =
       let same : r.spells.items ≡ items = one_list source r.spells.items items r.spells.are_items are in
       let spelled : words (located items) ≡ file_words p = words-located items ∙ ap significant (sym same) ∙ r.spells.words in
-      let f = place-file p (length source) 64 (located items) r.spells.level r.depth spelled in
-      (f.0, f.1, whole-complete (length source) (located items) f.0 f.2)
+      let f = place-file p (length source) max_depth (located items) r.spells.level r.depth spelled in
+      (f.0, f.1, whole-complete max_depth (length source) (located items) f.0 f.2)
 
-  pub none-none : whole (length source) (located items) ≡ None → HasNoTree source
+  pub none-none : whole max_depth (length source) (located items) ≡ None → HasNoTree source
   none-none h p r = let f = reads-found p r in absurd cc
 
   -- ---- the clauses of a function that answers what the plain parser does
 
-  pub gives-reads : (result : Result Parsed ParseFault) → GivesAll (view source) (whole (length source) (located items)) result → IfOk result (λ p. IsSpanned source (view source p))
+  pub gives-reads : (result : Result Parsed ParseFault) → GivesAll (view source) (whole max_depth (length source) (located items)) result → IfOk result (λ p. IsSpanned source (view source p))
   gives-reads (Ok p) h = found-spanned (view source p) h
   gives-reads (Err e) h = tt
 
-  pub gives-finds : (result : Result Parsed ParseFault) → GivesAll (view source) (whole (length source) (located items)) result
+  pub gives-finds : (result : Result Parsed ParseFault) → GivesAll (view source) (whole max_depth (length source) (located items)) result
       → (t : Plain) → Reads source t → Is (λ p. erase (view source p)) result t
   gives-finds (Ok p) h t r =
       let f = reads-found t r in
@@ -112,7 +112,7 @@ module _ (source : List ℕ) (items : List Lexeme) (is : IsSource source) (are :
   gives-unreadable result e h = absurd (readable e h)
 
   -- a refusal by the grammar says that there is no tree
-  pub gives-refused : (e : ParseFault) → IsGrammatical e → (e ≢ OutOfMemory → whole (length source) (located items) ≡ None) → MayRefuse source e
+  pub gives-refused : (e : ParseFault) → IsGrammatical e → (e ≢ OutOfMemory → whole max_depth (length source) (located items) ≡ None) → MayRefuse source e
   gives-refused (Unexpected at) g h = (readable, none-none (h (λ e. absurd cc)))
   gives-refused (TooDeep at) g h = (readable, none-none (h (λ e. absurd cc)))
   gives-refused OutOfMemory g h = tt

@@ -14,8 +14,8 @@ use Rattle.meson_syntax.specs.View.{view}
 use Rattle.meson_syntax.specs.Gathering.{IsFaulty}
 use Rattle.meson_syntax.specs.Input.{GivesAll}
 use Rattle.meson_syntax.specs.Nests.{IsGrammatical}
-use Rattle.meson_syntax.specs.Reading.{whole}
-use Rattle.meson_syntax.specs.Reads.{IsSource, Reads, IsUnreadable, HasNoTree, MayRefuse, Is, Refuses}
+use Rattle.meson_syntax.specs.ReadingFiles.{whole}
+use Rattle.meson_syntax.specs.Reads.{max_depth, IsSource, Reads, IsUnreadable, HasNoTree, MayRefuse, Is, Refuses}
 use Rattle.meson_syntax.specs.Reads.{too_large, not_utf8, marked, lexical}
 use Rattle.meson_syntax.proofs.parsing.Answers.{readable, gives-refused}
 
@@ -103,6 +103,6 @@ stopped-says source e (inr h) = refused-says source e h
 
 -- where the grammar refuses
 pub gives-says : (source : List ℕ) (items : List Lexeme) (is : IsSource source) (are : IsItemList source items) (result : Result Parsed ParseFault)
-    → GivesAll (view source) (whole (length source) (located items)) result → IfErr result IsGrammatical → IfErr result (MayRefuse source)
+    → GivesAll (view source) (whole max_depth (length source) (located items)) result → IfErr result IsGrammatical → IfErr result (MayRefuse source)
 gives-says source items is are (Ok p) h g = tt
 gives-says source items is are (Err e) h g = gives-refused source items is are e g h

@@ -5,7 +5,7 @@ use Rattle.meson_lex.specs.Located.{located}
 use Rattle.meson_lex.proofs.OneList.{one_list}
 use Rattle.meson_syntax.specs.Tree.{File, Plain, erase}
 use Rattle.meson_syntax.specs.Spelling.{SpellsFile}
-use Rattle.meson_syntax.specs.Reads.{Reads, IsSpanned}
+use Rattle.meson_syntax.specs.Reads.{max_depth, Reads, IsSpanned}
 use Rattle.meson_syntax.proofs.parsing.Steps.{some-injective}
 use Rattle.meson_syntax.proofs.parsing.CompleteFiles.{whole-complete}
 use Rattle.meson_syntax.proofs.parsing.Answers.{reads-found, found-spanned}
@@ -25,8 +25,8 @@ one-spanned bytes f g p q =
     let items = p.reads.spells.items in
     let others = q.reads.spells.items in
     let same : others ≡ items = one_list bytes others items q.reads.spells.are_items p.reads.spells.are_items in
-    let stands : SpellsFile g len 64 (located items) = subst (λ xs. SpellsFile g len 64 (located xs)) same q.stands in
-    some-injective _ _ (sym (whole-complete len (located items) f p.stands) ∙ whole-complete len (located items) g stands)
+    let stands : SpellsFile g len max_depth (located items) = subst (λ xs. SpellsFile g len max_depth (located xs)) same q.stands in
+    some-injective _ _ (sym (whole-complete max_depth len (located items) f p.stands) ∙ whole-complete max_depth len (located items) g stands)
 
 pub has-spans : (bytes : List ℕ) (t : Plain) → Reads bytes t → (f : File Span) × IsSpanned bytes f × (erase f ≡ t)
 has-spans bytes t p =

@@ -1,14 +1,21 @@
--- What spells a tree are its words.
-use Rattle.std.proofs.Common.{◌≡◌, ℕ, Bool, true, false, List, [], ◌∷◌, ◌++◌, refl, ap, ap₂, ◌∙◌}
+-- What spells an expression are its words.
+use Rattle.std.proofs.Common.{◌≡◌, ℕ, Bool, true, false, List, [], ◌∷◌, ◌++◌, map, refl, ap, ap₂, ◌∙◌}
 use Rattle.meson_lex.specs.declared.kinds.Kind.{Kind}
 use Rattle.meson_lex.specs.declared.kinds.Kind.TheVariants as k
 use Rattle.meson_lex.specs.declared.kinds.Span.{Span}
 use Rattle.meson_lex.specs.Significant.{Word, kept}
 use Rattle.meson_lex.specs.Located.{Token, word_of, words}
 use Rattle.meson_lex.proofs.TokenWords.{words-append}
-use Rattle.meson_syntax.specs.Tree.{Expression, identifier, string, array, call, Listing, listing, Argument, plain, named, is_named, Arguments, no_arguments, argument, Statement, evaluate, assign, Statements, no_statements, statement, Block, block, File, file}
-use Rattle.meson_syntax.specs.Spelling.{One, Says, Then, Comma, SpellsExpression, SpellsListing, SpellsArguments, SpellsArgument, SpellsStatement, SpellsStatements, SpellsBlock, SpellsFile}
-use Rattle.meson_syntax.specs.Grammar.{mark, comma_words, expression_words, listing_words, argument_words, arguments_words, statement_words, statements_words, block_words, file_words}
+use Rattle.meson_syntax.specs.declared.operator.Operator.{Operator}
+use Rattle.meson_syntax.specs.declared.operator.Bracket.{Bracket}
+use Rattle.meson_syntax.specs.declared.operator.Bracket.TheVariants as bracket
+use Rattle.meson_syntax.specs.Operators.{operator_kind, operator_rest, unary_kind, string_kind, boolean_kind, opens, closes}
+use Rattle.meson_syntax.specs.Tree.{Expression, identifier, boolean, integer, string, paren, array, dictionary, call, unary, row, postfix, conditional, Operands, no_operands, operand, Tail, method, index, Tails, no_tails, tail, Listing, listing, Argument, plain, named, pair, is_named, Arguments, no_arguments, argument}
+use Rattle.meson_syntax.specs.Spelling.{One, Says, Then, Each, Comma, SpellsExpression, SpellsOperands, SpellsTail, SpellsTails, SpellsListing, SpellsArguments, SpellsArgument}
+use Rattle.meson_syntax.specs.Grammar.{mark, comma_words, operator_words, expression_words, operands_words, tail_words, tails_words, listing_words, argument_words, arguments_words}
+use Rattle.meson_syntax.proofs.parsing.Marks.{Drop, string-keeps, boolean-drops, unary-drops, opens-drops, closes-drops, operator-drops, rest-drops}
+
+-- ---- steps
 
 pub says-words : (κ : Kind) (x : List ℕ) (ts : List Token) → kept κ x ≡ x → Says κ x ts → words ts ≡ (κ, x) ∷ []
 says-words κ x ts keeps w =
@@ -24,61 +31,101 @@ one-words κ ts drops w =
 pub then-words : (P Q : List Token → Type 0) (ts : List Token) (a b : List Word) → (t : Then P Q ts) → words t.front ≡ a → words t.back ≡ b → words ts ≡ a ++ b
 then-words P Q ts a b t p q = ap words t.joined ∙ words-append t.front t.back ∙ ap₂ (λ x y. x ++ y) p q
 
+pub each-words : (κs : List Kind) (ts : List Token) → Drop κs → Each κs ts → words ts ≡ map (λ κ. (κ, [])) κs
+each-words [] ts drops h = ap words h
+each-words (κ ∷ κs) ts drops h = then-words _ _ ts _ _ h (one-words κ h.front drops.0 h.first) (each-words κs h.back drops.1 h.second)
+
 pub comma-words : (more : Arguments Span) (trailing : Bool) (ts : List Token) → Comma more trailing ts → words ts ≡ comma_words more trailing
 comma-words no_arguments true ts h = one-words k.Comma ts (λ x. refl) h
 comma-words no_arguments false ts h = ap words h
 comma-words (argument a more) trailing ts h = one-words k.Comma ts (λ x. refl) h
 
+-- ---- expressions
+
 mutual
   pub expression-words : (e : Expression Span) (d : ℕ) (ts : List Token) → SpellsExpression e d ts → words ts ≡ expression_words e
   expression-words (identifier s x) d ts h = says-words k.Identifier x ts refl h.1
-  expression-words (string s x) d ts h = says-words k.PlainString x ts refl h.1
-  expression-words (array l) d ts h = listing-words l k.OpenSquare k.CloseSquare false d ts (λ x. refl) (λ x. refl) h
+  expression-words (boolean s b) d ts h = one-words (boolean_kind b) ts (boolean-drops b) h.1
+  expression-words (integer s x) d ts h = says-words k.Integer x ts refl h.1
+  expression-words (string s q x) d ts h = says-words (string_kind q) x ts (string-keeps q x) h.1
+  expression-words (paren s e) d ts h =
+      let p = h.1 in
+      let q = p.second in
+      then-words _ _ ts _ _ p (one-words k.OpenRound p.front (λ x. refl) p.first)
+      (then-words _ _ p.back _ _ q (expression-words e q.first.inner q.front q.first.spelled) (one-words k.CloseRound q.back (λ x. refl) q.second))
+  expression-words (array l) d ts h = listing-words l bracket.Square d ts h
+  expression-words (dictionary l) d ts h = listing-words l bracket.Curly d ts h
   expression-words (call s x l) d ts h =
       let p = h.1 in
-      then-words _ _ ts _ _ p (says-words k.Identifier x p.front refl p.first) (listing-words l k.OpenRound k.CloseRound true d p.back (λ x. refl) (λ x. refl) p.second)
+      then-words _ _ ts _ _ p (says-words k.Identifier x p.front refl p.first) (listing-words l bracket.Round d p.back p.second)
+  expression-words (unary s o e) d ts h =
+      let p = h.2 in
+      then-words _ _ ts _ _ p (one-words (unary_kind o) p.front (unary-drops o) p.first) (expression-words e d p.back p.second)
+  expression-words (row s e os) d ts h =
+      let p = h.3 in
+      then-words _ _ ts _ _ p (expression-words e d p.front p.first) (operands-words os _ d p.back p.second)
+  expression-words (postfix s e tails) d ts h =
+      let p = h.3 in
+      then-words _ _ ts _ _ p (expression-words e d p.front p.first) (tails-words tails d p.back p.second)
+  expression-words (conditional s c y n) d ts h =
+      let p = h.2 in
+      let q = p.second in
+      let r = q.second in
+      let t = r.second in
+      then-words _ _ ts _ _ p (expression-words c d p.front p.first)
+      (then-words _ _ p.back _ _ q (one-words k.Question q.front (λ x. refl) q.first)
+      (then-words _ _ q.back _ _ r (expression-words y r.first.inner r.front r.first.spelled)
+      (then-words _ _ r.back _ _ t (one-words k.Colon t.front (λ x. refl) t.first) (expression-words n t.second.inner t.back t.second.spelled))))
 
-  pub listing-words : (l : Listing Span) (opens closes : Kind) (names : Bool) (d : ℕ) (ts : List Token) → ((x : List ℕ) → kept opens x ≡ []) → ((x : List ℕ) → kept closes x ≡ [])
-      → SpellsListing l opens closes names d ts → words ts ≡ listing_words l opens closes
-  listing-words (listing s trailing list) opens closes names d ts o c h =
+  pub operands-words : (os : Operands Span) (n d : ℕ) (ts : List Token) → SpellsOperands os n d ts → words ts ≡ operands_words os
+  operands-words no_operands n d ts h = ap words h
+  operands-words (operand o e more) n d ts h =
+      let p = h.2 in
+      let q = p.second in
+      let r = q.second in
+      then-words _ _ ts (mark (operator_kind o)) (map (λ κ. (κ, [])) (operator_rest o) ++ (expression_words e ++ operands_words more)) p (one-words (operator_kind o) p.front (operator-drops o) p.first)
+      (then-words _ _ p.back _ _ q (each-words (operator_rest o) q.front (rest-drops o) q.first)
+      (then-words _ _ q.back _ _ r (expression-words e d r.front r.first) (operands-words more n d r.back r.second)))
+
+  pub tail-words : (t : Tail Span) (d : ℕ) (ts : List Token) → SpellsTail t d ts → words ts ≡ tail_words t
+  tail-words (method s x l) d ts h =
+      let p = h.1 in
+      let q = p.second in
+      then-words _ _ ts _ _ p (one-words k.Dot p.front (λ x. refl) p.first)
+      (then-words _ _ p.back _ _ q (says-words k.Identifier x q.front refl q.first) (listing-words l bracket.Round d q.back q.second))
+  tail-words (index s e) d ts h =
+      let p = h.1 in
+      let q = p.second in
+      then-words _ _ ts _ _ p (one-words k.OpenSquare p.front (λ x. refl) p.first)
+      (then-words _ _ p.back _ _ q (expression-words e q.first.inner q.front q.first.spelled) (one-words k.CloseSquare q.back (λ x. refl) q.second))
+
+  pub tails-words : (tails : Tails Span) (d : ℕ) (ts : List Token) → SpellsTails tails d ts → words ts ≡ tails_words tails
+  tails-words no_tails d ts h = ap words h
+  tails-words (tail t more) d ts h = then-words _ _ ts _ _ h (tail-words t d h.front h.first) (tails-words more d h.back h.second)
+
+  pub listing-words : (l : Listing Span) (b : Bracket) (d : ℕ) (ts : List Token) → SpellsListing l b d ts → words ts ≡ listing_words l b
+  listing-words (listing s trailing list) b d ts h =
       let p = h.3 in
       let q = p.second in
-      then-words _ _ ts _ _ p (one-words opens p.front o p.first)
-      (then-words _ _ p.back _ _ q (arguments-words list trailing names false d q.front q.first) (one-words closes q.back c q.second))
+      then-words _ _ ts _ _ p (one-words (opens b) p.front (opens-drops b) p.first)
+      (then-words _ _ p.back _ _ q (arguments-words list trailing b false d q.front q.first) (one-words (closes b) q.back (closes-drops b) q.second))
 
-  pub arguments-words : (list : Arguments Span) (trailing names seen : Bool) (d : ℕ) (ts : List Token) → SpellsArguments list trailing names seen d ts → words ts ≡ arguments_words list trailing
-  arguments-words no_arguments trailing names seen d ts h = ap words h
-  arguments-words (argument a more) trailing names seen d ts h =
+  pub arguments-words : (list : Arguments Span) (trailing : Bool) (b : Bracket) (seen : Bool) (d : ℕ) (ts : List Token) → SpellsArguments list trailing b seen d ts → words ts ≡ arguments_words list trailing
+  arguments-words no_arguments trailing b seen d ts h = ap words h
+  arguments-words (argument a more) trailing b seen d ts h =
       let q = h.second in
-      then-words _ _ ts _ _ h (argument-words a names seen d h.front h.first)
-      (then-words _ _ h.back _ _ q (comma-words more trailing q.front q.first) (arguments-words more trailing names (is_named a) d q.back q.second))
+      then-words _ _ ts _ _ h (argument-words a b seen d h.front h.first)
+      (then-words _ _ h.back _ _ q (comma-words more trailing q.front q.first) (arguments-words more trailing b (is_named a) d q.back q.second))
 
-  pub argument-words : (a : Argument Span) (names seen : Bool) (d : ℕ) (ts : List Token) → SpellsArgument a names seen d ts → words ts ≡ argument_words a
-  argument-words (plain e) names seen d ts h = expression-words e h.1.inner ts h.1.spelled
-  argument-words (named s x e) names seen d ts h =
+  pub argument-words : (a : Argument Span) (b : Bracket) (seen : Bool) (d : ℕ) (ts : List Token) → SpellsArgument a b seen d ts → words ts ≡ argument_words a
+  argument-words (plain e) b seen d ts h = expression-words e h.2.inner ts h.2.spelled
+  argument-words (named s x e) b seen d ts h =
       let p = h.2 in
       let q = p.second in
       then-words _ _ ts _ _ p (says-words k.Identifier x p.front refl p.first)
       (then-words _ _ p.back _ _ q (one-words k.Colon q.front (λ x. refl) q.first) (expression-words e q.second.inner q.back q.second.spelled))
-
-mutual
-  pub statement-words : (s : Statement Span) (d : ℕ) (ts : List Token) → SpellsStatement s d ts → words ts ≡ statement_words s
-  statement-words (evaluate e) d ts h = expression-words e d ts h
-  statement-words (assign s x e) d ts h =
-      let p = h.1 in
+  argument-words (pair s e f) b seen d ts h =
+      let p = h.2 in
       let q = p.second in
-      then-words _ _ ts _ _ p (says-words k.Identifier x p.front refl p.first)
-      (then-words _ _ p.back _ _ q (one-words k.Assign q.front (λ x. refl) q.first) (expression-words e d q.back q.second))
-
-  pub statements-words : (list : Statements Span) (d : ℕ) (ts : List Token) → SpellsStatements list d ts → words ts ≡ statements_words list
-  statements-words no_statements d ts h = ap words h
-  statements-words (statement s more) d ts h =
-      let q = h.second in
-      then-words _ _ ts _ _ h (statement-words s d h.front h.first)
-      (then-words _ _ h.back _ _ q (one-words k.LineEnd q.front (λ x. refl) q.first) (statements-words more d q.back q.second))
-
-  pub block-words : (b : Block Span) (d : ℕ) (ts : List Token) → SpellsBlock b d ts → words ts ≡ block_words b
-  block-words (block s list) d ts h = statements-words list d ts h.1
-
-pub file-words : (f : File Span) (len d : ℕ) (ts : List Token) → SpellsFile f len d ts → words ts ≡ file_words f
-file-words (file s b) len d ts h = block-words b d ts h.2
+      then-words _ _ ts _ _ p (expression-words e p.first.inner p.front p.first.spelled)
+      (then-words _ _ p.back _ _ q (one-words k.Colon q.front (λ x. refl) q.first) (expression-words f q.second.inner q.back q.second.spelled))

@@ -5,11 +5,16 @@ use Rattle.meson_lex.specs.declared.kinds.Kind.{Kind}
 use Rattle.meson_lex.specs.declared.kinds.Kind.TheVariants as k
 use Rattle.meson_lex.specs.Items.{Lexeme}
 use Rattle.meson_lex.specs.Significant.{Word, kept, new_line, Role, Gap, Ends, Opens, Closes, Other, role, State, step, ends_line, only_if, emit_by, emitted}
-use Rattle.meson_syntax.specs.Tree.{Expression, identifier, string, array, call, Listing, listing, Argument, plain, named, Arguments, no_arguments, argument, arguments_of}
-use Rattle.meson_syntax.specs.Grammar.{mark, comma_words, expression_words, listing_words, argument_words, arguments_words}
-use Rattle.meson_syntax.specs.Paths.{name_words, lead_words, rest_words}
-use Rattle.meson_syntax.specs.Places.{spoken_by, spoken, inner_words}
-use Rattle.meson_syntax.proofs.places.Bounds.{IsOwnKind, open-round-own, close-round-own, open-square-own, close-square-own}
+use Rattle.meson_syntax.specs.declared.operator.Operator.{Operator}
+use Rattle.meson_syntax.specs.declared.operator.Operator.TheVariants as op
+use Rattle.meson_syntax.specs.declared.operator.Bracket.{Bracket}
+use Rattle.meson_syntax.specs.declared.operator.Bracket.TheVariants as bracket
+use Rattle.meson_syntax.specs.Operators.{opens, closes, string_kind, boolean_kind, unary_kind, operator_kind, operator_rest}
+use Rattle.meson_syntax.specs.Tree.{Expression, identifier, boolean, integer, string, paren, array, dictionary, call, unary, row, postfix, conditional, Operands, no_operands, operand, Tail, method, index, Tails, no_tails, tail, Listing, listing, Argument, plain, named, pair, Arguments, no_arguments, argument}
+use Rattle.meson_syntax.specs.Grammar.{mark, comma_words, operator_words, expression_words, operands_words, tail_words, tails_words, listing_words, argument_words, arguments_words}
+use Rattle.meson_syntax.specs.Paths.{inner_words}
+use Rattle.meson_syntax.specs.Places.{spoken_by, spoken}
+use Rattle.meson_syntax.proofs.places.Bounds.{IsOwnKind, string-own, boolean-own, unary-own, opens-own, closes-own}
 
 -- none of the words is a line end
 abbrev pub NoLine : List Word → Type 0
@@ -20,11 +25,11 @@ pub no-line-append : (a b : List Word) → NoLine a → NoLine b → NoLine (a +
 no-line-append [] b p q = q
 no-line-append (w ∷ a) b p q = (p.0, no-line-append a b p.1 q)
 
-front-no-line : (a b : List Word) → NoLine (a ++ b) → NoLine a
+pub front-no-line : (a b : List Word) → NoLine (a ++ b) → NoLine a
 front-no-line [] b h = tt
 front-no-line (w ∷ a) b h = (h.0, front-no-line a b h.1)
 
-back-no-line : (a b : List Word) → NoLine (a ++ b) → NoLine b
+pub back-no-line : (a b : List Word) → NoLine (a ++ b) → NoLine b
 back-no-line [] b h = h
 back-no-line (w ∷ a) b h = back-no-line a b h.1
 
@@ -56,14 +61,34 @@ spoken-is s xs w h e = sym (emitted-spoken s xs (subst NoLine (sym e) h)) ∙ e
 kind-no-line : (κ : Kind) (x : List ℕ) → IsOwnKind κ → NoLine ((κ, x) ∷ [])
 kind-no-line κ x own = (λ e. own (ap (λ (w : Word). w.0) e), tt)
 
+mark-no-line : (κ : Kind) → IsOwnKind κ → NoLine (mark κ)
+mark-no-line κ own = kind-no-line κ [] own
+
 name-no-line : (x : List ℕ) → NoLine ((k.Identifier, x) ∷ [])
 name-no-line x = kind-no-line k.Identifier x (λ e. absurd cc)
 
 comma-mark : NoLine (mark k.Comma)
-comma-mark = kind-no-line k.Comma [] (λ e. absurd cc)
+comma-mark = mark-no-line k.Comma (λ e. absurd cc)
 
 colon-mark : NoLine (mark k.Colon)
-colon-mark = kind-no-line k.Colon [] (λ e. absurd cc)
+colon-mark = mark-no-line k.Colon (λ e. absurd cc)
+
+operator-no-line : (o : Operator) → NoLine (operator_words o)
+operator-no-line op.Or = mark-no-line k.WordOr (λ e. absurd cc)
+operator-no-line op.And = mark-no-line k.WordAnd (λ e. absurd cc)
+operator-no-line op.Equal = mark-no-line k.Equal (λ e. absurd cc)
+operator-no-line op.NotEqual = mark-no-line k.NotEqual (λ e. absurd cc)
+operator-no-line op.Less = mark-no-line k.Less (λ e. absurd cc)
+operator-no-line op.LessEqual = mark-no-line k.LessEqual (λ e. absurd cc)
+operator-no-line op.Greater = mark-no-line k.Greater (λ e. absurd cc)
+operator-no-line op.GreaterEqual = mark-no-line k.GreaterEqual (λ e. absurd cc)
+operator-no-line op.In = mark-no-line k.WordIn (λ e. absurd cc)
+operator-no-line op.NotIn = no-line-append (mark k.WordNot) (mark k.WordIn) (mark-no-line k.WordNot (λ e. absurd cc)) (mark-no-line k.WordIn (λ e. absurd cc))
+operator-no-line op.Plus = mark-no-line k.Plus (λ e. absurd cc)
+operator-no-line op.Minus = mark-no-line k.Minus (λ e. absurd cc)
+operator-no-line op.Times = mark-no-line k.Star (λ e. absurd cc)
+operator-no-line op.Divide = mark-no-line k.Slash (λ e. absurd cc)
+operator-no-line op.Remainder = mark-no-line k.Percent (λ e. absurd cc)
 
 module _ (S : Type 0) where
   comma-no-line : (more : Arguments S) (trailing : Bool) → NoLine (comma_words more trailing)
@@ -74,34 +99,56 @@ module _ (S : Type 0) where
   mutual
     pub expression-no-line : (e : Expression S) → NoLine (expression_words e)
     expression-no-line (identifier s x) = name-no-line x
-    expression-no-line (string s x) = kind-no-line k.PlainString x (λ e. absurd cc)
-    expression-no-line (array l) = listing-no-line l k.OpenSquare k.CloseSquare open-square-own close-square-own
-    expression-no-line (call s x l) = no-line-append ((k.Identifier, x) ∷ []) (listing_words l k.OpenRound k.CloseRound) (name-no-line x) (listing-no-line l k.OpenRound k.CloseRound open-round-own close-round-own)
+    expression-no-line (boolean s b) = mark-no-line (boolean_kind b) (boolean-own b)
+    expression-no-line (integer s x) = kind-no-line k.Integer x (λ e. absurd cc)
+    expression-no-line (string s q x) = kind-no-line (string_kind q) x (string-own q)
+    expression-no-line (paren s e) =
+        no-line-append (mark k.OpenRound) (expression_words e ++ mark k.CloseRound) (mark-no-line k.OpenRound (λ e. absurd cc))
+        (no-line-append (expression_words e) (mark k.CloseRound) (expression-no-line e) (mark-no-line k.CloseRound (λ e. absurd cc)))
+    expression-no-line (array l) = listing-no-line l bracket.Square
+    expression-no-line (dictionary l) = listing-no-line l bracket.Curly
+    expression-no-line (call s x l) = no-line-append ((k.Identifier, x) ∷ []) (listing_words l bracket.Round) (name-no-line x) (listing-no-line l bracket.Round)
+    expression-no-line (unary s o e) = no-line-append (mark (unary_kind o)) (expression_words e) (mark-no-line (unary_kind o) (unary-own o)) (expression-no-line e)
+    expression-no-line (row s e os) = no-line-append (expression_words e) (operands_words os) (expression-no-line e) (operands-no-line os)
+    expression-no-line (postfix s e ts) = no-line-append (expression_words e) (tails_words ts) (expression-no-line e) (tails-no-line ts)
+    expression-no-line (conditional s c y n) =
+        no-line-append (expression_words c) (mark k.Question ++ (expression_words y ++ (mark k.Colon ++ expression_words n))) (expression-no-line c)
+        (no-line-append (mark k.Question) (expression_words y ++ (mark k.Colon ++ expression_words n)) (mark-no-line k.Question (λ e. absurd cc))
+        (no-line-append (expression_words y) (mark k.Colon ++ expression_words n) (expression-no-line y) (no-line-append (mark k.Colon) (expression_words n) colon-mark (expression-no-line n))))
 
-    listing-no-line : (l : Listing S) (opens closes : Kind) → IsOwnKind opens → IsOwnKind closes → NoLine (listing_words l opens closes)
-    listing-no-line (listing s trailing list) opens closes o c =
-        no-line-append (mark opens) (arguments_words list trailing ++ mark closes) (kind-no-line opens [] o) (no-line-append (arguments_words list trailing) (mark closes) (arguments-no-line list trailing) (kind-no-line closes [] c))
+    operands-no-line : (os : Operands S) → NoLine (operands_words os)
+    operands-no-line no_operands = tt
+    operands-no-line (operand o e more) =
+        no-line-append (operator_words o) (expression_words e ++ operands_words more) (operator-no-line o) (no-line-append (expression_words e) (operands_words more) (expression-no-line e) (operands-no-line more))
+
+    tail-no-line : (t : Tail S) → NoLine (tail_words t)
+    tail-no-line (method s x l) =
+        no-line-append (mark k.Dot) ((k.Identifier, x) ∷ listing_words l bracket.Round) (mark-no-line k.Dot (λ e. absurd cc))
+        (no-line-append ((k.Identifier, x) ∷ []) (listing_words l bracket.Round) (name-no-line x) (listing-no-line l bracket.Round))
+    tail-no-line (index s e) =
+        no-line-append (mark k.OpenSquare) (expression_words e ++ mark k.CloseSquare) (mark-no-line k.OpenSquare (λ e. absurd cc))
+        (no-line-append (expression_words e) (mark k.CloseSquare) (expression-no-line e) (mark-no-line k.CloseSquare (λ e. absurd cc)))
+
+    tails-no-line : (ts : Tails S) → NoLine (tails_words ts)
+    tails-no-line no_tails = tt
+    tails-no-line (tail t more) = no-line-append (tail_words t) (tails_words more) (tail-no-line t) (tails-no-line more)
+
+    listing-no-line : (l : Listing S) (b : Bracket) → NoLine (listing_words l b)
+    listing-no-line (listing s trailing list) b =
+        no-line-append (mark (opens b)) (arguments_words list trailing ++ mark (closes b)) (mark-no-line (opens b) (opens-own b))
+        (no-line-append (arguments_words list trailing) (mark (closes b)) (arguments-no-line list trailing) (mark-no-line (closes b) (closes-own b)))
 
     pub argument-no-line : (a : Argument S) → NoLine (argument_words a)
     argument-no-line (plain e) = expression-no-line e
     argument-no-line (named s x e) =
         no-line-append ((k.Identifier, x) ∷ []) (mark k.Colon ++ expression_words e) (name-no-line x) (no-line-append (mark k.Colon) (expression_words e) colon-mark (expression-no-line e))
+    argument-no-line (pair s e f) =
+        no-line-append (expression_words e) (mark k.Colon ++ expression_words f) (expression-no-line e) (no-line-append (mark k.Colon) (expression_words f) colon-mark (expression-no-line f))
 
     arguments-no-line : (list : Arguments S) (trailing : Bool) → NoLine (arguments_words list trailing)
     arguments-no-line no_arguments trailing = tt
     arguments-no-line (argument a more) trailing =
         no-line-append (argument_words a) (comma_words more trailing ++ arguments_words more trailing) (argument-no-line a) (no-line-append (comma_words more trailing) (arguments_words more trailing) (comma-no-line more trailing) (arguments-no-line more trailing))
-
-  pub lead-no-line : (list : List (Argument S)) → NoLine (lead_words list)
-  lead-no-line [] = tt
-  lead-no-line (a ∷ more) = no-line-append (argument_words a) (mark k.Comma ++ lead_words more) (argument-no-line a) (no-line-append (mark k.Comma) (lead_words more) comma-mark (lead-no-line more))
-
-  pub rest-no-line : (more : List (Argument S)) (trailing : Bool) → NoLine (rest_words more trailing)
-  rest-no-line more trailing = no-line-append (comma_words (arguments_of more) trailing) (arguments_words (arguments_of more) trailing) (comma-no-line (arguments_of more) trailing) (arguments-no-line (arguments_of more) trailing)
-
-  pub naming-no-line : (a : Argument S) → NoLine (name_words a)
-  naming-no-line (plain e) = tt
-  naming-no-line (named s x e) = no-line-append ((k.Identifier, x) ∷ []) (mark k.Colon) (name-no-line x) colon-mark
 
   pub inner-no-line : (l : Listing S) → NoLine (inner_words l)
   inner-no-line (listing s trailing list) = arguments-no-line list trailing

@@ -7,18 +7,23 @@ use Rattle.meson_lex.specs.Significant.{Word, State, start, step, after, emitted
 use Rattle.meson_lex.specs.Located.{Token, words, line_end_at, spots, end_after, closing_at, located}
 use Rattle.meson_lex.proofs.Seams.{joined-append}
 use Rattle.meson_lex.proofs.TokenWords.{words-append, words-spots}
-use Rattle.meson_syntax.specs.Tree.{Argument, Block, File, file}
+use Rattle.meson_syntax.specs.Operators.{opens, closes}
+use Rattle.meson_syntax.specs.Tree.{Block, File, file}
 use Rattle.meson_syntax.specs.Spelling.{Covers, One, SpellsFile}
 use Rattle.meson_syntax.specs.Grammar.{expression_words, argument_words, statement_words}
-use Rattle.meson_syntax.specs.Paths.{Sort, of_expression, of_statement, of_block, Node, Split, split_at, elements_of, is_trailing, list_span, value_of, name_words, lead_words, rest_words, Hole, reach, list_in, ListAt, list_within, list_of_node, list_at, block_of}
-use Rattle.meson_syntax.specs.Places.{expression_span, argument_span, statement_span, inner_words, Stands, NodeStands, ListStands, PartStands, ListPlaces}
+use Rattle.meson_syntax.specs.Paths.{Sort, of_expression, of_statement, of_block, Node, ElementAt, element_at, list_span, inner_words, Hole, reach, list_in, ListAt, list_within, list_of_node, list_at, block_of}
+use Rattle.meson_syntax.specs.Places.{expression_span, argument_span, statement_span, Stands, NodeStands, ListStands, PartStands, ListPlaces}
 use Rattle.meson_syntax.specs.Reads.{IsSpanned}
-use Rattle.meson_syntax.proofs.parsing.Words.{expression-words, argument-words, statement-words}
+use Rattle.meson_syntax.proofs.parsing.Words.{expression-words, argument-words}
+use Rattle.meson_syntax.proofs.parsing.FileWords.{statement-words}
+use Rattle.meson_syntax.proofs.paths.Reaching.{map-some, and-then-some}
 use Rattle.meson_syntax.proofs.places.Spots.{IsSilent}
 use Rattle.meson_syntax.proofs.places.Owned.{cut-pair, Bounded, cut-own, right-words}
-use Rattle.meson_syntax.proofs.places.Bounds.{IsOwnKind, bounded-expression, bounded-argument, bounded-statement, expression-covers, argument-covers, statement-covers, covers-from, covers-to}
-use Rattle.meson_syntax.proofs.places.Holes.{map-some, and-then-some, ElementSpelled, value-spelled, list-spelled, SpellsNode, Inside, reach-spelled}
-use Rattle.meson_syntax.proofs.places.Spoken.{NoLine, no-line-append, spoken-is, expression-no-line, argument-no-line, lead-no-line, rest-no-line, naming-no-line, inner-no-line}
+use Rattle.meson_syntax.proofs.places.Bounds.{IsOwnKind, opens-own, closes-own, bounded-expression, bounded-argument, bounded-statement, expression-covers, argument-covers, statement-covers, covers-from, covers-to}
+use Rattle.meson_syntax.proofs.places.Inside.{SpellsNode, Inside}
+use Rattle.meson_syntax.proofs.places.InStatements.{reach-inside}
+use Rattle.meson_syntax.proofs.places.Elements.{ElementSpelled, list-spelled, list-inside, element-words}
+use Rattle.meson_syntax.proofs.places.Spoken.{NoLine, front-no-line, back-no-line, spoken-is, argument-no-line, inner-no-line}
 
 -- ---- the end of a file
 
@@ -83,37 +88,34 @@ record ListTokens (p : ListAt Span) (before behind : List Word) (own : List Toke
   is_front : before ++ words front ≡ p.before
   is_back : behind ≡ p.behind
   covers : Covers (list_span p.list) (opening ++ (inner ++ close))
-  is_opening : One p.opens opening
-  is_closing : One p.closes close
-  opens_own : IsOwnKind p.opens
-  closes_own : IsOwnKind p.closes
+  is_opening : One (opens p.bracket) opening
+  is_closing : One (closes p.bracket) close
   is_inner : words inner ≡ inner_words p.list
-  elements : (n : ℕ) (e : Split (Argument Span)) → split_at (elements_of p.list) n ≡ Some e → ElementSpelled e (is_trailing p.list) p.names depth inner
+  elements : (n : ℕ) (e : ElementAt Span) → element_at p.list n ≡ Some e → ElementSpelled p.bracket depth inner e
 
-list-tokens : (sort : Sort) (x : Node sort Span) (f : File Span) (before behind : List Word) (back : Node sort Span → Block Span) (p : ListAt Span) (d : ℕ) (own : List Token)
-    → list_of_node Span sort x f before behind back ≡ Some p → SpellsNode sort x d own → ListTokens p before behind own
-list-tokens of_expression x f before behind back p d own h sp =
+list-tokens : (sort : Sort) (x : Node sort Span) (f : File Span) (before behind : List Word) (back : Node sort Span → Block Span) (p : ListAt Span) (d last : ℕ) (own : List Token)
+    → list_of_node Span sort x f before behind back ≡ Some p → SpellsNode sort x d last own → ListTokens p before behind own
+list-tokens of_expression x f before behind back p d last own h sp =
     let o = map-some (list_within f before behind back) (list_in x) p h in
-    let l = list-spelled x o.0 d own o.1 sp in
+    let i = list-inside x o.0 d own o.1 sp in
+    let l = list-spelled o.0.list o.0.bracket d i.own i.spelled in
     subst (λ p. ListTokens p before behind own) o.2 (record {
       depth = d;
-      front = l.front;
+      front = i.front;
       opening = l.opening;
       inner = l.inner;
       close = l.closing;
-      parts = l.parts ∙ ap (λ b. l.front ++ b) l.brackets;
-      is_front = ap (λ w. before ++ w) l.is_front;
+      parts = i.parts ∙ ap (λ b. i.front ++ b) l.brackets;
+      is_front = ap (λ w. before ++ w) i.is_front;
       is_back = refl;
       covers = subst (Covers (list_span o.0.list)) l.brackets l.covers;
       is_opening = l.is_opening;
       is_closing = l.is_closing;
-      opens_own = l.opens_own;
-      closes_own = l.closes_own;
       is_inner = l.is_inner;
       elements = l.elements;
     })
-list-tokens of_statement x f before behind back p d own h sp = absurd cc
-list-tokens of_block x f before behind back p d own h sp = absurd cc
+list-tokens of_statement x f before behind back p d last own h sp = absurd cc
+list-tokens of_block x f before behind back p d last own h sp = absurd cc
 
 brackets-group : {A : Type 0} (a b i z : List A) (o c : A) → a ++ ((b ++ ((o ∷ []) ++ (i ++ (c ∷ [])))) ++ z) ≡ (a ++ b) ++ o ∷ (i ++ c ∷ z)
 brackets-group a b i z o c = simp append_assoc
@@ -173,7 +175,7 @@ module _ (items : List Lexeme) where
       let c = t.is_closing.token in
       let apart : located items ≡ (front ++ t.front) ++ o ∷ (t.inner ++ c ∷ back) =
       h ∙ ap (λ x. front ++ (x ++ back)) (t.parts ∙ ap₂ (λ x y. t.front ++ (x ++ (t.inner ++ y))) t.is_opening.alone t.is_closing.alone) ∙ brackets-group front t.front t.inner back o c in
-      let i = cut-pair start 0 0 items ending quiet (front ++ t.front) o t.inner c back (λ e. t.opens_own (sym t.is_opening.is ∙ e)) (λ e. t.closes_own (sym t.is_closing.is ∙ e)) apart in
+      let i = cut-pair start 0 0 items ending quiet (front ++ t.front) o t.inner c back (λ e. opens-own p.bracket (sym t.is_opening.is ∙ e)) (λ e. closes-own p.bracket (sym t.is_closing.is ∙ e)) apart in
       let all = t.opening ++ (t.inner ++ t.close) in
       let begins : all ≡ o ∷ (t.inner ++ t.close) = ap (λ x. x ++ (t.inner ++ t.close)) t.is_opening.alone in
       let ends : all ≡ (o ∷ t.inner) ++ c ∷ [] = ap₂ (λ x y. x ++ (t.inner ++ y)) t.is_opening.alone t.is_closing.alone in
@@ -191,8 +193,8 @@ module _ (items : List Lexeme) where
           close_item = i.last;
           right = i.right;
           parts = i.parts;
-          opens = sym i.is_first ∙ t.is_opening.is;
-          closes = sym i.is_last ∙ t.is_closing.is;
+          is_open = sym i.is_first ∙ t.is_opening.is;
+          is_close = sym i.is_last ∙ t.is_closing.is;
           from = omega arith;
           to = omega arith;
           is_left = sym (words-spots i.left start 0 0) ∙ ap words i.is_left ∙ words-append front t.front ∙ ap (λ w. w ++ words t.front) f ∙ t.is_front;
@@ -212,33 +214,25 @@ module _ (items : List Lexeme) where
     list = l.list;
     elements = λ n e h.
         let x = t.elements n e h in
-        part-stands items p l.list l.state l.at t.inner l.is_at l.is_inner (argument_span e.here) x.front x.own x.back (lead_words e.front) (argument_words e.here) (rest_words e.rest (is_trailing p.list)) x.parts
-        (argument-covers e.here p.names x.seen t.depth x.own x.spelled) (bounded-argument e.here p.names x.seen t.depth x.own x.spelled)
-        x.is_front (argument-words e.here p.names x.seen t.depth x.own x.spelled) x.is_back
-        (lead-no-line Span e.front) (argument-no-line Span e.here) (rest-no-line Span e.rest (is_trailing p.list));
-    values = λ n e h.
-        let x = t.elements n e h in
-        let v = value-spelled e.here p.names x.seen t.depth x.own x.spelled in
-        let value = value_of e.here in
-        let parts : t.inner ≡ (x.front ++ v.front) ++ (v.own ++ x.back) =
-        x.parts ∙ ap (λ o. x.front ++ (o ++ x.back)) v.parts ∙ ap (λ b. x.front ++ b) (append_assoc v.front v.own x.back) ∙ sym (append_assoc x.front v.front (v.own ++ x.back)) in
-        part-stands items p l.list l.state l.at t.inner l.is_at l.is_inner (expression_span value) (x.front ++ v.front) v.own x.back (lead_words e.front ++ name_words e.here) (expression_words value) (rest_words e.rest (is_trailing p.list)) parts
-        (expression-covers value v.depth v.own v.spelled) (bounded-expression value v.depth v.own v.spelled)
-        (words-append x.front v.front ∙ ap₂ (λ a b. a ++ b) x.is_front v.is_front) (expression-words value v.depth v.own v.spelled) x.is_back
-        (no-line-append (lead_words e.front) (name_words e.here) (lead-no-line Span e.front) (naming-no-line Span e.here)) (expression-no-line Span value) (rest-no-line Span e.rest (is_trailing p.list));
+        let quiet = subst NoLine (element-words Span p.list n e h) (inner-no-line Span p.list) in
+        part-stands items p l.list l.state l.at t.inner l.is_at l.is_inner (argument_span e.element) x.front x.own x.back e.before (argument_words e.element) e.behind x.parts
+        (argument-covers e.element p.bracket x.seen t.depth x.own x.spelled) (bounded-argument e.element p.bracket x.seen t.depth x.own x.spelled)
+        x.is_front (argument-words e.element p.bracket x.seen t.depth x.own x.spelled) x.is_back
+        (front-no-line e.before (argument_words e.element ++ e.behind) quiet) (argument-no-line Span e.element)
+        (back-no-line (argument_words e.element) e.behind (back-no-line e.before (argument_words e.element ++ e.behind) quiet));
   }
 
 -- ---- files
 
-block-spelled : (f : File Span) (len d : ℕ) (ts : List Token) → SpellsFile f len d ts → SpellsNode of_block (block_of f) d ts
+block-spelled : (f : File Span) (len d : ℕ) (ts : List Token) → SpellsFile f len d ts → SpellsNode of_block (block_of f) d 0 ts
 block-spelled (file s b) len d ts h = h.2
 
-pub nodes-stand : (bytes : List ℕ) (f : File Span) (s : IsSpanned bytes f) (path : List ℕ) (h : Hole Span of_block) → reach Span of_block (block_of f) path ≡ Some h
+pub nodes-stand : (bytes : List ℕ) (f : File Span) (s : IsSpanned bytes f) (path : List ℕ) (h : Hole Span (Block Span)) → reach Span of_block (block_of f) path ≡ Some h
     → NodeStands s.reads.spells.items h.sort h.inside h.before h.behind
 nodes-stand bytes f s path h is =
     let items = s.reads.spells.items in
     let ts = located items in
-    node-stands items h.sort h.inside h.before h.behind (reach-spelled of_block (block_of f) path 64 ts h is (block-spelled f (length bytes) 64 ts s.stands))
+    node-stands items h.sort h.inside h.before h.behind (reach-inside of_block (block_of f) path 64 0 ts h is (block-spelled f (length bytes) 64 ts s.stands))
 
 pub lists-stand : (bytes : List ℕ) (f : File Span) (s : IsSpanned bytes f) (path : List ℕ) (p : ListAt Span) → list_at f path ≡ Some p → ListPlaces s.reads.spells.items p
 lists-stand bytes f s path p is =
@@ -246,6 +240,6 @@ lists-stand bytes f s path p is =
     let ts = located items in
     let o = and-then-some (λ h. list_of_node Span h.sort h.inside f h.before h.behind h.back) (reach Span of_block (block_of f) path) p is in
     let h = o.0 in
-    let u = reach-spelled of_block (block_of f) path 64 ts h o.1 (block-spelled f (length bytes) 64 ts s.stands) in
-    let t = list-tokens h.sort h.inside f h.before h.behind h.back p u.depth u.own o.2 u.spelled in
+    let u = reach-inside of_block (block_of f) path 64 0 ts h o.1 (block-spelled f (length bytes) 64 ts s.stands) in
+    let t = list-tokens h.sort h.inside f h.before h.behind h.back p u.depth u.last u.own o.2 u.spelled in
     list-places items p h.before h.behind u.own t (list-found items p h.before h.behind u.front u.own u.back u.parts u.is_front u.is_back t)

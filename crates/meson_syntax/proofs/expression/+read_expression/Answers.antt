@@ -12,4 +12,4 @@ returns-then-depth-eq0 t c =
 
 pub returns : goal.returns
 unfolding expression
-returns t c = rw (deeper (λ n. expression n (input c.args.source.now c.args.tokens.now)) c.args.depth (omega arith)) c.primary.ensures
+returns t c = rw (deeper (λ n. expression n (input c.args.source.now c.args.tokens.now)) c.args.depth (omega arith)) c.chosen.ensures

@@ -1,7 +1,8 @@
 use Rattle.std.proofs.Common.{◌∙◌, List, ap, subst, length}
 use Rattle.meson_lex.specs.Located.{Token, located}
 use Rattle.meson_syntax.specs.Input.{GivesAll}
-use Rattle.meson_syntax.specs.Reading.{whole}
+use Rattle.meson_syntax.specs.ReadingFiles.{whole}
+use Rattle.meson_syntax.specs.Reads.{max_depth}
 use Rattle.meson_syntax.specs.Tokens.{tokens_of}
 use Rattle.meson_syntax.specs.View.{view}
 use Rattle.meson_syntax.proofs.parsing.Answers.{gives-finds, gives-reads, gives-unreadable}
@@ -33,11 +34,11 @@ returns-in-Err-tokens-clause-refused c = stopped-says c.args.source.now c.in-Err
 
 -- ---- the tokens read
 
-gives : (c : After-drop-tokens) → GivesAll (view c.args.source.now) (whole (length c.args.source.now) (located c.in-Ok.ensures.whole.items)) c.read_tokens.result
+gives : (c : After-drop-tokens) → GivesAll (view c.args.source.now) (whole max_depth (length c.args.source.now) (located c.in-Ok.ensures.whole.items)) c.read_tokens.result
 gives c =
     let source = c.args.source.now in
     let are = ap (tokens_of source) c.as_slice.ensures.value ∙ c.in-Ok.ensures.whole.are_located in
-    let Gives : List Token → Type 0 = λ ts. GivesAll (view source) (whole (length source) ts) c.read_tokens.result in
+    let Gives : List Token → Type 0 = λ ts. GivesAll (view source) (whole max_depth (length source) ts) c.read_tokens.result in
     subst Gives are c.read_tokens.ensures.gives
 
 pub returns-in-Ok-clause-reads : goal.returns-in-Ok-clause-reads

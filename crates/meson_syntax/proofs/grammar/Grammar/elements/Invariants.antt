@@ -6,5 +6,5 @@ use Rattle.meson_syntax.proofs.grammar.Grammar.elements.Given as goal
 
 abbrev pub invariant-loop-turn : goal.invariant-loop-turn
 invariant-loop-turn g l =
-    elements (room l.self.depth) (expression l.self.depth) l.close l.names (input l.self.source.now l.fn.tokens)
-    ≡ elements_from (room l.self.depth) (expression l.self.depth) l.close l.names (l._turn-end - l._turn) l.seen (args_view l.self.source.now l.found) (input l.self.source.now l.tokens)
+    elements (room l.self.depth) (expression l.self.depth) l.bracket (input l.self.source.now l.fn.tokens)
+    ≡ elements_from (room l.self.depth) (expression l.self.depth) l.bracket (l._turn-end - l._turn) l.seen (args_view l.self.source.now l.found) (input l.self.source.now l.tokens)

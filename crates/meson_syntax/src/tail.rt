@@ -1,0 +1,108 @@
+//! Method calls and indexes behind an expression.
+//!
+//! The rules are those of the Syntax page of the Meson manual.
+
+ghost use Rattle.std.specs.Prelude.{◌≡◌, IfOk};
+ghost use Rattle.meson_syntax.specs.Nests.{Follows, Nests};
+ghost use Rattle.meson_syntax.specs.Reading as spec;
+ghost use Rattle.meson_syntax.specs.View.{expr_view, tail_view, tails_view};
+
+use crate::boxed::Boxed;
+use crate::fault::ParseFault;
+use crate::grammar::{Cursor, Grammar};
+use crate::many::Many;
+use crate::operator::Bracket;
+use crate::tree::{Expr, Tail};
+use meson_lex::{Kind, Span};
+use std::alloc::{AllocError, Global};
+
+impl<'a, F> Grammar<'a, F> {
+    /// The expression with these tails; the expression itself where there is none.
+    #[tactic(auto, unfolding(crate::specs::Reading::with_tails))]
+    fn with_tails(&self, span: Span, base: Expr, tails: Many<Tail>) -> Result<Expr, AllocError>
+        ensures { IfOk result (λ e. expr_view self.now.source.now e ≡ spec.with_tails span (expr_view self.now.source.now base) (tails_view self.now.source.now tails)) }
+    {
+        match tails.get() {
+            [] => Ok(base),
+            [_, ..] => {
+                let base = Boxed::new(self.alloc, base)?;
+                Ok(Expr::Postfix { span, base, tails })
+            }
+        }
+    }
+}
+
+impl<'a, F: Fn(Global, &[u8], &mut Cursor<'_>, usize) -> Result<Expr, ParseFault>> Grammar<'a, F> {
+    /// An expression with the method calls and indexes behind it.
+    #[tactic(auto, unfolding(crate::specs::Reading::postfixed))]
+    pub(crate) fn postfixed(&self, tokens: &mut Cursor<'_>) -> Result<Expr, ParseFault>
+        requires { Nests self.now.depth (F.pre self.now.deeper) (F.post self.now.deeper) }
+        ensures { Follows spec.postfixed expr_view self.now.source.now self.now.depth tokens.old result tokens.new }
+    {
+        let start = self.from(tokens);
+        let base = self.primary(tokens)?;
+        let tails = self.tails(tokens)?;
+        let span = self.since(tokens, start);
+        Ok(self.with_tails(span, base, tails)?)
+    }
+
+    /// The method calls and indexes that come next.
+    #[tactic(auto, unfolding(crate::specs::Reading::tails))]
+    fn tails(&self, tokens: &mut Cursor<'_>) -> Result<Many<Tail>, ParseFault>
+        requires { Nests self.now.depth (F.pre self.now.deeper) (F.post self.now.deeper) }
+        ensures { Follows spec.tails tails_view self.now.source.now self.now.depth tokens.old result tokens.new }
+    {
+        let mut found = Many::new(self.alloc);
+        // Each turn takes a token at least.
+        for _turn in 0..self.left(tokens) {
+            if self.sees(tokens, Kind::Dot) {
+                found.push(self.method(tokens)?)?;
+            } else if self.sees(tokens, Kind::OpenSquare) {
+                found.push(self.index(tokens)?)?;
+            } else {
+                return Ok(found);
+            }
+        }
+        Ok(found)
+    }
+
+    /// A method call, from its dot, which comes next.
+    #[tactic(auto, unfolding(crate::specs::Reading::method_call))]
+    fn method(&self, tokens: &mut Cursor<'_>) -> Result<Tail, ParseFault>
+        requires { Nests self.now.depth (F.pre self.now.deeper) (F.post self.now.deeper) }
+        ensures { Follows spec.method_call tail_view self.now.source.now self.now.depth tokens.old result tokens.new }
+    {
+        let start = self.from(tokens);
+        self.take(tokens);
+        if !self.sees_two(tokens, Kind::Identifier, Kind::OpenRound) {
+            // A name may stand here, and then the token behind it is at fault.
+            self.eat(tokens, Kind::Identifier);
+            return Err(self.unexpected(tokens));
+        }
+        let name = self.take(tokens);
+        let arguments = self.listed(tokens, Bracket::Round)?;
+        let span = self.since(tokens, start);
+        Ok(Tail::Method {
+            span,
+            name,
+            arguments,
+        })
+    }
+
+    /// An index, from its opening bracket, which comes next.
+    #[tactic(auto, unfolding(crate::specs::Reading::indexed))]
+    fn index(&self, tokens: &mut Cursor<'_>) -> Result<Tail, ParseFault>
+        requires { Nests self.now.depth (F.pre self.now.deeper) (F.post self.now.deeper) }
+        ensures { Follows spec.indexed tail_view self.now.source.now self.now.depth tokens.old result tokens.new }
+    {
+        if self.depth == 0 {
+            return Err(self.too_deep(tokens));
+        }
+        let start = self.from(tokens);
+        self.take(tokens);
+        let index = self.inner(tokens)?;
+        self.expect(tokens, Kind::CloseSquare)?;
+        let span = self.since(tokens, start);
+        Ok(Tail::Index { span, index })
+    }
+}
