@@ -1,5 +1,5 @@
 -- What it means that a text reads as a tree, and why a text reads as none.
-use Rattle.std.specs.Prelude.{◌≡◌, ◌≢◌, ℕ, ◌<◌, ◌≤◌, List, [], ◌∷◌, length, take, Result, Ok, Err}
+use Rattle.std.specs.Prelude.{◌≡◌, ◌≢◌, ℕ, ◌<◌, ◌≤◌, List, [], ◌∷◌, length, take, Option, Some, None, Result, Ok, Err, ⊤}
 use Rattle.std.specs.Str.{IsUtf8}
 use Rattle.meson_lex.specs.declared.kinds.Span.{Span}
 use Rattle.meson_lex.specs.declared.fault.LexFault.{LexFault}
@@ -8,6 +8,7 @@ use Rattle.meson_lex.specs.Faults.{HasItemsThenFault}
 use Rattle.meson_lex.specs.Significant.{significant}
 use Rattle.meson_lex.specs.Located.{located}
 use Rattle.meson_syntax.specs.declared.fault.ParseFault.{ParseFault}
+use Rattle.meson_syntax.specs.declared.source.Limits.{Limits}
 use Rattle.meson_syntax.specs.declared.fault.ParseFault.TheVariants.{TooLarge, NotUtf8, ByteOrderMark, Lex, Unexpected, TooDeep, OutOfMemory}
 use Rattle.meson_syntax.specs.Tree.{File, Plain, erase}
 use Rattle.meson_syntax.specs.Grammar.{file_words, LevelFile, file_depth}
@@ -18,6 +19,22 @@ max_len = 1048576
 
 abbrev pub max_depth : ℕ
 max_depth = 64
+
+-- the limits of a file
+abbrev pub of_files : Limits
+of_files = record { len = Some max_len; depth = max_depth }
+
+-- those of a text between two primitives of one command
+abbrev pub wide : Limits
+wide = record { len = None; depth = 65 }
+
+abbrev pub Fits : Option ℕ → ℕ → Type 0
+Fits None len = ⊤
+Fits (Some most) len = len ≤ most
+
+abbrev pub Exceeds : Option ℕ → ℕ → Type 0
+Exceeds None len = ⊥
+Exceeds (Some most) len = most < len
 
 -- the byte order mark of UTF-8
 abbrev pub mark_bytes : List ℕ
@@ -31,42 +48,62 @@ pub record Spells (bytes : List ℕ) (t : Plain) : Type 0 where
   pub level : LevelFile t
 
 -- how large a text may be and in which coding
-pub record IsSource (bytes : List ℕ) : Type 0 where
-  pub fits : length bytes ≤ max_len
+pub record IsSourceWithin (limits : Limits) (bytes : List ℕ) : Type 0 where
+  pub fits : Fits limits.len (length bytes)
   pub utf8 : IsUtf8 bytes
   pub no_mark : take 3 bytes ≢ mark_bytes
 
 -- The text is a build file that reads as the tree.
-pub record Reads (bytes : List ℕ) (t : Plain) : Type 0 where
-  pub source : IsSource bytes
+pub record ReadsWithin (limits : Limits) (bytes : List ℕ) (t : Plain) : Type 0 where
+  pub source : IsSourceWithin limits bytes
   pub spells : Spells bytes t
-  pub depth : file_depth t ≤ max_depth
+  pub depth : file_depth t ≤ limits.depth
 
 -- The text reads as the tree without its spans, and each node stands at its span.
-pub record IsSpanned (bytes : List ℕ) (t : File Span) : Type 0 where
-  pub reads : Reads bytes (erase t)
-  pub stands : SpellsFile t (length bytes) max_depth (located reads.spells.items)
+pub record IsSpannedWithin (limits : Limits) (bytes : List ℕ) (t : File Span) : Type 0 where
+  pub reads : ReadsWithin limits bytes (erase t)
+  pub stands : SpellsFile t (length bytes) limits.depth (located reads.spells.items)
 
 -- Why a text is refused before its grammar is asked, in order.
-pub data IsUnreadable (bytes : List ℕ) : ParseFault → Type 0 where
-  too_large : max_len < length bytes → IsUnreadable bytes TooLarge
-  not_utf8 : length bytes ≤ max_len → (IsUtf8 bytes → ⊥) → IsUnreadable bytes NotUtf8
-  marked : length bytes ≤ max_len → IsUtf8 bytes → take 3 bytes ≡ mark_bytes → IsUnreadable bytes ByteOrderMark
-  lexical : (items : List Lexeme) (rest : List ℕ) (fault : LexFault) → IsSource bytes → HasItemsThenFault 0 bytes items rest fault → IsUnreadable bytes (Lex fault)
+pub data IsUnreadableWithin (limits : Limits) (bytes : List ℕ) : ParseFault → Type 0 where
+  too_large : Exceeds limits.len (length bytes) → IsUnreadableWithin limits bytes TooLarge
+  not_utf8 : Fits limits.len (length bytes) → (IsUtf8 bytes → ⊥) → IsUnreadableWithin limits bytes NotUtf8
+  marked : Fits limits.len (length bytes) → IsUtf8 bytes → take 3 bytes ≡ mark_bytes → IsUnreadableWithin limits bytes ByteOrderMark
+  lexical : (items : List Lexeme) (rest : List ℕ) (fault : LexFault) → IsSourceWithin limits bytes → HasItemsThenFault 0 bytes items rest fault
+      → IsUnreadableWithin limits bytes (Lex fault)
 
 -- no tree is read
-abbrev pub HasNoTree : List ℕ → Type 0
-HasNoTree bytes = (t : Plain) → Reads bytes t → ⊥
+abbrev pub HasNoTreeWithin : Limits → List ℕ → Type 0
+HasNoTreeWithin limits bytes = (t : Plain) → ReadsWithin limits bytes t → ⊥
 
 -- Which refusals a text may get: the first that comes before the grammar, or else one of the grammar, where it has no tree.
+abbrev pub MayRefuseWithin : Limits → List ℕ → ParseFault → Type 0
+MayRefuseWithin limits bytes TooLarge = IsUnreadableWithin limits bytes TooLarge
+MayRefuseWithin limits bytes NotUtf8 = IsUnreadableWithin limits bytes NotUtf8
+MayRefuseWithin limits bytes ByteOrderMark = IsUnreadableWithin limits bytes ByteOrderMark
+MayRefuseWithin limits bytes (Lex fault) = IsUnreadableWithin limits bytes (Lex fault)
+MayRefuseWithin limits bytes (Unexpected at) = ((e : ParseFault) → IsUnreadableWithin limits bytes e → ⊥) × HasNoTreeWithin limits bytes
+MayRefuseWithin limits bytes (TooDeep at) = ((e : ParseFault) → IsUnreadableWithin limits bytes e → ⊥) × HasNoTreeWithin limits bytes
+MayRefuseWithin limits bytes OutOfMemory = Unit {0}
+
+-- ---- files
+
+abbrev pub IsSource : List ℕ → Type 0
+IsSource = IsSourceWithin of_files
+
+abbrev pub Reads : List ℕ → Plain → Type 0
+Reads = ReadsWithin of_files
+
+abbrev pub IsSpanned : List ℕ → File Span → Type 0
+IsSpanned = IsSpannedWithin of_files
+
+abbrev pub IsUnreadable : List ℕ → ParseFault → Type 0
+IsUnreadable = IsUnreadableWithin of_files
+
 abbrev pub MayRefuse : List ℕ → ParseFault → Type 0
-MayRefuse bytes TooLarge = IsUnreadable bytes TooLarge
-MayRefuse bytes NotUtf8 = IsUnreadable bytes NotUtf8
-MayRefuse bytes ByteOrderMark = IsUnreadable bytes ByteOrderMark
-MayRefuse bytes (Lex fault) = IsUnreadable bytes (Lex fault)
-MayRefuse bytes (Unexpected at) = ((e : ParseFault) → IsUnreadable bytes e → ⊥) × HasNoTree bytes
-MayRefuse bytes (TooDeep at) = ((e : ParseFault) → IsUnreadable bytes e → ⊥) × HasNoTree bytes
-MayRefuse bytes OutOfMemory = Unit {0}
+MayRefuse = MayRefuseWithin of_files
+
+-- ---- answers
 
 -- the answer is this value, or memory ran out
 abbrev pub Is : {X Y : Type 0} → (X → Y) → Result X ParseFault → Y → Type 0

@@ -1,7 +1,7 @@
 //! A file's tree.
 
-ghost use Rattle.std.specs.Prelude.{◌≡◌, IfOk, IfErr};
-ghost use Rattle.meson_syntax.specs.Reads.{Is, IsSpanned, IsUnreadable, MayRefuse, Reads, Refuses};
+ghost use Rattle.std.specs.Prelude.{◌≡◌, ◌+◌, ◌<◌, ◌^◌, IfOk, IfErr};
+ghost use Rattle.meson_syntax.specs.Reads.{Is, IsSpanned, IsSpannedWithin, IsUnreadable, IsUnreadableWithin, MayRefuse, MayRefuseWithin, Reads, ReadsWithin, Refuses, wide};
 ghost use Rattle.meson_syntax.specs.Tree.{Plain, erase};
 ghost use Rattle.meson_syntax.specs.View.{view};
 ghost use Rattle.meson_syntax.specs.declared.fault.ParseFault.{ParseFault};
@@ -9,12 +9,9 @@ ghost use Rattle.meson_syntax.specs.declared.fault.ParseFault.{ParseFault};
 use crate::block::read_tokens;
 use crate::fault::ParseFault;
 use crate::significant::tokens;
-use crate::source::check_source;
+use crate::source::{Limits, MAX_LEN, check_source};
 use crate::tree::Parsed;
 use std::alloc::Global;
-
-/// How many constructs may stand inside one another.
-const MAX_DEPTH: usize = 64;
 
 /// The tree of a file, with the bytes from and to which each node stands.
 pub fn parse(alloc: Global, source: &[u8]) -> Result<Parsed, ParseFault>
@@ -27,11 +24,45 @@ pub fn parse(alloc: Global, source: &[u8]) -> Result<Parsed, ParseFault>
     // A refusal says why.
     ensures refused { IfErr result (MayRefuse source.now) }
 {
-    if let Err(fault) = check_source(source) {
+    let limits = Limits {
+        len: Some(MAX_LEN),
+        depth: 64,
+    };
+    parse_within(alloc, source, limits)
+}
+
+/// The tree of a text between two primitives of one command: it may have any length, and one construct more
+/// may stand inside one another than in a file.
+pub fn parse_wide(alloc: Global, source: &[u8]) -> Result<Parsed, ParseFault>
+    // The text reads as the tree, and each node stands at its span.
+    ensures reads { IfOk result (λ p. IsSpannedWithin wide source.now (view source.now p)) }
+    // Whatever tree the text reads as is that one.
+    ensures finds { (t : Plain) → ReadsWithin wide source.now t → Is (λ p. erase (view source.now p)) result t }
+    // What is refused before the grammar is asked is refused with that fault.
+    ensures unreadable { (e : ParseFault) → IsUnreadableWithin wide source.now e → Refuses result e }
+    // A refusal says why.
+    ensures refused { IfErr result (MayRefuseWithin wide source.now) }
+{
+    let limits = Limits {
+        len: None,
+        depth: 65,
+    };
+    parse_within(alloc, source, limits)
+}
+
+/// The tree of a text within these limits.
+fn parse_within(alloc: Global, source: &[u8], limits: Limits) -> Result<Parsed, ParseFault>
+    requires { limits.depth + 1 < 2 ^ 64 }
+    ensures reads { IfOk result (λ p. IsSpannedWithin limits source.now (view source.now p)) }
+    ensures finds { (t : Plain) → ReadsWithin limits source.now t → Is (λ p. erase (view source.now p)) result t }
+    ensures unreadable { (e : ParseFault) → IsUnreadableWithin limits source.now e → Refuses result e }
+    ensures refused { IfErr result (MayRefuseWithin limits source.now) }
+{
+    if let Err(fault) = check_source(source, limits) {
         return Err(fault);
     }
     match tokens(alloc, source) {
-        Ok(tokens) => read_tokens(alloc, source, tokens.as_slice(), MAX_DEPTH),
+        Ok(tokens) => read_tokens(alloc, source, tokens.as_slice(), limits.depth),
         Err(fault) => Err(fault),
     }
 }

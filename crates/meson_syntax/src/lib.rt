@@ -23,7 +23,7 @@ mod tree;
 
 pub use boxed::Boxed;
 pub use fault::ParseFault;
-pub use file::parse;
+pub use file::{parse, parse_wide};
 pub use many::Many;
 pub use operator::{Assignment, Bracket, Operator, StringKind, UnaryOperator};
 pub use source::MAX_LEN;

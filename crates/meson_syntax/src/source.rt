@@ -1,7 +1,7 @@
 //! What is asked of a source before its grammar.
 
-ghost use Rattle.std.specs.Prelude.{IfErr, OnOk};
-ghost use Rattle.meson_syntax.specs.Reads.{IsSource, IsUnreadable};
+ghost use Rattle.std.specs.Prelude.{◌≡◌, true, false, IfErr, OnOk};
+ghost use Rattle.meson_syntax.specs.Reads.{Exceeds, Fits, IsSourceWithin, IsUnreadableWithin};
 
 use crate::fault::ParseFault;
 use std::str;
@@ -9,12 +9,30 @@ use std::str;
 /// How many bytes a file may have.
 pub const MAX_LEN: usize = 1_048_576;
 
-/// Size, coding and byte order mark, in this order.
-pub(crate) fn check_source(source: &[u8]) -> Result<(), ParseFault>
-    ensures ok { OnOk result (IsSource source.now) }
-    ensures err { IfErr result (IsUnreadable source.now) }
+/// How many bytes a text may have, if that is limited, and how many constructs may stand inside one another.
+#[derive(Clone, Copy)]
+pub(crate) struct Limits {
+    pub len: Option<usize>,
+    pub depth: usize,
+}
+
+/// Whether so many bytes are more than that many, if they are limited.
+fn is_too_long(len: usize, most: Option<usize>) -> bool
+    ensures long { result ≡ true → Exceeds most len }
+    ensures short { result ≡ false → Fits most len }
 {
-    if source.len() > MAX_LEN {
+    match most {
+        None => false,
+        Some(most) => len > most,
+    }
+}
+
+/// Size, coding and byte order mark, in this order.
+pub(crate) fn check_source(source: &[u8], limits: Limits) -> Result<(), ParseFault>
+    ensures ok { OnOk result (IsSourceWithin limits source.now) }
+    ensures err { IfErr result (IsUnreadableWithin limits source.now) }
+{
+    if is_too_long(source.len(), limits.len) {
         return Err(ParseFault::TooLarge);
     }
     if let Err(_) = str::from_utf8(source) {

@@ -13,10 +13,10 @@ struct Reads {
     tree: &'static [u8],
 }
 
-fn reads(rt: &HostRuntime, rows: &[Reads]) -> Result<(), Fail> {
+fn check_reads(rt: &impl Abort, alloc: Global, rows: &[Reads]) -> Result<(), Fail> {
     for row in rows {
-        let file = parse(rt.alloc(), row.text)?;
-        let shape = shape_of(rt.alloc(), row.text, &file)?;
+        let file = parse(alloc, row.text)?;
+        let shape = shape_of(alloc, row.text, &file)?;
         assert_eq!(rt; shape.as_slice(), row.tree);
     }
     Ok(())
@@ -24,8 +24,9 @@ fn reads(rt: &HostRuntime, rows: &[Reads]) -> Result<(), Fail> {
 
 #[test]
 fn reads_rows_by_their_levels(rt: HostRuntime) -> Result<(), Fail> {
-    reads(
+    check_reads(
         &rt,
+        rt.alloc(),
         &[
             Reads { text: b"x = a + b * c\n", tree: b"(= x (a + (b * c)))" },
             Reads { text: b"x = a * b + c\n", tree: b"(= x ((a * b) + c))" },
@@ -47,8 +48,9 @@ fn reads_rows_by_their_levels(rt: HostRuntime) -> Result<(), Fail> {
 
 #[test]
 fn reads_conditionals(rt: HostRuntime) -> Result<(), Fail> {
-    reads(
+    check_reads(
         &rt,
+        rt.alloc(),
         &[
             Reads { text: b"x = a ? b : c\n", tree: b"(= x (? a b c))" },
             Reads { text: b"x = a or b ? c : d ? e : f\n", tree: b"(= x (? (a or b) c (? d e f)))" },
@@ -61,8 +63,9 @@ fn reads_conditionals(rt: HostRuntime) -> Result<(), Fail> {
 
 #[test]
 fn reads_single_things(rt: HostRuntime) -> Result<(), Fail> {
-    reads(
+    check_reads(
         &rt,
+        rt.alloc(),
         &[
             Reads { text: b"true\nfalse\n", tree: b"true false" },
             Reads { text: b"0\n12\n0xfF\n0b01\n0O17\n", tree: b"0 12 0xfF 0b01 0O17" },
@@ -77,8 +80,9 @@ fn reads_single_things(rt: HostRuntime) -> Result<(), Fail> {
 
 #[test]
 fn reads_method_calls_and_indexes(rt: HostRuntime) -> Result<(), Fail> {
-    reads(
+    check_reads(
         &rt,
+        rt.alloc(),
         &[
             Reads { text: b"a.b()\n", tree: b"(a .b())" },
             Reads { text: b"a.b(c, n: d).e()[f][1]\n", tree: b"(a .b( c n: d) .e() @f @1)" },
@@ -91,8 +95,9 @@ fn reads_method_calls_and_indexes(rt: HostRuntime) -> Result<(), Fail> {
 
 #[test]
 fn reads_statements(rt: HostRuntime) -> Result<(), Fail> {
-    reads(
+    check_reads(
         &rt,
+        rt.alloc(),
         &[
             Reads { text: b"x = a\nx += b\nf(x)\n", tree: b"(= x a) (+= x b) (f x)" },
             Reads { text: b"if a\nendif\n", tree: b"(if a {})" },
@@ -114,16 +119,17 @@ struct Refused {
     fault: ParseFault,
 }
 
-fn refused(rt: &HostRuntime, rows: &[Refused]) {
+fn check_refused(rt: &impl Abort, alloc: Global, rows: &[Refused]) {
     for row in rows {
-        assert_eq!(rt; parse(rt.alloc(), row.text).err(), Some(row.fault));
+        assert_eq!(rt; parse(alloc, row.text).err(), Some(row.fault));
     }
 }
 
 #[test]
 fn refuses_expressions_at_the_token_that_cannot_continue(rt: HostRuntime) {
-    refused(
+    check_refused(
         &rt,
+        rt.alloc(),
         &[
             Refused { text: b"a not b\n", fault: ParseFault::Unexpected(6) },
             Refused { text: b"not not a\n", fault: ParseFault::Unexpected(4) },
@@ -151,8 +157,9 @@ fn refuses_expressions_at_the_token_that_cannot_continue(rt: HostRuntime) {
 
 #[test]
 fn refuses_statements_at_the_token_that_cannot_continue(rt: HostRuntime) {
-    refused(
+    check_refused(
         &rt,
+        rt.alloc(),
         &[
             Refused { text: b"a.b = c\n", fault: ParseFault::Unexpected(4) },
             Refused { text: b"x = y = z\n", fault: ParseFault::Unexpected(6) },

@@ -1,7 +1,7 @@
 //! Trees of build files with their spans, and the offset of each refusal.
 
 use meson_lex::{LexFault, Span};
-use meson_syntax::{Arg, Expr, MAX_LEN, ParseFault, Parsed, Stmt, parse};
+use meson_syntax::{Arg, Assignment, Expr, MAX_LEN, ParseFault, Parsed, Stmt, parse};
 use std::alloc::Global;
 use std::process::Abort;
 use std::test::Fail;
@@ -143,12 +143,10 @@ fn reads_an_empty_file(rt: HostRuntime) -> Result<(), Fail> {
     Ok(())
 }
 
-/// The span of an element, and those of its parts.
+/// The span of an element, and that of its name.
 fn element_spans(element: &Arg) -> (Span, Option<Span>) {
     match element {
-        Arg::Plain(Expr::Identifier(span)) => (*span, None),
-        Arg::Plain(Expr::String(span)) => (*span, None),
-        Arg::Plain(Expr::Array(list)) => (list.span, None),
+        Arg::Plain(Expr::String { span, kind: _ }) => (*span, None),
         Arg::Plain(
             Expr::Call {
                 span,
@@ -161,6 +159,7 @@ fn element_spans(element: &Arg) -> (Span, Option<Span>) {
             name,
             value: _,
         } => (*span, Some(*name)),
+        _ => (span(0, 0), None),
     }
 }
 
@@ -174,6 +173,7 @@ fn reads_nodes_with_their_spans(rt: HostRuntime) -> Result<(), Fail> {
     let Stmt::Assign {
         span: whole,
         name,
+        assignment: Assignment::Set,
         value: Expr::Array(list),
     } = &statements[0]
     else {

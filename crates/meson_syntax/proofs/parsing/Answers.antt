@@ -1,5 +1,5 @@
 -- What the plain parser's answer on the tokens of a source says of its trees.
-use Rattle.std.proofs.Common.{◌≡◌, ◌≢◌, ℕ, ◌+◌, List, [], ◌∷◌, ◌++◌, length, Some, None, refl, sym, ap, subst, ◌∙◌, arith}
+use Rattle.std.proofs.Common.{◌≡◌, ◌≢◌, ℕ, ◌+◌, List, [], ◌∷◌, ◌++◌, length, Option, Some, None, refl, sym, ap, subst, ◌∙◌, arith}
 use Rattle.std.specs.Prelude.{Result, Ok, Err, IfOk}
 use Rattle.meson_lex.specs.declared.kinds.Span.{Span}
 use Rattle.meson_lex.specs.declared.fault.LexFault.{LexFault}
@@ -22,7 +22,8 @@ use Rattle.meson_syntax.specs.Nests.{IsGrammatical}
 use Rattle.meson_syntax.specs.ReadingFiles.{whole}
 use Rattle.meson_syntax.specs.Spelling.{SpellsFile}
 use Rattle.meson_syntax.specs.Grammar.{file_words}
-use Rattle.meson_syntax.specs.Reads.{max_depth, IsSource, Reads, IsSpanned, IsUnreadable, HasNoTree, MayRefuse, Is, Refuses}
+use Rattle.meson_syntax.specs.Reads.{Fits, Exceeds, IsSourceWithin, ReadsWithin, IsSpannedWithin, IsUnreadableWithin, HasNoTreeWithin, MayRefuseWithin, Is, Refuses}
+use Rattle.meson_syntax.specs.declared.source.Limits.{Limits}
 use Rattle.meson_syntax.specs.Reads.{too_large, not_utf8, marked, lexical}
 use Rattle.meson_syntax.proofs.parsing.Steps.{some-injective}
 use Rattle.meson_syntax.proofs.parsing.SoundFiles.{whole-sound}
@@ -39,49 +40,54 @@ no-fault at [] (r ∷ front) fault e = absurd cc
 no-fault at (x ∷ xs) [] fault e = absurd cc
 no-fault at (x ∷ xs) (r ∷ front) fault e = no-fault (at + length x.text) xs front fault cc
 
-module _ (source : List ℕ) (items : List Lexeme) (is : IsSource source) (are : IsItemList source items) where
+-- no text has at most so many bytes and more
+pub not-both : (most : Option ℕ) (len : ℕ) → Fits most len → Exceeds most len → ⊥
+not-both None len f e = e
+not-both (Some n) len f e = omega arith
+
+module _ (limits : Limits) (source : List ℕ) (items : List Lexeme) (is : IsSourceWithin limits source) (are : IsItemList source items) where
   -- the tree that the tokens spell is the text's
-  pub spelled-reads : (f : File Span) → SpellsFile f (length source) max_depth (located items) → Reads source (erase f)
+  pub spelled-reads : (f : File Span) → SpellsFile f (length source) limits.depth (located items) → ReadsWithin limits source (erase f)
   spelled-reads f h =
-      let l = file-level f (length source) max_depth (located items) h in
+      let l = file-level f (length source) limits.depth (located items) h in
       record {
         source = is;
         spells = record {
           items = items;
           are_items = are;
-          words = sym (words-located items) ∙ file-words f (length source) max_depth (located items) h ∙ sym (file-words-erased f);
+          words = sym (words-located items) ∙ file-words f (length source) limits.depth (located items) h ∙ sym (file-words-erased f);
           level = subst (λ A. A) (sym (file-level-erased f)) l.0;
         };
         depth = rw (file-depth-erased f) l.1;
       }
 
-  pub spelled-spanned : (f : File Span) → SpellsFile f (length source) max_depth (located items) → IsSpanned source f
+  pub spelled-spanned : (f : File Span) → SpellsFile f (length source) limits.depth (located items) → IsSpannedWithin limits source f
   unfolding spelled-reads
   spelled-spanned f h = record { reads = spelled-reads f h; stands = h }
 
   -- what is read is a tree of the text
-  pub found-spanned : (f : File Span) → whole max_depth (length source) (located items) ≡ Some f → IsSpanned source f
-  found-spanned f h = spelled-spanned f (whole-sound max_depth (length source) (located items) f h)
+  pub found-spanned : (f : File Span) → whole limits.depth (length source) (located items) ≡ Some f → IsSpannedWithin limits source f
+  found-spanned f h = spelled-spanned f (whole-sound limits.depth (length source) (located items) f h)
 
   -- a tree of the text is read
-  pub reads-found : (p : Plain) → Reads source p → (f : File Span) × (erase f ≡ p) × (whole max_depth (length source) (located items) ≡ Some f)
+  pub reads-found : (p : Plain) → ReadsWithin limits source p → (f : File Span) × (erase f ≡ p) × (whole limits.depth (length source) (located items) ≡ Some f)
   reads-found p r =
       let same : r.spells.items ≡ items = one_list source r.spells.items items r.spells.are_items are in
       let spelled : words (located items) ≡ file_words p = words-located items ∙ ap significant (sym same) ∙ r.spells.words in
-      let f = place-file p (length source) max_depth (located items) r.spells.level r.depth spelled in
-      (f.0, f.1, whole-complete max_depth (length source) (located items) f.0 f.2)
+      let f = place-file p (length source) limits.depth (located items) r.spells.level r.depth spelled in
+      (f.0, f.1, whole-complete limits.depth (length source) (located items) f.0 f.2)
 
-  pub none-none : whole max_depth (length source) (located items) ≡ None → HasNoTree source
+  pub none-none : whole limits.depth (length source) (located items) ≡ None → HasNoTreeWithin limits source
   none-none h p r = let f = reads-found p r in absurd cc
 
   -- ---- the clauses of a function that answers what the plain parser does
 
-  pub gives-reads : (result : Result Parsed ParseFault) → GivesAll (view source) (whole max_depth (length source) (located items)) result → IfOk result (λ p. IsSpanned source (view source p))
+  pub gives-reads : (result : Result Parsed ParseFault) → GivesAll (view source) (whole limits.depth (length source) (located items)) result → IfOk result (λ p. IsSpannedWithin limits source (view source p))
   gives-reads (Ok p) h = found-spanned (view source p) h
   gives-reads (Err e) h = tt
 
-  pub gives-finds : (result : Result Parsed ParseFault) → GivesAll (view source) (whole max_depth (length source) (located items)) result
-      → (t : Plain) → Reads source t → Is (λ p. erase (view source p)) result t
+  pub gives-finds : (result : Result Parsed ParseFault) → GivesAll (view source) (whole limits.depth (length source) (located items)) result
+      → (t : Plain) → ReadsWithin limits source t → Is (λ p. erase (view source p)) result t
   gives-finds (Ok p) h t r =
       let f = reads-found t r in
       let same : view source p ≡ f.0 = some-injective _ _ (sym h ∙ f.2) in
@@ -97,8 +103,8 @@ module _ (source : List ℕ) (items : List Lexeme) (is : IsSource source) (are :
   -- ---- refusals
 
   -- a text of items is refused by nothing that comes before the grammar
-  pub readable : (e : ParseFault) → IsUnreadable source e → ⊥
-  readable TooLarge (too_large large) = let fits = is.fits in omega arith
+  pub readable : (e : ParseFault) → IsUnreadableWithin limits source e → ⊥
+  readable TooLarge (too_large large) = not-both limits.len (length source) is.fits large
   readable NotUtf8 (not_utf8 fits other) = other is.utf8
   readable ByteOrderMark (marked fits utf8 mark) = is.no_mark mark
   readable (Lex fault) (lexical xs rest other large has) =
@@ -108,11 +114,11 @@ module _ (source : List ℕ) (items : List Lexeme) (is : IsSource source) (are :
   readable (TooDeep at) h = elim h [ ]
   readable OutOfMemory h = elim h [ ]
 
-  pub gives-unreadable : (result : Result Parsed ParseFault) (e : ParseFault) → IsUnreadable source e → Refuses result e
+  pub gives-unreadable : (result : Result Parsed ParseFault) (e : ParseFault) → IsUnreadableWithin limits source e → Refuses result e
   gives-unreadable result e h = absurd (readable e h)
 
   -- a refusal by the grammar says that there is no tree
-  pub gives-refused : (e : ParseFault) → IsGrammatical e → (e ≢ OutOfMemory → whole max_depth (length source) (located items) ≡ None) → MayRefuse source e
+  pub gives-refused : (e : ParseFault) → IsGrammatical e → (e ≢ OutOfMemory → whole limits.depth (length source) (located items) ≡ None) → MayRefuseWithin limits source e
   gives-refused (Unexpected at) g h = (readable, none-none (h (λ e. absurd cc)))
   gives-refused (TooDeep at) g h = (readable, none-none (h (λ e. absurd cc)))
   gives-refused OutOfMemory g h = tt

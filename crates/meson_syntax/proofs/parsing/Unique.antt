@@ -5,7 +5,7 @@ use Rattle.meson_lex.specs.Located.{located}
 use Rattle.meson_lex.proofs.OneList.{one_list}
 use Rattle.meson_syntax.specs.Tree.{File, Plain, erase}
 use Rattle.meson_syntax.specs.Spelling.{SpellsFile}
-use Rattle.meson_syntax.specs.Reads.{max_depth, Reads, IsSpanned}
+use Rattle.meson_syntax.specs.Reads.{of_files, max_depth, Reads, IsSpanned}
 use Rattle.meson_syntax.proofs.parsing.Steps.{some-injective}
 use Rattle.meson_syntax.proofs.parsing.CompleteFiles.{whole-complete}
 use Rattle.meson_syntax.proofs.parsing.Answers.{reads-found, found-spanned}
@@ -14,8 +14,8 @@ pub one-tree : (bytes : List ℕ) (s t : Plain) → Reads bytes s → Reads byte
 one-tree bytes s t p q =
     let items = p.spells.items in
     let are = p.spells.are_items in
-    let f = reads-found bytes items p.source are s p in
-    let g = reads-found bytes items p.source are t q in
+    let f = reads-found of_files bytes items p.source are s p in
+    let g = reads-found of_files bytes items p.source are t q in
     let same : f.0 ≡ g.0 = some-injective _ _ (sym f.2 ∙ g.2) in
     sym f.1 ∙ ap erase same ∙ g.1
 
@@ -30,5 +30,5 @@ one-spanned bytes f g p q =
 
 pub has-spans : (bytes : List ℕ) (t : Plain) → Reads bytes t → (f : File Span) × IsSpanned bytes f × (erase f ≡ t)
 has-spans bytes t p =
-    let f = reads-found bytes p.spells.items p.source p.spells.are_items t p in
-    (f.0, found-spanned bytes p.spells.items p.source p.spells.are_items f.0 f.2, f.1)
+    let f = reads-found of_files bytes p.spells.items p.source p.spells.are_items t p in
+    (f.0, found-spanned of_files bytes p.spells.items p.source p.spells.are_items f.0 f.2, f.1)
