@@ -3,6 +3,7 @@
 
 mod block;
 mod boxed;
+mod copy;
 mod expression;
 mod fault;
 mod file;

@@ -1,0 +1,338 @@
+//! Equal trees of their own memory.
+
+ghost use Rattle.std.specs.Prelude.{◌≡◌, IfErr, IfOk};
+
+use crate::boxed::Boxed;
+use crate::fault::ParseFault;
+use crate::many::Many;
+use crate::operator::UnaryOperator;
+use crate::tree::{Arg, Block, Branch, Expr, List, Operand, Parsed, Stmt, Tail};
+use meson_lex::Span;
+use std::alloc::{AllocError, Global};
+
+impl Parsed {
+    /// An equal tree. The only refusal is want of memory.
+    pub fn copy(&self, alloc: Global) -> Result<Parsed, ParseFault>
+        ensures equal { IfOk result (λ p. p ≡ self.now) }
+        ensures refused { IfErr result (λ e. e ≡ ParseFault.OutOfMemory) }
+    {
+        let block = copy_block(alloc, &self.block)?;
+        Ok(Parsed {
+            block,
+            span: self.span,
+        })
+    }
+}
+
+// ---- expressions
+
+#[cycle(copy_expression)]
+fn copy_expr(alloc: Global, expr: &Expr) -> Result<Expr, AllocError>
+    ensures { IfOk result (λ e. e ≡ expr.now) }
+{
+    match expr {
+        Expr::Identifier(span) => Ok(Expr::Identifier(*span)),
+        Expr::Boolean { span, value } => Ok(Expr::Boolean {
+            span: *span,
+            value: *value,
+        }),
+        Expr::Integer(span) => Ok(Expr::Integer(*span)),
+        Expr::String { span, kind } => Ok(Expr::String {
+            span: *span,
+            kind: *kind,
+        }),
+        Expr::Paren { span, inside } => copy_paren(alloc, *span, inside.get()),
+        Expr::Array(list) => Ok(Expr::Array(copy_list(alloc, list)?)),
+        Expr::Dictionary(list) => Ok(Expr::Dictionary(copy_list(alloc, list)?)),
+        Expr::Call {
+            span,
+            name,
+            arguments,
+        } => copy_call(alloc, *span, *name, arguments),
+        Expr::Unary {
+            span,
+            operator,
+            operand,
+        } => copy_unary(alloc, *span, *operator, operand.get()),
+        Expr::Row { span, first, rest } => Ok(Expr::Row {
+            span: *span,
+            first: copy_boxed(alloc, first.get())?,
+            rest: copy_operands(alloc, rest.get())?,
+        }),
+        Expr::Postfix { span, base, tails } => Ok(Expr::Postfix {
+            span: *span,
+            base: copy_boxed(alloc, base.get())?,
+            tails: copy_tails(alloc, tails.get())?,
+        }),
+        Expr::Conditional {
+            span,
+            condition,
+            yes,
+            no,
+        } => Ok(Expr::Conditional {
+            span: *span,
+            condition: copy_boxed(alloc, condition.get())?,
+            yes: copy_boxed(alloc, yes.get())?,
+            no: copy_boxed(alloc, no.get())?,
+        }),
+    }
+}
+
+#[cycle(copy_expression)]
+fn copy_paren(alloc: Global, span: Span, inside: &Expr) -> Result<Expr, AllocError>
+    ensures { IfOk result (λ e. e ≡ Expr.Paren span inside.now) }
+{
+    let inside = copy_boxed(alloc, inside)?;
+    Ok(Expr::Paren { span, inside })
+}
+
+#[cycle(copy_expression)]
+fn copy_call(alloc: Global, span: Span, name: Span, arguments: &List) -> Result<Expr, AllocError>
+    ensures { IfOk result (λ e. e ≡ Expr.Call span name arguments.now) }
+{
+    let arguments = copy_list(alloc, arguments)?;
+    Ok(Expr::Call {
+        span,
+        name,
+        arguments,
+    })
+}
+
+#[cycle(copy_expression)]
+fn copy_unary(
+    alloc: Global,
+    span: Span,
+    operator: UnaryOperator,
+    operand: &Expr,
+) -> Result<Expr, AllocError>
+    ensures { IfOk result (λ e. e ≡ Expr.Unary span operator operand.now) }
+{
+    let operand = copy_boxed(alloc, operand)?;
+    Ok(Expr::Unary {
+        span,
+        operator,
+        operand,
+    })
+}
+
+#[cycle(copy_expression)]
+fn copy_boxed(alloc: Global, expr: &Expr) -> Result<Boxed<Expr>, AllocError>
+    ensures { IfOk result (λ e. e ≡ expr.now) }
+{
+    let copy = copy_expr(alloc, expr)?;
+    Boxed::new(alloc, copy)
+}
+
+#[cycle(copy_expression)]
+fn copy_list(alloc: Global, list: &List) -> Result<List, AllocError>
+    ensures { IfOk result (λ l. l ≡ list.now) }
+{
+    let items = copy_args(alloc, list.items.get())?;
+    Ok(List {
+        items,
+        trailing: list.trailing,
+        span: list.span,
+    })
+}
+
+#[cycle(copy_expression)]
+fn copy_args(alloc: Global, args: &[Arg]) -> Result<Many<Arg>, AllocError>
+    ensures { IfOk result (λ copies. copies ≡ args.now) }
+{
+    let mut copies = Many::new(alloc);
+    for i in 0..args.len() {
+        let copy = copy_arg(alloc, &args[i])?;
+        copies.push(copy)?;
+    }
+    Ok(copies)
+}
+
+#[cycle(copy_expression)]
+fn copy_arg(alloc: Global, arg: &Arg) -> Result<Arg, AllocError>
+    ensures { IfOk result (λ a. a ≡ arg.now) }
+{
+    match arg {
+        Arg::Plain(value) => Ok(Arg::Plain(copy_expr(alloc, value)?)),
+        Arg::Named { span, name, value } => {
+            let value = copy_expr(alloc, value)?;
+            Ok(Arg::Named {
+                span: *span,
+                name: *name,
+                value,
+            })
+        }
+        Arg::Pair { span, key, value } => {
+            let key = copy_boxed(alloc, key.get())?;
+            let value = copy_boxed(alloc, value.get())?;
+            Ok(Arg::Pair {
+                span: *span,
+                key,
+                value,
+            })
+        }
+    }
+}
+
+#[cycle(copy_expression)]
+fn copy_operands(alloc: Global, operands: &[Operand]) -> Result<Many<Operand>, AllocError>
+    ensures { IfOk result (λ copies. copies ≡ operands.now) }
+{
+    let mut copies = Many::new(alloc);
+    for i in 0..operands.len() {
+        let copy = copy_operand(alloc, &operands[i])?;
+        copies.push(copy)?;
+    }
+    Ok(copies)
+}
+
+#[cycle(copy_expression)]
+fn copy_operand(alloc: Global, operand: &Operand) -> Result<Operand, AllocError>
+    ensures { IfOk result (λ o. o ≡ operand.now) }
+{
+    let value = copy_expr(alloc, &operand.value)?;
+    Ok(Operand {
+        operator: operand.operator,
+        value,
+    })
+}
+
+#[cycle(copy_expression)]
+fn copy_tails(alloc: Global, tails: &[Tail]) -> Result<Many<Tail>, AllocError>
+    ensures { IfOk result (λ copies. copies ≡ tails.now) }
+{
+    let mut copies = Many::new(alloc);
+    for i in 0..tails.len() {
+        let copy = copy_tail(alloc, &tails[i])?;
+        copies.push(copy)?;
+    }
+    Ok(copies)
+}
+
+#[cycle(copy_expression)]
+fn copy_tail(alloc: Global, tail: &Tail) -> Result<Tail, AllocError>
+    ensures { IfOk result (λ t. t ≡ tail.now) }
+{
+    match tail {
+        Tail::Method {
+            span,
+            name,
+            arguments,
+        } => {
+            let arguments = copy_list(alloc, arguments)?;
+            Ok(Tail::Method {
+                span: *span,
+                name: *name,
+                arguments,
+            })
+        }
+        Tail::Index { span, index } => {
+            let index = copy_expr(alloc, index)?;
+            Ok(Tail::Index { span: *span, index })
+        }
+    }
+}
+
+// ---- statements
+
+#[cycle(copy_statement)]
+fn copy_block(alloc: Global, block: &Block) -> Result<Block, AllocError>
+    ensures { IfOk result (λ b. b ≡ block.now) }
+{
+    let statements = copy_stmts(alloc, block.statements.get())?;
+    Ok(Block {
+        statements,
+        span: block.span,
+    })
+}
+
+#[cycle(copy_statement)]
+fn copy_stmts(alloc: Global, stmts: &[Stmt]) -> Result<Many<Stmt>, AllocError>
+    ensures { IfOk result (λ copies. copies ≡ stmts.now) }
+{
+    let mut copies = Many::new(alloc);
+    for i in 0..stmts.len() {
+        let copy = copy_stmt(alloc, &stmts[i])?;
+        copies.push(copy)?;
+    }
+    Ok(copies)
+}
+
+#[cycle(copy_statement)]
+fn copy_stmt(alloc: Global, stmt: &Stmt) -> Result<Stmt, AllocError>
+    ensures { IfOk result (λ s. s ≡ stmt.now) }
+{
+    match stmt {
+        Stmt::Expr(value) => Ok(Stmt::Expr(copy_expr(alloc, value)?)),
+        Stmt::Assign {
+            span,
+            name,
+            assignment,
+            value,
+        } => Ok(Stmt::Assign {
+            span: *span,
+            name: *name,
+            assignment: *assignment,
+            value: copy_expr(alloc, value)?,
+        }),
+        Stmt::If {
+            span,
+            branches,
+            otherwise,
+        } => Ok(Stmt::If {
+            span: *span,
+            branches: copy_branches(alloc, branches.get())?,
+            otherwise: copy_otherwise(alloc, otherwise)?,
+        }),
+        Stmt::Foreach {
+            span,
+            names,
+            items,
+            body,
+        } => Ok(Stmt::Foreach {
+            span: *span,
+            names: copy_spans(alloc, names.get())?,
+            items: copy_expr(alloc, items)?,
+            body: copy_block(alloc, body)?,
+        }),
+        Stmt::Break(span) => Ok(Stmt::Break(*span)),
+        Stmt::Continue(span) => Ok(Stmt::Continue(*span)),
+    }
+}
+
+#[cycle(copy_statement)]
+fn copy_otherwise(alloc: Global, otherwise: &Option<Block>) -> Result<Option<Block>, AllocError>
+    ensures { IfOk result (λ o. o ≡ otherwise.now) }
+{
+    match otherwise {
+        Some(block) => Ok(Some(copy_block(alloc, block)?)),
+        None => Ok(None),
+    }
+}
+
+#[cycle(copy_statement)]
+fn copy_branches(alloc: Global, branches: &[Branch]) -> Result<Many<Branch>, AllocError>
+    ensures { IfOk result (λ copies. copies ≡ branches.now) }
+{
+    let mut copies = Many::new(alloc);
+    for i in 0..branches.len() {
+        let copy = copy_branch(alloc, &branches[i])?;
+        copies.push(copy)?;
+    }
+    Ok(copies)
+}
+
+#[cycle(copy_statement)]
+fn copy_branch(alloc: Global, branch: &Branch) -> Result<Branch, AllocError>
+    ensures { IfOk result (λ b. b ≡ branch.now) }
+{
+    let condition = copy_expr(alloc, &branch.condition)?;
+    let block = copy_block(alloc, &branch.block)?;
+    Ok(Branch { condition, block })
+}
+
+fn copy_spans(alloc: Global, spans: &[Span]) -> Result<Many<Span>, AllocError>
+    ensures { IfOk result (λ copies. copies ≡ spans.now) }
+{
+    let copies = Vec::from_slice(alloc, spans)?;
+    Ok(Many::of(copies))
+}
