@@ -6,3 +6,4 @@ pub mod parsing
 pub mod paths
 pub mod places
 pub mod exchange
+pub mod lists

@@ -4,6 +4,7 @@ pub mod Input
 pub mod Operators
 pub mod Reading
 pub mod ReadingFiles
+pub mod ReadingLists
 pub mod Spelling
 pub mod Grammar
 pub mod Reads
@@ -14,5 +15,6 @@ pub mod Gathering
 pub mod Paths
 pub mod Places
 pub mod Exchange
+pub mod ReadsList
 pub mod Laws
 pub mod formers

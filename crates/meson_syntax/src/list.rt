@@ -19,6 +19,17 @@ use crate::tree::{Arg, Expr, List};
 use meson_lex::Kind;
 use std::alloc::Global;
 
+/// The token that opens a list in these brackets.
+pub(crate) fn opens(bracket: Bracket) -> Kind
+    ensures { result ≡ operators.opens bracket }
+{
+    match bracket {
+        Bracket::Round => Kind::OpenRound,
+        Bracket::Square => Kind::OpenSquare,
+        Bracket::Curly => Kind::OpenCurly,
+    }
+}
+
 /// The token that closes a list in these brackets.
 fn closes(bracket: Bracket) -> Kind
     ensures { result ≡ operators.closes bracket }

@@ -20,7 +20,7 @@ pub record IsBracket (κ : Kind) (r : Role) : Type 0 where
   pub is_role : role κ ≡ r
   pub drops : (text : List ℕ) → kept κ text ≡ []
 
-pub open-bracket : (b : Bracket) → IsBracket (opens b) Opens
+unfoldable pub open-bracket : (b : Bracket) → IsBracket (opens b) Opens
 open-bracket bracket.Round = record { byte = 40; is_text = λ text h. h; no_return = refl; stands = λ text rest. tt; is_role = refl; drops = λ text. refl }
 open-bracket bracket.Square = record { byte = 91; is_text = λ text h. h; no_return = refl; stands = λ text rest. tt; is_role = refl; drops = λ text. refl }
 open-bracket bracket.Curly = record { byte = 123; is_text = λ text h. h; no_return = refl; stands = λ text rest. tt; is_role = refl; drops = λ text. refl }

@@ -81,7 +81,7 @@ module _ (κ ι : Kind) (opens : IsBracket κ Opens) (closes : IsBracket ι Clos
     pub list-after : (s : State) (right : List Lexeme) → after s (listed o inner c right) ≡ after (behind s) right
     list-after s right = after-append (step s o) inner (c ∷ right) ∙ ap (λ q. after q right) (closed-state s)
 
-    list-emitted : (s : State) (right : List Lexeme) → emitted s (listed o inner c right) ≡ mark κ ++ (spoken inner ++ (mark ι ++ emitted (behind s) right))
+    pub list-emitted : (s : State) (right : List Lexeme) → emitted s (listed o inner c right) ≡ mark κ ++ (spoken inner ++ (mark ι ++ emitted (behind s) right))
     list-emitted s right =
         let q = step s o in
         ap₂ (λ u v. u ++ v) (bracket-word κ Opens opens o is-o s refl)

@@ -20,12 +20,12 @@ use Rattle.meson_syntax.proofs.exchange.Brackets.{IsBracket, open-bracket, close
 use Rattle.meson_syntax.proofs.exchange.Nesting.{nest, inner-flat}
 use Rattle.meson_syntax.proofs.exchange.Items.{listed, behind, exchanged-items, list-after, list-significant}
 
-listing-inner : {S : Type 0} (l : Listing S) (b : Bracket) → listing_words l b ≡ mark (opens b) ++ (inner_words l ++ mark (closes b))
+pub listing-inner : {S : Type 0} (l : Listing S) (b : Bracket) → listing_words l b ≡ mark (opens b) ++ (inner_words l ++ mark (closes b))
 listing-inner (listing s trailing list) b = refl
 
 -- ---- texts cut at the same place
 
-same-cut : {A : Type 0} (a b c d : List A) → a ++ b ≡ c ++ d → length a ≡ length c → (a ≡ c) × (b ≡ d)
+pub same-cut : {A : Type 0} (a b c d : List A) → a ++ b ≡ c ++ d → length a ≡ length c → (a ≡ c) × (b ≡ d)
 same-cut [] b [] d e n = (refl, e)
 same-cut [] b (y ∷ c) d e n = absurd (omega arith)
 same-cut (x ∷ a) b [] d e n = absurd (omega arith)

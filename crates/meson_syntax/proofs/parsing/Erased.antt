@@ -97,7 +97,7 @@ module _ {S : Type 0} where
     argument-words-erased (named s x e) = ap (λ w. (k.Identifier, x) ∷ (mark k.Colon ++ w)) (expression-words-erased e)
     argument-words-erased (pair s e f) = ap₂ (λ u v. u ++ (mark k.Colon ++ v)) (expression-words-erased e) (expression-words-erased f)
 
-    arguments-words-erased : (list : Arguments S) (trailing : Bool) → arguments_words (erase_arguments list) trailing ≡ arguments_words list trailing
+    pub arguments-words-erased : (list : Arguments S) (trailing : Bool) → arguments_words (erase_arguments list) trailing ≡ arguments_words list trailing
     arguments-words-erased no_arguments trailing = refl
     arguments-words-erased (argument a more) trailing =
         ap₂ (λ u v. u ++ v) (argument-words-erased a) (ap₂ (λ u v. u ++ v) (comma-erased more trailing) (arguments-words-erased more trailing))

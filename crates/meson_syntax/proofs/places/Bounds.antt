@@ -248,7 +248,7 @@ pub covers-from : (s : Span) (ts : List Token) (first : Token) (rest : List Toke
 covers-from s [] first rest c e = absurd c
 covers-from s (t ∷ ts) first rest c e = let same : t ≡ first = cc in c.0 ∙ ap (λ (u : Token). u.from) same
 
-covers-end : (s : Span) (ts : List Token) → Covers s ts → s.to ≡ end_of 0 ts
+pub covers-end : (s : Span) (ts : List Token) → Covers s ts → s.to ≡ end_of 0 ts
 covers-end s [] c = absurd c
 covers-end s (t ∷ ts) c = c.1
 

@@ -31,14 +31,14 @@ silent-nothing : IsSilent []
 silent-nothing [] t behind own h = absurd cc
 silent-nothing (a ∷ before) t behind own h = absurd cc
 
-silent-closing : (fresh : Bool) (end : ℕ) → IsSilent (closing_at fresh end)
+pub silent-closing : (fresh : Bool) (end : ℕ) → IsSilent (closing_at fresh end)
 silent-closing true end = silent-nothing
 silent-closing false end = silent-line where
   silent-line : IsSilent (line_end_at end ∷ [])
   silent-line [] t behind own h = let same : line_end_at end ≡ t = cc in own (sym (ap (λ (u : Token). u.kind) same))
   silent-line (a ∷ before) t behind own h = silent-nothing before t behind own cc
 
-closing-words : (fresh : Bool) (end : ℕ) → words (closing_at fresh end) ≡ closing fresh
+pub closing-words : (fresh : Bool) (end : ℕ) → words (closing_at fresh end) ≡ closing fresh
 closing-words true end = refl
 closing-words false end = refl
 

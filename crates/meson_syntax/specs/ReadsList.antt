@@ -1,0 +1,48 @@
+-- What it means that a text is one list, from its opening bracket to its closing one, and nothing else.
+use Rattle.std.specs.Prelude.{◌≡◌, ℕ, ◌≤◌, List, [], ◌∷◌, ◌++◌, None}
+use Rattle.std.specs.Str.{IsUtf8}
+use Rattle.meson_lex.specs.declared.kinds.Span.{Span}
+use Rattle.meson_lex.specs.Items.{Lexeme}
+use Rattle.meson_lex.specs.Significant.{Word, start}
+use Rattle.meson_lex.specs.Located.{spots}
+use Rattle.meson_syntax.specs.declared.fault.ParseFault.{ParseFault}
+use Rattle.meson_syntax.specs.declared.fault.ParseFault.TheVariants.{TooLarge, NotUtf8, ByteOrderMark, Lex, Unexpected, TooDeep, OutOfMemory}
+use Rattle.meson_syntax.specs.declared.operator.Bracket.{Bracket}
+use Rattle.meson_syntax.specs.declared.source.Limits.{Limits}
+use Rattle.meson_syntax.specs.Tree.{Nowhere, Listing, erase_listing}
+use Rattle.meson_syntax.specs.Grammar.{LevelListing, listing_depth}
+use Rattle.meson_syntax.specs.Spelling.{SpellsListing}
+use Rattle.meson_syntax.specs.Paths.{inner_words}
+use Rattle.meson_syntax.specs.Exchange.{IsListText}
+use Rattle.meson_syntax.specs.Reads.{max_depth, IsUnreadableWithin}
+
+-- the limits of a list: it may have any length, and its depth counts from its own bracket
+abbrev pub of_lists : Limits
+of_lists = record { len = None; depth = max_depth }
+
+-- The text is the list: an opening bracket, the words of the list's elements, and a closing bracket.
+pub record ReadsList (b : Bracket) (bytes : List ℕ) (l : Listing Nowhere) : Type 0 where
+  pub utf8 : IsUtf8 bytes
+  pub text : IsListText bytes b (inner_words l)
+  pub level : LevelListing l b
+  pub depth : listing_depth l ≤ max_depth
+
+-- all items of a list's text
+abbrev pub list_items : {bytes : List ℕ} {b : Bracket} {words : List Word} → IsListText bytes b words → List Lexeme
+list_items t = t.open_item ∷ (t.inner ++ t.close_item ∷ [])
+
+-- The text is the list without its spans, and each node stands at its span.
+pub record IsSpannedList (b : Bracket) (bytes : List ℕ) (l : Listing Span) : Type 0 where
+  pub reads : ReadsList b bytes (erase_listing l)
+  pub stands : SpellsListing l b max_depth (spots start 0 0 (list_items reads.text))
+
+-- no list is read
+abbrev pub HasNoList : Bracket → List ℕ → Type 0
+HasNoList b bytes = (l : Listing Nowhere) → ReadsList b bytes l → ⊥
+
+-- Which refusals a text may get: the first that comes before the grammar, or else one of the grammar, where it is no such list.
+abbrev pub MayRefuseList : Bracket → List ℕ → ParseFault → Type 0
+MayRefuseList b bytes (Unexpected at) = ((e : ParseFault) → IsUnreadableWithin of_lists bytes e → ⊥) × HasNoList b bytes
+MayRefuseList b bytes (TooDeep at) = ((e : ParseFault) → IsUnreadableWithin of_lists bytes e → ⊥) × HasNoList b bytes
+MayRefuseList b bytes OutOfMemory = Unit {0}
+MayRefuseList b bytes fault = IsUnreadableWithin of_lists bytes fault

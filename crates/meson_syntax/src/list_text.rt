@@ -1,0 +1,82 @@
+//! A text that is one list.
+
+ghost use Rattle.std.specs.Prelude.{◌≡◌, IfErr, IfOk, length};
+ghost use Rattle.meson_syntax.specs.Input.{GivesAll};
+ghost use Rattle.meson_syntax.specs.Nests.{IsGrammatical};
+ghost use Rattle.meson_syntax.specs.Reads.{Is, IsUnreadableWithin, Refuses};
+ghost use Rattle.meson_syntax.specs.ReadsList.{IsSpannedList, MayRefuseList, ReadsList, of_lists};
+ghost use Rattle.meson_syntax.specs.ReadingLists as spec;
+ghost use Rattle.meson_syntax.specs.Tokens.{tokens_of};
+ghost use Rattle.meson_syntax.specs.Tree.{Listing, Nowhere, erase_listing};
+ghost use Rattle.meson_syntax.specs.View.{list_view};
+ghost use Rattle.meson_syntax.specs.declared.fault.ParseFault.{ParseFault};
+
+use crate::expression::read_expression;
+use crate::fault::ParseFault;
+use crate::grammar::{Cursor, Grammar};
+use crate::list::opens;
+use crate::operator::Bracket;
+use crate::significant::tokens;
+use crate::source::{Limits, check_source};
+use crate::token::Token;
+use crate::tree::List;
+use std::alloc::Global;
+
+/// How many constructs may stand inside one another, counted from the list's own bracket.
+const MAX_DEPTH: usize = 64;
+
+/// The list that a text is, from its opening bracket to its closing one and nothing else. It may have any length.
+pub fn parse_list(alloc: Global, source: &[u8], bracket: Bracket) -> Result<List, ParseFault>
+    // The text reads as the list, and each node stands at its span.
+    ensures reads { IfOk result (λ l. IsSpannedList bracket source.now (list_view source.now l)) }
+    // Whatever list the text reads as is that one.
+    ensures finds { (l : Listing Nowhere) → ReadsList bracket source.now l → Is (λ x. erase_listing (list_view source.now x)) result l }
+    // What is refused before the grammar is asked is refused with that fault.
+    ensures unreadable { (e : ParseFault) → IsUnreadableWithin of_lists source.now e → Refuses result e }
+    // A refusal says why.
+    ensures refused { IfErr result (MayRefuseList bracket source.now) }
+{
+    let limits = Limits {
+        len: None,
+        depth: MAX_DEPTH,
+    };
+    if let Err(fault) = check_source(source, limits) {
+        return Err(fault);
+    }
+    match tokens(alloc, source) {
+        Ok(tokens) => read_list(alloc, source, tokens.as_slice(), bracket),
+        Err(fault) => Err(fault),
+    }
+}
+
+/// The list that is all of the source, whose significant tokens these are.
+#[tactic(auto, unfolding(crate::specs::ReadingLists::whole_list, crate::specs::ReadingLists::bracketed, crate::specs::Cursor::input))]
+fn read_list(
+    alloc: Global,
+    source: &[u8],
+    tokens: &[Token],
+    bracket: Bracket,
+) -> Result<List, ParseFault>
+    ensures gives { GivesAll (list_view source.now) (spec.whole_list 64 bracket (length source.now) (tokens_of source.now tokens.now)) result }
+    // A refusal is one of the grammar.
+    ensures refused { IfErr result IsGrammatical }
+{
+    let mut left = Cursor::new(tokens);
+    let grammar = Grammar {
+        alloc,
+        source,
+        depth: MAX_DEPTH,
+        deeper: read_expression,
+    };
+    if !grammar.sees(&left, opens(bracket)) {
+        return Err(grammar.unexpected(&left));
+    }
+    let list = grammar.listed(&mut left, bracket)?;
+    if list.span.from != 0 {
+        return Err(ParseFault::Unexpected(0));
+    }
+    if list.span.to != source.len() {
+        return Err(grammar.unexpected(&left));
+    }
+    Ok(list)
+}
