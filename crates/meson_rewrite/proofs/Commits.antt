@@ -1,9 +1,9 @@
 -- What a commit does, from what its steps did.
-use Rattle.std.proofs.Common.{◌≡◌, ◌⊎◌, ℕ, suc, zero, ◌+◌, ◌<◌, Bool, true, false, not, cond, List, [], ◌∷◌, ◌++◌, Option, map, length, take, drop, inl, inr, refl, sym, ap, ◌∙◌, subst, arith, add-one, append_assoc, append-nil}
-use Rattle.std.specs.Prelude.{bytes_eq, slice_index_or, Result, Ok, Err}
+use Rattle.std.proofs.Common.{◌≡◌, ◌⊎◌, ℕ, suc, zero, ◌+◌, ◌<◌, Bool, true, false, not, cond, List, [], ◌∷◌, ◌++◌, Option, map, length, take, drop, inl, inr, refl, sym, ap, ◌∙◌, subst, arith, add-one, append_assoc}
+use Rattle.std.specs.Prelude.{bytes_eq, slice_index_or, Result, Err}
 use Rattle.meson_splice.specs.Files.{bytes_at}
 use Rattle.meson_splice.specs.declared.file_set.File.{File}
-use Rattle.meson_rewrite.specs.Content.{Content, replaced, Rose}
+use Rattle.meson_rewrite.specs.Content.{Content, replaced}
 use Rattle.meson_rewrite.specs.declared.store.StoreError.{StoreError}
 use Rattle.meson_rewrite.specs.declared.store.StoreError.TheVariants as error
 use Rattle.meson_rewrite.specs.declared.committing.Planned.{Planned}

@@ -1,8 +1,11 @@
 pub mod Written
 pub mod Tallies
 pub mod TreeViews
+pub mod StatementViews
 pub mod CallsFound
+pub mod SameLists
 pub mod SameTrees
+pub mod SameStatements
 pub mod NewTexts
 pub mod InOrder
 pub mod Inside

@@ -1,5 +1,5 @@
 -- A commit of one file.
-use Rattle.std.proofs.Common.{◌≡◌, ◌⊎◌, ◌<◌, ◌≤◌, ℕ, Bool, true, false, List, [], ◌∷◌, ◌++◌, Option, None, Some, inl, inr, refl, sym, ap, subst, ◌∙◌, arith, append_assoc}
+use Rattle.std.proofs.Common.{◌≡◌, ◌⊎◌, ◌<◌, ◌≤◌, ℕ, Bool, true, false, List, [], ◌∷◌, ◌++◌, Option, None, Some, inl, inr, refl, ap, subst, ◌∙◌, arith, append_assoc}
 use Rattle.std.specs.Prelude.{codes, nat_lt}
 use Rattle.std.proofs.lemmas.Bool.Decides.{nat_tests}
 use Rattle.meson_rewrite.specs.Content.{Content, replaced, Rose}
@@ -8,7 +8,7 @@ use Rattle.meson_rewrite.specs.declared.store.StoreError.{StoreError}
 use Rattle.meson_rewrite.specs.declared.store.StoreError.TheVariants as error
 use Rattle.meson_rewrite.specs.declared.store_fault.StoreFault.{StoreFault}
 use Rattle.meson_rewrite.specs.declared.store_fault.StoreFault.TheVariants.{WriteFailed, OutOfMemory}
-use Rattle.meson_rewrite.specs.Commit.{Put, path_in, put_in, put_all, names_of, fault_of, Leaves, ErrorCounted, Halts, HaltsWith, CommitFails}
+use Rattle.meson_rewrite.specs.Commit.{Put, path_in, put_in, put_all, names_of, fault_of, Leaves, ErrorCounted, CommitFails}
 
 -- the root file gets these bytes
 abbrev pub root_put : Option (List ℕ) → List ℕ → Put

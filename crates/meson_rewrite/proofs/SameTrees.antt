@@ -1,56 +1,112 @@
--- When the tree of a text is the edited tree of another, list by list.
+-- When an expression is the edited one of another text, list by list.
 use Rattle.std.proofs.Math.Bool.{beq}
-use Rattle.std.proofs.Common.{◌≡◌, ◌↔◌, ℕ, ◌+◌, ◌<◌, ◌≤◌, Bool, true, false, List, [], ◌∷◌, map, length, drop, get_or, refl, sym, ap, ◌∙◌}
-use Rattle.std.proofs.lemmas.List.{at_drop_more, at_drop_all}
+use Rattle.std.proofs.Common.{◌≡◌, ◌↔◌, ℕ, Bool, true, false, List, [], ◌∷◌, map, refl, sym, ap, ◌∙◌}
+use Rattle.meson_lex.specs.declared.kinds.Span.{Span}
+use Rattle.meson_syntax.specs.declared.operator.Operator.{Operator}
 use Rattle.meson_syntax.specs.declared.tree.Arg.{Arg}
+use Rattle.meson_syntax.specs.declared.tree.Expr.{Expr}
+use Rattle.meson_syntax.specs.declared.tree.Expr.TheVariants as expr
 use Rattle.meson_syntax.specs.declared.tree.List as rust
-use Rattle.meson_syntax.specs.declared.tree.Parsed.{Parsed}
-use Rattle.meson_syntax.specs.declared.tree.Stmt.{Stmt}
-use Rattle.meson_syntax.specs.Tree.{Nowhere, Argument, argument, listing, arguments_of, argument_list, erase_argument, erase_arguments, erase_listing, Statement, statement, statements_of, statement_list, block, file, erase_statement, erase_statements, erase}
-use Rattle.meson_syntax.specs.View.{arg_view, args_view, list_view, stmt_view, stmts_view, view}
-use Rattle.meson_rewrite.specs.Editing.{edited_argument, edited_arguments, edited_listing, edited_statement, edited_statements, edited}
-use Rattle.meson_rewrite.proofs.TreeViews.{view_list}
+use Rattle.meson_syntax.specs.declared.tree.Operand as rust_operand
+use Rattle.meson_syntax.specs.declared.tree.Tail as rust_tail
+use Rattle.meson_syntax.specs.Tree.{Nowhere, Expression, operand, operands_of, operand_list, Tail, tail, tails_of, tail_list, Argument, argument, listing, arguments_of, argument_list, erase_expression, erase_operands, erase_tail, erase_tails, erase_argument, erase_arguments, erase_listing}
+use Rattle.meson_syntax.specs.View.{expr_view, operand_view, operands_view, tail_view, tails_view, arg_view, args_view, list_view}
+use Rattle.meson_rewrite.specs.Comparing.{erased_operand, edited_operand}
+use Rattle.meson_rewrite.specs.Editing.{edited_expression, edited_operands, edited_tail, edited_tails, edited_argument, edited_arguments, edited_listing}
+use Rattle.meson_rewrite.proofs.SameLists.{map-map, built, equals_of}
+use Rattle.meson_rewrite.proofs.TreeViews.{view_row, view_postfix, view_list}
 
--- ---- two lists, element by element
+-- ---- lists as their elements
 
-module _ {X Y : Type 0} (f g : X → Y) (xs ys : List X) where
-  -- the lists agree from the elements at i on
-  abbrev pub Agree : ℕ → Type 0
-  Agree i = map f (drop i ys) ≡ map g (drop i xs)
+operands_back : {S : Type 0} (zs : List (Operator × Expression S)) → operand_list (operands_of zs) ≡ zs
+operands_back [] = refl
+operands_back (z ∷ zs) = ap (λ l. z ∷ l) (operands_back zs)
 
-  first_is : (h : X → Y) (zs : List X) (i : ℕ) (d : X) → i < length zs → map h (drop i zs) ≡ h (get_or zs i d) ∷ map h (drop (i + 1) zs)
-  first_is h zs i d within = at_drop_more (map h) zs i d within
+erased_operands : {S : Type 0} (zs : List (Operator × Expression S)) → erase_operands (operands_of zs) ≡ operands_of (map erased_operand zs)
+erased_operands [] = refl
+erased_operands (z ∷ zs) = ap (λ l. operand z.0 (erase_expression z.1) l) (erased_operands zs)
 
-  pub agree_on : (i : ℕ) (d : X) → i < length xs → i < length ys → f (get_or ys i d) ≡ g (get_or xs i d) → Agree i ↔ Agree (i + 1)
-  agree_on i d in_xs in_ys same = (
-    λ e. let both : f (get_or ys i d) ∷ map f (drop (i + 1) ys) ≡ g (get_or xs i d) ∷ map g (drop (i + 1) xs) = sym (first_is f ys i d in_ys) ∙ e ∙ first_is g xs i d in_xs in cc,
-    λ e. first_is f ys i d in_ys ∙ (let both : f (get_or ys i d) ∷ map f (drop (i + 1) ys) ≡ g (get_or xs i d) ∷ map g (drop (i + 1) xs) = cc in both) ∙ sym (first_is g xs i d in_xs),
-  )
+operands_edited : {S : Type 0} (text : List ℕ) (zs : List (Operator × Expression S)) → edited_operands text (operands_of zs) ≡ operands_of (map (edited_operand text) zs)
+operands_edited text [] = refl
+operands_edited text (z ∷ zs) = ap (λ l. operand z.0 (edited_expression text z.1) l) (operands_edited text zs)
 
-  pub agree_here : (i : ℕ) (d : X) → i < length xs → i < length ys → Agree i → f (get_or ys i d) ≡ g (get_or xs i d)
-  agree_here i d in_xs in_ys e =
-      let both : f (get_or ys i d) ∷ map f (drop (i + 1) ys) ≡ g (get_or xs i d) ∷ map g (drop (i + 1) xs) = sym (first_is f ys i d in_ys) ∙ e ∙ first_is g xs i d in_xs in cc
+tails_back : {S : Type 0} (zs : List (Tail S)) → tail_list (tails_of zs) ≡ zs
+tails_back [] = refl
+tails_back (z ∷ zs) = ap (λ l. z ∷ l) (tails_back zs)
 
-  pub agree_at_end : (i : ℕ) → length xs ≤ i → length ys ≤ i → Agree i
-  agree_at_end i past_xs past_ys = at_drop_all (map f) ys i past_ys ∙ sym (at_drop_all (map g) xs i past_xs)
+erased_tails : {S : Type 0} (zs : List (Tail S)) → erase_tails (tails_of zs) ≡ tails_of (map erase_tail zs)
+erased_tails [] = refl
+erased_tails (z ∷ zs) = ap (λ l. tail (erase_tail z) l) (erased_tails zs)
 
--- ---- a list as its elements
+tails_edited : {S : Type 0} (text : List ℕ) (zs : List (Tail S)) → edited_tails text (tails_of zs) ≡ tails_of (map (edited_tail text) zs)
+tails_edited text [] = refl
+tails_edited text (z ∷ zs) = ap (λ l. tail (edited_tail text z) l) (tails_edited text zs)
 
-list_of : {S : Type 0} (zs : List (Argument S)) → argument_list (arguments_of zs) ≡ zs
-list_of [] = refl
-list_of (z ∷ zs) = ap (λ l. z ∷ l) (list_of zs)
+arguments_back : {S : Type 0} (zs : List (Argument S)) → argument_list (arguments_of zs) ≡ zs
+arguments_back [] = refl
+arguments_back (z ∷ zs) = ap (λ l. z ∷ l) (arguments_back zs)
 
-erased : {S : Type 0} (zs : List (Argument S)) → erase_arguments (arguments_of zs) ≡ arguments_of (map erase_argument zs)
-erased [] = refl
-erased (z ∷ zs) = ap (λ l. argument (erase_argument z) l) (erased zs)
+erased_arguments : {S : Type 0} (zs : List (Argument S)) → erase_arguments (arguments_of zs) ≡ arguments_of (map erase_argument zs)
+erased_arguments [] = refl
+erased_arguments (z ∷ zs) = ap (λ l. argument (erase_argument z) l) (erased_arguments zs)
 
-edits : {S : Type 0} (text : List ℕ) (ours : Bool) (zs : List (Argument S)) → edited_arguments text ours (arguments_of zs) ≡ arguments_of (map (edited_argument text ours) zs)
-edits text ours [] = refl
-edits text ours (z ∷ zs) = ap (λ l. argument (edited_argument text ours z) l) (edits text ours zs)
+arguments_edited : {S : Type 0} (text : List ℕ) (ours : Bool) (zs : List (Argument S)) → edited_arguments text ours (arguments_of zs) ≡ arguments_of (map (edited_argument text ours) zs)
+arguments_edited text ours [] = refl
+arguments_edited text ours (z ∷ zs) = ap (λ l. argument (edited_argument text ours z) l) (arguments_edited text ours zs)
 
-map-map : {X Y Z : Type 0} (g : Y → Z) (f : X → Y) (xs : List X) → map g (map f xs) ≡ map (λ x. g (f x)) xs
-map-map g f [] = refl
-map-map g f (x ∷ xs) = ap (λ l. g (f x) ∷ l) (map-map g f xs)
+-- ---- lists over two sources
+
+module _ (olds news text : List ℕ) where
+  abbrev SameExpression : Expr → Expr → Type 0
+  SameExpression old new = erase_expression (expr_view news new) ≡ edited_expression text (expr_view olds old)
+
+  abbrev SameOperands : List rust_operand.Operand → List rust_operand.Operand → Type 0
+  SameOperands xs ys = map (λ o. erased_operand (operand_view news o)) ys ≡ map (λ o. edited_operand text (operand_view olds o)) xs
+
+  abbrev SameTails : List rust_tail.Tail → List rust_tail.Tail → Type 0
+  SameTails xs ys = map (λ t. erase_tail (tail_view news t)) ys ≡ map (λ t. edited_tail text (tail_view olds t)) xs
+
+  operands_same : (xs ys : List rust_operand.Operand) → SameOperands xs ys ↔ (erase_operands (operands_of (operands_view news ys)) ≡ edited_operands text (operands_of (operands_view olds xs)))
+  operands_same xs ys = built operands_of operand_list operands_back _ _ _ _
+      (erased_operands (operands_view news ys) ∙ ap operands_of (map-map erased_operand (operand_view news) ys))
+      (operands_edited text (operands_view olds xs) ∙ ap operands_of (map-map (edited_operand text) (operand_view olds) xs))
+
+  tails_same : (xs ys : List rust_tail.Tail) → SameTails xs ys ↔ (erase_tails (tails_of (tails_view news ys)) ≡ edited_tails text (tails_of (tails_view olds xs)))
+  tails_same xs ys = built tails_of tail_list tails_back _ _ _ _
+      (erased_tails (tails_view news ys) ∙ ap tails_of (map-map erase_tail (tail_view news) ys))
+      (tails_edited text (tails_view olds xs) ∙ ap tails_of (map-map (edited_tail text) (tail_view olds) xs))
+
+  -- rows with the same first operand agree where the others do
+  pub rows_decided : (old new : Expr) (s t : Span) (a b a' b' : Expr) (xs ys xs' ys' : List rust_operand.Operand) (P : Type 0) →
+      old ≡ expr.Row s a xs → new ≡ expr.Row t b ys → a' ≡ a → b' ≡ b → xs' ≡ xs → ys' ≡ ys → SameExpression a' b' → (P ↔ SameOperands xs' ys') → P ↔ SameExpression old new
+  rows_decided old new s t a b a' b' xs ys xs' ys' P is_old is_new is_a is_b is_xs is_ys firsts h =
+      let both = operands_same xs ys in
+      let first : SameExpression a b = sym (ap (λ e. erase_expression (expr_view news e)) is_b) ∙ firsts ∙ ap (λ e. edited_expression text (expr_view olds e)) is_a in
+      let new_side = ap erase_expression (ap (expr_view news) is_new ∙ view_row news t b ys) in
+      let old_side = ap (edited_expression text) (ap (expr_view olds) is_old ∙ view_row olds s a xs) in
+      equals_of P new_side old_side (
+        λ p. let rest : SameOperands xs ys = sym (ap (map (λ o. erased_operand (operand_view news o))) is_ys) ∙ h.0 p ∙ ap (map (λ o. edited_operand text (operand_view olds o))) is_xs in
+            let parts = both.0 rest in cc,
+        λ e. let parts : erase_operands (operands_of (operands_view news ys)) ≡ edited_operands text (operands_of (operands_view olds xs)) = cc in
+            h.1 (ap (map (λ o. erased_operand (operand_view news o))) is_ys ∙ both.1 parts ∙ sym (ap (map (λ o. edited_operand text (operand_view olds o))) is_xs)),
+      )
+
+  -- expressions with tails on the same base agree where the tails do
+  pub postfixes_decided : (old new : Expr) (s t : Span) (a b a' b' : Expr) (xs ys xs' ys' : List rust_tail.Tail) (P : Type 0) →
+      old ≡ expr.Postfix s a xs → new ≡ expr.Postfix t b ys → a' ≡ a → b' ≡ b → xs' ≡ xs → ys' ≡ ys → SameExpression a' b' → (P ↔ SameTails xs' ys') → P ↔ SameExpression old new
+  postfixes_decided old new s t a b a' b' xs ys xs' ys' P is_old is_new is_a is_b is_xs is_ys bases h =
+      let both = tails_same xs ys in
+      let base : SameExpression a b = sym (ap (λ e. erase_expression (expr_view news e)) is_b) ∙ bases ∙ ap (λ e. edited_expression text (expr_view olds e)) is_a in
+      let new_side = ap erase_expression (ap (expr_view news) is_new ∙ view_postfix news t b ys) in
+      let old_side = ap (edited_expression text) (ap (expr_view olds) is_old ∙ view_postfix olds s a xs) in
+      equals_of P new_side old_side (
+        λ p. let rest : SameTails xs ys = sym (ap (map (λ t. erase_tail (tail_view news t))) is_ys) ∙ h.0 p ∙ ap (map (λ t. edited_tail text (tail_view olds t))) is_xs in
+            let parts = both.0 rest in cc,
+        λ e. let parts : erase_tails (tails_of (tails_view news ys)) ≡ edited_tails text (tails_of (tails_view olds xs)) = cc in
+            h.1 (ap (map (λ t. erase_tail (tail_view news t))) is_ys ∙ both.1 parts ∙ sym (ap (map (λ t. edited_tail text (tail_view olds t))) is_xs)),
+      )
+
+-- ---- lists in brackets
 
 module _ (olds news text : List ℕ) (ours : Bool) where
   abbrev fresh : Arg → Argument Nowhere
@@ -62,12 +118,12 @@ module _ (olds news text : List ℕ) (ours : Bool) where
   fresh_listing : (l : rust.List) → erase_listing (list_view news l) ≡ listing tt (rust.out-List l).trailing (arguments_of (map fresh (rust.out-List l).items))
   fresh_listing l =
       ap erase_listing (view_list news l)
-      ∙ ap (λ zs. listing tt (rust.out-List l).trailing zs) (erased (args_view news (rust.out-List l).items) ∙ ap arguments_of (map-map erase_argument (arg_view news) (rust.out-List l).items))
+      ∙ ap (λ zs. listing tt (rust.out-List l).trailing zs) (erased_arguments (args_view news (rust.out-List l).items) ∙ ap arguments_of (map-map erase_argument (arg_view news) (rust.out-List l).items))
 
   set_listing : (l : rust.List) → edited_listing text ours (list_view olds l) ≡ listing tt (rust.out-List l).trailing (arguments_of (map set (rust.out-List l).items))
   set_listing l =
       ap (edited_listing text ours) (view_list olds l)
-      ∙ ap (λ zs. listing tt (rust.out-List l).trailing zs) (edits text ours (args_view olds (rust.out-List l).items) ∙ ap arguments_of (map-map (edited_argument text ours) (arg_view olds) (rust.out-List l).items))
+      ∙ ap (λ zs. listing tt (rust.out-List l).trailing zs) (arguments_edited text ours (args_view olds (rust.out-List l).items) ∙ ap arguments_of (map-map (edited_argument text ours) (arg_view olds) (rust.out-List l).items))
 
   abbrev SameListing : rust.List → rust.List → Type 0
   SameListing old new = erase_listing (list_view news new) ≡ edited_listing text ours (list_view olds old)
@@ -83,7 +139,7 @@ module _ (olds news text : List ℕ) (ours : Bool) where
     λ e. let both : listing tt (rust.out-List new).trailing (arguments_of (map fresh (rust.out-List new).items)) ≡ listing tt (rust.out-List old).trailing (arguments_of (map set (rust.out-List old).items))
         = sym (fresh_listing new) ∙ e ∙ set_listing old in
         let lists : arguments_of (map fresh (rust.out-List new).items) ≡ arguments_of (map set (rust.out-List old).items) = cc in
-        sym (list_of (map fresh (rust.out-List new).items)) ∙ ap argument_list lists ∙ list_of (map set (rust.out-List old).items),
+        sym (arguments_back (map fresh (rust.out-List new).items)) ∙ ap argument_list lists ∙ arguments_back (map set (rust.out-List old).items),
   )
 
   -- where the flags are equal, lists agree where their elements do
@@ -98,43 +154,3 @@ module _ (olds news text : List ℕ) (ours : Bool) where
       equal true false e = cc
       equal false true e = cc
       equal false false e = refl
-
--- ---- the same of statements
-
-stmts_of : {S : Type 0} (zs : List (Statement S)) → statement_list (statements_of zs) ≡ zs
-stmts_of [] = refl
-stmts_of (z ∷ zs) = ap (λ l. z ∷ l) (stmts_of zs)
-
-erased_stmts : {S : Type 0} (zs : List (Statement S)) → erase_statements (statements_of zs) ≡ statements_of (map erase_statement zs)
-erased_stmts [] = refl
-erased_stmts (z ∷ zs) = ap (λ l. statement (erase_statement z) l) (erased_stmts zs)
-
-edits_stmts : {S : Type 0} (text : List ℕ) (zs : List (Statement S)) → edited_statements text (statements_of zs) ≡ statements_of (map (edited_statement text) zs)
-edits_stmts text [] = refl
-edits_stmts text (z ∷ zs) = ap (λ l. statement (edited_statement text z) l) (edits_stmts text zs)
-
-module _ (olds news text : List ℕ) where
-  abbrev fresh_stmt : Stmt → Statement Nowhere
-  fresh_stmt s = erase_statement (stmt_view news s)
-
-  abbrev set_stmt : Stmt → Statement Nowhere
-  set_stmt s = edited_statement text (stmt_view olds s)
-
-  fresh_stmts : (xs : List Stmt) → erase_statements (statements_of (stmts_view news xs)) ≡ statements_of (map fresh_stmt xs)
-  fresh_stmts xs = erased_stmts (stmts_view news xs) ∙ ap statements_of (map-map erase_statement (stmt_view news) xs)
-
-  set_stmts : (xs : List Stmt) → edited_statements text (statements_of (stmts_view olds xs)) ≡ statements_of (map set_stmt xs)
-  set_stmts xs = edits_stmts text (stmts_view olds xs) ∙ ap statements_of (map-map (edited_statement text) (stmt_view olds) xs)
-
-  abbrev SameFile : Parsed → Parsed → Type 0
-  SameFile old new = erase (view news new) ≡ edited text (view olds old)
-
-  -- files agree where their statements do
-  pub files_decided : (old new : Parsed) (xs ys : List Stmt) (P : Type 0) → xs ≡ old.block.statements → ys ≡ new.block.statements →
-      (P ↔ (map fresh_stmt ys ≡ map set_stmt xs)) → P ↔ SameFile old new
-  files_decided old new xs ys P is_old is_new h = (
-    λ p. ap (λ l. file tt (block tt l)) (fresh_stmts new.block.statements ∙ ap statements_of (sym (ap (map fresh_stmt) is_new) ∙ h.0 p ∙ ap (map set_stmt) is_old) ∙ sym (set_stmts old.block.statements)),
-    λ e. let lists : erase_statements (statements_of (stmts_view news new.block.statements)) ≡ edited_statements text (statements_of (stmts_view olds old.block.statements)) = cc in
-        let maps : statements_of (map fresh_stmt new.block.statements) ≡ statements_of (map set_stmt old.block.statements) = sym (fresh_stmts new.block.statements) ∙ lists ∙ set_stmts old.block.statements in
-        h.1 (ap (map fresh_stmt) is_new ∙ sym (stmts_of (map fresh_stmt new.block.statements)) ∙ ap statement_list maps ∙ stmts_of (map set_stmt old.block.statements) ∙ sym (ap (map set_stmt) is_old)),
-  )

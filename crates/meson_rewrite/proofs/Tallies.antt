@@ -50,3 +50,22 @@ tally_of-joined view f g h e =
     tally_of-map view h ∙ ap (tally_map view) e ∙ tally_map-joined view (tally_of (λ x. x) f) (tally_of (λ x. x) g)
     ∙ ap (λ t. joined_tally t (tally_map view (tally_of (λ x. x) g))) (sym (tally_of-map view f))
     ∙ ap (λ t. joined_tally (tally_of view f) t) (sym (tally_of-map view g))
+
+-- two lists one after another
+pub joined_found : {X Y : Type 0} (view : X → Y) (f g h : Found X) (xs ys : List Y) → tally_of view f ≡ tally xs → tally_of view g ≡ tally ys →
+    tally_of (λ x. x) h ≡ joined_tally (tally_of (λ x. x) f) (tally_of (λ x. x) g) → tally_of view h ≡ tally (xs ++ ys)
+joined_found view f g h xs ys is_f is_g e =
+    tally_of-joined view f g h e ∙ ap (λ t. joined_tally t (tally_of view g)) is_f ∙ ap (joined_tally (tally xs)) is_g ∙ sym (tally-append xs ys)
+
+-- what two parts have, where each was looked at in place of an equal one
+module _ {X Y E : Type 0} (view : X → Y) (parts : E → List Y) where
+  pub of_both : (f g h : Found X) (d d' e e' : E) → tally_of view f ≡ tally (parts d') → d' ≡ d → tally_of view g ≡ tally (parts e') → e' ≡ e →
+      tally_of (λ x. x) h ≡ joined_tally (tally_of (λ x. x) f) (tally_of (λ x. x) g) → tally_of view h ≡ tally (parts d ++ parts e)
+  of_both f g h d d' e e' is_f same_d is_g same_e joins =
+      joined_found view f g h (parts d) (parts e) (is_f ∙ ap (λ z. tally (parts z)) same_d) (is_g ∙ ap (λ z. tally (parts z)) same_e) joins
+
+  pub of_three : (f g h i j : Found X) (c c' d d' e e' : E) → tally_of view f ≡ tally (parts c') → c' ≡ c → tally_of view g ≡ tally (parts d') → d' ≡ d →
+      tally_of view h ≡ tally (parts e') → e' ≡ e → tally_of (λ x. x) i ≡ joined_tally (tally_of (λ x. x) g) (tally_of (λ x. x) h) →
+      tally_of (λ x. x) j ≡ joined_tally (tally_of (λ x. x) f) (tally_of (λ x. x) i) → tally_of view j ≡ tally (parts c ++ (parts d ++ parts e))
+  of_three f g h i j c c' d d' e e' is_f same_c is_g same_d is_h same_e inner outer =
+      joined_found view f i j (parts c) (parts d ++ parts e) (is_f ∙ ap (λ z. tally (parts z)) same_c) (of_both g h i d d' e e' is_g same_d is_h same_e inner) outer

@@ -1,6 +1,7 @@
 -- What the code finds, as what it stands for over a source.
-use Rattle.std.specs.Prelude.{Result, Ok, Err}
-use Rattle.meson_rewrite.specs.Finding.{Tally, none, one, several}
+use Rattle.std.specs.Prelude.{ℕ, List, ◌++◌, Result, Ok, Err}
+use Rattle.meson_syntax.specs.Tree.{Expression, Listing, Block}
+use Rattle.meson_rewrite.specs.Finding.{Tally, none, one, several, calls_of, calls_in_block}
 use Rattle.meson_rewrite.specs.declared.tally.Found.{Found}
 use Rattle.meson_rewrite.specs.declared.tally.Found.TheVariants as found
 
@@ -22,3 +23,7 @@ joined_tally several found = several
 abbrev pub value_map : {X Y E : Type 0} → (X → Y) → Result X E → Result Y E
 value_map view (Ok x) = Ok (view x)
 value_map view (Err e) = Err e
+
+-- the calls in a condition, and then those in the block behind it
+abbrev pub calls_in_branch : {S : Type 0} → List ℕ → Expression S × Block S → List (Listing S)
+calls_in_branch name b = calls_of name b.0 ++ calls_in_block name b.1

@@ -4,6 +4,7 @@ pub mod Planned
 pub mod MemoryStore
 pub mod Finding
 pub mod Editing
+pub mod Comparing
 pub mod Lines
 pub mod Words
 pub mod Asked

@@ -28,14 +28,13 @@ fn place(expr: &Expr) -> Span
     ensures { (source : List ℕ) → result ≡ place (expr_view source expr.now) }
 {
     match expr {
-        Expr::Identifier(span) => *span,
-        Expr::String(span) => *span,
-        Expr::Array(list) => list.span,
-        Expr::Call {
-            span,
-            name: _,
-            arguments: _,
-        } => *span,
+        Expr::Identifier(span) | Expr::Integer(span) => *span,
+        Expr::Boolean { span, .. } | Expr::String { span, .. } => *span,
+        Expr::Paren { span, .. } => *span,
+        Expr::Array(list) | Expr::Dictionary(list) => list.span,
+        Expr::Call { span, .. } => *span,
+        Expr::Unary { span, .. } | Expr::Row { span, .. } => *span,
+        Expr::Postfix { span, .. } | Expr::Conditional { span, .. } => *span,
     }
 }
 

@@ -1,8 +1,10 @@
 //! Edits `meson.build` files in place: stores of named files, and the program over any of them.
 #![tactic(auto)]
 
+mod calls;
 mod committing;
 mod compare;
+mod compare_files;
 mod edit;
 mod find;
 mod folder;
@@ -10,10 +12,12 @@ mod lines;
 mod memory;
 mod program;
 mod refusal;
+mod same;
 mod stop;
 mod store;
 mod store_fault;
 mod tally;
+mod text;
 mod words;
 
 pub use committing::commit;

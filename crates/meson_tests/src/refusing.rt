@@ -79,7 +79,17 @@ fn refuses_and_leaves_the_file(rt: HostRuntime) {
         Refused {
             before: b"x = 1\n",
             id: "/",
-            line: "error: meson.build: S5 unexpected at 4\n",
+            line: "error: command 0: C1 no project\n",
+        },
+        Refused {
+            before: b"x.project('p', version: '1')\n",
+            id: "/",
+            line: "error: command 0: C1 no project\n",
+        },
+        Refused {
+            before: b"if a\n  project('p')\nelse\n  x = [{'a': project('q')}]\nendif\n",
+            id: "/",
+            line: "error: command 0: C3 ambiguous\n",
         },
         Refused {
             before: b"a b = 1\n",

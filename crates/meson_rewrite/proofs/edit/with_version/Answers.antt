@@ -1,11 +1,9 @@
-use Rattle.std.proofs.Common.{◌≡◌, ◌⊎◌, ◌∙◌, ◌<◌, ◌≤◌, length, sym, ap, subst, rules, List, ℕ}
-use Rattle.meson_syntax.specs.Reads.{max_len, Reads}
+use Rattle.std.proofs.Common.{◌∙◌, ◌<◌, ◌≤◌, length, sym, ap, subst, rules, List, ℕ}
+use Rattle.meson_syntax.specs.Reads.{max_len}
 use Rattle.meson_syntax.specs.View.{view, expr_view}
 use Rattle.meson_splice.specs.Files.{bytes_at}
-use Rattle.meson_rewrite.specs.declared.refusal.Refusal.TheVariants.{SelfCheck, TooLarge}
-use Rattle.meson_rewrite.specs.declared.stop.Stop.TheVariants.{Refused, Store}
-use Rattle.meson_rewrite.specs.declared.store_fault.StoreFault.TheVariants.{OutOfMemory}
-use Rattle.meson_rewrite.specs.Editing.{edited, patched}
+use Rattle.meson_rewrite.specs.declared.refusal.Refusal.TheVariants.{TooLarge}
+use Rattle.meson_rewrite.specs.Editing.{patched}
 use Rattle.meson_rewrite.specs.Found.{value_map}
 use Rattle.meson_rewrite.specs.Outcome.{Edits, IsRefused, StopsAt}
 use Rattle.meson_rewrite.specs.Project.{root_file}
