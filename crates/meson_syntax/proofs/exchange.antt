@@ -2,3 +2,4 @@ pub mod Brackets
 pub mod Nesting
 pub mod Items
 pub mod Lists
+pub mod ReadAgain

@@ -1,13 +1,15 @@
 -- The text of a list by itself, and the law that one may stand in the place of another.
-use Rattle.std.specs.Prelude.{◌≡◌, ℕ, List, [], ◌∷◌, ◌++◌, length, Some}
+use Rattle.std.specs.Str.{IsUtf8}
+use Rattle.std.specs.Prelude.{◌≡◌, ◌≤◌, ℕ, List, [], ◌∷◌, ◌++◌, length, Some}
 use Rattle.meson_lex.specs.declared.kinds.Span.{Span}
+use Rattle.meson_syntax.specs.declared.source.Limits.{Limits}
 use Rattle.meson_lex.specs.Items.{Lexeme, IsItemList}
 use Rattle.meson_lex.specs.Significant.{Word}
 use Rattle.meson_syntax.specs.declared.operator.Bracket.{Bracket}
 use Rattle.meson_syntax.specs.Operators.{opens, closes}
 use Rattle.meson_syntax.specs.Tree.{Listing, File, erase}
-use Rattle.meson_syntax.specs.Grammar.{LevelListing, LevelFile}
-use Rattle.meson_syntax.specs.Reads.{Spells, IsSpanned}
+use Rattle.meson_syntax.specs.Grammar.{LevelListing, LevelFile, file_depth}
+use Rattle.meson_syntax.specs.Reads.{Fits, Spells, ReadsWithin, IsSpannedWithin}
 use Rattle.meson_syntax.specs.Paths.{ListAt, list_at, list_span, inner_words}
 use Rattle.meson_syntax.specs.Places.{spoken}
 
@@ -23,10 +25,18 @@ pub record IsListText (text : List ℕ) (b : Bracket) (words : List Word) : Type
 
 -- Where the bytes of a list are exchanged for the text of another one, the new text spells the tree with the other list in that place.
 abbrev pub ListsExchange : Type 0
-ListsExchange = (bytes : List ℕ) (f : File Span) (s : IsSpanned bytes f) (path : List ℕ) (p : ListAt Span) → list_at f path ≡ Some p
+ListsExchange = (limits : Limits) (bytes : List ℕ) (f : File Span) (s : IsSpannedWithin limits bytes f) (path : List ℕ) (p : ListAt Span) → list_at f path ≡ Some p
     → (l : Listing Span) (text : List ℕ) → IsListText text p.bracket (inner_words l) → LevelFile (p.back l)
     → (front was back : List ℕ) → bytes ≡ front ++ (was ++ back) → length front ≡ (list_span p.list).from → length (front ++ was) ≡ (list_span p.list).to
     → Spells (front ++ (text ++ back)) (erase (p.back l))
+
+-- And it reads as that tree, where its length and its depth allow it and the other list's text is UTF-8.
+abbrev pub ListsReadAgain : Type 0
+ListsReadAgain = (limits : Limits) (bytes : List ℕ) (f : File Span) (s : IsSpannedWithin limits bytes f) (path : List ℕ) (p : ListAt Span) → list_at f path ≡ Some p
+    → (l : Listing Span) (text : List ℕ) → IsListText text p.bracket (inner_words l) → LevelFile (p.back l)
+    → (front was back : List ℕ) → bytes ≡ front ++ (was ++ back) → length front ≡ (list_span p.list).from → length (front ++ was) ≡ (list_span p.list).to
+    → IsUtf8 text → Fits limits.len (length (front ++ (text ++ back))) → file_depth (p.back l) ≤ limits.depth
+    → ReadsWithin limits (front ++ (text ++ back)) (erase (p.back l))
 
 -- The tree with the other list has its levels where the list has them.
 abbrev pub ListsLevel : Type 0

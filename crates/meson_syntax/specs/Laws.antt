@@ -1,10 +1,11 @@
 -- Laws of build files and their trees.
 use Rattle.std.specs.Prelude.{◌≡◌, ℕ, List, ◌++◌, Some}
 use Rattle.meson_lex.specs.declared.kinds.Span.{Span}
+use Rattle.meson_syntax.specs.declared.source.Limits.{Limits}
 use Rattle.meson_syntax.specs.Tree.{Listing, Block, File, Plain, erase}
 use Rattle.meson_syntax.specs.Grammar.{block_words, file_words, listing_words}
 use Rattle.meson_syntax.specs.Tree.{Nowhere}
-use Rattle.meson_syntax.specs.Reads.{Reads, IsSpanned}
+use Rattle.meson_syntax.specs.Reads.{Reads, IsSpanned, IsSpannedWithin}
 use Rattle.meson_syntax.specs.Paths.{of_block, Node, node_words, Hole, reach, block_of, ListAt, list_at}
 use Rattle.meson_syntax.specs.Places.{NodeStands, ListPlaces}
 
@@ -22,12 +23,12 @@ OneSpannedTree = (bytes : List ℕ) (f g : File Span) → IsSpanned bytes f → 
 
 -- Each expression and statement that a path names stands at its span: the items of the text are those left of it, its own, and those right of it.
 abbrev pub NodesStand : Type 0
-NodesStand = (bytes : List ℕ) (f : File Span) (s : IsSpanned bytes f) (path : List ℕ) (h : Hole Span (Block Span)) → reach Span of_block (block_of f) path ≡ Some h
+NodesStand = (limits : Limits) (bytes : List ℕ) (f : File Span) (s : IsSpannedWithin limits bytes f) (path : List ℕ) (h : Hole Span (Block Span)) → reach Span of_block (block_of f) path ≡ Some h
     → NodeStands s.reads.spells.items h.sort h.inside h.before h.behind
 
 -- So does each list, and within it each element.
 abbrev pub ListsStand : Type 0
-ListsStand = (bytes : List ℕ) (f : File Span) (s : IsSpanned bytes f) (path : List ℕ) (p : ListAt Span) → list_at f path ≡ Some p → ListPlaces s.reads.spells.items p
+ListsStand = (limits : Limits) (bytes : List ℕ) (f : File Span) (s : IsSpannedWithin limits bytes f) (path : List ℕ) (p : ListAt Span) → list_at f path ≡ Some p → ListPlaces s.reads.spells.items p
 
 -- The words of a node with another one in a hole are those before the hole, of the other one, and behind the hole.
 abbrev pub HolesFit : Type 0

@@ -1,6 +1,6 @@
 -- Operators, brackets and kinds of strings: the tokens that write them, and how tightly they bind.
 -- Meson manual, Syntax: the grammar's rules for logical, relational, additive and multiplicative expressions, and for strings.
-use Rattle.std.specs.Prelude.{ℕ, Bool, true, false, List, [], ◌∷◌, Option, Some, None}
+use Rattle.std.specs.Prelude.{ℕ, Bool, true, false, List, [], ◌∷◌}
 use Rattle.meson_lex.specs.declared.kinds.Kind.{Kind}
 use Rattle.meson_lex.specs.declared.kinds.Kind.TheVariants as k
 use Rattle.meson_syntax.specs.declared.operator.Operator.{Operator}

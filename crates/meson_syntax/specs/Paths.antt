@@ -10,8 +10,8 @@ use Rattle.meson_lex.specs.declared.kinds.Kind.{Kind}
 use Rattle.meson_syntax.specs.declared.operator.Bracket.{Bracket}
 use Rattle.meson_syntax.specs.declared.operator.Bracket.TheVariants as bracket
 use Rattle.meson_syntax.specs.Operators.{unary_kind, assignment_kind, opens, closes}
-use Rattle.meson_syntax.specs.Tree.{Expression, identifier, boolean, integer, string, paren, array, dictionary, call, unary, row, postfix, conditional, Operands, no_operands, operand, Tail, method, index, Tails, no_tails, tail, Listing, listing, Argument, plain, named, pair, Arguments, no_arguments, argument, Statement, evaluate, assign, selection, iteration, breaks, continues, Branches, no_branches, branch, Otherwise, nothing_else, otherwise, Statements, no_statements, statement, Block, block, File, file}
-use Rattle.meson_syntax.specs.Grammar.{mark, names_words, comma_words, operator_words, expression_words, operands_words, tail_words, tails_words, listing_words, argument_words, arguments_words, statement_words, branches_words, otherwise_words, statements_words, block_words}
+use Rattle.meson_syntax.specs.Tree.{Expression, paren, array, dictionary, call, unary, row, postfix, conditional, Operands, no_operands, operand, Tail, method, index, Tails, no_tails, tail, Listing, listing, Argument, plain, named, pair, Arguments, no_arguments, argument, Statement, evaluate, assign, selection, iteration, breaks, continues, Branches, no_branches, branch, Otherwise, nothing_else, otherwise, Statements, no_statements, statement, Block, block, File, file}
+use Rattle.meson_syntax.specs.Grammar.{mark, names_words, comma_words, operator_words, expression_words, operands_words, tail_words, tails_words, argument_words, arguments_words, statement_words, branches_words, otherwise_words, statements_words, block_words}
 
 -- what a path may name
 pub data Sort : Type 0 where

@@ -1,5 +1,5 @@
 -- Reading a text that is one list, like `Reading`. No public contract names it.
-use Rattle.std.specs.Prelude.{ℕ, Bool, true, false, if◌then◌else◌, ◌==◌, ◌&&◌, List, Option, Some, None}
+use Rattle.std.specs.Prelude.{ℕ, Bool, if◌then◌else◌, ◌==◌, ◌&&◌, List, Option, Some, None}
 use Rattle.meson_lex.specs.declared.kinds.Span.{Span}
 use Rattle.meson_lex.specs.Located.{Token}
 use Rattle.meson_syntax.specs.declared.operator.Bracket.{Bracket}

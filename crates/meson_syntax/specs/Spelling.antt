@@ -1,6 +1,6 @@
 -- Which located tokens spell a tree, and where its nodes stand: a grammar, from trees to tokens.
 -- A node goes from its first token to its last, a list from bracket to bracket.
-use Rattle.std.specs.Prelude.{◌≡◌, ℕ, suc, ◌+◌, ◌<◌, ◌≤◌, Bool, true, false, List, [], ◌∷◌, ◌++◌, ⊤}
+use Rattle.std.specs.Prelude.{◌≡◌, ℕ, suc, ◌+◌, ◌<◌, ◌≤◌, Bool, true, false, List, [], ◌∷◌, ◌++◌}
 use Rattle.meson_lex.specs.declared.kinds.Kind.{Kind}
 use Rattle.meson_lex.specs.declared.kinds.Kind.TheVariants as k
 use Rattle.meson_lex.specs.declared.kinds.Span.{Span}
@@ -9,7 +9,7 @@ use Rattle.meson_syntax.specs.declared.operator.Bracket.{Bracket}
 use Rattle.meson_syntax.specs.declared.operator.Bracket.TheVariants as bracket
 use Rattle.meson_syntax.specs.Operators.{operator_kind, operator_rest, unary_kind, string_kind, boolean_kind, assignment_kind, opens, closes, holds_values, holds_names, holds_pairs, level}
 use Rattle.meson_syntax.specs.Tree.{Expression, identifier, boolean, integer, string, paren, array, dictionary, call, unary, row, postfix, conditional, Operands, no_operands, operand, Tail, method, index, Tails, no_tails, tail, Listing, listing, Argument, plain, named, pair, is_named, Arguments, no_arguments, argument, Statement, evaluate, assign, selection, iteration, breaks, continues, Branches, no_branches, branch, Otherwise, nothing_else, otherwise, Statements, no_statements, statement, Block, block, File, file}
-use Rattle.meson_syntax.specs.Grammar.{looseness, row_level, HasOperand, HasTail, HasBranch, HasName, Flagged}
+use Rattle.meson_syntax.specs.Grammar.{looseness, row_level, HasOperand, HasTail, HasBranch, Flagged}
 
 -- where the last token ends
 abbrev pub end_of : ℕ → List Token → ℕ

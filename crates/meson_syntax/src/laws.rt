@@ -1,6 +1,6 @@
 //! Laws of build files and their trees. The functions do nothing: what they ensure is the law.
 
-ghost use Rattle.meson_syntax.specs.Exchange.{ListsExchange, ListsLevel};
+ghost use Rattle.meson_syntax.specs.Exchange.{ListsExchange, ListsLevel, ListsReadAgain};
 ghost use Rattle.meson_syntax.specs.Laws.{HasSpans, HolesFit, ListsFit, ListsStand, NodesStand, OneSpannedTree, OneTree};
 
 /// A text reads as at most one tree, whose nodes stand in it in one way.
@@ -23,8 +23,10 @@ pub fn holes()
     ensures lists_fit { ListsFit }
 {}
 
-/// A list's bytes may be exchanged for the text of another list: the new text spells the tree with the other list in that place.
+/// A list's bytes may be exchanged for the text of another list: the new text spells the tree with the other list in that place,
+/// and reads as that tree where its length and its depth allow it.
 pub fn exchange()
     ensures lists_exchange { ListsExchange }
+    ensures lists_read_again { ListsReadAgain }
     ensures lists_level { ListsLevel }
 {}

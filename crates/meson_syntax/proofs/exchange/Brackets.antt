@@ -25,7 +25,7 @@ open-bracket bracket.Round = record { byte = 40; is_text = λ text h. h; no_retu
 open-bracket bracket.Square = record { byte = 91; is_text = λ text h. h; no_return = refl; stands = λ text rest. tt; is_role = refl; drops = λ text. refl }
 open-bracket bracket.Curly = record { byte = 123; is_text = λ text h. h; no_return = refl; stands = λ text rest. tt; is_role = refl; drops = λ text. refl }
 
-pub close-bracket : (b : Bracket) → IsBracket (closes b) Closes
+unfoldable pub close-bracket : (b : Bracket) → IsBracket (closes b) Closes
 close-bracket bracket.Round = record { byte = 41; is_text = λ text h. h; no_return = refl; stands = λ text rest. tt; is_role = refl; drops = λ text. refl }
 close-bracket bracket.Square = record { byte = 93; is_text = λ text h. h; no_return = refl; stands = λ text rest. tt; is_role = refl; drops = λ text. refl }
 close-bracket bracket.Curly = record { byte = 125; is_text = λ text h. h; no_return = refl; stands = λ text rest. tt; is_role = refl; drops = λ text. refl }

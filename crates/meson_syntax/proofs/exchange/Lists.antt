@@ -1,6 +1,7 @@
 -- A list's bytes exchanged for the text of another list: the new text spells the tree with the other list in that place.
 use Rattle.std.proofs.Common.{◌≡◌, ℕ, List, [], ◌∷◌, ◌++◌, length, Some, refl, sym, ap, ap₂, subst, ◌∙◌, append_assoc, length-append, arith}
 use Rattle.meson_lex.specs.declared.kinds.Span.{Span}
+use Rattle.meson_syntax.specs.declared.source.Limits.{Limits}
 use Rattle.meson_lex.specs.Items.{Lexeme, joined, AreItems}
 use Rattle.meson_lex.specs.Significant.{Opens, Closes, State, start, after, emitted, closing, significant}
 use Rattle.meson_lex.proofs.Seams.{joined-append}
@@ -8,7 +9,7 @@ use Rattle.meson_syntax.specs.declared.operator.Bracket.{Bracket}
 use Rattle.meson_syntax.specs.Operators.{opens, closes}
 use Rattle.meson_syntax.specs.Tree.{Listing, listing, File, erase}
 use Rattle.meson_syntax.specs.Grammar.{mark, listing_words, file_words, LevelFile}
-use Rattle.meson_syntax.specs.Reads.{Spells, IsSpanned}
+use Rattle.meson_syntax.specs.Reads.{Spells, IsSpannedWithin}
 use Rattle.meson_syntax.specs.Paths.{ListAt, list_at, list_span, inner_words}
 use Rattle.meson_syntax.specs.Places.{spoken, ListStands}
 use Rattle.meson_syntax.specs.Exchange.{IsListText}
@@ -43,19 +44,19 @@ joined-three left own right = joined-append left (own ++ right) ∙ ap (λ t. jo
 own-first : (o : Lexeme) (inner : List Lexeme) (c : Lexeme) (right : List Lexeme) → listed o inner c right ≡ listed o inner c [] ++ right
 own-first o inner c right = ap (λ l. o ∷ l) (sym (append_assoc inner (c ∷ []) right))
 
-joined-list : (left : List Lexeme) (o : Lexeme) (inner : List Lexeme) (c : Lexeme) (right : List Lexeme)
+pub joined-list : (left : List Lexeme) (o : Lexeme) (inner : List Lexeme) (c : Lexeme) (right : List Lexeme)
     → joined (left ++ listed o inner c right) ≡ joined left ++ (joined (listed o inner c []) ++ joined right)
 joined-list left o inner c right = ap (λ l. joined (left ++ l)) (own-first o inner c right) ∙ joined-three left (listed o inner c []) right
 
-module _ (bytes : List ℕ) (f : File Span) (s : IsSpanned bytes f) (path : List ℕ) (p : ListAt Span) (is : list_at f path ≡ Some p) where
-  place : ListStands s.reads.spells.items p
-  place = (lists-stand bytes f s path p is).list
+module _ (limits : Limits) (bytes : List ℕ) (f : File Span) (s : IsSpannedWithin limits bytes f) (path : List ℕ) (p : ListAt Span) (is : list_at f path ≡ Some p) where
+  pub place : ListStands s.reads.spells.items p
+  place = (lists-stand limits bytes f s path p is).list
 
   fits : ListFits Span f p
   fits = list-fits Span f path p is
 
   -- the parts of the text that the list's span cuts out are the texts of the items
-  cut-is : (front was back : List ℕ) → bytes ≡ front ++ (was ++ back) → length front ≡ (list_span p.list).from → length (front ++ was) ≡ (list_span p.list).to
+  pub cut-is : (front was back : List ℕ) → bytes ≡ front ++ (was ++ back) → length front ≡ (list_span p.list).from → length (front ++ was) ≡ (list_span p.list).to
       → (front ≡ joined place.left) × (back ≡ joined place.right)
   cut-is front was back parts from to =
       let own = listed place.open_item place.inner place.close_item [] in
@@ -121,10 +122,10 @@ module _ (bytes : List ℕ) (f : File Span) (s : IsSpanned bytes f) (path : List
       level = subst (λ A. A) (sym (file-level-erased (p.back l))) level;
     }
 
-pub lists-exchange : (bytes : List ℕ) (f : File Span) (s : IsSpanned bytes f) (path : List ℕ) (p : ListAt Span) → list_at f path ≡ Some p
+pub lists-exchange : (limits : Limits) (bytes : List ℕ) (f : File Span) (s : IsSpannedWithin limits bytes f) (path : List ℕ) (p : ListAt Span) → list_at f path ≡ Some p
     → (l : Listing Span) (text : List ℕ) → IsListText text p.bracket (inner_words l) → LevelFile (p.back l)
     → (front was back : List ℕ) → bytes ≡ front ++ (was ++ back) → length front ≡ (list_span p.list).from → length (front ++ was) ≡ (list_span p.list).to
     → Spells (front ++ (text ++ back)) (erase (p.back l))
-lists-exchange bytes f s path p is l text t level front was back parts from to =
-    let cut = cut-is bytes f s path p is front was back parts from to in
-    exchanged bytes f s path p is l text t level front back cut.0 cut.1
+lists-exchange limits bytes f s path p is l text t level front was back parts from to =
+    let cut = cut-is limits bytes f s path p is front was back parts from to in
+    exchanged limits bytes f s path p is l text t level front back cut.0 cut.1

@@ -1,5 +1,5 @@
 -- What the plain parser's answer on the tokens of a source says of the list that the source is.
-use Rattle.std.proofs.Common.{◌≡◌, ◌≢◌, ℕ, List, [], ◌∷◌, ◌++◌, length, Some, None, ◌⊎◌, inl, inr, refl, sym, ap, subst, ◌∙◌, arith}
+use Rattle.std.proofs.Common.{◌≡◌, ◌≢◌, ℕ, List, [], ◌∷◌, ◌++◌, length, Some, None, inl, inr, refl, sym, ap, subst, ◌∙◌, arith}
 use Rattle.std.specs.Prelude.{Result, Ok, Err, IfOk, IfErr, take}
 use Rattle.meson_lex.specs.declared.kinds.Span.{Span}
 use Rattle.meson_lex.specs.Items.{Lexeme, joined, IsItemList}
@@ -15,7 +15,6 @@ use Rattle.meson_syntax.specs.Tree.{Nowhere, Listing, listing, erase_listing}
 use Rattle.meson_syntax.specs.View.{list_view}
 use Rattle.meson_syntax.specs.Input.{GivesAll}
 use Rattle.meson_syntax.specs.Nests.{IsGrammatical}
-use Rattle.meson_syntax.specs.Grammar.{LevelListing, listing_depth}
 use Rattle.meson_syntax.specs.Spelling.{SpellsListing}
 use Rattle.meson_syntax.specs.Paths.{inner_words}
 use Rattle.meson_syntax.specs.ReadingLists.{whole_list}

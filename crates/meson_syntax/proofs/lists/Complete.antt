@@ -1,10 +1,10 @@
 -- What a text reads as, as one list, is read.
-use Rattle.std.proofs.Common.{◌≡◌, ℕ, ◌+◌, Bool, true, false, List, [], ◌∷◌, ◌++◌, length, Some, refl, sym, ap, ap₂, subst, ◌∙◌, append_assoc, length-append, arith, rules}
+use Rattle.std.proofs.Common.{◌≡◌, ℕ, ◌+◌, Bool, true, false, List, [], ◌∷◌, ◌++◌, length, Some, refl, sym, ap, ◌∙◌, length-append, arith, rules}
 use Rattle.std.specs.Prelude.{◌==◌, ◌&&◌}
 use Rattle.meson_lex.specs.declared.kinds.Span.{Span}
 use Rattle.meson_lex.specs.Items.{Lexeme, joined, IsItemList}
 use Rattle.meson_lex.specs.Significant.{Role, Gap, Ends, Opens, Closes, Other, role, State, start, step, after, emitted, ends_line, only_if}
-use Rattle.meson_lex.specs.Located.{Token, words, line_end_at, token_at, spot_by, end_by, spots, end_after, closing_at, located}
+use Rattle.meson_lex.specs.Located.{line_end_at, token_at, spot_by, end_by, spots, end_after, closing_at, located}
 use Rattle.meson_lex.proofs.OneList.{one_list}
 use Rattle.meson_lex.proofs.TokenWords.{words-spots}
 use Rattle.meson_syntax.specs.declared.operator.Bracket.{Bracket}
@@ -12,11 +12,10 @@ use Rattle.meson_syntax.specs.Operators.{opens, closes}
 use Rattle.meson_syntax.specs.Tree.{Nowhere, Listing, erase_listing}
 use Rattle.meson_syntax.specs.Grammar.{mark, listing_words}
 use Rattle.meson_syntax.specs.Input.{Input, sees}
-use Rattle.meson_syntax.specs.Spelling.{end_of, Covers, SpellsListing}
-use Rattle.meson_syntax.specs.Paths.{list_span, inner_words}
+use Rattle.meson_syntax.specs.Spelling.{end_of, SpellsListing}
+use Rattle.meson_syntax.specs.Paths.{list_span}
 use Rattle.meson_syntax.specs.Places.{spoken}
 use Rattle.meson_syntax.specs.ReadsList.{ReadsList, list_items}
-use Rattle.meson_syntax.specs.Reading.{room, expression, listed}
 use Rattle.meson_syntax.specs.ReadingLists.{bracketed, list_of, whole_list}
 use Rattle.meson_syntax.proofs.parsing.Steps.{Passes, end_of-append}
 use Rattle.meson_syntax.proofs.parsing.Splits.{yes-at, yes-sees}
@@ -93,7 +92,9 @@ whole_list-complete source items are b p r =
     let n = last-end 0 0 (o ∷ t.inner) c (ap role t.is_close ∙ closes-role b) in
     let m = ap length t.are_items.joins in
     let last = covers-end (list_span l) used cover ∙ ap (λ xs. end_of 0 (spots start 0 0 xs)) (sym is) ∙ end-spots start 0 0 own in
-    let to : (list_span l).to ≡ length source = omega arith in
-    (l, placed.1,
-    ap (list_of (length source)) (yes-at (sees (opens b) i) _ _ i _ begins read)
-    ∙ rw (covers-yes (list_span l).from (list_span l).to (length source) from to) refl)
+    let to : (list_span l).to ≡ length source = omega arith in (
+      l,
+      placed.1,
+      ap (list_of (length source)) (yes-at (sees (opens b) i) _ _ i _ begins read)
+          ∙ rw (covers-yes (list_span l).from (list_span l).to (length source) from to) refl,
+    )

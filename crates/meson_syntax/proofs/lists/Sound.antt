@@ -1,9 +1,9 @@
 -- What is read as a list that is all of a text is that text's list.
-use Rattle.std.proofs.Common.{◌≡◌, ℕ, ◌+◌, Bool, true, false, cond, List, [], ◌∷◌, ◌++◌, length, Option, Some, None, inl, inr, refl, sym, ap, ap₂, subst, ◌∙◌, append_assoc, length-append, arith, rules}
+use Rattle.std.proofs.Common.{◌≡◌, ℕ, Bool, true, false, cond, List, [], ◌∷◌, ◌++◌, length, Some, None, inl, inr, refl, sym, ap, ap₂, subst, ◌∙◌, append_assoc, length-append, arith, rules}
 use Rattle.std.specs.Prelude.{◌==◌, ◌&&◌}
 use Rattle.std.proofs.lemmas.List.{append-nil}
 use Rattle.meson_lex.specs.declared.kinds.Span.{Span}
-use Rattle.meson_lex.specs.Items.{Lexeme, joined, IsItem, IsItemList, AreItems}
+use Rattle.meson_lex.specs.Items.{Lexeme, joined, IsItemList, AreItems}
 use Rattle.meson_lex.specs.Significant.{start, step, after}
 use Rattle.meson_lex.specs.Located.{Token, words, spots, end_after, closing_at, located}
 use Rattle.meson_lex.proofs.ScanItems.{no_empty}
@@ -11,13 +11,12 @@ use Rattle.meson_lex.proofs.TokenWords.{words-spots}
 use Rattle.meson_lex.specs.Kinds.{OfKind}
 use Rattle.meson_syntax.specs.declared.operator.Bracket.{Bracket}
 use Rattle.meson_syntax.specs.Operators.{opens, closes}
-use Rattle.meson_syntax.specs.Tree.{Listing, erase_listing}
-use Rattle.meson_syntax.specs.Input.{Input, Outcome, Parser, sees}
-use Rattle.meson_syntax.specs.Spelling.{Covers, SpellsListing}
+use Rattle.meson_syntax.specs.Tree.{Listing}
+use Rattle.meson_syntax.specs.Input.{Input, Outcome, sees}
+use Rattle.meson_syntax.specs.Spelling.{SpellsListing}
 use Rattle.meson_syntax.specs.Paths.{list_span, inner_words}
 use Rattle.meson_syntax.specs.Places.{spoken}
 use Rattle.meson_lex.proofs.Seams.{AreItems-split}
-use Rattle.meson_syntax.specs.Reading.{room, expression, listed}
 use Rattle.meson_syntax.specs.ReadingLists.{bracketed, covers_all, list_of, whole_list}
 use Rattle.meson_syntax.proofs.parsing.Steps.{Passes, chosen_at, some-injective}
 use Rattle.meson_syntax.proofs.parsing.SoundRows.{listed-sound}

@@ -34,7 +34,7 @@ use Rattle.meson_syntax.proofs.parsing.FileErased.{file-words-erased, file-level
 use Rattle.meson_syntax.proofs.parsing.FilePlacing.{place-file}
 
 -- items have no fault among them
-no-fault : (at : ℕ) (xs : List Lexeme) (front : List (Result Item LexFault)) (fault : LexFault) → placed at xs ≡ front ++ Err fault ∷ [] → ⊥
+pub no-fault : (at : ℕ) (xs : List Lexeme) (front : List (Result Item LexFault)) (fault : LexFault) → placed at xs ≡ front ++ Err fault ∷ [] → ⊥
 no-fault at [] [] fault e = absurd cc
 no-fault at [] (r ∷ front) fault e = absurd cc
 no-fault at (x ∷ xs) [] fault e = absurd cc

@@ -1,5 +1,5 @@
 -- What spells a file are its words.
-use Rattle.std.proofs.Common.{◌≡◌, ℕ, List, [], ◌∷◌, ◌++◌, refl, ap, ap₂, ◌∙◌}
+use Rattle.std.proofs.Common.{◌≡◌, ℕ, List, [], ◌∷◌, refl, ap, ap₂, ◌∙◌}
 use Rattle.meson_lex.specs.declared.kinds.Kind.{Kind}
 use Rattle.meson_lex.specs.declared.kinds.Kind.TheVariants as k
 use Rattle.meson_lex.specs.declared.kinds.Span.{Span}
@@ -8,7 +8,7 @@ use Rattle.meson_lex.specs.Located.{Token, word_of, words}
 use Rattle.meson_syntax.specs.Operators.{assignment_kind}
 use Rattle.meson_syntax.specs.Tree.{Statement, evaluate, assign, selection, iteration, breaks, continues, Branches, no_branches, branch, Otherwise, nothing_else, otherwise, Statements, no_statements, statement, Block, block, File, file}
 use Rattle.meson_syntax.specs.Spelling.{NewLine, SaysMoreNames, SaysNames, SpellsStatement, SpellsBranches, SpellsOtherwise, SpellsStatements, SpellsBlock, SpellsFile}
-use Rattle.meson_syntax.specs.Grammar.{mark, more_names_words, names_words, expression_words, statement_words, branches_words, otherwise_words, statements_words, block_words, file_words}
+use Rattle.meson_syntax.specs.Grammar.{more_names_words, names_words, statement_words, branches_words, otherwise_words, statements_words, block_words, file_words}
 use Rattle.meson_syntax.proofs.parsing.Marks.{assignment-drops}
 use Rattle.meson_syntax.proofs.parsing.Words.{says-words, one-words, then-words, expression-words}
 

@@ -1,5 +1,5 @@
 -- What is refused before the grammar is asked has no tree, and one fault.
-use Rattle.std.proofs.Common.{◌≡◌, ◌≢◌, ℕ, ◌+◌, ◌⊎◌, inl, inr, List, [], ◌∷◌, ◌++◌, length, refl, sym, ap, subst, arith}
+use Rattle.std.proofs.Common.{◌≡◌, ◌≢◌, ℕ, ◌+◌, ◌⊎◌, inl, inr, List, [], ◌∷◌, ◌++◌, length, refl, sym, ap, subst}
 use Rattle.std.specs.Prelude.{Result, Ok, Err, IfErr}
 use Rattle.meson_lex.specs.declared.fault.LexFault.{LexFault}
 use Rattle.meson_lex.specs.Items.{Lexeme, IsItemList}
@@ -15,7 +15,7 @@ use Rattle.meson_syntax.specs.Gathering.{IsFaulty}
 use Rattle.meson_syntax.specs.Input.{GivesAll}
 use Rattle.meson_syntax.specs.Nests.{IsGrammatical}
 use Rattle.meson_syntax.specs.ReadingFiles.{whole}
-use Rattle.meson_syntax.specs.Reads.{Fits, Exceeds, IsSourceWithin, ReadsWithin, IsUnreadableWithin, HasNoTreeWithin, MayRefuseWithin, Is, Refuses}
+use Rattle.meson_syntax.specs.Reads.{IsSourceWithin, ReadsWithin, IsUnreadableWithin, HasNoTreeWithin, MayRefuseWithin, Is, Refuses}
 use Rattle.meson_syntax.specs.declared.source.Limits.{Limits}
 use Rattle.meson_syntax.specs.Reads.{too_large, not_utf8, marked, lexical}
 use Rattle.meson_syntax.proofs.parsing.Answers.{not-both, readable, gives-refused}

@@ -6,13 +6,12 @@ use Rattle.meson_lex.specs.declared.kinds.Span.{Span}
 use Rattle.meson_lex.specs.Significant.{Word, kept}
 use Rattle.meson_lex.specs.Located.{Token, word_of, words}
 use Rattle.meson_lex.proofs.TokenWords.{words-append}
-use Rattle.meson_syntax.specs.declared.operator.Operator.{Operator}
 use Rattle.meson_syntax.specs.declared.operator.Bracket.{Bracket}
 use Rattle.meson_syntax.specs.declared.operator.Bracket.TheVariants as bracket
 use Rattle.meson_syntax.specs.Operators.{operator_kind, operator_rest, unary_kind, string_kind, boolean_kind, opens, closes}
 use Rattle.meson_syntax.specs.Tree.{Expression, identifier, boolean, integer, string, paren, array, dictionary, call, unary, row, postfix, conditional, Operands, no_operands, operand, Tail, method, index, Tails, no_tails, tail, Listing, listing, Argument, plain, named, pair, is_named, Arguments, no_arguments, argument}
 use Rattle.meson_syntax.specs.Spelling.{One, Says, Then, Each, Comma, SpellsExpression, SpellsOperands, SpellsTail, SpellsTails, SpellsListing, SpellsArguments, SpellsArgument}
-use Rattle.meson_syntax.specs.Grammar.{mark, comma_words, operator_words, expression_words, operands_words, tail_words, tails_words, listing_words, argument_words, arguments_words}
+use Rattle.meson_syntax.specs.Grammar.{mark, comma_words, expression_words, operands_words, tail_words, tails_words, listing_words, argument_words, arguments_words}
 use Rattle.meson_syntax.proofs.parsing.Marks.{Drop, string-keeps, boolean-drops, unary-drops, opens-drops, closes-drops, operator-drops, rest-drops}
 
 -- ---- steps

@@ -1,6 +1,6 @@
 -- The children of expressions fit into them.
 use Rattle.std.specs.Prelude.{⊤}
-use Rattle.std.proofs.Common.{◌≡◌, ℕ, ◌+◌, ◌<◌, ◌≤◌, Bool, true, false, List, [], ◌∷◌, ◌++◌, refl, ap, ap₂, sym, subst, ◌∙◌, append_assoc, arith}
+use Rattle.std.proofs.Common.{◌≡◌, ℕ, ◌+◌, ◌<◌, Bool, false, List, [], ◌∷◌, ◌++◌, refl, ap, sym, subst, ◌∙◌, append_assoc, arith}
 use Rattle.std.proofs.lemmas.List.{append-nil}
 use Rattle.meson_lex.specs.declared.kinds.Kind.TheVariants as k
 use Rattle.meson_lex.specs.Significant.{Word}
@@ -9,7 +9,7 @@ use Rattle.meson_syntax.specs.declared.operator.Bracket.TheVariants as bracket
 use Rattle.meson_syntax.specs.Operators.{opens, closes, unary_kind}
 use Rattle.meson_syntax.specs.Tree.{Expression, identifier, boolean, integer, string, paren, array, dictionary, call, unary, row, postfix, conditional, Operands, no_operands, operand, Tail, method, index, Tails, no_tails, tail, Listing, listing, Argument, plain, named, pair, is_named, Arguments, no_arguments, argument}
 use Rattle.meson_syntax.specs.Grammar.{mark, comma_words, operator_words, expression_words, operands_words, tail_words, tails_words, listing_words, argument_words, arguments_words, looseness, row_level, HasOperand, HasTail, Flagged, LevelExpression, LevelOperands, LevelTail, LevelTails, LevelListing, LevelArgument, LevelArguments}
-use Rattle.meson_syntax.specs.Paths.{Hole, around, all_around, expression_in, argument_children, arguments_children, listing_children, operands_children, tail_children, tails_children, expression_children}
+use Rattle.meson_syntax.specs.Paths.{Hole, all_around, argument_children, arguments_children, listing_children, operands_children, tail_children, tails_children, expression_children}
 use Rattle.meson_syntax.proofs.paths.Every.{Every, every-append, every-around}
 use Rattle.meson_syntax.proofs.paths.Fits.{Fits, around-fits}
 
@@ -70,33 +70,45 @@ module _ (S : Type 0) where
   -- ---- lists
 
   argument-fits : (a : Argument S) (b : Bracket) (seen : Bool) → Every (FitsArgument a b seen) (argument_children a)
-  argument-fits (plain e) b seen = (record {
-    same = refl;
-    put = λ y. sym (append-nil (expression_words y));
-    like = λ y. refl;
-    inside = λ l. l.2;
-    outside = λ l y t ly. (l.0, l.1, ly);
-  }, tt)
-  argument-fits (named s x e) b seen = (record {
-    same = refl;
-    put = λ y. ap (λ w. (k.Identifier, x) ∷ (mark k.Colon ++ w)) (sym (append-nil (expression_words y)));
-    like = λ y. refl;
-    inside = λ l. l.1;
-    outside = λ l y t ly. (l.0, ly);
-  }, tt)
-  argument-fits (pair s e f) b seen = (record {
-    same = refl;
-    put = λ y. refl;
-    like = λ y. refl;
-    inside = λ l. l.1;
-    outside = λ l y t ly. (l.0, ly, l.2);
-  }, (record {
-    same = refl;
-    put = λ y. regroup (expression_words e) (mark k.Colon) (expression_words y);
-    like = λ y. refl;
-    inside = λ l. l.2;
-    outside = λ l y t ly. (l.0, l.1, ly);
-  }, tt))
+  argument-fits (plain e) b seen = (
+    record {
+      same = refl;
+      put = λ y. sym (append-nil (expression_words y));
+      like = λ y. refl;
+      inside = λ l. l.2;
+      outside = λ l y t ly. (l.0, l.1, ly);
+    },
+    tt,
+  )
+  argument-fits (named s x e) b seen = (
+    record {
+      same = refl;
+      put = λ y. ap (λ w. (k.Identifier, x) ∷ (mark k.Colon ++ w)) (sym (append-nil (expression_words y)));
+      like = λ y. refl;
+      inside = λ l. l.1;
+      outside = λ l y t ly. (l.0, ly);
+    },
+    tt,
+  )
+  argument-fits (pair s e f) b seen = (
+    record {
+      same = refl;
+      put = λ y. refl;
+      like = λ y. refl;
+      inside = λ l. l.1;
+      outside = λ l y t ly. (l.0, ly, l.2);
+    },
+    (
+      record {
+        same = refl;
+        put = λ y. regroup (expression_words e) (mark k.Colon) (expression_words y);
+        like = λ y. refl;
+        inside = λ l. l.2;
+        outside = λ l y t ly. (l.0, l.1, ly);
+      },
+      tt,
+    ),
+  )
 
   arguments-fit : (list : Arguments S) (trailing : Bool) (b : Bracket) (seen : Bool) → Every (FitsArguments list trailing b seen) (arguments_children list trailing)
   arguments-fit no_arguments trailing b seen = tt
@@ -126,17 +138,20 @@ module _ (S : Type 0) where
 
   operands-fit : (os : Operands S) (n : ℕ) → Every (FitsOperands os n) (operands_children os)
   operands-fit no_operands n = tt
-  operands-fit (operand o e more) n = (record {
-    same = refl;
-    put = λ y. refl;
-    like = λ y. record { level = refl; some = λ h. tt };
-    inside = λ l. l.2;
-    outside = λ l y t ly. (l.0, omega (arith, l.1, t), ly, l.3);
-  }, every-around (FitsOperands more n) (FitsOperands (operand o e more) n) (operator_words o ++ expression_words e) [] (operand o e)
-      (λ h f. around-fits S (Operands S) (Operands S) operands_words operands_words (λ x. LevelOperands x n) (λ x. LevelOperands x n) LikeOperands LikeOperands
-      (operator_words o ++ expression_words e) [] (operand o e) more
-      (λ z like. regroup (operator_words o) (expression_words e) (operands_words z)) (λ z like. record { level = refl; some = λ h. tt }) (λ l. l.3) (λ l z like lz. (l.0, l.1, l.2, lz)) h f)
-      (operands_children more) (operands-fit more n))
+  operands-fit (operand o e more) n = (
+    record {
+      same = refl;
+      put = λ y. refl;
+      like = λ y. record { level = refl; some = λ h. tt };
+      inside = λ l. l.2;
+      outside = λ l y t ly. (l.0, omega (arith, l.1, t), ly, l.3);
+    },
+    every-around (FitsOperands more n) (FitsOperands (operand o e more) n) (operator_words o ++ expression_words e) [] (operand o e)
+        (λ h f. around-fits S (Operands S) (Operands S) operands_words operands_words (λ x. LevelOperands x n) (λ x. LevelOperands x n) LikeOperands LikeOperands
+        (operator_words o ++ expression_words e) [] (operand o e) more
+        (λ z like. regroup (operator_words o) (expression_words e) (operands_words z)) (λ z like. record { level = refl; some = λ h. tt }) (λ l. l.3) (λ l z like lz. (l.0, l.1, l.2, lz)) h f)
+        (operands_children more) (operands-fit more n),
+  )
 
   tail-fits : (t : Tail S) → Every (FitsTail t) (tail_children t)
   tail-fits (method s x l) =
@@ -145,13 +160,16 @@ module _ (S : Type 0) where
       (mark k.Dot ++ (k.Identifier, x) ∷ []) [] (method s x) l
       (λ z like. regroup (mark k.Dot) ((k.Identifier, x) ∷ []) (listing_words z bracket.Round)) (λ z like. tt) (λ l. l) (λ l z like lz. lz) h f)
       (listing_children l bracket.Round) (listing-fits l bracket.Round)
-  tail-fits (index s e) = (record {
-    same = refl;
-    put = λ y. refl;
-    like = λ y. tt;
-    inside = λ l. l;
-    outside = λ l y t ly. ly;
-  }, tt)
+  tail-fits (index s e) = (
+    record {
+      same = refl;
+      put = λ y. refl;
+      like = λ y. tt;
+      inside = λ l. l;
+      outside = λ l y t ly. ly;
+    },
+    tt,
+  )
 
   tails-fit : (ts : Tails S) → Every (FitsTails ts) (tails_children ts)
   tails-fit no_tails = tt
@@ -188,52 +206,70 @@ module _ (S : Type 0) where
   expression-fits (array l) = lists-fit l bracket.Square [] array (λ z. refl) (λ z. refl) (λ z. refl)
   expression-fits (dictionary l) = lists-fit l bracket.Curly [] dictionary (λ z. refl) (λ z. refl) (λ z. refl)
   expression-fits (call s x l) = lists-fit l bracket.Round ((k.Identifier, x) ∷ []) (call s x) (λ z. refl) (λ z. refl) (λ z. refl)
-  expression-fits (unary s o e) = (record {
-    same = refl;
-    put = λ y. ap (λ w. mark (unary_kind o) ++ w) (sym (append-nil (expression_words y)));
-    like = λ y. refl;
-    inside = λ l. l.1;
-    outside = λ l y t ly. (omega (arith, l.0, t), ly);
-  }, tt)
-  expression-fits (row s e os) = (record {
-    same = refl;
-    put = λ y. refl;
-    like = λ y. refl;
-    inside = λ l. l.2;
-    outside = λ l y t ly. (l.0, omega (arith, l.1, t), ly, l.3);
-  }, every-around (FitsOperands os (row_level os)) (FitsExpression (row s e os)) (expression_words e) [] (row s e)
-      (λ h f. around-fits S (Operands S) (Expression S) operands_words expression_words (λ x. LevelOperands x (row_level os)) LevelExpression LikeOperands LikeExpression
-      (expression_words e) [] (row s e) os
-      (λ z like. ap (λ w. expression_words e ++ w) (sym (append-nil (operands_words z)))) (λ z like. ap (λ n. 2 + n) like.level) (λ l. l.3)
-      (λ l z like lz. (like.some l.0, subst (λ n. looseness e < 2 + n) (sym like.level) l.1, l.2, subst (LevelOperands z) (sym like.level) lz)) h f)
-      (operands_children os) (operands-fit os (row_level os)))
-  expression-fits (postfix s e ts) = (record {
-    same = refl;
-    put = λ y. refl;
-    like = λ y. refl;
-    inside = λ l. l.2;
-    outside = λ l y t ly. (l.0, omega (arith, l.1, t), ly, l.3);
-  }, every-around (FitsTails ts) (FitsExpression (postfix s e ts)) (expression_words e) [] (postfix s e)
-      (λ h f. around-fits S (Tails S) (Expression S) tails_words expression_words LevelTails LevelExpression LikeTails LikeExpression
-      (expression_words e) [] (postfix s e) ts
-      (λ z like. ap (λ w. expression_words e ++ w) (sym (append-nil (tails_words z)))) (λ z like. refl) (λ l. l.3) (λ l z like lz. (like l.0, l.1, l.2, lz)) h f)
-      (tails_children ts) (tails-fit ts))
-  expression-fits (conditional s c y n) = (record {
-    same = refl;
-    put = λ x. refl;
-    like = λ x. refl;
-    inside = λ l. l.1;
-    outside = λ l x t lx. (omega (arith, l.0, t), lx, l.2, l.3);
-  }, (record {
-    same = refl;
-    put = λ x. sym (append_assoc (expression_words c) (mark k.Question) (expression_words x ++ (mark k.Colon ++ expression_words n)));
-    like = λ x. refl;
-    inside = λ l. l.2;
-    outside = λ l x t lx. (l.0, l.1, lx, l.3);
-  }, (record {
-    same = refl;
-    put = λ x. third (expression_words c) (mark k.Question) (expression_words y) (mark k.Colon) (expression_words x);
-    like = λ x. refl;
-    inside = λ l. l.3;
-    outside = λ l x t lx. (l.0, l.1, l.2, lx);
-  }, tt)))
+  expression-fits (unary s o e) = (
+    record {
+      same = refl;
+      put = λ y. ap (λ w. mark (unary_kind o) ++ w) (sym (append-nil (expression_words y)));
+      like = λ y. refl;
+      inside = λ l. l.1;
+      outside = λ l y t ly. (omega (arith, l.0, t), ly);
+    },
+    tt,
+  )
+  expression-fits (row s e os) = (
+    record {
+      same = refl;
+      put = λ y. refl;
+      like = λ y. refl;
+      inside = λ l. l.2;
+      outside = λ l y t ly. (l.0, omega (arith, l.1, t), ly, l.3);
+    },
+    every-around (FitsOperands os (row_level os)) (FitsExpression (row s e os)) (expression_words e) [] (row s e)
+        (λ h f. around-fits S (Operands S) (Expression S) operands_words expression_words (λ x. LevelOperands x (row_level os)) LevelExpression LikeOperands LikeExpression
+        (expression_words e) [] (row s e) os
+        (λ z like. ap (λ w. expression_words e ++ w) (sym (append-nil (operands_words z)))) (λ z like. ap (λ n. 2 + n) like.level) (λ l. l.3)
+        (λ l z like lz. (like.some l.0, subst (λ n. looseness e < 2 + n) (sym like.level) l.1, l.2, subst (LevelOperands z) (sym like.level) lz)) h f)
+        (operands_children os) (operands-fit os (row_level os)),
+  )
+  expression-fits (postfix s e ts) = (
+    record {
+      same = refl;
+      put = λ y. refl;
+      like = λ y. refl;
+      inside = λ l. l.2;
+      outside = λ l y t ly. (l.0, omega (arith, l.1, t), ly, l.3);
+    },
+    every-around (FitsTails ts) (FitsExpression (postfix s e ts)) (expression_words e) [] (postfix s e)
+        (λ h f. around-fits S (Tails S) (Expression S) tails_words expression_words LevelTails LevelExpression LikeTails LikeExpression
+        (expression_words e) [] (postfix s e) ts
+        (λ z like. ap (λ w. expression_words e ++ w) (sym (append-nil (tails_words z)))) (λ z like. refl) (λ l. l.3) (λ l z like lz. (like l.0, l.1, l.2, lz)) h f)
+        (tails_children ts) (tails-fit ts),
+  )
+  expression-fits (conditional s c y n) = (
+    record {
+      same = refl;
+      put = λ x. refl;
+      like = λ x. refl;
+      inside = λ l. l.1;
+      outside = λ l x t lx. (omega (arith, l.0, t), lx, l.2, l.3);
+    },
+    (
+      record {
+        same = refl;
+        put = λ x. sym (append_assoc (expression_words c) (mark k.Question) (expression_words x ++ (mark k.Colon ++ expression_words n)));
+        like = λ x. refl;
+        inside = λ l. l.2;
+        outside = λ l x t lx. (l.0, l.1, lx, l.3);
+      },
+      (
+        record {
+          same = refl;
+          put = λ x. third (expression_words c) (mark k.Question) (expression_words y) (mark k.Colon) (expression_words x);
+          like = λ x. refl;
+          inside = λ l. l.3;
+          outside = λ l x t lx. (l.0, l.1, l.2, lx);
+        },
+        tt,
+      ),
+    ),
+  )

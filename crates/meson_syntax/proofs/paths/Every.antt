@@ -1,6 +1,6 @@
 -- What holds of every element of a list, and of every hole around a part.
 use Rattle.std.specs.Prelude.{⊤}
-use Rattle.std.proofs.Common.{◌≡◌, ℕ, zero, suc, List, [], ◌∷◌, ◌++◌, Option, Some, subst}
+use Rattle.std.proofs.Common.{◌≡◌, ℕ, zero, suc, List, [], ◌∷◌, ◌++◌, Some, subst}
 use Rattle.meson_lex.specs.Significant.{Word}
 use Rattle.meson_syntax.specs.Paths.{Hole, around, all_around, nth}
 use Rattle.meson_syntax.proofs.parsing.Steps.{some-injective}

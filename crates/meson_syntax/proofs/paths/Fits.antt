@@ -1,9 +1,8 @@
 -- A node in a hole: the thing around it is that hole with the node in it, has the words before the hole, of the node, and behind it,
 -- and keeps its levels with another node that binds as tightly.
 use Rattle.std.specs.Prelude.{⊤}
-use Rattle.std.proofs.Common.{◌≡◌, ℕ, ◌≤◌, List, [], ◌∷◌, ◌++◌, refl, ap, ap₂, ◌∙◌, sym, append_assoc, arith}
+use Rattle.std.proofs.Common.{◌≡◌, ◌≤◌, List, ◌++◌, ap, ◌∙◌, append_assoc}
 use Rattle.meson_lex.specs.Significant.{Word}
-use Rattle.meson_syntax.specs.Tree.{Expression, Statement, Block}
 use Rattle.meson_syntax.specs.Grammar.{looseness, LevelExpression, LevelStatement, LevelBlock}
 use Rattle.meson_syntax.specs.Paths.{Sort, of_expression, of_statement, of_block, Node, node_words, Hole, around}
 

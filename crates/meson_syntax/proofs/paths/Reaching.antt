@@ -1,16 +1,14 @@
 -- The node that a path names, and the list that it names, fit into their file.
-use Rattle.std.specs.Prelude.{⊤, option_map, option_and_then}
+use Rattle.std.specs.Prelude.{option_map, option_and_then}
 use Rattle.std.proofs.Common.{◌≡◌, ℕ, ◌≤◌, List, [], ◌∷◌, ◌++◌, Option, Some, None, refl, ap, sym, subst, ◌∙◌, append_assoc, arith}
 use Rattle.std.proofs.lemmas.List.{append-nil}
-use Rattle.meson_lex.specs.declared.kinds.Kind.TheVariants as k
 use Rattle.meson_lex.specs.Significant.{Word}
-use Rattle.meson_syntax.specs.declared.operator.Bracket.TheVariants as bracket
-use Rattle.meson_syntax.specs.Tree.{Expression, identifier, boolean, integer, string, paren, array, dictionary, call, unary, row, postfix, conditional, Listing, listing, Block, block, File, file}
+use Rattle.meson_syntax.specs.Tree.{Expression, array, call, Listing, Block, File, file}
 use Rattle.meson_syntax.specs.Grammar.{expression_words, listing_words, block_words, file_words, looseness, LevelExpression, LevelListing, LevelBlock, LevelFile}
 use Rattle.meson_syntax.specs.Paths.{Sort, of_expression, of_statement, of_block, Node, node_words, Hole, around, child, reach, block_of, with_block, ListIn, list_in, ListAt, list_within, list_of_node, list_at}
 use Rattle.meson_syntax.proofs.parsing.Steps.{some-injective}
-use Rattle.meson_syntax.proofs.paths.Fits.{LevelNode, AsTight, Fits}
-use Rattle.meson_syntax.proofs.paths.StatementChildren.{LikeNode, FitsNode, child-fits}
+use Rattle.meson_syntax.proofs.paths.Fits.{LevelNode, AsTight}
+use Rattle.meson_syntax.proofs.paths.StatementChildren.{LikeNode, child-fits}
 
 pub map-some : {A B : Type 0} (f : A → B) (o : Option A) (y : B) → option_map f o ≡ Some y → (x : A) × (o ≡ Some x) × (f x ≡ y)
 map-some f (Some x) y h = (x, refl, some-injective _ _ h)

@@ -1,13 +1,9 @@
 -- The tokens of a list and of its elements.
-use Rattle.std.proofs.Common.{◌≡◌, ℕ, zero, suc, Bool, false, List, [], ◌∷◌, ◌++◌, map, Option, Some, refl, sym, ap, ap₂, subst, ◌∙◌, append_assoc}
-use Rattle.std.specs.Prelude.{⊤}
-use Rattle.std.proofs.lemmas.List.{append-nil}
+use Rattle.std.proofs.Common.{◌≡◌, ℕ, Bool, false, List, [], ◌∷◌, ◌++◌, map, Some, refl, ap, subst, ◌∙◌, append_assoc}
 use Rattle.meson_lex.specs.declared.kinds.Kind.TheVariants as k
 use Rattle.meson_lex.specs.declared.kinds.Span.{Span}
-use Rattle.meson_lex.specs.Significant.{Word}
 use Rattle.meson_lex.specs.Located.{Token, words}
 use Rattle.meson_syntax.specs.declared.operator.Bracket.{Bracket}
-use Rattle.meson_syntax.specs.declared.operator.Bracket.TheVariants as bracket
 use Rattle.meson_syntax.specs.Operators.{opens, closes}
 use Rattle.meson_syntax.specs.Tree.{Expression, array, call, Listing, listing, Argument, is_named, Arguments, no_arguments, argument}
 use Rattle.meson_syntax.specs.Grammar.{comma_words, argument_words, arguments_words}
@@ -15,7 +11,7 @@ use Rattle.meson_syntax.specs.Spelling.{Covers, One, SpellsExpression, SpellsLis
 use Rattle.meson_syntax.specs.Paths.{ListIn, list_in, list_span, inner_words, ElementAt, elements_at, element_at}
 use Rattle.meson_syntax.proofs.parsing.Steps.{some-injective}
 use Rattle.meson_syntax.proofs.parsing.Words.{says-words, then-words, comma-words, argument-words, arguments-words}
-use Rattle.meson_syntax.proofs.paths.Every.{Every, every-append, every-nth}
+use Rattle.meson_syntax.proofs.paths.Every.{Every, every-nth}
 use Rattle.meson_syntax.proofs.places.Inside.{join-words}
 
 -- the tokens of an element, where those between the brackets of its list are ts
@@ -39,17 +35,19 @@ every-later : (a : Argument Span) (more : Arguments Span) (trailing : Bool) (b :
     → words comma ≡ comma_words more trailing → (es : List (ElementAt Span)) → Every (ElementSpelled b d back) es → Every (ElementSpelled b d ts) (map (later a more trailing) es)
 every-later a more trailing b d ts front comma back parts f c [] h = tt
 every-later a more trailing b d ts front comma back parts f c (e ∷ es) h =
-    let x = h.0 in
-    (record {
-      seen = x.seen;
-      front = front ++ (comma ++ x.front);
-      own = x.own;
-      back = x.back;
-      parts = parts ∙ ap (λ z. front ++ (comma ++ z)) x.parts ∙ push-group front comma x.front (x.own ++ x.back);
-      is_front = join-words front (comma ++ x.front) (argument_words a) (comma_words more trailing ++ e.before) f (join-words comma x.front (comma_words more trailing) e.before c x.is_front);
-      is_back = x.is_back;
-      spelled = x.spelled;
-    }, every-later a more trailing b d ts front comma back parts f c es h.1)
+    let x = h.0 in (
+      record {
+        seen = x.seen;
+        front = front ++ (comma ++ x.front);
+        own = x.own;
+        back = x.back;
+        parts = parts ∙ ap (λ z. front ++ (comma ++ z)) x.parts ∙ push-group front comma x.front (x.own ++ x.back);
+        is_front = join-words front (comma ++ x.front) (argument_words a) (comma_words more trailing ++ e.before) f (join-words comma x.front (comma_words more trailing) e.before c x.is_front);
+        is_back = x.is_back;
+        spelled = x.spelled;
+      },
+      every-later a more trailing b d ts front comma back parts f c es h.1,
+    )
 
 pub elements-spelled : (list : Arguments Span) (trailing : Bool) (b : Bracket) (seen : Bool) (d : ℕ) (ts : List Token) → SpellsArguments list trailing b seen d ts
     → Every (ElementSpelled b d ts) (elements_at list trailing)
@@ -57,18 +55,20 @@ elements-spelled no_arguments trailing b seen d ts h = tt
 elements-spelled (argument a more) trailing b seen d ts h =
     let q = h.second in
     let here = argument-words a b seen d h.front h.first in
-    let comma = comma-words more trailing q.front q.first in
-    (record {
-      seen = seen;
-      front = [];
-      own = h.front;
-      back = h.back;
-      parts = h.joined;
-      is_front = refl;
-      is_back = then-words _ _ h.back _ _ q comma (arguments-words more trailing b (is_named a) d q.back q.second);
-      spelled = h.first;
-    }, every-later a more trailing b d ts h.front q.front q.back (h.joined ∙ ap (λ z. h.front ++ z) q.joined) here comma (elements_at more trailing)
-        (elements-spelled more trailing b (is_named a) d q.back q.second))
+    let comma = comma-words more trailing q.front q.first in (
+      record {
+        seen = seen;
+        front = [];
+        own = h.front;
+        back = h.back;
+        parts = h.joined;
+        is_front = refl;
+        is_back = then-words _ _ h.back _ _ q comma (arguments-words more trailing b (is_named a) d q.back q.second);
+        spelled = h.first;
+      },
+      every-later a more trailing b d ts h.front q.front q.back (h.joined ∙ ap (λ z. h.front ++ z) q.joined) here comma (elements_at more trailing)
+          (elements-spelled more trailing b (is_named a) d q.back q.second),
+    )
 
 -- The tokens of a list, from bracket to bracket.
 pub record ListSpelled (l : Listing Span) (b : Bracket) (d : ℕ) (ts : List Token) : Type 0 where
@@ -121,9 +121,10 @@ pub record ElementWords (S : Type 0) (list : Arguments S) (trailing : Bool) (e :
 words-later : (S : Type 0) (a : Argument S) (more : Arguments S) (trailing : Bool) (es : List (ElementAt S)) → Every (ElementWords S more trailing) es
     → Every (ElementWords S (argument a more) trailing) (map (λ p. record { element = p.element; before = argument_words a ++ (comma_words more trailing ++ p.before); behind = p.behind }) es)
 words-later S a more trailing [] h = tt
-words-later S a more trailing (e ∷ es) h =
-    (record { all = ap (λ z. argument_words a ++ (comma_words more trailing ++ z)) h.0.all ∙ push-group (argument_words a) (comma_words more trailing) e.before (argument_words e.element ++ e.behind) },
-    words-later S a more trailing es h.1)
+words-later S a more trailing (e ∷ es) h = (
+  record { all = ap (λ z. argument_words a ++ (comma_words more trailing ++ z)) h.0.all ∙ push-group (argument_words a) (comma_words more trailing) e.before (argument_words e.element ++ e.behind) },
+  words-later S a more trailing es h.1,
+)
 
 elements-words : (S : Type 0) (list : Arguments S) (trailing : Bool) → Every (ElementWords S list trailing) (elements_at list trailing)
 elements-words S no_arguments trailing = tt

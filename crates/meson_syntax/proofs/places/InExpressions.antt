@@ -1,9 +1,7 @@
 -- The tokens of an expression's children.
-use Rattle.std.specs.Prelude.{⊤}
-use Rattle.std.proofs.Common.{◌≡◌, ℕ, Bool, false, List, [], ◌∷◌, ◌++◌, map, refl, sym, ap, ap₂, ◌∙◌, append_assoc}
+use Rattle.std.proofs.Common.{◌≡◌, ℕ, Bool, false, List, [], ◌∷◌, ◌++◌, map, refl, sym, ap, ◌∙◌, append_assoc}
 use Rattle.meson_lex.specs.declared.kinds.Kind.TheVariants as k
 use Rattle.meson_lex.specs.declared.kinds.Span.{Span}
-use Rattle.meson_lex.specs.Significant.{Word}
 use Rattle.meson_lex.specs.Located.{Token, words}
 use Rattle.meson_syntax.specs.declared.operator.Bracket.{Bracket}
 use Rattle.meson_syntax.specs.declared.operator.Bracket.TheVariants as bracket
@@ -13,7 +11,7 @@ use Rattle.meson_syntax.specs.Grammar.{mark, comma_words, operator_words, expres
 use Rattle.meson_syntax.specs.Spelling.{SpellsExpression, SpellsOperands, SpellsTail, SpellsTails, SpellsListing, SpellsArguments, SpellsArgument}
 use Rattle.meson_syntax.specs.Paths.{argument_children, arguments_children, listing_children, operands_children, tail_children, tails_children, expression_children}
 use Rattle.meson_syntax.proofs.parsing.Marks.{opens-drops, closes-drops, unary-drops, operator-drops, rest-drops}
-use Rattle.meson_syntax.proofs.parsing.Words.{says-words, one-words, each-words, then-words, comma-words, expression-words, operands-words, tail-words, tails-words, listing-words, argument-words, arguments-words}
+use Rattle.meson_syntax.proofs.parsing.Words.{says-words, one-words, each-words, then-words, comma-words, expression-words, operands-words, tail-words, tails-words, argument-words, arguments-words}
 use Rattle.meson_syntax.proofs.paths.Every.{Every, every-append}
 use Rattle.meson_syntax.proofs.places.Inside.{InHole, join-words, part-holes, last-part, whole-part, holds}
 
@@ -35,18 +33,24 @@ argument-inside : (a : Argument Span) (b : Bracket) (seen : Bool) (d : ℕ) (ts 
 argument-inside (plain e) b seen d ts h = (holds e [] [] h.2.inner ts [] ts [] (whole-part ts) refl refl h.2.spelled, tt)
 argument-inside (named s x e) b seen d ts h =
     let p = h.2 in
-    let q = p.second in
-    (holds e _ [] q.second.inner ts (p.front ++ q.front) q.back [] (third-of ts p.front p.back q.front q.back p.joined q.joined)
-    (join-words p.front q.front ((k.Identifier, x) ∷ []) (mark k.Colon) (says-words k.Identifier x p.front refl p.first) (one-words k.Colon q.front (λ y. refl) q.first)) refl q.second.spelled, tt)
+    let q = p.second in (
+      holds e _ [] q.second.inner ts (p.front ++ q.front) q.back [] (third-of ts p.front p.back q.front q.back p.joined q.joined)
+          (join-words p.front q.front ((k.Identifier, x) ∷ []) (mark k.Colon) (says-words k.Identifier x p.front refl p.first) (one-words k.Colon q.front (λ y. refl) q.first)) refl q.second.spelled,
+      tt,
+    )
 argument-inside (pair s e f) b seen d ts h =
     let p = h.2 in
     let q = p.second in
     let colon = one-words k.Colon q.front (λ y. refl) q.first in
     let key = expression-words e p.first.inner p.front p.first.spelled in
-    let value = expression-words f q.second.inner q.back q.second.spelled in
-    (holds e [] _ p.first.inner ts [] p.front p.back p.joined refl (then-words _ _ p.back _ _ q colon value) p.first.spelled,
-    (holds f _ [] q.second.inner ts (p.front ++ q.front) q.back [] (third-of ts p.front p.back q.front q.back p.joined q.joined)
-    (join-words p.front q.front (expression_words e) (mark k.Colon) key colon) refl q.second.spelled, tt))
+    let value = expression-words f q.second.inner q.back q.second.spelled in (
+      holds e [] _ p.first.inner ts [] p.front p.back p.joined refl (then-words _ _ p.back _ _ q colon value) p.first.spelled,
+      (
+        holds f _ [] q.second.inner ts (p.front ++ q.front) q.back [] (third-of ts p.front p.back q.front q.back p.joined q.joined)
+            (join-words p.front q.front (expression_words e) (mark k.Colon) key colon) refl q.second.spelled,
+        tt,
+      ),
+    )
 
 arguments-inside : (list : Arguments Span) (trailing : Bool) (b : Bracket) (seen : Bool) (d : ℕ) (ts : List Token) → SpellsArguments list trailing b seen d ts
     → Every (InHole ts) (arguments_children list trailing)
@@ -79,11 +83,12 @@ operands-inside (operand o e more) n d ts h =
     let r = q.second in
     let sign : words (p.front ++ q.front) ≡ operator_words o =
     join-words p.front q.front (mark (operator_kind o)) (map (λ κ. (κ, [])) (operator_rest o)) (one-words (operator_kind o) p.front (operator-drops o) p.first) (each-words (operator_rest o) q.front (rest-drops o) q.first) in
-    let apart : ts ≡ (p.front ++ q.front) ++ q.back = p.joined ∙ ap (λ x. p.front ++ x) q.joined ∙ sym (append_assoc p.front q.front q.back) in
-    (holds e (operator_words o) (operands_words more) d ts (p.front ++ q.front) r.front r.back (second-of ts (p.front ++ q.front) q.back r.front r.back apart r.joined) sign
-    (operands-words more n d r.back r.second) r.first,
-    part-holes (operator_words o ++ expression_words e) [] (operand o e) ts ((p.front ++ q.front) ++ r.front) r.back [] (third-of ts (p.front ++ q.front) q.back r.front r.back apart r.joined)
-    (join-words (p.front ++ q.front) r.front (operator_words o) (expression_words e) sign (expression-words e d r.front r.first)) refl (operands_children more) (operands-inside more n d r.back r.second))
+    let apart : ts ≡ (p.front ++ q.front) ++ q.back = p.joined ∙ ap (λ x. p.front ++ x) q.joined ∙ sym (append_assoc p.front q.front q.back) in (
+      holds e (operator_words o) (operands_words more) d ts (p.front ++ q.front) r.front r.back (second-of ts (p.front ++ q.front) q.back r.front r.back apart r.joined) sign
+          (operands-words more n d r.back r.second) r.first,
+      part-holes (operator_words o ++ expression_words e) [] (operand o e) ts ((p.front ++ q.front) ++ r.front) r.back [] (third-of ts (p.front ++ q.front) q.back r.front r.back apart r.joined)
+          (join-words (p.front ++ q.front) r.front (operator_words o) (expression_words e) sign (expression-words e d r.front r.first)) refl (operands_children more) (operands-inside more n d r.back r.second),
+    )
 
 tail-inside : (t : Tail Span) (d : ℕ) (ts : List Token) → SpellsTail t d ts → Every (InHole ts) (tail_children t)
 tail-inside (method s x l) d ts h =
@@ -94,9 +99,11 @@ tail-inside (method s x l) d ts h =
     (listing_children l bracket.Round) (listing-inside l bracket.Round d q.back q.second)
 tail-inside (index s e) d ts h =
     let p = h.1 in
-    let q = p.second in
-    (holds e (mark k.OpenSquare) (mark k.CloseSquare) q.first.inner ts p.front q.front q.back (second-of ts p.front p.back q.front q.back p.joined q.joined)
-    (one-words k.OpenSquare p.front (λ y. refl) p.first) (one-words k.CloseSquare q.back (λ y. refl) q.second) q.first.spelled, tt)
+    let q = p.second in (
+      holds e (mark k.OpenSquare) (mark k.CloseSquare) q.first.inner ts p.front q.front q.back (second-of ts p.front p.back q.front q.back p.joined q.joined)
+          (one-words k.OpenSquare p.front (λ y. refl) p.first) (one-words k.CloseSquare q.back (λ y. refl) q.second) q.first.spelled,
+      tt,
+    )
 
 tails-inside : (tails : Tails Span) (d : ℕ) (ts : List Token) → SpellsTails tails d ts → Every (InHole ts) (tails_children tails)
 tails-inside no_tails d ts h = tt
@@ -114,9 +121,11 @@ expression-inside (integer s x) d ts h = tt
 expression-inside (string s q x) d ts h = tt
 expression-inside (paren s e) d ts h =
     let p = h.1 in
-    let q = p.second in
-    (holds e (mark k.OpenRound) (mark k.CloseRound) q.first.inner ts p.front q.front q.back (second-of ts p.front p.back q.front q.back p.joined q.joined)
-    (one-words k.OpenRound p.front (λ y. refl) p.first) (one-words k.CloseRound q.back (λ y. refl) q.second) q.first.spelled, tt)
+    let q = p.second in (
+      holds e (mark k.OpenRound) (mark k.CloseRound) q.first.inner ts p.front q.front q.back (second-of ts p.front p.back q.front q.back p.joined q.joined)
+          (one-words k.OpenRound p.front (λ y. refl) p.first) (one-words k.CloseRound q.back (λ y. refl) q.second) q.first.spelled,
+      tt,
+    )
 expression-inside (array l) d ts h = part-holes [] [] array ts [] ts [] (whole-part ts) refl refl (listing_children l bracket.Square) (listing-inside l bracket.Square d ts h)
 expression-inside (dictionary l) d ts h = part-holes [] [] dictionary ts [] ts [] (whole-part ts) refl refl (listing_children l bracket.Curly) (listing-inside l bracket.Curly d ts h)
 expression-inside (call s x l) d ts h =
@@ -127,14 +136,16 @@ expression-inside (unary s o e) d ts h =
     let p = h.2 in
     (holds e (mark (unary_kind o)) [] d ts p.front p.back [] (last-part ts p.front p.back p.joined) (one-words (unary_kind o) p.front (unary-drops o) p.first) refl p.second, tt)
 expression-inside (row s e os) d ts h =
-    let p = h.3 in
-    (holds e [] (operands_words os) d ts [] p.front p.back p.joined refl (operands-words os (row_level os) d p.back p.second) p.first,
-    part-holes (expression_words e) [] (row s e) ts p.front p.back [] (last-part ts p.front p.back p.joined) (expression-words e d p.front p.first) refl
-    (operands_children os) (operands-inside os (row_level os) d p.back p.second))
+    let p = h.3 in (
+      holds e [] (operands_words os) d ts [] p.front p.back p.joined refl (operands-words os (row_level os) d p.back p.second) p.first,
+      part-holes (expression_words e) [] (row s e) ts p.front p.back [] (last-part ts p.front p.back p.joined) (expression-words e d p.front p.first) refl
+          (operands_children os) (operands-inside os (row_level os) d p.back p.second),
+    )
 expression-inside (postfix s e tails) d ts h =
-    let p = h.3 in
-    (holds e [] (tails_words tails) d ts [] p.front p.back p.joined refl (tails-words tails d p.back p.second) p.first,
-    part-holes (expression_words e) [] (postfix s e) ts p.front p.back [] (last-part ts p.front p.back p.joined) (expression-words e d p.front p.first) refl (tails_children tails) (tails-inside tails d p.back p.second))
+    let p = h.3 in (
+      holds e [] (tails_words tails) d ts [] p.front p.back p.joined refl (tails-words tails d p.back p.second) p.first,
+      part-holes (expression_words e) [] (postfix s e) ts p.front p.back [] (last-part ts p.front p.back p.joined) (expression-words e d p.front p.first) refl (tails_children tails) (tails-inside tails d p.back p.second),
+    )
 expression-inside (conditional s c y n) d ts h =
     let p = h.2 in
     let q = p.second in
@@ -147,11 +158,17 @@ expression-inside (conditional s c y n) d ts h =
     let other = expression-words n u.second.inner u.back u.second.spelled in
     let behind = then-words _ _ r.back _ _ u colon other in
     let head : ts ≡ (p.front ++ q.front) ++ q.back = p.joined ∙ ap (λ x. p.front ++ x) q.joined ∙ sym (append_assoc p.front q.front q.back) in
-    let rest : q.back ≡ (r.front ++ u.front) ++ u.back = r.joined ∙ ap (λ x. r.front ++ x) u.joined ∙ sym (append_assoc r.front u.front u.back) in
-    (holds c [] _ d ts [] p.front p.back p.joined refl (then-words _ _ p.back _ _ q sign (then-words _ _ q.back _ _ r so behind)) p.first,
-    (holds y (expression_words c ++ mark k.Question) _ r.first.inner ts (p.front ++ q.front) r.front r.back (second-of ts (p.front ++ q.front) q.back r.front r.back head r.joined)
-    (join-words p.front q.front (expression_words c) (mark k.Question) asked sign) behind r.first.spelled,
-    (holds n _ [] u.second.inner ts (p.front ++ (q.front ++ (r.front ++ u.front))) u.back []
-    (last-part ts _ u.back (p.joined ∙ ap (λ x. p.front ++ x) (q.joined ∙ ap (λ x. q.front ++ x) rest) ∙ tail_group p.front q.front (r.front ++ u.front) u.back))
-    (join-words p.front (q.front ++ (r.front ++ u.front)) (expression_words c) (mark k.Question ++ (expression_words y ++ mark k.Colon)) asked
-    (join-words q.front (r.front ++ u.front) (mark k.Question) (expression_words y ++ mark k.Colon) sign (join-words r.front u.front (expression_words y) (mark k.Colon) so colon))) refl u.second.spelled, tt)))
+    let rest : q.back ≡ (r.front ++ u.front) ++ u.back = r.joined ∙ ap (λ x. r.front ++ x) u.joined ∙ sym (append_assoc r.front u.front u.back) in (
+      holds c [] _ d ts [] p.front p.back p.joined refl (then-words _ _ p.back _ _ q sign (then-words _ _ q.back _ _ r so behind)) p.first,
+      (
+        holds y (expression_words c ++ mark k.Question) _ r.first.inner ts (p.front ++ q.front) r.front r.back (second-of ts (p.front ++ q.front) q.back r.front r.back head r.joined)
+            (join-words p.front q.front (expression_words c) (mark k.Question) asked sign) behind r.first.spelled,
+        (
+          holds n _ [] u.second.inner ts (p.front ++ (q.front ++ (r.front ++ u.front))) u.back []
+              (last-part ts _ u.back (p.joined ∙ ap (λ x. p.front ++ x) (q.joined ∙ ap (λ x. q.front ++ x) rest) ∙ tail_group p.front q.front (r.front ++ u.front) u.back))
+              (join-words p.front (q.front ++ (r.front ++ u.front)) (expression_words c) (mark k.Question ++ (expression_words y ++ mark k.Colon)) asked
+              (join-words q.front (r.front ++ u.front) (mark k.Question) (expression_words y ++ mark k.Colon) sign (join-words r.front u.front (expression_words y) (mark k.Colon) so colon))) refl u.second.spelled,
+          tt,
+        ),
+      ),
+    )

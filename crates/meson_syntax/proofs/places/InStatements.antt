@@ -1,14 +1,14 @@
 -- The tokens of a statement's and a block's children, and of the node that a path names.
-use Rattle.std.specs.Prelude.{⊤, option_map}
-use Rattle.std.proofs.Common.{◌≡◌, ℕ, List, [], ◌∷◌, ◌++◌, Option, Some, refl, sym, ap, subst, ◌∙◌, append_assoc}
+use Rattle.std.specs.Prelude.{option_map}
+use Rattle.std.proofs.Common.{◌≡◌, ℕ, List, [], ◌∷◌, ◌++◌, Some, refl, ap, subst, ◌∙◌, append_assoc}
 use Rattle.meson_lex.specs.declared.kinds.Kind.{Kind}
 use Rattle.meson_lex.specs.declared.kinds.Kind.TheVariants as k
 use Rattle.meson_lex.specs.declared.kinds.Span.{Span}
-use Rattle.meson_lex.specs.Significant.{Word, kept, new_line}
+use Rattle.meson_lex.specs.Significant.{kept, new_line}
 use Rattle.meson_lex.specs.Located.{Token, words}
 use Rattle.meson_syntax.specs.Operators.{assignment_kind}
-use Rattle.meson_syntax.specs.Tree.{Expression, Statement, evaluate, assign, selection, iteration, breaks, continues, Branches, no_branches, branch, Otherwise, nothing_else, otherwise, Statements, no_statements, statement, Block, block}
-use Rattle.meson_syntax.specs.Grammar.{mark, names_words, expression_words, statement_words, branches_words, otherwise_words, statements_words, block_words}
+use Rattle.meson_syntax.specs.Tree.{Statement, evaluate, assign, selection, iteration, breaks, continues, Branches, no_branches, branch, Otherwise, nothing_else, otherwise, Statements, no_statements, statement, Block, block}
+use Rattle.meson_syntax.specs.Grammar.{mark, names_words, expression_words, statement_words, branches_words, otherwise_words, block_words}
 use Rattle.meson_syntax.specs.Spelling.{NewLine, SpellsStatement, SpellsBranches, SpellsOtherwise, SpellsStatements, SpellsBlock}
 use Rattle.meson_syntax.specs.Paths.{Sort, of_expression, of_statement, of_block, Node, Hole, around, branches_children, otherwise_children, statement_children, statements_children, block_children, children, child, reach}
 use Rattle.meson_syntax.proofs.parsing.Steps.{some-injective}
@@ -17,7 +17,7 @@ use Rattle.meson_syntax.proofs.parsing.Words.{says-words, one-words, then-words,
 use Rattle.meson_syntax.proofs.parsing.FileWords.{new-line-words, names-words, statement-words, branches-words, otherwise-words, statements-words, block-words}
 use Rattle.meson_syntax.proofs.paths.Every.{Every, every-append, every-nth}
 use Rattle.meson_syntax.proofs.paths.Reaching.{map-some, and-then-some}
-use Rattle.meson_syntax.proofs.places.Inside.{SpellsNode, Inside, InHole, join-words, inside-part, part-holes, last-part, whole-part, holds, holds-block}
+use Rattle.meson_syntax.proofs.places.Inside.{SpellsNode, InHole, join-words, inside-part, part-holes, last-part, whole-part, holds, holds-block}
 use Rattle.meson_syntax.proofs.places.InExpressions.{third-of, second-of, expression-inside}
 
 -- the tokens of a block behind its line end
@@ -42,31 +42,38 @@ branches-inside (branch e b more) word d ts drops h =
     let sign = one-words word h.front drops h.first in
     let asked = expression-words e d p.front p.first in
     let body = new-line-words _ q.front _ line (block-words b d line.token.to line.rest line.second) in
-    let rest = branches-words more k.WordElif d q.back (λ x. refl) q.second in
-    (holds e (mark word) _ d ts h.front p.front p.back (second-of ts h.front h.back p.front p.back h.joined p.joined) sign (then-words _ _ p.back _ _ q body rest) p.first,
-    (holds-block b _ (branches_words more k.WordElif) d line.token.to ts (h.front ++ (p.front ++ line.token ∷ [])) line.rest q.back
-    (h.joined ∙ ap (λ x. h.front ++ x) (p.joined ∙ ap (λ x. p.front ++ x) (q.joined ∙ ap (λ x. x ++ q.back) line.joined)) ∙ body_group h.front p.front line.token line.rest q.back)
-    (join-words h.front (p.front ++ line.token ∷ []) (mark word) (expression_words e ++ new_line ∷ []) sign
-    (join-words p.front (line.token ∷ []) (expression_words e) (new_line ∷ []) asked (line-words _ q.front line))) rest line.second,
-    part-holes (mark word ++ (expression_words e ++ (new_line ∷ block_words b))) [] (branch e b) ts (h.front ++ (p.front ++ q.front)) q.back []
-    (last-part ts _ q.back (h.joined ∙ ap (λ x. h.front ++ x) (p.joined ∙ ap (λ x. p.front ++ x) q.joined) ∙ three h.front p.front q.front q.back))
-    (join-words h.front (p.front ++ q.front) (mark word) (expression_words e ++ (new_line ∷ block_words b)) sign (join-words p.front q.front (expression_words e) (new_line ∷ block_words b) asked body)) refl
-    (branches_children more k.WordElif) (branches-inside more k.WordElif d q.back (λ x. refl) q.second)))
+    let rest = branches-words more k.WordElif d q.back (λ x. refl) q.second in (
+      holds e (mark word) _ d ts h.front p.front p.back (second-of ts h.front h.back p.front p.back h.joined p.joined) sign (then-words _ _ p.back _ _ q body rest) p.first,
+      (
+        holds-block b _ (branches_words more k.WordElif) d line.token.to ts (h.front ++ (p.front ++ line.token ∷ [])) line.rest q.back
+            (h.joined ∙ ap (λ x. h.front ++ x) (p.joined ∙ ap (λ x. p.front ++ x) (q.joined ∙ ap (λ x. x ++ q.back) line.joined)) ∙ body_group h.front p.front line.token line.rest q.back)
+            (join-words h.front (p.front ++ line.token ∷ []) (mark word) (expression_words e ++ new_line ∷ []) sign
+            (join-words p.front (line.token ∷ []) (expression_words e) (new_line ∷ []) asked (line-words _ q.front line))) rest line.second,
+        part-holes (mark word ++ (expression_words e ++ (new_line ∷ block_words b))) [] (branch e b) ts (h.front ++ (p.front ++ q.front)) q.back []
+            (last-part ts _ q.back (h.joined ∙ ap (λ x. h.front ++ x) (p.joined ∙ ap (λ x. p.front ++ x) q.joined) ∙ three h.front p.front q.front q.back))
+            (join-words h.front (p.front ++ q.front) (mark word) (expression_words e ++ (new_line ∷ block_words b)) sign (join-words p.front q.front (expression_words e) (new_line ∷ block_words b) asked body)) refl
+            (branches_children more k.WordElif) (branches-inside more k.WordElif d q.back (λ x. refl) q.second),
+      ),
+    )
 
 otherwise-inside : (o : Otherwise Span) (d : ℕ) (ts : List Token) → SpellsOtherwise o d ts → Every (InHole ts) (otherwise_children o)
 otherwise-inside nothing_else d ts h = tt
 otherwise-inside (otherwise b) d ts h =
-    let line = h.second in
-    (holds-block b (mark k.WordElse ++ new_line ∷ []) [] d line.token.to ts (h.front ++ line.token ∷ []) line.rest [] (third-of ts h.front h.back (line.token ∷ []) line.rest h.joined line.joined)
-    (join-words h.front (line.token ∷ []) (mark k.WordElse) (new_line ∷ []) (one-words k.WordElse h.front (λ x. refl) h.first) (line-words _ h.back line)) refl line.second, tt)
+    let line = h.second in (
+      holds-block b (mark k.WordElse ++ new_line ∷ []) [] d line.token.to ts (h.front ++ line.token ∷ []) line.rest [] (third-of ts h.front h.back (line.token ∷ []) line.rest h.joined line.joined)
+          (join-words h.front (line.token ∷ []) (mark k.WordElse) (new_line ∷ []) (one-words k.WordElse h.front (λ x. refl) h.first) (line-words _ h.back line)) refl line.second,
+      tt,
+    )
 
 statement-inside : (s : Statement Span) (d : ℕ) (ts : List Token) → SpellsStatement s d ts → Every (InHole ts) (statement_children s)
 statement-inside (evaluate e) d ts h = (holds e [] [] d ts [] ts [] (whole-part ts) refl refl h, tt)
 statement-inside (assign s x a e) d ts h =
     let p = h.1 in
-    let q = p.second in
-    (holds e _ [] d ts (p.front ++ q.front) q.back [] (third-of ts p.front p.back q.front q.back p.joined q.joined)
-    (join-words p.front q.front ((k.Identifier, x) ∷ []) (mark (assignment_kind a)) (says-words k.Identifier x p.front refl p.first) (one-words (assignment_kind a) q.front (assignment-drops a) q.first)) refl q.second, tt)
+    let q = p.second in (
+      holds e _ [] d ts (p.front ++ q.front) q.back [] (third-of ts p.front p.back q.front q.back p.joined q.joined)
+          (join-words p.front q.front ((k.Identifier, x) ∷ []) (mark (assignment_kind a)) (says-words k.Identifier x p.front refl p.first) (one-words (assignment_kind a) q.front (assignment-drops a) q.first)) refl q.second,
+      tt,
+    )
 statement-inside (selection s bs o) d ts h =
     let inner = h.2.inner in
     let p = h.2.spelled in
@@ -91,19 +98,23 @@ statement-inside (iteration s xs e b) d ts h =
     let colon = one-words k.Colon r.front (λ x. refl) r.first in
     let items = expression-words e inner t.front t.first in
     let body = new-line-words _ u.front _ line (block-words b inner line.token.to line.rest line.second) in
-    let end = one-words k.WordEndforeach u.back (λ x. refl) u.second in
-    (holds e (mark k.WordForeach ++ (names_words xs ++ mark k.Colon)) _ inner ts (p.front ++ (q.front ++ r.front)) t.front t.back
-    (p.joined ∙ ap (λ x. p.front ++ x) (q.joined ∙ ap (λ x. q.front ++ x) r.joined) ∙ three p.front q.front r.front r.back ∙ ap (λ x. (p.front ++ (q.front ++ r.front)) ++ x) t.joined)
-    (join-words p.front (q.front ++ r.front) (mark k.WordForeach) (names_words xs ++ mark k.Colon) loop (join-words q.front r.front (names_words xs) (mark k.Colon) names colon))
-    (then-words _ _ t.back _ _ u body end) t.first,
-    (holds-block b (mark k.WordForeach ++ (names_words xs ++ (mark k.Colon ++ (expression_words e ++ new_line ∷ [])))) (mark k.WordEndforeach) inner line.token.to ts
-    (p.front ++ (q.front ++ (r.front ++ (t.front ++ line.token ∷ [])))) line.rest u.back
-    (p.joined ∙ ap (λ x. p.front ++ x) (q.joined ∙ ap (λ x. q.front ++ x) (r.joined ∙ ap (λ x. r.front ++ x) (t.joined ∙ ap (λ x. t.front ++ x) (u.joined ∙ ap (λ x. x ++ u.back) line.joined))))
-        ∙ loop_group p.front q.front r.front t.front line.token line.rest u.back)
-    (join-words p.front (q.front ++ (r.front ++ (t.front ++ line.token ∷ []))) (mark k.WordForeach) (names_words xs ++ (mark k.Colon ++ (expression_words e ++ new_line ∷ []))) loop
-    (join-words q.front (r.front ++ (t.front ++ line.token ∷ [])) (names_words xs) (mark k.Colon ++ (expression_words e ++ new_line ∷ [])) names
-    (join-words r.front (t.front ++ line.token ∷ []) (mark k.Colon) (expression_words e ++ new_line ∷ []) colon
-    (join-words t.front (line.token ∷ []) (expression_words e) (new_line ∷ []) items (line-words _ u.front line))))) end line.second, tt))
+    let end = one-words k.WordEndforeach u.back (λ x. refl) u.second in (
+      holds e (mark k.WordForeach ++ (names_words xs ++ mark k.Colon)) _ inner ts (p.front ++ (q.front ++ r.front)) t.front t.back
+          (p.joined ∙ ap (λ x. p.front ++ x) (q.joined ∙ ap (λ x. q.front ++ x) r.joined) ∙ three p.front q.front r.front r.back ∙ ap (λ x. (p.front ++ (q.front ++ r.front)) ++ x) t.joined)
+          (join-words p.front (q.front ++ r.front) (mark k.WordForeach) (names_words xs ++ mark k.Colon) loop (join-words q.front r.front (names_words xs) (mark k.Colon) names colon))
+          (then-words _ _ t.back _ _ u body end) t.first,
+      (
+        holds-block b (mark k.WordForeach ++ (names_words xs ++ (mark k.Colon ++ (expression_words e ++ new_line ∷ [])))) (mark k.WordEndforeach) inner line.token.to ts
+            (p.front ++ (q.front ++ (r.front ++ (t.front ++ line.token ∷ [])))) line.rest u.back
+            (p.joined ∙ ap (λ x. p.front ++ x) (q.joined ∙ ap (λ x. q.front ++ x) (r.joined ∙ ap (λ x. r.front ++ x) (t.joined ∙ ap (λ x. t.front ++ x) (u.joined ∙ ap (λ x. x ++ u.back) line.joined))))
+            ∙ loop_group p.front q.front r.front t.front line.token line.rest u.back)
+            (join-words p.front (q.front ++ (r.front ++ (t.front ++ line.token ∷ []))) (mark k.WordForeach) (names_words xs ++ (mark k.Colon ++ (expression_words e ++ new_line ∷ []))) loop
+            (join-words q.front (r.front ++ (t.front ++ line.token ∷ [])) (names_words xs) (mark k.Colon ++ (expression_words e ++ new_line ∷ [])) names
+            (join-words r.front (t.front ++ line.token ∷ []) (mark k.Colon) (expression_words e ++ new_line ∷ []) colon
+            (join-words t.front (line.token ∷ []) (expression_words e) (new_line ∷ []) items (line-words _ u.front line))))) end line.second,
+        tt,
+      ),
+    )
 statement-inside (breaks s) d ts h = tt
 statement-inside (continues s) d ts h = tt
 
@@ -111,20 +122,21 @@ statements-inside : (list : Statements Span) (d : ℕ) (ts : List Token) → Spe
 statements-inside no_statements d ts h = tt
 statements-inside (statement s more) d ts h =
     let q = h.second in
-    let line = one-words k.LineEnd q.front (λ x. refl) q.first in
-    (record {
-      depth = d;
-      last = 0;
-      front = [];
-      own = h.front;
-      back = h.back;
-      parts = h.joined;
-      is_front = refl;
-      is_back = then-words _ _ h.back _ _ q line (statements-words more d q.back q.second);
-      spelled = h.first;
-    },
-    part-holes (statement_words s ++ new_line ∷ []) [] (statement s) ts (h.front ++ q.front) q.back [] (third-of ts h.front h.back q.front q.back h.joined q.joined)
-    (join-words h.front q.front (statement_words s) (new_line ∷ []) (statement-words s d h.front h.first) line) refl (statements_children more) (statements-inside more d q.back q.second))
+    let line = one-words k.LineEnd q.front (λ x. refl) q.first in (
+      record {
+        depth = d;
+        last = 0;
+        front = [];
+        own = h.front;
+        back = h.back;
+        parts = h.joined;
+        is_front = refl;
+        is_back = then-words _ _ h.back _ _ q line (statements-words more d q.back q.second);
+        spelled = h.first;
+      },
+      part-holes (statement_words s ++ new_line ∷ []) [] (statement s) ts (h.front ++ q.front) q.back [] (third-of ts h.front h.back q.front q.back h.joined q.joined)
+          (join-words h.front q.front (statement_words s) (new_line ∷ []) (statement-words s d h.front h.first) line) refl (statements_children more) (statements-inside more d q.back q.second),
+    )
 
 block-inside : (b : Block Span) (d last : ℕ) (ts : List Token) → SpellsBlock b d last ts → Every (InHole ts) (block_children b)
 block-inside (block s list) d last ts h = part-holes [] [] (block s) ts [] ts [] (whole-part ts) refl refl (statements_children list) (statements-inside list d ts h.1)

@@ -1,6 +1,5 @@
 -- The tokens of a node within others: those before it, its own, and those behind it.
-use Rattle.std.specs.Prelude.{⊤}
-use Rattle.std.proofs.Common.{◌≡◌, ℕ, Bool, List, [], ◌∷◌, ◌++◌, refl, sym, ap, ap₂, ◌∙◌, append_assoc}
+use Rattle.std.proofs.Common.{◌≡◌, ℕ, List, [], ◌++◌, sym, ap, ap₂, ◌∙◌, append_assoc}
 use Rattle.std.proofs.lemmas.List.{append-nil}
 use Rattle.meson_lex.specs.declared.kinds.Span.{Span}
 use Rattle.meson_lex.specs.Significant.{Word}
@@ -8,7 +7,7 @@ use Rattle.meson_lex.specs.Located.{Token, words}
 use Rattle.meson_lex.proofs.TokenWords.{words-append}
 use Rattle.meson_syntax.specs.Tree.{Expression, Block}
 use Rattle.meson_syntax.specs.Spelling.{SpellsExpression, SpellsStatement, SpellsBlock}
-use Rattle.meson_syntax.specs.Paths.{Sort, of_expression, of_statement, of_block, Node, Hole, around, all_around, expression_in, block_in}
+use Rattle.meson_syntax.specs.Paths.{Sort, of_expression, of_statement, of_block, Node, Hole, all_around}
 use Rattle.meson_syntax.proofs.paths.Every.{Every, every-around}
 
 -- a block knows where the token before it ends

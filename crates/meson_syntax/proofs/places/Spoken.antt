@@ -9,7 +9,7 @@ use Rattle.meson_syntax.specs.declared.operator.Operator.{Operator}
 use Rattle.meson_syntax.specs.declared.operator.Operator.TheVariants as op
 use Rattle.meson_syntax.specs.declared.operator.Bracket.{Bracket}
 use Rattle.meson_syntax.specs.declared.operator.Bracket.TheVariants as bracket
-use Rattle.meson_syntax.specs.Operators.{opens, closes, string_kind, boolean_kind, unary_kind, operator_kind, operator_rest}
+use Rattle.meson_syntax.specs.Operators.{opens, closes, string_kind, boolean_kind, unary_kind}
 use Rattle.meson_syntax.specs.Tree.{Expression, identifier, boolean, integer, string, paren, array, dictionary, call, unary, row, postfix, conditional, Operands, no_operands, operand, Tail, method, index, Tails, no_tails, tail, Listing, listing, Argument, plain, named, pair, Arguments, no_arguments, argument}
 use Rattle.meson_syntax.specs.Grammar.{mark, comma_words, operator_words, expression_words, operands_words, tail_words, tails_words, listing_words, argument_words, arguments_words}
 use Rattle.meson_syntax.specs.Paths.{inner_words}

@@ -2,6 +2,7 @@
 use Rattle.std.proofs.Common.{◌≡◌, ℕ, ◌+◌, Bool, true, false, List, [], ◌∷◌, ◌++◌, length, Some, refl, sym, ap, ap₂, subst, ◌∙◌, append_assoc, length-append, arith}
 use Rattle.std.proofs.lemmas.List.{append-nil}
 use Rattle.meson_lex.specs.declared.kinds.Span.{Span}
+use Rattle.meson_syntax.specs.declared.source.Limits.{Limits}
 use Rattle.meson_lex.specs.Items.{Lexeme, joined}
 use Rattle.meson_lex.specs.Significant.{Word, State, start, step, after, emitted, closing}
 use Rattle.meson_lex.specs.Located.{Token, words, line_end_at, spots, end_after, closing_at, located}
@@ -13,13 +14,13 @@ use Rattle.meson_syntax.specs.Spelling.{Covers, One, SpellsFile}
 use Rattle.meson_syntax.specs.Grammar.{expression_words, argument_words, statement_words}
 use Rattle.meson_syntax.specs.Paths.{Sort, of_expression, of_statement, of_block, Node, ElementAt, element_at, list_span, inner_words, Hole, reach, list_in, ListAt, list_within, list_of_node, list_at, block_of}
 use Rattle.meson_syntax.specs.Places.{expression_span, argument_span, statement_span, Stands, NodeStands, ListStands, PartStands, ListPlaces}
-use Rattle.meson_syntax.specs.Reads.{IsSpanned}
+use Rattle.meson_syntax.specs.Reads.{IsSpannedWithin}
 use Rattle.meson_syntax.proofs.parsing.Words.{expression-words, argument-words}
 use Rattle.meson_syntax.proofs.parsing.FileWords.{statement-words}
 use Rattle.meson_syntax.proofs.paths.Reaching.{map-some, and-then-some}
 use Rattle.meson_syntax.proofs.places.Spots.{IsSilent}
 use Rattle.meson_syntax.proofs.places.Owned.{cut-pair, Bounded, cut-own, right-words}
-use Rattle.meson_syntax.proofs.places.Bounds.{IsOwnKind, opens-own, closes-own, bounded-expression, bounded-argument, bounded-statement, expression-covers, argument-covers, statement-covers, covers-from, covers-to}
+use Rattle.meson_syntax.proofs.places.Bounds.{opens-own, closes-own, bounded-expression, bounded-argument, bounded-statement, expression-covers, argument-covers, statement-covers, covers-from, covers-to}
 use Rattle.meson_syntax.proofs.places.Inside.{SpellsNode, Inside}
 use Rattle.meson_syntax.proofs.places.InStatements.{reach-inside}
 use Rattle.meson_syntax.proofs.places.Elements.{ElementSpelled, list-spelled, list-inside, element-words}
@@ -227,19 +228,19 @@ module _ (items : List Lexeme) where
 block-spelled : (f : File Span) (len d : ℕ) (ts : List Token) → SpellsFile f len d ts → SpellsNode of_block (block_of f) d 0 ts
 block-spelled (file s b) len d ts h = h.2
 
-pub nodes-stand : (bytes : List ℕ) (f : File Span) (s : IsSpanned bytes f) (path : List ℕ) (h : Hole Span (Block Span)) → reach Span of_block (block_of f) path ≡ Some h
+pub nodes-stand : (limits : Limits) (bytes : List ℕ) (f : File Span) (s : IsSpannedWithin limits bytes f) (path : List ℕ) (h : Hole Span (Block Span)) → reach Span of_block (block_of f) path ≡ Some h
     → NodeStands s.reads.spells.items h.sort h.inside h.before h.behind
-nodes-stand bytes f s path h is =
+nodes-stand limits bytes f s path h is =
     let items = s.reads.spells.items in
     let ts = located items in
-    node-stands items h.sort h.inside h.before h.behind (reach-inside of_block (block_of f) path 64 0 ts h is (block-spelled f (length bytes) 64 ts s.stands))
+    node-stands items h.sort h.inside h.before h.behind (reach-inside of_block (block_of f) path limits.depth 0 ts h is (block-spelled f (length bytes) limits.depth ts s.stands))
 
-pub lists-stand : (bytes : List ℕ) (f : File Span) (s : IsSpanned bytes f) (path : List ℕ) (p : ListAt Span) → list_at f path ≡ Some p → ListPlaces s.reads.spells.items p
-lists-stand bytes f s path p is =
+pub lists-stand : (limits : Limits) (bytes : List ℕ) (f : File Span) (s : IsSpannedWithin limits bytes f) (path : List ℕ) (p : ListAt Span) → list_at f path ≡ Some p → ListPlaces s.reads.spells.items p
+lists-stand limits bytes f s path p is =
     let items = s.reads.spells.items in
     let ts = located items in
     let o = and-then-some (λ h. list_of_node Span h.sort h.inside f h.before h.behind h.back) (reach Span of_block (block_of f) path) p is in
     let h = o.0 in
-    let u = reach-inside of_block (block_of f) path 64 0 ts h o.1 (block-spelled f (length bytes) 64 ts s.stands) in
+    let u = reach-inside of_block (block_of f) path limits.depth 0 ts h o.1 (block-spelled f (length bytes) limits.depth ts s.stands) in
     let t = list-tokens h.sort h.inside f h.before h.behind h.back p u.depth u.last u.own o.2 u.spelled in
     list-places items p h.before h.behind u.own t (list-found items p h.before h.behind u.front u.own u.back u.parts u.is_front u.is_back t)

@@ -6,7 +6,7 @@ use Rattle.meson_syntax.specs.Tokens.{tokens_of}
 use Rattle.meson_syntax.specs.View.{list_view}
 use Rattle.meson_syntax.specs.ReadsList.{of_lists}
 use Rattle.meson_syntax.proofs.parsing.Refusals.{Stopped, stopped-from}
-use Rattle.meson_syntax.proofs.lists.Answers.{refused-finds, refused-unreadable, refused-says, stopped-finds, stopped-unreadable, stopped-says, gives-reads, gives-finds, gives-unreadable, gives-says}
+use Rattle.meson_syntax.proofs.lists.Answers.{refused-finds, refused-unreadable, stopped-finds, stopped-unreadable, stopped-says, gives-reads, gives-finds, gives-unreadable, gives-says}
 use Rattle.meson_syntax.proofs.list_text.parse_list.Goals as goal
 use Rattle.meson_syntax.proofs.list_text.parse_list.Goals.{After-drop-tokens, In-Err-tokens}
 

@@ -4,7 +4,7 @@ use Rattle.meson_syntax.specs.Cursor.{input}
 use Rattle.meson_syntax.specs.Nests.{operands}
 use Rattle.meson_syntax.specs.Reading.{operands_from, row_at, expression, room}
 use Rattle.meson_syntax.specs.View.{operands_view}
-use Rattle.meson_syntax.proofs.Turns.{one_more, no_more, deeper}
+use Rattle.meson_syntax.proofs.Turns.{one_more, deeper}
 use Rattle.meson_syntax.proofs.Views.{operands_view-push}
 use Rattle.meson_syntax.proofs.grammar.Grammar.+row.Goals as goal
 
