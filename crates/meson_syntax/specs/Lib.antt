@@ -11,6 +11,7 @@ pub mod Reads
 pub mod Tokens
 pub mod Cursor
 pub mod Nests
+pub mod Rows
 pub mod Gathering
 pub mod Paths
 pub mod Places

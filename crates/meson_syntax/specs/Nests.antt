@@ -1,5 +1,5 @@
 -- What the functions that parse ensure, by the rules of `Reading` and `ReadingFiles`.
-use Rattle.std.specs.Prelude.{ℕ, suc, ◌+◌, ◌-◌, ◌^◌, ◌<◌, Bool, List, [], Result, IfErr, ⊤}
+use Rattle.std.specs.Prelude.{ℕ, suc, ◌+◌, ◌^◌, ◌<◌, Bool, List, Result, IfErr, ⊤}
 use Rattle.std.specs.declared.alloc.Global.{Global}
 use denote.Ref.{Bor, MutBor}
 use Rattle.meson_lex.specs.declared.kinds.Span.{Span}
@@ -10,8 +10,8 @@ use Rattle.meson_syntax.specs.declared.tree.Arg.{Arg}
 use Rattle.meson_syntax.specs.declared.tree.Block as rust
 use Rattle.meson_syntax.specs.declared.tree.Expr.{Expr}
 use Rattle.meson_syntax.specs.Cursor.{Bytes, Cursor, input}
-use Rattle.meson_syntax.specs.Input.{Parser, Gives, left}
-use Rattle.meson_syntax.specs.Reading.{room, expression, operands_from, row_at}
+use Rattle.meson_syntax.specs.Input.{Parser, Gives}
+use Rattle.meson_syntax.specs.Reading.{room, expression}
 use Rattle.meson_syntax.specs.ReadingFiles.{block_at}
 use Rattle.meson_syntax.specs.Tree.{Argument, Block, Expression}
 use Rattle.meson_syntax.specs.View.{args_view, block_view, expr_view}
@@ -57,7 +57,3 @@ elements_view source p = (p.0, args_view source p.1)
 -- an operator is what it is, whatever the source
 abbrev pub operator_view : Bytes → Operator → Operator
 operator_view source o = o
-
--- the operands of a row of this level behind its first
-unfoldable pub operands : Bool → Parser (Expression Span) → ℕ → Parser (List (Operator × Expression Span))
-operands room inner level = λ i. operands_from room inner level (row_at room inner (level - 1)) (left i) [] i

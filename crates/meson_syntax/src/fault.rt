@@ -21,7 +21,7 @@ pub enum ParseFault {
     /// The first token that can't stand where it does begins here; at the end of the text, its length.
     #[error("S5 unexpected at {0}")]
     Unexpected(usize),
-    /// The bracket that stands here opens a list inside as many as may stand inside one another.
+    /// The bracket, `if`, `foreach` or question mark that stands here opens a construct inside as many as may stand inside one another.
     #[error("S6 too deep at {0}")]
     TooDeep(usize),
     #[error("out of memory")]

@@ -3,8 +3,9 @@
 //! The rules are those of the Syntax page of the Meson manual.
 
 ghost use Rattle.std.specs.Prelude.{◌≡◌, ◌≤◌, IfOk};
-ghost use Rattle.meson_syntax.specs.Nests.{Follows, Nests, Runs, operator_view, operands};
+ghost use Rattle.meson_syntax.specs.Nests.{Follows, Nests, Runs, operator_view};
 ghost use Rattle.meson_syntax.specs.Reading as spec;
+ghost use Rattle.meson_syntax.specs.Rows.{operands, row_with};
 ghost use Rattle.meson_syntax.specs.View.{expr_view, operand_view, operands_view};
 
 use crate::boxed::Boxed;
@@ -46,17 +47,38 @@ fn unary_of(kind: Option<Kind>) -> Option<UnaryOperator>
 impl<'a, F: Fn(Global, &[u8], &mut Cursor<'_>, usize) -> Result<Expr, ParseFault>> Grammar<'a, F> {
     /// A row of this level, or a tighter expression.
     #[cycle(row)]
-    #[tactic(auto, unfolding(crate::specs::Reading::row_at))]
     pub(crate) fn row(&self, tokens: &mut Cursor<'_>, level: u8) -> Result<Expr, ParseFault>
         requires nests { Nests self.now.depth (F.pre self.now.deeper) (F.post self.now.deeper) }
         requires at_most { level ≤ 6 }
         ensures { Follows (λ room inner. spec.row_at room inner level) expr_view self.now.source.now self.now.depth tokens.old result tokens.new }
     {
-        if level == 0 {
-            return self.unaried(tokens);
-        }
         let start = self.from(tokens);
-        let first = self.row(tokens, level - 1)?;
+        let first = self.unaried(tokens)?;
+        self.row_with(tokens, level, start, first)
+    }
+
+    /// The row of this level, or the tighter expression, that begins with this operand, which is read and began at `start`.
+    #[cycle(row)]
+    #[tactic(auto, unfolding(crate::specs::Rows::row_with))]
+    fn row_with(
+        &self,
+        tokens: &mut Cursor<'_>,
+        level: u8,
+        start: usize,
+        first: Expr,
+    ) -> Result<Expr, ParseFault>
+        requires nests { Nests self.now.depth (F.pre self.now.deeper) (F.post self.now.deeper) }
+        requires at_most { level ≤ 6 }
+        ensures { Follows (λ room inner. row_with room inner level start (expr_view self.now.source.now first)) expr_view self.now.source.now self.now.depth tokens.old result tokens.new }
+    {
+        if level == 0 {
+            return Ok(first);
+        }
+        // Most operands stand alone, whatever the level.
+        if row_of(self.peek(tokens)) == 0 {
+            return Ok(first);
+        }
+        let first = self.row_with(tokens, level - 1, start, first)?;
         let rest = self.operands(tokens, level)?;
         let span = self.since(tokens, start);
         Ok(self.with_operands(span, first, rest)?)

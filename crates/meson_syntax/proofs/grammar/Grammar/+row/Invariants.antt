@@ -1,15 +1,18 @@
 use Rattle.std.proofs.Common.{◌≡◌, ◌-◌, ◌+◌, ◌*◌}
 use Rattle.meson_syntax.specs.Cursor.{input}
-use Rattle.meson_syntax.specs.Nests.{operands}
 use Rattle.meson_syntax.specs.Reading.{operands_from, row_at, expression, room}
+use Rattle.meson_syntax.specs.Rows.{operands}
 use Rattle.meson_syntax.specs.View.{operands_view}
 use Rattle.meson_syntax.proofs.grammar.Grammar.+row.Given as goal
 
 abbrev pub decreases-row : goal.decreases-row
-decreases-row g l = 2 * l.level + 1
+decreases-row g l = 3 * l.level + 2
+
+abbrev pub decreases-row_with : goal.decreases-row_with
+decreases-row_with g l = 3 * l.level + 1
 
 abbrev pub decreases-operands : goal.decreases-operands
-decreases-operands g l = 2 * l.level
+decreases-operands g l = 3 * l.level
 
 abbrev pub invariant-operands-loop-turn : goal.invariant-operands-loop-turn
 invariant-operands-loop-turn g l =

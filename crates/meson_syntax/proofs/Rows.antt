@@ -1,0 +1,55 @@
+-- A row of any level is what stands behind its first operand.
+use Rattle.std.proofs.Common.{◌≡◌, ℕ, zero, suc, ◌-◌, Bool, false, ◌==◌, [], Some, None, refl, ap, sym, ◌∙◌, arith}
+use Rattle.std.proofs.lemmas.Grind.{common_steps}
+use Rattle.meson_lex.specs.declared.kinds.Span.{Span}
+use Rattle.meson_syntax.specs.Input.{Input, Outcome, Parser, and_then, from, kind, left, span_from}
+use Rattle.meson_syntax.specs.Reading.{operands_from, row_at, row_of, unaried, with_operands}
+use Rattle.meson_syntax.specs.Rows.{operands, row_with}
+use Rattle.meson_syntax.specs.Tree.{Expression}
+
+and_then-pure : {A : Type 0} (o : Outcome A) → and_then o (λ a i. Some (a, i)) ≡ o
+and_then-pure None = refl
+and_then-pure (Some p) = refl
+
+and_then-and_then : {A B C : Type 0} (o : Outcome A) (f : A → Parser B) (g : B → Parser C) → and_then (and_then o f) g ≡ and_then o (λ a i. and_then (f a i) g)
+and_then-and_then None f g = refl
+and_then-and_then (Some p) f g = refl
+
+module _ (room : Bool) (inner : Parser (Expression Span)) where
+  -- what is read behind the first operand of a row of this level
+  abbrev behind : ℕ → ℕ → Expression Span → Parser (Expression Span)
+  behind n start e = λ j. and_then (operands room inner (suc n) j) (λ os k. Some (with_operands (span_from start k) e os, k))
+
+  row_at-suc : (n : ℕ) (i : Input) → row_at room inner (suc n) i ≡ and_then (row_at room inner n i) (behind n (from i))
+  unfolding row_at operands
+  row_at-suc n i =
+      let less : n ≡ suc n - 1 = omega arith in
+      ap (λ m. and_then (row_at room inner n i) (λ e j. and_then (operands_from room inner (suc n) (row_at room inner m) (left j) [] j) (λ os k. Some (with_operands (span_from (from i) k) e os, k)))) less
+
+  row_with-suc : (n start : ℕ) (e : Expression Span) (i : Input) → row_with room inner (suc n) start e i ≡ and_then (row_with room inner n start e i) (behind n start)
+  unfolding row_with
+  row_with-suc n start e i = refl
+
+  pub row_at-with : (n : ℕ) (i : Input) → row_at room inner n i ≡ and_then (unaried room inner i) (λ e. row_with room inner n (from i) e)
+  unfolding row_at row_with
+  row_at-with zero i = sym (and_then-pure (unaried room inner i))
+  row_at-with (suc n) i =
+      row_at-suc n i
+      ∙ ap (λ o. and_then o (behind n (from i))) (row_at-with n i)
+      ∙ and_then-and_then (unaried room inner i) (λ e. row_with room inner n (from i) e) (behind n (from i))
+
+  -- no operator of any row follows
+  operands_from-none : (n turns : ℕ) (tighter : Parser (Expression Span)) (i : Input) → row_of (kind i) ≡ 0 → operands_from room inner (suc n) tighter turns [] i ≡ Some ([], i)
+  unfolding operands_from
+  operands_from-none n zero tighter i none = refl
+  operands_from-none n (suc turns) tighter i none =
+      let other : (row_of (kind i) == suc n) ≡ false = grind (arith, common_steps) in
+      simp other
+
+  pub row_with-none : (n start : ℕ) (e : Expression Span) (i : Input) → row_of (kind i) ≡ 0 → row_with room inner n start e i ≡ Some (e, i)
+  unfolding row_with operands with_operands
+  row_with-none zero start e i none = refl
+  row_with-none (suc n) start e i none =
+      row_with-suc n start e i
+      ∙ ap (λ o. and_then o (behind n start)) (row_with-none n start e i none)
+      ∙ ap (λ o. and_then o (λ os k. Some (with_operands (span_from start k) e os, k))) (operands_from-none n (left i) (row_at room inner (suc n - 1)) i none)

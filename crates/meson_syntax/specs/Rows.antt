@@ -1,0 +1,21 @@
+-- Rows, read from the operand that they begin with. No public contract names this.
+use Rattle.std.specs.Prelude.{ℕ, zero, suc, ◌-◌, Bool, List, []}
+use Rattle.meson_lex.specs.declared.kinds.Span.{Span}
+use Rattle.meson_syntax.specs.declared.operator.Operator.{Operator}
+use Rattle.meson_syntax.specs.Input.{Parser, ◌>>=◌, pure, since, left}
+use Rattle.meson_syntax.specs.Reading.{operands_from, row_at, with_operands}
+use Rattle.meson_syntax.specs.Tree.{Expression}
+
+module _ (room : Bool) (inner : Parser (Expression Span)) where
+  -- the operands of a row of this level behind its first
+  unfoldable pub operands : ℕ → Parser (List (Operator × Expression Span))
+  operands level = λ i. operands_from room inner level (row_at room inner (level - 1)) (left i) [] i
+
+  -- the row of this level, or the tighter expression, that begins with this operand, which is read and began at start
+  unfoldable pub row_with : ℕ → ℕ → Expression Span → Parser (Expression Span)
+  row_with zero start e = pure e
+  row_with (suc n) start e = do
+    first ← row_with n start e
+    rest ← operands (suc n)
+    at ← since start
+    pure (with_operands at first rest)
