@@ -78,30 +78,29 @@ module _ (olds news text : List ℕ) where
         λ e. let parts : erase_statements (statements_of (stmts_view news ys)) ≡ edited_statements text (statements_of (stmts_view olds xs)) = cc in h.1 (both.1 parts),
       )
 
-  module _ (old new : Stmt) (s t : Span) (xs ys xs' ys' : List rust_branch.Branch) (a b : Option rust_block.Block)
-      (is_old : old ≡ stmt.If s xs a) (is_new : new ≡ stmt.If t ys b) (is_xs : xs' ≡ xs) (is_ys : ys' ≡ ys) where
-    new_side : erase_statement (stmt_view news new) ≡ selection tt (erase_branches (branches_of (branches_view news ys'))) (erase_otherwise (otherwise_view news b))
-    new_side = ap erase_statement (ap (stmt_view news) is_new ∙ view_if news t ys b) ∙ ap (λ zs. selection tt (erase_branches (branches_of (branches_view news zs))) (erase_otherwise (otherwise_view news b))) (sym is_ys)
+  module _ (new : Stmt) (t : Span) (xs ys ys' : List rust_branch.Branch) (a b : Option rust_block.Block) (is_new : new ≡ stmt.If t ys b) (is_ys : ys' ≡ ys) where
+    abbrev SameIf : Type 0
+    SameIf = erase_statement (stmt_view news new) ≡ selection tt (edited_branches text (branches_of (branches_view olds xs))) (edited_otherwise text (otherwise_view olds a))
 
-    old_side : edited_statement text (stmt_view olds old) ≡ selection tt (edited_branches text (branches_of (branches_view olds xs'))) (edited_otherwise text (otherwise_view olds a))
-    old_side = ap (edited_statement text) (ap (stmt_view olds) is_old ∙ view_if olds s xs a) ∙ ap (λ zs. selection tt (edited_branches text (branches_of (branches_view olds zs))) (edited_otherwise text (otherwise_view olds a))) (sym is_xs)
+    is_selection : erase_statement (stmt_view news new) ≡ selection tt (erase_branches (branches_of (branches_view news ys'))) (erase_otherwise (otherwise_view news b))
+    is_selection = ap erase_statement (ap (stmt_view news) is_new ∙ view_if news t ys b) ∙ ap (λ zs. selection tt (erase_branches (branches_of (branches_view news zs))) (erase_otherwise (otherwise_view news b))) (sym is_ys)
 
-    branches_of_same : SameStatement old new → SameBranches xs' ys'
+    branches_of_same : SameIf → SameBranches xs ys'
     branches_of_same e =
-        let both : selection tt (erase_branches (branches_of (branches_view news ys'))) (erase_otherwise (otherwise_view news b)) ≡ selection tt (edited_branches text (branches_of (branches_view olds xs'))) (edited_otherwise text (otherwise_view olds a))
-        = sym new_side ∙ e ∙ old_side in
-        let parts : erase_branches (branches_of (branches_view news ys')) ≡ edited_branches text (branches_of (branches_view olds xs')) = cc in
-        (branches_same xs' ys').1 parts
+        let both : selection tt (erase_branches (branches_of (branches_view news ys'))) (erase_otherwise (otherwise_view news b)) ≡ selection tt (edited_branches text (branches_of (branches_view olds xs))) (edited_otherwise text (otherwise_view olds a))
+        = sym is_selection ∙ e in
+        let parts : erase_branches (branches_of (branches_view news ys')) ≡ edited_branches text (branches_of (branches_view olds xs)) = cc in
+        (branches_same xs ys').1 parts
 
     -- where the branches agree, selections agree where the blocks behind `else` do
-    pub ifs_decided : (P : Type 0) → SameBranches xs' ys' → (P ↔ SameOtherwise a b) → P ↔ SameStatement old new
+    pub ifs_decided : (P : Type 0) → SameBranches xs ys' → (P ↔ SameOtherwise a b) → P ↔ SameIf
     ifs_decided P same h =
-        let parts = (branches_same xs' ys').0 same in
-        equals_of P new_side old_side (
+        let parts = (branches_same xs ys').0 same in
+        equals_of P is_selection refl (
           λ p. let lasts = h.0 p in cc,
           λ e. let lasts : SameOtherwise a b = cc in h.1 lasts,
         )
 
     -- and where the branches do not agree, nor do the selections
-    pub ifs_differ : (b : Bool) → b ≡ false → (IsTrue b ↔ SameBranches xs' ys') → IsTrue b ↔ SameStatement old new
-    ifs_differ b differ h = (λ same. absurd (let no : ⊥ = cc in no), λ e. h.1 (branches_of_same e))
+    pub ifs_differ : (r : Bool) → r ≡ false → (IsTrue r ↔ SameBranches xs ys') → IsTrue r ↔ SameIf
+    ifs_differ r differ h = (λ same. absurd (let no : ⊥ = cc in no), λ e. h.1 (branches_of_same e))

@@ -9,7 +9,7 @@ use Rattle.meson_syntax.specs.declared.tree.Expr.TheVariants as expr
 use Rattle.meson_syntax.specs.declared.tree.List as rust
 use Rattle.meson_syntax.specs.declared.tree.Operand as rust_operand
 use Rattle.meson_syntax.specs.declared.tree.Tail as rust_tail
-use Rattle.meson_syntax.specs.Tree.{Nowhere, Expression, operand, operands_of, operand_list, Tail, tail, tails_of, tail_list, Argument, argument, listing, arguments_of, argument_list, erase_expression, erase_operands, erase_tail, erase_tails, erase_argument, erase_arguments, erase_listing}
+use Rattle.meson_syntax.specs.Tree.{Nowhere, Expression, row, postfix, operand, operands_of, operand_list, Tail, tail, tails_of, tail_list, Argument, argument, listing, arguments_of, argument_list, erase_expression, erase_operands, erase_tail, erase_tails, erase_argument, erase_arguments, erase_listing}
 use Rattle.meson_syntax.specs.View.{expr_view, operand_view, operands_view, tail_view, tails_view, arg_view, args_view, list_view}
 use Rattle.meson_rewrite.specs.Comparing.{erased_operand, edited_operand}
 use Rattle.meson_rewrite.specs.Editing.{edited_expression, edited_operands, edited_tail, edited_tails, edited_argument, edited_arguments, edited_listing}
@@ -77,33 +77,31 @@ module _ (olds news text : List ℕ) where
       (tails_edited text (tails_view olds xs) ∙ ap tails_of (map-map (edited_tail text) (tail_view olds) xs))
 
   -- rows with the same first operand agree where the others do
-  pub rows_decided : (old new : Expr) (s t : Span) (a b a' b' : Expr) (xs ys xs' ys' : List rust_operand.Operand) (P : Type 0) →
-      old ≡ expr.Row s a xs → new ≡ expr.Row t b ys → a' ≡ a → b' ≡ b → xs' ≡ xs → ys' ≡ ys → SameExpression a' b' → (P ↔ SameOperands xs' ys') → P ↔ SameExpression old new
-  rows_decided old new s t a b a' b' xs ys xs' ys' P is_old is_new is_a is_b is_xs is_ys firsts h =
-      let both = operands_same xs ys in
-      let first : SameExpression a b = sym (ap (λ e. erase_expression (expr_view news e)) is_b) ∙ firsts ∙ ap (λ e. edited_expression text (expr_view olds e)) is_a in
-      let new_side = ap erase_expression (ap (expr_view news) is_new ∙ view_row news t b ys) in
-      let old_side = ap (edited_expression text) (ap (expr_view olds) is_old ∙ view_row olds s a xs) in
-      equals_of P new_side old_side (
-        λ p. let rest : SameOperands xs ys = sym (ap (map (λ o. erased_operand (operand_view news o))) is_ys) ∙ h.0 p ∙ ap (map (λ o. edited_operand text (operand_view olds o))) is_xs in
-            let parts = both.0 rest in cc,
-        λ e. let parts : erase_operands (operands_of (operands_view news ys)) ≡ edited_operands text (operands_of (operands_view olds xs)) = cc in
-            h.1 (ap (map (λ o. erased_operand (operand_view news o))) is_ys ∙ both.1 parts ∙ sym (ap (map (λ o. edited_operand text (operand_view olds o))) is_xs)),
+  pub rows_decided : (new : Expr) (t : Span) (a b b' : Expr) (xs ys ys' : List rust_operand.Operand) (P : Type 0) → new ≡ expr.Row t b ys → b' ≡ b → ys' ≡ ys →
+      SameExpression a b' → (P ↔ SameOperands xs ys') →
+      P ↔ (erase_expression (expr_view news new) ≡ row tt (edited_expression text (expr_view olds a)) (edited_operands text (operands_of (operands_view olds xs))))
+  rows_decided new t a b b' xs ys ys' P is_new is_b is_ys first h =
+      let both = operands_same xs ys' in
+      let is = ap erase_expression (ap (expr_view news) is_new ∙ view_row news t b ys)
+      ∙ ap (λ e. row tt (erase_expression (expr_view news e)) (erase_operands (operands_of (operands_view news ys)))) (sym is_b)
+      ∙ ap (λ zs. row tt (erase_expression (expr_view news b')) (erase_operands (operands_of (operands_view news zs)))) (sym is_ys) in
+      equals_of P is refl (
+        λ p. let rest = both.0 (h.0 p) in cc,
+        λ e. let rest : erase_operands (operands_of (operands_view news ys')) ≡ edited_operands text (operands_of (operands_view olds xs)) = cc in h.1 (both.1 rest),
       )
 
   -- expressions with tails on the same base agree where the tails do
-  pub postfixes_decided : (old new : Expr) (s t : Span) (a b a' b' : Expr) (xs ys xs' ys' : List rust_tail.Tail) (P : Type 0) →
-      old ≡ expr.Postfix s a xs → new ≡ expr.Postfix t b ys → a' ≡ a → b' ≡ b → xs' ≡ xs → ys' ≡ ys → SameExpression a' b' → (P ↔ SameTails xs' ys') → P ↔ SameExpression old new
-  postfixes_decided old new s t a b a' b' xs ys xs' ys' P is_old is_new is_a is_b is_xs is_ys bases h =
-      let both = tails_same xs ys in
-      let base : SameExpression a b = sym (ap (λ e. erase_expression (expr_view news e)) is_b) ∙ bases ∙ ap (λ e. edited_expression text (expr_view olds e)) is_a in
-      let new_side = ap erase_expression (ap (expr_view news) is_new ∙ view_postfix news t b ys) in
-      let old_side = ap (edited_expression text) (ap (expr_view olds) is_old ∙ view_postfix olds s a xs) in
-      equals_of P new_side old_side (
-        λ p. let rest : SameTails xs ys = sym (ap (map (λ t. erase_tail (tail_view news t))) is_ys) ∙ h.0 p ∙ ap (map (λ t. edited_tail text (tail_view olds t))) is_xs in
-            let parts = both.0 rest in cc,
-        λ e. let parts : erase_tails (tails_of (tails_view news ys)) ≡ edited_tails text (tails_of (tails_view olds xs)) = cc in
-            h.1 (ap (map (λ t. erase_tail (tail_view news t))) is_ys ∙ both.1 parts ∙ sym (ap (map (λ t. edited_tail text (tail_view olds t))) is_xs)),
+  pub postfixes_decided : (new : Expr) (t : Span) (a b b' : Expr) (xs ys ys' : List rust_tail.Tail) (P : Type 0) → new ≡ expr.Postfix t b ys → b' ≡ b → ys' ≡ ys →
+      SameExpression a b' → (P ↔ SameTails xs ys') →
+      P ↔ (erase_expression (expr_view news new) ≡ postfix tt (edited_expression text (expr_view olds a)) (edited_tails text (tails_of (tails_view olds xs))))
+  postfixes_decided new t a b b' xs ys ys' P is_new is_b is_ys base h =
+      let both = tails_same xs ys' in
+      let is = ap erase_expression (ap (expr_view news) is_new ∙ view_postfix news t b ys)
+      ∙ ap (λ e. postfix tt (erase_expression (expr_view news e)) (erase_tails (tails_of (tails_view news ys)))) (sym is_b)
+      ∙ ap (λ zs. postfix tt (erase_expression (expr_view news b')) (erase_tails (tails_of (tails_view news zs)))) (sym is_ys) in
+      equals_of P is refl (
+        λ p. let rest = both.0 (h.0 p) in cc,
+        λ e. let rest : erase_tails (tails_of (tails_view news ys')) ≡ edited_tails text (tails_of (tails_view olds xs)) = cc in h.1 (both.1 rest),
       )
 
 -- ---- lists in brackets

@@ -1,18 +1,15 @@
 //! Whether an expression is that of another text, in which the version was set.
 
-ghost use Rattle.std.specs.Prelude.{◌≡◌, ◌↔◌, IsTrue, map};
+ghost use Rattle.std.specs.Prelude.{◌≡◌, ◌↔◌, IsTrue, false};
 ghost use Rattle.std.specs.Str.{bytes_eq};
-ghost use Rattle.meson_syntax.specs.View.{text_at, expr_view, operand_view, operands_view, tail_view, tails_view, arg_view, list_view};
-ghost use Rattle.meson_syntax.specs.declared.operator.StringKind.TheVariants as quotes;
-ghost use Rattle.meson_syntax.specs.Tree.{string, call, unary, row, postfix, conditional, operands_of, tails_of, erase_expression, erase_tail, erase_listing, erase_argument};
-ghost use Rattle.meson_rewrite.specs.Editing.{edited_expression, edited_operands, edited_tail, edited_tails, edited_listing, edited_argument};
+ghost use Rattle.meson_syntax.specs.View.{text_at, expr_view, operands_view, tails_view, list_view};
+ghost use Rattle.meson_syntax.specs.Tree.{identifier, boolean, integer, string, paren, array, dictionary, call, unary, row, postfix, conditional, operands_of, tails_of, erase_expression};
+ghost use Rattle.meson_rewrite.specs.Editing.{edited_expression, edited_operands, edited_tails, edited_listing};
 ghost use Rattle.meson_rewrite.specs.Finding.{project_name};
-ghost use Rattle.meson_rewrite.specs.Comparing.{erased_operand, edited_operand};
 
-use crate::same::{same_operator, same_quotes, same_unary};
 use crate::text::text_of;
 use meson_lex::Span;
-use meson_syntax::{Arg, Expr, List, Operand, StringKind, Tail, UnaryOperator};
+use meson_syntax::{Expr, List, Operand, StringKind, Tail, UnaryOperator};
 
 /// Two sources, and the literal that stands in the new one for each version of a `project` call.
 #[derive(Clone, Copy)]
@@ -24,73 +21,121 @@ pub(crate) struct Comparison<'a> {
 
 impl Comparison<'_> {
     /// The two spans have the same bytes.
-    pub(crate) fn same_text(&self, old: Span, new: Span) -> bool
+    pub(crate) fn same_text(&self, new: Span, old: Span) -> bool
         ensures { IsTrue result ↔ (text_at self.now.new.now new ≡ text_at self.now.old.now old) }
     {
         text_of(self.new, new) == text_of(self.old, old)
     }
 
-    /// The expression is the new literal.
-    fn is_literal(&self, new: &Expr) -> bool
-        ensures { IsTrue result ↔ (erase_expression (expr_view self.now.new.now new.now) ≡ string tt quotes.Plain self.now.literal.now) }
+    /// The new expression is the old one, in which the version was set. Below, the old one is given by its parts.
+    #[cycle(compare)]
+    pub(crate) fn same_expr(&self, new: &Expr, old: &Expr) -> bool
+        ensures { IsTrue result ↔ (erase_expression (expr_view self.now.new.now new.now) ≡ edited_expression self.now.literal.now (expr_view self.now.old.now old.now)) }
+    {
+        match old {
+            Expr::Identifier(name) => self.is_identifier(new, *name),
+            Expr::Boolean { value, .. } => self.is_boolean(new, *value),
+            Expr::Integer(digits) => self.is_integer(new, *digits),
+            Expr::String { span, kind } => self.is_string(new, *kind, *span),
+            Expr::Paren { inside, .. } => self.is_paren(new, inside.get()),
+            Expr::Array(list) => self.is_array(new, list),
+            Expr::Dictionary(list) => self.is_dictionary(new, list),
+            Expr::Call {
+                name,
+                arguments,
+                ..
+            } => self.is_call(new, *name, arguments),
+            Expr::Unary {
+                operator,
+                operand,
+                ..
+            } => self.is_unary(new, *operator, operand.get()),
+            Expr::Row { first, rest, .. } => self.is_row(new, first.get(), rest.get()),
+            Expr::Postfix { base, tails, .. } => self.is_postfix(new, base.get(), tails.get()),
+            Expr::Conditional {
+                condition,
+                yes,
+                no,
+                ..
+            } => self.is_conditional(new, condition.get(), yes.get(), no.get()),
+        }
+    }
+
+    fn is_identifier(&self, new: &Expr, name: Span) -> bool
+        ensures { IsTrue result ↔ (erase_expression (expr_view self.now.new.now new.now) ≡ identifier tt (text_at self.now.old.now name)) }
+    {
+        match new {
+            Expr::Identifier(new_name) => self.same_text(*new_name, name),
+            _ => false,
+        }
+    }
+
+    fn is_boolean(&self, new: &Expr, value: bool) -> bool
+        ensures { IsTrue result ↔ (erase_expression (expr_view self.now.new.now new.now) ≡ boolean tt value) }
+    {
+        match new {
+            Expr::Boolean {
+                value: new_value,
+                ..
+            } => *new_value == value,
+            _ => false,
+        }
+    }
+
+    fn is_integer(&self, new: &Expr, digits: Span) -> bool
+        ensures { IsTrue result ↔ (erase_expression (expr_view self.now.new.now new.now) ≡ integer tt (text_at self.now.old.now digits)) }
+    {
+        match new {
+            Expr::Integer(new_digits) => self.same_text(*new_digits, digits),
+            _ => false,
+        }
+    }
+
+    fn is_string(&self, new: &Expr, kind: StringKind, span: Span) -> bool
+        ensures { IsTrue result ↔ (erase_expression (expr_view self.now.new.now new.now) ≡ string tt kind (text_at self.now.old.now span)) }
     {
         match new {
             Expr::String {
-                span,
-                kind: StringKind::Plain,
-            } => text_of(self.new, *span) == self.literal,
+                span: new_span,
+                kind: new_kind,
+            } => *new_kind == kind && self.same_text(*new_span, span),
             _ => false,
         }
     }
 
     #[cycle(compare)]
-    pub(crate) fn same_expr(&self, new: &Expr, old: &Expr) -> bool
-        ensures { IsTrue result ↔ (erase_expression (expr_view self.now.new.now new.now) ≡ edited_expression self.now.literal.now (expr_view self.now.old.now old.now)) }
+    fn is_paren(&self, new: &Expr, inside: &Expr) -> bool
+        ensures { IsTrue result ↔ (erase_expression (expr_view self.now.new.now new.now) ≡ paren tt (edited_expression self.now.literal.now (expr_view self.now.old.now inside.now))) }
     {
-        match (old, new) {
-            (Expr::Identifier(a), Expr::Identifier(b)) => self.same_text(*a, *b),
-            (Expr::Boolean { value: a, .. }, Expr::Boolean { value: b, .. }) => a == b,
-            (Expr::Integer(a), Expr::Integer(b)) => self.same_text(*a, *b),
-            (Expr::String { span: a, kind: k }, Expr::String { span: b, kind: l }) => {
-                same_quotes(*k, *l) && self.same_text(*a, *b)
-            }
-            (Expr::Paren { inside: a, .. }, Expr::Paren { inside: b, .. }) => {
-                self.same_expr(b.get(), a.get())
-            }
-            (Expr::Array(a), Expr::Array(b)) => self.same_list(false, b, a),
-            (Expr::Dictionary(a), Expr::Dictionary(b)) => self.same_list(false, b, a),
-            (
-                Expr::Call {
-                    name,
-                    arguments,
-                    ..
-                },
-                _,
-            ) => self.is_call(new, *name, arguments),
-            (
-                Expr::Unary {
-                    operator,
-                    operand,
-                    ..
-                },
-                _,
-            ) => self.is_unary(new, *operator, operand.get()),
-            (Expr::Row { first, rest, .. }, _) => self.is_row(new, first.get(), rest.get()),
-            (Expr::Postfix { base, tails, .. }, _) => self.is_postfix(new, base.get(), tails.get()),
-            (
-                Expr::Conditional {
-                    condition,
-                    yes,
-                    no,
-                    ..
-                },
-                _,
-            ) => self.is_conditional(new, condition.get(), yes.get(), no.get()),
+        match new {
+            Expr::Paren {
+                inside: new_inside,
+                ..
+            } => self.same_expr(new_inside.get(), inside),
             _ => false,
         }
     }
 
-    /// The new expression is the call of this function with these arguments, in which the version was set.
+    #[cycle(compare)]
+    fn is_array(&self, new: &Expr, list: &List) -> bool
+        ensures { IsTrue result ↔ (erase_expression (expr_view self.now.new.now new.now) ≡ array (edited_listing self.now.literal.now false (list_view self.now.old.now list.now))) }
+    {
+        match new {
+            Expr::Array(new_list) => self.same_list(false, new_list, list),
+            _ => false,
+        }
+    }
+
+    #[cycle(compare)]
+    fn is_dictionary(&self, new: &Expr, list: &List) -> bool
+        ensures { IsTrue result ↔ (erase_expression (expr_view self.now.new.now new.now) ≡ dictionary (edited_listing self.now.literal.now false (list_view self.now.old.now list.now))) }
+    {
+        match new {
+            Expr::Dictionary(new_list) => self.same_list(false, new_list, list),
+            _ => false,
+        }
+    }
+
     #[cycle(compare)]
     fn is_call(&self, new: &Expr, name: Span, arguments: &List) -> bool
         ensures { IsTrue result ↔ (erase_expression (expr_view self.now.new.now new.now)
@@ -105,7 +150,7 @@ impl Comparison<'_> {
             return false;
         };
         let ours = text_of(self.old, name) == b"project".as_slice();
-        self.same_text(name, *new_name) && self.same_list(ours, new_arguments, arguments)
+        self.same_text(*new_name, name) && self.same_list(ours, new_arguments, arguments)
     }
 
     #[cycle(compare)]
@@ -121,7 +166,7 @@ impl Comparison<'_> {
         else {
             return false;
         };
-        same_unary(operator, *new_operator) && self.same_expr(new_operand.get(), operand)
+        *new_operator == operator && self.same_expr(new_operand.get(), operand)
     }
 
     #[cycle(compare)]
@@ -173,123 +218,5 @@ impl Comparison<'_> {
         self.same_expr(new_condition.get(), condition)
             && self.same_expr(new_yes.get(), yes)
             && self.same_expr(new_no.get(), no)
-    }
-
-    #[cycle(compare)]
-    fn same_operands(&self, new: &[Operand], old: &[Operand]) -> bool
-        ensures { IsTrue result ↔ (map (λ o. erased_operand (operand_view self.now.new.now o)) new.now ≡ map (λ o. edited_operand self.now.literal.now (operand_view self.now.old.now o)) old.now) }
-    {
-        if old.len() != new.len() {
-            return false;
-        }
-        for i in 0..old.len() {
-            let (a, b) = (&old[i], &new[i]);
-            if !(same_operator(a.operator, b.operator) && self.same_expr(&b.value, &a.value)) {
-                return false;
-            }
-        }
-        true
-    }
-
-    #[cycle(compare)]
-    fn same_tails(&self, new: &[Tail], old: &[Tail]) -> bool
-        ensures { IsTrue result ↔ (map (λ t. erase_tail (tail_view self.now.new.now t)) new.now ≡ map (λ t. edited_tail self.now.literal.now (tail_view self.now.old.now t)) old.now) }
-    {
-        if old.len() != new.len() {
-            return false;
-        }
-        for i in 0..old.len() {
-            if !self.same_tail(&new[i], &old[i]) {
-                return false;
-            }
-        }
-        true
-    }
-
-    #[cycle(compare)]
-    fn same_tail(&self, new: &Tail, old: &Tail) -> bool
-        ensures { IsTrue result ↔ (erase_tail (tail_view self.now.new.now new.now) ≡ edited_tail self.now.literal.now (tail_view self.now.old.now old.now)) }
-    {
-        match (old, new) {
-            (
-                Tail::Method {
-                    name: a,
-                    arguments: old,
-                    ..
-                },
-                Tail::Method {
-                    name: b,
-                    arguments: new,
-                    ..
-                },
-            ) => self.same_text(*a, *b) && self.same_list(false, new, old),
-            (Tail::Index { index: a, .. }, Tail::Index { index: b, .. }) => self.same_expr(b, a),
-            _ => false,
-        }
-    }
-
-    #[cycle(compare)]
-    fn same_list(&self, ours: bool, new: &List, old: &List) -> bool
-        ensures { IsTrue result ↔ (erase_listing (list_view self.now.new.now new.now) ≡ edited_listing self.now.literal.now ours (list_view self.now.old.now old.now)) }
-    {
-        old.trailing == new.trailing && self.same_args(ours, new.items.get(), old.items.get())
-    }
-
-    #[cycle(compare)]
-    fn same_args(&self, ours: bool, new: &[Arg], old: &[Arg]) -> bool
-        ensures { IsTrue result ↔ (map (λ a. erase_argument (arg_view self.now.new.now a)) new.now ≡ map (λ a. edited_argument self.now.literal.now ours (arg_view self.now.old.now a)) old.now) }
-    {
-        if old.len() != new.len() {
-            return false;
-        }
-        for i in 0..old.len() {
-            if !self.same_arg(ours, &new[i], &old[i]) {
-                return false;
-            }
-        }
-        true
-    }
-
-    #[cycle(compare)]
-    fn same_arg(&self, ours: bool, new: &Arg, old: &Arg) -> bool
-        ensures { IsTrue result ↔ (erase_argument (arg_view self.now.new.now new.now) ≡ edited_argument self.now.literal.now ours (arg_view self.now.old.now old.now)) }
-    {
-        match (old, new) {
-            (Arg::Plain(a), Arg::Plain(b)) => self.same_expr(b, a),
-            (
-                Arg::Named {
-                    name: a,
-                    value: old,
-                    ..
-                },
-                Arg::Named {
-                    name: b,
-                    value: new,
-                    ..
-                },
-            ) => {
-                if !self.same_text(*a, *b) {
-                    return false;
-                }
-                if ours && text_of(self.old, *a) == b"version".as_slice() {
-                    self.is_literal(new)
-                } else {
-                    self.same_expr(new, old)
-                }
-            }
-            (
-                Arg::Pair {
-                    key: a,
-                    value: old,
-                    ..
-                },
-                Arg::Pair {
-                    key: b,
-                    value: new,
-                    ..
-                },
-            ) => self.same_expr(b.get(), a.get()) && self.same_expr(new.get(), old.get()),
-            _ => false,
-        }
     }
 }

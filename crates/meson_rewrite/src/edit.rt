@@ -76,7 +76,7 @@ fn check(alloc: Global, sources: Comparison<'_>, old: &Parsed) -> Result<(), Sto
 {
     match parse(alloc, sources.new) {
         Ok(new) => {
-            if sources.same_file(old, &new) {
+            if sources.same_file(&new, old) {
                 Ok(())
             } else {
                 Err(Stop::Refused(Refusal::SelfCheck))

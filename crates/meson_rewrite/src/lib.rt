@@ -4,7 +4,8 @@
 mod calls;
 mod committing;
 mod compare;
-mod compare_files;
+mod compare_lists;
+mod compare_statements;
 mod edit;
 mod find;
 mod folder;
@@ -12,7 +13,6 @@ mod lines;
 mod memory;
 mod program;
 mod refusal;
-mod same;
 mod stop;
 mod store;
 mod store_fault;
