@@ -1,3 +1,6 @@
+pub mod PathNodes
+pub mod PartsOf
+pub mod Looks
 pub mod Rows
 pub mod Turns
 pub mod Views

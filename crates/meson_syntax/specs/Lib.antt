@@ -14,6 +14,7 @@ pub mod Nests
 pub mod Rows
 pub mod Gathering
 pub mod Paths
+pub mod Parts
 pub mod Places
 pub mod Exchange
 pub mod ReadsList

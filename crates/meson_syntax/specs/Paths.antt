@@ -154,6 +154,15 @@ block_of (file s b) = b
 abbrev pub with_block : {S : Type 0} → File S → Block S → File S
 with_block (file s b) other = file s other
 
+-- the expression that a path names
+abbrev pub expression_of : (S : Type 0) (sort : Sort) → Node sort S → Option (Expression S)
+expression_of S of_expression e = Some e
+expression_of S of_statement s = None
+expression_of S of_block b = None
+
+abbrev pub expression_at : {S : Type 0} → File S → List ℕ → Option (Expression S)
+expression_at {S} f path = option_and_then (λ h. expression_of S h.sort h.inside) (reach S of_block (block_of f) path)
+
 -- ---- lists
 
 -- the list of an array or a call: its brackets, the words before it, and the array or call with another list

@@ -1,0 +1,7 @@
+use Rattle.std.proofs.Common.{◌≡◌, List, ℕ, drop}
+use Rattle.meson_syntax.specs.Parts.{rust_branches_parts, look}
+use Rattle.meson_syntax.proofs.path.in_branches.Given as goal
+
+-- what is left of the number looks in the elements that are left
+abbrev pub invariant-loop-i : goal.invariant-loop-i
+invariant-loop-i l = (source : List ℕ) → look (rust_branches_parts source (drop l.i l.branches)) l.left ≡ look (rust_branches_parts source l.branches) l.n

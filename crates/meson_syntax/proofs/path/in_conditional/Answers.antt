@@ -1,0 +1,14 @@
+use Rattle.std.proofs.Common.{[], ◌∷◌}
+use Rattle.meson_syntax.specs.Parts.{an_expression}
+use Rattle.meson_syntax.specs.View.{expr_view}
+use Rattle.meson_syntax.proofs.Looks.{among-first, among-others}
+use Rattle.meson_syntax.proofs.path.in_conditional.Goals as goal
+
+pub returns-in-Node : goal.returns-in-Node
+returns-in-Node c = λ source.
+    among-first (an_expression (expr_view source c.args.condition.now) ∷ []) (an_expression (expr_view source c.args.yes.now) ∷ an_expression (expr_view source c.args.no.now) ∷ []) c.args.n _ (c.in-Node.ensures source)
+
+pub returns-in-Left : goal.returns-in-Left
+returns-in-Left c = λ source.
+    among-others (an_expression (expr_view source c.args.condition.now) ∷ []) (an_expression (expr_view source c.args.yes.now) ∷ an_expression (expr_view source c.args.no.now) ∷ []) c.args.n c.in-Left.left _
+    (c.in-Left.ensures source) (c.either.ensures source)

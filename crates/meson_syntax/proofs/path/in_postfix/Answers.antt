@@ -1,0 +1,12 @@
+use Rattle.std.proofs.Common.{[], ◌∷◌}
+use Rattle.meson_syntax.specs.Parts.{an_expression, rust_tails_parts}
+use Rattle.meson_syntax.specs.View.{expr_view}
+use Rattle.meson_syntax.proofs.Looks.{among-first, among-others}
+use Rattle.meson_syntax.proofs.path.in_postfix.Goals as goal
+
+pub returns-in-Node : goal.returns-in-Node
+returns-in-Node c = λ source. among-first (an_expression (expr_view source c.args.base.now) ∷ []) (rust_tails_parts source c.args.tails.now) c.args.n _ (c.in-Node.ensures source)
+
+pub returns-in-Left : goal.returns-in-Left
+returns-in-Left c = λ source.
+    among-others (an_expression (expr_view source c.args.base.now) ∷ []) (rust_tails_parts source c.args.tails.now) c.args.n c.in-Left.left _ (c.in-Left.ensures source) (c.in_tails.ensures source)
