@@ -65,6 +65,20 @@ fn replaces_the_version_alone(rt: HostRuntime) {
             after: b"project('p', version: '2', license: 'MIT')\n",
         },
         Accepted {
+            shows: "a sum in a branch",
+            before: b"if a and not (b in c)\n  project('p', version: f('v').strip() + '-dev') # v\nelif d\n  foreach k, v : {'x': [1, 2]}\n    e += k[0].project(version: 'no')\n  endforeach\nendif\n",
+            id: "/",
+            value: "2",
+            after: b"if a and not (b in c)\n  project('p', version: '2') # v\nelif d\n  foreach k, v : {'x': [1, 2]}\n    e += k[0].project(version: 'no')\n  endforeach\nendif\n",
+        },
+        Accepted {
+            shows: "a conditional in a dictionary of a method call",
+            before: b"x.m({'k': a ? project('p', version: b == 1 ? '''0''' : -2) : y[z]})\n",
+            id: "/",
+            value: "2",
+            after: b"x.m({'k': a ? project('p', version: '2') : y[z]})\n",
+        },
+        Accepted {
             shows: "a value that is a call",
             before: b"project('p', version : run_command( 'v' ) ,)",
             id: "/",
