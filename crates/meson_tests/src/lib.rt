@@ -8,11 +8,17 @@ mod committing;
 #[cfg(test)]
 mod grammar;
 #[cfg(test)]
+mod grammar_faults;
+#[cfg(test)]
 mod lexing;
 #[cfg(test)]
 mod literals;
 #[cfg(test)]
+mod nesting;
+#[cfg(test)]
 mod parsing;
+#[cfg(test)]
+mod paths;
 #[cfg(test)]
 mod refusing;
 #[cfg(test)]
