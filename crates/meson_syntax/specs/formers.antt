@@ -1,2 +1,1 @@
-pub mod boxed
 pub mod many

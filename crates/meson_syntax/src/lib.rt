@@ -2,7 +2,6 @@
 #![tactic(auto)]
 
 mod block;
-mod boxed;
 mod copy;
 mod expression;
 mod fault;
@@ -24,7 +23,6 @@ mod tail;
 mod token;
 mod tree;
 
-pub use boxed::Boxed;
 pub use fault::ParseFault;
 pub use file::{parse, parse_wide};
 pub use list_text::parse_list;
@@ -32,4 +30,5 @@ pub use many::Many;
 pub use operator::{Assignment, Bracket, Operator, StringKind, UnaryOperator};
 pub use path::Path;
 pub use source::MAX_LEN;
+pub use sqlite_items::Boxed;
 pub use tree::{Arg, Block, Branch, Expr, List, Operand, Parsed, Stmt, Tail};

@@ -10,13 +10,13 @@ ghost use Rattle.meson_syntax.specs.Reading as spec;
 ghost use Rattle.meson_syntax.specs.Tree.{is_named};
 ghost use Rattle.meson_syntax.specs.View.{arg_view, list_view};
 
-use crate::boxed::Boxed;
 use crate::fault::ParseFault;
 use crate::grammar::{Cursor, Grammar};
 use crate::many::Many;
 use crate::operator::Bracket;
 use crate::tree::{Arg, Expr, List};
 use meson_lex::Kind;
+use sqlite_items::Boxed;
 use std::alloc::Global;
 
 /// The token that opens a list in these brackets.

@@ -6,12 +6,12 @@ ghost use Rattle.meson_syntax.specs.Nests.{Follows, Nests};
 ghost use Rattle.meson_syntax.specs.Reading as spec;
 ghost use Rattle.meson_syntax.specs.View.{expr_view};
 
-use crate::boxed::Boxed;
 use crate::fault::ParseFault;
 use crate::grammar::{Cursor, Grammar};
 use crate::operator::{Bracket, StringKind};
 use crate::tree::Expr;
 use meson_lex::Kind;
+use sqlite_items::Boxed;
 use std::alloc::Global;
 
 impl<'a, F: Fn(Global, &[u8], &mut Cursor<'_>, usize) -> Result<Expr, ParseFault>> Grammar<'a, F> {
