@@ -3,3 +3,16 @@ pub mod Nesting
 pub mod Items
 pub mod Lists
 pub mod ReadAgain
+pub mod States
+pub mod StatementLines
+pub mod LinedHoles
+pub mod FirstBytes
+pub mod Ends
+pub mod Cuts
+pub mod AmongStatements
+pub mod LineWords
+pub mod Gone
+pub mod Removed
+pub mod Begun
+pub mod Appended
+pub mod Standing

@@ -17,6 +17,8 @@ pub mod Paths
 pub mod Parts
 pub mod Places
 pub mod Exchange
+pub mod ExchangeStatements
+pub mod Lines
 pub mod ReadsList
 pub mod Laws
 pub mod formers

@@ -1,6 +1,8 @@
 //! Laws of build files and their trees. The functions do nothing: what they ensure is the law.
 
 ghost use Rattle.meson_syntax.specs.Exchange.{ListsExchange, ListsLevel, ListsReadAgain};
+ghost use Rattle.meson_syntax.specs.ExchangeStatements.{AppendedReadAgain, AppendingLevels, RemovalsLevel, RemovalsReadAgain, StatementsCome, StatementsGo};
+ghost use Rattle.meson_syntax.specs.Lines.{AppendedWords, CutsAreUtf8, FilesEnd, LinesAreTexts, SpelledReads, StatementsAreTexts, StatementsEnd, StatementsStand};
 ghost use Rattle.meson_syntax.specs.Laws.{HasSpans, HolesFit, ListsFit, ListsStand, NodesStand, OneSpannedTree, OneTree};
 
 /// A text reads as at most one tree, whose nodes stand in it in one way.
@@ -29,4 +31,29 @@ pub fn exchange()
     ensures lists_exchange { ListsExchange }
     ensures lists_read_again { ListsReadAgain }
     ensures lists_level { ListsLevel }
+{}
+
+/// A statement may go from its block, with the blank before it and with what ends its line, and one may be put behind a file on
+/// lines of its own: the new text spells the tree without that statement, or with it at the end, and reads as that tree where
+/// its length and its depth allow it.
+pub fn statements()
+    ensures statements_go { StatementsGo }
+    ensures removals_read_again { RemovalsReadAgain }
+    ensures removals_level { RemovalsLevel }
+    ensures statements_come { StatementsCome }
+    ensures appended_read_again { AppendedReadAgain }
+    ensures appending_levels { AppendingLevels }
+{}
+
+/// What an edit on the items of a text has to know of them: before a statement a line begins, behind it one ends, and which words
+/// are left without it; which items are a statement's text; and that a text which spells a tree reads as it.
+pub fn lines()
+    ensures statements_stand { StatementsStand }
+    ensures statements_are_texts { StatementsAreTexts }
+    ensures lines_are_texts { LinesAreTexts }
+    ensures files_end { FilesEnd }
+    ensures statements_end { StatementsEnd }
+    ensures appended_words { AppendedWords }
+    ensures cuts_are_utf8 { CutsAreUtf8 }
+    ensures spelled_reads { SpelledReads }
 {}

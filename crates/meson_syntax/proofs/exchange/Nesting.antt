@@ -36,13 +36,13 @@ nest n (w ∷ ws) = option_and_then (λ m. nest m ws) (nest_by (role w.0) n)
 -- ---- what the words of a tree open they close
 
 -- words that open nothing that they do not close, wherever they stand
-abbrev Flat : List Word → Type 0
+abbrev pub Flat : List Word → Type 0
 Flat a = (n : ℕ) (b : List Word) → nest n (a ++ b) ≡ nest n b
 
-flat-append : (a b : List Word) → Flat a → Flat b → Flat (a ++ b)
+pub flat-append : (a b : List Word) → Flat a → Flat b → Flat (a ++ b)
 flat-append a b f g n c = ap (nest n) (append_assoc a b c) ∙ f n (b ++ c) ∙ g n c
 
-flat-word : (κ : Kind) (x : List ℕ) → role κ ≡ Other → Flat ((κ, x) ∷ [])
+pub flat-word : (κ : Kind) (x : List ℕ) → role κ ≡ Other → Flat ((κ, x) ∷ [])
 flat-word κ x other n b = rw other refl
 
 flat-brackets : (opens closes : Kind) (a : List Word) → role opens ≡ Opens → role closes ≡ Closes → Flat a → Flat (mark opens ++ (a ++ mark closes))

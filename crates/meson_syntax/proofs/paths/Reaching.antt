@@ -83,13 +83,13 @@ module _ (S : Type 0) where
   with-same : (f : File S) → with_block f (block_of f) ≡ f
   with-same (file s b) = refl
 
-  with-words : (f : File S) (b : Block S) → file_words (with_block f b) ≡ block_words b
+  pub with-words : (f : File S) (b : Block S) → file_words (with_block f b) ≡ block_words b
   with-words (file s c) b = refl
 
-  with-level : (f : File S) (b : Block S) → LevelBlock b → LevelFile (with_block f b)
+  pub with-level : (f : File S) (b : Block S) → LevelBlock b → LevelFile (with_block f b)
   with-level (file s c) b h = h
 
-  of-level : (f : File S) → LevelFile f → LevelBlock (block_of f)
+  pub of-level : (f : File S) → LevelFile f → LevelBlock (block_of f)
   of-level (file s b) h = h
 
   list-group : {A : Type 0} (a b c d : List A) → a ++ ((b ++ c) ++ d) ≡ (a ++ b) ++ (c ++ d)

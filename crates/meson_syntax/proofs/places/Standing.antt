@@ -225,7 +225,7 @@ module _ (items : List Lexeme) where
 
 -- ---- files
 
-block-spelled : (f : File Span) (len d : ℕ) (ts : List Token) → SpellsFile f len d ts → SpellsNode of_block (block_of f) d 0 ts
+pub block-spelled : (f : File Span) (len d : ℕ) (ts : List Token) → SpellsFile f len d ts → SpellsNode of_block (block_of f) d 0 ts
 block-spelled (file s b) len d ts h = h.2
 
 pub nodes-stand : (limits : Limits) (bytes : List ℕ) (f : File Span) (s : IsSpannedWithin limits bytes f) (path : List ℕ) (h : Hole Span (Block Span)) → reach Span of_block (block_of f) path ≡ Some h
