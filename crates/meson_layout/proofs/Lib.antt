@@ -1,0 +1,26 @@
+-- The lemmas of this crate.
+pub mod ReadItems
+pub mod Texts
+pub mod Ranges
+pub mod Places
+pub mod Near
+pub mod FirstBytes
+pub mod Merge
+pub mod Seams
+pub mod Patched
+pub mod Made
+pub mod Ends
+pub mod Splits
+pub mod Inserted
+pub mod InsertedPieces
+pub mod Parts
+pub mod SameTexts
+pub mod Sites
+pub mod InsertionLaws
+pub mod ValueLaws
+pub mod Gaps
+pub mod Cuts
+pub mod Removed
+pub mod RemovalLaws
+pub mod StatementLaws
+pub mod AppendLaws

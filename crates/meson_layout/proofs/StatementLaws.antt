@@ -1,0 +1,217 @@
+-- The laws of statements removed and appended.
+use Rattle.std.proofs.Common.{◌≡◌, ℕ, ◌+◌, true, false, ◌&&◌, List, [], ◌∷◌, ◌++◌, Ok, take, drop, refl, sym, ap, ap₂, ◌∙◌, subst, append_assoc}
+use Rattle.std.proofs.lemmas.Bool.{cond_both, and_parts, and_from}
+use Rattle.std.proofs.lemmas.List.{append-nil, take-append-drop}
+use Rattle.std.proofs.Math.Seq.{take-add}
+use Rattle.std.specs.Prelude.{reverse}
+use Rattle.meson_lex.specs.declared.kinds.Kind.{Kind}
+use Rattle.meson_lex.specs.declared.kinds.Kind.TheVariants as k
+use Rattle.meson_lex.specs.declared.kinds.Span.{Span}
+use Rattle.meson_lex.specs.Items.{Lexeme, joined, IsItemList}
+use Rattle.meson_lex.specs.Significant.{Word, Role, Gap, Ends, Opens, Closes, Other, role, kept, State, start, step, step_by, emit, emit_by, after, emitted, closing, new_line, significant}
+use Rattle.meson_lex.proofs.Seams.{joined-append}
+use Rattle.meson_layout.specs.Looks as look
+use Rattle.meson_layout.specs.Words.{IsTight}
+use Rattle.meson_layout.specs.Pieces.{Piece, old_items, new_items, splices, line_feed}
+use Rattle.meson_layout.specs.Layout.{Parts}
+use Rattle.meson_layout.specs.Statements.{at_line_start, statement_gone, statement_removed}
+use Rattle.meson_layout.specs.FileLaws.{line_start, behind_token, StatementIn, EditedFile, StatementGone, StatementRemovalLaw}
+use Rattle.meson_layout.proofs.Near.{Follow, AllGood, IsLoose, last, items-good, items-follow, follow-join, follow-front, follow-rest, good-join, good-front, good-rest}
+use Rattle.meson_layout.proofs.Seams.{near-loose, loose, no-comment, speaks-no-line, reloose}
+use Rattle.meson_layout.proofs.Merge.{merge, merge-joined, merge-run, merge-items}
+use Rattle.meson_layout.proofs.Patched.{patched-pieces}
+use Rattle.meson_layout.proofs.Parts.{parts-are}
+use Rattle.meson_layout.proofs.Ends.{back-parts, back-joins, last-one}
+use Rattle.meson_layout.proofs.Splits.{AllOf, begun, one-all, white-join, blank-white, line-white}
+
+-- ---- states
+
+pub after-append : (s : State) (xs ys : List Lexeme) → after s (xs ++ ys) ≡ after (after s xs) ys
+after-append s [] ys = refl
+after-append s (x ∷ xs) ys = after-append (step s x) xs ys
+
+pub emitted-append : (s : State) (xs ys : List Lexeme) → emitted s (xs ++ ys) ≡ emitted s xs ++ emitted (after s xs) ys
+emitted-append s [] ys = refl
+emitted-append s (x ∷ xs) ys = ap (λ ws. emit s x ++ ws) (emitted-append (step s x) xs ys) ∙ sym (append_assoc (emit s x) (emitted (step s x) xs) (emitted (after (step s x) xs) ys))
+
+-- the tokens of the rest of a text
+abbrev pub to_end : State → List Lexeme → List Word
+to_end s xs = emitted s xs ++ closing (after s xs).fresh
+
+pub to-end-append : (s : State) (xs ys : List Lexeme) → to_end s (xs ++ ys) ≡ emitted s xs ++ to_end (after s xs) ys
+to-end-append s xs ys =
+    ap₂ (λ u (v : State). u ++ closing v.fresh) (emitted-append s xs ys) (after-append s xs ys) ∙ append_assoc (emitted s xs) (emitted (after s xs) ys) (closing (after (after s xs) ys).fresh)
+
+-- blanks change nothing
+blank-kind-run : (κ : Kind) (text : List ℕ) (s : State) → look.is_blank κ ≡ true → (emit s (record { kind = κ; text = text }) ≡ []) × (step s (record { kind = κ; text = text }) ≡ s)
+blank-kind-run k.Blank text s h = (refl, refl)
+blank-kind-run _ text s h = absurd cc
+
+blank-run : (s : State) (xs : List Lexeme) → AllOf look.is_blank xs → (emitted s xs ≡ []) × (after s xs ≡ s)
+blank-run s [] h = (refl, refl)
+blank-run s (x ∷ xs) h =
+    let one = blank-kind-run x.kind x.text s h.0 in
+    let more = blank-run s xs h.1 in
+    (ap₂ (λ u (v : State). u ++ emitted v xs) one.0 one.1 ∙ more.0, ap (λ (v : State). after v xs) one.1 ∙ more.1)
+
+-- white space at a line's start says nothing
+white-kind-run : (κ : Kind) (text : List ℕ) → look.is_white κ ≡ true → (emit line_start (record { kind = κ; text = text }) ≡ []) × (step line_start (record { kind = κ; text = text }) ≡ line_start)
+white-kind-run k.Blank text h = (refl, refl)
+white-kind-run k.LineEnd text h = (refl, refl)
+white-kind-run _ text h = absurd cc
+
+white-run : (xs : List Lexeme) → AllOf look.is_white xs → (emitted line_start xs ≡ []) × (after line_start xs ≡ line_start)
+white-run [] h = (refl, refl)
+white-run (x ∷ xs) h =
+    let one = white-kind-run x.kind x.text h.0 in
+    let more = white-run xs h.1 in
+    (ap₂ (λ u (v : State). u ++ emitted v xs) one.0 one.1 ∙ more.0, ap (λ (v : State). after v xs) one.1 ∙ more.1)
+
+-- Behind a statement comes a line end; without the statement that line end says nothing.
+drop-by : (r : Role) (w : Word) (xs : List Lexeme) (ts : List Word) → (to_end behind_token xs ≡ new_line ∷ ts → to_end line_start xs ≡ ts) → (r ≡ Opens → w ≡ new_line → ⊥) → (r ≡ Closes → w ≡ new_line → ⊥) → (r ≡ Other → w ≡ new_line → ⊥)
+    → (emit_by r behind_token w ++ emitted (step_by r behind_token) xs) ++ closing (after (step_by r behind_token) xs).fresh ≡ new_line ∷ ts
+    → (emit_by r line_start w ++ emitted (step_by r line_start) xs) ++ closing (after (step_by r line_start) xs).fresh ≡ ts
+drop-by Gap w xs ts ih p q u h = ih h
+drop-by Ends w xs ts ih p q u h = cc
+drop-by Opens w xs ts ih p q u h = let no : w ≡ new_line = cc in absurd (p refl no)
+drop-by Closes w xs ts ih p q u h = let no : w ≡ new_line = cc in absurd (q refl no)
+drop-by Other w xs ts ih p q u h = let no : w ≡ new_line = cc in absurd (u refl no)
+
+line-role : (κ : Kind) (text : List ℕ) (r : Role) → role κ ≡ r → (κ, kept κ text) ≡ new_line → r ≡ Ends
+line-role κ text r h e = sym h ∙ ap (λ (a : Word). role a.0) e
+
+pub drop-line : (xs : List Lexeme) (ts : List Word) → to_end behind_token xs ≡ new_line ∷ ts → to_end line_start xs ≡ ts
+drop-line [] ts h = cc
+drop-line (x ∷ xs) ts h =
+    let w : Word = (x.kind, kept x.kind x.text) in
+    drop-by (role x.kind) w xs ts (drop-line xs ts)
+    (λ e n. let no : Opens ≡ Ends = line-role x.kind x.text Opens e n in absurd cc)
+    (λ e n. let no : Closes ≡ Ends = line-role x.kind x.text Closes e n in absurd cc)
+    (λ e n. let no : Other ≡ Ends = line-role x.kind x.text Other e n in absurd cc)
+    h
+
+-- ---- the last item at a line's start
+
+fresh-kind : (κ : Kind) (s : State) → (step_by (role κ) s).fresh ≡ true → look.is_comment κ ≡ false → loose κ ≡ true
+fresh-kind k.Blank s h c = refl
+fresh-kind k.LineEnd s h c = refl
+fresh-kind k.Comment s h c = absurd cc
+fresh-kind k.Continuation s h c = refl
+fresh-kind _ s h c = absurd cc
+
+fresh-last : (s : State) (d : Lexeme) (xs : List Lexeme) → loose d.kind ≡ true → (after s xs).fresh ≡ true → look.is_comment (last d xs).kind ≡ false → loose (last d xs).kind ≡ true
+fresh-last s d [] l h c = l
+fresh-last s d (x ∷ []) l h c = fresh-kind x.kind s h c
+fresh-last s d (x ∷ y ∷ ys) l h c = fresh-last (step s x) line_feed (y ∷ ys) refl h c
+
+-- ---- from pieces to the text
+
+pub file-edited : (file source : List ℕ) (items : List Lexeme) → IsItemList source items → (ps : List Piece) (text : List ℕ) (tokens : List Word) → old_items ps ≡ items → joined (new_items ps) ≡ text → Follow line_feed (new_items ps) → AllGood (new_items ps) → significant (new_items ps) ≡ tokens
+    → EditedFile source (splices file 0 ps) text tokens
+file-edited file source items list ps text tokens old new fits good says =
+    let run = merge-run (new_items ps) start in
+    record {
+      patches = patched-pieces file source ps (ap joined old ∙ list.joins) ∙ ap Ok new;
+      items = merge (new_items ps);
+      are_items = record { joins = merge-joined (new_items ps) ∙ new; each = merge-items line_feed (new_items ps) fits good };
+      says = ap₂ (λ u (v : State). u ++ closing v.fresh) run.0 run.1 ∙ says;
+    }
+
+white-all : (xs : List Lexeme) → AllOf look.is_white xs → look.all_white xs ≡ true
+white-all [] h = refl
+white-all (x ∷ xs) h = and_from (look.is_white x.kind) (look.all_white xs) h.0 (white-all xs h.1)
+
+-- the blank at the end
+last-blank : (left : List Lexeme) → AllOf look.is_blank (look.last_few (look.one look.is_blank (reverse left)) left)
+last-blank left = cond_both (look.begins look.is_blank (reverse left)) _ _ (λ n. AllOf look.is_blank (look.last_few n left))
+    (λ h. let b = begun look.is_blank (reverse left) h in let p = back-parts left (reverse b.more) (b.first ∷ []) 1 (last-one left b.first b.more b.is) refl in subst (AllOf look.is_blank) (sym p.1) (b.passes, tt))
+    (λ h. let p = back-parts left left [] 0 (sym (append-nil left)) refl in subst (AllOf look.is_blank) (sym p.1) tt)
+
+module _ (file source : List ℕ) (items : List Lexeme) (list : IsItemList source items) (s : Span) (more : List Word) (p : StatementIn items s more) where
+  good : AllGood (p.left ++ (p.own ++ p.right))
+  good = subst AllGood p.parts (items-good items [] list.each)
+
+  chain : Follow line_feed (p.left ++ (p.own ++ p.right))
+  chain = subst (Follow line_feed) p.parts (items-follow line_feed items [] (λ y. tt) list.each)
+
+  -- what is behind the statement, at a line's start
+  behind-tokens : to_end line_start p.right ≡ more
+  behind-tokens =
+      let whole : after start items ≡ after behind_token p.right = ap (after start) (p.parts ∙ sym (append_assoc p.left p.own p.right)) ∙ after-append start (p.left ++ p.own) p.right ∙ ap (λ (v : State). after v p.right) p.ends in
+      drop-line p.right more (ap₂ (λ (u v : State). emitted u p.right ++ closing v.fresh) (sym p.ends) (sym whole) ∙ p.is_right)
+
+  gone-by : (n m : ℕ) → AllOf look.is_blank (look.last_few n p.left) → AllOf look.is_white (take m p.right) → StatementGone source p.left p.right (splices file 0 (statement_gone n m p.left p.own p.right)) (emitted start p.left ++ more)
+  gone-by n m blanks white =
+      let front = look.but_last n p.left in
+      let gone = look.last_few n p.left in
+      let lost = take m p.right in
+      let rest = drop m p.right in
+      let left_is : p.left ≡ front ++ gone = sym (back-joins p.left n) in
+      let right_is : p.right ≡ lost ++ rest = sym (take-append-drop m p.right) in
+      let run = blank-run (after start front) gone blanks in
+      let state : after start front ≡ line_start = sym run.1 ∙ sym (ap (after start) left_is ∙ after-append start front gone) ∙ p.begins in
+      let words : emitted start p.left ≡ emitted start front = ap (emitted start) left_is ∙ emitted-append start front gone ∙ ap (λ ws. emitted start front ++ ws) run.0 ∙ append-nil (emitted start front) in
+      let lost_run = white-run lost white in
+      let rest_tokens : to_end line_start rest ≡ more =
+      sym (ap (to_end line_start) right_is ∙ to-end-append line_start lost rest ∙ ap₂ (λ u (v : State). u ++ to_end v rest) lost_run.0 lost_run.1) ∙ behind-tokens in
+      let split : Follow line_feed (front ++ (gone ++ (p.own ++ p.right))) = subst (Follow line_feed) (ap (λ xs. xs ++ (p.own ++ p.right)) left_is ∙ append_assoc front gone (p.own ++ p.right)) chain in
+      let next : Follow (last line_feed front) (gone ++ (p.own ++ p.right)) = follow-rest line_feed front _ split in
+      let good_left : AllGood (front ++ gone) = subst AllGood left_is (good-front p.left (p.own ++ p.right) good) in
+      let own_right = good-rest p.left (p.own ++ p.right) good in
+      let calm = calm-by (last line_feed front) gone (p.own ++ p.right) p.tight blanks next (good-join gone (p.own ++ p.right) (good-rest front gone good_left) own_right) in
+      let is_fresh : (after start front).fresh ≡ true = ap (λ (v : State). v.fresh) state in
+      let ends : IsLoose (last line_feed front) = near-loose (last line_feed front) (fresh-last start line_feed front refl is_fresh calm) in
+      let y = last (last (last line_feed front) gone) p.own in
+      let behind : Follow y (lost ++ rest) = subst (Follow y) right_is (follow-rest (last (last line_feed front) gone) p.own p.right (follow-rest (last line_feed front) gone _ next)) in
+      let good_right : AllGood (lost ++ rest) = subst AllGood right_is (good-rest p.own p.right own_right) in
+      let new : front ++ (rest ++ []) ≡ front ++ rest = ap (λ xs. front ++ xs) (append-nil rest) in
+      let fits : Follow line_feed (front ++ rest) = follow-join line_feed front rest (follow-front line_feed front _ split) (reloose (last y lost) (last line_feed front) rest ends (follow-rest y lost rest behind)) in
+      record {
+        front = front;
+        gone = gone;
+        lost = lost;
+        rest = rest;
+        left_is = left_is;
+        right_is = right_is;
+        gone_is = white-all gone (blank-white gone blanks);
+        lost_is = white-all lost white;
+        edited = file-edited file source items list (statement_gone n m p.left p.own p.right) (joined front ++ joined rest) (emitted start p.left ++ more)
+            (regroup front gone p.own lost rest ∙ ap₂ (λ u v. u ++ (p.own ++ v)) (sym left_is) (sym right_is) ∙ sym p.parts)
+            (ap joined new ∙ joined-append front rest)
+            (subst (Follow line_feed) (sym new) fits)
+            (subst AllGood (sym new) (good-join front rest (good-front front gone good_left) (good-rest lost rest good_right)))
+            (ap significant new ∙ to-end-append start front rest ∙ ap (λ (v : State). emitted start front ++ to_end v rest) state ∙ ap₂ (λ u v. u ++ v) (sym words) rest_tokens);
+      }
+    where
+      regroup : (a b r t d : List Lexeme) → a ++ ((b ++ (r ++ t)) ++ (d ++ [])) ≡ (a ++ b) ++ (r ++ (t ++ d))
+      regroup a b r t d = simp (append_assoc, append-nil)
+
+      blank-no-line : (κ : Kind) → look.is_blank κ ≡ true → look.is_line_end κ ≡ false
+      blank-no-line k.Blank h = refl
+      blank-no-line _ h = absurd cc
+
+      first-calm : (x : Lexeme) (xs : List Lexeme) → (t : IsTight p.own) → Follow x (p.own ++ xs) → AllGood (p.own ++ xs) → look.is_comment x.kind ≡ false
+      first-calm x xs t f g =
+          let at : Follow x (t.first ∷ (t.more ++ xs)) = subst (λ l. Follow x (l ++ xs)) t.begins f in
+          let of : AllGood (t.first ∷ (t.more ++ xs)) = subst (λ l. AllGood (l ++ xs)) t.begins g in
+          no-comment x t.first at.0 (speaks-no-line t.first.kind t.first_speaks) of.0
+
+      calm-by : (x : Lexeme) (gone : List Lexeme) (xs : List Lexeme) → IsTight p.own → AllOf look.is_blank gone → Follow x (gone ++ (p.own ++ p.right)) → AllGood (gone ++ (p.own ++ p.right)) → look.is_comment x.kind ≡ false
+      calm-by x [] xs t b f g = first-calm x p.right t f g
+      calm-by x (z ∷ gone) xs t b f g = no-comment x z f.0 (blank-no-line z.kind b.0) g.0
+
+  statement-gone : StatementGone source p.left p.right (splices file 0 (statement_removed p.left p.own p.right)) (emitted start p.left ++ more)
+  unfolding statement_removed
+  statement-gone =
+      let n = look.one look.is_blank (reverse p.left) in
+      let m = look.one look.is_blank p.right in
+      let blank = one-all look.is_blank p.right in
+      cond_both (at_line_start (reverse (look.but_last n p.left)) && look.begins look.is_line_end (drop m p.right)) _ _ (λ ps. StatementGone source p.left p.right (splices file 0 ps) (emitted start p.left ++ more))
+      (λ h. let e = begun look.is_line_end (drop m p.right) (and_parts (at_line_start (reverse (look.but_last n p.left))) (look.begins look.is_line_end (drop m p.right)) h).1 in
+      gone-by n (m + 1) (last-blank p.left) (subst (AllOf look.is_white) (sym (take-add m 1 p.right ∙ ap (λ xs. take m p.right ++ take 1 xs) e.is)) (white-join (take m p.right) (e.first ∷ []) (blank-white (take m p.right) blank) (line-white (e.first ∷ []) (e.passes, tt)))))
+      (λ h. gone-by n m (last-blank p.left) (blank-white (take m p.right) blank))
+
+pub statement-removal-law : StatementRemovalLaw
+statement-removal-law file source items list s more p =
+    let at = parts-are items p.left p.own p.right s p.parts p.from p.to (items-good items [] list.each) in
+    subst (λ ss. StatementGone source p.left p.right ss (emitted start p.left ++ more)) (sym (ap (λ (q : Parts). splices file 0 (statement_removed q.left q.own q.right)) at)) (statement-gone file source items list s more p)

@@ -1,0 +1,67 @@
+-- What the splices of a removed and of an appended statement make of a text.
+use Rattle.std.specs.Prelude.{◌≡◌, ℕ, true, false, List, [], ◌∷◌, ◌++◌, length, Ok}
+use Rattle.meson_lex.specs.declared.kinds.Span.{Span}
+use Rattle.meson_lex.specs.Items.{Lexeme, joined, IsItemList}
+use Rattle.meson_lex.specs.Significant.{Word, State, start, after, emitted, closing, new_line, significant}
+use Rattle.meson_splice.specs.declared.splice.Splice.{Splice}
+use Rattle.meson_layout.specs.declared.primitive.Primitive.TheVariants.{RemoveStatement, Append}
+use Rattle.meson_layout.specs.Looks.{all_white}
+use Rattle.meson_layout.specs.Layout.{layout_of}
+use Rattle.meson_layout.specs.Words.{IsTight}
+use Rattle.meson_layout.specs.Edited.{patched_by}
+
+-- outside brackets, at the start of a line or behind a token
+abbrev pub line_start : State
+line_start = record { depth = 0; fresh = true }
+
+abbrev pub behind_token : State
+behind_token = record { depth = 0; fresh = false }
+
+-- A statement among the items of a file: `more` are the file's tokens behind its line.
+pub record StatementIn (items : List Lexeme) (s : Span) (more : List Word) : Type 0 where
+  pub left : List Lexeme
+  pub own : List Lexeme
+  pub right : List Lexeme
+  pub parts : items ≡ left ++ (own ++ right)
+  pub from : s.from ≡ length (joined left)
+  pub to : s.to ≡ length (joined (left ++ own))
+  pub tight : IsTight own
+  pub begins : after start left ≡ line_start
+  pub ends : after start (left ++ own) ≡ behind_token
+  pub is_right : emitted (after start (left ++ own)) right ++ closing (after start items).fresh ≡ new_line ∷ more
+
+-- the splices give the text, which has these significant tokens
+pub record EditedFile (source : List ℕ) (ss : List Splice) (text : List ℕ) (tokens : List Word) : Type 0 where
+  pub patches : patched_by source ss ≡ Ok text
+  pub items : List Lexeme
+  pub are_items : IsItemList text items
+  pub says : significant items ≡ tokens
+
+-- A removed statement: its tokens and those of its line end go. All before it and all behind it stays, but for blanks and line ends.
+pub record StatementGone (source : List ℕ) (left right : List Lexeme) (ss : List Splice) (tokens : List Word) : Type 0 where
+  pub front : List Lexeme
+  pub gone : List Lexeme
+  pub lost : List Lexeme
+  pub rest : List Lexeme
+  pub left_is : left ≡ front ++ gone
+  pub right_is : right ≡ lost ++ rest
+  pub gone_is : all_white gone ≡ true
+  pub lost_is : all_white lost ≡ true
+  pub edited : EditedFile source ss (joined front ++ joined rest) tokens
+
+abbrev pub StatementRemovalLaw : Type 0
+StatementRemovalLaw = (file source : List ℕ) (items : List Lexeme) → IsItemList source items → (s : Span) (more : List Word) (p : StatementIn items s more)
+    → StatementGone source p.left p.right (layout_of file items (RemoveStatement s)) (emitted start p.left ++ more)
+
+-- a statement as it is written, by itself
+pub record IsStatement (bytes : List ℕ) (fresh : List Lexeme) (words : List Word) : Type 0 where
+  pub are_items : IsItemList bytes fresh
+  pub tight : IsTight fresh
+  pub says : emitted start fresh ≡ words
+  pub ends : after start fresh ≡ behind_token
+
+-- An appended statement: its tokens and a line end come last, and the file stays as it is before them.
+abbrev pub AppendLaw : Type 0
+AppendLaw = (file source : List ℕ) (items : List Lexeme) → IsItemList source items → (after start items).depth ≡ 0
+    → (new : List ℕ) (fresh : List Lexeme) (words : List Word) → IsStatement new fresh words
+    → (come : List ℕ) × EditedFile source (layout_of file items (Append new)) (source ++ come) (significant items ++ (words ++ new_line ∷ []))

@@ -1,0 +1,52 @@
+-- What the splices of an edit within a list make of the text: between the same brackets stands the edited list, and all else keeps its bytes.
+use Rattle.std.specs.Prelude.{◌≡◌, ℕ, List, [], ◌∷◌, ◌++◌, ◌⊎◌, length}
+use Rattle.meson_lex.specs.declared.kinds.Kind.TheVariants.{OpenSquare, CloseSquare}
+use Rattle.meson_lex.specs.declared.kinds.Span.{Span}
+use Rattle.meson_lex.specs.Items.{Lexeme, joined, IsItemList}
+use Rattle.meson_lex.specs.Significant.{Word}
+use Rattle.meson_layout.specs.declared.primitive.Primitive.TheVariants.{First, After, Remove, Replace, Wrap}
+use Rattle.meson_layout.specs.Layout.{layout_of}
+use Rattle.meson_layout.specs.Words.{spoken, remarks, comma_word, IsBehindElement, IsBeforeElement, IsBeforeValue}
+use Rattle.meson_layout.specs.Edited.{ListIn, PartIn, IsNew, Edited}
+
+-- The first element of a list that has none.
+abbrev pub FirstLaw : Type 0
+FirstLaw = (file source : List ℕ) (items : List Lexeme) → IsItemList source items → (l : ListIn items) → spoken l.inner ≡ []
+    → (at : ℕ) → at ≡ length (joined l.front) → (new : List ℕ) (fresh : List Lexeme) → IsNew new fresh
+    → Edited source items l [] l.inner (layout_of file items (First at new)) (spoken fresh) (remarks l.inner)
+
+-- A new element behind another one: its words come behind a comma. No comment and no continuation goes.
+abbrev pub InsertionLaw : Type 0
+InsertionLaw = (file source : List ℕ) (items : List Lexeme) → IsItemList source items → (l : ListIn items) (s : Span) (p : PartIn items l s) → IsBehindElement (spoken p.right)
+    → (new : List ℕ) (fresh : List Lexeme) → IsNew new fresh
+    → Edited source items l (p.left ++ p.own) p.right (layout_of file items (After s new)) (spoken p.left ++ (spoken p.own ++ comma_word ∷ (spoken fresh ++ spoken p.right))) (remarks l.inner)
+
+-- the words of a list without an element, by those before and behind it: the comma behind it goes, else the one before it
+abbrev pub IsWithout : List Word → List Word → List Word → Type 0
+IsWithout left right words =
+    ((more : List Word) × (right ≡ comma_word ∷ more) × (words ≡ left ++ more))
+    ⊎ ((front : List Word) × (right ≡ []) × (left ≡ front ++ comma_word ∷ []) × (words ≡ front))
+    ⊎ ((right ≡ []) × (left ≡ []) × (words ≡ []))
+
+-- An element removed: its own comments and continuations go, and no others.
+abbrev pub RemovalLaw : Type 0
+RemovalLaw = (file source : List ℕ) (items : List Lexeme) → IsItemList source items → (l : ListIn items) (s : Span) (p : PartIn items l s)
+    → IsBeforeElement (spoken p.left) → IsBehindElement (spoken p.right) → (words : List Word) → IsWithout (spoken p.left) (spoken p.right) words
+    → Edited source items l p.left p.right (layout_of file items (Remove s)) words (remarks p.left ++ remarks p.right)
+
+-- A value that becomes another one.
+abbrev pub ReplacementLaw : Type 0
+ReplacementLaw = (file source : List ℕ) (items : List Lexeme) → IsItemList source items → (l : ListIn items) (s : Span) (p : PartIn items l s)
+    → IsBeforeValue (spoken p.left) → IsBehindElement (spoken p.right) → (new : List ℕ) (fresh : List Lexeme) → IsNew new fresh
+    → Edited source items l p.left p.right (layout_of file items (Replace s new)) (spoken p.left ++ (spoken fresh ++ spoken p.right)) (remarks p.left ++ remarks p.right)
+
+-- A value that becomes the array of it.
+abbrev pub WrapLaw : Type 0
+WrapLaw = (file source : List ℕ) (items : List Lexeme) → IsItemList source items → (l : ListIn items) (s : Span) (p : PartIn items l s)
+    → IsBeforeValue (spoken p.left) → IsBehindElement (spoken p.right)
+    → Edited source items l p.left p.right (layout_of file items (Wrap s)) (spoken p.left ++ ((OpenSquare, []) ∷ (spoken p.own ++ (CloseSquare, []) ∷ spoken p.right))) (remarks l.inner)
+
+-- It is one splice, and the value keeps its bytes.
+abbrev pub WrapKeeps : Type 0
+WrapKeeps = (file source : List ℕ) (items : List Lexeme) → IsItemList source items → (l : ListIn items) (s : Span) (p : PartIn items l s)
+    → layout_of file items (Wrap s) ≡ record { file = file; at = s.from; was = joined p.own; now = 91 ∷ (joined p.own ++ 93 ∷ []) } ∷ []

@@ -1,0 +1,100 @@
+-- The splices of an edit, by the items of the source.
+use Rattle.std.specs.Prelude.{◌≡◌, ℕ, suc, ◌+◌, ◌-◌, ◌<◌, ◌^◌, ◌==◌, List, [], ◌∷◌, ◌++◌, length, take, drop, if◌then◌else◌}
+use Rattle.meson_lex.specs.declared.kinds.Span.{Span}
+use Rattle.meson_lex.specs.Items.{Lexeme, joined, IsItemList}
+use Rattle.meson_lex.specs.Significant.{Opens, role}
+use Rattle.meson_splice.specs.declared.splice.Splice.{Splice}
+use Rattle.meson_layout.specs.declared.primitive.Primitive.{Primitive}
+use Rattle.meson_layout.specs.declared.primitive.Primitive.TheVariants.{First, After, Remove, Replace, Wrap, RemoveStatement, Append}
+use Rattle.meson_layout.specs.Pieces.{Piece, Keep, Change, as_one, open_square, close_square, splices}
+use Rattle.meson_layout.specs.Insertion.{first, inserted}
+use Rattle.meson_layout.specs.Removal.{removed}
+use Rattle.meson_layout.specs.Statements.{statement_removed, appended}
+
+-- ---- places
+
+-- how many items stand before an offset
+abbrev pub before_len : ℕ → List Lexeme → ℕ
+before_len n [] = 0
+before_len n (x ∷ xs) = if n == 0 then 0 else suc (before_len (n - length x.text) xs)
+
+-- the items before, of and behind a span
+pub record Parts : Type 0 where
+  pub left : List Lexeme
+  pub own : List Lexeme
+  pub right : List Lexeme
+
+abbrev pub parts_by : ℕ → List Lexeme → List Lexeme → Parts
+parts_by n left rest = record { left = left; own = take n rest; right = drop n rest }
+
+abbrev pub parts_from : ℕ → ℕ → List Lexeme → Parts
+parts_from n size items = parts_by (before_len size (drop n items)) (take n items) (drop n items)
+
+unfoldable pub parts : Span → List Lexeme → Parts
+parts s items = parts_from (before_len s.from items) (s.to - s.from) items
+
+-- ---- pieces
+
+-- a value becomes other items, and the array of itself
+abbrev pub replaced : List Lexeme → List Lexeme → List Lexeme → List Lexeme → List Piece
+replaced left own right new = Keep left ∷ Change own new ∷ Keep right ∷ []
+
+abbrev pub wrapped : List Lexeme → List Lexeme → List Lexeme → List Piece
+wrapped left own right = replaced left own right (open_square ∷ (own ++ close_square ∷ []))
+
+abbrev pub first_in : ℕ → List Lexeme → List Lexeme → List Piece
+first_in n items new = first (take n items) (drop n items) new
+
+abbrev pub pieces : Primitive → List Lexeme → List Piece
+pieces (First bracket new) items = first_in (before_len (bracket + 1) items) items (as_one new)
+pieces (After element new) items = let p = parts element items in inserted p.left p.own p.right (as_one new)
+pieces (Remove element) items = let p = parts element items in removed p.left p.own p.right
+pieces (Replace value new) items = let p = parts value items in replaced p.left p.own p.right (as_one new)
+pieces (Wrap value) items = let p = parts value items in wrapped p.left p.own p.right
+pieces (RemoveStatement statement) items = let p = parts statement items in statement_removed p.left p.own p.right
+pieces (Append new) items = appended items (as_one new)
+
+-- The layout of an edit of the text of these items.
+abbrev pub layout_of : List ℕ → List Lexeme → Primitive → List Splice
+layout_of file items primitive = splices file 0 (pieces primitive items)
+
+-- ---- conditions
+
+-- the span begins and ends at borders of the items, and is not empty
+pub record IsSpanOf (items : List Lexeme) (s : Span) : Type 0 where
+  pub left : List Lexeme
+  pub first : Lexeme
+  pub more : List Lexeme
+  pub right : List Lexeme
+  pub joins : items ≡ left ++ (first ∷ more ++ right)
+  pub from : s.from ≡ length (joined left)
+  pub to : s.to ≡ length (joined (left ++ first ∷ more))
+
+-- an opening bracket stands at the offset
+pub record IsBracketOf (items : List Lexeme) (at : ℕ) : Type 0 where
+  pub left : List Lexeme
+  pub bracket : Lexeme
+  pub right : List Lexeme
+  pub joins : items ≡ left ++ bracket ∷ right
+  pub place : at ≡ length (joined left)
+  pub opens : role bracket.kind ≡ Opens
+
+abbrev pub IsPlaced : Primitive → List Lexeme → Type 0
+IsPlaced (First bracket new) items = IsBracketOf items bracket
+IsPlaced (After element new) items = IsSpanOf items element
+IsPlaced (Remove element) items = IsSpanOf items element
+IsPlaced (Replace value new) items = IsSpanOf items value
+IsPlaced (Wrap value) items = IsSpanOf items value
+IsPlaced (RemoveStatement statement) items = IsSpanOf items statement
+IsPlaced (Append new) items = Unit {0}
+
+-- The source has an item list, and the places of the edit are borders of its items.
+pub record IsReady (source : List ℕ) (primitive : Primitive) : Type 0 where
+  pub items : List Lexeme
+  pub are_items : IsItemList source items
+  pub placed : IsPlaced primitive items
+
+-- the offset behind an opening bracket fits
+abbrev pub FirstFits : Primitive → Type 0
+FirstFits (First bracket new) = bracket + 1 < 2 ^ 64
+FirstFits _ = Unit {0}

@@ -1,0 +1,12 @@
+-- What the contracts of this crate cite.
+pub mod Looks
+pub mod Pieces
+pub mod Insertion
+pub mod Removal
+pub mod Statements
+pub mod Layout
+pub mod Places
+pub mod Words
+pub mod Edited
+pub mod Laws
+pub mod FileLaws

@@ -1,0 +1,113 @@
+-- Looks at the items beside an element or a statement. Each answers with a number of items, or says that there are none such. What stands before an element is looked at
+-- backwards: the nearest item first.
+use Rattle.std.specs.Prelude.{ℕ, suc, ◌+◌, ◌-◌, Bool, true, false, ◌&&◌, List, [], ◌∷◌, length, take, drop, reverse, if◌then◌else◌, Option, Some, None}
+use Rattle.std.specs.List.{list_all, prefix_len}
+use Rattle.meson_lex.specs.declared.kinds.Kind.{Kind}
+use Rattle.meson_lex.specs.declared.kinds.Kind.TheVariants.{Blank, LineEnd, Comment, Continuation, Comma, CloseRound, CloseSquare, CloseCurly}
+use Rattle.meson_lex.specs.Items.{Lexeme}
+
+-- ---- kinds
+
+abbrev pub is_blank : Kind → Bool
+is_blank Blank = true
+is_blank _ = false
+
+-- a continuation is no line end
+abbrev pub is_line_end : Kind → Bool
+is_line_end LineEnd = true
+is_line_end _ = false
+
+abbrev pub is_comment : Kind → Bool
+is_comment Comment = true
+is_comment _ = false
+
+abbrev pub is_comma : Kind → Bool
+is_comma Comma = true
+is_comma _ = false
+
+abbrev pub is_closing : Kind → Bool
+is_closing CloseRound = true
+is_closing CloseSquare = true
+is_closing CloseCurly = true
+is_closing _ = false
+
+-- what is no token inside brackets
+abbrev pub is_gap : Kind → Bool
+is_gap Blank = true
+is_gap LineEnd = true
+is_gap Comment = true
+is_gap Continuation = true
+is_gap _ = false
+
+abbrev pub is_white : Kind → Bool
+is_white Blank = true
+is_white LineEnd = true
+is_white _ = false
+
+-- the first item is of such a kind
+abbrev pub begins : (Kind → Bool) → List Lexeme → Bool
+begins test [] = false
+begins test (x ∷ xs) = test x.kind
+
+-- 1, where the first item is of such a kind
+abbrev pub one : (Kind → Bool) → List Lexeme → ℕ
+one test xs = if begins test xs then 1 else 0
+
+-- all but the last n, and the last n
+abbrev pub but_last : ℕ → List Lexeme → List Lexeme
+but_last n xs = take (length xs - n) xs
+
+abbrev pub last_few : ℕ → List Lexeme → List Lexeme
+last_few n xs = drop (length xs - n) xs
+
+-- ---- lines
+
+-- How many items stand between a line end and what follows it: none, or one blank. (Nearest first.)
+abbrev pub line_near : List Lexeme → Option ℕ
+line_near [] = None
+line_near (x ∷ xs) = if is_line_end x.kind then Some 0 else (if is_blank x.kind && begins is_line_end xs then Some 1 else None)
+
+abbrev pub line_before : List Lexeme → Option ℕ
+line_before left = line_near (reverse left)
+
+-- How many items end a line: nothing or one blank, and a line end.
+abbrev pub line_behind : List Lexeme → Option ℕ
+line_behind right =
+    let n = one is_blank right in
+    if begins is_line_end (drop n right) then Some (suc n) else None
+
+-- How many items stand before the line end that ends this line, where these are at most a blank and a comment.
+abbrev pub note_len : List Lexeme → Option ℕ
+note_len right =
+    let n = one is_blank right in
+    let m = one is_comment (drop n right) in
+    if begins is_line_end (drop m (drop n right)) then Some (n + m) else None
+
+abbrev pub more_by : ℕ → Option ℕ → Option ℕ
+more_by n None = None
+more_by n (Some m) = Some (n + m)
+
+-- The same, where a comma stands before these, and at most a blank before it.
+abbrev pub comma_note_len : List Lexeme → Option ℕ
+comma_note_len right =
+    let n = one is_blank right in
+    if begins is_comma (drop n right) then more_by (n + 1) (note_len (drop 1 (drop n right))) else None
+
+-- a closing bracket follows, and before it at most a blank
+abbrev pub closes : List Lexeme → Bool
+closes right = begins is_closing (drop (one is_blank right) right)
+
+-- ---- gaps
+
+-- how many items stand at the front that are no tokens
+abbrev pub gap_len : List Lexeme → ℕ
+gap_len xs = prefix_len (λ (x : Lexeme). is_gap x.kind) xs
+
+abbrev pub all_white : List Lexeme → Bool
+all_white xs = list_all (λ (x : Lexeme). is_white x.kind) xs
+
+-- nothing, or one blank
+abbrev pub at_most_blank : List Lexeme → Bool
+at_most_blank [] = true
+at_most_blank (x ∷ []) = is_blank x.kind
+at_most_blank (x ∷ y ∷ ys) = false

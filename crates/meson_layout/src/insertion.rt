@@ -1,0 +1,135 @@
+//! Where a new element goes.
+
+ghost use Rattle.std.specs.Prelude.{◌≡◌, ◌++◌, OnOk, ◌+◌, ◌<◌, ◌≤◌, ◌^◌, IfErr, IfOk, length, zero};
+ghost use Rattle.meson_lex.specs.Items.{joined};
+ghost use Rattle.meson_layout.specs.Insertion.{before_bracket, first, inserted, plain, with_comma, without_comma};
+ghost use Rattle.meson_layout.specs.Pieces.{as_one, splices};
+ghost use Rattle.meson_layout.specs.Places.{Fits, at_place};
+ghost use Rattle.meson_splice.specs.declared.fault.SpliceFault.TheVariants.{OutOfMemory};
+
+use crate::lexemes::Lexeme;
+use crate::looks::{closes, comma_note_len, line_before, note_len};
+use crate::place::{Place, one_splice, push_texts, splice, text_len, two_splices};
+use meson_splice::{Splice, SpliceFault};
+
+/// Writes a line end with its indent, and what is new on that line.
+fn push_line(to: &mut Vec<u8>, line: &[Lexeme<'_>], new: &[u8]) -> Result<(), SpliceFault>
+    ensures done { OnOk result (to.new.items ≡ to.old.items ++ (joined line.now ++ new.now)) }
+    ensures refused { IfErr result (λ e. e ≡ OutOfMemory) }
+{
+    push_texts(to, line)?;
+    to.extend_from_slice(new)?;
+    Ok(())
+}
+
+impl<'i, 'a> Place<'i, 'a> {
+    /// Directly after the element.
+    fn plain(self, new: &[u8]) -> Result<Vec<Splice>, SpliceFault>
+        requires { Fits self }
+        ensures done { IfOk result (λ v. v.items ≡ splices self.entry.file.now 0 (at_place plain self.entry (as_one new.now))) }
+        ensures refused { IfErr result (λ e. e ≡ OutOfMemory) }
+    {
+        let mut now = Vec::new(self.alloc);
+        now.extend_from_slice(b", ")?;
+        now.extend_from_slice(new)?;
+        one_splice(
+            self.alloc,
+            splice(self.alloc, self.file, self.end(), Vec::new(self.alloc), now)?,
+        )
+    }
+
+    /// Behind the element, on a line of its own: a comma and the new line.
+    #[tactic(auto, using(crate::proofs::Texts::line_joined))]
+    fn before_bracket(self, line: &[Lexeme<'a>], new: &[u8]) -> Result<Vec<Splice>, SpliceFault>
+        requires { Fits self }
+        ensures done { IfOk result (λ v. v.items ≡ splices self.entry.file.now 0 (at_place before_bracket self.entry line.now (as_one new.now))) }
+        ensures refused { IfErr result (λ e. e ≡ OutOfMemory) }
+    {
+        let mut now = Vec::new(self.alloc);
+        now.extend_from_slice(b",")?;
+        push_line(&mut now, line, new)?;
+        one_splice(
+            self.alloc,
+            splice(self.alloc, self.file, self.end(), Vec::new(self.alloc), now)?,
+        )
+    }
+
+    /// Behind the line of the element and its comma: the new line with a comma.
+    #[tactic(auto, using(crate::proofs::Texts::joined_take, crate::proofs::Texts::line_joined_comma))]
+    fn with_comma(
+        self,
+        n: usize,
+        line: &[Lexeme<'a>],
+        new: &[u8],
+    ) -> Result<Vec<Splice>, SpliceFault>
+        requires fits { Fits self }
+        requires within { n ≤ length self.right.now }
+        ensures done { IfOk result (λ v. v.items ≡ splices self.entry.file.now 0 (at_place (with_comma n) self.entry line.now (as_one new.now))) }
+        ensures refused { IfErr result (λ e. e ≡ OutOfMemory) }
+    {
+        let mut now = Vec::new(self.alloc);
+        push_line(&mut now, line, new)?;
+        now.extend_from_slice(b",")?;
+        let at = self.end() + text_len(&self.right[..n]);
+        one_splice(
+            self.alloc,
+            splice(self.alloc, self.file, at, Vec::new(self.alloc), now)?,
+        )
+    }
+
+    /// Behind the line of the element, which has no comma yet.
+    #[tactic(auto, using(crate::proofs::Texts::joined_take, crate::proofs::Texts::line_joined))]
+    fn without_comma(
+        self,
+        n: usize,
+        line: &[Lexeme<'a>],
+        new: &[u8],
+    ) -> Result<Vec<Splice>, SpliceFault>
+        requires fits { Fits self }
+        requires within { n ≤ length self.right.now }
+        ensures done { IfOk result (λ v. v.items ≡ splices self.entry.file.now 0 (at_place (without_comma n) self.entry line.now (as_one new.now))) }
+        ensures refused { IfErr result (λ e. e ≡ OutOfMemory) }
+    {
+        if n == 0 {
+            return self.before_bracket(line, new);
+        }
+        let mut comma = Vec::new(self.alloc);
+        comma.extend_from_slice(b",")?;
+        let first = splice(
+            self.alloc,
+            self.file,
+            self.end(),
+            Vec::new(self.alloc),
+            comma,
+        )?;
+        let mut now = Vec::new(self.alloc);
+        push_line(&mut now, line, new)?;
+        let at = self.end() + 1 + text_len(&self.right[..n]);
+        let second = splice(self.alloc, self.file, at, Vec::new(self.alloc), now)?;
+        two_splices(self.alloc, first, second)
+    }
+
+    /// A new element behind this one.
+    #[tactic(auto, unfolding(crate::specs::Insertion::inserted))]
+    pub(crate) fn inserted(self, new: &[u8]) -> Result<Vec<Splice>, SpliceFault>
+        requires { Fits self }
+        ensures done { IfOk result (λ v. v.items ≡ splices self.entry.file.now 0 (at_place inserted self.entry (as_one new.now))) }
+        ensures refused { IfErr result (λ e. e ≡ OutOfMemory) }
+    {
+        let Some(indent) = line_before(self.left) else {
+            return self.plain(new);
+        };
+        let line = &self.left[self.left.len() - (indent + 1)..];
+        if let Some(n) = comma_note_len(self.right) {
+            return self.with_comma(n, line, new);
+        }
+        if let Some(n) = note_len(self.right) {
+            return self.without_comma(n, line, new);
+        }
+        if closes(self.right) {
+            self.before_bracket(line, new)
+        } else {
+            self.plain(new)
+        }
+    }
+}

@@ -1,0 +1,44 @@
+//! The items of a source with their texts.
+
+ghost use Rattle.std.specs.Prelude.{◌≡◌, IfErr, IfOk, List};
+ghost use Rattle.meson_lex.specs.Items.{IsItemList};
+ghost use Rattle.meson_lex.specs.Items.{Lexeme};
+ghost use Rattle.meson_splice.specs.declared.fault.SpliceFault.TheVariants.{OutOfMemory};
+
+use meson_lex::{Kind, items, text};
+use meson_splice::SpliceFault;
+use std::alloc::Global;
+use std::marker::Model;
+
+/// An item with its text.
+#[derive(Drop)]
+pub(crate) struct Lexeme<'a> {
+    pub kind: Kind,
+    pub text: &'a [u8],
+}
+
+impl<'a> Model for Lexeme<'a> {
+    ghost use Rattle.meson_lex.specs.Items.{Lexeme};
+
+    ghost Value = { Lexeme };
+
+    ghost view = { λ x. record { kind = x.kind; text = x.text.now } };
+}
+
+/// The items of a source, or those before its fault.
+pub(crate) fn lexemes<'a>(alloc: Global, src: &'a [u8]) -> Result<Vec<Lexeme<'a>>, SpliceFault>
+    ensures done { IfOk result (λ v. (xs : List Lexeme) → IsItemList src.now xs → v.items ≡ xs) }
+    ensures refused { IfErr result (λ e. e ≡ OutOfMemory) }
+{
+    let mut all = Vec::new(alloc);
+    for item in items(src) {
+        if let Ok(item) = item {
+            all.reserve(1)?;
+            all.push_reserved(Lexeme {
+                kind: item.kind,
+                text: text(src, item.span),
+            });
+        }
+    }
+    Ok(all)
+}

@@ -1,0 +1,15 @@
+//! The splices of one edit of a build file.
+#![tactic(auto)]
+
+mod edits;
+mod insertion;
+pub mod laws;
+mod lexemes;
+mod looks;
+mod place;
+mod primitive;
+mod removal;
+mod statements;
+
+pub use edits::layout;
+pub use primitive::Primitive;

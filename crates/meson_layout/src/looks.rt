@@ -1,0 +1,219 @@
+//! Looks at the items beside an element or a statement.
+
+ghost use Rattle.std.specs.Prelude.{◌≡◌, ◌≤◌, ◌+◌, IfSome, length, reverse};
+ghost use Rattle.meson_layout.specs.Looks.{all_white, at_most_blank, begins, closes, comma_note_len, gap_len, is_blank, is_closing, is_comma, is_comment, is_gap, is_line_end, line_before, line_behind, line_near, note_len, one};
+ghost use Rattle.meson_layout.specs.Statements.{at_line_start};
+
+use crate::lexemes::Lexeme;
+use meson_lex::Kind;
+
+fn is_blank(kind: Kind) -> bool
+    ensures { result ≡ is_blank kind }
+{
+    matches!(kind, Kind::Blank)
+}
+
+/// Whether it is a line end by itself: a continuation is none.
+pub(crate) fn is_line_end(kind: Kind) -> bool
+    ensures { result ≡ is_line_end kind }
+{
+    matches!(kind, Kind::LineEnd)
+}
+
+fn is_closing(kind: Kind) -> bool
+    ensures { result ≡ is_closing kind }
+{
+    matches!(
+        kind,
+        Kind::CloseRound | Kind::CloseSquare | Kind::CloseCurly
+    )
+}
+
+/// Whether it is no token inside brackets.
+fn is_gap(kind: Kind) -> bool
+    ensures { result ≡ is_gap kind }
+{
+    matches!(
+        kind,
+        Kind::Blank | Kind::LineEnd | Kind::Comment | Kind::Continuation
+    )
+}
+
+pub(crate) fn begins_line_end(items: &[Lexeme<'_>]) -> bool
+    ensures { result ≡ begins is_line_end items.now }
+{
+    match items {
+        [x, ..] => is_line_end(x.kind),
+        [] => false,
+    }
+}
+
+pub(crate) fn begins_comma(items: &[Lexeme<'_>]) -> bool
+    ensures { result ≡ begins is_comma items.now }
+{
+    match items {
+        [x, ..] => matches!(x.kind, Kind::Comma),
+        [] => false,
+    }
+}
+
+/// Whether a comma stands last.
+pub(crate) fn ends_comma(items: &[Lexeme<'_>]) -> bool
+    ensures { result ≡ begins is_comma (reverse items.now) }
+{
+    match items {
+        [.., x] => matches!(x.kind, Kind::Comma),
+        [] => false,
+    }
+}
+
+fn begins_closing(items: &[Lexeme<'_>]) -> bool
+    ensures { result ≡ begins is_closing items.now }
+{
+    match items {
+        [x, ..] => is_closing(x.kind),
+        [] => false,
+    }
+}
+
+/// How many blanks stand first: one at most.
+pub(crate) fn blanks(items: &[Lexeme<'_>]) -> usize
+    ensures value { result ≡ one is_blank items.now }
+    ensures within { result ≤ length items.now }
+{
+    match items {
+        [x, ..] if is_blank(x.kind) => 1,
+        _ => 0,
+    }
+}
+
+/// How many comments stand first: one at most.
+fn comments(items: &[Lexeme<'_>]) -> usize
+    ensures value { result ≡ one is_comment items.now }
+    ensures within { result ≤ length items.now }
+{
+    match items {
+        [x, ..] if matches!(x.kind, Kind::Comment) => 1,
+        _ => 0,
+    }
+}
+
+/// How many blanks stand last: one at most.
+pub(crate) fn last_blanks(items: &[Lexeme<'_>]) -> usize
+    ensures value { result ≡ one is_blank (reverse items.now) }
+    ensures within { result ≤ length items.now }
+{
+    match items {
+        [.., x] if is_blank(x.kind) => 1,
+        _ => 0,
+    }
+}
+
+/// Whether nothing stands there, or a line end last.
+pub(crate) fn at_line_start(items: &[Lexeme<'_>]) -> bool
+    ensures { result ≡ at_line_start (reverse items.now) }
+{
+    match items {
+        [.., x] => is_line_end(x.kind),
+        [] => true,
+    }
+}
+
+/// How many items stand behind the line end before, where that is none or one blank.
+pub(crate) fn line_before(items: &[Lexeme<'_>]) -> Option<usize>
+    ensures value { result ≡ line_before items.now }
+    ensures within { IfSome result (λ n. n + 1 ≤ length items.now) }
+{
+    match items {
+        [.., end] if is_line_end(end.kind) => Some(0),
+        [.., end, blank] if is_line_end(end.kind) && is_blank(blank.kind) => Some(1),
+        _ => None,
+    }
+}
+
+/// How many items end a line: none or one blank, and a line end.
+pub(crate) fn line_behind(items: &[Lexeme<'_>]) -> Option<usize>
+    ensures value { result ≡ line_behind items.now }
+    ensures within { IfSome result (λ n. n ≤ length items.now) }
+{
+    let n = blanks(items);
+    if begins_line_end(&items[n..]) {
+        Some(n + 1)
+    } else {
+        None
+    }
+}
+
+/// How many items stand before the line end of this line, where these are at most a blank and a comment.
+pub(crate) fn note_len(items: &[Lexeme<'_>]) -> Option<usize>
+    ensures value { result ≡ note_len items.now }
+    ensures within { IfSome result (λ n. n + 1 ≤ length items.now) }
+{
+    let n = blanks(items);
+    let rest = &items[n..];
+    let m = comments(rest);
+    if begins_line_end(&rest[m..]) {
+        Some(n + m)
+    } else {
+        None
+    }
+}
+
+/// The same, where a comma stands before these, and at most a blank before it.
+pub(crate) fn comma_note_len(items: &[Lexeme<'_>]) -> Option<usize>
+    ensures value { result ≡ comma_note_len items.now }
+    ensures within { IfSome result (λ n. n + 1 ≤ length items.now) }
+{
+    let n = blanks(items);
+    let rest = &items[n..];
+    if !begins_comma(rest) {
+        return None;
+    }
+    match note_len(&rest[1..]) {
+        Some(m) => Some(n + 1 + m),
+        None => None,
+    }
+}
+
+/// Whether a closing bracket follows, and before it at most a blank.
+pub(crate) fn closes(items: &[Lexeme<'_>]) -> bool
+    ensures { result ≡ closes items.now }
+{
+    begins_closing(&items[blanks(items)..])
+}
+
+/// How many items stand first that are no tokens.
+pub(crate) fn gap_len(items: &[Lexeme<'_>]) -> usize
+    ensures value { result ≡ gap_len items.now }
+    ensures within { result ≤ length items.now }
+{
+    items.iter().take_while(|x| is_gap(x.kind)).count()
+}
+
+/// How many items stand last that are no tokens.
+pub(crate) fn last_gap_len(items: &[Lexeme<'_>]) -> usize
+    ensures value { result ≡ gap_len (reverse items.now) }
+    ensures within { result ≤ length items.now }
+{
+    items.iter().rev().take_while(|x| is_gap(x.kind)).count()
+}
+
+/// Whether all are blanks or line ends.
+pub(crate) fn all_white(items: &[Lexeme<'_>]) -> bool
+    ensures { result ≡ all_white items.now }
+{
+    items
+        .iter()
+        .all(|x| matches!(x.kind, Kind::Blank | Kind::LineEnd))
+}
+
+/// Whether nothing stands there, or one blank.
+pub(crate) fn at_most_blank(items: &[Lexeme<'_>]) -> bool
+    ensures { result ≡ at_most_blank items.now }
+{
+    match items {
+        [] => true,
+        [x] => is_blank(x.kind),
+        _ => false,
+    }
+}
