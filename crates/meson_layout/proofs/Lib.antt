@@ -24,3 +24,4 @@ pub mod Removed
 pub mod RemovalLaws
 pub mod StatementLaws
 pub mod AppendLaws
+pub mod FileSets

@@ -1,13 +1,17 @@
 -- What the splices of an edit within a list make of the text: between the same brackets stands the edited list, and all else keeps its bytes.
-use Rattle.std.specs.Prelude.{◌≡◌, ℕ, List, [], ◌∷◌, ◌++◌, ◌⊎◌, length}
+use Rattle.std.specs.Prelude.{◌≡◌, ℕ, List, [], ◌∷◌, ◌++◌, ◌⊎◌, length, Some, Ok}
 use Rattle.meson_lex.specs.declared.kinds.Kind.TheVariants.{OpenSquare, CloseSquare}
 use Rattle.meson_lex.specs.declared.kinds.Span.{Span}
 use Rattle.meson_lex.specs.Items.{Lexeme, joined, IsItemList}
 use Rattle.meson_lex.specs.Significant.{Word}
+use Rattle.meson_splice.specs.declared.file_set.File.{File}
+use Rattle.meson_splice.specs.Files.{found, bytes_at, with_bytes}
+use Rattle.meson_splice.specs.Patch.{patched_all}
+use Rattle.meson_layout.specs.declared.primitive.Primitive.{Primitive}
 use Rattle.meson_layout.specs.declared.primitive.Primitive.TheVariants.{First, After, Remove, Replace, Wrap}
 use Rattle.meson_layout.specs.Layout.{layout_of}
 use Rattle.meson_layout.specs.Words.{spoken, remarks, comma_word, IsBehindElement, IsBeforeElement, IsBeforeValue}
-use Rattle.meson_layout.specs.Edited.{ListIn, PartIn, IsNew, Edited}
+use Rattle.meson_layout.specs.Edited.{ListIn, PartIn, IsNew, Edited, patched_by}
 
 -- The first element of a list that has none.
 abbrev pub FirstLaw : Type 0
@@ -50,3 +54,8 @@ WrapLaw = (file source : List ℕ) (items : List Lexeme) → IsItemList source i
 abbrev pub WrapKeeps : Type 0
 WrapKeeps = (file source : List ℕ) (items : List Lexeme) → IsItemList source items → (l : ListIn items) (s : Span) (p : PartIn items l s)
     → layout_of file items (Wrap s) ≡ record { file = file; at = s.from; was = joined p.own; now = 91 ∷ (joined p.own ++ 93 ∷ []) } ∷ []
+
+-- In a set of files the splices of an edit change the one file, and in the same way.
+abbrev pub FilesLaw : Type 0
+FilesLaw = (files : List File) (i : ℕ) (file source text : List ℕ) (items : List Lexeme) (primitive : Primitive) → found file files ≡ Some i → bytes_at i files ≡ source
+    → patched_by source (layout_of file items primitive) ≡ Ok text → patched_all files (layout_of file items primitive) ≡ Ok (with_bytes i text files)

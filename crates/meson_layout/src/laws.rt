@@ -1,7 +1,7 @@
 //! Laws of layout. The functions do nothing: what they ensure is the law.
 
 ghost use Rattle.meson_layout.specs.FileLaws.{AppendLaw, StatementRemovalLaw};
-ghost use Rattle.meson_layout.specs.Laws.{FirstLaw, InsertionLaw, RemovalLaw, ReplacementLaw, WrapKeeps, WrapLaw};
+ghost use Rattle.meson_layout.specs.Laws.{FilesLaw, FirstLaw, InsertionLaw, RemovalLaw, ReplacementLaw, WrapKeeps, WrapLaw};
 
 /// The first element of a list that has none.
 pub fn first_element()
@@ -37,4 +37,9 @@ pub fn removed_statements()
 /// An appended statement comes last, and the file stays as it is before it.
 pub fn appended_statements()
     ensures { AppendLaw }
+{}
+
+/// In a set of files the splices of an edit change the one file, as they change its bytes.
+pub fn sets_of_files()
+    ensures { FilesLaw }
 {}

@@ -1,2 +1,3 @@
 -- Lemmas for the tests.
 mod FirstItem
+mod Borders

@@ -10,6 +10,10 @@ mod grammar;
 #[cfg(test)]
 mod grammar_faults;
 #[cfg(test)]
+mod laying;
+#[cfg(test)]
+mod layouts;
+#[cfg(test)]
 mod lexing;
 #[cfg(test)]
 mod literals;
@@ -19,6 +23,10 @@ mod nesting;
 mod parsing;
 #[cfg(test)]
 mod paths;
+#[cfg(test)]
+mod projects;
+#[cfg(test)]
+mod readiness;
 #[cfg(test)]
 mod refusing;
 #[cfg(test)]

@@ -1,0 +1,16 @@
+mod SlashParts
+mod FileNames
+mod Loads
+mod Turns
+mod ListTurns
+mod Parted
+mod StatementParts
+mod FileTurns
+mod FirstArguments
+mod Picked
+mod Entered
+mod Standing
+mod GoodParts
+mod GoodTexts
+mod GoodLiterals
+mod GoodNotes

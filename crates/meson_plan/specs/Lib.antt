@@ -1,0 +1,13 @@
+pub mod Project
+pub mod Parts
+pub mod Calls
+pub mod Directories
+pub mod Roles
+pub mod Variables
+pub mod Subdirs
+pub mod Loading
+pub mod Loads
+pub mod Notes
+pub mod Walks
+pub mod Picking
+pub mod Strings

@@ -1,0 +1,101 @@
+//! A project: its files, and the tree of each.
+
+ghost use Rattle.std.specs.Prelude.{◌≡◌, IfErr, IfOk};
+ghost use Rattle.meson_plan.specs.Directories.{IsFileName};
+ghost use Rattle.meson_plan.specs.Loading.{project, MayNotLoad};
+ghost use Rattle.meson_plan.specs.Roles.{targets, found, is_target, places};
+
+use crate::call::{CallRef, Role};
+use crate::load_fault::Unloaded;
+use crate::loading::{copy_trees, loaded};
+use crate::looking::is_target;
+use crate::naming::found;
+use crate::notes::notes_of;
+use crate::picking::with_role;
+use crate::refusal::Refusal;
+use meson_splice::FileSet;
+use meson_syntax::Parsed;
+use std::alloc::Global;
+use std::marker::Model;
+
+/// Files that are a project. Contracts see the files and the tree of each.
+#[derive(Debug, Drop)]
+pub struct Project {
+    files: FileSet,
+    trees: Vec<Parsed>,
+}
+
+impl Model for Project {
+    ghost use Rattle.std.specs.Coded.{codes};
+    ghost use Rattle.meson_plan.specs.Loading.{Loaded, IsProject};
+    ghost use Rattle.meson_syntax.specs.contracts.tree.Stmt as statement;
+
+    ghost Value = { Loaded };
+
+    ghost coded = { Prim.hlevel (codes, statement.the_row.coded) };
+
+    ghost view = { λ p. record { files = p.files; parsed = p.trees.items } };
+
+    ghost invariant = { λ p. IsProject (record { files = p.files; parsed = p.trees.items }) };
+}
+
+impl Project {
+    /// The project of these files, or the files handed back. The files may enter one another by `subdir`; a file that is entered need not be there.
+    pub fn load(alloc: Global, files: FileSet) -> Result<Project, Unloaded>
+        ensures loaded { IfOk result (λ p. p.files ≡ files) }
+        // A refusal is the first in order that holds.
+        ensures refused { IfErr result (λ u. MayNotLoad files u.fault) }
+        ensures handed_back { IfErr result (λ u. u.files ≡ files) }
+    {
+        match loaded(alloc, &files) {
+            Ok(trees) => Ok(Project { files, trees }),
+            Err(fault) => Err(Unloaded { files, fault }),
+        }
+    }
+
+    /// The files.
+    pub fn files(&self) -> &FileSet
+        ensures { result.now ≡ self.now.files }
+    {
+        &self.files
+    }
+
+    /// An equal project.
+    pub fn copy(&self, alloc: Global) -> Result<Project, Refusal>
+        ensures copied { IfOk result (λ p. p ≡ self.now) }
+        ensures refused { IfErr result (λ e. e ≡ Refusal.OutOfMemory) }
+    {
+        let Ok(files) = self.files.copy(alloc) else {
+            return Err(Refusal::OutOfMemory);
+        };
+        let trees = copy_trees(alloc, self.trees.as_slice())?;
+        Ok(Project { files, trees })
+    }
+
+    /// The calls of all targets, in file order and source order.
+    pub fn targets(&self, alloc: Global) -> Result<Vec<CallRef>, Refusal>
+        ensures all { IfOk result (λ calls. calls.items ≡ targets (project self.now)) }
+        ensures refused { IfErr result (λ e. e ≡ Refusal.OutOfMemory) }
+    {
+        let notes = notes_of(alloc, &self.files, self.trees.as_slice())?;
+        let calls = with_role(alloc, Role::Target, notes.as_slice())?;
+        Ok(calls)
+    }
+
+    /// The calls that an id names, in file order and source order.
+    pub fn find(&self, alloc: Global, role: Role, id: &str) -> Result<Vec<CallRef>, Refusal>
+        ensures all { IfOk result (λ calls. calls.items ≡ places (found (project self.now) role id.now)) }
+        ensures refused { IfErr result (λ e. e ≡ Refusal.OutOfMemory) }
+    {
+        let notes = notes_of(alloc, &self.files, self.trees.as_slice())?;
+        let calls = found(alloc, role, id, notes.as_slice())?;
+        Ok(calls)
+    }
+
+    /// Whether the place is that of a call of a target. Takes no memory.
+    pub fn is_target(&self, call: &CallRef) -> bool
+        ensures { result ≡ is_target (project self.now) call.now }
+    {
+        is_target(&self.files, self.trees.as_slice(), call)
+    }
+}
