@@ -1,4 +1,4 @@
-//! A plain parser of the same language, without contracts, to compare times with: `plain_parser FILE`.
+//! A plain parser without contracts, to compare times with: `plain_parser FILE`. It reads the same grammar, but looks less closely at numbers, carriage returns and continuations, and so takes some files that have a fault.
 
 mod parser;
 mod tokens;
