@@ -6,7 +6,8 @@ use Rattle.meson_lex.specs.Significant.{Opens, Closes, role}
 use Rattle.meson_lex.proofs.Seams.{joined-append}
 use Rattle.meson_layout.specs.declared.removal.Growth.{Growth}
 use Rattle.meson_layout.specs.Looks as look
-use Rattle.meson_layout.specs.Words.{spoken, remarks, IsCommaAtMost}
+use Rattle.meson_lex.specs.Words.{spoken}
+use Rattle.meson_layout.specs.Words.{remarks, IsCommaAtMost}
 use Rattle.meson_layout.specs.Removal.{grown_by, grown, one_gone, one_range, two_gone, two_ranges}
 use Rattle.meson_layout.specs.Edited.{Keeps}
 use Rattle.meson_layout.proofs.Near.{Follow, AllGood, IsLoose, last, last-append, follow-join, follow-front, follow-rest, good-join, good-front, good-rest}

@@ -9,7 +9,8 @@ use Rattle.meson_lex.specs.declared.kinds.Kind.TheVariants as k
 use Rattle.meson_lex.specs.Items.{Lexeme}
 use Rattle.meson_lex.specs.Significant.{Word, Opens, Closes, role}
 use Rattle.meson_layout.specs.Looks as look
-use Rattle.meson_layout.specs.Words.{word, spoken, spoken_by, is_remark, remarks}
+use Rattle.meson_lex.specs.Words.{word, spoken, spoken_by}
+use Rattle.meson_layout.specs.Words.{is_remark, remarks}
 
 -- ---- the last few
 

@@ -8,7 +8,8 @@ use Rattle.std.specs.Prelude.{reverse, not, ⊤}
 use Rattle.meson_lex.specs.Items.{Lexeme}
 use Rattle.meson_lex.specs.Significant.{Word, Role, Gap, Ends, Opens, Closes, Other, role}
 use Rattle.meson_layout.specs.Looks as look
-use Rattle.meson_layout.specs.Words.{word, spoken, spoken_by, speaks, comma_word}
+use Rattle.meson_lex.specs.Words.{word, spoken, spoken_by, speaks}
+use Rattle.meson_layout.specs.Words.{comma_word}
 use Rattle.meson_layout.proofs.Seams.{gap-quiet}
 use Rattle.meson_layout.proofs.Ends.{AllGap, gap-join, gap-spoken, spoken-append, back-parts}
 

@@ -5,7 +5,8 @@ use Rattle.meson_lex.specs.Items.{Lexeme, joined}
 use Rattle.meson_lex.specs.Significant.{Word, Opens, Closes, role}
 use Rattle.meson_lex.proofs.Seams.{joined-append}
 use Rattle.meson_layout.specs.Looks as look
-use Rattle.meson_layout.specs.Words.{spoken, remarks, comma_word, IsTight, IsBehindElement, IsCommaAtMost}
+use Rattle.meson_lex.specs.Words.{spoken, IsTight}
+use Rattle.meson_layout.specs.Words.{remarks, comma_word, IsBehindElement, IsCommaAtMost}
 use Rattle.meson_layout.specs.Pieces.{comma, space, line_feed}
 use Rattle.meson_layout.specs.Edited.{Keeps}
 use Rattle.meson_layout.proofs.Near.{Follow, IsGood, AllGood, IsLoose, last, last-append, follow-join, follow-front, follow-rest, good-join, good-front, good-rest}

@@ -6,7 +6,8 @@ use Rattle.meson_lex.specs.declared.kinds.Kind.{Kind}
 use Rattle.meson_lex.specs.Items.{Lexeme}
 use Rattle.meson_lex.specs.Significant.{Word}
 use Rattle.meson_layout.specs.Looks as look
-use Rattle.meson_layout.specs.Words.{spoken, IsBehindElement}
+use Rattle.meson_lex.specs.Words.{spoken}
+use Rattle.meson_layout.specs.Words.{IsBehindElement}
 use Rattle.meson_layout.specs.Pieces.{Piece, old_items, new_items, comma, space}
 use Rattle.meson_layout.specs.Insertion.{plain, with_comma, without_comma, before_bracket, no_comma_on_line, stacked, inserted_by, inserted}
 use Rattle.meson_layout.proofs.Near.{AllGood, good-front, good-rest}

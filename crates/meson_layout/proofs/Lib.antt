@@ -25,3 +25,4 @@ pub mod RemovalLaws
 pub mod StatementLaws
 pub mod AppendLaws
 pub mod FileSets
+pub mod Coding

@@ -6,7 +6,8 @@ use Rattle.meson_lex.specs.Items.{Lexeme, joined, AreItems, IsItemList}
 use Rattle.meson_lex.specs.Significant.{Word, Opens, Closes, role}
 use Rattle.meson_lex.proofs.Seams.{joined-append, AreItems-split}
 use Rattle.meson_layout.specs.Looks as look
-use Rattle.meson_layout.specs.Words.{spoken, remarks}
+use Rattle.meson_lex.specs.Words.{spoken}
+use Rattle.meson_layout.specs.Words.{remarks}
 use Rattle.meson_layout.specs.Pieces.{Piece, old_items, new_items, splices, line_feed}
 use Rattle.meson_layout.specs.Edited.{ListIn, Keeps, Edited}
 use Rattle.meson_layout.proofs.Near.{Follow, IsGood, AllGood, items-good, items-follow, good-join, good-front, good-rest}

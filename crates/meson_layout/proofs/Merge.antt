@@ -11,7 +11,8 @@ use Rattle.meson_lex.specs.Items.{Lexeme, joined, AreItems}
 use Rattle.meson_lex.specs.Significant.{State, step, emit, after, emitted}
 use Rattle.meson_lex.proofs.Runs.{none_bare}
 use Rattle.meson_layout.specs.Looks as look
-use Rattle.meson_layout.specs.Words.{spoken, remarks}
+use Rattle.meson_lex.specs.Words.{spoken}
+use Rattle.meson_layout.specs.Words.{remarks}
 use Rattle.meson_layout.proofs.FirstBytes.{some_text}
 use Rattle.meson_layout.proofs.Near.{Near, Follow, IsGood, AllGood, Apart, near-to, chain-items}
 

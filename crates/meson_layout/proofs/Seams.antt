@@ -9,6 +9,7 @@ use Rattle.meson_lex.specs.Neighbours.{Shape, blanks, note, name, word, quoted, 
 use Rattle.meson_lex.specs.Items.{Lexeme}
 use Rattle.meson_lex.specs.Significant.{Word, Role, Gap, Ends, Opens, Closes, Other, role, kept}
 use Rattle.meson_layout.specs.Looks as look
+use Rattle.meson_lex.specs.Words as lex
 use Rattle.meson_layout.specs.Words as w
 use Rattle.meson_layout.proofs.FirstBytes.{IsSoft, some_text, soft_item, line_first, line_item, no_line_first}
 use Rattle.meson_layout.proofs.Near.{StandsBy, Near, Follow, IsGood, AllGood, IsLoose, last}
@@ -128,25 +129,25 @@ closes-closing k.CloseCurly h = refl
 closes-closing _ h = absurd cc
 
 -- what is no token inside brackets, but for comments
-quiet-loose : (κ : Kind) → w.speaks (role κ) ≡ false → look.is_comment κ ≡ false → loose κ ≡ true
+quiet-loose : (κ : Kind) → lex.speaks (role κ) ≡ false → look.is_comment κ ≡ false → loose κ ≡ true
 quiet-loose k.Blank h c = refl
 quiet-loose k.LineEnd h c = refl
 quiet-loose k.Comment h c = absurd cc
 quiet-loose k.Continuation h c = refl
 quiet-loose _ h c = absurd cc
 
-pub gap-quiet : (κ : Kind) → look.is_gap κ ≡ not (w.speaks (role κ))
+pub gap-quiet : (κ : Kind) → look.is_gap κ ≡ not (lex.speaks (role κ))
 gap-quiet k.Blank = refl
 gap-quiet k.LineEnd = refl
 gap-quiet k.Comment = refl
 gap-quiet k.Continuation = refl
 gap-quiet _ = refl
 
-pub speaks-no-line : (κ : Kind) → w.speaks (role κ) ≡ true → look.is_line_end κ ≡ false
+pub speaks-no-line : (κ : Kind) → lex.speaks (role κ) ≡ true → look.is_line_end κ ≡ false
 speaks-no-line k.LineEnd h = absurd cc
 speaks-no-line _ h = refl
 
-pub speaks-no-comment : (κ : Kind) → w.speaks (role κ) ≡ true → look.is_comment κ ≡ false
+pub speaks-no-comment : (κ : Kind) → lex.speaks (role κ) ≡ true → look.is_comment κ ≡ false
 speaks-no-comment k.Comment h = absurd cc
 speaks-no-comment _ h = refl
 
@@ -162,54 +163,54 @@ last_word-append a [] cs = refl
 last_word-append a (b ∷ bs) cs = last_word-append b bs cs
 
 abbrev Fine : Lexeme → Word → Type 0
-Fine x a = (w.speaks (role x.kind) ≡ false) ⊎ (w.word x ≡ a)
+Fine x a = (lex.speaks (role x.kind) ≡ false) ⊎ (lex.word x ≡ a)
 
-fine-step : (r : Role) (x : Lexeme) (a : Word) (bs : List Word) → role x.kind ≡ r → (b : Word) × Fine x b × (last_word a (w.spoken_by r (w.word x) ++ bs) ≡ last_word b bs)
+fine-step : (r : Role) (x : Lexeme) (a : Word) (bs : List Word) → role x.kind ≡ r → (b : Word) × Fine x b × (last_word a (lex.spoken_by r (lex.word x) ++ bs) ≡ last_word b bs)
 unfolding last_word
-fine-step Gap x a bs h = (a, inl (ap w.speaks h), refl)
-fine-step Ends x a bs h = (a, inl (ap w.speaks h), refl)
-fine-step Opens x a bs h = (w.word x, inr refl, refl)
-fine-step Closes x a bs h = (w.word x, inr refl, refl)
-fine-step Other x a bs h = (w.word x, inr refl, refl)
+fine-step Gap x a bs h = (a, inl (ap lex.speaks h), refl)
+fine-step Ends x a bs h = (a, inl (ap lex.speaks h), refl)
+fine-step Opens x a bs h = (lex.word x, inr refl, refl)
+fine-step Closes x a bs h = (lex.word x, inr refl, refl)
+fine-step Other x a bs h = (lex.word x, inr refl, refl)
 
-fine-last : (o : Lexeme) (a : Word) (xs : List Lexeme) → Fine o a → Fine (last o xs) (last_word a (w.spoken xs))
+fine-last : (o : Lexeme) (a : Word) (xs : List Lexeme) → Fine o a → Fine (last o xs) (last_word a (lex.spoken xs))
 unfolding last_word
 fine-last o a [] h = h
-fine-last o a (x ∷ xs) h = let f = fine-step (role x.kind) x a (w.spoken xs) refl in subst (Fine (last x xs)) (sym f.2) (fine-last x f.0 xs f.1)
+fine-last o a (x ∷ xs) h = let f = fine-step (role x.kind) x a (lex.spoken xs) refl in subst (Fine (last x xs)) (sym f.2) (fine-last x f.0 xs f.1)
 
-kind-loose : (x : Lexeme) (κ : Kind) (text : List ℕ) → w.word x ≡ (κ, text) → loose κ ≡ true → loose x.kind ≡ true
+kind-loose : (x : Lexeme) (κ : Kind) (text : List ℕ) → lex.word x ≡ (κ, text) → loose κ ≡ true → loose x.kind ≡ true
 kind-loose x κ text e h = ap (λ (a : Word). loose a.0) e ∙ h
 
-loose-ends : (o : Lexeme) (xs : List Lexeme) → loose o.kind ≡ true → w.IsBeforeValue (w.spoken xs) → look.is_comment (last o xs).kind ≡ false → (b : Word) → last_word (w.word o) (w.spoken xs) ≡ b → Fine (last o xs) b → loose (last o xs).kind ≡ true
+loose-ends : (o : Lexeme) (xs : List Lexeme) → loose o.kind ≡ true → w.IsBeforeValue (lex.spoken xs) → look.is_comment (last o xs).kind ≡ false → (b : Word) → last_word (lex.word o) (lex.spoken xs) ≡ b → Fine (last o xs) b → loose (last o xs).kind ≡ true
 unfolding last_word
 loose-ends o xs l ends c b is (inl h) = quiet-loose (last o xs).kind h c
 loose-ends o xs l (inl (inl e)) c b is (inr h) =
-    let same : w.word (last o xs) ≡ w.word o = h ∙ sym is ∙ ap (last_word (w.word o)) e in
+    let same : lex.word (last o xs) ≡ lex.word o = h ∙ sym is ∙ ap (last_word (lex.word o)) e in
     kind-loose (last o xs) o.kind (kept o.kind o.text) same l
 loose-ends o xs l (inl (inr (front, e))) c b is (inr h) =
-    let same : w.word (last o xs) ≡ w.comma_word = h ∙ sym is ∙ ap (last_word (w.word o)) e ∙ last_word-append (w.word o) front (w.comma_word ∷ []) in
+    let same : lex.word (last o xs) ≡ w.comma_word = h ∙ sym is ∙ ap (last_word (lex.word o)) e ∙ last_word-append (lex.word o) front (w.comma_word ∷ []) in
     kind-loose (last o xs) k.Comma [] same refl
 loose-ends o xs l (inr (front, e)) c b is (inr h) =
-    let same : w.word (last o xs) ≡ w.colon_word = h ∙ sym is ∙ ap (last_word (w.word o)) e ∙ last_word-append (w.word o) front (w.colon_word ∷ []) in
+    let same : lex.word (last o xs) ≡ w.colon_word = h ∙ sym is ∙ ap (last_word (lex.word o)) e ∙ last_word-append (lex.word o) front (w.colon_word ∷ []) in
     kind-loose (last o xs) k.Colon [] same refl
 
 -- the last item before an element or a value, which no comment is, is loose
-pub loose-last : (o : Lexeme) (xs : List Lexeme) → role o.kind ≡ Opens → w.IsBeforeValue (w.spoken xs) → look.is_comment (last o xs).kind ≡ false → IsLoose (last o xs)
+pub loose-last : (o : Lexeme) (xs : List Lexeme) → role o.kind ≡ Opens → w.IsBeforeValue (lex.spoken xs) → look.is_comment (last o xs).kind ≡ false → IsLoose (last o xs)
 loose-last o xs opens ends c =
-    near-loose (last o xs) (loose-ends o xs (opens-loose o.kind opens) ends c _ refl (fine-last o (w.word o) xs (inr refl)))
+    near-loose (last o xs) (loose-ends o xs (opens-loose o.kind opens) ends c _ refl (fine-last o (lex.word o) xs (inr refl)))
 
 -- ---- the first item behind an element
 
-soft-speaking : (y : Lexeme) (bs : List Word) → IsGood y → w.IsBehindElement (w.word y ∷ bs) → IsSoft y.text
+soft-speaking : (y : Lexeme) (bs : List Word) → IsGood y → w.IsBehindElement (lex.word y ∷ bs) → IsSoft y.text
 soft-speaking y bs g (inl e) = absurd cc
 soft-speaking y bs g (inr (more, e)) =
-    let same : w.word y ≡ w.comma_word = cc in
+    let same : lex.word y ≡ w.comma_word = cc in
     let kind : y.kind ≡ k.Comma = ap (λ (a : Word). a.0) same in
     soft_item y (rw kind refl) g.0
 
-soft-by-role : (r : Role) (y : Lexeme) (bs : List Word) → role y.kind ≡ r → IsGood y → w.IsBehindElement (w.spoken_by r (w.word y) ++ bs) → IsSoft y.text
-soft-by-role Gap y bs h g e = soft_item y (ap (λ b. b || (look.is_comma y.kind || look.is_closing y.kind)) (gap-quiet y.kind ∙ ap (λ r. not (w.speaks r)) h)) g.0
-soft-by-role Ends y bs h g e = soft_item y (ap (λ b. b || (look.is_comma y.kind || look.is_closing y.kind)) (gap-quiet y.kind ∙ ap (λ r. not (w.speaks r)) h)) g.0
+soft-by-role : (r : Role) (y : Lexeme) (bs : List Word) → role y.kind ≡ r → IsGood y → w.IsBehindElement (lex.spoken_by r (lex.word y) ++ bs) → IsSoft y.text
+soft-by-role Gap y bs h g e = soft_item y (ap (λ b. b || (look.is_comma y.kind || look.is_closing y.kind)) (gap-quiet y.kind ∙ ap (λ r. not (lex.speaks r)) h)) g.0
+soft-by-role Ends y bs h g e = soft_item y (ap (λ b. b || (look.is_comma y.kind || look.is_closing y.kind)) (gap-quiet y.kind ∙ ap (λ r. not (lex.speaks r)) h)) g.0
 soft-by-role Opens y bs h g e = soft-speaking y bs g e
 soft-by-role Closes y bs h g e = soft-speaking y bs g e
 soft-by-role Other y bs h g e = soft-speaking y bs g e
@@ -222,6 +223,6 @@ closing-soft false false d h = h
 pub soft-close : (c : Lexeme) → role c.kind ≡ Closes → IsGood c → IsSoft c.text
 soft-close c h g = soft_item c (closing-soft _ _ _ (closes-closing c.kind h)) g.0
 
-pub soft-behind : (xs : List Lexeme) (c : Lexeme) (ys : List Lexeme) → w.IsBehindElement (w.spoken xs) → role c.kind ≡ Closes → AllGood (xs ++ c ∷ ys) → SoftFirst (xs ++ c ∷ ys)
+pub soft-behind : (xs : List Lexeme) (c : Lexeme) (ys : List Lexeme) → w.IsBehindElement (lex.spoken xs) → role c.kind ≡ Closes → AllGood (xs ++ c ∷ ys) → SoftFirst (xs ++ c ∷ ys)
 soft-behind [] c ys h closes g = soft-close c closes g.0
-soft-behind (x ∷ xs) c ys h closes g = soft-by-role (role x.kind) x (w.spoken xs) refl g.0 h
+soft-behind (x ∷ xs) c ys h closes g = soft-by-role (role x.kind) x (lex.spoken xs) refl g.0 h

@@ -11,7 +11,7 @@ use Rattle.meson_lex.specs.Items.{Lexeme, joined, IsItemList}
 use Rattle.meson_lex.specs.Significant.{Word, Role, Gap, Ends, Opens, Closes, Other, role, kept, State, start, step, step_by, emit, emit_by, after, emitted, closing, new_line, significant}
 use Rattle.meson_lex.proofs.Seams.{joined-append}
 use Rattle.meson_layout.specs.Looks as look
-use Rattle.meson_layout.specs.Words.{IsTight}
+use Rattle.meson_lex.specs.Words.{IsTight}
 use Rattle.meson_layout.specs.Pieces.{Piece, old_items, new_items, splices, line_feed}
 use Rattle.meson_layout.specs.Layout.{Parts}
 use Rattle.meson_layout.specs.Statements.{at_line_start, statement_gone, statement_removed}

@@ -10,7 +10,8 @@ use Rattle.meson_lex.specs.Kinds.{OfKind}
 use Rattle.meson_lex.specs.Significant.{Word, Opens, role}
 use Rattle.meson_lex.proofs.Seams.{joined-append}
 use Rattle.meson_layout.specs.declared.primitive.Primitive.TheVariants.{First, Replace, Wrap}
-use Rattle.meson_layout.specs.Words.{spoken, remarks, IsTight, IsBehindElement, IsBeforeValue}
+use Rattle.meson_lex.specs.Words.{spoken, IsTight}
+use Rattle.meson_layout.specs.Words.{remarks, IsBehindElement, IsBeforeValue}
 use Rattle.meson_layout.specs.Pieces.{as_one, splices, line_feed, open_square, close_square}
 use Rattle.meson_layout.specs.Insertion.{first}
 use Rattle.meson_layout.specs.Layout.{Parts, first_in, layout_of, replaced, wrapped}

@@ -6,7 +6,8 @@ use Rattle.meson_lex.specs.Significant.{Word, Opens, Closes, role}
 use Rattle.meson_splice.specs.declared.fault.SpliceFault.{SpliceFault}
 use Rattle.meson_splice.specs.declared.splice.Splice.{Splice}
 use Rattle.meson_splice.specs.Patch.{patched, then_ok}
-use Rattle.meson_layout.specs.Words.{spoken, remarks, IsTight, IsCommaAtMost}
+use Rattle.meson_lex.specs.Words.{spoken, IsTight}
+use Rattle.meson_layout.specs.Words.{remarks, IsCommaAtMost}
 
 -- a list, from its opening bracket to its closing one
 pub record ListIn (items : List Lexeme) : Type 0 where

@@ -7,7 +7,7 @@ use Rattle.meson_splice.specs.declared.splice.Splice.{Splice}
 use Rattle.meson_layout.specs.declared.primitive.Primitive.TheVariants.{RemoveStatement, Append}
 use Rattle.meson_layout.specs.Looks.{all_white}
 use Rattle.meson_layout.specs.Layout.{layout_of}
-use Rattle.meson_layout.specs.Words.{IsTight}
+use Rattle.meson_lex.specs.Words.{IsTight}
 use Rattle.meson_layout.specs.Edited.{patched_by}
 
 -- outside brackets, at the start of a line or behind a token

@@ -1,4 +1,5 @@
 -- What the splices of an edit within a list make of the text: between the same brackets stands the edited list, and all else keeps its bytes.
+use Rattle.std.specs.Str.{IsUtf8}
 use Rattle.std.specs.Prelude.{◌≡◌, ℕ, List, [], ◌∷◌, ◌++◌, ◌⊎◌, length, Some, Ok}
 use Rattle.meson_lex.specs.declared.kinds.Kind.TheVariants.{OpenSquare, CloseSquare}
 use Rattle.meson_lex.specs.declared.kinds.Span.{Span}
@@ -8,9 +9,10 @@ use Rattle.meson_splice.specs.declared.file_set.File.{File}
 use Rattle.meson_splice.specs.Files.{found, bytes_at, with_bytes}
 use Rattle.meson_splice.specs.Patch.{patched_all}
 use Rattle.meson_layout.specs.declared.primitive.Primitive.{Primitive}
-use Rattle.meson_layout.specs.declared.primitive.Primitive.TheVariants.{First, After, Remove, Replace, Wrap}
+use Rattle.meson_layout.specs.declared.primitive.Primitive.TheVariants.{First, After, Remove, Replace, Wrap, RemoveStatement, Append}
 use Rattle.meson_layout.specs.Layout.{layout_of}
-use Rattle.meson_layout.specs.Words.{spoken, remarks, comma_word, IsBehindElement, IsBeforeElement, IsBeforeValue}
+use Rattle.meson_lex.specs.Words.{spoken}
+use Rattle.meson_layout.specs.Words.{remarks, comma_word, IsBehindElement, IsBeforeElement, IsBeforeValue}
 use Rattle.meson_layout.specs.Edited.{ListIn, PartIn, IsNew, Edited, patched_by}
 
 -- The first element of a list that has none.
@@ -59,3 +61,23 @@ WrapKeeps = (file source : List ℕ) (items : List Lexeme) → IsItemList source
 abbrev pub FilesLaw : Type 0
 FilesLaw = (files : List File) (i : ℕ) (file source text : List ℕ) (items : List Lexeme) (primitive : Primitive) → found file files ≡ Some i → bytes_at i files ≡ source
     → patched_by source (layout_of file items primitive) ≡ Ok text → patched_all files (layout_of file items primitive) ≡ Ok (with_bytes i text files)
+
+-- what is new is UTF-8
+abbrev pub WritesUtf8 : Primitive → Type 0
+WritesUtf8 (First bracket new) = IsUtf8 new
+WritesUtf8 (After element new) = IsUtf8 new
+WritesUtf8 (Remove element) = Unit {0}
+WritesUtf8 (Replace value new) = IsUtf8 new
+WritesUtf8 (Wrap value) = Unit {0}
+WritesUtf8 (RemoveStatement statement) = Unit {0}
+WritesUtf8 (Append new) = IsUtf8 new
+
+-- each item is UTF-8
+abbrev pub AreUtf8 : List Lexeme → Type 0
+AreUtf8 [] = Unit {0}
+AreUtf8 (x ∷ xs) = IsUtf8 x.text × AreUtf8 xs
+
+-- Where each item is UTF-8, the splices of an edit make a text in UTF-8.
+abbrev pub CodingLaw : Type 0
+CodingLaw = (file source : List ℕ) (items : List Lexeme) → IsItemList source items → AreUtf8 items → (primitive : Primitive) → WritesUtf8 primitive
+    → (text : List ℕ) → patched_by source (layout_of file items primitive) ≡ Ok text → IsUtf8 text

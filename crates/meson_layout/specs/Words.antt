@@ -1,49 +1,15 @@
--- The words of items inside brackets, and the remarks beside them.
+-- Words at the ends of what stands in a list, and the remarks beside words.
 use Rattle.std.specs.Prelude.{◌≡◌, Bool, true, false, List, [], ◌∷◌, ◌++◌, ◌⊎◌, if◌then◌else◌}
 use Rattle.meson_lex.specs.declared.kinds.Kind.{Kind}
 use Rattle.meson_lex.specs.declared.kinds.Kind.TheVariants.{Comment, Continuation, Comma, Colon}
 use Rattle.meson_lex.specs.Items.{Lexeme}
-use Rattle.meson_lex.specs.Significant.{Word, kept, Role, Gap, Ends, Opens, Closes, Other, role}
-
--- whether an item with this role is always a token by itself
-abbrev pub speaks : Role → Bool
-speaks Gap = false
-speaks Ends = false
-speaks Opens = true
-speaks Closes = true
-speaks Other = true
-
-abbrev pub spoken_by : Role → Word → List Word
-spoken_by Gap w = []
-spoken_by Ends w = []
-spoken_by Opens w = w ∷ []
-spoken_by Closes w = w ∷ []
-spoken_by Other w = w ∷ []
-
-abbrev pub word : Lexeme → Word
-word x = (x.kind, kept x.kind x.text)
-
--- the words of items, line ends left out: inside brackets these are all of their tokens
-abbrev pub spoken : List Lexeme → List Word
-spoken [] = []
-spoken (x ∷ xs) = spoken_by (role x.kind) (word x) ++ spoken xs
+use Rattle.meson_lex.specs.Significant.{Word}
 
 abbrev pub comma_word : Word
 comma_word = (Comma, [])
 
 abbrev pub colon_word : Word
 colon_word = (Colon, [])
-
--- the first and the last of the items are tokens by themselves: no blank, comment, continuation or line end stands at either end
-pub record IsTight (own : List Lexeme) : Type 0 where
-  pub first : Lexeme
-  pub more : List Lexeme
-  pub begins : own ≡ first ∷ more
-  pub first_speaks : speaks (role first.kind) ≡ true
-  pub front : List Lexeme
-  pub last : Lexeme
-  pub ends : own ≡ front ++ last ∷ []
-  pub last_speaks : speaks (role last.kind) ≡ true
 
 -- ---- remarks
 

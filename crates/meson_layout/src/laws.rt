@@ -1,7 +1,7 @@
 //! Laws of layout. The functions do nothing: what they ensure is the law.
 
 ghost use Rattle.meson_layout.specs.FileLaws.{AppendLaw, StatementRemovalLaw};
-ghost use Rattle.meson_layout.specs.Laws.{FilesLaw, FirstLaw, InsertionLaw, RemovalLaw, ReplacementLaw, WrapKeeps, WrapLaw};
+ghost use Rattle.meson_layout.specs.Laws.{CodingLaw, FilesLaw, FirstLaw, InsertionLaw, RemovalLaw, ReplacementLaw, WrapKeeps, WrapLaw};
 
 /// The first element of a list that has none.
 pub fn first_element()
@@ -42,4 +42,9 @@ pub fn appended_statements()
 /// In a set of files the splices of an edit change the one file, as they change its bytes.
 pub fn sets_of_files()
     ensures { FilesLaw }
+{}
+
+/// Where each item of a text is UTF-8, an edit makes a text in UTF-8.
+pub fn coding()
+    ensures { CodingLaw }
 {}

@@ -8,4 +8,5 @@ pub mod Lexed
 pub mod Literals
 pub mod Scan
 pub mod Significant
+pub mod Words
 pub mod Located

@@ -1,7 +1,7 @@
 //! A project's files: names and bytes in order, each name once.
 
 ghost use Rattle.std.specs.Prelude.{◌≡◌, ◌↔◌, ◌<◌, ◌++◌, ◌∷◌, [], IfErr, IfOk, IsNone, IsSome, IsTrue, OnErr, OnOk, length, slice_index_or, string_bytes};
-ghost use Rattle.meson_splice.specs.Files.{bytes_at, found, with_bytes};
+ghost use Rattle.meson_splice.specs.Files.{IsDistinct, bytes_at, found, with_bytes};
 ghost use Rattle.meson_splice.specs.declared.file_set.File.{File};
 
 use crate::fault::SpliceFault;
@@ -131,6 +131,7 @@ impl FileSet {
     /// An equal file set.
     pub fn copy(&self, alloc: Global) -> Result<FileSet, SpliceFault>
         ensures copied { IfOk result (λ s. s ≡ self.now) }
+        ensures distinct { IfOk result IsDistinct }
         ensures refused { IfErr result (λ e. e ≡ SpliceFault.OutOfMemory) }
     {
         let mut files = Vec::with_capacity(alloc, self.files.len())?;

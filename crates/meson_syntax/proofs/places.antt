@@ -6,4 +6,5 @@ pub mod Owned
 pub mod Bounds
 pub mod Spoken
 pub mod Elements
+pub mod Values
 pub mod Standing

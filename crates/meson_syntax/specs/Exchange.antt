@@ -7,11 +7,11 @@ use Rattle.meson_lex.specs.Items.{Lexeme, IsItemList}
 use Rattle.meson_lex.specs.Significant.{Word}
 use Rattle.meson_syntax.specs.declared.operator.Bracket.{Bracket}
 use Rattle.meson_syntax.specs.Operators.{opens, closes}
-use Rattle.meson_syntax.specs.Tree.{Listing, File, erase}
+use Rattle.meson_syntax.specs.Tree.{Nowhere, Plain, Listing, File, erase}
 use Rattle.meson_syntax.specs.Grammar.{LevelListing, LevelFile, file_depth}
 use Rattle.meson_syntax.specs.Reads.{Fits, Spells, ReadsWithin, IsSpannedWithin}
 use Rattle.meson_syntax.specs.Paths.{ListAt, list_at, list_span, inner_words}
-use Rattle.meson_syntax.specs.Places.{spoken}
+use Rattle.meson_lex.specs.Words.{spoken}
 
 -- The text is a list from its opening bracket to its closing one, with these words between them.
 pub record IsListText (text : List ℕ) (b : Bracket) (words : List Word) : Type 0 where
@@ -24,20 +24,23 @@ pub record IsListText (text : List ℕ) (b : Bracket) (words : List Word) : Type
   pub is_inner : spoken inner ≡ words
 
 -- Where the bytes of a list are exchanged for the text of another one, the new text spells the tree with the other list in that place.
+-- `p` is the list among the spans of the text, and `q` the same one in the tree without spans.
 abbrev pub ListsExchange : Type 0
 ListsExchange = (limits : Limits) (bytes : List ℕ) (f : File Span) (s : IsSpannedWithin limits bytes f) (path : List ℕ) (p : ListAt Span) → list_at f path ≡ Some p
-    → (l : Listing Span) (text : List ℕ) → IsListText text p.bracket (inner_words l) → LevelFile (p.back l)
+    → (q : ListAt Nowhere) → list_at (erase f) path ≡ Some q
+    → (l : Listing Nowhere) (text : List ℕ) → IsListText text q.bracket (inner_words l) → LevelFile (q.back l)
     → (front was back : List ℕ) → bytes ≡ front ++ (was ++ back) → length front ≡ (list_span p.list).from → length (front ++ was) ≡ (list_span p.list).to
-    → Spells (front ++ (text ++ back)) (erase (p.back l))
+    → Spells (front ++ (text ++ back)) (q.back l)
 
 -- And it reads as that tree, where its length and its depth allow it and the other list's text is UTF-8.
 abbrev pub ListsReadAgain : Type 0
 ListsReadAgain = (limits : Limits) (bytes : List ℕ) (f : File Span) (s : IsSpannedWithin limits bytes f) (path : List ℕ) (p : ListAt Span) → list_at f path ≡ Some p
-    → (l : Listing Span) (text : List ℕ) → IsListText text p.bracket (inner_words l) → LevelFile (p.back l)
+    → (q : ListAt Nowhere) → list_at (erase f) path ≡ Some q
+    → (l : Listing Nowhere) (text : List ℕ) → IsListText text q.bracket (inner_words l) → LevelFile (q.back l)
     → (front was back : List ℕ) → bytes ≡ front ++ (was ++ back) → length front ≡ (list_span p.list).from → length (front ++ was) ≡ (list_span p.list).to
-    → IsUtf8 text → Fits limits.len (length (front ++ (text ++ back))) → file_depth (p.back l) ≤ limits.depth
-    → ReadsWithin limits (front ++ (text ++ back)) (erase (p.back l))
+    → IsUtf8 text → Fits limits.len (length (front ++ (text ++ back))) → file_depth (q.back l) ≤ limits.depth
+    → ReadsWithin limits (front ++ (text ++ back)) (q.back l)
 
 -- The tree with the other list has its levels where the list has them.
 abbrev pub ListsLevel : Type 0
-ListsLevel = (f : File Span) (path : List ℕ) (p : ListAt Span) → list_at f path ≡ Some p → LevelFile f → (l : Listing Span) → LevelListing l p.bracket → LevelFile (p.back l)
+ListsLevel = (t : Plain) (path : List ℕ) (q : ListAt Nowhere) → list_at t path ≡ Some q → LevelFile t → (l : Listing Nowhere) → LevelListing l q.bracket → LevelFile (q.back l)

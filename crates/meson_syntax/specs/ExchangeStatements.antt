@@ -11,7 +11,8 @@ use Rattle.meson_syntax.specs.Tree.{Nowhere, Plain, Statement, Statements, no_st
 use Rattle.meson_syntax.specs.Grammar.{statement_words, LevelStatement, LevelFile, file_depth}
 use Rattle.meson_syntax.specs.Reads.{Fits, Spells, ReadsWithin, IsSpannedWithin}
 use Rattle.meson_syntax.specs.Paths.{Sort, of_expression, of_statement, of_block, Node, nth, reach, block_of, with_block}
-use Rattle.meson_syntax.specs.Places.{statement_span, IsTight}
+use Rattle.meson_lex.specs.Words.{IsTight}
+use Rattle.meson_syntax.specs.Places.{statement_span}
 
 -- ---- trees
 

@@ -1,13 +1,16 @@
 -- Laws of build files and their trees.
-use Rattle.std.specs.Prelude.{◌≡◌, ℕ, List, ◌++◌, Some}
+use Rattle.std.specs.Prelude.{◌≡◌, ℕ, List, ◌++◌, Some, option_map}
+use Rattle.meson_lex.specs.Significant.{Word}
+use Rattle.meson_syntax.specs.declared.operator.Bracket.{Bracket}
 use Rattle.meson_lex.specs.declared.kinds.Span.{Span}
 use Rattle.meson_syntax.specs.declared.source.Limits.{Limits}
-use Rattle.meson_syntax.specs.Tree.{Listing, Block, File, Plain, erase}
+use Rattle.meson_syntax.specs.Tree.{Listing, Block, File, Plain, erase, erase_expression, erase_listing, erase_statement, erase_block}
 use Rattle.meson_syntax.specs.Grammar.{block_words, file_words, listing_words}
 use Rattle.meson_syntax.specs.Tree.{Nowhere}
 use Rattle.meson_syntax.specs.Reads.{Reads, IsSpanned, IsSpannedWithin}
-use Rattle.meson_syntax.specs.Paths.{of_block, Node, node_words, Hole, reach, block_of, ListAt, list_at}
+use Rattle.meson_syntax.specs.Paths.{Sort, of_expression, of_statement, of_block, Node, node_words, Hole, reach, block_of, ListAt, list_at}
 use Rattle.meson_syntax.specs.Places.{NodeStands, ListPlaces}
+use Rattle.meson_syntax.specs.ExchangeStatements.{block_at}
 
 -- A text reads as at most one tree.
 abbrev pub OneTree : Type 0
@@ -39,3 +42,47 @@ HolesFit = (b : Block Nowhere) (path : List ℕ) (h : Hole Nowhere (Block Nowher
 abbrev pub ListsFit : Type 0
 ListsFit = (f : Plain) (path : List ℕ) (p : ListAt Nowhere) → list_at f path ≡ Some p
     → (p.back p.list ≡ f) × ((l : Listing Nowhere) → file_words (p.back l) ≡ p.before ++ (listing_words l p.bracket ++ p.behind))
+
+-- ---- trees without their spans
+
+-- what a path names, and the words around it
+pub record Front (S : Type 0) : Type 0 where
+  pub sort : Sort
+  pub inside : Node sort S
+  pub before : List Word
+  pub behind : List Word
+
+abbrev pub front : {S T : Type 0} → Hole S T → Front S
+front h = record { sort = h.sort; inside = h.inside; before = h.before; behind = h.behind }
+
+abbrev pub erase_node : (S : Type 0) (sort : Sort) → Node sort S → Node sort Nowhere
+erase_node S of_expression e = erase_expression e
+erase_node S of_statement s = erase_statement s
+erase_node S of_block b = erase_block b
+
+abbrev pub erase_front : {S : Type 0} → Front S → Front Nowhere
+erase_front {S} h = record { sort = h.sort; inside = erase_node S h.sort h.inside; before = h.before; behind = h.behind }
+
+-- A path names the same in the tree without its spans.
+abbrev pub NodesErase : Type 0
+NodesErase = (f : File Span) (path : List ℕ) → option_map front (reach Nowhere of_block (block_of (erase f)) path) ≡ option_map (λ h. erase_front (front h)) (reach Span of_block (block_of f) path)
+
+-- the list that a path names, and the words around it
+pub record ListFront (S : Type 0) : Type 0 where
+  pub list : Listing S
+  pub bracket : Bracket
+  pub before : List Word
+  pub behind : List Word
+
+abbrev pub list_front : {S : Type 0} → ListAt S → ListFront S
+list_front p = record { list = p.list; bracket = p.bracket; before = p.before; behind = p.behind }
+
+abbrev pub erase_list_front : {S : Type 0} → ListFront S → ListFront Nowhere
+erase_list_front p = record { list = erase_listing p.list; bracket = p.bracket; before = p.before; behind = p.behind }
+
+abbrev pub ListsErase : Type 0
+ListsErase = (f : File Span) (path : List ℕ) → option_map list_front (list_at (erase f) path) ≡ option_map (λ p. erase_list_front (list_front p)) (list_at f path)
+
+-- So does a path of a block.
+abbrev pub BlocksErase : Type 0
+BlocksErase = (f : File Span) (path : List ℕ) → option_map (λ b. b.inside) (block_at (erase f) path) ≡ option_map (λ b. erase_block b.inside) (block_at f path)

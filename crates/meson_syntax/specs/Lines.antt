@@ -9,7 +9,8 @@ use Rattle.meson_syntax.specs.declared.source.Limits.{Limits}
 use Rattle.meson_syntax.specs.Tree.{Nowhere, Plain, Statement, File}
 use Rattle.meson_syntax.specs.Grammar.{statement_words, file_words, file_depth}
 use Rattle.meson_syntax.specs.Reads.{Fits, Spells, ReadsWithin, IsSpannedWithin}
-use Rattle.meson_syntax.specs.Places.{statement_span, spoken, IsTight}
+use Rattle.meson_lex.specs.Words.{spoken, IsTight}
+use Rattle.meson_syntax.specs.Places.{statement_span}
 use Rattle.meson_syntax.specs.ExchangeStatements.{BlockAt, block_at, statement_in, block_without, file_and_last, IsStatementText}
 
 -- behind a token, outside brackets

@@ -1,12 +1,13 @@
 -- Where nodes of a tree stand among the items of their text.
-use Rattle.std.specs.Prelude.{◌≡◌, ℕ, Bool, true, false, List, [], ◌∷◌, ◌++◌, length, Some, ⊤}
+use Rattle.std.specs.Prelude.{◌≡◌, ℕ, List, [], ◌∷◌, ◌++◌, length, Some, ⊤}
 use Rattle.meson_lex.specs.declared.kinds.Span.{Span}
 use Rattle.meson_lex.specs.Items.{Lexeme, joined}
-use Rattle.meson_lex.specs.Significant.{Word, kept, Role, Gap, Ends, Opens, Closes, Other, role, start, after, emitted, closing}
+use Rattle.meson_lex.specs.Significant.{Word, start, after, emitted, closing}
+use Rattle.meson_lex.specs.Words.{spoken, IsTight}
 use Rattle.meson_syntax.specs.Operators.{opens, closes}
 use Rattle.meson_syntax.specs.Tree.{Expression, identifier, boolean, integer, string, paren, array, dictionary, call, unary, row, postfix, conditional, Argument, plain, named, pair, Statement, evaluate, assign, selection, iteration, breaks, continues}
 use Rattle.meson_syntax.specs.Grammar.{expression_words, argument_words, statement_words}
-use Rattle.meson_syntax.specs.Paths.{Sort, of_expression, of_statement, of_block, Node, ListAt, ElementAt, element_at, list_span, inner_words}
+use Rattle.meson_syntax.specs.Paths.{Sort, of_expression, of_statement, of_block, Node, ListAt, ElementAt, element_at, value_of, words_ahead, list_span, inner_words}
 
 -- ---- spans of nodes
 
@@ -36,39 +37,6 @@ statement_span (selection s bs o) = s
 statement_span (iteration s xs e b) = s
 statement_span (breaks s) = s
 statement_span (continues s) = s
-
--- ---- items
-
--- whether an item with this role is always a token by itself
-abbrev pub speaks : Role → Bool
-speaks Gap = false
-speaks Ends = false
-speaks Opens = true
-speaks Closes = true
-speaks Other = true
-
-abbrev pub spoken_by : Role → Word → List Word
-spoken_by Gap w = []
-spoken_by Ends w = []
-spoken_by Opens w = w ∷ []
-spoken_by Closes w = w ∷ []
-spoken_by Other w = w ∷ []
-
--- the words of items, line ends left out: inside brackets these are all of their tokens
-abbrev pub spoken : List Lexeme → List Word
-spoken [] = []
-spoken (x ∷ xs) = spoken_by (role x.kind) (x.kind, kept x.kind x.text) ++ spoken xs
-
--- the first and the last of the items are tokens by themselves: no blank, comment, continuation or line end stands at either end
-pub record IsTight (own : List Lexeme) : Type 0 where
-  pub first : Lexeme
-  pub more : List Lexeme
-  pub begins : own ≡ first ∷ more
-  pub first_speaks : speaks (role first.kind) ≡ true
-  pub front : List Lexeme
-  pub last : Lexeme
-  pub ends : own ≡ front ++ last ∷ []
-  pub last_speaks : speaks (role last.kind) ≡ true
 
 -- ---- nodes among items
 
@@ -124,7 +92,12 @@ pub record PartStands (items : List Lexeme) (p : ListAt Span) (l : ListStands it
 abbrev pub ElementStands : (items : List Lexeme) (p : ListAt Span) → ListStands items p → ElementAt Span → Type 0
 ElementStands items p l e = PartStands items p l (argument_span e.element) e.before (argument_words e.element) e.behind
 
--- The list, and each of its elements.
+-- The value of an element, behind the element's name where it has one.
+abbrev pub ValueStands : (items : List Lexeme) (p : ListAt Span) → ListStands items p → ElementAt Span → Expression Span → Type 0
+ValueStands items p l e v = PartStands items p l (expression_span v) (e.before ++ words_ahead e.element) (expression_words v) e.behind
+
+-- The list, and each of its elements with its value.
 pub record ListPlaces (items : List Lexeme) (p : ListAt Span) : Type 0 where
   pub list : ListStands items p
   pub elements : (n : ℕ) (e : ElementAt Span) → element_at p.list n ≡ Some e → ElementStands items p list e
+  pub values : (n : ℕ) (e : ElementAt Span) → element_at p.list n ≡ Some e → (v : Expression Span) → value_of e.element ≡ Some v → ValueStands items p list e v

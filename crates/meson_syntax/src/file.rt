@@ -51,7 +51,7 @@ pub fn parse_wide(alloc: Global, source: &[u8]) -> Result<Parsed, ParseFault>
 }
 
 /// The tree of a text within these limits.
-fn parse_within(alloc: Global, source: &[u8], limits: Limits) -> Result<Parsed, ParseFault>
+pub fn parse_within(alloc: Global, source: &[u8], limits: Limits) -> Result<Parsed, ParseFault>
     requires { limits.depth + 1 < 2 ^ 64 }
     ensures reads { IfOk result (λ p. IsSpannedWithin limits source.now (view source.now p)) }
     ensures finds { (t : Plain) → ReadsWithin limits source.now t → Is (λ p. erase (view source.now p)) result t }

@@ -3,7 +3,7 @@
 ghost use Rattle.meson_syntax.specs.Exchange.{ListsExchange, ListsLevel, ListsReadAgain};
 ghost use Rattle.meson_syntax.specs.ExchangeStatements.{AppendedReadAgain, AppendingLevels, RemovalsLevel, RemovalsReadAgain, StatementsCome, StatementsGo};
 ghost use Rattle.meson_syntax.specs.Lines.{AppendedWords, CutsAreUtf8, FilesEnd, LinesAreTexts, SpelledReads, StatementsAreTexts, StatementsEnd, StatementsStand};
-ghost use Rattle.meson_syntax.specs.Laws.{HasSpans, HolesFit, ListsFit, ListsStand, NodesStand, OneSpannedTree, OneTree};
+ghost use Rattle.meson_syntax.specs.Laws.{BlocksErase, HasSpans, HolesFit, ListsErase, ListsFit, ListsStand, NodesErase, NodesStand, OneSpannedTree, OneTree};
 
 /// A text reads as at most one tree, whose nodes stand in it in one way.
 pub fn one_tree()
@@ -17,6 +17,13 @@ pub fn one_tree()
 pub fn places()
     ensures nodes_stand { NodesStand }
     ensures lists_stand { ListsStand }
+{}
+
+/// A path names the same in a tree and in the tree without its spans: node, list or block, with the same words around it.
+pub fn erased()
+    ensures nodes_erase { NodesErase }
+    ensures lists_erase { ListsErase }
+    ensures blocks_erase { BlocksErase }
 {}
 
 /// A tree with another node, or another list, where a path names one has the words of the other in the place of the old ones.

@@ -24,11 +24,11 @@ mod token;
 mod tree;
 
 pub use fault::ParseFault;
-pub use file::{parse, parse_wide};
+pub use file::{parse, parse_wide, parse_within};
 pub use list_text::parse_list;
 pub use many::Many;
 pub use operator::{Assignment, Bracket, Operator, StringKind, UnaryOperator};
 pub use path::Path;
-pub use source::MAX_LEN;
+pub use source::{Limits, MAX_LEN};
 pub use sqlite_items::Boxed;
 pub use tree::{Arg, Block, Branch, Expr, List, Operand, Parsed, Stmt, Tail};

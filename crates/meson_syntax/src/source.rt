@@ -11,7 +11,7 @@ pub const MAX_LEN: usize = 1_048_576;
 
 /// How many bytes a text may have, if that is limited, and how many constructs may stand inside one another.
 #[derive(Clone, Copy)]
-pub(crate) struct Limits {
+pub struct Limits {
     pub len: Option<usize>,
     pub depth: usize,
 }

@@ -7,7 +7,7 @@ use Rattle.meson_lex.specs.Items.{Lexeme, joined, IsItem, IsItemList, AreItems}
 use Rattle.meson_lex.specs.Kinds.{IsLineEnd}
 use Rattle.meson_lex.specs.Significant.{Word, new_line, Ends, role, State, start, fresh_after, step_by, ends_line, only_if, after, emitted, closing, significant}
 use Rattle.meson_lex.proofs.Seams.{joined-append, AreItems-append}
-use Rattle.meson_syntax.specs.Places.{speaks}
+use Rattle.meson_lex.specs.Words.{speaks}
 use Rattle.meson_syntax.specs.ExchangeStatements.{EndsItsLine, IsBreak}
 use Rattle.meson_syntax.proofs.places.Spots.{after-append, emitted-append}
 use Rattle.meson_syntax.proofs.exchange.States.{after_words, after-words-append, state-is, flat-depth, Lines}

@@ -11,7 +11,7 @@ use Rattle.meson_lex.specs.Neighbours.{MayStand, Shape, StandsBefore, blanks, cl
 use Rattle.meson_lex.specs.Significant.{role}
 use Rattle.meson_lex.proofs.Seams.{AreItems-append, AreItems-split}
 use Rattle.meson_lex.proofs.Standing.{none_parts}
-use Rattle.meson_syntax.specs.Places.{speaks}
+use Rattle.meson_lex.specs.Words.{speaks}
 use Rattle.meson_syntax.proofs.exchange.FirstBytes.{begins-with}
 
 -- ---- texts that begin alike

@@ -10,7 +10,8 @@ use Rattle.meson_lex.specs.Kinds.{OfKind}
 use Rattle.meson_lex.specs.Neighbours.{MayStand}
 use Rattle.meson_lex.specs.Significant.{Word, new_line, role, State, start, after, emitted, closing, significant}
 use Rattle.meson_lex.proofs.Seams.{AreItems-append, AreItems-split}
-use Rattle.meson_syntax.specs.Places.{speaks, Stands}
+use Rattle.meson_lex.specs.Words.{speaks}
+use Rattle.meson_syntax.specs.Places.{Stands}
 use Rattle.meson_syntax.specs.Lines.{in_line}
 use Rattle.meson_syntax.specs.ExchangeStatements.{BeginsInNoBlank, EndsInNoBlank, IsTrimmed, IsLineRest}
 use Rattle.meson_syntax.proofs.places.Spots.{after-append}

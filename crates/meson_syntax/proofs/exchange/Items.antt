@@ -7,7 +7,7 @@ use Rattle.meson_lex.specs.Neighbours.{MayStand}
 use Rattle.meson_lex.specs.Significant.{kept, Role, Opens, Closes, role, State, start, step_by, step, emit, emitted, after, closing, significant}
 use Rattle.meson_lex.proofs.Seams.{AreItems-append, AreItems-split}
 use Rattle.meson_syntax.specs.Grammar.{mark}
-use Rattle.meson_syntax.specs.Places.{speaks, spoken}
+use Rattle.meson_lex.specs.Words.{speaks, spoken}
 use Rattle.meson_syntax.proofs.places.Spots.{after-append, emitted-append, speaks-emit}
 use Rattle.meson_syntax.proofs.exchange.Brackets.{IsBracket, items-near}
 use Rattle.meson_syntax.proofs.exchange.Nesting.{nest, inside-emitted, inside-depth}

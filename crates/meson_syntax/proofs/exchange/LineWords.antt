@@ -3,7 +3,7 @@ use Rattle.std.proofs.Common.{◌≡◌, true, false, List, [], ◌∷◌, ◌++
 use Rattle.meson_lex.specs.declared.kinds.Kind.TheVariants as k
 use Rattle.meson_lex.specs.Items.{Lexeme}
 use Rattle.meson_lex.specs.Significant.{Word, kept, new_line, Role, Gap, Ends, Opens, Closes, Other, role, State, start, step_by, emit_by, after, emitted, closing}
-use Rattle.meson_syntax.specs.Places.{speaks, IsTight}
+use Rattle.meson_lex.specs.Words.{speaks, IsTight}
 use Rattle.meson_syntax.specs.ExchangeStatements.{IsLineRest}
 use Rattle.meson_syntax.specs.Lines.{in_line}
 use Rattle.meson_syntax.proofs.places.Spots.{after-append, emitted-append}

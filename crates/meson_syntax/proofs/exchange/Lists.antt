@@ -1,4 +1,5 @@
 -- A list's bytes exchanged for the text of another list: the new text spells the tree with the other list in that place.
+use Rattle.std.specs.Prelude.{option_map}
 use Rattle.std.proofs.Common.{◌≡◌, ℕ, List, [], ◌∷◌, ◌++◌, length, Some, refl, sym, ap, ap₂, subst, ◌∙◌, append_assoc, length-append, arith}
 use Rattle.meson_lex.specs.declared.kinds.Span.{Span}
 use Rattle.meson_syntax.specs.declared.source.Limits.{Limits}
@@ -7,16 +8,19 @@ use Rattle.meson_lex.specs.Significant.{Opens, Closes, State, start, after, emit
 use Rattle.meson_lex.proofs.Seams.{joined-append}
 use Rattle.meson_syntax.specs.declared.operator.Bracket.{Bracket}
 use Rattle.meson_syntax.specs.Operators.{opens, closes}
-use Rattle.meson_syntax.specs.Tree.{Listing, listing, File, erase}
+use Rattle.meson_syntax.specs.Tree.{Nowhere, Listing, listing, File, erase}
 use Rattle.meson_syntax.specs.Grammar.{mark, listing_words, file_words, LevelFile}
 use Rattle.meson_syntax.specs.Reads.{Spells, IsSpannedWithin}
 use Rattle.meson_syntax.specs.Paths.{ListAt, list_at, list_span, inner_words}
-use Rattle.meson_syntax.specs.Places.{spoken, ListStands}
-use Rattle.meson_syntax.specs.Exchange.{IsListText}
-use Rattle.meson_syntax.proofs.parsing.FileErased.{file-words-erased, file-level-erased}
+use Rattle.meson_lex.specs.Words.{spoken}
+use Rattle.meson_syntax.specs.Places.{ListStands}
+use Rattle.meson_syntax.specs.Exchange.{IsListText, ListsExchange}
+use Rattle.meson_syntax.specs.Laws.{ListFront, list_front, erase_list_front}
+use Rattle.meson_syntax.proofs.parsing.Steps.{some-injective}
 use Rattle.meson_syntax.proofs.places.Spots.{after-append}
 use Rattle.meson_syntax.proofs.places.Standing.{joined-lengths, lists-stand}
 use Rattle.meson_syntax.proofs.paths.Reaching.{ListFits, list-fits}
+use Rattle.meson_syntax.proofs.paths.Erased.{lists-erase}
 use Rattle.meson_syntax.proofs.exchange.Brackets.{IsBracket, open-bracket, close-bracket}
 use Rattle.meson_syntax.proofs.exchange.Nesting.{nest, inner-flat}
 use Rattle.meson_syntax.proofs.exchange.Items.{listed, behind, exchanged-items, list-after, list-significant}
@@ -52,9 +56,6 @@ module _ (limits : Limits) (bytes : List ℕ) (f : File Span) (s : IsSpannedWith
   pub place : ListStands s.reads.spells.items p
   place = (lists-stand limits bytes f s path p is).list
 
-  fits : ListFits Span f p
-  fits = list-fits Span f path p is
-
   -- the parts of the text that the list's span cuts out are the texts of the items
   pub cut-is : (front was back : List ℕ) → bytes ≡ front ++ (was ++ back) → length front ≡ (list_span p.list).from → length (front ++ was) ≡ (list_span p.list).to
       → (front ≡ joined place.left) × (back ≡ joined place.right)
@@ -70,62 +71,77 @@ module _ (limits : Limits) (bytes : List ℕ) (f : File Span) (s : IsSpannedWith
       let second = same-cut (joined own) (joined place.right) was back first.1 (omega arith) in
       (sym first.0, sym second.1)
 
-  module _ (l : Listing Span) (text : List ℕ) (t : IsListText text p.bracket (inner_words l)) where
-    opening : IsBracket (opens p.bracket) Opens
-    opening = open-bracket p.bracket
+  module _ (q : ListAt Nowhere) (plain-is : list_at (erase f) path ≡ Some q) where
+    -- the list in the tree without spans stands in the same brackets and between the same words
+    same-front : list_front q ≡ erase_list_front (list_front p)
+    same-front = some-injective _ _ (ap (option_map list_front) (sym plain-is) ∙ lists-erase f path ∙ ap (option_map (λ x. erase_list_front (list_front x))) is)
 
-    closer : IsBracket (closes p.bracket) Closes
-    closer = close-bracket p.bracket
+    same-bracket : q.bracket ≡ p.bracket
+    same-bracket = ap (λ x. x.bracket) same-front
 
-    abbrev now : List Lexeme
-    now = place.left ++ listed t.open_item t.inner t.close_item place.right
+    fits : ListFits Nowhere (erase f) q
+    fits = list-fits Nowhere (erase f) path q plain-is
 
-    now-items : AreItems now []
-    now-items =
-        exchanged-items (opens p.bracket) (closes p.bracket) opening closer place.left place.inner place.right t.inner place.open_item place.close_item t.open_item t.close_item place.is_open place.is_close t.is_open t.is_close
-        (subst (λ xs. AreItems xs []) place.parts s.reads.spells.are_items.each) t.are_items.each
+    module _ (l : Listing Nowhere) (text : List ℕ) (t : IsListText text q.bracket (inner_words l)) where
+      opening : IsBracket (opens p.bracket) Opens
+      opening = open-bracket p.bracket
 
-    old-flat : nest 0 (spoken place.inner) ≡ Some 0
-    old-flat = ap (nest 0) place.is_inner ∙ inner-flat Span p.list
+      closer : IsBracket (closes p.bracket) Closes
+      closer = close-bracket p.bracket
 
-    new-flat : nest 0 (spoken t.inner) ≡ Some 0
-    new-flat = ap (nest 0) t.is_inner ∙ inner-flat Span l
+      opened : t.open_item.kind ≡ opens p.bracket
+      opened = t.is_open ∙ ap opens same-bracket
 
-    -- the words behind the list stay
-    rest-words : emitted (behind (after start place.left)) place.right ++ closing (after (behind (after start place.left)) place.right).fresh ≡ p.behind
-    rest-words =
-        let st = after start place.left in
-        let list-end : after start (place.left ++ listed place.open_item place.inner place.close_item []) ≡ behind st =
-        after-append start place.left (listed place.open_item place.inner place.close_item [])
-        ∙ list-after (opens p.bracket) (closes p.bracket) opening closer place.inner place.open_item place.close_item place.is_open place.is_close old-flat st [] in
-        let text-end : after start s.reads.spells.items ≡ after (behind st) place.right =
-        ap (after start) place.parts ∙ after-append start place.left (listed place.open_item place.inner place.close_item place.right)
-        ∙ list-after (opens p.bracket) (closes p.bracket) opening closer place.inner place.open_item place.close_item place.is_open place.is_close old-flat st place.right in
-        ap₂ (λ (a b : State). emitted a place.right ++ closing b.fresh) (sym list-end) (sym text-end) ∙ place.is_right
+      closed : t.close_item.kind ≡ closes p.bracket
+      closed = t.is_close ∙ ap closes same-bracket
 
-    now-words : significant now ≡ file_words (p.back l)
-    now-words =
-        list-significant (opens p.bracket) (closes p.bracket) opening closer t.inner t.open_item t.close_item t.is_open t.is_close new-flat place.left place.right
-        ∙ ap₂ (λ u v. u ++ v) place.is_left
-        (ap₂ (λ u v. u ++ v) (ap (λ w. mark (opens p.bracket) ++ (w ++ mark (closes p.bracket))) t.is_inner ∙ sym (listing-inner l p.bracket)) rest-words)
-        ∙ sym (fits.put l)
+      abbrev now : List Lexeme
+      now = place.left ++ listed t.open_item t.inner t.close_item place.right
 
-    exchanged : LevelFile (p.back l) → (front back : List ℕ) → front ≡ joined place.left → back ≡ joined place.right → Spells (front ++ (text ++ back)) (erase (p.back l))
-    exchanged level front back is-front is-back = record {
-      items = now;
-      are_items = record {
-        joins = joined-list place.left t.open_item t.inner t.close_item place.right ∙ ap (λ x. joined place.left ++ (x ++ joined place.right)) t.are_items.joins
-            ∙ ap₂ (λ x y. x ++ (text ++ y)) (sym is-front) (sym is-back);
-        each = now-items;
-      };
-      words = now-words ∙ sym (file-words-erased (p.back l));
-      level = subst (λ A. A) (sym (file-level-erased (p.back l))) level;
-    }
+      now-items : AreItems now []
+      now-items =
+          exchanged-items (opens p.bracket) (closes p.bracket) opening closer place.left place.inner place.right t.inner place.open_item place.close_item t.open_item t.close_item place.is_open place.is_close opened closed
+          (subst (λ xs. AreItems xs []) place.parts s.reads.spells.are_items.each) t.are_items.each
 
-pub lists-exchange : (limits : Limits) (bytes : List ℕ) (f : File Span) (s : IsSpannedWithin limits bytes f) (path : List ℕ) (p : ListAt Span) → list_at f path ≡ Some p
-    → (l : Listing Span) (text : List ℕ) → IsListText text p.bracket (inner_words l) → LevelFile (p.back l)
-    → (front was back : List ℕ) → bytes ≡ front ++ (was ++ back) → length front ≡ (list_span p.list).from → length (front ++ was) ≡ (list_span p.list).to
-    → Spells (front ++ (text ++ back)) (erase (p.back l))
-lists-exchange limits bytes f s path p is l text t level front was back parts from to =
+      old-flat : nest 0 (spoken place.inner) ≡ Some 0
+      old-flat = ap (nest 0) place.is_inner ∙ inner-flat Span p.list
+
+      new-flat : nest 0 (spoken t.inner) ≡ Some 0
+      new-flat = ap (nest 0) t.is_inner ∙ inner-flat Nowhere l
+
+      -- the words behind the list stay
+      rest-words : emitted (behind (after start place.left)) place.right ++ closing (after (behind (after start place.left)) place.right).fresh ≡ p.behind
+      rest-words =
+          let st = after start place.left in
+          let list-end : after start (place.left ++ listed place.open_item place.inner place.close_item []) ≡ behind st =
+          after-append start place.left (listed place.open_item place.inner place.close_item [])
+          ∙ list-after (opens p.bracket) (closes p.bracket) opening closer place.inner place.open_item place.close_item place.is_open place.is_close old-flat st [] in
+          let text-end : after start s.reads.spells.items ≡ after (behind st) place.right =
+          ap (after start) place.parts ∙ after-append start place.left (listed place.open_item place.inner place.close_item place.right)
+          ∙ list-after (opens p.bracket) (closes p.bracket) opening closer place.inner place.open_item place.close_item place.is_open place.is_close old-flat st place.right in
+          ap₂ (λ (a b : State). emitted a place.right ++ closing b.fresh) (sym list-end) (sym text-end) ∙ place.is_right
+
+      now-words : significant now ≡ file_words (q.back l)
+      now-words =
+          list-significant (opens p.bracket) (closes p.bracket) opening closer t.inner t.open_item t.close_item opened closed new-flat place.left place.right
+          ∙ ap₂ (λ u v. u ++ v) place.is_left
+          (ap₂ (λ u v. u ++ v) (ap (λ w. mark (opens p.bracket) ++ (w ++ mark (closes p.bracket))) t.is_inner ∙ sym (listing-inner l p.bracket)) rest-words)
+          ∙ ap (λ (x : ListFront Nowhere). x.before ++ (listing_words l x.bracket ++ x.behind)) (sym same-front)
+          ∙ sym (fits.put l)
+
+      exchanged : LevelFile (q.back l) → (front back : List ℕ) → front ≡ joined place.left → back ≡ joined place.right → Spells (front ++ (text ++ back)) (q.back l)
+      exchanged level front back is-front is-back = record {
+        items = now;
+        are_items = record {
+          joins = joined-list place.left t.open_item t.inner t.close_item place.right ∙ ap (λ x. joined place.left ++ (x ++ joined place.right)) t.are_items.joins
+              ∙ ap₂ (λ x y. x ++ (text ++ y)) (sym is-front) (sym is-back);
+          each = now-items;
+        };
+        words = now-words;
+        level = level;
+      }
+
+pub lists-exchange : ListsExchange
+lists-exchange limits bytes f s path p is q plain-is l text t level front was back parts from to =
     let cut = cut-is limits bytes f s path p is front was back parts from to in
-    exchanged limits bytes f s path p is l text t level front back cut.0 cut.1
+    exchanged limits bytes f s path p is q plain-is l text t level front back cut.0 cut.1

@@ -1,9 +1,8 @@
 -- Where a list's bytes are exchanged for another list's text, the new text reads as the tree with the other list: it is UTF-8, and begins with no byte order mark.
-use Rattle.std.proofs.Common.{◌≡◌, ◌≢◌, ℕ, ◌+◌, ◌<◌, ◌≤◌, List, [], ◌∷◌, ◌++◌, length, Some, refl, sym, ap, ap₂, subst, ◌∙◌, append_assoc, length-append, arith}
-use Rattle.std.specs.Prelude.{take, drop, get_or, Result, Ok, Err}
-use Rattle.std.specs.Str.{IsUtf8, IsCharBoundary}
+use Rattle.std.proofs.Common.{◌≡◌, ◌≢◌, ℕ, ◌+◌, ◌<◌, List, [], ◌∷◌, ◌++◌, length, Some, refl, sym, ap, subst, ◌∙◌, append_assoc, length-append, arith}
+use Rattle.std.specs.Prelude.{take, drop, get_or, Err}
+use Rattle.std.specs.Str.{IsUtf8}
 use Rattle.std.proofs.lemmas.Str.{IsUtf8-append, IsUtf8-take, IsUtf8-drop, IsCharBoundary-before_ascii, IsCharBoundary-after_ascii}
-use Rattle.std.proofs.lemmas.List.{append-nil}
 use Rattle.std.proofs.Math.Seq.{get_or-append_seam, take-append_seam, drop-append-add}
 use Rattle.meson_lex.specs.declared.kinds.Span.{Span}
 use Rattle.meson_lex.specs.declared.fault.LexFault.TheVariants.{StrayByte}
@@ -18,14 +17,11 @@ use Rattle.meson_lex.proofs.Seams.{joined-append, AreItems-split}
 use Rattle.meson_syntax.specs.declared.operator.Bracket.{Bracket}
 use Rattle.meson_syntax.specs.declared.operator.Bracket.TheVariants as bracket
 use Rattle.meson_syntax.specs.declared.source.Limits.{Limits}
-use Rattle.meson_syntax.specs.Operators.{opens, closes}
-use Rattle.meson_syntax.specs.Tree.{Listing, File, erase}
-use Rattle.meson_syntax.specs.Grammar.{LevelFile, file_depth}
-use Rattle.meson_syntax.specs.Reads.{mark_bytes, Fits, Spells, ReadsWithin, IsSpannedWithin}
-use Rattle.meson_syntax.specs.Paths.{ListAt, list_at, list_span, inner_words}
-use Rattle.meson_syntax.specs.Exchange.{IsListText}
+use Rattle.meson_syntax.specs.Tree.{File}
+use Rattle.meson_syntax.specs.Reads.{mark_bytes, IsSpannedWithin}
+use Rattle.meson_syntax.specs.Paths.{ListAt, list_at}
+use Rattle.meson_syntax.specs.Exchange.{ListsReadAgain}
 use Rattle.meson_syntax.proofs.parsing.Answers.{no-fault}
-use Rattle.meson_syntax.proofs.parsing.FileErased.{file-depth-erased}
 use Rattle.meson_syntax.proofs.exchange.Brackets.{open-bracket, close-bracket}
 use Rattle.meson_syntax.proofs.exchange.Items.{listed}
 use Rattle.meson_syntax.proofs.exchange.Lists.{joined-list, place, cut-is, lists-exchange}
@@ -109,19 +105,17 @@ module _ (limits : Limits) (bytes : List ℕ) (f : File Span) (s : IsSpannedWith
         behind = back-utf8 bytes (joined q.left ++ joined (o ∷ q.inner)) m.byte (joined q.right) last (close-small p.bracket) s.reads.source.utf8;
       }
 
-  pub read-again : (l : Listing Span) (text : List ℕ) → IsListText text p.bracket (inner_words l) → LevelFile (p.back l)
-      → (front was back : List ℕ) → bytes ≡ front ++ (was ++ back) → length front ≡ (list_span p.list).from → length (front ++ was) ≡ (list_span p.list).to
-      → IsUtf8 text → Fits limits.len (length (front ++ (text ++ back))) → file_depth (p.back l) ≤ limits.depth → ReadsWithin limits (front ++ (text ++ back)) (erase (p.back l))
-  read-again l text t level front was back parts from to utf8 fits depth =
-      let spells = lists-exchange limits bytes f s path p is l text t level front was back parts from to in
-      let cut = cut-is limits bytes f s path p is front was back parts from to in
-      let around = sides in
-      record {
-        source = record {
-          fits = fits;
-          utf8 = IsUtf8-append front (text ++ back) (subst IsUtf8 (sym cut.0) around.before) (IsUtf8-append text back utf8 (subst IsUtf8 (sym cut.1) around.behind));
-          no_mark = no-mark (front ++ (text ++ back)) spells.items spells.are_items;
-        };
-        spells = spells;
-        depth = rw (file-depth-erased (p.back l)) depth;
-      }
+pub read-again : ListsReadAgain
+read-again limits bytes f s path p is q plain-is l text t level front was back parts from to utf8 fits depth =
+    let spells = lists-exchange limits bytes f s path p is q plain-is l text t level front was back parts from to in
+    let cut = cut-is limits bytes f s path p is front was back parts from to in
+    let around = sides limits bytes f s path p is in
+    record {
+      source = record {
+        fits = fits;
+        utf8 = IsUtf8-append front (text ++ back) (subst IsUtf8 (sym cut.0) around.before) (IsUtf8-append text back utf8 (subst IsUtf8 (sym cut.1) around.behind));
+        no_mark = no-mark (front ++ (text ++ back)) spells.items spells.are_items;
+      };
+      spells = spells;
+      depth = depth;
+    }

@@ -13,7 +13,8 @@ use Rattle.meson_syntax.specs.declared.source.Limits.{Limits}
 use Rattle.meson_syntax.specs.Tree.{Nowhere, Plain, Statement, File}
 use Rattle.meson_syntax.specs.Grammar.{statement_words, file_words, file_depth}
 use Rattle.meson_syntax.specs.Reads.{Fits, Spells, ReadsWithin, IsSpannedWithin}
-use Rattle.meson_syntax.specs.Places.{statement_span, spoken_by, spoken, IsTight}
+use Rattle.meson_lex.specs.Words.{spoken_by, spoken, IsTight}
+use Rattle.meson_syntax.specs.Places.{statement_span}
 use Rattle.meson_syntax.specs.ExchangeStatements.{BlockAt, block_at, statement_in, block_without, IsStatementText}
 use Rattle.meson_syntax.specs.Lines.{in_line, LineStands, HasNoLineEnd}
 use Rattle.meson_syntax.proofs.exchange.States.{Lines, lines-append}

@@ -14,7 +14,7 @@ use Rattle.meson_syntax.specs.Grammar.{mark, listing_words}
 use Rattle.meson_syntax.specs.Input.{Input, sees}
 use Rattle.meson_syntax.specs.Spelling.{end_of, SpellsListing}
 use Rattle.meson_syntax.specs.Paths.{list_span}
-use Rattle.meson_syntax.specs.Places.{spoken}
+use Rattle.meson_lex.specs.Words.{spoken}
 use Rattle.meson_syntax.specs.ReadsList.{ReadsList, list_items}
 use Rattle.meson_syntax.specs.ReadingLists.{bracketed, list_of, whole_list}
 use Rattle.meson_syntax.proofs.parsing.Steps.{Passes, end_of-append}

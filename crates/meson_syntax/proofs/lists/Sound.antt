@@ -15,7 +15,7 @@ use Rattle.meson_syntax.specs.Tree.{Listing}
 use Rattle.meson_syntax.specs.Input.{Input, Outcome, sees}
 use Rattle.meson_syntax.specs.Spelling.{SpellsListing}
 use Rattle.meson_syntax.specs.Paths.{list_span, inner_words}
-use Rattle.meson_syntax.specs.Places.{spoken}
+use Rattle.meson_lex.specs.Words.{spoken}
 use Rattle.meson_lex.proofs.Seams.{AreItems-split}
 use Rattle.meson_syntax.specs.ReadingLists.{bracketed, covers_all, list_of, whole_list}
 use Rattle.meson_syntax.proofs.parsing.Steps.{Passes, chosen_at, some-injective}

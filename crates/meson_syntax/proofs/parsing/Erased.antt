@@ -77,22 +77,22 @@ module _ {S : Type 0} where
     expression-words-erased (conditional s c y n) =
         ap₂ (λ u v. u ++ (mark k.Question ++ v)) (expression-words-erased c) (ap₂ (λ u v. u ++ (mark k.Colon ++ v)) (expression-words-erased y) (expression-words-erased n))
 
-    operands-words-erased : (os : Operands S) → operands_words (erase_operands os) ≡ operands_words os
+    pub operands-words-erased : (os : Operands S) → operands_words (erase_operands os) ≡ operands_words os
     operands-words-erased no_operands = refl
     operands-words-erased (operand o e more) = ap₂ (λ u v. operator_words o ++ (u ++ v)) (expression-words-erased e) (operands-words-erased more)
 
-    tail-words-erased : (t : Tail S) → tail_words (erase_tail t) ≡ tail_words t
+    pub tail-words-erased : (t : Tail S) → tail_words (erase_tail t) ≡ tail_words t
     tail-words-erased (method s x l) = ap (λ w. mark k.Dot ++ ((k.Identifier, x) ∷ w)) (listing-words-erased l bracket.Round)
     tail-words-erased (index s e) = ap (λ w. mark k.OpenSquare ++ (w ++ mark k.CloseSquare)) (expression-words-erased e)
 
-    tails-words-erased : (ts : Tails S) → tails_words (erase_tails ts) ≡ tails_words ts
+    pub tails-words-erased : (ts : Tails S) → tails_words (erase_tails ts) ≡ tails_words ts
     tails-words-erased no_tails = refl
     tails-words-erased (tail t more) = ap₂ (λ u v. u ++ v) (tail-words-erased t) (tails-words-erased more)
 
     pub listing-words-erased : (l : Listing S) (b : Bracket) → listing_words (erase_listing l) b ≡ listing_words l b
     listing-words-erased (listing s trailing list) b = ap (λ w. mark (opens b) ++ (w ++ mark (closes b))) (arguments-words-erased list trailing)
 
-    argument-words-erased : (a : Argument S) → argument_words (erase_argument a) ≡ argument_words a
+    pub argument-words-erased : (a : Argument S) → argument_words (erase_argument a) ≡ argument_words a
     argument-words-erased (plain e) = expression-words-erased e
     argument-words-erased (named s x e) = ap (λ w. (k.Identifier, x) ∷ (mark k.Colon ++ w)) (expression-words-erased e)
     argument-words-erased (pair s e f) = ap₂ (λ u v. u ++ (mark k.Colon ++ v)) (expression-words-erased e) (expression-words-erased f)

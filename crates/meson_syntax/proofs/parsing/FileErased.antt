@@ -25,16 +25,16 @@ module _ {S : Type 0} where
     statement-words-erased (breaks s) = refl
     statement-words-erased (continues s) = refl
 
-    branches-words-erased : (bs : Branches S) (word : Kind) → branches_words (erase_branches bs) word ≡ branches_words bs word
+    pub branches-words-erased : (bs : Branches S) (word : Kind) → branches_words (erase_branches bs) word ≡ branches_words bs word
     branches-words-erased no_branches word = refl
     branches-words-erased (branch e b more) word =
         ap₂ (λ u v. mark word ++ (u ++ v)) (expression-words-erased e) (ap₂ (λ u v. (new_line ∷ u) ++ v) (block-words-erased b) (branches-words-erased more k.WordElif))
 
-    otherwise-words-erased : (o : Otherwise S) → otherwise_words (erase_otherwise o) ≡ otherwise_words o
+    pub otherwise-words-erased : (o : Otherwise S) → otherwise_words (erase_otherwise o) ≡ otherwise_words o
     otherwise-words-erased nothing_else = refl
     otherwise-words-erased (otherwise b) = ap (λ w. mark k.WordElse ++ (new_line ∷ w)) (block-words-erased b)
 
-    statements-words-erased : (list : Statements S) → statements_words (erase_statements list) ≡ statements_words list
+    pub statements-words-erased : (list : Statements S) → statements_words (erase_statements list) ≡ statements_words list
     statements-words-erased no_statements = refl
     statements-words-erased (statement s more) = ap₂ (λ u v. u ++ (new_line ∷ v)) (statement-words-erased s) (statements-words-erased more)
 

@@ -5,7 +5,7 @@ use Rattle.meson_lex.specs.Significant.{kept, role, State, step, after, emitted}
 use Rattle.meson_lex.specs.Located.{Token, word_of, words, spots}
 use Rattle.meson_lex.proofs.Seams.{joined-append}
 use Rattle.meson_lex.proofs.TokenWords.{words-append, words-spots}
-use Rattle.meson_syntax.specs.Places.{speaks, IsTight}
+use Rattle.meson_lex.specs.Words.{speaks, IsTight}
 use Rattle.meson_syntax.proofs.places.Spots.{after-append, emitted-append, speaks-emit, IsOwn, IsSilent, cut-item}
 
 pub emit-word : (s : State) (x : Lexeme) (t : Token) → speaks (role x.kind) ≡ true → word_of t ≡ (x.kind, kept x.kind x.text) → emitted s (x ∷ []) ≡ words (t ∷ [])

@@ -13,7 +13,7 @@ use Rattle.meson_syntax.specs.Operators.{opens, closes, string_kind, boolean_kin
 use Rattle.meson_syntax.specs.Tree.{Expression, identifier, boolean, integer, string, paren, array, dictionary, call, unary, row, postfix, conditional, Operands, no_operands, operand, Tail, method, index, Tails, no_tails, tail, Listing, listing, Argument, plain, named, pair, Arguments, no_arguments, argument}
 use Rattle.meson_syntax.specs.Grammar.{mark, comma_words, operator_words, expression_words, operands_words, tail_words, tails_words, listing_words, argument_words, arguments_words}
 use Rattle.meson_syntax.specs.Paths.{inner_words}
-use Rattle.meson_syntax.specs.Places.{spoken_by, spoken}
+use Rattle.meson_lex.specs.Words.{spoken_by, spoken}
 use Rattle.meson_syntax.proofs.places.Bounds.{IsOwnKind, string-own, boolean-own, unary-own, opens-own, closes-own}
 
 -- none of the words is a line end

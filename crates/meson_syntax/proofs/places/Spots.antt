@@ -4,7 +4,7 @@ use Rattle.meson_lex.specs.declared.kinds.Kind.TheVariants as k
 use Rattle.meson_lex.specs.Items.{Lexeme, joined}
 use Rattle.meson_lex.specs.Significant.{Word, kept, Role, Gap, Ends, Opens, Closes, Other, role, State, step, after, ends_line, only_if, emit_by, emitted}
 use Rattle.meson_lex.specs.Located.{Token, word_of, line_end_at, token_at, spot_by, end_by, spots}
-use Rattle.meson_syntax.specs.Places.{speaks}
+use Rattle.meson_lex.specs.Words.{speaks}
 
 pub after-append : (s : State) (xs ys : List Lexeme) → after s (xs ++ ys) ≡ after (after s xs) ys
 after-append s [] ys = refl

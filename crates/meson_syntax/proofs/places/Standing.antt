@@ -12,7 +12,7 @@ use Rattle.meson_syntax.specs.Operators.{opens, closes}
 use Rattle.meson_syntax.specs.Tree.{Block, File, file}
 use Rattle.meson_syntax.specs.Spelling.{Covers, One, SpellsFile}
 use Rattle.meson_syntax.specs.Grammar.{expression_words, argument_words, statement_words}
-use Rattle.meson_syntax.specs.Paths.{Sort, of_expression, of_statement, of_block, Node, ElementAt, element_at, list_span, inner_words, Hole, reach, list_in, ListAt, list_within, list_of_node, list_at, block_of}
+use Rattle.meson_syntax.specs.Paths.{Sort, of_expression, of_statement, of_block, Node, ElementAt, element_at, words_ahead, list_span, inner_words, Hole, reach, list_in, ListAt, list_within, list_of_node, list_at, block_of}
 use Rattle.meson_syntax.specs.Places.{expression_span, argument_span, statement_span, Stands, NodeStands, ListStands, PartStands, ListPlaces}
 use Rattle.meson_syntax.specs.Reads.{IsSpannedWithin}
 use Rattle.meson_syntax.proofs.parsing.Words.{expression-words, argument-words}
@@ -21,10 +21,11 @@ use Rattle.meson_syntax.proofs.paths.Reaching.{map-some, and-then-some}
 use Rattle.meson_syntax.proofs.places.Spots.{IsSilent}
 use Rattle.meson_syntax.proofs.places.Owned.{cut-pair, Bounded, cut-own, right-words}
 use Rattle.meson_syntax.proofs.places.Bounds.{opens-own, closes-own, bounded-expression, bounded-argument, bounded-statement, expression-covers, argument-covers, statement-covers, covers-from, covers-to}
-use Rattle.meson_syntax.proofs.places.Inside.{SpellsNode, Inside}
+use Rattle.meson_syntax.proofs.places.Inside.{SpellsNode, Inside, join-words}
 use Rattle.meson_syntax.proofs.places.InStatements.{reach-inside}
 use Rattle.meson_syntax.proofs.places.Elements.{ElementSpelled, list-spelled, list-inside, element-words}
-use Rattle.meson_syntax.proofs.places.Spoken.{NoLine, front-no-line, back-no-line, spoken-is, argument-no-line, inner-no-line}
+use Rattle.meson_syntax.proofs.places.Spoken.{NoLine, no-line-append, front-no-line, back-no-line, spoken-is, expression-no-line, argument-no-line, inner-no-line}
+use Rattle.meson_syntax.proofs.places.Values.{value-spelled, ahead-no-line, apart}
 
 -- ---- the end of a file
 
@@ -117,6 +118,12 @@ list-tokens of_expression x f before behind back p d last own h sp =
     })
 list-tokens of_statement x f before behind back p d last own h sp = absurd cc
 list-tokens of_block x f before behind back p d last own h sp = absurd cc
+
+-- no word around an element is a line end
+element-quiet : (p : ListAt Span) (n : ℕ) (e : ElementAt Span) → element_at p.list n ≡ Some e → NoLine e.before × NoLine e.behind
+element-quiet p n e h =
+    let all = subst NoLine (element-words Span p.list n e h) (inner-no-line Span p.list) in
+    (front-no-line e.before (argument_words e.element ++ e.behind) all, back-no-line (argument_words e.element) e.behind (back-no-line e.before (argument_words e.element ++ e.behind) all))
 
 brackets-group : {A : Type 0} (a b i z : List A) (o c : A) → a ++ ((b ++ ((o ∷ []) ++ (i ++ (c ∷ [])))) ++ z) ≡ (a ++ b) ++ o ∷ (i ++ c ∷ z)
 brackets-group a b i z o c = simp append_assoc
@@ -215,12 +222,19 @@ module _ (items : List Lexeme) where
     list = l.list;
     elements = λ n e h.
         let x = t.elements n e h in
-        let quiet = subst NoLine (element-words Span p.list n e h) (inner-no-line Span p.list) in
+        let none = element-quiet p n e h in
         part-stands items p l.list l.state l.at t.inner l.is_at l.is_inner (argument_span e.element) x.front x.own x.back e.before (argument_words e.element) e.behind x.parts
         (argument-covers e.element p.bracket x.seen t.depth x.own x.spelled) (bounded-argument e.element p.bracket x.seen t.depth x.own x.spelled)
-        x.is_front (argument-words e.element p.bracket x.seen t.depth x.own x.spelled) x.is_back
-        (front-no-line e.before (argument_words e.element ++ e.behind) quiet) (argument-no-line Span e.element)
-        (back-no-line (argument_words e.element) e.behind (back-no-line e.before (argument_words e.element ++ e.behind) quiet));
+        x.is_front (argument-words e.element p.bracket x.seen t.depth x.own x.spelled) x.is_back none.0 (argument-no-line Span e.element) none.1;
+    values = λ n e h v is.
+        let x = t.elements n e h in
+        let none = element-quiet p n e h in
+        let y = value-spelled e.element v p.bracket x.seen t.depth x.own is x.spelled in
+        part-stands items p l.list l.state l.at t.inner l.is_at l.is_inner (expression_span v) (x.front ++ y.ahead) y.own x.back (e.before ++ words_ahead e.element) (expression_words v) e.behind
+        (x.parts ∙ ap (λ z. x.front ++ (z ++ x.back)) y.parts ∙ apart x.front y.ahead y.own x.back)
+        (expression-covers v y.depth y.own y.spelled) (bounded-expression v y.depth y.own y.spelled)
+        (join-words x.front y.ahead e.before (words_ahead e.element) x.is_front y.is_ahead) (expression-words v y.depth y.own y.spelled) x.is_back
+        (no-line-append e.before (words_ahead e.element) none.0 (ahead-no-line Span e.element v is)) (expression-no-line Span v) none.1;
   }
 
 -- ---- files

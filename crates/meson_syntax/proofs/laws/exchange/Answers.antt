@@ -1,4 +1,4 @@
-use Rattle.meson_lex.specs.declared.kinds.Span.{Span}
+use Rattle.meson_syntax.specs.Tree.{Nowhere}
 use Rattle.meson_syntax.proofs.exchange.Lists.{lists-exchange}
 use Rattle.meson_syntax.proofs.exchange.ReadAgain.{read-again}
 use Rattle.meson_syntax.proofs.paths.Reaching.{list-fits}
@@ -8,5 +8,5 @@ pub returns : goal.returns
 returns c = record {
   lists_exchange = lists-exchange;
   lists_read_again = read-again;
-  lists_level = λ f path p is level l m. let fits = list-fits Span f path p is in fits.outside level l m;
+  lists_level = λ t path q is level l m. let fits = list-fits Nowhere t path q is in fits.outside level l m;
 }
