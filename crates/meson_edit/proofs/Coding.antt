@@ -1,0 +1,24 @@
+-- Of a text in UTF-8 the splices of a layout make a text in UTF-8.
+use Rattle.std.specs.Str.{IsUtf8}
+use Rattle.std.proofs.Common.{◌≡◌, ℕ, List, [], ◌∷◌, Ok, sym, subst}
+use Rattle.std.proofs.lemmas.List.{append-nil}
+use Rattle.meson_lex.specs.Items.{Lexeme, joined, AreItems, IsItemList}
+use Rattle.meson_layout.specs.declared.primitive.Primitive.{Primitive}
+use Rattle.meson_layout.specs.Layout.{layout_of}
+use Rattle.meson_layout.specs.Laws.{AreUtf8, WritesUtf8}
+use Rattle.meson_layout.specs.Edited.{patched_by}
+use Rattle.meson_layout.proofs.Coding as layout
+use Rattle.meson_syntax.proofs.exchange.Cuts.{utf8-cut}
+
+-- a text in UTF-8 has items in UTF-8
+all-coded : (items : List Lexeme) → AreItems items [] → IsUtf8 (joined items) → AreUtf8 items
+all-coded [] a u = tt
+all-coded (x ∷ xs) a u = let cut = utf8-cut (x ∷ []) xs a u in (subst IsUtf8 (append-nil x.text) cut.0, all-coded xs a.1 cut.1)
+
+abbrev pub CodingLaw : Type 0
+CodingLaw = (file source : List ℕ) (items : List Lexeme) → IsItemList source items → IsUtf8 source → (primitive : Primitive) → WritesUtf8 primitive
+    → (text : List ℕ) → patched_by source (layout_of file items primitive) ≡ Ok text → IsUtf8 text
+
+pub coding-law : CodingLaw
+coding-law file source items are utf8 primitive u text patches =
+    layout.coding-law file source items are (all-coded items are.each (subst IsUtf8 (sym are.joins) utf8)) primitive u text patches

@@ -1,0 +1,8 @@
+-- The lemmas of this crate.
+pub mod Coding
+pub mod lists
+pub mod statements
+pub mod paths
+pub mod sequences
+pub mod Fitting
+pub mod DeepViews

@@ -1,0 +1,12 @@
+use Rattle.meson_edit.proofs.lists.Answers.{firsts-spell, insertions-spell, removals-spell, replacements-spell, wraps-spell, list-edits-keep}
+use Rattle.meson_edit.proofs.laws.lists.Goals as goal
+
+pub returns : goal.returns
+returns c = record {
+  firsts = firsts-spell;
+  insertions = insertions-spell;
+  removals = removals-spell;
+  replacements = replacements-spell;
+  wraps = wraps-spell;
+  keep = list-edits-keep;
+}

@@ -1,0 +1,21 @@
+use Rattle.meson_edit.proofs.paths.PutThere.{lists-stay}
+use Rattle.meson_edit.proofs.paths.DeepLists.{depths-grow}
+use Rattle.meson_edit.proofs.sequences.Deepened.{edits-deepen, edits-deepen-by-one, removals-stay-within, firsts-stay-within, insertions-stay-within}
+use Rattle.meson_edit.proofs.sequences.Levelled.{removals-keep-levels, wraps-keep-levels, replacements-keep-levels, firsts-keep-levels, insertions-keep-levels}
+use Rattle.meson_edit.proofs.laws.sequences.Goals as goal
+
+pub returns : goal.returns
+returns c = record {
+  stay = lists-stay;
+  depths = depths-grow;
+  deepen = edits-deepen;
+  removals_within = removals-stay-within;
+  firsts_within = firsts-stay-within;
+  insertions_within = insertions-stay-within;
+  by_one = edits-deepen-by-one;
+  removals_level = removals-keep-levels;
+  wraps_level = wraps-keep-levels;
+  replacements_level = replacements-keep-levels;
+  firsts_level = firsts-keep-levels;
+  insertions_level = insertions-keep-levels;
+}

@@ -1,0 +1,125 @@
+-- An edit of a list, laid out: what its splices leave, and what follows from that.
+use Rattle.std.proofs.Common.{◌≡◌, ℕ, List, ◌++◌, Some, Result, Ok, sym, ap, subst, ◌∙◌}
+use Rattle.meson_lex.specs.declared.kinds.Span.{Span}
+use Rattle.meson_lex.specs.Items.{Lexeme, joined, IsItemList}
+use Rattle.meson_lex.proofs.OneList.{one_list}
+use Rattle.meson_layout.specs.declared.primitive.Primitive.{Primitive}
+use Rattle.meson_layout.specs.Layout.{layout_of, IsPlaced}
+use Rattle.meson_layout.specs.Edited.{Edited, patched_by}
+use Rattle.meson_layout.specs.Laws.{WritesUtf8}
+use Rattle.meson_syntax.specs.declared.source.Limits.{Limits}
+use Rattle.meson_syntax.specs.Operators.{opens, closes}
+use Rattle.meson_syntax.specs.Tree.{Plain, File, erase}
+use Rattle.meson_syntax.specs.Grammar.{LevelFile}
+use Rattle.meson_syntax.specs.Reads.{Spells, IsSpannedWithin}
+use Rattle.meson_syntax.specs.Paths.{ListAt, list_at, inner_words}
+use Rattle.meson_syntax.specs.Places.{ListStands}
+use Rattle.meson_syntax.specs.Exchange.{IsListText}
+use Rattle.meson_syntax.proofs.parsing.Steps.{some-injective}
+use Rattle.meson_syntax.proofs.exchange.Lists.{lists-exchange}
+use Rattle.meson_edit.specs.Edits.{Edit, edited}
+use Rattle.meson_edit.specs.Places.{primitive_of, Writes}
+use Rattle.meson_edit.specs.Laws.{Makes, Spelled, KeepsOutside}
+use Rattle.meson_edit.proofs.Coding.{coding-law}
+use Rattle.meson_edit.proofs.lists.Found.{Found, now_list}
+use Rattle.meson_edit.proofs.lists.Places.{list_among, cut-out}
+
+-- The edit stands at a place among the items, and its splices leave, between the brackets of its list, the words of the list after the edit.
+pub record LaidOut (bytes : List ℕ) (f : File Span) (items : List Lexeme) (name : List ℕ) (e : Edit) (path : List ℕ) (t : Plain) : Type 0 where
+  pub place : Found f e path t
+  pub stands : ListStands items place.p
+  pub primitive : Primitive
+  pub is_primitive : primitive_of f e ≡ Some primitive
+  pub placed : IsPlaced primitive items
+  pub writes : WritesUtf8 primitive
+  pub left : List Lexeme
+  pub right : List Lexeme
+  pub notes : List Lexeme
+  pub edited : Edited bytes items (list_among items place.p stands) left right (layout_of name items primitive) (inner_words (now_list f e path t place)) notes
+
+-- An edit of this form can be laid out wherever it has its place.
+abbrev pub Lays : Edit → List ℕ → Type 0
+Lays e path =
+    (limits : Limits) (bytes : List ℕ) (f : File Span) (s : IsSpannedWithin limits bytes f) (name : List ℕ)
+    → Writes e → (t : Plain) → edited e (erase f) ≡ Some t → LaidOut bytes f s.reads.spells.items name e path t
+
+-- ---- the new text
+
+-- the text reads again: between the same brackets stands the text of another list
+makes : (limits : Limits) (bytes : List ℕ) (f : File Span) (s : IsSpannedWithin limits bytes f) (name : List ℕ) (e : Edit) (path : List ℕ) (t : Plain)
+    → LaidOut bytes f s.reads.spells.items name e path t → LevelFile t → Makes bytes f s.reads.spells.items name e t
+makes limits bytes f s name e path t o level =
+    let items = s.reads.spells.items in
+    let are = s.reads.spells.are_items in
+    let x = o.place in
+    let d = o.edited in
+    let l = list_among items x.p o.stands in
+    let c = cut-out items x.p o.stands bytes are in
+    let front = joined o.stands.left in
+    let back = joined o.stands.right in
+    let is_list : IsListText d.text x.q.bracket (inner_words (now_list f e path t x)) = record {
+      open_item = l.open_item;
+      inner = d.inner;
+      close_item = l.close_item;
+      are_items = d.are_items;
+      is_open = o.stands.is_open ∙ ap opens (sym x.same_bracket);
+      is_close = o.stands.is_close ∙ ap closes (sym x.same_bracket);
+      is_inner = d.says;
+    } in
+    let spells = lists-exchange limits bytes f s path x.p x.is_p x.q x.is_q (now_list f e path t x) d.text is_list (subst LevelFile (sym x.is_t) level) front c.was back c.parts c.from c.to in
+    record {
+      primitive = o.primitive;
+      is_primitive = o.is_primitive;
+      placed = o.placed;
+      text = front ++ (d.text ++ back);
+      patches = d.patches;
+      utf8 = coding-law name bytes items are s.reads.source.utf8 o.primitive o.writes (front ++ (d.text ++ back)) d.patches;
+      spells = subst (Spells (front ++ (d.text ++ back))) x.is_t spells;
+    }
+
+pub spelled : (e : Edit) (path : List ℕ) → Lays e path → Spelled e
+spelled e path lays limits bytes f s items are name writes t is level =
+    subst (λ xs. Makes bytes f xs name e t) (one_list bytes s.reads.spells.items items s.reads.spells.are_items are)
+    (makes limits bytes f s name e path t (lays limits bytes f s name writes t is) level)
+
+-- ---- what is kept
+
+-- an answer is one value
+one-answer : {A B : Type 0} (r : Result A B) (x y : A) → r ≡ Ok x → r ≡ Ok y → x ≡ y
+one-answer r x y h g = let same : Ok x ≡ r = sym h in let both = same ∙ g in cc
+
+-- what the edit leaves of the text
+abbrev Kept : Edit → List ℕ → Type 0
+Kept e path =
+    (limits : Limits) (bytes : List ℕ) (f : File Span) → IsSpannedWithin limits bytes f → (items : List Lexeme) → IsItemList bytes items → (name : List ℕ)
+    → Writes e → (t : Plain) → edited e (erase f) ≡ Some t → (p : ListAt Span) → list_at f path ≡ Some p
+    → (primitive : Primitive) → primitive_of f e ≡ Some primitive → (text : List ℕ) → patched_by bytes (layout_of name items primitive) ≡ Ok text
+    → KeepsOutside bytes text p
+
+kept-here : (bytes : List ℕ) (f : File Span) (items : List Lexeme) → IsItemList bytes items → (name : List ℕ) (e : Edit) (path : List ℕ) (t : Plain) → LaidOut bytes f items name e path t
+    → (p : ListAt Span) → list_at f path ≡ Some p → (primitive : Primitive) → primitive_of f e ≡ Some primitive
+    → (text : List ℕ) → patched_by bytes (layout_of name items primitive) ≡ Ok text → KeepsOutside bytes text p
+kept-here bytes f items are name e path t o p is_p primitive is_primitive text patches =
+    let x = o.place in
+    let c = cut-out items x.p o.stands bytes are in
+    let d = o.edited in
+    let same : x.p ≡ p = some-injective x.p p (sym x.is_p ∙ is_p) in
+    let same_primitive : o.primitive ≡ primitive = some-injective o.primitive primitive (sym o.is_primitive ∙ is_primitive) in
+    let now : List ℕ = joined o.stands.left ++ (d.text ++ joined o.stands.right) in
+    let result : text ≡ now = one-answer (patched_by bytes (layout_of name items primitive)) text now patches (ap (λ x. patched_by bytes (layout_of name items x)) (sym same_primitive) ∙ d.patches) in
+    subst (KeepsOutside bytes text) same (record {
+      front = joined o.stands.left;
+      was = c.was;
+      now = d.text;
+      back = joined o.stands.right;
+      old = c.parts;
+      new = result;
+      from = c.from;
+      to = c.to;
+    })
+
+pub kept : (e : Edit) (path : List ℕ) → Lays e path → Kept e path
+kept e path lays limits bytes f s items are name writes t is p is_p primitive is_primitive text patches =
+    let same : s.reads.spells.items ≡ items = one_list bytes s.reads.spells.items items s.reads.spells.are_items are in
+    let o = subst (λ xs. LaidOut bytes f xs name e path t) same (lays limits bytes f s name writes t is) in
+    kept-here bytes f items are name e path t o p is_p primitive is_primitive text patches

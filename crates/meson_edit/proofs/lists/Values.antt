@@ -1,0 +1,141 @@
+-- Edits of the value of an element, laid out: it becomes another one, or the array of it.
+use Rattle.std.proofs.Common.{◌≡◌, ℕ, List, [], ◌∷◌, ◌++◌, Some, refl, sym, ap, ap₂, subst, ◌∙◌, append_assoc, inl, inr}
+use Rattle.std.proofs.lemmas.List.{append-nil}
+use Rattle.std.specs.Prelude.{option_map}
+use Rattle.meson_lex.specs.declared.kinds.Kind.TheVariants as k
+use Rattle.meson_lex.specs.declared.kinds.Span.{Span}
+use Rattle.meson_lex.specs.Items.{Lexeme}
+use Rattle.meson_lex.specs.Significant.{Word}
+use Rattle.meson_lex.specs.Words.{spoken}
+use Rattle.meson_layout.specs.declared.primitive.Primitive.TheVariants as layout
+use Rattle.meson_layout.specs.Words.{remarks, IsBehindElement, IsBeforeElement, IsBeforeValue}
+use Rattle.meson_layout.specs.Edited.{PartIn, Edited}
+use Rattle.meson_layout.specs.Layout.{layout_of}
+use Rattle.meson_layout.proofs.ValueLaws.{replacement-law, wrap-law}
+use Rattle.meson_syntax.specs.declared.source.Limits.{Limits}
+use Rattle.meson_syntax.specs.Tree.{Nowhere, Plain, Expression, Argument, plain, named, pair, File, erase_expression, erase_argument, erase_listing}
+use Rattle.meson_syntax.specs.Grammar.{expression_words, argument_words}
+use Rattle.meson_syntax.specs.Reads.{IsSpannedWithin}
+use Rattle.meson_syntax.specs.Paths.{value_of, words_ahead, inner_words}
+use Rattle.meson_syntax.specs.Places.{expression_span, ListStands}
+use Rattle.meson_syntax.proofs.parsing.Erased.{expression-words-erased}
+use Rattle.meson_syntax.proofs.places.Standing.{lists-stand}
+use Rattle.meson_edit.specs.Edits.{Written, Edit, Replace, Wrap, elements, with_elements, with_value, array_of}
+use Rattle.meson_edit.specs.Places.{value_span}
+use Rattle.meson_edit.proofs.lists.Cuts.{cut-at}
+use Rattle.meson_edit.proofs.lists.Found.{Found, now_list, found, Valued, valued, value-there}
+use Rattle.meson_edit.proofs.lists.Places.{list_among, part_among, span-there}
+use Rattle.meson_edit.proofs.lists.LaidOut.{Lays}
+
+-- ---- words
+
+-- the words of an element with another value, what comes before a value, and the words of its array
+value-words : (a : Argument Span) (w : Expression Span) → value_of a ≡ Some w → (v : Expression Nowhere) → argument_words (with_value v (erase_argument a)) ≡ words_ahead a ++ expression_words v
+value-words (plain e) w h v = refl
+value-words (named s x e) w h v = refl
+value-words (pair s e f) w h v = absurd cc
+
+before-value : (a : Argument Span) (before : List Word) → IsBeforeElement before → IsBeforeValue (before ++ words_ahead a)
+before-value (plain e) before h = subst IsBeforeValue (sym (append-nil before)) (inl h)
+before-value (named s x e) before h = inr (before ++ (k.Identifier, x) ∷ [], sym (append_assoc before ((k.Identifier, x) ∷ []) ((k.Colon, []) ∷ [])))
+before-value (pair s e f) before h = subst IsBeforeValue (sym (append-nil before)) (inl h)
+
+array-words : (v : Expression Nowhere) (behind : List Word) → expression_words (array_of v) ++ behind ≡ (k.OpenSquare, []) ∷ (expression_words v ++ (k.CloseSquare, []) ∷ behind)
+array-words v behind = ap (λ w. (k.OpenSquare, []) ∷ ((w ++ (k.CloseSquare, []) ∷ []) ++ behind)) (append-nil (expression_words v)) ∙ ap (λ w. (k.OpenSquare, []) ∷ w) (append_assoc (expression_words v) ((k.CloseSquare, []) ∷ []) behind)
+
+-- ---- a value in its list
+
+-- the value of the n-th element among the items, and the words of the list with another value there
+record ValueAt (f : File Span) (items : List Lexeme) (path : List ℕ) (n : ℕ) (change : Expression Nowhere → Expression Nowhere) (e : Edit) (t : Plain) (o : Found f e path t) : Type 0 where
+  stands : ListStands items o.p
+  value : Expression Span
+  is_span : value_span f path n ≡ Some (expression_span value)
+  part : PartIn items (list_among items o.p stands) (expression_span value)
+  ends : IsBeforeValue (spoken part.left)
+  begins : IsBehindElement (spoken part.right)
+  is_own : spoken part.own ≡ expression_words (erase_expression value)
+  words : spoken part.left ++ (expression_words (change (erase_expression value)) ++ spoken part.right) ≡ inner_words (now_list f e path t o)
+
+group : (a b d e : List Word) → (a ++ b) ++ (d ++ e) ≡ a ++ ((b ++ d) ++ e)
+group a b d e = simp append_assoc
+
+value-at : (limits : Limits) (bytes : List ℕ) (f : File Span) (s : IsSpannedWithin limits bytes f) (path : List ℕ) (n : ℕ) (change : Expression Nowhere → Expression Nowhere) (e : Edit) (t : Plain)
+    → (o : Found f e path t) → Valued change n (elements (erase_listing o.p.list)) o.list → ValueAt f s.reads.spells.items path n change e t o
+value-at limits bytes f s path n change e t o v =
+    let items = s.reads.spells.items in
+    let c = cut-at o.p.list n v.it v.is_it in
+    let at = c.at in
+    let there = value-there at.element v.value (ap value_of c.same ∙ v.is_value) in
+    let w = there.0 in
+    let places = lists-stand limits bytes f s path o.p o.is_p in
+    let part = places.values n at c.is_at w there.1 in
+    let changed = with_value (change v.value) v.it in
+    let new = expression_words (change (erase_expression w)) in
+    let words : argument_words changed ≡ words_ahead at.element ++ new =
+    ap (λ it. argument_words (with_value (change v.value) it)) (sym c.same) ∙ value-words at.element w there.1 (change v.value)
+    ∙ ap (λ x. words_ahead at.element ++ expression_words (change x)) (sym there.2) in
+    record {
+      stands = places.list;
+      value = w;
+      is_span = rw (o.is_p, c.there, there.1) refl;
+      part = part_among items o.p places.list (expression_span w) (at.before ++ words_ahead at.element) (expression_words w) at.behind part;
+      ends = subst IsBeforeValue (sym part.is_left) (before-value at.element at.before c.ends);
+      begins = subst IsBehindElement (sym part.is_right) c.begins;
+      is_own = part.is_own ∙ sym (expression-words-erased w);
+      words = ap₂ (λ u x. u ++ (new ++ x)) part.is_left part.is_right
+          ∙ group at.before (words_ahead at.element) new at.behind
+          ∙ ap (λ u. at.before ++ (u ++ at.behind)) (sym words)
+          ∙ sym (c.exchanged changed)
+          ∙ ap (λ xs. inner_words (with_elements (erase_listing o.p.list) xs)) v.is_now;
+    }
+
+-- ---- the edits
+
+pub replace-lays : (path : List ℕ) (n : ℕ) (new : Written (Expression Nowhere)) → Lays (Replace path n new) path
+replace-lays path n new limits bytes f s name writes t is =
+    let items = s.reads.spells.items in
+    let e = Replace path n new in
+    let o = found f e path t is in
+    let v = value-at limits bytes f s path n (λ x. new.node) e t o (valued (λ x. new.node) n (elements (erase_listing o.p.list)) o.list o.is_list) in
+    let span = expression_span v.value in
+    let l = list_among items o.p v.stands in
+    let ss = layout_of name items (layout.Replace span new.bytes) in
+    let notes = remarks v.part.left ++ remarks v.part.right in
+    let law = replacement-law name bytes items s.reads.spells.are_items l span v.part v.ends v.begins new.bytes writes.items writes.is_new in
+    record {
+      place = o;
+      stands = v.stands;
+      primitive = layout.Replace span new.bytes;
+      is_primitive = ap (option_map (λ x. layout.Replace x new.bytes)) v.is_span;
+      placed = span-there items l span v.part;
+      writes = writes.utf8;
+      left = v.part.left;
+      right = v.part.right;
+      notes = notes;
+      edited = subst (λ ws. Edited bytes items l v.part.left v.part.right ss ws notes) (ap (λ w. spoken v.part.left ++ (w ++ spoken v.part.right)) writes.is_words ∙ v.words) law;
+    }
+
+pub wrap-lays : (path : List ℕ) (n : ℕ) → Lays (Wrap path n) path
+wrap-lays path n limits bytes f s name writes t is =
+    let items = s.reads.spells.items in
+    let e = Wrap path n in
+    let o = found f e path t is in
+    let v = value-at limits bytes f s path n array_of e t o (valued array_of n (elements (erase_listing o.p.list)) o.list o.is_list) in
+    let span = expression_span v.value in
+    let l = list_among items o.p v.stands in
+    let ss = layout_of name items (layout.Wrap span) in
+    let law = wrap-law name bytes items s.reads.spells.are_items l span v.part v.ends v.begins in
+    let words = ap (λ w. spoken v.part.left ++ ((k.OpenSquare, []) ∷ (w ++ (k.CloseSquare, []) ∷ spoken v.part.right))) v.is_own
+    ∙ ap (λ w. spoken v.part.left ++ w) (sym (array-words (erase_expression v.value) (spoken v.part.right))) ∙ v.words in
+    record {
+      place = o;
+      stands = v.stands;
+      primitive = layout.Wrap span;
+      is_primitive = ap (option_map layout.Wrap) v.is_span;
+      placed = span-there items l span v.part;
+      writes = tt;
+      left = v.part.left;
+      right = v.part.right;
+      notes = remarks l.inner;
+      edited = subst (λ ws. Edited bytes items l v.part.left v.part.right ss ws (remarks l.inner)) words law;
+    }

@@ -1,0 +1,6 @@
+pub mod Positions
+pub mod InExpressions
+pub mod InStatements
+pub mod PutThere
+pub mod Depths
+pub mod DeepLists

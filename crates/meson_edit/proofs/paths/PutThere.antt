@@ -1,0 +1,82 @@
+-- What is put where a path leads is found there.
+use Rattle.std.specs.Prelude.{option_map, option_and_then}
+use Rattle.std.proofs.Common.{◌≡◌, ℕ, List, [], ◌∷◌, Some, refl, ap, subst, ◌∙◌, arith}
+use Rattle.meson_lex.specs.Significant.{Word}
+use Rattle.meson_syntax.specs.Tree.{Nowhere, Expression, array, call, Listing, Block, file}
+use Rattle.meson_syntax.specs.Paths.{Sort, of_expression, of_statement, of_block, Node, Hole, around, children, child, reach, ListIn, list_in, ListAt, list_within, list_of_node}
+use Rattle.meson_syntax.proofs.parsing.Steps.{some-injective}
+use Rattle.meson_syntax.proofs.paths.Reaching.{map-some, and-then-some}
+use Rattle.meson_edit.specs.Sequences.{StaysThere, ListsStay}
+use Rattle.meson_edit.proofs.paths.Positions.{EveryAt, every-at-nth, with_node}
+use Rattle.meson_edit.proofs.paths.InExpressions.{StaysIn, expression-stays}
+use Rattle.meson_edit.proofs.paths.InStatements.{statement-stays, block-stays}
+
+module _ (S : Type 0) where
+  -- ---- nodes
+
+  children-stay : (sort : Sort) (x : Node sort S) → EveryAt (StaysIn S (Node sort S) (children S sort)) 0 (children S sort x)
+  children-stay of_expression e = expression-stays S e
+  children-stay of_statement s = statement-stays S s
+  children-stay of_block b = block-stays S b
+
+  child-stays : (sort : Sort) (x : Node sort S) (n : ℕ) (h : Hole S (Node sort S)) → child S sort x n ≡ Some h → (y : Node h.sort S) → child S sort (h.back y) n ≡ Some (with_node h y)
+  child-stays sort x n h is y = (every-at-nth (StaysIn S (Node sort S) (children S sort)) 0 n n (children S sort x) h (omega arith) (children-stay sort x) is).found y
+
+  -- a hole of a child, in the whole node
+  abbrev into : (sort : Sort) (g : Hole S (Node sort S)) → Hole S (Node g.sort S) → Hole S (Node sort S)
+  into sort g = around g.before g.behind g.back
+
+  -- a node put where a path leads
+  abbrev pub PutThere : (sort : Sort) → List ℕ → Hole S (Node sort S) → Type 0
+  PutThere sort path h = (y : Node h.sort S) → reach S sort (h.back y) path ≡ Some (with_node h y)
+
+  pub reach-stays : (sort : Sort) (x : Node sort S) (path : List ℕ) (h : Hole S (Node sort S)) → reach S sort x path ≡ Some h → PutThere sort path h
+  reach-stays sort x [] h is = subst (PutThere sort []) (some-injective _ _ is) (λ y. refl)
+  reach-stays sort x (n ∷ path) h is =
+      let o = and-then-some (λ g. option_map (into sort g) (reach S g.sort g.inside path)) (child S sort x n) h is in
+      let g = o.0 in
+      let m = map-some (into sort g) (reach S g.sort g.inside path) h o.2 in
+      let i = m.0 in
+      subst (PutThere sort (n ∷ path)) m.2 (λ y.
+      ap (option_and_then (λ c. option_map (into sort c) (reach S c.sort c.inside path))) (child-stays sort x n g o.1 (i.back y))
+      ∙ ap (option_map (into sort g)) (reach-stays g.sort g.inside path i m.1 y))
+
+-- ---- lists
+
+-- the list of an array or a call that has another list
+abbrev with_list : ListIn Nowhere → Listing Nowhere → ListIn Nowhere
+with_list l m = record { list = m; bracket = l.bracket; ahead = l.ahead; back = l.back }
+
+list-in-stays : (e : Expression Nowhere) (l : ListIn Nowhere) → list_in e ≡ Some l → (m : Listing Nowhere) → list_in (l.back m) ≡ Some (with_list l m)
+list-in-stays (array l) o is m = subst (λ (u : ListIn Nowhere). list_in (u.back m) ≡ Some (with_list u m)) (some-injective _ _ is) refl
+list-in-stays (call s x l) o is m = subst (λ (u : ListIn Nowhere). list_in (u.back m) ≡ Some (with_list u m)) (some-injective _ _ is) refl
+list-in-stays _ o is m = absurd cc
+
+-- a list of a file that stays in its place
+list-there : (s : Nowhere) (b : Block Nowhere) (path : List ℕ) (h : Hole Nowhere (Block Nowhere)) → PutThere Nowhere of_block path h
+    → (q : ListAt Nowhere) → list_of_node Nowhere h.sort h.inside (file s b) h.before h.behind h.back ≡ Some q → (m : Listing Nowhere) → StaysThere path q m
+list-there s b path h put q is m = go h.sort h.inside h.before h.behind h.back put is where
+  go : (sort : Sort) (x : Node sort Nowhere) (before behind : List Word) (back : Node sort Nowhere → Block Nowhere)
+      → PutThere Nowhere of_block path (record { sort = sort; inside = x; before = before; behind = behind; back = back })
+      → list_of_node Nowhere sort x (file s b) before behind back ≡ Some q → StaysThere path q m
+  go of_expression x before behind back there found =
+      let o = map-some (list_within (file s b) before behind back) (list_in x) q found in
+      let l = o.0 in
+      subst (λ u. StaysThere path u m) o.2 (record {
+        there = list_within (file s b) before behind back (with_list l m);
+        is_there =
+            ap (option_and_then (λ (g : Hole Nowhere (Block Nowhere)). list_of_node Nowhere g.sort g.inside (file s (back (l.back m))) g.before g.behind g.back)) (there (l.back m))
+            ∙ ap (option_map (list_within (file s b) before behind back)) (list-in-stays x l o.1 m);
+        list = refl;
+        bracket = refl;
+        before = refl;
+        behind = refl;
+        back = λ y. refl;
+      })
+  go of_statement x before behind back there found = absurd cc
+  go of_block x before behind back there found = absurd cc
+
+pub lists-stay : ListsStay
+lists-stay (file s b) path q is m =
+    let o = and-then-some (λ h. list_of_node Nowhere h.sort h.inside (file s b) h.before h.behind h.back) (reach Nowhere of_block b path) q is in
+    list-there s b path o.0 (reach-stays Nowhere of_block b path o.0 o.1) q o.2 m

@@ -1,0 +1,3 @@
+pub mod Erasing
+pub mod Removed
+pub mod Appended

@@ -1,0 +1,38 @@
+-- A statement appended to its file: the new text spells the tree with it at the end.
+use Rattle.std.proofs.Common.{◌≡◌, ◌∷◌, ◌++◌, [], refl, sym, ap, ◌∙◌}
+use Rattle.meson_lex.specs.Significant.{new_line, significant}
+use Rattle.meson_lex.proofs.OneList.{one_list}
+use Rattle.meson_layout.specs.declared.primitive.Primitive.TheVariants as layout
+use Rattle.meson_layout.proofs.AppendLaws.{append-law}
+use Rattle.meson_syntax.specs.Tree.{erase}
+use Rattle.meson_syntax.specs.Grammar.{statement_words, file_words}
+use Rattle.meson_syntax.proofs.parsing.Steps.{some-injective}
+use Rattle.meson_syntax.proofs.exchange.Appended.{file-last-words}
+use Rattle.meson_syntax.proofs.exchange.Standing.{file-end, statement-end}
+use Rattle.meson_edit.specs.Laws.{AppendedSpell}
+use Rattle.meson_edit.proofs.Coding.{coding-law}
+
+pub appended-spell : AppendedSpell
+appended-spell new limits bytes f s items are name writes t is level =
+    let words = statement_words new.node in
+    let spells = s.reads.spells in
+    let own = writes.text in
+    let depth = file-end bytes (erase f) spells items are in
+    let a = append-law name bytes items are depth new.bytes own.items words
+    (record { are_items = own.are_items; tight = own.tight; says = own.is_words; ends = statement-end new.node new.bytes own }) in
+    let e = a.1 in
+    let old : significant items ≡ file_words (erase f) = ap significant (one_list bytes items spells.items are spells.are_items) ∙ spells.words in
+    record {
+      primitive = layout.Append new.bytes;
+      is_primitive = refl;
+      placed = tt;
+      text = bytes ++ a.0;
+      patches = e.patches;
+      utf8 = coding-law name bytes items are s.reads.source.utf8 (layout.Append new.bytes) writes.utf8 (bytes ++ a.0) e.patches;
+      spells = record {
+        items = e.items;
+        are_items = e.are_items;
+        words = e.says ∙ ap (λ w. w ++ (words ++ new_line ∷ [])) old ∙ sym (file-last-words (erase f) new.node) ∙ ap file_words (some-injective _ _ is);
+        level = level;
+      };
+    }

@@ -1,0 +1,83 @@
+-- The splices of an edit make of the text of a tree the text of the edited tree.
+use Rattle.std.specs.Str.{IsUtf8}
+use Rattle.std.specs.Prelude.{◌≡◌, ℕ, List, ◌++◌, length, Some, Ok}
+use Rattle.meson_lex.specs.declared.kinds.Span.{Span}
+use Rattle.meson_lex.specs.Items.{Lexeme, IsItemList}
+use Rattle.meson_layout.specs.declared.primitive.Primitive.{Primitive}
+use Rattle.meson_layout.specs.Layout.{layout_of, IsPlaced}
+use Rattle.meson_layout.specs.Edited.{patched_by}
+use Rattle.meson_syntax.specs.declared.source.Limits.{Limits}
+use Rattle.meson_syntax.specs.Tree.{Nowhere, Plain, Argument, Expression, Statement, File, erase}
+use Rattle.meson_syntax.specs.Grammar.{LevelFile}
+use Rattle.meson_syntax.specs.Paths.{ListAt, list_at, list_span}
+use Rattle.meson_syntax.specs.Reads.{Spells, IsSpannedWithin}
+use Rattle.meson_edit.specs.Edits.{Written, Edit, First, After, Remove, Replace, Wrap, RemoveStatement, Append, edited}
+use Rattle.meson_edit.specs.Places.{primitive_of, Writes}
+
+-- The edit has its place among the items, and its splices give a text that spells the edited tree.
+pub record Makes (bytes : List ℕ) (f : File Span) (items : List Lexeme) (name : List ℕ) (e : Edit) (t : Plain) : Type 0 where
+  pub primitive : Primitive
+  pub is_primitive : primitive_of f e ≡ Some primitive
+  pub placed : IsPlaced primitive items
+  pub text : List ℕ
+  pub patches : patched_by bytes (layout_of name items primitive) ≡ Ok text
+  pub utf8 : IsUtf8 text
+  pub spells : Spells text t
+
+-- Each edit of this form does so, in each file that reads as a tree, where the edited tree has its levels.
+abbrev pub Spelled : Edit → Type 0
+Spelled e =
+    (limits : Limits) (bytes : List ℕ) (f : File Span) → IsSpannedWithin limits bytes f → (items : List Lexeme) → IsItemList bytes items → (name : List ℕ)
+    → Writes e → (t : Plain) → edited e (erase f) ≡ Some t → LevelFile t → Makes bytes f items name e t
+
+abbrev pub FirstsSpell : Type 0
+FirstsSpell = (path : List ℕ) (new : Written (Argument Nowhere)) → Spelled (First path new)
+
+abbrev pub InsertionsSpell : Type 0
+InsertionsSpell = (path : List ℕ) (n : ℕ) (new : Written (Argument Nowhere)) → Spelled (After path n new)
+
+abbrev pub RemovalsSpell : Type 0
+RemovalsSpell = (path : List ℕ) (n : ℕ) → Spelled (Remove path n)
+
+abbrev pub ReplacementsSpell : Type 0
+ReplacementsSpell = (path : List ℕ) (n : ℕ) (new : Written (Expression Nowhere)) → Spelled (Replace path n new)
+
+abbrev pub WrapsSpell : Type 0
+WrapsSpell = (path : List ℕ) (n : ℕ) → Spelled (Wrap path n)
+
+abbrev pub StatementRemovalsSpell : Type 0
+StatementRemovalsSpell = (path : List ℕ) (n : ℕ) → Spelled (RemoveStatement path n)
+
+abbrev pub AppendedSpell : Type 0
+AppendedSpell = (new : Written (Statement Nowhere)) → Spelled (Append new)
+
+-- ---- what is kept
+
+-- outside a list no byte changes
+pub record KeepsOutside (bytes text : List ℕ) (p : ListAt Span) : Type 0 where
+  pub front : List ℕ
+  pub was : List ℕ
+  pub now : List ℕ
+  pub back : List ℕ
+  pub old : bytes ≡ front ++ (was ++ back)
+  pub new : text ≡ front ++ (now ++ back)
+  pub from : length front ≡ (list_span p.list).from
+  pub to : length (front ++ was) ≡ (list_span p.list).to
+
+-- the list that an edit changes
+abbrev pub IsEditOf : List ℕ → Edit → Type 0
+IsEditOf path (First list new) = path ≡ list
+IsEditOf path (After list n new) = path ≡ list
+IsEditOf path (Remove list n) = path ≡ list
+IsEditOf path (Replace list n new) = path ≡ list
+IsEditOf path (Wrap list n) = path ≡ list
+IsEditOf path (RemoveStatement block n) = ⊥
+IsEditOf path (Append new) = ⊥
+
+-- An edit of a list changes no byte outside that list.
+abbrev pub ListEditsKeep : Type 0
+ListEditsKeep =
+    (e : Edit) (limits : Limits) (bytes : List ℕ) (f : File Span) → IsSpannedWithin limits bytes f → (items : List Lexeme) → IsItemList bytes items → (name : List ℕ)
+    → Writes e → (t : Plain) → edited e (erase f) ≡ Some t → (path : List ℕ) → IsEditOf path e → (p : ListAt Span) → list_at f path ≡ Some p
+    → (primitive : Primitive) → primitive_of f e ≡ Some primitive → (text : List ℕ) → patched_by bytes (layout_of name items primitive) ≡ Ok text
+    → KeepsOutside bytes text p

@@ -1,0 +1,94 @@
+-- What holds from one edit to the next: what an edit put in is found in its place, and the tree keeps its levels and grows no deeper than what was put in.
+use Rattle.std.specs.Prelude.{◌≡◌, ℕ, suc, ◌+◌, ◌≤◌, false, List, [], drop, Some}
+use Rattle.meson_syntax.specs.declared.operator.Bracket.{Bracket}
+use Rattle.meson_syntax.specs.declared.operator.Bracket.TheVariants as bracket
+use Rattle.meson_syntax.specs.Tree.{Nowhere, Plain, Expression, Listing, Argument, plain, named, is_named}
+use Rattle.meson_syntax.specs.Grammar.{LevelExpression, LevelArgument, LevelFile, expression_depth, listing_depth, argument_depth, file_depth}
+use Rattle.meson_syntax.specs.Paths.{ListAt, list_at, nth}
+use Rattle.meson_edit.specs.Edits.{Written, Edit, First, After, Remove, Replace, Wrap, RemoveStatement, Append, elements, edited}
+use Rattle.meson_edit.specs.Laws.{IsEditOf}
+
+-- ---- places
+
+-- The path names the list in the tree that has it there, and all else of the place is as it was.
+pub record StaysThere (path : List ℕ) (q : ListAt Nowhere) (l : Listing Nowhere) : Type 0 where
+  pub there : ListAt Nowhere
+  pub is_there : list_at (q.back l) path ≡ Some there
+  pub list : there.list ≡ l
+  pub bracket : there.bracket ≡ q.bracket
+  pub before : there.before ≡ q.before
+  pub behind : there.behind ≡ q.behind
+  pub back : (x : Listing Nowhere) → there.back x ≡ q.back x
+
+-- A list put where a path names one is found there.
+abbrev pub ListsStay : Type 0
+ListsStay = (t : Plain) (path : List ℕ) (q : ListAt Nowhere) → list_at t path ≡ Some q → (l : Listing Nowhere) → StaysThere path q l
+
+-- ---- depth
+
+-- A tree grows no deeper than its list does.
+abbrev pub DepthsGrow : Type 0
+DepthsGrow = (t : Plain) (path : List ℕ) (q : ListAt Nowhere) → list_at t path ≡ Some q → (l : Listing Nowhere) (k : ℕ) → listing_depth l ≤ listing_depth q.list + k
+    → file_depth (q.back l) ≤ file_depth t + k
+
+-- how deep is what an edit of a list puts in
+abbrev pub new_depth : Edit → ℕ
+new_depth (First path new) = argument_depth new.node
+new_depth (After path n new) = argument_depth new.node
+new_depth (Remove path n) = 0
+new_depth (Replace path n new) = expression_depth new.node
+new_depth (Wrap path n) = 1
+new_depth (RemoveStatement path n) = 0
+new_depth (Append new) = 0
+
+-- An edit of a list makes the tree deeper by no more than what it puts in.
+abbrev pub EditsDeepen : Type 0
+EditsDeepen = (e : Edit) (path : List ℕ) → IsEditOf path e → (t now : Plain) → edited e t ≡ Some now → file_depth now ≤ file_depth t + new_depth e
+
+-- Without an element the tree is no deeper.
+abbrev pub RemovalsStayWithin : Type 0
+RemovalsStayWithin = (path : List ℕ) (n : ℕ) (t now : Plain) → edited (Remove path n) t ≡ Some now → file_depth now ≤ file_depth t
+
+-- Nor is it with an element more in which nothing nests, as a string.
+abbrev pub FirstsStayWithin : Type 0
+FirstsStayWithin = (path : List ℕ) (new : Written (Argument Nowhere)) → argument_depth new.node ≡ 0 → (t now : Plain) → edited (First path new) t ≡ Some now → file_depth now ≤ file_depth t
+
+abbrev pub InsertionsStayWithin : Type 0
+InsertionsStayWithin =
+    (path : List ℕ) (n : ℕ) (new : Written (Argument Nowhere)) → argument_depth new.node ≡ 0 → (t now : Plain) → edited (After path n new) t ≡ Some now → file_depth now ≤ file_depth t
+
+-- An edit that puts in at most one construct, and the array around a value, make the tree at most one deeper.
+abbrev pub EditsDeepenByOne : Type 0
+EditsDeepenByOne = (e : Edit) (path : List ℕ) → IsEditOf path e → new_depth e ≤ 1 → (t now : Plain) → edited e t ≡ Some now → file_depth now ≤ file_depth t + 1
+
+-- ---- levels
+
+-- An edit keeps the levels of a tree.
+abbrev pub Levels : Edit → Type 0
+Levels e = (t now : Plain) → LevelFile t → edited e t ≡ Some now → LevelFile now
+
+abbrev pub RemovalsKeepLevels : Type 0
+RemovalsKeepLevels = (path : List ℕ) (n : ℕ) → Levels (Remove path n)
+
+abbrev pub WrapsKeepLevels : Type 0
+WrapsKeepLevels = (path : List ℕ) (n : ℕ) → Levels (Wrap path n)
+
+abbrev pub ReplacementsKeepLevels : Type 0
+ReplacementsKeepLevels = (path : List ℕ) (n : ℕ) (new : Written (Expression Nowhere)) → LevelExpression new.node → Levels (Replace path n new)
+
+-- An element may be the first of a list of its bracket.
+abbrev pub FirstsKeepLevels : Type 0
+FirstsKeepLevels = (path : List ℕ) (new : Written (Argument Nowhere)) (t now : Plain) (q : ListAt Nowhere) → list_at t path ≡ Some q → LevelArgument new.node q.bracket false
+    → LevelFile t → edited (First path new) t ≡ Some now → LevelFile now
+
+-- Whether an element may follow another one, before these: in an array without a name; in a call without a name behind one without, or with a name behind the last.
+abbrev pub MayFollow : Bracket → (it : Argument Nowhere) → (behind : List (Argument Nowhere)) → (new : Argument Nowhere) → Type 0
+MayFollow bracket.Square it behind (plain e) = LevelExpression e
+MayFollow bracket.Round it behind (plain e) = (is_named it ≡ false) × LevelExpression e
+MayFollow bracket.Round it behind (named s x e) = (behind ≡ []) × LevelExpression e
+MayFollow b it behind new = ⊥
+
+abbrev pub InsertionsKeepLevels : Type 0
+InsertionsKeepLevels = (path : List ℕ) (n : ℕ) (new : Written (Argument Nowhere)) (t now : Plain) (q : ListAt Nowhere) → list_at t path ≡ Some q
+    → (it : Argument Nowhere) → nth (elements q.list) n ≡ Some it → MayFollow q.bracket it (drop (suc n) (elements q.list)) new.node
+    → LevelFile t → edited (After path n new) t ≡ Some now → LevelFile now

@@ -1,0 +1,36 @@
+//! Laws of edits. The functions do nothing: what they ensure is the law.
+
+ghost use Rattle.meson_edit.specs.Laws.{AppendedSpell, FirstsSpell, InsertionsSpell, ListEditsKeep, RemovalsSpell, ReplacementsSpell, StatementRemovalsSpell, WrapsSpell};
+ghost use Rattle.meson_edit.specs.Sequences.{DepthsGrow, EditsDeepen, EditsDeepenByOne, FirstsKeepLevels, FirstsStayWithin, InsertionsKeepLevels, InsertionsStayWithin, ListsStay, RemovalsKeepLevels, RemovalsStayWithin, ReplacementsKeepLevels, WrapsKeepLevels};
+
+/// An element put in, removed, exchanged or wrapped: the new text spells the tree so edited, and no byte outside the list changes.
+pub fn lists()
+    ensures firsts { FirstsSpell }
+    ensures insertions { InsertionsSpell }
+    ensures removals { RemovalsSpell }
+    ensures replacements { ReplacementsSpell }
+    ensures wraps { WrapsSpell }
+    ensures keep { ListEditsKeep }
+{}
+
+/// A statement removed or appended: the new text spells the tree so edited.
+pub fn statements()
+    ensures removals { StatementRemovalsSpell }
+    ensures appended { AppendedSpell }
+{}
+
+/// What one edit leaves to the next: a list stands where it was put and all around it as before, the tree is no deeper than what was put in makes it, and it keeps its levels.
+pub fn sequences()
+    ensures stay { ListsStay }
+    ensures depths { DepthsGrow }
+    ensures deepen { EditsDeepen }
+    ensures removals_within { RemovalsStayWithin }
+    ensures firsts_within { FirstsStayWithin }
+    ensures insertions_within { InsertionsStayWithin }
+    ensures by_one { EditsDeepenByOne }
+    ensures removals_level { RemovalsKeepLevels }
+    ensures wraps_level { WrapsKeepLevels }
+    ensures replacements_level { ReplacementsKeepLevels }
+    ensures firsts_level { FirstsKeepLevels }
+    ensures insertions_level { InsertionsKeepLevels }
+{}
