@@ -16,7 +16,7 @@ use Rattle.meson_plan.specs.Roles.{has_role, is_target_call, is_target}
 use Rattle.meson_plan.specs.Picking.{is_role_call}
 use Rattle.meson_plan.specs.Loading.{name_at, named_trees, views}
 
-nth_there : (files : List File) (trees : List Parsed) (i : ℕ) (d : Parsed) → length trees ≡ length files → i < length trees →
+pub nth_there : (files : List File) (trees : List Parsed) (i : ℕ) (d : Parsed) → length trees ≡ length files → i < length trees →
     nth_file (named_trees files (views files trees)) i ≡ Some (record { name = name_at i files; tree = view (bytes_at i files) (get_or trees i d) })
 nth_there files [] i d many within = absurd (omega arith)
 nth_there [] (t ∷ trees) i d many within = absurd (omega (arith, many))
@@ -26,7 +26,7 @@ nth_there (f ∷ files) (t ∷ trees) (suc i) d many within =
     let below : i < length trees = omega (arith, within) in
     nth_there files trees i d alike below
 
-nth_past : (files : List File) (trees : List Parsed) (i : ℕ) → length trees ≤ i → nth_file (named_trees files (views files trees)) i ≡ None
+pub nth_past : (files : List File) (trees : List Parsed) (i : ℕ) → length trees ≤ i → nth_file (named_trees files (views files trees)) i ≡ None
 nth_past [] trees i past = refl
 nth_past (f ∷ files) [] i past = refl
 nth_past (f ∷ files) (t ∷ trees) zero past = absurd (omega (arith, past))

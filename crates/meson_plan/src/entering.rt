@@ -29,7 +29,7 @@ fn folder_of(name: &str) -> &str
 }
 
 /// The file that a `subdir` of this folder means in the file of this name.
-fn file_in(alloc: Global, name: &str, folder: &str) -> Result<Option<String>, AllocError>
+pub(crate) fn file_in(alloc: Global, name: &str, folder: &str) -> Result<Option<String>, AllocError>
     requires { IsFileName name.now }
     ensures { IfOk result (λ file. option_map string_bytes file ≡ file_in name.now folder.now) }
 {

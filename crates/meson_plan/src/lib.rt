@@ -1,24 +1,40 @@
 //! A project of many build files: what stands where, and which calls an id names.
 #![tactic(auto)]
 
+mod arguments;
+mod arriving;
 mod call;
+mod command;
 mod entering;
+mod expansion;
 mod folders;
+mod known;
 mod literals;
 mod load_fault;
 mod loading;
 mod looking;
+mod marks;
+mod meeting;
 mod naming;
 mod note;
 mod notes;
+mod performing;
 mod picking;
+mod planning;
 mod project;
 mod refusal;
 mod roles;
+mod setters;
+mod settings;
+mod sourcing;
+mod spans;
+mod values;
+mod variables;
 mod walk;
 mod walk_statements;
 
-pub use call::{CallRef, Role};
+pub use call::{CallRef, Role, SourceItem, Sources};
+pub use command::{Command, Done, Setting};
 pub use entering::subdirs;
 pub use load_fault::{LoadFault, Unloaded};
 pub use loading::MAX_FILES;

@@ -1,19 +1,26 @@
 //! A project: its files, and the tree of each.
 
-ghost use Rattle.std.specs.Prelude.{◌≡◌, IfErr, IfOk};
+ghost use Rattle.std.specs.Prelude.{◌≡◌, ◌≢◌, [], Some, Ok, Err, IfErr, IfOk, IsTrue, OnErr};
 ghost use Rattle.meson_plan.specs.Directories.{IsFileName};
 ghost use Rattle.meson_plan.specs.Loading.{project, MayNotLoad};
+ghost use Rattle.meson_plan.specs.Performing.{MayRefuse, Performs};
 ghost use Rattle.meson_plan.specs.Roles.{targets, found, is_target, places};
+ghost use Rattle.meson_plan.specs.Sources.{sources};
 
-use crate::call::{CallRef, Role};
+use crate::arriving::sources_at;
+use crate::call::{CallRef, Role, Sources};
+use crate::command::{Command, Done};
 use crate::load_fault::Unloaded;
 use crate::loading::{copy_trees, loaded};
 use crate::looking::is_target;
 use crate::naming::found;
 use crate::notes::notes_of;
+use crate::performing::{Outcome, replaced};
 use crate::picking::with_role;
+use crate::planning::planned;
 use crate::refusal::Refusal;
-use meson_splice::FileSet;
+use crate::variables::Variables;
+use meson_splice::{Change, FileSet, Many};
 use meson_syntax::Parsed;
 use std::alloc::Global;
 use std::marker::Model;
@@ -97,5 +104,66 @@ impl Project {
         ensures { result ≡ is_target (project self.now) call.now }
     {
         is_target(&self.files, self.trees.as_slice(), call)
+    }
+
+    /// The sources of a target.
+    ///
+    /// # Errors
+    /// `sources:` is there twice, or memory is refused.
+    pub fn sources(&self, alloc: Global, call: &CallRef) -> Result<Sources, Refusal>
+        requires { IsTrue (is_target (project self.now) call.now) }
+        ensures found { IfOk result (λ s. sources (project self.now) call.now ≡ Some (Ok s)) }
+        ensures refused { IfErr result (λ e. e ≢ Refusal.OutOfMemory → sources (project self.now) call.now ≡ Some (Err e)) }
+    {
+        let trees = self.trees.as_slice();
+        let notes = notes_of(alloc, &self.files, trees)?;
+        let variables = Variables::of(alloc, &self.files, trees, notes.as_slice())?;
+        sources_at(&variables, call)
+    }
+
+    /// Does a command, or nothing.
+    ///
+    /// # Errors
+    /// The first refusal that holds, or want of memory.
+    pub fn perform(&mut self, alloc: Global, command: &Command) -> Result<Done, Refusal>
+        ensures done { IfOk result (λ done. Performs self.old command.now done self.new) }
+        ensures refused { IfErr result (λ e. e ≢ Refusal.OutOfMemory → MayRefuse self.old command.now e) }
+        ensures kept { OnErr result (self.new ≡ self.old) }
+    {
+        let trees = self.trees.as_slice();
+        let step = match planned(alloc, &self.files, trees, command) {
+            Ok(step) => step,
+            Err(refusal) => return Err(refusal),
+        };
+        let file = step.call.file;
+        match replaced(alloc, &self.files, trees, step) {
+            Ok(Outcome::Same) => Ok(nothing(alloc)),
+            Ok(
+                Outcome::New {
+                    change,
+                    files,
+                    tree,
+                },
+            ) => {
+                let relexed = files.bytes(file).len() as u64;
+                self.files = files;
+                self.trees[file] = tree;
+                Ok(Done { change, relexed })
+            }
+            Err(refusal) => Err(refusal),
+        }
+    }
+}
+
+/// Nothing done. Takes no memory.
+fn nothing(alloc: Global) -> Done
+    ensures splices { result.change.splices ≡ [] }
+    ensures relexed { result.relexed ≡ 0 }
+{
+    Done {
+        change: Change {
+            splices: Many::of(Vec::new(alloc)),
+        },
+        relexed: 0,
     }
 }

@@ -61,6 +61,9 @@ pub enum Refusal {
     /// The new file would be too large.
     #[error("C18 too large")]
     TooLarge,
+    /// Such a command is not done so far.
+    #[error("not yet")]
+    NotYet,
     #[error("out of memory")]
     OutOfMemory,
 }

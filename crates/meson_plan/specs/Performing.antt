@@ -1,0 +1,58 @@
+-- How a command ends.
+use Rattle.std.specs.Prelude.{◌≡◌, ◌≤◌, ℕ, ◌-◌, ◌^◌, min, List, map, All, length, Some, Ok, Err}
+use Rattle.meson_splice.specs.declared.file_set.File.{File}
+use Rattle.meson_splice.specs.declared.splice.Splice.{Splice}
+use Rattle.meson_syntax.specs.Tree.{Plain, erase}
+use Rattle.meson_syntax.specs.Grammar.{file_depth}
+use Rattle.meson_syntax.specs.Reads.{max_len, max_depth}
+use Rattle.meson_plan.specs.declared.command.Command.{Command}
+use Rattle.meson_plan.specs.declared.command.Done.{Done}
+use Rattle.meson_plan.specs.declared.refusal.Refusal.{Refusal}
+use Rattle.meson_plan.specs.declared.refusal.Refusal.TheVariants.{TooDeep, TooLarge}
+use Rattle.meson_plan.specs.Loading.{Loaded, project, trees}
+use Rattle.meson_plan.specs.Steps.{Step, all_stepped, StepsMake}
+use Rattle.meson_plan.specs.Planning.{planned}
+
+abbrev pub plain_trees : Loaded → List Plain
+plain_trees l = map erase (trees l)
+
+-- What a command makes of a project: the trees by its edits, the splices and files by the layouts of these.
+pub record Makes (old : Loaded) (c : Command) : Type 0 where
+  pub steps : List Step
+  pub are_planned : planned (project old) c ≡ Ok steps
+  pub trees : List Plain
+  pub are_trees : all_stepped steps (plain_trees old) ≡ Some trees
+  pub splices : List Splice
+  pub files : List File
+  pub bytes : ℕ
+  pub are_done : StepsMake old.files steps splices files bytes
+
+-- ---- the limits, which are asked of the result
+
+abbrev pub AreShallow : List Plain → Type 0
+AreShallow ts = All (λ t. file_depth t ≤ max_depth) ts
+
+abbrev pub AreSmall : List File → Type 0
+AreSmall files = All (λ f. length f.bytes ≤ max_len) files
+
+-- the greatest number that a count reaches
+abbrev pub saturated : ℕ → ℕ
+saturated n = min n (2 ^ 64 - 1)
+
+-- ---- the answers
+
+-- The project becomes what the command makes of it.
+pub record Performs (old : Loaded) (c : Command) (done : Done) (new : Loaded) : Type 0 where
+  pub made : Makes old c
+  pub shallow : AreShallow made.trees
+  pub small : AreSmall made.files
+  pub is_change : done.change.splices ≡ made.splices
+  pub is_relexed : done.relexed ≡ saturated made.bytes
+  pub are_files : new.files ≡ made.files
+  pub are_trees : plain_trees new ≡ made.trees
+
+-- Why a command is refused: it means no edits, or what it makes passes a limit.
+pub data MayRefuse (old : Loaded) (c : Command) : Refusal → Type 0 where
+  unplanned : (refusal : Refusal) → planned (project old) c ≡ Err refusal → MayRefuse old c refusal
+  deep : (steps : List Step) (trees : List Plain) → planned (project old) c ≡ Ok steps → all_stepped steps (plain_trees old) ≡ Some trees → (AreShallow trees → ⊥) → MayRefuse old c TooDeep
+  large : (made : Makes old c) → AreShallow made.trees → (AreSmall made.files → ⊥) → MayRefuse old c TooLarge

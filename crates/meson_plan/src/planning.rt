@@ -1,0 +1,233 @@
+//! What a command means: the one replacement that is done so far, or why it is refused.
+
+ghost use Rattle.std.specs.Prelude.{◌≡◌, ◌≢◌, ◌∷◌, [], Err, IfErr, IfOk, Ok};
+ghost use Rattle.meson_syntax.specs.View.{list_view};
+ghost use Rattle.meson_plan.specs.declared.refusal.Refusal.TheVariants.{OutOfMemory};
+ghost use Rattle.meson_plan.specs.Loading.{AreParsed, named_trees, views};
+ghost use Rattle.meson_plan.specs.Notes.{note_views, notes};
+ghost use Rattle.meson_plan.specs.Picking.{Source, call_with, found_places};
+ghost use Rattle.meson_plan.specs.Planning.{kwargs_set, only_one, planned, set_keyword, set_one};
+ghost use Rattle.meson_plan.specs.Project.{placed};
+ghost use Rattle.meson_plan.specs.Replacing.{IsLookedFor, IsNotDone, IsOneStep, IsPlan, ValueAt, ValueIn, WrittenFor, step_of, subject, the_place, written};
+ghost use Rattle.meson_plan.specs.Strings.{NotesGood};
+
+use crate::arguments::{count_named, first_named};
+use crate::call::{CallRef, Role};
+use crate::command::{Command, Setting};
+use crate::naming::found;
+use crate::note::Note;
+use crate::notes::notes_of;
+use crate::picking::with_role;
+use crate::refusal::Refusal;
+use crate::settings::{key_of, project_setting};
+use meson_splice::{Bytes, FileSet, Text};
+use meson_syntax::{List, Parsed};
+use std::alloc::Global;
+
+/// The value of an argument of a call that becomes another: the call, the argument's number, and what is written there.
+#[derive(Drop)]
+pub(crate) struct Replacement {
+    pub call: CallRef,
+    pub argument: usize,
+    pub new: Bytes,
+}
+
+/// The only call.
+///
+/// # Errors
+/// There is none, or more than one.
+fn only_one(calls: Vec<CallRef>) -> Result<CallRef, Refusal>
+    ensures { result ≡ only_one calls.items }
+{
+    let mut left = calls;
+    if left.len() > 1 {
+        return Err(Refusal::Ambiguous);
+    }
+    match left.pop() {
+        Some(call) => Ok(call),
+        None => Err(Refusal::NotFound),
+    }
+}
+
+/// The only call of those that an id names.
+fn only_found(alloc: Global, role: Role, id: &str, notes: &[Note<'_>]) -> Result<CallRef, Refusal>
+    requires { NotesGood (note_views notes.now) }
+    ensures found { IfOk result (λ c. only_one (found_places role id.now (note_views notes.now)) ≡ Ok c) }
+    ensures refused { IfErr result (λ e. e ≢ OutOfMemory → only_one (found_places role id.now (note_views notes.now)) ≡ Err e) }
+{
+    let calls = found(alloc, role, id, notes)?;
+    only_one(calls)
+}
+
+/// The one call that an id names.
+///
+/// # Errors
+/// There is none, or more than one, or no project; or memory is refused.
+fn the_call(alloc: Global, role: Role, id: &str, notes: &[Note<'_>]) -> Result<CallRef, Refusal>
+    requires { NotesGood (note_views notes.now) }
+    ensures found { IfOk result (λ c. the_place role id.now (note_views notes.now) ≡ Ok c) }
+    ensures refused { IfErr result (λ e. e ≢ OutOfMemory → the_place role id.now (note_views notes.now) ≡ Err e) }
+{
+    match role {
+        Role::Project => {
+            let projects = with_role(alloc, Role::Project, notes)?;
+            if projects.as_slice().is_empty() {
+                return Err(Refusal::NoProject);
+            }
+            only_found(alloc, Role::Project, id, notes)
+        }
+        Role::Target => only_found(alloc, Role::Target, id, notes),
+        Role::Dependency => only_found(alloc, Role::Dependency, id, notes),
+    }
+}
+
+/// The one argument of that name gets the value.
+///
+/// # Errors
+/// The call may have hidden arguments, or has none or more than one of the name, or memory is refused.
+fn set_keyword(
+    source: &[u8],
+    call: CallRef,
+    arguments: &List,
+    key: &Text,
+    new: Bytes,
+) -> Result<Replacement, Refusal>
+    ensures same { IfOk result (λ r. (r.call ≡ call) × (r.new ≡ new)) }
+    ensures there { IfOk result (λ r. ValueIn (list_view source.now arguments.now) r.argument) }
+    ensures set { (function : Source) (w : WrittenFor new) → IfOk result (λ r. set_keyword key.now (placed call (call_with function (list_view source.now arguments.now))) (written new w) ≡ Ok (step_of (record { call = call; argument = r.argument; new = new }) w ∷ [])) }
+    ensures refused { (function : Source) (w : WrittenFor new) → IfErr result (λ e. e ≢ OutOfMemory → set_keyword key.now (placed call (call_with function (list_view source.now arguments.now))) (written new w) ≡ Err e) }
+{
+    let args = arguments.items.get();
+    if count_named(source, args, b"kwargs".as_slice()) > 0 {
+        return Err(Refusal::HiddenKeywords);
+    }
+    let name = key.get().as_bytes();
+    if count_named(source, args, name) > 1 {
+        return Err(Refusal::DuplicateKeyword(key_of(key)?));
+    }
+    match first_named(source, args, name) {
+        Some(argument) => Ok(Replacement {
+            call,
+            argument,
+            new,
+        }),
+        None => Err(Refusal::NotYet),
+    }
+}
+
+/// The one keyword argument of a project is set.
+///
+/// # Errors
+/// There is not one, or it can't be set so, or memory is refused.
+fn set_one(
+    alloc: Global,
+    source: &[u8],
+    call: CallRef,
+    arguments: &List,
+    pairs: &[(Text, Setting)],
+) -> Result<Replacement, Refusal>
+    ensures same { IfOk result (λ r. r.call ≡ call) }
+    ensures there { IfOk result (λ r. ValueIn (list_view source.now arguments.now) r.argument) }
+    ensures set { (function : Source) → IfOk result (IsOneStep (set_one (placed call (call_with function (list_view source.now arguments.now))) pairs.now)) }
+    ensures refused { (function : Source) → IfErr result (λ e. e ≢ OutOfMemory → set_one (placed call (call_with function (list_view source.now arguments.now))) pairs.now ≡ Err e) }
+{
+    if pairs.len() != 1 {
+        return Err(Refusal::NotYet);
+    }
+    let pair = &pairs[0];
+    match project_setting(alloc, &pair.0, &pair.1) {
+        Ok(new) => set_keyword(source, call, arguments, &pair.0, new),
+        Err(refusal) => Err(refusal),
+    }
+}
+
+/// Keyword arguments of the project are set.
+///
+/// # Errors
+/// The project is not there or not one, or they can't be set so, or memory is refused.
+fn set_in_project(
+    alloc: Global,
+    files: &FileSet,
+    trees: &[Parsed],
+    noted: &[Note<'_>],
+    id: &str,
+    pairs: &[(Text, Setting)],
+) -> Result<Replacement, Refusal>
+    requires parsed { AreParsed files.now trees.now }
+    requires taken { note_views noted.now ≡ notes (named_trees files.now (views files.now trees.now)) }
+    ensures step { IfOk result (λ r. IsOneStep (kwargs_set (named_trees files.now (views files.now trees.now)) Role.Project id.now pairs.now) r) }
+    ensures there { IfOk result (λ r. ValueAt (named_trees files.now (views files.now trees.now)) r.call r.argument) }
+    ensures refused { IfErr result (λ e. e ≢ OutOfMemory → kwargs_set (named_trees files.now (views files.now trees.now)) Role.Project id.now pairs.now ≡ Err e) }
+{
+    let call = match the_call(alloc, Role::Project, id, noted) {
+        Ok(call) => call,
+        Err(refusal) => return Err(refusal),
+    };
+    if call.file >= trees.len() {
+        unreachable!();
+    }
+    match trees[call.file].list_at(&call.path) {
+        Some(arguments) => set_one(alloc, files.bytes(call.file), call, arguments, pairs),
+        None => unreachable!(),
+    }
+}
+
+/// Commands that are not done so far are refused after their call was looked for.
+fn not_yet(alloc: Global, role: Role, id: &str, notes: &[Note<'_>]) -> Refusal
+    requires { NotesGood (note_views notes.now) }
+    ensures { result ≢ OutOfMemory → IsLookedFor (the_place role id.now (note_views notes.now)) result }
+{
+    match the_call(alloc, role, id, notes) {
+        Ok(_) => Refusal::NotYet,
+        Err(refusal) => refusal,
+    }
+}
+
+/// The refusal of a command that is not done so far.
+fn told(alloc: Global, notes: &[Note<'_>], command: &Command) -> Refusal
+    requires { NotesGood (note_views notes.now) }
+    ensures { result ≢ OutOfMemory → IsNotDone (subject command.now) (note_views notes.now) result }
+{
+    match command {
+        Command::SourcesAdd { target, .. } => not_yet(alloc, Role::Target, target.get(), notes),
+        Command::SourcesRemove { target, .. } => not_yet(alloc, Role::Target, target.get(), notes),
+        Command::ExtraAdd { target, .. } => not_yet(alloc, Role::Target, target.get(), notes),
+        Command::ExtraRemove { target, .. } => not_yet(alloc, Role::Target, target.get(), notes),
+        Command::TargetAdd { .. } => Refusal::NotYet,
+        Command::TargetRemove { target } => not_yet(alloc, Role::Target, target.get(), notes),
+        Command::TargetInfo { target } => not_yet(alloc, Role::Target, target.get(), notes),
+        Command::KwargsSet { role, id, .. } => not_yet(alloc, *role, id.get(), notes),
+        Command::KwargsAdd { role, id, .. } => not_yet(alloc, *role, id.get(), notes),
+        Command::KwargsRemove { role, id, .. } => not_yet(alloc, *role, id.get(), notes),
+        Command::KwargsDelete { role, id, .. } => not_yet(alloc, *role, id.get(), notes),
+        Command::KwargsInfo { role, id } => not_yet(alloc, *role, id.get(), notes),
+        Command::OptionsSet { .. } => not_yet(alloc, Role::Project, "/", notes),
+        Command::OptionsDelete { .. } => not_yet(alloc, Role::Project, "/", notes),
+    }
+}
+
+/// What a command means.
+///
+/// # Errors
+/// Why it is refused, or want of memory.
+pub(crate) fn planned(
+    alloc: Global,
+    files: &FileSet,
+    trees: &[Parsed],
+    command: &Command,
+) -> Result<Replacement, Refusal>
+    requires { AreParsed files.now trees.now }
+    ensures plan { IfOk result (IsPlan (named_trees files.now (views files.now trees.now)) command.now) }
+    ensures refused { IfErr result (λ e. e ≢ OutOfMemory → planned (named_trees files.now (views files.now trees.now)) command.now ≡ Err e) }
+{
+    let notes = notes_of(alloc, files, trees)?;
+    let notes = notes.as_slice();
+    match command {
+        Command::KwargsSet { role, id, pairs } => match role {
+            Role::Project => set_in_project(alloc, files, trees, notes, id.get(), pairs.get()),
+            Role::Target => Err(told(alloc, notes, command)),
+            Role::Dependency => Err(told(alloc, notes, command)),
+        },
+        _ => Err(told(alloc, notes, command)),
+    }
+}
