@@ -48,11 +48,11 @@ puts-more folder (b ∷ before) [] i d h k = absurd (omega arith)
 puts-more folder (b ∷ before) (a ∷ after) zero d h k = refl
 puts-more folder (b ∷ before) (a ∷ after) (suc i) d h k = puts-more folder before after i d (omega arith) (omega arith)
 
-not-true : (r b : Bool) → r ≡ not b → r ≡ true → b ≡ false
+pub not-true : (r b : Bool) → r ≡ not b → r ≡ true → b ≡ false
 not-true r true e t = absurd (let no : ⊥ = cc in no)
 not-true r false e t = refl
 
-not-false : (r b : Bool) → r ≡ not b → r ≡ false → b ≡ true
+pub not-false : (r b : Bool) → r ≡ not b → r ≡ false → b ≡ true
 not-false r true e f = refl
 not-false r false e f = absurd (let no : ⊥ = cc in no)
 

@@ -1,132 +1,109 @@
 -- How a run ends, from what its steps did.
-use Rattle.std.proofs.Common.{◌≡◌, ◌⊎◌, ◌≤◌, ℕ, List, [], ◌∷◌, Option, None, Some, Result, Ok, Err, Bool, true, false, inl, inr, refl, sym, ap, ◌∙◌, subst, arith}
-use Rattle.std.specs.Prelude.{codes, if◌then◌else◌}
-use Rattle.std.specs.Str.{bytes_eq}
-use Rattle.std.proofs.lemmas.Slice.Eq.{bytes_eq-Decides}
-use Rattle.meson_rewrite.specs.Content.{Content, replaced}
-use Rattle.meson_rewrite.specs.Outcome.{Edits}
+use Rattle.std.proofs.Common.{◌≡◌, ◌⊎◌, ◌≤◌, ℕ, List, [], ◌∷◌, Option, None, Some, Result, Ok, Err, inl, inr, refl, sym, ap, ◌∙◌, subst, length, arith}
+use Rattle.meson_rewrite.specs.Content.{Content}
+use Rattle.meson_rewrite.specs.Commit.{Put, puts, put_all, names_of, fault_of, Leaves, ErrorCounted, HaltsWith, CommitFails}
 use Rattle.meson_rewrite.specs.Lines.{store_fault_status, status}
-use Rattle.meson_splice.specs.Files.{bytes_at}
+use Rattle.meson_rewrite.specs.Runs.{Edits, written, Replaces, WriteFails, StoreStops, Does, CommandEnds, Ends}
+use Rattle.meson_rewrite.specs.Words.{Request, help, set_version}
 use Rattle.meson_splice.specs.declared.file_set.File.{File}
-use Rattle.meson_rewrite.specs.Commit.{Put, path_in, puts, put_all, CommitFails}
-use Rattle.meson_rewrite.specs.Project.{root_file}
-use Rattle.meson_rewrite.specs.Runs.{FaultCounted, HoldsFile, Changes, Leaves, StoreStops, Stops, Replaces, Does, CommandEnds, Ends}
-use Rattle.meson_rewrite.specs.Words.{Request, help, set_version, file_name}
 use Rattle.meson_rewrite.specs.declared.stop.Done.{Done}
-use Rattle.meson_rewrite.specs.declared.stop.Done.TheVariants.{Unchanged}
+use Rattle.meson_rewrite.specs.declared.stop.Done.TheVariants.{Edited}
 use Rattle.meson_rewrite.specs.declared.stop.Stop.{Stop}
-use Rattle.meson_rewrite.specs.declared.stop.Stop.TheVariants.{Usage, Parse, Refused, Store}
+use Rattle.meson_rewrite.specs.declared.stop.Stop.TheVariants.{Usage, Parse, TooManyFiles, Refused, Store}
+use Rattle.meson_rewrite.specs.declared.store.StoreError.{StoreError}
+use Rattle.meson_rewrite.specs.declared.store.StoreError.TheVariants as error
 use Rattle.meson_rewrite.specs.declared.store_fault.StoreFault.{StoreFault}
 use Rattle.meson_rewrite.specs.declared.store_fault.StoreFault.TheVariants as store
-use Rattle.meson_rewrite.proofs.OnePut.{root_put, root_path, OneFails, one_put_fails, rose_before}
-use Rattle.meson_rewrite.proofs.Splices.{changes, leaves}
+use Rattle.meson_rewrite.proofs.Stopping.{rose_before}
 
--- the file's bytes have the property that the bytes that were read have
-holds : (before : Option Content) (file old : List ℕ) (P : List ℕ → Type 0) → P old → HoldsFile before file (λ bytes. bytes ≡ old) → HoldsFile before file P
-holds before file old P p read = λ files e. let r = read files e in (r.0, (r.1.0, subst P (sym r.1.1) p))
+module _ (folder : Option (List ℕ)) (id value : List ℕ) (before after : Option Content) (failed failed' : ℕ) where
+  -- ---- the files could not be replaced
 
--- the files before and after the command, of which the first was read at the path of the root file
-pub record Steps (folder : Option (List ℕ)) (path id value old : List ℕ) (before after : List File) (held middle : Option Content) : Type 0 where
-  pub path_is : path ≡ file_name folder
-  pub kept : middle ≡ held
-  pub read : HoldsFile held path (λ bytes. bytes ≡ old)
-  pub is_before : before ≡ root_file old
-  pub is_after : after ≡ root_file (bytes_at 0 after)
-  pub edits : Edits id value (bytes_at 0 before) (bytes_at 0 after)
+  no_fault : (done : List (List ℕ)) (name : List ℕ) (why : StoreError) → store.OutOfMemory ≡ fault_of done name why → (done ≡ []) × (why ≡ error.OutOfMemory)
+  no_fault [] name error.Device e = absurd (let no : ⊥ = cc in no)
+  no_fault [] name error.OutOfMemory e = (refl, refl)
+  no_fault (d ∷ done) name error.Device e = absurd (let no : ⊥ = cc in no)
+  no_fault (d ∷ done) name error.OutOfMemory e = absurd (let no : ⊥ = cc in no)
 
-module _ {folder : Option (List ℕ)} {path id value old : List ℕ} {before after : List File} {held middle : Option Content} (s : Steps folder path id value old before after held middle)
-    (r : Bool) (x y : List ℕ) (is_r : r ≡ bytes_eq x y) (is_x : x ≡ bytes_at 0 before) (is_y : y ≡ bytes_at 0 after) where
-  abbrev new : List ℕ
-  new = bytes_at 0 after
+  none_done : (done : List Put) (failed_ : Put) (why : StoreError) → (names_of done ≡ []) × (why ≡ error.OutOfMemory) → Leaves why failed_ (put_all done before) after → after ≡ before
+  none_done [] failed_ error.Device (e, w) left = absurd (let no : ⊥ = cc in no)
+  none_done [] failed_ error.OutOfMemory (e, w) left = left
+  none_done (d ∷ done) failed_ why (e, w) left = absurd (let no : ⊥ = cc in no)
 
-  edited_old : Edits id value old new
-  edited_old = let E : List ℕ → Type 0 = λ z. Edits id value z (bytes_at 0 after) in subst E (ap (bytes_at 0) s.is_before) s.edits
+  other_fault : (done : List (List ℕ)) (name : List ℕ) (why : StoreError) (fault : StoreFault) → fault ≡ fault_of done name why → (fault ≡ store.OutOfMemory) ⊎ ((n : List ℕ) × (still_new : List (List ℕ)) × (fault ≡ store.WriteFailed n still_new))
+  other_fault [] name error.Device fault e = inr (name, _, e)
+  other_fault [] name error.OutOfMemory fault e = inl e
+  other_fault (d ∷ done) name error.Device fault e = inr (name, _, e)
+  other_fault (d ∷ done) name error.OutOfMemory fault e = inr (name, _, e)
 
-  compared : r ≡ bytes_eq old new
-  compared = is_r ∙ ap (λ z. bytes_eq z y) (is_x ∙ ap (bytes_at 0) s.is_before) ∙ ap (bytes_eq old) is_y
+  counted_before : (old : ℕ) (why : StoreError) → failed ≤ old → old ≤ failed' → ErrorCounted why old failed' → ErrorCounted why failed failed'
+  counted_before old error.Device h k c = rose_before failed old failed' h k c
+  counted_before old error.OutOfMemory h k c = c
 
-  different : r ≡ false → new ≡ old → ⊥
-  different f same = let t : bytes_eq old new ≡ true = (bytes_eq-Decides old new).1 (sym same) in let c : r ≡ bytes_eq old new = compared in cc
+  told_stops : (edits : Edits before folder id value) (fault : StoreFault) (h : HaltsWith (written edits) before after failed failed' fault) →
+      (fault ≡ store.OutOfMemory) ⊎ ((n : List ℕ) × (still_new : List (List ℕ)) × (fault ≡ store.WriteFailed n still_new)) → StoreStops folder id value before after failed failed' fault
+  told_stops edits fault h (inl e) =
+      let S : StoreFault → Type 0 = λ f. StoreStops folder id value before after failed failed' f in
+      let none = no_fault (names_of h.halts.done) h.halts.failed.name h.why (sym e ∙ h.told) in
+      subst S (sym e) (none_done h.halts.done h.halts.failed h.why none h.halts.left)
+  told_stops edits fault h (inr (n, still_new, e)) =
+      let S : StoreFault → Type 0 = λ f. StoreStops folder id value before after failed failed' f in
+      let W : StoreFault → Type 0 = λ f. HaltsWith (written edits) before after failed failed' f in
+      let fails : WriteFails folder id value before after failed failed' (store.WriteFailed n still_new) = record { edits = edits; halts = subst W e h } in
+      subst S (sym e) fails
 
-  pub leaves_file : r ≡ true → Does (file_name folder) id value held middle Unchanged
-  leaves_file t =
-      let same : new ≡ old = sym ((bytes_eq-Decides old new).0 (sym compared ∙ t)) in
-      let H : List ℕ → Type 0 = λ f. HoldsFile held f (Leaves id value) in
-      (s.kept, subst H s.path_is (holds held path old (Leaves id value) (leaves id value old new edited_old same) s.read))
+  not_replaced : (edits : Edits before folder id value) (old : ℕ) (fault : StoreFault) → failed ≤ old → old ≤ failed' → CommitFails (written edits) before after old failed' fault →
+      StoreStops folder id value before after failed failed' fault
+  not_replaced edits old fault h k (inl (e, kept)) = let S : StoreFault → Type 0 = λ f. StoreStops folder id value before after failed failed' f in subst S (sym e) kept
+  not_replaced edits old fault h k (inr halts) =
+      let since : HaltsWith (written edits) before after failed failed' fault =
+      record { why = halts.why; halts = halts.halts; counted = counted_before old halts.why h k halts.counted; told = halts.told } in
+      told_stops edits fault since (other_fault (names_of halts.halts.done) halts.halts.failed.name halts.why fault halts.told)
 
-  changes_file : r ≡ false → HoldsFile held (file_name folder) (λ bytes. Changes id value bytes new)
-  changes_file f =
-      let H : List ℕ → Type 0 = λ z. HoldsFile held z (λ bytes. Changes id value bytes new) in
-      subst H s.path_is (holds held path old (λ bytes. Changes id value bytes new) (changes id value old new edited_old (different f)) s.read)
+  -- ---- the files that were written are those of the command
 
-  -- the root file alone differs
-  one_put : r ≡ false → puts folder before after ≡ root_put folder new ∷ []
-  one_put f =
-      ap (λ b. puts folder b after) s.is_before
-      ∙ ap (puts folder (root_file old)) s.is_after
-      ∙ ap (λ t. if t then [] else (root_put folder new ∷ [])) (sym compared ∙ f)
+  module _ (edits : Edits before folder id value) (b a : List File) (middle : Option Content) (is_before : b ≡ edits.old.files) (is_after : a ≡ edits.new.files) (kept : middle ≡ before) where
+    are_written : puts folder b a ≡ written edits
+    are_written = ap (λ fs. puts folder fs a) is_before ∙ ap (puts folder edits.old.files) is_after
 
-  pub replaces_file : (told : Option Content) → r ≡ false → told ≡ put_all (puts folder before after) middle → Replaces (file_name folder) id value held told
-  replaces_file told f is = record {
-    new = new;
-    changes = changes_file f;
-    is_after = is ∙ ap (λ files. put_all files middle) (one_put f) ∙ ap (λ c. replaced c (path_in folder (codes "meson.build")) new) s.kept ∙ ap (λ z. replaced held z new) (root_path folder);
-  }
+    pub replaced : (splices : ℕ) (done : Done) → splices ≡ length edits.done.change.splices → (after ≡ put_all (puts folder b a) middle) × (done ≡ Edited (length (puts folder b a)) splices) →
+        Does folder id value before after failed failed' done
+    replaced splices done count (put, is_done) =
+        let ends : Replaces folder id value before after failed failed' (length (puts folder b a)) splices = record {
+          edits = edits;
+          is_after = put ∙ ap (put_all (puts folder b a)) kept ∙ ap (λ files. put_all files before) are_written;
+          are_files = ap length are_written;
+          are_splices = count;
+        } in
+        subst (Does folder id value before after failed failed') (sym is_done) ends
 
-  one_fails : (told : Option Content) (failed failed' : ℕ) (fault : StoreFault) → r ≡ false → CommitFails (puts folder before after) middle told failed failed' fault →
-      OneFails (root_put folder new) held told failed failed' fault
-  one_fails told failed failed' fault f h =
-      let C : List Put → Type 0 = λ files. CommitFails files middle told failed failed' fault in
-      let O : Option Content → Type 0 = λ c. OneFails (root_put folder new) c told failed failed' fault in
-      subst O s.kept (one_put_fails (root_put folder new) middle told failed failed' fault (subst C (one_put f) h))
+    pub not_written : (old : ℕ) (fault : StoreFault) → failed ≤ old → old ≤ failed' → CommitFails (puts folder b a) middle after old failed' fault → StoreStops folder id value before after failed failed' fault
+    not_written old fault h k fails =
+        not_replaced edits old fault h k
+        (subst (λ files. CommitFails files before after old failed' fault) are_written (subst (λ c. CommitFails (puts folder b a) c after old failed' fault) kept fails))
 
-  pub fails_to_replace : (told : Option Content) (failed failed' : ℕ) (fault : StoreFault) → r ≡ false → CommitFails (puts folder before after) middle told failed failed' fault →
-      Stops (file_name folder) id value held told (Store fault)
-  fails_to_replace told failed failed' fault f h = go (one_fails told failed failed' fault f h)
-    where
-      at_file : (told ≡ held) ⊎ (told ≡ replaced held (path_in folder (codes "meson.build")) new) → (told ≡ held) ⊎ (told ≡ replaced held (file_name folder) new)
-      at_file (inl e) = inl e
-      at_file (inr e) = inr (e ∙ ap (λ z. replaced held z new) (root_path folder))
+  -- ---- the status
 
-      go : OneFails (root_put folder new) held told failed failed' fault → StoreStops (file_name folder) id value held told fault
-      go (inl (e, kept)) = let T : StoreFault → Type 0 = λ z. StoreStops (file_name folder) id value held told z in subst T (sym e) kept
-      go (inr (e, rose, left)) = let T : StoreFault → Type 0 = λ z. StoreStops (file_name folder) id value held told z in subst T (sym e) (refl, record { new = new; changes = changes_file f; left = at_file left; listed = refl })
+  store_keeps : (fault : StoreFault) → StoreStops folder id value before after failed failed' fault → (store_fault_status fault ≡ 1) ⊎ (store_fault_status fault ≡ 2) → after ≡ before
+  store_keeps (store.ReadFailed name) h s = h.0
+  store_keeps (store.WriteFailed name still_new) h (inl e) = absurd (omega (arith, e))
+  store_keeps (store.WriteFailed name still_new) h (inr e) = absurd (omega (arith, e))
+  store_keeps (store.NoFile name) h s = h.0
+  store_keeps store.OutputFailed h s = absurd h
+  store_keeps store.OutOfMemory h s = h
 
-  pub failure_counted : (told : Option Content) (first failed failed' : ℕ) (fault : StoreFault) → first ≤ failed → failed ≤ failed' → r ≡ false →
-      CommitFails (puts folder before after) middle told failed failed' fault → FaultCounted first failed' fault
-  failure_counted told first failed failed' fault h k f fails = go (one_fails told failed failed' fault f fails)
-    where
-      go : OneFails (root_put folder new) held told failed failed' fault → FaultCounted first failed' fault
-      go (inl (e, kept)) = subst (FaultCounted first failed') (sym e) tt
-      go (inr (e, rose, left)) = subst (FaultCounted first failed') (sym e) (rose_before first failed failed' h k rose)
-
--- what stops a run at a path stops it at the file
-pub stops_at_path : (path file id value : List ℕ) (before after : Option Content) (stop : Stop) → path ≡ file → Stops path id value before after stop → Stops file id value before after stop
-stops_at_path path file id value before after stop e h = let S : List ℕ → Type 0 = λ f. Stops f id value before after stop in subst S e h
-
--- ---- the status
-
-store_fault_keeps : (file id value : List ℕ) (before after : Option Content) (fault : StoreFault) → StoreStops file id value before after fault →
-    (store_fault_status fault ≡ 1) ⊎ (store_fault_status fault ≡ 2) → after ≡ before
-store_fault_keeps file id value before after (store.ReadFailed name) h s = h.0
-store_fault_keeps file id value before after (store.WriteFailed name still_new) h (inl e) = absurd (omega (arith, e))
-store_fault_keeps file id value before after (store.WriteFailed name still_new) h (inr e) = absurd (omega (arith, e))
-store_fault_keeps file id value before after (store.NoFile name) h s = h.0
-store_fault_keeps file id value before after store.OutputFailed h s = absurd h
-store_fault_keeps file id value before after store.OutOfMemory h s = h
-
-command_keeps : (file id value : List ℕ) (before after : Option Content) (end : Result Done Stop) → CommandEnds file id value before after end →
-    (status end ≡ 1) ⊎ (status end ≡ 2) → after ≡ before
-command_keeps file id value before after (Ok done) h (inl e) = absurd (omega (arith, e))
-command_keeps file id value before after (Ok done) h (inr e) = absurd (omega (arith, e))
-command_keeps file id value before after (Err Usage) h s = absurd h
-command_keeps file id value before after (Err (Parse fault)) h s = h.0
-command_keeps file id value before after (Err (Refused refusal)) h s = h.0
-command_keeps file id value before after (Err (Store fault)) h s = store_fault_keeps file id value before after fault h s
+  command_keeps : (end : Result Done Stop) → CommandEnds folder id value before after failed failed' end → (status end ≡ 1) ⊎ (status end ≡ 2) → after ≡ before
+  command_keeps (Ok done) h (inl e) = absurd (omega (arith, e))
+  command_keeps (Ok done) h (inr e) = absurd (omega (arith, e))
+  command_keeps (Err Usage) h s = absurd h
+  command_keeps (Err (Parse name fault)) h s = h.0
+  command_keeps (Err TooManyFiles) h s = h.0
+  command_keeps (Err (Refused why)) h s = h.0
+  command_keeps (Err (Store fault)) h s = store_keeps fault h s
 
 -- with these statuses the store holds what it held
-pub status_keeps : (asked : Option Request) (before after : Option Content) (end : Result Done Stop) → Ends asked before after end →
+pub status_keeps : (asked : Option Request) (before after : Option Content) (failed failed' : ℕ) (end : Result Done Stop) → Ends asked before after failed failed' end →
     (status end ≡ 1) ⊎ (status end ≡ 2) → after ≡ before
-status_keeps None before after end h s = h.0
-status_keeps (Some help) before after end h s = h.0
-status_keeps (Some (set_version folder id value)) before after end h s = command_keeps (file_name folder) id value before after end h s
+status_keeps None before after failed failed' end h s = h.0
+status_keeps (Some help) before after failed failed' end h s = h.0
+status_keeps (Some (set_version folder id value)) before after failed failed' end h s = command_keeps folder id value before after failed failed' end h s

@@ -2,13 +2,10 @@ pub mod Content
 pub mod Commit
 pub mod Planned
 pub mod MemoryStore
-pub mod Finding
-pub mod Editing
-pub mod Comparing
+pub mod Gathering
+pub mod Gathered
 pub mod Lines
 pub mod Words
 pub mod Asked
-pub mod Found
-pub mod Outcome
 pub mod Runs
-pub mod Project
+pub mod Edited

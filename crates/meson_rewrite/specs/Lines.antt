@@ -4,14 +4,14 @@ use Rattle.meson_lex.specs.declared.fault.LexFault.{LexFault}
 use Rattle.meson_lex.specs.declared.fault.LexFault.TheVariants as lex
 use Rattle.meson_syntax.specs.declared.fault.ParseFault.{ParseFault}
 use Rattle.meson_syntax.specs.declared.fault.ParseFault.TheVariants as parse
-use Rattle.meson_rewrite.specs.declared.refusal.Refusal.{Refusal}
-use Rattle.meson_rewrite.specs.declared.refusal.Refusal.TheVariants as refusal
+use Rattle.meson_plan.specs.declared.refusal.Refusal.{Refusal}
+use Rattle.meson_plan.specs.declared.refusal.Refusal.TheVariants as refusal
 use Rattle.meson_rewrite.specs.declared.store_fault.StoreFault.{StoreFault}
 use Rattle.meson_rewrite.specs.declared.store_fault.StoreFault.TheVariants as store
 use Rattle.meson_rewrite.specs.declared.stop.Done.{Done}
-use Rattle.meson_rewrite.specs.declared.stop.Done.TheVariants.{Help, Changed, Unchanged}
+use Rattle.meson_rewrite.specs.declared.stop.Done.TheVariants.{Help, Edited}
 use Rattle.meson_rewrite.specs.declared.stop.Stop.{Stop}
-use Rattle.meson_rewrite.specs.declared.stop.Stop.TheVariants.{Usage, Parse, Refused, Store}
+use Rattle.meson_rewrite.specs.declared.stop.Stop.TheVariants.{Usage, Parse, TooManyFiles, Refused, Store}
 
 -- a line: a label, what it is about, and a line end
 abbrev pub line : List ℕ → List ℕ → List ℕ
@@ -34,44 +34,74 @@ store_fault_lines (store.NoFile name) = error_line (codes "W3 no file ") name
 store_fault_lines store.OutputFailed = []
 store_fault_lines store.OutOfMemory = error_line (codes "out of memory") []
 
-abbrev pub lex_fault_line : LexFault → List ℕ
-lex_fault_line (lex.StrayByte at) = error_line (codes "meson.build: L1 stray byte at ") (decimal at)
-lex_fault_line (lex.OpenString at) = error_line (codes "meson.build: L2 open string at ") (decimal at)
-lex_fault_line (lex.BadNumber at) = error_line (codes "meson.build: L3 bad number at ") (decimal at)
-lex_fault_line (lex.BareCarriageReturn at) = error_line (codes "meson.build: L4 bare carriage return at ") (decimal at)
+-- what stands behind a file's name
+abbrev pub named_line : List ℕ → List ℕ → List ℕ
+named_line name text = codes "error: " ++ (name ++ text)
 
-abbrev pub parse_fault_line : ParseFault → List ℕ
-parse_fault_line parse.TooLarge = error_line (codes "meson.build: S1 too large") []
-parse_fault_line parse.NotUtf8 = error_line (codes "meson.build: S2 not utf-8") []
-parse_fault_line parse.ByteOrderMark = error_line (codes "meson.build: S3 byte order mark") []
-parse_fault_line (parse.Lex fault) = lex_fault_line fault
-parse_fault_line (parse.Unexpected at) = error_line (codes "meson.build: S5 unexpected at ") (decimal at)
-parse_fault_line (parse.TooDeep at) = error_line (codes "meson.build: S6 too deep at ") (decimal at)
-parse_fault_line parse.OutOfMemory = error_line (codes "out of memory") []
+-- the line of a fault of a file
+abbrev pub file_line : List ℕ → List ℕ → List ℕ → List ℕ
+file_line name label about = named_line name (codes ": " ++ line label about)
 
--- the words of a refusal
-abbrev pub refusal_text : Refusal → List ℕ
-refusal_text refusal.NoProject = codes "C1 no project"
-refusal_text refusal.NotFound = codes "C2 not found"
-refusal_text refusal.Ambiguous = codes "C3 ambiguous"
-refusal_text refusal.HiddenKeywords = codes "C7 hidden keywords"
-refusal_text refusal.DuplicateKeyword = codes "C8 duplicate keyword: version"
-refusal_text refusal.NotYet = codes "not yet"
-refusal_text refusal.TooLarge = codes "C18 too large"
-refusal_text refusal.SelfCheck = codes "self check"
+abbrev pub lex_fault_line : List ℕ → LexFault → List ℕ
+lex_fault_line name (lex.StrayByte at) = file_line name (codes "L1 stray byte at ") (decimal at)
+lex_fault_line name (lex.OpenString at) = file_line name (codes "L2 open string at ") (decimal at)
+lex_fault_line name (lex.BadNumber at) = file_line name (codes "L3 bad number at ") (decimal at)
+lex_fault_line name (lex.BareCarriageReturn at) = file_line name (codes "L4 bare carriage return at ") (decimal at)
+
+abbrev pub parse_fault_line : List ℕ → ParseFault → List ℕ
+parse_fault_line name parse.TooLarge = file_line name (codes "S1 too large") []
+parse_fault_line name parse.NotUtf8 = file_line name (codes "S2 not utf-8") []
+parse_fault_line name parse.ByteOrderMark = file_line name (codes "S3 byte order mark") []
+parse_fault_line name (parse.Lex fault) = lex_fault_line name fault
+parse_fault_line name (parse.Unexpected at) = file_line name (codes "S5 unexpected at ") (decimal at)
+parse_fault_line name (parse.TooDeep at) = file_line name (codes "S6 too deep at ") (decimal at)
+parse_fault_line name parse.OutOfMemory = error_line (codes "out of memory") []
+
+-- the words of a refusal, and the name that some end with
+abbrev pub refusal_label : Refusal → List ℕ
+refusal_label refusal.NoProject = codes "command 0: C1 no project"
+refusal_label refusal.NotFound = codes "command 0: C2 not found"
+refusal_label refusal.Ambiguous = codes "command 0: C3 ambiguous"
+refusal_label (refusal.UnknownKey name) = codes "command 0: C4 unknown key"
+refusal_label (refusal.WrongKind name) = codes "command 0: C5 wrong kind"
+refusal_label refusal.BadName = codes "command 0: C6 bad name"
+refusal_label refusal.HiddenKeywords = codes "command 0: C7 hidden keywords"
+refusal_label (refusal.DuplicateKeyword name) = codes "command 0: C8 duplicate keyword: "
+refusal_label (refusal.NotLiteral name) = codes "command 0: C9 not literal: "
+refusal_label refusal.SourceNotFound = codes "command 0: C10 source not found"
+refusal_label refusal.Unresolved = codes "command 0: C11 unresolved"
+refusal_label refusal.NotRemovable = codes "command 0: C12 not removable"
+refusal_label refusal.NameTaken = codes "command 0: C13 name taken"
+refusal_label refusal.NoFile = codes "command 0: C14 no file"
+refusal_label refusal.NotStatement = codes "command 0: C15 not a statement"
+refusal_label (refusal.InUse name) = codes "command 0: C16 in use: "
+refusal_label refusal.TooDeep = codes "command 0: C17 too deep"
+refusal_label refusal.TooLarge = codes "command 0: C18 too large"
+refusal_label refusal.NotYet = codes "command 0: not yet"
+refusal_label refusal.OutOfMemory = codes "out of memory"
+
+abbrev pub refusal_about : Refusal → List ℕ
+refusal_about (refusal.DuplicateKeyword name) = name
+refusal_about (refusal.NotLiteral name) = name
+refusal_about (refusal.InUse name) = name
+refusal_about _ = []
 
 -- what a run that was stopped writes as errors
 abbrev pub stop_lines : Stop → List ℕ
 stop_lines Usage = error_line (codes "U1 usage") []
-stop_lines (Parse fault) = parse_fault_line fault
-stop_lines (Refused refusal) = error_line (codes "command 0: ") (refusal_text refusal)
+stop_lines (Parse name fault) = parse_fault_line name fault
+stop_lines TooManyFiles = error_line (codes "M1 too many files") []
+stop_lines (Refused why) = error_line (refusal_label why) (refusal_about why)
 stop_lines (Store fault) = store_fault_lines fault
+
+-- how many files differ, and how many splices made them
+abbrev pub counts_line : ℕ → ℕ → List ℕ
+counts_line files splices = codes "files: " ++ (decimal files ++ line (codes ", splices: ") (decimal splices))
 
 -- what a run that was done writes as output
 abbrev pub done_line : Done → List ℕ
 done_line Help = codes "meson_rewrite" ++ 10 ∷ []
-done_line Changed = codes "files: 1, splices: 1" ++ 10 ∷ []
-done_line Unchanged = codes "files: 0, splices: 0" ++ 10 ∷ []
+done_line (Edited files splices) = counts_line files splices
 
 abbrev pub store_fault_status : StoreFault → ℕ
 store_fault_status (store.ReadFailed name) = 3
@@ -82,8 +112,9 @@ store_fault_status store.OutOfMemory = 1
 
 abbrev pub stop_status : Stop → ℕ
 stop_status Usage = 2
-stop_status (Parse fault) = 1
-stop_status (Refused refusal) = 1
+stop_status (Parse name fault) = 1
+stop_status TooManyFiles = 1
+stop_status (Refused why) = 1
 stop_status (Store fault) = store_fault_status fault
 
 -- ---- how a run ends

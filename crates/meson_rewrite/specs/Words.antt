@@ -1,5 +1,5 @@
 -- What the words of a command line ask for.
-use Rattle.std.specs.Prelude.{ℕ, Bool, true, false, not, ◌&&◌, ◌==◌, List, [], ◌∷◌, ◌++◌, if◌then◌else◌, codes, Option, Some, None}
+use Rattle.std.specs.Prelude.{ℕ, Bool, true, false, not, ◌&&◌, ◌==◌, List, [], ◌∷◌, if◌then◌else◌, codes, Option, Some, None}
 use Rattle.std.specs.Str.{bytes_eq}
 
 pub data Request : Type 0 where
@@ -36,8 +36,3 @@ requested (program ∷ words) = if is_help words then Some help else command wor
     is_help : List (List ℕ) → Bool
     is_help (word ∷ []) = bytes_eq word (codes "--help")
     is_help _ = false
-
--- the file that is read and written
-abbrev pub file_name : Option (List ℕ) → List ℕ
-file_name None = codes "meson.build"
-file_name (Some folder) = folder ++ codes "/meson.build"

@@ -1,103 +1,169 @@
 //! The program, over any store and any two writers.
 
-ghost use Rattle.std.specs.Prelude.{◌≡◌, ◌≤◌, ◌⊎◌, ◌∷◌, [], ℕ, List, IfOk, IfErr, OnOk, OnErr, codes, map, option_map, string_bytes};
-ghost use Rattle.std.specs.FinMap.{get};
-ghost use Rattle.std.specs.Io.KnownBytes.{Appends, Keeps};
-ghost use Rattle.meson_rewrite.specs.Content.{Content, replaced, Rose};
+ghost use Rattle.std.specs.Prelude.{◌≡◌, ◌≤◌, ◌⊎◌, IfErr, IfOk, OnOk, length, map, option_map, string_bytes};
+ghost use Rattle.std.specs.Io.KnownBytes.{Appends};
+ghost use Rattle.meson_plan.specs.Loading.{IsProject};
+ghost use Rattle.meson_rewrite.specs.Commit.{CommitFails, put_all, puts};
+ghost use Rattle.meson_rewrite.specs.Edited.{IsEdited, IsNotEdited};
+ghost use Rattle.meson_rewrite.specs.Gathered.{IsLoadable, StopsAt};
+ghost use Rattle.meson_rewrite.specs.Gathering.{Finds};
 ghost use Rattle.meson_rewrite.specs.Lines.{out_lines, err_lines, status, store_fault_status};
-ghost use Rattle.meson_rewrite.specs.Outcome.{Edits};
-ghost use Rattle.meson_rewrite.specs.Runs.{CommandEnds, Stops, HoldsFile, IsRoot, Counted, StopCounted, Ends, Run, NeedsNoStore};
-ghost use Rattle.meson_rewrite.specs.Project.{root_file};
-ghost use Rattle.meson_rewrite.specs.Words.{requested, file_name};
+ghost use Rattle.meson_rewrite.specs.Runs.{CommandEnds, Ends, IsRead, NeedsNoStore, Run, version_command};
+ghost use Rattle.meson_rewrite.specs.Words.{requested};
 
 use crate::committing::commit;
-use crate::edit::{ROOT, with_version};
+use crate::counting::count_differing;
+use crate::gathering::gather;
 use crate::lines::{write_done, write_stop};
 use crate::stop::{Done, Stop};
-use crate::words::{Asked, SetVersion, asked_by, file_name};
-use crate::{Store, StoreError, StoreFault};
-use meson_splice::{FileSet, Text};
+use crate::words::{Asked, SetVersion, asked_by};
+use crate::{Store, StoreFault};
+use meson_plan::{Command, LoadFault, Project, Refusal, Role, Setting};
+use meson_splice::{FileSet, Many, Text};
 use std::alloc::{AllocError, Global};
 use std::io;
 use std::io::Write;
 
-/// The file's name in a line.
-fn root(alloc: Global) -> Result<Text, AllocError>
-    ensures { IfOk result IsRoot }
+/// The project of files that are one.
+fn load(alloc: Global, files: FileSet) -> Result<Project, AllocError>
+    requires { IsLoadable files }
+    ensures files { IfOk result (λ project. project.files ≡ files) }
+    ensures project { IfOk result IsProject }
 {
-    let name = String::from_str(alloc, ROOT)?;
-    Ok(Text::of(name))
+    match Project::load(alloc, files) {
+        Ok(project) => Ok(project),
+        Err(unloaded) => {
+            prove!(matches!(&unloaded.fault, LoadFault::OutOfMemory));
+            Err(AllocError)
+        }
+    }
 }
 
-/// Reads the file, which has to be there.
-fn read_file<S: Store>(alloc: Global, store: &mut S, file: &str) -> Result<Vec<u8>, Stop>
-    ensures read { IfOk result (λ old. HoldsFile (S.content store.old) file.now (λ bytes. bytes ≡ old.items)) }
-    ensures stopped { IfErr result (λ stop. (id value : List ℕ) → Stops file.now id value (S.content store.old) (S.content store.new) stop) }
+/// The command that sets the version of the project with that id.
+fn version_command(alloc: Global, id: &str, value: &str) -> Result<Command, AllocError>
+    ensures { IfOk result (λ command. command ≡ version_command id.now value.now) }
+{
+    let id = String::from_str(alloc, id)?;
+    let key = String::from_str(alloc, "version")?;
+    let value = String::from_str(alloc, value)?;
+    let mut pairs = Vec::new(alloc);
+    pairs.push((Text::of(key), Setting::Text(Text::of(value))))?;
+    Ok(Command::KwargsSet {
+        role: Role::Project,
+        id: Text::of(id),
+        pairs: Many::of(pairs),
+    })
+}
+
+/// The project of a folder of the store.
+fn read_project<S: Store>(
+    alloc: Global,
+    store: &mut S,
+    folder: Option<&str>,
+) -> Result<Project, Stop>
+    ensures read { IfOk result (IsRead (S.content store.old) (option_map (λ f. f.now) folder.entry)) }
+    ensures stopped { IfErr result (StopsAt (S.failures store.old) (S.failures store.new) (Finds (S.content store.old) (option_map (λ f. f.now) folder.entry))) }
     ensures kept { S.content store.new ≡ S.content store.old }
     ensures counts { S.failures store.old ≤ S.failures store.new }
-    ensures device { IfErr result (StopCounted (S.failures store.old) (S.failures store.new)) }
 {
-    let Ok(name) = root(alloc) else {
+    let files = match gather(alloc, store, folder) {
+        Ok(files) => files,
+        Err(stop) => return Err(stop),
+    };
+    match load(alloc, files) {
+        Ok(project) => Ok(project),
+        Err(_) => Err(Stop::Store(StoreFault::OutOfMemory)),
+    }
+}
+
+/// What a command left of the files before it.
+#[derive(Drop)]
+struct Edit {
+    /// The files as they were.
+    before: FileSet,
+    splices: usize,
+}
+
+/// Does a command in a project.
+fn perform(alloc: Global, project: &mut Project, command: &Command) -> Result<Edit, Stop>
+    ensures edited { IfOk result (IsEdited project.old command.now project.new) }
+    ensures refused { IfErr result (IsNotEdited project.old command.now) }
+{
+    let Ok(before) = project.files().copy(alloc) else {
         return Err(Stop::Store(StoreFault::OutOfMemory));
     };
-    match store.read(alloc, file) {
-        Ok(Some(bytes)) => Ok(bytes),
-        Ok(None) => Err(Stop::Store(StoreFault::NoFile(name))),
-        Err(StoreError::Device) => Err(Stop::Store(StoreFault::ReadFailed(name))),
-        Err(StoreError::OutOfMemory) => Err(Stop::Store(StoreFault::OutOfMemory)),
+    match project.perform(alloc, command) {
+        Ok(done) => Ok(Edit {
+            before,
+            splices: done.change.splices.get().len(),
+        }),
+        Err(Refusal::OutOfMemory) => Err(Stop::Store(StoreFault::OutOfMemory)),
+        Err(refusal) => Err(Stop::Refused(refusal)),
     }
 }
 
-/// The bytes of the root file as a set of files.
-fn file_set(alloc: Global, bytes: Vec<u8>) -> Result<FileSet, AllocError>
-    ensures { IfOk result (λ files. files ≡ root_file bytes.items) }
+/// Sets the version in a project.
+fn edit_version(alloc: Global, project: &mut Project, id: &str, value: &str) -> Result<Edit, Stop>
+    ensures edited { IfOk result (IsEdited project.old (version_command id.now value.now) project.new) }
+    ensures refused { IfErr result (IsNotEdited project.old (version_command id.now value.now)) }
 {
-    let name = String::from_str(alloc, ROOT)?;
-    let mut files = FileSet::new(alloc);
-    match files.push(name, bytes) {
-        Ok(()) => Ok(files),
-        Err(_) => Err(AllocError),
+    let Ok(command) = version_command(alloc, id, value) else {
+        return Err(Stop::Store(StoreFault::OutOfMemory));
+    };
+    perform(alloc, project, &command)
+}
+
+/// Replaces the files of a project that differ from those before, and counts them.
+fn write_files<S: Store>(
+    alloc: Global,
+    store: &mut S,
+    folder: Option<&str>,
+    edit: &Edit,
+    after: &FileSet,
+) -> Result<Done, StoreFault>
+    requires same_files { map (λ f. f.name) edit.now.before ≡ map (λ f. f.name) after.now }
+    ensures done { IfOk result (λ done. (S.content store.new ≡ put_all (puts (option_map (λ f. f.now) folder.entry) edit.now.before after.now) (S.content store.old))
+        × (done ≡ Done.Edited (length (puts (option_map (λ f. f.now) folder.entry) edit.now.before after.now)) edit.now.splices)) }
+    ensures failed { IfErr result (CommitFails (puts (option_map (λ f. f.now) folder.entry) edit.now.before after.now)
+        (S.content store.old) (S.content store.new) (S.failures store.old) (S.failures store.new)) }
+    ensures counts { S.failures store.old ≤ S.failures store.new }
+{
+    match commit(alloc, store, folder, &edit.before, after) {
+        Ok(()) => Ok(Done::Edited {
+            files: count_differing(&edit.before, after),
+            splices: edit.splices,
+        }),
+        Err(fault) => Err(fault),
     }
 }
 
-/// Sets the version in the file of a store.
+/// Sets the version in the project of a store.
 fn set_version<S: Store>(
     alloc: Global,
     store: &mut S,
     command: SetVersion<'_>,
 ) -> Result<Done, Stop>
-    ensures ends { CommandEnds (file_name (option_map (λ f. f.now) command.entry.folder)) command.entry.id.now command.entry.value.now
-        (S.content store.old) (S.content store.new) result }
-    ensures device { Counted (S.failures store.old) (S.failures store.new) result }
+    ensures { CommandEnds (option_map (λ f. f.now) command.entry.folder) command.entry.id.now command.entry.value.now
+        (S.content store.old) (S.content store.new) (S.failures store.old) (S.failures store.new) result }
 {
-    let Ok(file) = file_name(alloc, command.folder) else {
-        return Err(Stop::Store(StoreFault::OutOfMemory));
-    };
-    let path = file.as_str();
-    let old = match read_file(alloc, store, path) {
-        Ok(old) => old,
+    let mut project = match read_project(alloc, store, command.folder) {
+        Ok(project) => project,
         Err(stop) => return Err(stop),
     };
-    let Ok(before) = file_set(alloc, old) else {
-        return Err(Stop::Store(StoreFault::OutOfMemory));
-    };
-    let after = match with_version(alloc, &before, command.id, command.value) {
-        Ok(after) => after,
+    let edit = match edit_version(alloc, &mut project, command.id, command.value) {
+        Ok(edit) => edit,
         Err(stop) => return Err(stop),
     };
-    if before.bytes(0) == after.bytes(0) {
-        return Ok(Done::Unchanged);
-    }
-    match commit(alloc, store, command.folder, &before, &after) {
-        Ok(()) => Ok(Done::Changed),
+    match write_files(alloc, store, command.folder, &edit, project.files()) {
+        Ok(done) => Ok(done),
         Err(fault) => Err(Stop::Store(fault)),
     }
 }
 
 /// Does what the words ask for.
 fn run<S: Store>(alloc: Global, store: &mut S, words: &[String]) -> Result<Done, Stop>
-    ensures ends { Ends (requested (map string_bytes words.now)) (S.content store.old) (S.content store.new) result }
-    ensures device { Counted (S.failures store.old) (S.failures store.new) result }
+    ensures ends { Ends (requested (map string_bytes words.now)) (S.content store.old) (S.content store.new)
+        (S.failures store.old) (S.failures store.new) result }
     ensures untouched { NeedsNoStore (requested (map string_bytes words.now)) → store.new ≡ store.old }
 {
     match asked_by(words) {
@@ -139,16 +205,17 @@ fn status(end: &Result<Done, Stop>) -> u8
     match end {
         Ok(_) => 0,
         Err(Stop::Usage) => 2,
-        Err(Stop::Parse(_)) => 1,
+        Err(Stop::Parse { .. }) => 1,
+        Err(Stop::TooManyFiles) => 1,
         Err(Stop::Refused(_)) => 1,
         Err(Stop::Store(fault)) => store_fault_status(fault),
     }
 }
 
-/// Runs the program on these words, of which the first is its name: reads and edits `meson.build` in the store, writes
-/// what it did on `out` and why it was stopped on `err`, and answers the exit status.
+/// Runs the program on these words, of which the first is its name: reads the build files of a project in the store and
+/// edits them, writes what it did on `out` and why it was stopped on `err`, and answers the exit status.
 ///
-/// The status is 0 where it was done, 1 where the file or the command is refused or memory ran out, 2 where the words
+/// The status is 0 where it was done, 1 where a file or the command is refused or memory ran out, 2 where the words
 /// ask for nothing, and 3 where the store or a writer failed.
 pub fn rewrite<S: Store, O: Write, E: Write>(
     alloc: Global,

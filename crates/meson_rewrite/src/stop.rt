@@ -1,6 +1,8 @@
 //! How a run of the program ends.
 
-use crate::{Refusal, StoreFault};
+use crate::StoreFault;
+use meson_plan::Refusal;
+use meson_splice::Text;
 use meson_syntax::ParseFault;
 use std::alloc::AllocError;
 use thiserror::Error;
@@ -10,10 +12,8 @@ use thiserror::Error;
 pub enum Done {
     /// It has help to show.
     Help,
-    /// It replaced the file.
-    Changed,
-    /// The file is already as asked.
-    Unchanged,
+    /// Its command is done. So many files differ, after so many splices.
+    Edited { files: usize, splices: usize },
 }
 
 /// Why a run was stopped.
@@ -22,9 +22,12 @@ pub enum Stop {
     /// The words ask for nothing that the program does.
     #[error("U1 usage")]
     Usage,
-    /// The file is no build file.
-    #[error("not a build file")]
-    Parse(ParseFault),
+    /// The file of this name is no build file.
+    #[error("{name}: {fault}")]
+    Parse { name: Text, fault: ParseFault },
+    /// The project has more files than it may have.
+    #[error("M1 too many files")]
+    TooManyFiles,
     /// The command is refused.
     #[error("{0}")]
     Refused(Refusal),

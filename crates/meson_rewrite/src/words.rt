@@ -1,10 +1,8 @@
 //! What the words of a command line ask for.
 
-ghost use Rattle.std.specs.Prelude.{◌≡◌, ◌++◌, codes, IfOk, map, option_map, string_bytes};
-ghost use Rattle.meson_rewrite.specs.Words.{is_value, requested, command, setting, file_name};
+ghost use Rattle.std.specs.Prelude.{◌≡◌, map, option_map, string_bytes};
+ghost use Rattle.meson_rewrite.specs.Words.{is_value, requested, command, setting};
 ghost use Rattle.meson_rewrite.specs.Asked.{request_of};
-
-use std::alloc::{AllocError, Global};
 
 /// What is asked for.
 pub(crate) enum Asked<'a> {
@@ -19,18 +17,6 @@ pub(crate) struct SetVersion<'a> {
     pub folder: Option<&'a str>,
     pub id: &'a str,
     pub value: &'a str,
-}
-
-/// The build file of a folder.
-pub(crate) fn file_name(alloc: Global, folder: Option<&str>) -> Result<String, AllocError>
-    ensures { IfOk result (λ name. string_bytes name ≡ file_name (option_map (λ f. f.now) folder.entry)) }
-{
-    let Some(folder) = folder else {
-        return Ok(String::from_str(alloc, "meson.build")?);
-    };
-    let mut name = String::from_str(alloc, folder)?;
-    name.push_str("/meson.build")?;
-    Ok(name)
 }
 
 /// A word that begins with a dash is no value.

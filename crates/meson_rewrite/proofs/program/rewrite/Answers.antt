@@ -2,4 +2,4 @@ use Rattle.meson_rewrite.proofs.Endings.{status_keeps}
 use Rattle.meson_rewrite.proofs.program.rewrite.Goals as goal
 
 pub returns-in-Ok-clause-kept : goal.returns-in-Ok-clause-kept
-returns-in-Ok-clause-kept g c = rw c.status.ensures (status_keeps _ _ _ c.run-end.result c.run-end.ensures.ends)
+returns-in-Ok-clause-kept g c = rw c.status.ensures (status_keeps _ _ _ _ _ c.run-end.result c.run-end.ensures.ends)

@@ -1,60 +1,47 @@
-use Rattle.std.proofs.Common.{◌∙◌, option_map}
-use Rattle.meson_rewrite.proofs.Endings.{Steps, leaves_file, replaces_file, fails_to_replace, failure_counted, stops_at_path}
+use Rattle.std.proofs.Common.{option_map, subst}
+use Rattle.meson_plan.specs.Loading.{IsProject}
+use Rattle.meson_rewrite.specs.Runs.{Edits, version_command}
+use Rattle.meson_rewrite.proofs.Endings.{replaced, not_written}
+use Rattle.meson_rewrite.proofs.SameNames.{edit_names}
 use Rattle.meson_rewrite.proofs.program.set_version.Goals as goal
 
-pub returns-in-Err-clause-ends : goal.returns-in-Err-clause-ends
-returns-in-Err-clause-ends g c =
-    stops_at_path _ _ _ _ _ _ c.in-Err.stop (c.as_str-path.ensures.value ∙ c.in-Ok.ensures) (c.in-Err.ensures.stopped c.args.command.id.now c.args.command.value.now)
+pub write_files-requires : goal.write_files-requires
+write_files-requires g c =
+    let e = c.in-Ok-edit_version.ensures.edited in
+    record {
+      same_files = edit_names c.in-Ok.project (version_command c.args.command.id.now c.args.command.value.now) e.done c.edit_version.new.project c.in-Ok-edit_version.edit.before c.files.result.now e.performs e.before c.files.ensures;
+    }
 
-pub returns-then-eq-clause-ends : goal.returns-then-eq-clause-ends
-returns-then-eq-clause-ends g c =
-    let steps : Steps (option_map (λ f. f.now) c.args.command.folder) c.as_str-path.result.now c.args.command.id.now c.args.command.value.now c.in-Ok-read_file.old.items c.in-Ok-file_set.before c.in-Ok-with_version.after
-    (g.S.Store.content c.args.store.now) (g.S.Store.content c.read_file.new.store) = record {
-      path_is = c.as_str-path.ensures.value ∙ c.in-Ok.ensures;
-      kept = c.in-Ok-read_file.ensures.kept;
-      read = c.in-Ok-read_file.ensures.read;
-      is_before = c.in-Ok-file_set.ensures;
-      is_after = c.in-Ok-with_version.ensures.files;
-      edits = c.in-Ok-with_version.ensures.done;
+pub returns-in-Ok-write_files : goal.returns-in-Ok-write_files
+returns-in-Ok-write_files g c =
+    let folder = option_map (λ f. f.now) c.args.command.folder in
+    let held = g.S.Store.content c.args.store.now in
+    let e = c.in-Ok-edit_version.ensures.edited in
+    let edits : Edits held folder c.args.command.id.now c.args.command.value.now = record {
+      old = c.in-Ok.project;
+      is_read = c.in-Ok.ensures.read;
+      new = c.edit_version.new.project;
+      is_project = subst IsProject c.project.view_is c.project.invariant;
+      done = e.done;
+      performs = e.performs;
     } in
-    leaves_file steps c.eq.result c.bytes.result.now c.bytes-2.result.now c.eq.ensures c.bytes.ensures c.bytes-2.ensures c.if-eq.true
+    replaced folder c.args.command.id.now c.args.command.value.now held (g.S.Store.content c.write_files.new.store) (g.S.Store.failures c.args.store.now) (g.S.Store.failures c.write_files.new.store) edits
+    c.in-Ok-edit_version.edit.before c.files.result.now (g.S.Store.content c.read_project.new.store) e.before c.files.ensures c.in-Ok.ensures.kept
+    c.in-Ok-edit_version.edit.splices c.in-Ok-write_files.done e.splices c.in-Ok-write_files.ensures.done
 
-pub returns-in-Ok-commit-clause-ends : goal.returns-in-Ok-commit-clause-ends
-returns-in-Ok-commit-clause-ends g c =
-    let steps : Steps (option_map (λ f. f.now) c.args.command.folder) c.as_str-path.result.now c.args.command.id.now c.args.command.value.now c.in-Ok-read_file.old.items c.in-Ok-file_set.before c.in-Ok-with_version.after
-    (g.S.Store.content c.args.store.now) (g.S.Store.content c.read_file.new.store) = record {
-      path_is = c.as_str-path.ensures.value ∙ c.in-Ok.ensures;
-      kept = c.in-Ok-read_file.ensures.kept;
-      read = c.in-Ok-read_file.ensures.read;
-      is_before = c.in-Ok-file_set.ensures;
-      is_after = c.in-Ok-with_version.ensures.files;
-      edits = c.in-Ok-with_version.ensures.done;
+pub returns : goal.returns
+returns g c =
+    let folder = option_map (λ f. f.now) c.args.command.folder in
+    let held = g.S.Store.content c.args.store.now in
+    let e = c.in-Ok-edit_version.ensures.edited in
+    let edits : Edits held folder c.args.command.id.now c.args.command.value.now = record {
+      old = c.in-Ok.project;
+      is_read = c.in-Ok.ensures.read;
+      new = c.edit_version.new.project;
+      is_project = subst IsProject c.project.view_is c.project.invariant;
+      done = e.done;
+      performs = e.performs;
     } in
-    replaces_file steps c.eq.result c.bytes.result.now c.bytes-2.result.now c.eq.ensures c.bytes.ensures c.bytes-2.ensures (g.S.Store.content c.commit.new.store) c.if-eq.false c.in-Ok-commit.ensures.done
-
-pub returns-clause-ends : goal.returns-clause-ends
-returns-clause-ends g c =
-    let steps : Steps (option_map (λ f. f.now) c.args.command.folder) c.as_str-path.result.now c.args.command.id.now c.args.command.value.now c.in-Ok-read_file.old.items c.in-Ok-file_set.before c.in-Ok-with_version.after
-    (g.S.Store.content c.args.store.now) (g.S.Store.content c.read_file.new.store) = record {
-      path_is = c.as_str-path.ensures.value ∙ c.in-Ok.ensures;
-      kept = c.in-Ok-read_file.ensures.kept;
-      read = c.in-Ok-read_file.ensures.read;
-      is_before = c.in-Ok-file_set.ensures;
-      is_after = c.in-Ok-with_version.ensures.files;
-      edits = c.in-Ok-with_version.ensures.done;
-    } in
-    fails_to_replace steps c.eq.result c.bytes.result.now c.bytes-2.result.now c.eq.ensures c.bytes.ensures c.bytes-2.ensures (g.S.Store.content c.commit.new.store) (g.S.Store.failures c.read_file.new.store) (g.S.Store.failures c.commit.new.store) c.in-Err-commit.fault c.if-eq.false c.in-Err-commit.ensures.failed
-
-pub returns-clause-device : goal.returns-clause-device
-returns-clause-device g c =
-    let steps : Steps (option_map (λ f. f.now) c.args.command.folder) c.as_str-path.result.now c.args.command.id.now c.args.command.value.now c.in-Ok-read_file.old.items c.in-Ok-file_set.before c.in-Ok-with_version.after
-    (g.S.Store.content c.args.store.now) (g.S.Store.content c.read_file.new.store) = record {
-      path_is = c.as_str-path.ensures.value ∙ c.in-Ok.ensures;
-      kept = c.in-Ok-read_file.ensures.kept;
-      read = c.in-Ok-read_file.ensures.read;
-      is_before = c.in-Ok-file_set.ensures;
-      is_after = c.in-Ok-with_version.ensures.files;
-      edits = c.in-Ok-with_version.ensures.done;
-    } in
-    failure_counted steps c.eq.result c.bytes.result.now c.bytes-2.result.now c.eq.ensures c.bytes.ensures c.bytes-2.ensures (g.S.Store.content c.commit.new.store) (g.S.Store.failures c.args.store.now) (g.S.Store.failures c.read_file.new.store) (g.S.Store.failures c.commit.new.store) c.in-Err-commit.fault
-    c.read_file.ensures.counts c.commit.ensures.counts c.if-eq.false c.in-Err-commit.ensures.failed
+    not_written folder c.args.command.id.now c.args.command.value.now held (g.S.Store.content c.write_files.new.store) (g.S.Store.failures c.args.store.now) (g.S.Store.failures c.write_files.new.store) edits
+    c.in-Ok-edit_version.edit.before c.files.result.now (g.S.Store.content c.read_project.new.store) e.before c.files.ensures c.in-Ok.ensures.kept
+    (g.S.Store.failures c.read_project.new.store) c.in-Err-write_files.fault c.read_project.ensures.counts c.write_files.ensures.counts c.in-Err-write_files.ensures.failed

@@ -1,0 +1,19 @@
+use Rattle.std.proofs.Common.{◌≡◌, ◌≤◌, ◌-◌, length, take, drop, option_map}
+use Rattle.std.specs.Prelude.{All}
+use Rattle.meson_plan.specs.Loading.{max_files, HasFileName, HasTree}
+use Rattle.meson_rewrite.specs.Gathering.{Told, Ending, Gathers, Collects}
+use Rattle.meson_rewrite.proofs.gathering.gather.Given as goal
+
+-- however the files end that are left, the project's files end so
+abbrev pub invariant-looking : goal.invariant-looking
+invariant-looking g l = record {
+  kept : g.S.Store.content l.store ≡ g.S.Store.content l.fn.store;
+  counts : g.S.Store.failures l.fn.store ≤ g.S.Store.failures l.store;
+  few : length l.files ≤ max_files;
+  named : All HasFileName l.files;
+  trees : All HasTree (take l.looked l.files);
+  ends : Told (g.S.Store.content l.fn.store) (λ content. (end : Ending) → Gathers content (option_map (λ f. f.now) l.folder) (take l.looked l.files) (drop l.looked l.files) end → Collects content (option_map (λ f. f.now) l.folder) end);
+}
+
+abbrev pub decreases-looking : goal.decreases-looking
+decreases-looking g l = max_files - l.looked

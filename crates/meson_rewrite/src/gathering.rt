@@ -1,0 +1,225 @@
+//! Reading the files of a project from a store.
+
+ghost use Rattle.std.specs.Prelude.{◌≡◌, ◌≤◌, ◌<◌, ◌∷◌, [], ℕ, List, Some, None, Option, All, IfOk, IfErr, OnOk, length, map, option_map, string_bytes, take, drop};
+ghost use Rattle.meson_splice.specs.Files.{bytes_at};
+ghost use Rattle.meson_plan.specs.Directories.{IsFileName, build_file};
+ghost use Rattle.meson_plan.specs.Loading.{HasFileName, HasTree, max_files, name_at};
+ghost use Rattle.meson_plan.specs.Subdirs.{Enters};
+ghost use Rattle.meson_rewrite.specs.Gathering.{Collects, Finds, Gathers, Told, entered, file_of, held, whole, with_more};
+ghost use Rattle.meson_rewrite.specs.Gathered.{Grows, IsLoadable, IsNotAdded, IsNotEntered, IsUnread, LooksAt, StopsAt, StopsLooking};
+
+use crate::committing::path_in;
+use crate::stop::Stop;
+use crate::{Store, StoreError, StoreFault};
+use meson_plan::{MAX_FILES, subdirs};
+use meson_splice::{FileSet, Text};
+use meson_syntax::ParseFault;
+use std::alloc::{AllocError, Global};
+
+/// The root build file's name.
+const ROOT: &str = "meson.build";
+
+/// A copy of a file's name.
+fn text_of(alloc: Global, name: &str) -> Result<Text, AllocError>
+    ensures { IfOk result (λ text. text ≡ name.now) }
+{
+    let name = String::from_str(alloc, name)?;
+    Ok(Text::of(name))
+}
+
+/// The bytes of a file of the project, or none where the store has no such file.
+fn read_file<S: Store>(
+    alloc: Global,
+    store: &mut S,
+    folder: Option<&str>,
+    name: &str,
+) -> Result<Option<Vec<u8>>, StoreFault>
+    ensures read { IfOk result (λ bytes. Told (S.content store.old)
+        (λ content. option_map (λ b. b.items) bytes ≡ held content (option_map (λ f. f.now) folder.entry) name.now)) }
+    ensures failed { IfErr result (IsUnread (S.failures store.old) (S.failures store.new) name.now) }
+    ensures kept { S.content store.new ≡ S.content store.old }
+    ensures counts { S.failures store.old ≤ S.failures store.new }
+{
+    let Ok(told) = text_of(alloc, name) else {
+        return Err(StoreFault::OutOfMemory);
+    };
+    let Ok(path) = path_in(alloc, folder, name) else {
+        return Err(StoreFault::OutOfMemory);
+    };
+    match store.read(alloc, path.as_str()) {
+        Ok(bytes) => Ok(bytes),
+        Err(StoreError::Device) => Err(StoreFault::ReadFailed(told)),
+        Err(StoreError::OutOfMemory) => Err(StoreFault::OutOfMemory),
+    }
+}
+
+/// Puts a file behind the others, of which none has its name.
+fn add(alloc: Global, files: &mut FileSet, name: &str, bytes: Vec<u8>) -> Result<(), Stop>
+    requires named { IsFileName name.now }
+    requires few { length files.old ≤ max_files }
+    ensures added { OnOk result (with_more files.old (file_of name.now bytes.items) ≡ Some files.new) }
+    ensures grows { OnOk result (Grows files.old files.new) }
+    ensures stopped { IfErr result (IsNotAdded files.old (file_of name.now bytes.items)) }
+{
+    if files.len() >= MAX_FILES {
+        return Err(Stop::TooManyFiles);
+    }
+    let Ok(name) = String::from_str(alloc, name) else {
+        return Err(Stop::Store(StoreFault::OutOfMemory));
+    };
+    match files.push(name, bytes) {
+        Ok(()) => Ok(()),
+        Err(_) => Err(Stop::Store(StoreFault::OutOfMemory)),
+    }
+}
+
+/// Reads the file of a name that is entered, where it is not there yet and the store has it.
+fn enter<S: Store>(
+    alloc: Global,
+    store: &mut S,
+    folder: Option<&str>,
+    files: &mut FileSet,
+    name: &str,
+) -> Result<(), Stop>
+    requires named { IsFileName name.now }
+    requires few { length files.old ≤ max_files }
+    ensures entered { OnOk result (Told (S.content store.old)
+        (λ content. entered content (option_map (λ f. f.now) folder.entry) (name.now ∷ []) files.old ≡ Some files.new)) }
+    ensures grows { OnOk result (Grows files.old files.new) }
+    ensures stopped { IfErr result (StopsAt (S.failures store.old) (S.failures store.new)
+        (λ end. Told (S.content store.old) (λ content. IsNotEntered content (option_map (λ f. f.now) folder.entry) (name.now ∷ []) files.old end))) }
+    ensures kept { S.content store.new ≡ S.content store.old }
+    ensures counts { S.failures store.old ≤ S.failures store.new }
+{
+    if files.find(name).is_some() {
+        return Ok(());
+    }
+    match read_file(alloc, store, folder, name) {
+        Ok(Some(bytes)) => add(alloc, files, name, bytes),
+        Ok(None) => Ok(()),
+        Err(fault) => Err(Stop::Store(fault)),
+    }
+}
+
+/// Reads the files of names that are entered, in order.
+fn enter_all<S: Store>(
+    alloc: Global,
+    store: &mut S,
+    folder: Option<&str>,
+    files: &mut FileSet,
+    names: &[String],
+) -> Result<(), Stop>
+    requires named { All IsFileName (map string_bytes names.now) }
+    requires few { length files.old ≤ max_files }
+    ensures entered { OnOk result (Told (S.content store.old)
+        (λ content. entered content (option_map (λ f. f.now) folder.entry) (map string_bytes names.now) files.old ≡ Some files.new)) }
+    ensures grows { OnOk result (Grows files.old files.new) }
+    ensures stopped { IfErr result (StopsAt (S.failures store.old) (S.failures store.new)
+        (λ end. Told (S.content store.old) (λ content. IsNotEntered content (option_map (λ f. f.now) folder.entry) (map string_bytes names.now) files.old end))) }
+    ensures kept { S.content store.new ≡ S.content store.old }
+    ensures counts { S.failures store.old ≤ S.failures store.new }
+{
+    for i in 0..names.len() {
+        match enter(alloc, store, folder, files, names[i].as_str()) {
+            Ok(()) => {}
+            Err(stop) => return Err(stop),
+        }
+    }
+    Ok(())
+}
+
+/// The names that a file enters.
+fn names_in(alloc: Global, files: &FileSet, place: usize) -> Result<Vec<String>, Stop>
+    requires within { place < length files.now }
+    requires named { All HasFileName files.now }
+    ensures names { IfOk result (λ names. Enters (name_at place files.now) (bytes_at place files.now) (map string_bytes names.items)) }
+    ensures named { IfOk result (λ names. All IsFileName (map string_bytes names.items)) }
+    ensures stopped { IfErr result (StopsLooking (name_at place files.now) (bytes_at place files.now)) }
+{
+    let name = files.name(place);
+    match subdirs(alloc, name, files.bytes(place)) {
+        Ok(names) => Ok(names),
+        Err(ParseFault::OutOfMemory) => Err(Stop::Store(StoreFault::OutOfMemory)),
+        Err(fault) => match text_of(alloc, name) {
+            Ok(name) => Err(Stop::Parse { name, fault }),
+            Err(_) => Err(Stop::Store(StoreFault::OutOfMemory)),
+        },
+    }
+}
+
+/// Reads the files that one of the files enters.
+fn look<S: Store>(
+    alloc: Global,
+    store: &mut S,
+    folder: Option<&str>,
+    files: &mut FileSet,
+    place: usize,
+) -> Result<(), Stop>
+    requires within { place < length files.old }
+    requires named { All HasFileName files.old }
+    requires few { length files.old ≤ max_files }
+    ensures looked { OnOk result (Told (S.content store.old)
+        (λ content. LooksAt content (option_map (λ f. f.now) folder.entry) place files.old files.new)) }
+    ensures has_tree { OnOk result (HasTree (file_of (name_at place files.old) (bytes_at place files.old))) }
+    ensures grows { OnOk result (Grows files.old files.new) }
+    ensures stopped { IfErr result (StopsAt (S.failures store.old) (S.failures store.new)
+        (λ end. Told (S.content store.old) (λ content. Gathers content (option_map (λ f. f.now) folder.entry) (take place files.old) (drop place files.old) end))) }
+    ensures kept { S.content store.new ≡ S.content store.old }
+    ensures counts { S.failures store.old ≤ S.failures store.new }
+{
+    match names_in(alloc, files, place) {
+        Ok(names) => enter_all(alloc, store, folder, files, names.as_slice()),
+        Err(stop) => Err(stop),
+    }
+}
+
+/// The root file alone.
+fn root_set<S: Store>(alloc: Global, store: &mut S, folder: Option<&str>) -> Result<FileSet, Stop>
+    ensures root { IfOk result (λ files. (bytes : List ℕ) × (files ≡ file_of build_file bytes ∷ [])
+        × Told (S.content store.old) (λ content. held content (option_map (λ f. f.now) folder.entry) build_file ≡ Some bytes)) }
+    ensures stopped { IfErr result (StopsAt (S.failures store.old) (S.failures store.new) (Finds (S.content store.old) (option_map (λ f. f.now) folder.entry))) }
+    ensures kept { S.content store.new ≡ S.content store.old }
+    ensures counts { S.failures store.old ≤ S.failures store.new }
+{
+    let Ok(name) = text_of(alloc, ROOT) else {
+        return Err(Stop::Store(StoreFault::OutOfMemory));
+    };
+    let bytes = match read_file(alloc, store, folder, ROOT) {
+        Ok(Some(bytes)) => bytes,
+        Ok(None) => return Err(Stop::Store(StoreFault::NoFile(name))),
+        Err(fault) => return Err(Stop::Store(fault)),
+    };
+    let mut files = FileSet::new(alloc);
+    match files.push(name.take(), bytes) {
+        Ok(()) => Ok(files),
+        Err(_) => Err(Stop::Store(StoreFault::OutOfMemory)),
+    }
+}
+
+/// Reads the files of the project in this folder: the root file, and then for each file in order those that it enters.
+/// A file that is entered need not be there.
+pub(crate) fn gather<S: Store>(
+    alloc: Global,
+    store: &mut S,
+    folder: Option<&str>,
+) -> Result<FileSet, Stop>
+    ensures files { IfOk result (λ files. Finds (S.content store.old) (option_map (λ f. f.now) folder.entry) (whole files)) }
+    ensures loadable { IfOk result IsLoadable }
+    ensures stopped { IfErr result (StopsAt (S.failures store.old) (S.failures store.new) (Finds (S.content store.old) (option_map (λ f. f.now) folder.entry))) }
+    ensures kept { S.content store.new ≡ S.content store.old }
+    ensures counts { S.failures store.old ≤ S.failures store.new }
+{
+    let mut files = match root_set(alloc, store, folder) {
+        Ok(files) => files,
+        Err(stop) => return Err(stop),
+    };
+    let mut looked = 0;
+    'looking: while looked < files.len() {
+        match look(alloc, store, folder, &mut files, looked) {
+            Ok(()) => {}
+            Err(stop) => return Err(stop),
+        }
+        looked += 1;
+    }
+    Ok(files)
+}
