@@ -1,9 +1,11 @@
-//! Measures the layers on a file: a plain scan of its bytes, its items, and its tree.
+//! Measures the layers: a plain scan of a file's bytes, its items and its tree; and the loading of a project of as many files as may be.
 #![tactic(auto)]
 
 use meson_lex::items;
+use meson_plan::{MAX_FILES, Project};
+use meson_splice::FileSet;
 use meson_syntax::parse;
-use std::alloc::Global;
+use std::alloc::{AllocError, Global};
 use std::io::Write;
 use std::time::{Clock, Duration, Instant};
 use std::{env, fs, io};
@@ -77,11 +79,42 @@ fn least(
     Ok((least, counted))
 }
 
+/// As many files as a project may have, each with these bytes.
+fn many_files(alloc: Global, source: &[u8]) -> Result<FileSet, AllocError> {
+    let mut files = FileSet::new(alloc);
+    for i in 0..MAX_FILES {
+        let name = if i == 0 {
+            String::from_str(alloc, "meson.build")?
+        } else {
+            format!(in alloc; "part_{i}/meson.build")?
+        };
+        let bytes = Vec::from_slice(alloc, source)?;
+        if files.push(name, bytes).is_err() {
+            return Err(AllocError);
+        }
+    }
+    Ok(files)
+}
+
+/// Loads such a project, and says how long that took.
+fn measure_loading(rt: &HostRuntime, source: &[u8]) -> io::Result<()> {
+    let alloc = rt.alloc();
+    let files = many_files(alloc, source)?;
+    let start = Instant::now(rt)?;
+    let loaded = Project::load(alloc, files).is_ok();
+    let time = start.elapsed(rt)?;
+    println!(rt;
+        "project of {MAX_FILES} files of {} bytes: {} us, loaded: {loaded}",
+        source.len(),
+        time.as_micros()
+    )
+}
+
 fn main(rt: HostRuntime) -> io::Result<()> {
     let alloc = rt.alloc();
     let words: Vec<String> = env::args(&rt)?.collect(alloc)?;
     let Some(name) = words.get(1) else {
-        return println!(rt; "usage: meson_bench FILE");
+        return println!(rt; "usage: meson_bench FILE [FILE OF A PROJECT]");
     };
     let source = fs::read(&rt, name.as_str())?;
     for layer in [Layer::Scan, Layer::Items, Layer::Tree] {
@@ -92,6 +125,10 @@ fn main(rt: HostRuntime) -> io::Result<()> {
             time.as_micros(),
             counted
         )?;
+    }
+    if let Some(name) = words.get(2) {
+        let source = fs::read(&rt, name.as_str())?;
+        measure_loading(&rt, source.as_slice())?;
     }
     Ok(())
 }

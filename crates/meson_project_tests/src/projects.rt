@@ -1,5 +1,7 @@
 //! Projects of several files: what is loaded, which files are entered, and which calls are found, each public call with ample memory.
 
+use crate::plain::{nodes, trees_of};
+use crate::plain_calls::{are_same, folders, found, with_role};
 use meson_plan::{CallRef, LoadFault, MAX_FILES, Project, Role, subdirs};
 use meson_splice::FileSet;
 use meson_syntax::{Many, ParseFault, Path};
@@ -144,6 +146,20 @@ fn files_and_a_copy_of_them(rt: HostRuntime) {
     assert!(rt; are_at(calls.as_slice(), &[(0, &[0, 0]), (1, &[0, 0])]));
 }
 
+/// The plain slow program finds the folders of these files.
+fn assert_folders(rt: &impl Abort, alloc: Global, text: &[u8], names: &[String]) {
+    let files = files_of(rt, alloc, &[("meson.build", text)]);
+    let trees = trees_of(alloc, &files).expect(rt, "trees");
+    let nodes = nodes(alloc, &files, trees.as_slice()).expect(rt, "nodes");
+    let folders = folders(alloc, nodes.as_slice()).expect(rt, "memory");
+    assert_eq!(rt; folders.len(), names.len());
+    for (folder, name) in folders.iter().zip(names) {
+        let is_below = name.as_bytes().starts_with(folder.as_slice());
+        assert!(rt; is_below);
+        assert_eq!(rt; folder.len() + "/meson.build".len(), name.len());
+    }
+}
+
 #[test]
 fn files_that_are_entered(rt: HostRuntime) {
     let alloc = rt.alloc();
@@ -155,6 +171,7 @@ fn files_that_are_entered(rt: HostRuntime) {
     for i in 0..top.len().min(3) {
         assert_eq!(rt; top[i].as_str(), expected[i]);
     }
+    assert_folders(&rt, alloc, text, top.as_slice());
     let below = subdirs(alloc, "s/t/meson.build", b"subdir('a')\n").expect(&rt, "memory");
     assert_eq!(rt; below.len(), 1);
     for name in below.as_slice() {
@@ -176,6 +193,24 @@ const TARGETS: [Row<'static>; 2] = [
     ),
 ];
 
+/// The plain slow program finds the same targets.
+fn assert_targets(rt: &impl Abort, alloc: Global, project: &Project) {
+    let trees = trees_of(alloc, project.files()).expect(rt, "trees");
+    let nodes = nodes(alloc, project.files(), trees.as_slice()).expect(rt, "nodes");
+    let places = with_role(alloc, Role::Target, nodes.as_slice()).expect(rt, "memory");
+    let calls = project.targets(alloc).expect(rt, "memory");
+    assert!(rt; are_same(calls.as_slice(), places.as_slice()));
+}
+
+/// The plain slow program finds the same calls by the id.
+fn assert_found(rt: &impl Abort, alloc: Global, project: &Project, role: Role, id: &str) {
+    let trees = trees_of(alloc, project.files()).expect(rt, "trees");
+    let nodes = nodes(alloc, project.files(), trees.as_slice()).expect(rt, "nodes");
+    let places = found(alloc, role, id, nodes.as_slice()).expect(rt, "memory");
+    let calls = project.find(alloc, role, id).expect(rt, "memory");
+    assert!(rt; are_same(calls.as_slice(), places.as_slice()), "{id}");
+}
+
 #[test]
 fn targets_in_order(rt: HostRuntime) {
     let alloc = rt.alloc();
@@ -193,6 +228,7 @@ fn targets_in_order(rt: HostRuntime) {
     for call in calls.as_slice() {
         assert!(rt; project.is_target(call));
     }
+    assert_targets(&rt, alloc, &project);
 }
 
 #[test]
@@ -238,6 +274,7 @@ fn calls_that_an_id_names(rt: HostRuntime) {
     for (role, id, places) in rows {
         let calls = project.find(alloc, role, id).expect(&rt, "memory");
         assert!(rt; are_at(calls.as_slice(), places), "{id}");
+        assert_found(&rt, alloc, &project, role, id);
     }
 }
 
@@ -253,4 +290,6 @@ fn a_name_goes_before_a_variable(rt: HostRuntime) {
     assert!(rt; are_at(by_name.as_slice(), &[(0, &[1, 0])]));
     let other = project.find(alloc, Role::Target, "c").expect(&rt, "memory");
     assert!(rt; are_at(other.as_slice(), &[(0, &[2, 0])]));
+    assert_found(&rt, alloc, &project, Role::Target, "b");
+    assert_found(&rt, alloc, &project, Role::Target, "c");
 }

@@ -1,9 +1,11 @@
 //! Edits of one file, each with the splices and the bytes that are expected.
 
 use crate::readiness::is_ready;
+use crate::shapes::shape_of;
 use meson_layout::{Primitive, layout};
 use meson_lex::Span;
 use meson_splice::{Bytes, Change, FileSet, Many, Splice, Text, apply_all};
+use meson_syntax::parse;
 use std::alloc::Global;
 use std::process::Abort;
 
@@ -92,7 +94,7 @@ fn with_returns(rt: &impl Abort, alloc: Global, text: &str) -> String {
     text.replace(alloc, "\n", "\r\n").expect(rt, "memory")
 }
 
-/// A source, what is done at which part, what is new there, the source after it, and the splices: offset, old and new bytes.
+/// A source, what is done at which part, what is new there, the source after it, the splices (offset, old and new bytes), and the edited tree as nested lists.
 pub(crate) type Row = (
     &'static str,
     Edit,
@@ -100,6 +102,7 @@ pub(crate) type Row = (
     &'static str,
     &'static str,
     &'static [(usize, &'static str, &'static str)],
+    &'static str,
 );
 
 /// The splices are these: offset, old and new bytes.
@@ -113,15 +116,24 @@ fn assert_splices(rt: &impl Abort, found: &[Splice], expected: &[(usize, &str, &
     }
 }
 
-/// The row's splices and bytes, and the same bytes where all lines end in CR LF.
+/// The text reads as this tree.
+fn assert_tree(rt: &impl Abort, alloc: Global, text: &str, tree: &str) {
+    let file = parse(alloc, text.as_bytes()).expect(rt, "a build file");
+    let shape = shape_of(alloc, text.as_bytes(), &file).expect(rt, "memory");
+    assert_eq!(rt; shape.as_slice(), tree.as_bytes(), "{text:?}");
+}
+
+/// The row's splices and bytes, which read as the edited tree, and the same where all lines end in CR LF.
 pub(crate) fn assert_row(rt: &impl Abort, alloc: Global, row: Row) {
-    let (source, edit, part, new, after, expected) = row;
+    let (source, edit, part, new, after, expected, tree) = row;
     let found = splices(rt, alloc, source, edit, part, new);
     assert_splices(rt, found.as_slice(), expected);
     assert_after(rt, alloc, source, found, after);
+    assert_tree(rt, alloc, after, tree);
     let source = with_returns(rt, alloc, source);
     let part = with_returns(rt, alloc, part);
     let after = with_returns(rt, alloc, after);
     let found = splices(rt, alloc, source.as_str(), edit, part.as_str(), new);
     assert_after(rt, alloc, source.as_str(), found, after.as_str());
+    assert_tree(rt, alloc, after.as_str(), tree);
 }

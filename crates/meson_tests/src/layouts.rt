@@ -13,6 +13,7 @@ fn first_elements(rt: HostRuntime) {
             "'a.c'",
             "x = ['a.c']\n",
             &[(5, "", "'a.c'")],
+            "(= x [ 'a.c'])",
         ),
         (
             "x = [ # none\n]\n",
@@ -21,6 +22,7 @@ fn first_elements(rt: HostRuntime) {
             "'a.c'",
             "x = ['a.c' # none\n]\n",
             &[(5, "", "'a.c'")],
+            "(= x [ 'a.c'])",
         ),
         (
             "f()\n",
@@ -29,6 +31,7 @@ fn first_elements(rt: HostRuntime) {
             "k: true",
             "f(k: true)\n",
             &[(2, "", "k: true")],
+            "(f k: true)",
         ),
     ];
     for row in rows {
@@ -47,6 +50,7 @@ fn stacked_insertions(rt: HostRuntime) {
             "'b.c'",
             "src = [\n  'a.c',\n  'b.c',\n]\n",
             &[(16, "", "\n  'b.c',")],
+            "(= src [ 'a.c' 'b.c',])",
         ),
         (
             "src = [\n  'a.c' , # one\n]\n",
@@ -55,6 +59,7 @@ fn stacked_insertions(rt: HostRuntime) {
             "'b.c'",
             "src = [\n  'a.c' , # one\n  'b.c',\n]\n",
             &[(23, "", "\n  'b.c',")],
+            "(= src [ 'a.c' 'b.c',])",
         ),
         // no comma follows
         (
@@ -64,6 +69,7 @@ fn stacked_insertions(rt: HostRuntime) {
             "'c.c'",
             "src = [\n  'a.c', # one\n  'b.c', # two\n  'c.c'\n]\n",
             &[(30, "", ","), (37, "", "\n  'c.c'")],
+            "(= src [ 'a.c' 'b.c' 'c.c'])",
         ),
         (
             "src = [\n\t'a.c'\n]\n",
@@ -72,6 +78,7 @@ fn stacked_insertions(rt: HostRuntime) {
             "'b.c'",
             "src = [\n\t'a.c',\n\t'b.c'\n]\n",
             &[(14, "", ",\n\t'b.c'")],
+            "(= src [ 'a.c' 'b.c'])",
         ),
         // the closing bracket follows
         (
@@ -81,6 +88,7 @@ fn stacked_insertions(rt: HostRuntime) {
             "'c.c'",
             "executable('e',\n  'a.c',\n  'b.c',\n  'c.c')\n",
             &[(32, "", ",\n  'c.c'")],
+            "(executable 'e' 'a.c' 'b.c' 'c.c')",
         ),
         (
             "x = [\n'a.c' ]\n",
@@ -89,6 +97,7 @@ fn stacked_insertions(rt: HostRuntime) {
             "'b.c'",
             "x = [\n'a.c',\n'b.c' ]\n",
             &[(11, "", ",\n'b.c'")],
+            "(= x [ 'a.c' 'b.c'])",
         ),
         // a continuation ends no line
         (
@@ -98,6 +107,7 @@ fn stacked_insertions(rt: HostRuntime) {
             "'b.c'",
             "x = [\n  'a.c', 'b.c' \\\n]\n",
             &[(13, "", ", 'b.c'")],
+            "(= x [ 'a.c' 'b.c'])",
         ),
     ];
     for row in rows {
@@ -115,6 +125,7 @@ fn plain_insertions(rt: HostRuntime) {
             "'n.c'",
             "E(src, 'n.c')\n",
             &[(5, "", ", 'n.c'")],
+            "(E src 'n.c')",
         ),
         (
             "x = [\n'a.c', 'c.c',\n# about b\n       'b.c', 'd.c'\n]\n",
@@ -123,6 +134,7 @@ fn plain_insertions(rt: HostRuntime) {
             "'e.c'",
             "x = [\n'a.c', 'c.c',\n# about b\n       'b.c', 'd.c', 'e.c'\n]\n",
             &[(49, "", ", 'e.c'")],
+            "(= x [ 'a.c' 'c.c' 'b.c' 'd.c' 'e.c'])",
         ),
         (
             "x = [\n  'a.c', 'b.c', # both\n]\n",
@@ -131,6 +143,7 @@ fn plain_insertions(rt: HostRuntime) {
             "'n.c'",
             "x = [\n  'a.c', 'n.c', 'b.c', # both\n]\n",
             &[(13, "", ", 'n.c'")],
+            "(= x [ 'a.c' 'n.c' 'b.c',])",
         ),
     ];
     for row in rows {
@@ -149,6 +162,7 @@ fn removals(rt: HostRuntime) {
             "",
             "E([])\n",
             &[(3, "'a.c',", "")],
+            "(E [])",
         ),
         (
             "E(['a.c' , 'b.c'])\n",
@@ -157,6 +171,7 @@ fn removals(rt: HostRuntime) {
             "",
             "E(['b.c'])\n",
             &[(3, "'a.c' , ", "")],
+            "(E [ 'b.c'])",
         ),
         (
             "executable('e', 'a.c' \\\n, 'b.c')\n",
@@ -165,6 +180,7 @@ fn removals(rt: HostRuntime) {
             "",
             "executable('e',  \\\n'b.c')\n",
             &[(16, "'a.c'", ""), (19, ", ", "")],
+            "(executable 'e' 'b.c')",
         ),
         // a comma before, with white space or more between
         (
@@ -174,6 +190,7 @@ fn removals(rt: HostRuntime) {
             "",
             "x = ['a.c']\n",
             &[(10, ",\n  'b.c'", "")],
+            "(= x [ 'a.c'])",
         ),
         (
             "E(['a.c', # one\n 'b.c'])\n",
@@ -182,6 +199,7 @@ fn removals(rt: HostRuntime) {
             "",
             "E(['a.c' # one\n ])\n",
             &[(8, ",", ""), (16, "'b.c'", "")],
+            "(E [ 'a.c'])",
         ),
         // no comma
         (
@@ -191,6 +209,7 @@ fn removals(rt: HostRuntime) {
             "",
             "x = []\n",
             &[(5, "'a.c'", "")],
+            "(= x [])",
         ),
         // whole lines
         (
@@ -200,6 +219,7 @@ fn removals(rt: HostRuntime) {
             "",
             "executable('e',\n  'b.c')\n",
             &[(16, "  'a.c',\n", "")],
+            "(executable 'e' 'b.c')",
         ),
         (
             "x = [\n  'a.c', # one\n  'b.c'\n]\n",
@@ -208,6 +228,7 @@ fn removals(rt: HostRuntime) {
             "",
             "x = [\n  'a.c' # one\n]\n",
             &[(13, ",", ""), (20, "  'b.c'\n", "")],
+            "(= x [ 'a.c'])",
         ),
     ];
     for row in rows {
@@ -225,6 +246,7 @@ fn values(rt: HostRuntime) {
             "'1.0.0'",
             "project('p', version: '1.0.0') # v\n",
             &[(22, "'0.9'", "'1.0.0'")],
+            "(project 'p' version: '1.0.0')",
         ),
         (
             "f(k: g(1, # one\n))\n",
@@ -233,6 +255,7 @@ fn values(rt: HostRuntime) {
             "",
             "f(k: [g(1, # one\n)])\n",
             &[(5, "g(1, # one\n)", "[g(1, # one\n)]")],
+            "(f k: [ (g 1,)])",
         ),
     ];
     for row in rows {
@@ -250,6 +273,7 @@ fn removed_statements(rt: HostRuntime) {
             "",
             "a = 1\n# note\nb = 2\n",
             &[(6, "  E('a.c') ", "")],
+            "(= a 1) (= b 2)",
         ),
         (
             "if x\nE('a.c')\nendif\n",
@@ -258,6 +282,7 @@ fn removed_statements(rt: HostRuntime) {
             "",
             "if x\nendif\n",
             &[(5, "E('a.c')\n", "")],
+            "(if x {})",
         ),
         (
             "E('e')\n",
@@ -266,6 +291,7 @@ fn removed_statements(rt: HostRuntime) {
             "",
             "",
             &[(0, "E('e')\n", "")],
+            "",
         ),
         (
             "x = 1\n E('e') ",
@@ -274,6 +300,7 @@ fn removed_statements(rt: HostRuntime) {
             "",
             "x = 1\n",
             &[(6, " E('e') ", "")],
+            "(= x 1)",
         ),
     ];
     for row in rows {
@@ -291,6 +318,7 @@ fn appended_statements(rt: HostRuntime) {
             "y = 2",
             "x = 1\ny = 2\n",
             &[(6, "", "y = 2\n")],
+            "(= x 1) (= y 2)",
         ),
         (
             "\nx = 1",
@@ -299,6 +327,7 @@ fn appended_statements(rt: HostRuntime) {
             "y = 2",
             "\nx = 1\ny = 2\n",
             &[(6, "", "\ny = 2\n")],
+            "(= x 1) (= y 2)",
         ),
         (
             "\nx = 1 \\\n",
@@ -307,6 +336,7 @@ fn appended_statements(rt: HostRuntime) {
             "y = 2",
             "\nx = 1 \\\n\ny = 2\n",
             &[(9, "", "\ny = 2\n")],
+            "(= x 1) (= y 2)",
         ),
     ];
     for row in rows {

@@ -1,10 +1,8 @@
-//! Tests of the layers and of the whole program. Expected values are written out by hand.
+//! Tests of the layers on texts and trees. Expected values are written out by hand.
 #![tactic(auto)]
 
 #[cfg(test)]
-mod calls;
-#[cfg(test)]
-mod committing;
+mod depths;
 #[cfg(test)]
 mod grammar;
 #[cfg(test)]
@@ -24,13 +22,7 @@ mod parsing;
 #[cfg(test)]
 mod paths;
 #[cfg(test)]
-mod projects;
-#[cfg(test)]
 mod readiness;
-#[cfg(test)]
-mod refusing;
-#[cfg(test)]
-mod rewriting;
 #[cfg(test)]
 mod shapes;
 #[cfg(test)]

@@ -1,6 +1,6 @@
 //! How many constructs may stand inside one another, and texts that are one list.
 
-use meson_syntax::{Bracket, ParseFault, parse, parse_list, parse_wide};
+use meson_syntax::{Bracket, Limits, ParseFault, parse, parse_list, parse_wide, parse_within};
 use std::alloc::Global;
 use std::process::Abort;
 
@@ -133,6 +133,35 @@ fn reads_one_construct_more_between_two_primitives(rt: HostRuntime) {
     let mut long = Vec::new(rt.alloc());
     long.resize(1_048_577, b'\n').expect(&rt, "memory");
     assert_eq!(&rt; parse_wide(rt.alloc(), long.as_slice()).err(), None);
+}
+
+#[test]
+fn reads_within_the_limits_that_are_given(rt: HostRuntime) {
+    let rows: [(&'static [u8], Option<usize>, usize, Option<ParseFault>); 7] = [
+        (b"[[a]]\n", None, 2, None),
+        (b"[[a]]\n", Some(6), 2, None),
+        (b"[[a]]\n", Some(5), 2, Some(ParseFault::TooLarge)),
+        (b"[[a]]\n", Some(6), 1, Some(ParseFault::TooDeep(1))),
+        (b"[[a]]\n", Some(5), 1, Some(ParseFault::TooLarge)),
+        (b"a\n", None, 0, None),
+        (b"[a\n", None, 0, Some(ParseFault::TooDeep(0))),
+    ];
+    for (text, len, depth, fault) in rows {
+        let limits = Limits { len, depth };
+        assert_eq!(&rt; parse_within(rt.alloc(), text, limits).err(), fault);
+    }
+    let Ok(tree) = parse_within(
+        rt.alloc(),
+        b"a\nb\n",
+        Limits {
+            len: None,
+            depth: 64,
+        },
+    ) else {
+        panic!(&rt; "no tree");
+    };
+    assert_eq!(&rt; tree.block.statements.get().len(), 2);
+    assert_eq!(&rt; tree.span.to, 4);
 }
 
 /// A text, the brackets of the list that it is to be, and the refusal that it gets.

@@ -1,0 +1,15 @@
+//! Tests of projects: what stands where, and what commands do. Expected values are written out by hand.
+#![tactic(auto)]
+
+#[cfg(test)]
+mod performing;
+#[cfg(test)]
+mod plain;
+#[cfg(test)]
+mod plain_calls;
+#[cfg(test)]
+mod plain_sources;
+#[cfg(test)]
+mod projects;
+#[cfg(test)]
+mod sourcing;
