@@ -20,15 +20,15 @@ use Rattle.meson_plan.specs.Project.{Project, BuildFile, Placed, placed, nth_fil
 use Rattle.meson_plan.specs.Roles.{has_role, with_role, role_calls, found, one_of, project_ids}
 use Rattle.meson_plan.proofs.Reached.{any, Each, file_each}
 
-abbrev Every : {X : Type 0} → (X → Type 0) → List X → Type 0
+abbrev pub Every : {X : Type 0} → (X → Type 0) → List X → Type 0
 Every P [] = Unit {0}
 Every P (x ∷ xs) = P x × Every P xs
 
-every_both : {X : Type 0} (P : X → Type 0) (xs ys : List X) → Every P xs → Every P ys → Every P (xs ++ ys)
+pub every_both : {X : Type 0} (P : X → Type 0) (xs ys : List X) → Every P xs → Every P ys → Every P (xs ++ ys)
 every_both P [] ys a b = b
 every_both P (x ∷ xs) ys a b = (a.0, every_both P xs ys a.1 b)
 
-every_chosen : {X Y : Type 0} (P : Placed X → Type 0) (Q : Placed Y → Type 0) (choose : X → Option Y) → ((q : Placed X) (y : Y) → P q → choose q.it ≡ Some y → Q (placed q.place y))
+pub every_chosen : {X Y : Type 0} (P : Placed X → Type 0) (Q : Placed Y → Type 0) (choose : X → Option Y) → ((q : Placed X) (y : Y) → P q → choose q.it ≡ Some y → Q (placed q.place y))
     → (qs : List (Placed X)) → Every P qs → Every Q (all_chosen choose qs)
 every_chosen P Q choose step [] all = tt
 every_chosen {X} {Y} P Q choose step (q ∷ qs) all = go (choose q.it) (λ y is. step q y all.0 is) (every_chosen P Q choose step qs all.1)
@@ -39,12 +39,12 @@ every_chosen {X} {Y} P Q choose step (q ∷ qs) all = go (choose q.it) (λ y is.
 
 -- ---- parts of all files, of which the first has the number n
 
-record InProject (n : ℕ) (p : Project Span) (q : Placed (Part Span)) : Type 0 where
-  number : ℕ
-  file : BuildFile Span
-  is_number : q.place.file ≡ n + number
-  is_file : nth_file p number ≡ Some file
-  is_node : node_at (a_block (block_of file.tree)) q.place.path.steps ≡ Some (any q.it)
+pub record InProject (n : ℕ) (p : Project Span) (q : Placed (Part Span)) : Type 0 where
+  pub number : ℕ
+  pub file : BuildFile Span
+  pub is_number : q.place.file ≡ n + number
+  pub is_file : nth_file p number ≡ Some file
+  pub is_node : node_at (a_block (block_of file.tree)) q.place.path.steps ≡ Some (any q.it)
 
 first_file : (n : ℕ) (f : BuildFile Span) (files : Project Span) (qs : List (Placed (Part Span))) → Each n (a_block (block_of f.tree)) qs → Every (InProject n (f ∷ files)) qs
 first_file n f files [] all = tt
@@ -58,7 +58,7 @@ other_files n f files (q ∷ qs) all =
     let e : n + 1 + i.number ≡ n + suc i.number = omega arith in
     (record { number = suc i.number; file = i.file; is_number = i.is_number ∙ e; is_file = i.is_file; is_node = i.is_node }, other_files n f files qs all.1)
 
-every_part : (n : ℕ) (p : Project Span) → Every (InProject n p) (parts_from n p)
+pub every_part : (n : ℕ) (p : Project Span) → Every (InProject n p) (parts_from n p)
 every_part n [] = tt
 every_part n (f ∷ files) = every_both (InProject n (f ∷ files)) (file_parts n f.tree) (parts_from (n + 1) files) (first_file n f files _ (file_each n f.tree)) (other_files n f files _ (every_part (n + 1) files))
 

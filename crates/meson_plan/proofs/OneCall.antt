@@ -77,21 +77,39 @@ looked (Err f) place e is told = let same : e ≡ f = subst (λ r. IsLookedFor r
 
 -- ---- commands that are not done so far
 
+abbrev pub IsDone : Command → Type 0
+IsDone (command.SourcesAdd target sources) = Unit {0}
+IsDone (command.SourcesRemove target sources) = Unit {0}
+IsDone (command.ExtraAdd target sources) = Unit {0}
+IsDone (command.ExtraRemove target sources) = Unit {0}
+IsDone (command.KwargsSet role.Project id pairs) = Unit {0}
+IsDone _ = ⊥
+
+pub none_of_them : (k : Command) → ((t : List ℕ) (s : List (List ℕ)) → k ≡ command.SourcesAdd t s → ⊥) → ((t : List ℕ) (s : List (List ℕ)) → k ≡ command.SourcesRemove t s → ⊥)
+    → ((t : List ℕ) (s : List (List ℕ)) → k ≡ command.ExtraAdd t s → ⊥) → ((t : List ℕ) (s : List (List ℕ)) → k ≡ command.ExtraRemove t s → ⊥)
+    → ((r : Role) (id : List ℕ) (pairs : List (List ℕ × Setting)) → k ≡ command.KwargsSet r id pairs → ⊥) → IsDone k → ⊥
+none_of_them (command.SourcesAdd target sources) a b c d e done = a target sources refl
+none_of_them (command.SourcesRemove target sources) a b c d e done = b target sources refl
+none_of_them (command.ExtraAdd target sources) a b c d e done = c target sources refl
+none_of_them (command.ExtraRemove target sources) a b c d e done = d target sources refl
+none_of_them (command.KwargsSet role.Project id pairs) a b c d e done = e role.Project id pairs refl
+none_of_them _ a b c d e done = done
+
 module _ (p : Project Span) (e : Refusal) where
   by_place : (r : Role) (id : List ℕ) → IsLookedFor (the_place r id (notes p)) e → not_yet {Y = List Step} (the_call p r id) ≡ Err e
   by_place r id told = looked (the_call p r id) (the_place r id (notes p)) e (place_is r id p) told
 
-  pub not_done : (k : Command) → ((id : List ℕ) (pairs : List (List ℕ × Setting)) → k ≡ command.KwargsSet role.Project id pairs → ⊥) → IsNotDone (subject k) (notes p) e → planned p k ≡ Err e
-  not_done (command.SourcesAdd target sources) other told = by_place role.Target target told
-  not_done (command.SourcesRemove target sources) other told = by_place role.Target target told
-  not_done (command.ExtraAdd target sources) other told = by_place role.Target target told
-  not_done (command.ExtraRemove target sources) other told = by_place role.Target target told
+  pub not_done : (k : Command) → (IsDone k → ⊥) → IsNotDone (subject k) (notes p) e → planned p k ≡ Err e
+  not_done (command.SourcesAdd target sources) other told = absurd (other tt)
+  not_done (command.SourcesRemove target sources) other told = absurd (other tt)
+  not_done (command.ExtraAdd target sources) other told = absurd (other tt)
+  not_done (command.ExtraRemove target sources) other told = absurd (other tt)
   not_done (command.TargetAdd target kind subdir sources) other told = ap Err (sym told)
   not_done (command.TargetRemove target) other told = by_place role.Target target told
   not_done (command.TargetInfo target) other told = by_place role.Target target told
   not_done (command.KwargsSet role.Target id pairs) other told = by_place role.Target id told
   not_done (command.KwargsSet role.Dependency id pairs) other told = by_place role.Dependency id told
-  not_done (command.KwargsSet role.Project id pairs) other told = absurd (other id pairs refl)
+  not_done (command.KwargsSet role.Project id pairs) other told = absurd (other tt)
   not_done (command.KwargsAdd r id pairs) other told = by_place r id told
   not_done (command.KwargsRemove r id pairs) other told = by_place r id told
   not_done (command.KwargsDelete r id keys) other told = by_place r id told

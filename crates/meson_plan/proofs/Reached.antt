@@ -23,7 +23,7 @@ nth_right : {X : Type 0} (xs ys : List X) (j : ℕ) → nth (xs ++ ys) (length x
 nth_right [] ys j = let e : 0 + j ≡ j = omega arith in ap (nth ys) e
 nth_right (x ∷ xs) ys j = let e : length (x ∷ xs) + j ≡ suc (length xs + j) = omega arith in ap (nth (x ∷ (xs ++ ys))) e ∙ nth_right xs ys j
 
-node_below : (r : Any Span) (path : List ℕ) (x : Any Span) (n : ℕ) → node_at r path ≡ Some x → node_at r (path ++ n ∷ []) ≡ nth (parts x) n
+pub node_below : (r : Any Span) (path : List ℕ) (x : Any Span) (n : ℕ) → node_at r path ≡ Some x → node_at r (path ++ n ∷ []) ≡ nth (parts x) n
 node_below r [] x n is = whole (nth (parts r) n) ∙ ap (λ o. option_and_then (λ y. nth (parts y) n) o) is
   where
     whole : (o : Option (Any Span)) → option_and_then (λ y. Some y) o ≡ o

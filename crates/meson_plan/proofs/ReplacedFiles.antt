@@ -180,10 +180,13 @@ module _ (files : List File) (trees : List Parsed) (r : Replacement) (whole : Is
     is_layout = are;
   }
 
-  stepped_to : all_stepped (step_of r w ∷ []) plain ≡ Some (with_one i new_tree.tree plain)
-  stepped_to =
+  pub stepped_one : stepped (step_of r w) plain ≡ Some (with_one i new_tree.tree plain)
+  stepped_one =
       let here : edited the_edit (get_or plain i (erase f)) ≡ Some new_tree.tree = ap (edited the_edit) (plain_at files trees i d (erase f) many within) ∙ new_tree.is in
-      ap (option_and_then (all_stepped [])) (changed_to (edited the_edit) plain i (erase f) new_tree.tree inside_plain here)
+      changed_to (edited the_edit) plain i (erase f) new_tree.tree inside_plain here
+
+  stepped_to : all_stepped (step_of r w ∷ []) plain ≡ Some (with_one i new_tree.tree plain)
+  stepped_to = ap (option_and_then (all_stepped [])) stepped_one
 
   -- ---- nothing new
 

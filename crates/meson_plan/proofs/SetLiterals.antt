@@ -18,7 +18,7 @@ use Rattle.meson_layout.specs.Pieces.{comma, space, open_square, close_square}
 use Rattle.meson_layout.specs.Words.{remarks}
 use Rattle.meson_syntax.specs.declared.operator.Bracket.TheVariants as bracket
 use Rattle.meson_syntax.specs.Tree.{Nowhere, Expression, Arguments, plain, arguments_of}
-use Rattle.meson_syntax.specs.Grammar.{expression_words, arguments_words, LevelExpression, LevelArguments, Flagged}
+use Rattle.meson_syntax.specs.Grammar.{expression_words, arguments_words, LevelExpression, LevelArguments, Flagged, arguments_depth}
 use Rattle.meson_edit.specs.Places.{IsWritten}
 use Rattle.meson_plan.specs.declared.refusal.Refusal.{Refusal}
 use Rattle.meson_plan.specs.Settings.{string_of, array_of, comma_between, written_text, written_texts}
@@ -43,6 +43,7 @@ text_new t utf8 = record {
     utf8 = literal_text t utf8;
   };
   level = tt;
+  shallow = omega arith;
 }
 
 -- ---- texts: the items between the brackets
@@ -143,6 +144,10 @@ strings_level : (ts : List (List ℕ)) → LevelArguments (strings ts) bracket.S
 strings_level [] = tt
 strings_level (t ∷ ts) = ((refl, refl, tt), strings_level ts)
 
+strings_flat : (ts : List (List ℕ)) → arguments_depth (strings ts) ≡ 0
+strings_flat [] = refl
+strings_flat (t ∷ ts) = let flat = strings_flat ts in omega (arith, flat)
+
 pub texts_new : (ts : List (List ℕ)) → Texts ts → WrittenFor (91 ∷ (comma_between (map literal ts) ++ 93 ∷ []))
 texts_new ts are = record {
   node = array_of (map string_of ts);
@@ -157,6 +162,7 @@ texts_new ts are = record {
     utf8 = all_text ts are;
   };
   level = (flagged ts, strings_level ts);
+  shallow = let flat = strings_flat ts in omega (arith, flat);
 }
 
 -- ---- one text after another

@@ -1,5 +1,5 @@
 -- The edits that a command means, or why it is refused.
--- So far: a keyword argument of `project` that is there gets another value. Meson manual, Rewriter.
+-- So far: sources and extra files of a target, and a keyword argument of `project` that is there and gets another value. Meson manual, Rewriter.
 use Rattle.std.specs.Prelude.{ℕ, List, [], ◌∷◌, codes, Result, Ok, Err}
 use Rattle.meson_splice.specs.Patch.{then_ok}
 use Rattle.meson_syntax.specs.Tree.{Nowhere, Expression}
@@ -11,12 +11,14 @@ use Rattle.meson_plan.specs.declared.command.Command.{Command}
 use Rattle.meson_plan.specs.declared.command.Command.TheVariants as command
 use Rattle.meson_plan.specs.declared.command.Setting.{Setting}
 use Rattle.meson_plan.specs.declared.refusal.Refusal.{Refusal}
-use Rattle.meson_plan.specs.declared.refusal.Refusal.TheVariants.{NoProject, NotFound, Ambiguous, HiddenKeywords, DuplicateKeyword, NotYet}
+use Rattle.meson_plan.specs.declared.refusal.Refusal.TheVariants.{NoProject, NotFound, Ambiguous, DuplicateKeyword, NotYet}
 use Rattle.meson_plan.specs.Project.{Project, Placed}
 use Rattle.meson_plan.specs.Calls.{Call, Numbered, keyword}
 use Rattle.meson_plan.specs.Roles.{found, role_calls}
 use Rattle.meson_plan.specs.Sources.{kwargs_key}
 use Rattle.meson_plan.specs.Settings.{project_setting}
+pub use Rattle.meson_plan.specs.SourceEdits.{not_hidden}
+use Rattle.meson_plan.specs.SourceEdits.{sources_added, sources_removed, extra_added, extra_removed}
 use Rattle.meson_plan.specs.Steps.{Step}
 
 -- ---- finding
@@ -42,11 +44,6 @@ not_yet r = then_ok r (λ _. Err NotYet)
 
 -- ---- setting a keyword argument
 
--- A `kwargs:` argument may hold any keyword.
-abbrev pub not_hidden : {X : Type 0} → List X → Result (Unit {0}) Refusal
-not_hidden [] = Ok tt
-not_hidden (x ∷ more) = Err HiddenKeywords
-
 -- The one argument of that name gets the value.
 abbrev pub replaced : {S : Type 0} → List ℕ → CallRef → Written (Expression Nowhere) → List (Numbered (Expression S)) → Result (List Step) Refusal
 replaced key c new [] = Err NotYet
@@ -69,10 +66,10 @@ kwargs_set p role.Dependency id pairs = not_yet (the_call p role.Dependency id)
 -- ---- commands
 
 abbrev pub planned : {S : Type 0} → Project S → Command → Result (List Step) Refusal
-planned p (command.SourcesAdd target sources) = not_yet (the_call p role.Target target)
-planned p (command.SourcesRemove target sources) = not_yet (the_call p role.Target target)
-planned p (command.ExtraAdd target sources) = not_yet (the_call p role.Target target)
-planned p (command.ExtraRemove target sources) = not_yet (the_call p role.Target target)
+planned p (command.SourcesAdd target sources) = then_ok (the_call p role.Target target) (λ c. sources_added p c sources)
+planned p (command.SourcesRemove target sources) = then_ok (the_call p role.Target target) (λ c. sources_removed p c sources)
+planned p (command.ExtraAdd target sources) = then_ok (the_call p role.Target target) (λ c. extra_added p c sources)
+planned p (command.ExtraRemove target sources) = then_ok (the_call p role.Target target) (λ c. extra_removed p c sources)
 planned p (command.TargetAdd target kind subdir sources) = Err NotYet
 planned p (command.TargetRemove target) = not_yet (the_call p role.Target target)
 planned p (command.TargetInfo target) = not_yet (the_call p role.Target target)

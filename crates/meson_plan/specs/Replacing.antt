@@ -1,7 +1,7 @@
 -- One value of a call's argument that becomes another: what is written there, which step that is, and where the value stands.
-use Rattle.std.specs.Prelude.{◌≡◌, ℕ, List, [], ◌∷◌, codes, Option, Some, None, Result, Ok, Err}
+use Rattle.std.specs.Prelude.{◌≡◌, ◌≤◌, ℕ, List, [], ◌∷◌, codes, Option, Some, None, Result, Ok, Err}
 use Rattle.meson_lex.specs.declared.kinds.Span.{Span}
-use Rattle.meson_syntax.specs.Grammar.{expression_words, LevelExpression}
+use Rattle.meson_syntax.specs.Grammar.{expression_words, LevelExpression, expression_depth}
 use Rattle.meson_syntax.specs.Paths.{ListAt, list_at, nth, value_of}
 use Rattle.meson_syntax.specs.Tree.{Nowhere, Expression, Listing, Argument}
 use Rattle.meson_splice.specs.Patch.{then_ok}
@@ -23,11 +23,12 @@ use Rattle.meson_plan.specs.Steps.{Step}
 
 -- ---- what is written
 
--- The bytes are written for an expression, which may stand as the value of an argument.
+-- The bytes are written for an expression in which no construct stands in another, and which may stand as the value of an argument.
 pub record WrittenFor (bytes : List ℕ) : Type 0 where
   pub node : Expression Nowhere
   pub writes : IsWritten bytes (expression_words node)
   pub level : LevelExpression node
+  pub shallow : expression_depth node ≤ 1
 
 abbrev pub written : (bytes : List ℕ) → WrittenFor bytes → Written (Expression Nowhere)
 written bytes w = record { bytes = bytes; node = w.node }

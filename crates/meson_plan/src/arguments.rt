@@ -2,7 +2,8 @@
 
 ghost use Rattle.std.specs.Prelude.{◌≡◌, [], MatchOption, None, OnOk, drop, is_some, length};
 ghost use Rattle.meson_syntax.specs.Grammar.{argument_words};
-ghost use Rattle.meson_syntax.specs.View.{arg_view};
+ghost use Rattle.std.specs.List.{filter};
+ghost use Rattle.meson_syntax.specs.View.{arg_view, args_view};
 ghost use Rattle.meson_plan.specs.Picking.{Source};
 ghost use Rattle.meson_plan.specs.Project.{place};
 ghost use Rattle.meson_plan.specs.Calls.{value_without_name, value_with_name};
@@ -10,6 +11,7 @@ ghost use Rattle.meson_plan.specs.Expansion.{in_list, fixed};
 ghost use Rattle.meson_plan.specs.GoodLists.{GoodArgs};
 ghost use Rattle.meson_plan.specs.Named.{AreVariables, project_of};
 ghost use Rattle.meson_plan.specs.Sources.{rest};
+ghost use Rattle.meson_plan.specs.SourceEdits.{is_plain};
 ghost use Rattle.meson_plan.specs.Strings.{AreGood};
 ghost use Rattle.meson_plan.specs.Sourced.{kept_args, kept_arg, step_by, arguments_by};
 ghost use Rattle.meson_plan.specs.Keywords.{IsFirstNamed};
@@ -84,6 +86,19 @@ fn is_plain(arg: &Arg) -> bool
             value: _,
         } => false,
     }
+}
+
+/// How many arguments have no name.
+pub(crate) fn count_plain(args: &[Arg]) -> usize
+    ensures { (source : Source) → result ≡ length (filter is_plain (args_view source args.now)) }
+{
+    let mut count = 0;
+    for i in 0..args.len() {
+        if is_plain(&args[i]) {
+            count += 1;
+        }
+    }
+    count
 }
 
 /// The number behind that of the first argument without a name.

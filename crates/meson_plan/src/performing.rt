@@ -35,7 +35,7 @@ pub(crate) enum Outcome {
 }
 
 /// Leaves the splices that change something.
-fn leave_effective(splices: &mut Vec<Splice>)
+pub(crate) fn leave_effective(splices: &mut Vec<Splice>)
     ensures { splices.new.items ≡ effective splices.old.items }
 {
     splices.retain(|splice| splice.was != splice.now);

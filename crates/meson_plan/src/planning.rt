@@ -3,12 +3,13 @@
 ghost use Rattle.std.specs.Prelude.{◌≡◌, ◌≢◌, ◌∷◌, [], Err, IfErr, IfOk, Ok};
 ghost use Rattle.meson_syntax.specs.View.{list_view};
 ghost use Rattle.meson_plan.specs.declared.refusal.Refusal.TheVariants.{OutOfMemory};
-ghost use Rattle.meson_plan.specs.Loading.{AreParsed, named_trees, views};
+ghost use Rattle.meson_plan.specs.Loading.{AreParsed, IsProject, named_trees, views};
 ghost use Rattle.meson_plan.specs.Notes.{note_views, notes};
 ghost use Rattle.meson_plan.specs.Picking.{Source, call_with, found_places};
 ghost use Rattle.meson_plan.specs.Planning.{kwargs_set, only_one, planned, set_keyword, set_one};
+ghost use Rattle.meson_plan.specs.Plans.{MeansSteps};
 ghost use Rattle.meson_plan.specs.Project.{placed};
-ghost use Rattle.meson_plan.specs.Replacing.{IsLookedFor, IsNotDone, IsOneStep, IsPlan, ValueAt, ValueIn, WrittenFor, step_of, subject, the_place, written};
+ghost use Rattle.meson_plan.specs.Replacing.{IsLookedFor, IsNotDone, IsOneStep, ValueAt, ValueIn, WrittenFor, step_of, subject, the_place, written};
 ghost use Rattle.meson_plan.specs.Strings.{NotesGood};
 
 use crate::arguments::{count_named, first_named};
@@ -20,6 +21,8 @@ use crate::notes::notes_of;
 use crate::picking::with_role;
 use crate::refusal::Refusal;
 use crate::settings::{key_of, project_setting};
+use crate::step::{ListEdit, ListStep, push_step};
+use crate::targeting::{Change, target_steps};
 use meson_splice::{Bytes, FileSet, Text};
 use meson_syntax::{List, Parsed};
 use std::alloc::Global;
@@ -63,7 +66,12 @@ fn only_found(alloc: Global, role: Role, id: &str, notes: &[Note<'_>]) -> Result
 ///
 /// # Errors
 /// There is none, or more than one, or no project; or memory is refused.
-fn the_call(alloc: Global, role: Role, id: &str, notes: &[Note<'_>]) -> Result<CallRef, Refusal>
+pub(crate) fn the_call(
+    alloc: Global,
+    role: Role,
+    id: &str,
+    notes: &[Note<'_>],
+) -> Result<CallRef, Refusal>
     requires { NotesGood (note_views notes.now) }
     ensures found { IfOk result (λ c. the_place role id.now (note_views notes.now) ≡ Ok c) }
     ensures refused { IfErr result (λ e. e ≢ OutOfMemory → the_place role id.now (note_views notes.now) ≡ Err e) }
@@ -172,6 +180,24 @@ fn set_in_project(
     }
 }
 
+/// The one step of a replacement.
+///
+/// # Errors
+/// Memory is refused.
+fn one_step(alloc: Global, replacement: Replacement) -> Result<Vec<ListStep>, Refusal>
+    ensures done { IfOk result (λ steps. steps.items ≡ record { list = replacement.call; edit = ListEdit.Replace replacement.argument replacement.new } ∷ []) }
+    ensures refused { IfErr result (λ e. e ≡ OutOfMemory) }
+{
+    let Replacement {
+        call,
+        argument,
+        new,
+    } = replacement;
+    let mut steps = Vec::new(alloc);
+    push_step(&mut steps, call, ListEdit::Replace(argument, new))?;
+    Ok(steps)
+}
+
 /// Commands that are not done so far are refused after their call was looked for.
 fn not_yet(alloc: Global, role: Role, id: &str, notes: &[Note<'_>]) -> Refusal
     requires { NotesGood (note_views notes.now) }
@@ -215,19 +241,60 @@ pub(crate) fn planned(
     files: &FileSet,
     trees: &[Parsed],
     command: &Command,
-) -> Result<Replacement, Refusal>
-    requires { AreParsed files.now trees.now }
-    ensures plan { IfOk result (IsPlan (named_trees files.now (views files.now trees.now)) command.now) }
+) -> Result<Vec<ListStep>, Refusal>
+    requires { IsProject (record { files = files.now; parsed = trees.now }) }
+    ensures plan { IfOk result (λ steps. MeansSteps (record { files = files.now; parsed = trees.now }) command.now steps.items) }
     ensures refused { IfErr result (λ e. e ≢ OutOfMemory → planned (named_trees files.now (views files.now trees.now)) command.now ≡ Err e) }
 {
     let notes = notes_of(alloc, files, trees)?;
     let notes = notes.as_slice();
     match command {
         Command::KwargsSet { role, id, pairs } => match role {
-            Role::Project => set_in_project(alloc, files, trees, notes, id.get(), pairs.get()),
+            Role::Project => {
+                match set_in_project(alloc, files, trees, notes, id.get(), pairs.get()) {
+                    Ok(replacement) => one_step(alloc, replacement),
+                    Err(refusal) => Err(refusal),
+                }
+            }
             Role::Target => Err(told(alloc, notes, command)),
             Role::Dependency => Err(told(alloc, notes, command)),
         },
+        Command::SourcesAdd { target, sources } => target_steps(
+            alloc,
+            files,
+            trees,
+            notes,
+            target.get(),
+            Change::SourcesAdded,
+            sources.get(),
+        ),
+        Command::SourcesRemove { target, sources } => target_steps(
+            alloc,
+            files,
+            trees,
+            notes,
+            target.get(),
+            Change::SourcesRemoved,
+            sources.get(),
+        ),
+        Command::ExtraAdd { target, sources } => target_steps(
+            alloc,
+            files,
+            trees,
+            notes,
+            target.get(),
+            Change::ExtraAdded,
+            sources.get(),
+        ),
+        Command::ExtraRemove { target, sources } => target_steps(
+            alloc,
+            files,
+            trees,
+            notes,
+            target.get(),
+            Change::ExtraRemoved,
+            sources.get(),
+        ),
         _ => Err(told(alloc, notes, command)),
     }
 }

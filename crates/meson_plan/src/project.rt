@@ -2,6 +2,7 @@
 
 ghost use Rattle.std.specs.Prelude.{◌≡◌, ◌≢◌, [], Some, Ok, Err, IfErr, IfOk, IsTrue, OnErr};
 ghost use Rattle.meson_plan.specs.Directories.{IsFileName};
+ghost use Rattle.meson_plan.specs.Done.{with_some};
 ghost use Rattle.meson_plan.specs.Loading.{project, MayNotLoad};
 ghost use Rattle.meson_plan.specs.Performing.{MayRefuse, Performs};
 ghost use Rattle.meson_plan.specs.Roles.{targets, found, is_target, places};
@@ -15,11 +16,11 @@ use crate::loading::{copy_trees, loaded};
 use crate::looking::is_target;
 use crate::naming::found;
 use crate::notes::notes_of;
-use crate::performing::{Outcome, replaced};
 use crate::picking::with_role;
 use crate::planning::planned;
 use crate::refusal::Refusal;
 use crate::variables::Variables;
+use crate::work::{Work, done};
 use meson_splice::{Change, FileSet, Many};
 use meson_syntax::Parsed;
 use std::alloc::Global;
@@ -131,39 +132,42 @@ impl Project {
         ensures kept { OnErr result (self.new ≡ self.old) }
     {
         let trees = self.trees.as_slice();
-        let step = match planned(alloc, &self.files, trees, command) {
-            Ok(step) => step,
+        let steps = match planned(alloc, &self.files, trees, command) {
+            Ok(steps) => steps,
             Err(refusal) => return Err(refusal),
         };
-        let file = step.call.file;
-        match replaced(alloc, &self.files, trees, step) {
-            Ok(Outcome::Same) => Ok(nothing(alloc)),
-            Ok(
-                Outcome::New {
-                    change,
-                    files,
-                    tree,
-                },
-            ) => {
-                let relexed = files.bytes(file).len() as u64;
-                self.files = files;
-                self.trees[file] = tree;
-                Ok(Done { change, relexed })
-            }
-            Err(refusal) => Err(refusal),
-        }
+        let work = match done(alloc, &self.files, trees, steps) {
+            Ok(work) => work,
+            Err(refusal) => return Err(refusal),
+        };
+        let Work {
+            splices,
+            files,
+            trees: new,
+            relexed,
+        } = work;
+        self.files = files;
+        put_trees(&mut self.trees, new);
+        Ok(Done {
+            change: Change {
+                splices: Many::of(splices),
+            },
+            relexed,
+        })
     }
 }
 
-/// Nothing done. Takes no memory.
-fn nothing(alloc: Global) -> Done
-    ensures splices { result.change.splices ≡ [] }
-    ensures relexed { result.relexed ≡ 0 }
+/// Puts the trees that are there into the places of the old ones.
+fn put_trees(trees: &mut Vec<Parsed>, new: Vec<Option<Parsed>>)
+    ensures { trees.new.items ≡ with_some new.items trees.old.items }
 {
-    Done {
-        change: Change {
-            splices: Many::of(Vec::new(alloc)),
-        },
-        relexed: 0,
+    let mut i = 0;
+    for tree in new {
+        if let Some(tree) = tree {
+            if i < trees.len() {
+                trees[i] = tree;
+            }
+        }
+        i += 1;
     }
 }

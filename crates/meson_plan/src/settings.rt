@@ -37,7 +37,7 @@ pub(crate) fn key_of(key: &Text) -> Result<Text, Refusal>
 }
 
 /// Writes a text's literal behind what is there.
-fn push_literal(alloc: Global, to: &mut Vec<u8>, text: &str) -> Result<(), Refusal>
+pub(crate) fn push_literal(alloc: Global, to: &mut Vec<u8>, text: &str) -> Result<(), Refusal>
     ensures done { OnOk result (to.new.items ≡ to.old.items ++ literal text.now) }
     ensures utf8 { IsUtf8 text.now }
     ensures refused { IfErr result (λ e. e ≡ Refusal.OutOfMemory) }
@@ -52,7 +52,7 @@ fn push_literal(alloc: Global, to: &mut Vec<u8>, text: &str) -> Result<(), Refus
 }
 
 /// The literal of a text.
-fn written_text(alloc: Global, text: &Text) -> Result<Bytes, Refusal>
+pub(crate) fn written_text(alloc: Global, text: &Text) -> Result<Bytes, Refusal>
     ensures done { IfOk result (λ b. b ≡ literal text.now) }
     ensures utf8 { IfOk result (λ b. IsUtf8 text.now) }
     ensures refused { IfErr result (λ e. e ≡ Refusal.OutOfMemory) }

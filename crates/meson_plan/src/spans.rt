@@ -2,9 +2,9 @@
 
 ghost use Rattle.std.specs.Prelude.{◌≡◌, option_map};
 ghost use Rattle.meson_syntax.specs.Paths.{value_of};
-ghost use Rattle.meson_syntax.specs.Places.{expression_span};
+ghost use Rattle.meson_syntax.specs.Places.{argument_span, expression_span};
 ghost use Rattle.meson_syntax.specs.View.{arg_view, expr_view, view};
-ghost use Rattle.meson_edit.specs.Places.{value_span};
+ghost use Rattle.meson_edit.specs.Places.{bracket_offset, element_span, value_span};
 ghost use Rattle.meson_plan.specs.Picking.{Source};
 
 use meson_lex::Span;
@@ -54,6 +54,44 @@ pub(crate) fn value_span(tree: &Parsed, path: &Path, n: usize) -> Option<Span>
                 None
             }
         }
+        None => None,
+    }
+}
+
+/// Where an element stands.
+fn span_of_element(arg: &Arg) -> Span
+    ensures { (source : Source) → result ≡ argument_span (arg_view source arg.now) }
+{
+    match arg {
+        Arg::Plain(value) => span_of(value),
+        Arg::Named { span, .. } => *span,
+        Arg::Pair { span, .. } => *span,
+    }
+}
+
+/// Where the n-th element of a list stands, if it is there.
+pub(crate) fn element_span(tree: &Parsed, path: &Path, n: usize) -> Option<Span>
+    ensures { (source : Source) → result ≡ element_span (view source tree.now) path.now.steps n }
+{
+    match tree.list_at(path) {
+        Some(list) => {
+            let args = list.items.get();
+            if n < args.len() {
+                Some(span_of_element(&args[n]))
+            } else {
+                None
+            }
+        }
+        None => None,
+    }
+}
+
+/// The offset of the opening bracket of a list, if it is there.
+pub(crate) fn bracket_offset(tree: &Parsed, path: &Path) -> Option<usize>
+    ensures { (source : Source) → result ≡ bracket_offset (view source tree.now) path.now.steps }
+{
+    match tree.list_at(path) {
+        Some(list) => Some(list.span.from),
         None => None,
     }
 }

@@ -12,4 +12,6 @@ mod plain_sources;
 #[cfg(test)]
 mod projects;
 #[cfg(test)]
+mod source_commands;
+#[cfg(test)]
 mod sourcing;

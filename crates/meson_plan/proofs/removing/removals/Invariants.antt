@@ -1,0 +1,12 @@
+use Rattle.std.proofs.Common.{◌≡◌, ◌++◌, drop, map, length}
+use Rattle.std.specs.Prelude.{Some}
+use Rattle.meson_plan.specs.ListSteps.{bare}
+use Rattle.meson_plan.specs.Naming.{after_each}
+use Rattle.meson_plan.specs.SourceEdits.{removed, removed_by, spot_after}
+use Rattle.meson_plan.specs.Spots.{spot_view}
+use Rattle.meson_plan.proofs.removing.removals.Given as goal
+
+abbrev pub invariant-loop-i : goal.invariant-loop-i
+invariant-loop-i l =
+    map Some l.steps.items ++ map bare (removed_by (length (drop l.i l.spots)) (map (after_each spot_after (map spot_view l.done.items)) (map (λ x. spot_view x.now) (drop l.i l.spots))))
+    ≡ map bare (removed (map (λ x. spot_view x.now) l.spots))

@@ -1,0 +1,112 @@
+//! Names put into a list.
+
+ghost use Rattle.std.specs.Prelude.{◌≡◌, ◌++◌, All, IfErr, IfOk, OnOk, Some, bytes_eq, map};
+ghost use Rattle.std.specs.List.{list_any};
+ghost use Rattle.std.specs.Str.{IsUtf8};
+ghost use Rattle.meson_plan.specs.ListSteps.{bare};
+ghost use Rattle.meson_plan.specs.Naming.{has_value, new_among};
+ghost use Rattle.meson_plan.specs.SourceEdits.{checked_names, distinct, inserted};
+
+use crate::call::{CallRef, SourceItem};
+use crate::picking::copy_place;
+use crate::refusal::Refusal;
+use crate::settings::written_text;
+use crate::step::{ListEdit, ListStep, push_step};
+use meson_splice::Text;
+use std::alloc::{AllocError, Global};
+
+/// Refuses an empty name.
+///
+/// # Errors
+/// A name is empty.
+pub(crate) fn checked_names(names: &[Text]) -> Result<(), Refusal>
+    ensures checked { result ≡ checked_names names.now }
+    ensures utf8 { OnOk result (All IsUtf8 names.now) }
+{
+    for name in names {
+        if name.get().is_empty() {
+            return Err(Refusal::BadName);
+        }
+    }
+    Ok(())
+}
+
+/// Whether a name is one of these.
+fn is_among(names: &[&Text], name: &Text) -> bool
+    ensures { result ≡ list_any (λ x. bytes_eq x name.now) (map (λ x. x.now) names.now) }
+{
+    for i in 0..names.len() {
+        if names[i] == name {
+            return true;
+        }
+    }
+    false
+}
+
+/// Each name once, where it comes first.
+pub(crate) fn distinct<'n>(alloc: Global, names: &'n [Text]) -> Result<Vec<&'n Text>, AllocError>
+    ensures { IfOk result (λ all. map (λ x. x.now) all.items ≡ distinct names.now) }
+{
+    let mut all = Vec::new(alloc);
+    for i in 0..names.len() {
+        if !is_among(all.as_slice(), &names[i]) {
+            all.push(&names[i])?;
+        }
+    }
+    Ok(all)
+}
+
+/// Whether an item has this value.
+pub(crate) fn is_known(items: &[SourceItem], name: &Text) -> bool
+    ensures { result ≡ list_any (has_value name.now) items.now }
+{
+    for i in 0..items.len() {
+        if items[i].value == *name {
+            return true;
+        }
+    }
+    false
+}
+
+/// The names that are no items yet, each once.
+pub(crate) fn new_names<'n>(
+    alloc: Global,
+    items: &[SourceItem],
+    names: &'n [Text],
+) -> Result<Vec<&'n Text>, AllocError>
+    ensures { IfOk result (λ new. map (λ x. x.now) new.items ≡ new_among items.now names.now) }
+{
+    let mut new = distinct(alloc, names)?;
+    new.retain(|name| !is_known(items, name));
+    Ok(new)
+}
+
+/// Puts names into a list, one behind the other, where so many elements are to stand before them.
+///
+/// # Errors
+/// Memory is refused.
+pub(crate) fn insert(
+    alloc: Global,
+    list: &CallRef,
+    from: usize,
+    names: &[&Text],
+    steps: &mut Vec<ListStep>,
+) -> Result<(), Refusal>
+    ensures done { OnOk result (map Some steps.new.items ≡ map Some steps.old.items ++ map bare (inserted list.now from (map (λ x. x.now) names.now))) }
+    ensures refused { IfErr result (λ e. e ≡ Refusal.OutOfMemory) }
+{
+    for i in 0..names.len() {
+        let Some(before) = from.checked_add(i) else {
+            return Err(Refusal::OutOfMemory);
+        };
+        let new = written_text(alloc, names[i])?;
+        let edit = if before == 0 {
+            ListEdit::First(new)
+        } else {
+            ListEdit::After(before - 1, new)
+        };
+        let list = copy_place(alloc, list)?;
+        push_step(steps, list, edit)?;
+    }
+    Ok(())
+}

@@ -1,0 +1,74 @@
+//! The steps of commands on the sources and the extra files of a target.
+
+ghost use Rattle.std.specs.Prelude.{◌≡◌, ◌≢◌, All, Err, IfErr, IfOk};
+ghost use Rattle.std.specs.Str.{IsUtf8};
+ghost use Rattle.meson_plan.specs.Loading.{AreParsed, HasFileName, named_trees, views};
+ghost use Rattle.meson_plan.specs.Notes.{note_views, notes};
+ghost use Rattle.meson_plan.specs.Strings.{NotesGood};
+ghost use Rattle.meson_plan.specs.Targeted.{AreMeant, target_steps};
+
+use crate::arriving::arguments_of;
+use crate::call::Role;
+use crate::editing::{sources_added, sources_removed};
+use crate::extra::{extra_added, extra_removed};
+use crate::note::Note;
+use crate::planning::the_call;
+use crate::refusal::Refusal;
+use crate::step::ListStep;
+use crate::variables::Variables;
+use meson_splice::{FileSet, Text};
+use meson_syntax::Parsed;
+use std::alloc::Global;
+
+/// What is done to the sources or the extra files of a target.
+#[derive(Clone, Copy)]
+pub(crate) enum Change {
+    SourcesAdded,
+    SourcesRemoved,
+    ExtraAdded,
+    ExtraRemoved,
+}
+
+/// The steps by which names are put into a target or taken out of it.
+///
+/// # Errors
+/// There is no such target or more than one, or the names can't be put there or taken out, or memory is refused.
+pub(crate) fn target_steps(
+    alloc: Global,
+    files: &FileSet,
+    trees: &[Parsed],
+    noted: &[Note<'_>],
+    target: &str,
+    change: Change,
+    names: &[Text],
+) -> Result<Vec<ListStep>, Refusal>
+    requires named { All HasFileName files.now }
+    requires parsed { AreParsed files.now trees.now }
+    requires taken { note_views noted.now ≡ notes (named_trees files.now (views files.now trees.now)) }
+    ensures meant { IfOk result (λ steps. AreMeant (target_steps (named_trees files.now (views files.now trees.now)) target.now change names.now) steps.items) }
+    ensures refused { IfErr result (λ e. e ≢ Refusal.OutOfMemory → target_steps (named_trees files.now (views files.now trees.now)) target.now change names.now ≡ Err e) }
+    ensures utf8 { IfOk result (λ steps. All IsUtf8 names.now) }
+{
+    let call = match the_call(alloc, Role::Target, target, noted) {
+        Ok(call) => call,
+        Err(refusal) => return Err(refusal),
+    };
+    if call.file >= trees.len() {
+        unreachable!();
+    }
+    let source = files.bytes(call.file);
+    let arguments = match trees[call.file].expr_at(&call.path) {
+        Some(expr) => arguments_of(expr),
+        None => unreachable!(),
+    };
+    let Some(arguments) = arguments else {
+        unreachable!();
+    };
+    let variables = Variables::of(alloc, files, trees, noted)?;
+    match change {
+        Change::SourcesAdded => sources_added(&variables, &call, source, arguments, names),
+        Change::SourcesRemoved => sources_removed(&variables, &call, source, arguments, names),
+        Change::ExtraAdded => extra_added(&variables, &call, source, arguments, names),
+        Change::ExtraRemoved => extra_removed(&variables, &call, source, arguments, names),
+    }
+}
