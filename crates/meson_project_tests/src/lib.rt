@@ -2,6 +2,8 @@
 #![tactic(auto)]
 
 #[cfg(test)]
+mod extra_commands;
+#[cfg(test)]
 mod performing;
 #[cfg(test)]
 mod plain;
@@ -12,6 +14,16 @@ mod plain_sources;
 #[cfg(test)]
 mod projects;
 #[cfg(test)]
+mod shared;
+#[cfg(test)]
 mod source_commands;
+#[cfg(test)]
+mod source_files;
+#[cfg(test)]
+mod source_limits;
+#[cfg(test)]
+mod source_refusals;
+#[cfg(test)]
+mod source_removals;
 #[cfg(test)]
 mod sourcing;
