@@ -1,9 +1,10 @@
-//! Measures the layers: a plain scan of a file's bytes, its items and its tree; and the loading of a project of as many files as may be.
+//! Measures the layers: a plain scan of a file's bytes, its items and its tree; the loading of a project of as many files as may be;
+//! and ten sources put into a target.
 #![tactic(auto)]
 
 use meson_lex::items;
-use meson_plan::{MAX_FILES, Project};
-use meson_splice::FileSet;
+use meson_plan::{Command, MAX_FILES, Project};
+use meson_splice::{FileSet, Many, Text};
 use meson_syntax::parse;
 use std::alloc::{AllocError, Global};
 use std::io::Write;
@@ -110,11 +111,51 @@ fn measure_loading(rt: &HostRuntime, source: &[u8]) -> io::Result<()> {
     )
 }
 
+/// The command that puts ten sources into the target `listed`.
+fn ten_sources(alloc: Global) -> Result<Command, AllocError> {
+    let mut sources = Vec::new(alloc);
+    for i in 0..10usize {
+        sources.push(Text::of(format!(in alloc; "source/new_{i}.c")?))?;
+    }
+    Ok(Command::SourcesAdd {
+        target: Text::of(String::from_str(alloc, "listed")?),
+        sources: Many::of(sources),
+    })
+}
+
+/// Puts ten sources into a target of the file, and says how long that took.
+fn measure_adding(rt: &HostRuntime, source: &[u8]) -> io::Result<()> {
+    let alloc = rt.alloc();
+    let mut files = FileSet::new(alloc);
+    let name = String::from_str(alloc, "meson.build")?;
+    if files.push(name, Vec::from_slice(alloc, source)?).is_err() {
+        return println!(rt; "out of memory");
+    }
+    let Ok(project) = Project::load(alloc, files) else {
+        return println!(rt; "no project");
+    };
+    let mut project = project;
+    let command = ten_sources(alloc)?;
+    let start = Instant::now(rt)?;
+    let answer = project.perform(alloc, &command);
+    let time = start.elapsed(rt)?;
+    match answer {
+        Ok(done) => println!(rt;
+            "ten sources put into a file of {} bytes: {} us, {} splices, {} bytes read again",
+            source.len(),
+            time.as_micros(),
+            done.change.splices.get().len(),
+            done.relexed
+        ),
+        Err(refusal) => println!(rt; "ten sources refused: {refusal}"),
+    }
+}
+
 fn main(rt: HostRuntime) -> io::Result<()> {
     let alloc = rt.alloc();
     let words: Vec<String> = env::args(&rt)?.collect(alloc)?;
     let Some(name) = words.get(1) else {
-        return println!(rt; "usage: meson_bench FILE [FILE OF A PROJECT]");
+        return println!(rt; "usage: meson_bench FILE [FILE OF A PROJECT [FILE WITH A TARGET]]");
     };
     let source = fs::read(&rt, name.as_str())?;
     for layer in [Layer::Scan, Layer::Items, Layer::Tree] {
@@ -129,6 +170,10 @@ fn main(rt: HostRuntime) -> io::Result<()> {
     if let Some(name) = words.get(2) {
         let source = fs::read(&rt, name.as_str())?;
         measure_loading(&rt, source.as_slice())?;
+    }
+    if let Some(name) = words.get(3) {
+        let source = fs::read(&rt, name.as_str())?;
+        measure_adding(&rt, source.as_slice())?;
     }
     Ok(())
 }
