@@ -19,7 +19,7 @@ use Rattle.meson_plan.specs.declared.call.CallRef.{CallRef}
 use Rattle.meson_plan.specs.declared.call.Sources as found
 use Rattle.meson_plan.specs.declared.refusal.Refusal.{Refusal}
 use Rattle.meson_plan.specs.declared.refusal.Refusal.TheVariants.{OutOfMemory}
-use Rattle.meson_plan.specs.Project.{Project, nth_file, placed}
+use Rattle.meson_plan.specs.Project.{Project, BuildFile, nth_file, placed}
 use Rattle.meson_plan.specs.Calls.{Call, call_of}
 use Rattle.meson_plan.specs.GoodLists.{GoodListing}
 use Rattle.meson_plan.specs.Loading.{AreParsed, name_at, named_trees, views}
@@ -54,6 +54,12 @@ spanned_at files [] i d within are = absurd (omega (arith, within))
 spanned_at [] (t ∷ trees) i d within are = absurd are
 spanned_at (f ∷ files) (t ∷ trees) zero d within are = are.0
 spanned_at (f ∷ files) (t ∷ trees) (suc i) d within are = let below : i < length trees = omega (arith, within) in spanned_at files trees i d below are.1
+
+pub some_within : (files : List File) (trees : List Parsed) (n : ℕ) (g : BuildFile Span) → nth_file (named_trees files (views files trees)) n ≡ Some g → n < length trees
+some_within [] trees n g is = absurd cc
+some_within (f ∷ files) [] n g is = absurd cc
+some_within (f ∷ files) (t ∷ trees) zero g is = omega arith
+some_within (f ∷ files) (t ∷ trees) (suc n) g is = let below = some_within files trees n g is in omega (arith, below)
 
 call_good : (e : Expression Span) (l : Listing Span) → Some l ≡ option_map (λ k. k.arguments) (call_of e) → AreGood (expression_words e) → GoodListing l
 call_good (call s x m) l is good = let same : m ≡ l = cc in subst GoodListing same (good_listing m bracket.Round good.1)

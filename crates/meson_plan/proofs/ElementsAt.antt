@@ -22,7 +22,8 @@ use Rattle.meson_edit.specs.Edits.{elements}
 use Rattle.meson_plan.specs.declared.call.CallRef.{CallRef}
 use Rattle.meson_plan.specs.Loading.{AreParsed, named_trees, views}
 use Rattle.meson_plan.specs.Project.{Project, BuildFile, child, nth_file, expression_at}
-use Rattle.meson_plan.proofs.ExpressionsAt.{list_of, node_expression}
+use Rattle.meson_plan.proofs.ExpressionsAt.{node_expression}
+use Rattle.meson_plan.proofs.ListNodes.{list_of}
 use Rattle.meson_plan.proofs.Reached.{node_below}
 
 -- ---- elements and children
@@ -71,9 +72,9 @@ value_stands p levels c e l is is_list j a x is_element is_value =
     let o = and-then-some (λ (g : BuildFile Span). paths.expression_at g.tree c.path.steps) (nth_file p c.file) e is in
     let f = o.0.tree in
     let root = a_block (block_of f) in
-    let i = list_of f c.path.steps e l o.2 is_list in
-    let first = (list-fits Span f c.path.steps i.at i.is_at).level (levels c.file o.0 o.1) in
-    let level = subst (λ b. LevelListing l.list b) i.same_bracket (subst (λ m. LevelListing m i.at.bracket) i.same_list first) in
+    let i = list_of Span f c.path.steps e l o.2 is_list in
+    let first = (list-fits Span f c.path.steps i.place i.is_place).level (levels c.file o.0 o.1) in
+    let level = subst (λ b. LevelListing l.list b) i.bracket (subst (λ m. LevelListing m i.place.bracket) i.list first) in
     let node = only_expression (node_at root c.path.steps) e (sym (expression-reached Span f c.path.steps) ∙ o.2) in
     let of = of_list e l is_list in
     node_expression p (child c j) o.0 x o.1

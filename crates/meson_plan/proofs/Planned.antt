@@ -1,5 +1,5 @@
 -- What commands mean may be done: the steps on a target, and the one value of a keyword argument that is set.
-use Rattle.std.proofs.Common.{◌≡◌, ℕ, List, [], ◌∷◌, map, Some, refl, sym, ap, ◌∙◌, subst}
+use Rattle.std.proofs.Common.{◌≡◌, ℕ, List, [], ◌∷◌, map, Some, sym, ap, ◌∙◌}
 use Rattle.std.specs.Prelude.{All, Result, Ok, Err, IfOk}
 use Rattle.std.specs.Str.{IsUtf8}
 use Rattle.meson_lex.specs.declared.kinds.Span.{Span}
@@ -12,22 +12,23 @@ use Rattle.meson_plan.specs.declared.step.ListStep.{ListStep}
 use Rattle.meson_plan.specs.declared.targeting.Change.{Change}
 use Rattle.meson_plan.specs.declared.targeting.Change.TheVariants.{SourcesAdded, SourcesRemoved, ExtraAdded, ExtraRemoved}
 use Rattle.meson_plan.specs.Calls.{Call}
-use Rattle.meson_plan.specs.ListSteps.{AreDoable, bare}
-use Rattle.meson_plan.specs.Loading.{Loaded, IsProject, AreParsed, project}
+use Rattle.meson_plan.specs.ListSteps.{AreDoable}
+use Rattle.meson_plan.specs.Loading.{Loaded, IsProject, project}
 use Rattle.meson_plan.specs.Performing.{plain_trees}
 use Rattle.meson_plan.specs.Planning.{the_call, planned}
-use Rattle.meson_plan.specs.Plans.{Doable, MeansSteps}
+use Rattle.meson_plan.specs.Plans.{MeansSteps}
 use Rattle.meson_plan.specs.Project.{Project, Placed}
 use Rattle.meson_plan.specs.Replacing.{IsOneStep, ValueAt, step_of}
 use Rattle.meson_plan.specs.Standings.{TargetThere}
 use Rattle.meson_plan.specs.Steps.{Step}
 use Rattle.meson_plan.specs.Targeted.{AreMeant, change_steps, target_steps}
 use Rattle.meson_plan.proofs.ReplacementDoable.{replacement_doable}
-use Rattle.meson_plan.proofs.SourcesAddable.{sources_may_be_added, then_was}
+use Rattle.meson_plan.proofs.SourcesAddable.{sources_may_be_added}
 use Rattle.meson_plan.proofs.ExtrasAddable.{extras_may_be_added}
 use Rattle.meson_plan.proofs.RemovedSources.{sources_may_be_removed, extras_may_be_removed}
 use Rattle.meson_plan.proofs.TargetMarks.{sources_stand, extras_stand}
 use Rattle.meson_plan.proofs.TargetsFound.{targets_stand}
+use Rattle.meson_plan.proofs.WentWell.{then_was}
 
 module _ (old : Loaded) (whole : IsProject old) where
   abbrev p : Project Span

@@ -1,14 +1,13 @@
 -- The place of a part of a project names it.
-use Rattle.std.proofs.Common.{◌≡◌, ℕ, zero, suc, ◌+◌, ◌<◌, List, [], ◌∷◌, ◌++◌, length, length-append, Option, Some, None, refl, sym, ap, ◌∙◌, subst, arith}
-use Rattle.std.specs.Prelude.{Bool, true, false, if◌then◌else◌, option_map, option_and_then, Result, Ok, Err}
-use Rattle.std.specs.List.{cons_option}
+use Rattle.std.proofs.Common.{◌≡◌, ℕ, zero, suc, ◌+◌, List, [], ◌∷◌, ◌++◌, length, length-append, Option, Some, None, refl, ap, ◌∙◌, subst, arith}
+use Rattle.std.specs.Prelude.{option_and_then}
 use Rattle.meson_lex.specs.declared.kinds.Span.{Span}
 use Rattle.meson_syntax.specs.Tree.{Expression, identifier, boolean, integer, string, paren, array, dictionary, call, unary, row, postfix, conditional, Operands, no_operands, operand, Tail, method, index, Tails, no_tails, tail, Listing, listing, Argument, plain, named, pair, Arguments, no_arguments, argument, Statement, evaluate, assign, selection, iteration, breaks, continues, Branches, no_branches, branch, Otherwise, nothing_else, otherwise, Statements, no_statements, statement, Block, block, File, file}
 use Rattle.meson_syntax.specs.Parts.{Any, an_expression, a_statement, a_block, parts, node_at}
 use Rattle.meson_syntax.specs.Parts as syntax
 use Rattle.meson_syntax.specs.Paths.{nth, block_of}
 use Rattle.meson_plan.specs.declared.call.CallRef.{CallRef}
-use Rattle.meson_plan.specs.Project.{Project, BuildFile, Placed, child, place, nth_file}
+use Rattle.meson_plan.specs.Project.{Placed, child, place}
 use Rattle.meson_plan.specs.Parts.{Part, expression_parts, operands_parts, tail_parts, tails_parts, listing_parts, argument_parts, arguments_parts, statement_parts, branches_parts, otherwise_parts, statements_parts, block_parts, file_parts, parts_from, argument_children, arguments_children, listing_children, tail_children, branches_children}
 use Rattle.meson_plan.specs.Parts as part
 

@@ -1,10 +1,9 @@
 -- Where the items of a name stand, gathered one after another.
 use Rattle.std.proofs.Common.{◌≡◌, ℕ, ◌+◌, ◌<◌, List, [], ◌∷◌, ◌++◌, length, get_or, drop, refl, sym, ap, ◌∙◌, add-one}
-use Rattle.std.specs.Prelude.{Bool, true, false, ◌||◌, Option, Some, None, option_map, Result, Ok, Err, if◌then◌else◌, cond}
+use Rattle.std.specs.Prelude.{Bool, true, false, ◌||◌, Option, Some, None, option_map, Result, Ok, Err, if◌then◌else◌}
 use Rattle.std.proofs.Math.Seq.{drop-cons}
 use Rattle.std.proofs.lemmas.List.{append_assoc}
 use Rattle.meson_splice.specs.Patch.{then_ok}
-use Rattle.meson_plan.specs.declared.call.CallRef.{CallRef}
 use Rattle.meson_plan.specs.declared.call.SourceItem.{SourceItem}
 use Rattle.meson_plan.specs.declared.refusal.Refusal.{Refusal}
 use Rattle.meson_plan.specs.SourceEdits.{Spot, removable}

@@ -9,15 +9,15 @@ use Rattle.meson_syntax.specs.Paths as paths
 use Rattle.meson_syntax.specs.Tree.{Expression, Listing, listing, Argument, plain, named, pair, Arguments, no_arguments, argument, argument_list}
 use Rattle.meson_syntax.proofs.PathNodes.{list-reached}
 use Rattle.meson_syntax.proofs.paths.Reaching.{and-then-some, map-some}
+use Rattle.meson_syntax.proofs.paths.Every.{Every, every-append}
 use Rattle.meson_edit.specs.Edits.{elements}
 use Rattle.meson_plan.specs.Calls.{Call, Numbered, numbered, arguments_of, value_without_name, value_with_name, kept_number, positional, keyword}
 use Rattle.meson_plan.specs.Expansion.{in_list, fixed}
-use Rattle.meson_plan.specs.Loading.{Loaded, AreParsed, project}
+use Rattle.meson_plan.specs.Loading.{project}
 use Rattle.meson_plan.specs.Project.{Project, BuildFile, Placed, child, expression_at}
 use Rattle.meson_plan.specs.SourceEdits.{extra_key, extra_marks}
 use Rattle.meson_plan.specs.Sources.{sources_key, kwargs_key, expand_arguments, rest, hidden, source_marks}
 use Rattle.meson_plan.specs.Standings.{TargetThere, MarkStands, SourcesStand, ExtrasStand}
-use Rattle.meson_plan.proofs.CallsReached.{Every, every_both}
 use Rattle.meson_plan.proofs.ElementsAt.{AreLevel, value_stands, parsed_level}
 use Rattle.meson_plan.proofs.MarksThere.{ArgumentAt, arguments_met}
 
@@ -108,8 +108,8 @@ module _ (p : Project Span) (levels : AreLevel p) (c : Placed (Call Span)) (t : 
       let first = expand_arguments p c.place (in_list c.place) (rest (positional c.it)) [] in
       let second = expand_arguments p c.place (λ n. fixed) (keyword sources_key c.it) first.followed in
       all_of (MarkStands p) (source_marks p c)
-      (every_both (MarkStands p) (first.marks ++ second.marks) (hidden (keyword kwargs_key c.it))
-      (every_both (MarkStands p) first.marks second.marks
+      (every-append (MarkStands p) (first.marks ++ second.marks) (hidden (keyword kwargs_key c.it))
+      (every-append (MarkStands p) first.marks second.marks
       (arguments_met p levels c.place (in_list c.place) (rest (positional c.it)) [] (every_rest (ArgumentAt p levels c.place (in_list c.place)) (positional c.it) positional_at))
       (arguments_met p levels c.place (λ n. fixed) (keyword sources_key c.it) first.followed (keyword_at sources_key)))
       (hidden_each (keyword kwargs_key c.it)))

@@ -1,12 +1,9 @@
 -- A plan: the steps that a command means, as the code has them, which may be done one after another.
-use Rattle.std.specs.Prelude.{◌≡◌, List, map, Ok}
-use Rattle.meson_splice.specs.declared.file_set.File.{File}
-use Rattle.meson_syntax.specs.declared.tree.Parsed.{Parsed}
-use Rattle.meson_syntax.specs.Tree.{erase}
+use Rattle.std.specs.Prelude.{◌≡◌, List, Ok}
 use Rattle.meson_plan.specs.declared.command.Command.{Command}
 use Rattle.meson_plan.specs.declared.step.ListStep.{ListStep}
 use Rattle.meson_plan.specs.ListSteps.{AreBare, AreDoable}
-use Rattle.meson_plan.specs.Loading.{Loaded, project, trees}
+use Rattle.meson_plan.specs.Loading.{Loaded, project}
 use Rattle.meson_plan.specs.Performing.{plain_trees}
 use Rattle.meson_plan.specs.Planning.{planned}
 use Rattle.meson_plan.specs.Steps.{Step}

@@ -1,5 +1,5 @@
 use Rattle.std.proofs.Common.{◌≡◌, ◌<◌, ◌≤◌, [], length, map, sym, ap, ◌∙◌, subst}
-use Rattle.std.specs.Prelude.{Some, Ok, Err}
+use Rattle.std.specs.Prelude.{Ok, Err}
 use Rattle.meson_plan.specs.declared.refusal.Refusal.TheVariants.{DuplicateKeyword}
 use Rattle.meson_plan.specs.Calls.{value_with_name}
 use Rattle.meson_plan.specs.Expansion.{max_followed}

@@ -1,5 +1,4 @@
-use Rattle.std.proofs.Common.{◌≡◌, [], length, map, sym, ap, ◌∙◌}
-use Rattle.std.specs.Prelude.{Ok, Err}
+use Rattle.std.proofs.Common.{[], map, sym, ap, ◌∙◌}
 use Rattle.meson_plan.specs.ListSteps.{bare}
 use Rattle.meson_plan.specs.Named.{project_of}
 use Rattle.meson_plan.specs.Naming.{spots_of_names}
