@@ -22,7 +22,7 @@ use Rattle.meson_plan.specs.declared.refusal.Refusal.TheVariants.{OutOfMemory}
 use Rattle.meson_plan.specs.Project.{Project, BuildFile, nth_file, placed}
 use Rattle.meson_plan.specs.Calls.{Call, call_of}
 use Rattle.meson_plan.specs.GoodLists.{GoodListing}
-use Rattle.meson_plan.specs.Loading.{AreParsed, name_at, named_trees, views}
+use Rattle.meson_plan.specs.Loading.{AreParsed, named_trees, views}
 use Rattle.meson_plan.specs.declared.call.Role.TheVariants as role
 use Rattle.meson_plan.specs.Picking.{call_with, is_role_call}
 use Rattle.meson_plan.specs.Sources.{sources, sources_of_call}
@@ -30,6 +30,7 @@ use Rattle.meson_plan.specs.Strings.{AreGood}
 use Rattle.meson_plan.proofs.GoodParts.{good_left, good_right}
 use Rattle.meson_plan.proofs.GoodTexts.{text_good}
 use Rattle.meson_plan.proofs.Nested.{good_listing}
+use Rattle.meson_plan.proofs.Standing.{nth_there}
 
 -- ---- strings
 
@@ -69,16 +70,6 @@ call_good _ l is good = absurd (none_some is)
     none_some h = cc
 
 -- ---- places
-
-pub nth_there : (files : List File) (trees : List Parsed) (i : ℕ) (d : Parsed) → length trees ≡ length files → i < length trees →
-    nth_file (named_trees files (views files trees)) i ≡ Some (record { name = name_at i files; tree = view (bytes_at i files) (get_or trees i d) })
-nth_there files [] i d many within = absurd (omega arith)
-nth_there [] (t ∷ trees) i d many within = absurd (omega (arith, many))
-nth_there (f ∷ files) (t ∷ trees) zero d many within = refl
-nth_there (f ∷ files) (t ∷ trees) (suc i) d many within =
-    let alike : length trees ≡ length files = omega (arith, many) in
-    let below : i < length trees = omega (arith, within) in
-    nth_there files trees i d alike below
 
 module _ (files : List File) (trees : List Parsed) (c : CallRef) (d : Parsed) (many : length trees ≡ length files) (within : c.file < length trees) where
   abbrev the_project : Project Span

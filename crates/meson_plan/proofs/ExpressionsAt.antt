@@ -15,8 +15,8 @@ use Rattle.meson_plan.specs.Parts as part
 use Rattle.meson_plan.specs.Project.{Project, BuildFile, Placed, child, nth_file, expression_at}
 use Rattle.meson_plan.specs.Standings.{ListThere}
 use Rattle.meson_plan.proofs.CallsReached.{InProject}
-use Rattle.meson_plan.proofs.ListNodes.{list_of}
-use Rattle.meson_plan.proofs.Reached.{any, node_below}
+use Rattle.meson_plan.proofs.ListNodes.{list_of, node_below}
+use Rattle.meson_plan.proofs.Reached.{any}
 
 -- ---- places of a project
 
@@ -49,4 +49,4 @@ expression_stands p q e i is = node_expression p q.place i.file e (part_file p q
 -- the value of an assignment stands at its first child
 pub assigned_stands : (p : Project Span) (q : Placed (Part Span)) (s : Span) (x : List ℕ) (a : Assignment) (e : Expression Span) → InProject 0 p q → q.it ≡ part.a_statement (assign s x a e) → expression_at p (child q.place 0) ≡ Some e
 assigned_stands p q s x a e i is =
-    node_expression p (child q.place 0) i.file e (part_file p q i) (node_below (a_block (block_of i.file.tree)) q.place.path.steps (a_statement (assign s x a e)) 0 (i.is_node ∙ ap (λ y. Some (any y)) is))
+    node_expression p (child q.place 0) i.file e (part_file p q i) (node_below Span (a_block (block_of i.file.tree)) q.place.path.steps (a_statement (assign s x a e)) 0 (i.is_node ∙ ap (λ y. Some (any y)) is))

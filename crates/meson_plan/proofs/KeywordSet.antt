@@ -29,7 +29,7 @@ use Rattle.meson_plan.proofs.ArgumentValues.{list_elements}
 
 -- ---- the argument that is there
 
-named_value : (key : List ℕ) (a : Argument Span) (v : Expression Span) → value_with_name key a ≡ Some v → value_of a ≡ Some v
+pub named_value : (key : List ℕ) (a : Argument Span) (v : Expression Span) → value_with_name key a ≡ Some v → value_of a ≡ Some v
 named_value key (plain e) v is = absurd cc
 named_value key (named s x e) v is = go (bytes_eq x key) is
   where

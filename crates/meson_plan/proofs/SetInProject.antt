@@ -24,7 +24,8 @@ use Rattle.meson_plan.specs.Picking.{call_with}
 use Rattle.meson_plan.specs.Planning.{the_call, set_one, kwargs_set}
 use Rattle.meson_plan.specs.Project.{Project, BuildFile, Placed, placed, nth_file}
 use Rattle.meson_plan.specs.Replacing.{IsOneStep, ValueAt, ValueIn}
-use Rattle.meson_plan.proofs.CallsAt.{nth_there, some_within}
+use Rattle.meson_plan.proofs.CallsAt.{some_within}
+use Rattle.meson_plan.proofs.Standing.{nth_there}
 use Rattle.meson_plan.proofs.CallsReached.{CallStands, project_stands}
 use Rattle.meson_plan.proofs.Loads.{as_many}
 use Rattle.meson_plan.proofs.OneCall.{placed_at, call_there}

@@ -27,7 +27,8 @@ use Rattle.meson_plan.specs.Project.{Project, BuildFile, Placed, placed, nth_fil
 use Rattle.meson_plan.specs.SourceEdits.{elements_of, elements_there}
 use Rattle.meson_plan.specs.Targeted.{change_steps, target_steps}
 use Rattle.meson_plan.proofs.ArgumentValues.{list_elements}
-use Rattle.meson_plan.proofs.CallsAt.{nth_there, some_within}
+use Rattle.meson_plan.proofs.CallsAt.{some_within}
+use Rattle.meson_plan.proofs.Standing.{nth_there}
 use Rattle.meson_plan.proofs.Loads.{as_many}
 use Rattle.meson_plan.proofs.OneCall.{placed_at, call_there}
 use Rattle.meson_plan.proofs.TargetsFound.{CallAt, target_found}
