@@ -6,8 +6,8 @@ use Rattle.std.proofs.lemmas.List.{length-map}
 use Rattle.meson_edit.specs.Edits.{Remove}
 use Rattle.meson_plan.specs.declared.step.ListStep.{ListStep}
 use Rattle.meson_plan.specs.ListSteps.{bare}
-use Rattle.meson_plan.specs.Naming.{after_each}
 use Rattle.meson_plan.specs.SourceEdits.{Spot, spot_after, spots_after, step_in, removed, removed_by}
+use Rattle.meson_plan.specs.Spots.{after_each}
 
 pub after_more : (gone : List Spot) (g s : Spot) → after_each spot_after (gone ++ g ∷ []) s ≡ spot_after g (after_each spot_after gone s)
 after_more [] g s = refl

@@ -13,8 +13,9 @@ use Rattle.meson_plan.specs.Project.{Project, Placed, placed}
 use Rattle.meson_plan.specs.Calls.{Call, keyword, value_with_name}
 use Rattle.meson_plan.specs.Expansion.{Mark, max_followed}
 use Rattle.meson_plan.specs.ListSteps.{bare}
-use Rattle.meson_plan.specs.Naming.{new_among, spots_of_names}
+use Rattle.meson_plan.specs.Naming.{new_among}
 use Rattle.meson_plan.specs.Picking.{call_with}
+use Rattle.meson_plan.specs.Spots.{spots_of_names}
 use Rattle.meson_plan.specs.Sources.{sources_key, source_marks, home, once, or_call, or_option, first_list}
 use Rattle.meson_plan.specs.Sourced.{kept_args, all_gathered}
 use Rattle.meson_plan.specs.SourceEdits.{checked_names, distinct, new_names, inserted, plain_len, Spot, spots_named, removed, distinct_spots, sources_added, sources_removed}

@@ -7,7 +7,8 @@ use Rattle.meson_splice.specs.Patch.{then_ok}
 use Rattle.meson_plan.specs.declared.call.SourceItem.{SourceItem}
 use Rattle.meson_plan.specs.declared.refusal.Refusal.{Refusal}
 use Rattle.meson_plan.specs.SourceEdits.{Spot, removable}
-use Rattle.meson_plan.specs.Naming.{has_value, spot_at, spots_at, all_there, spots_from, before_all, behind_all, is_some_there}
+use Rattle.meson_plan.specs.Naming.{has_value}
+use Rattle.meson_plan.specs.Spots.{spot_at, spots_at, all_there, spots_from, before_all, behind_all, is_some_there}
 
 module _ (name : List ℕ) (items : List SourceItem) (numbers : List (Option ℕ)) (i : ℕ) (d : SourceItem) (e : Option ℕ) (within : i < length items) (also : i < length numbers) where
   abbrev item : SourceItem
