@@ -9,8 +9,8 @@ use Rattle.meson_syntax.specs.declared.tree.Expr.{Expr}
 use Rattle.meson_syntax.specs.declared.tree.List as rust
 use Rattle.meson_syntax.specs.Paths.{ListAt, list_at, nth, value_of, list_span}
 use Rattle.meson_syntax.specs.Places.{expression_span, argument_span}
-use Rattle.meson_syntax.specs.Tree.{Argument, Arguments, Listing, File, plain, named, arguments_of, argument_list}
-use Rattle.meson_syntax.specs.View.{arg_view, args_view, expr_view, list_view, text_at, view}
+use Rattle.meson_syntax.specs.Tree.{Argument, Listing, File, plain, named, arguments_of, argument_list}
+use Rattle.meson_syntax.specs.View.{arg_view, args_view, expr_view, list_view, text_at}
 use Rattle.meson_plan.proofs.Listed.{list_is}
 use Rattle.meson_edit.specs.Edits.{elements}
 use Rattle.meson_edit.specs.Places.{value_span, element_there, element_span, bracket_offset}

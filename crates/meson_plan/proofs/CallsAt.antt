@@ -19,10 +19,10 @@ use Rattle.meson_plan.specs.declared.call.CallRef.{CallRef}
 use Rattle.meson_plan.specs.declared.call.Sources as found
 use Rattle.meson_plan.specs.declared.refusal.Refusal.{Refusal}
 use Rattle.meson_plan.specs.declared.refusal.Refusal.TheVariants.{OutOfMemory}
-use Rattle.meson_plan.specs.Project.{Project, nth_file, placed}
+use Rattle.meson_plan.specs.Project.{Project, BuildFile, nth_file, placed}
 use Rattle.meson_plan.specs.Calls.{Call, call_of}
 use Rattle.meson_plan.specs.GoodLists.{GoodListing}
-use Rattle.meson_plan.specs.Loading.{AreParsed, name_at, named_trees, views}
+use Rattle.meson_plan.specs.Loading.{AreParsed, named_trees, views}
 use Rattle.meson_plan.specs.declared.call.Role.TheVariants as role
 use Rattle.meson_plan.specs.Picking.{call_with, is_role_call}
 use Rattle.meson_plan.specs.Sources.{sources, sources_of_call}
@@ -30,6 +30,7 @@ use Rattle.meson_plan.specs.Strings.{AreGood}
 use Rattle.meson_plan.proofs.GoodParts.{good_left, good_right}
 use Rattle.meson_plan.proofs.GoodTexts.{text_good}
 use Rattle.meson_plan.proofs.Nested.{good_listing}
+use Rattle.meson_plan.proofs.Standing.{nth_there}
 
 -- ---- strings
 
@@ -55,6 +56,12 @@ spanned_at [] (t ∷ trees) i d within are = absurd are
 spanned_at (f ∷ files) (t ∷ trees) zero d within are = are.0
 spanned_at (f ∷ files) (t ∷ trees) (suc i) d within are = let below : i < length trees = omega (arith, within) in spanned_at files trees i d below are.1
 
+pub some_within : (files : List File) (trees : List Parsed) (n : ℕ) (g : BuildFile Span) → nth_file (named_trees files (views files trees)) n ≡ Some g → n < length trees
+some_within [] trees n g is = absurd cc
+some_within (f ∷ files) [] n g is = absurd cc
+some_within (f ∷ files) (t ∷ trees) zero g is = omega arith
+some_within (f ∷ files) (t ∷ trees) (suc n) g is = let below = some_within files trees n g is in omega (arith, below)
+
 call_good : (e : Expression Span) (l : Listing Span) → Some l ≡ option_map (λ k. k.arguments) (call_of e) → AreGood (expression_words e) → GoodListing l
 call_good (call s x m) l is good = let same : m ≡ l = cc in subst GoodListing same (good_listing m bracket.Round good.1)
 call_good _ l is good = absurd (none_some is)
@@ -63,16 +70,6 @@ call_good _ l is good = absurd (none_some is)
     none_some h = cc
 
 -- ---- places
-
-pub nth_there : (files : List File) (trees : List Parsed) (i : ℕ) (d : Parsed) → length trees ≡ length files → i < length trees →
-    nth_file (named_trees files (views files trees)) i ≡ Some (record { name = name_at i files; tree = view (bytes_at i files) (get_or trees i d) })
-nth_there files [] i d many within = absurd (omega arith)
-nth_there [] (t ∷ trees) i d many within = absurd (omega (arith, many))
-nth_there (f ∷ files) (t ∷ trees) zero d many within = refl
-nth_there (f ∷ files) (t ∷ trees) (suc i) d many within =
-    let alike : length trees ≡ length files = omega (arith, many) in
-    let below : i < length trees = omega (arith, within) in
-    nth_there files trees i d alike below
 
 module _ (files : List File) (trees : List Parsed) (c : CallRef) (d : Parsed) (many : length trees ≡ length files) (within : c.file < length trees) where
   abbrev the_project : Project Span

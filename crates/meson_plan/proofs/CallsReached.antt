@@ -1,32 +1,23 @@
 -- The place of a call of a project names its arguments.
-use Rattle.std.proofs.Common.{◌≡◌, ℕ, zero, suc, ◌+◌, List, [], ◌∷◌, ◌++◌, Option, Some, None, refl, sym, ap, ◌∙◌, subst, arith}
-use Rattle.std.specs.Prelude.{Bool, true, false, if◌then◌else◌, option_map, option_and_then, Result, Ok, Err}
+use Rattle.std.proofs.Common.{◌≡◌, ℕ, suc, ◌+◌, List, [], ◌∷◌, Option, Some, None, refl, ap, ◌∙◌, subst, arith}
+use Rattle.std.specs.Prelude.{Bool, true, false, if◌then◌else◌, option_map, option_and_then, Ok}
 use Rattle.std.specs.List.{cons_option}
 use Rattle.meson_lex.specs.declared.kinds.Span.{Span}
 use Rattle.meson_splice.specs.Patch.{then_ok}
-use Rattle.meson_syntax.specs.Tree.{Expression, call, Listing, Statement, File}
-use Rattle.meson_syntax.specs.Parts.{Any, an_expression, a_statement, a_block, node_at, expression_any}
-use Rattle.meson_syntax.specs.Paths.{ListAt, ListIn, list_at, list_in, block_of, expression_at}
+use Rattle.meson_syntax.specs.Tree.{Expression, call, File}
+use Rattle.meson_syntax.specs.Parts.{a_block, node_at, expression_any}
+use Rattle.meson_syntax.specs.Paths.{ListAt, ListIn, list_at, list_in, block_of}
 use Rattle.meson_syntax.proofs.PathNodes.{expression-reached, list-reached}
-use Rattle.meson_plan.specs.declared.call.CallRef.{CallRef}
+use Rattle.meson_syntax.proofs.paths.Every.{Every, every-append}
 use Rattle.meson_plan.specs.declared.call.Role.{Role}
 use Rattle.meson_plan.specs.declared.call.Role.TheVariants as role
-use Rattle.meson_plan.specs.declared.refusal.Refusal.{Refusal}
-use Rattle.meson_plan.specs.Calls.{Call, call_of, part_call, all_chosen, chosen, calls}
+use Rattle.meson_plan.specs.Calls.{Call, call_of, part_call, all_chosen, calls}
 use Rattle.meson_plan.specs.Parts.{Part, parts, parts_from, file_parts}
 use Rattle.meson_plan.specs.Parts as part
 use Rattle.meson_plan.specs.Planning.{only_one, any_project, the_call}
 use Rattle.meson_plan.specs.Project.{Project, BuildFile, Placed, placed, nth_file}
 use Rattle.meson_plan.specs.Roles.{has_role, with_role, role_calls, found, one_of, project_ids}
 use Rattle.meson_plan.proofs.Reached.{any, Each, file_each}
-
-abbrev pub Every : {X : Type 0} → (X → Type 0) → List X → Type 0
-Every P [] = Unit {0}
-Every P (x ∷ xs) = P x × Every P xs
-
-pub every_both : {X : Type 0} (P : X → Type 0) (xs ys : List X) → Every P xs → Every P ys → Every P (xs ++ ys)
-every_both P [] ys a b = b
-every_both P (x ∷ xs) ys a b = (a.0, every_both P xs ys a.1 b)
 
 pub every_chosen : {X Y : Type 0} (P : Placed X → Type 0) (Q : Placed Y → Type 0) (choose : X → Option Y) → ((q : Placed X) (y : Y) → P q → choose q.it ≡ Some y → Q (placed q.place y))
     → (qs : List (Placed X)) → Every P qs → Every Q (all_chosen choose qs)
@@ -60,7 +51,7 @@ other_files n f files (q ∷ qs) all =
 
 pub every_part : (n : ℕ) (p : Project Span) → Every (InProject n p) (parts_from n p)
 every_part n [] = tt
-every_part n (f ∷ files) = every_both (InProject n (f ∷ files)) (file_parts n f.tree) (parts_from (n + 1) files) (first_file n f files _ (file_each n f.tree)) (other_files n f files _ (every_part (n + 1) files))
+every_part n (f ∷ files) = every-append (InProject n (f ∷ files)) (file_parts n f.tree) (parts_from (n + 1) files) (first_file n f files _ (file_each n f.tree)) (other_files n f files _ (every_part (n + 1) files))
 
 -- ---- calls
 

@@ -1,12 +1,11 @@
 -- Names each once, gathered one after another; and a list of references that is filtered by what they point to.
 use Rattle.std.proofs.Common.{◌≡◌, ℕ, zero, suc, arith, ◌+◌, ◌<◌, List, [], ◌∷◌, ◌++◌, length, get_or, drop, map, refl, sym, ap, ◌∙◌}
-use Rattle.std.specs.Prelude.{Bool, true, false, bytes_eq, reverse, if◌then◌else◌, cond}
+use Rattle.std.specs.Prelude.{Bool, true, false, bytes_eq, reverse, if◌then◌else◌}
 use Rattle.std.specs.List.{filter, list_any}
 use Rattle.std.proofs.Math.Seq.{drop-cons}
 use Rattle.std.proofs.Common.{add-one}
 use Rattle.std.proofs.lemmas.List.{append_assoc, reverse-append}
 use Rattle.std.proofs.lemmas.List.Sorted.{list_any-IsPermutation, IsPermutation-reverse}
-use Rattle.meson_plan.specs.Roles.{one_of}
 use Rattle.meson_plan.specs.SourceEdits.{distinct_by}
 
 turned : (f : List ℕ → Bool) (xs : List (List ℕ)) → list_any f (reverse xs) ≡ list_any f xs

@@ -1,12 +1,12 @@
 -- Extra files may be put where they go, one after another: into a list, into a new one, or behind a lone value.
 use Rattle.std.proofs.Common.{◌≡◌, ℕ, zero, suc, ◌-◌, ◌<◌, ◌≤◌, List, [], ◌∷◌, length, Option, Some, None, refl, sym, ap, ◌∙◌, subst, arith, IsUtf8}
-use Rattle.std.specs.Prelude.{option_map, All, Ok}
+use Rattle.std.specs.Prelude.{All, Ok}
 use Rattle.std.proofs.lemmas.List.Elements.{All-head, All-tail}
 use Rattle.meson_lex.specs.declared.kinds.Span.{Span}
 use Rattle.meson_splice.specs.Patch.{then_ok}
-use Rattle.meson_syntax.specs.Tree.{Plain, Expression, Listing, listing, Argument, plain, named, pair, Arguments, no_arguments, argument, argument_list, erase, erase_expression, erase_argument, erase_arguments, erase_listing}
+use Rattle.meson_syntax.specs.Tree.{Plain, Expression, Listing, listing, Argument, Arguments, no_arguments, argument, argument_list, erase, erase_expression, erase_argument, erase_arguments, erase_listing}
 use Rattle.meson_syntax.specs.Grammar.{LevelFile, file_depth}
-use Rattle.meson_syntax.specs.Paths.{nth, value_of}
+use Rattle.meson_syntax.specs.Paths.{nth}
 use Rattle.meson_edit.specs.Edits.{After, Wrap, elements}
 use Rattle.meson_plan.specs.declared.call.CallRef.{CallRef}
 use Rattle.meson_plan.specs.Calls.{Call, Numbered, numbered, kept_number, value_with_name, keyword}
@@ -24,17 +24,11 @@ use Rattle.meson_plan.proofs.Homes.{Home, marked_home, home_doable, tree_is, all
 use Rattle.meson_plan.proofs.KeywordText.{keyword_written}
 use Rattle.meson_plan.proofs.NamedPlaces.{keyword_there}
 use Rattle.meson_plan.proofs.NewLists.{keyword_grown, wrapped_grown, array_doable}
-use Rattle.meson_plan.proofs.SourcesAddable.{then_was, once_was, new_texts, some_first}
-use Rattle.meson_plan.proofs.SpannedPlaces.{plain_count, element_erased, plain_place, elements_are}
-use Rattle.meson_plan.proofs.StepsDone.{all_nth}
-use Rattle.meson_plan.proofs.WithOne.{parsed_shallow}
-
--- ---- values without their spans
-
-value_erased : (a : Argument Span) (v : Expression Span) → value_of a ≡ Some v → value_of (erase_argument a) ≡ Some (erase_expression v)
-value_erased (plain e) v is = ap (option_map erase_expression) is
-value_erased (named s x e) v is = ap (option_map erase_expression) is
-value_erased (pair s e f) v is = absurd cc
+use Rattle.meson_plan.proofs.SourcesAddable.{new_texts, some_first}
+use Rattle.meson_plan.proofs.PlainCounts.{plain_count, elements_are}
+use Rattle.meson_plan.proofs.PlainTrees.{parsed_shallow, element_erased, value_erased, plain_place}
+use Rattle.meson_plan.proofs.WentWell.{then_was, once_was}
+use Rattle.meson_plan.proofs.WithOne.{all_nth}
 
 -- ---- as many elements without their spans
 

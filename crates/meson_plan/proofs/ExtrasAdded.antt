@@ -1,6 +1,6 @@
 -- Extra files added: by the argument that is there, or by the home.
-use Rattle.std.proofs.Common.{rules, ◌≡◌, ℕ, suc, ◌<◌, List, [], ◌∷◌, ◌++◌, length, get_or, map, refl, sym, ap, ◌∙◌, subst, arith}
-use Rattle.std.specs.Prelude.{Bool, true, false, Option, Some, None, if◌then◌else◌, bytes_eq, Result, Ok, Err}
+use Rattle.std.proofs.Common.{rules, ◌≡◌, ℕ, ◌<◌, List, [], ◌∷◌, length, get_or, map, refl, sym, ap, ◌∙◌, subst, arith}
+use Rattle.std.specs.Prelude.{Bool, true, false, Option, Some, None, if◌then◌else◌, bytes_eq, Ok, Err}
 use Rattle.meson_lex.specs.declared.kinds.Span.{Span}
 use Rattle.meson_splice.specs.Patch.{then_ok}
 use Rattle.meson_syntax.specs.declared.tree.Arg.{Arg}
@@ -8,15 +8,14 @@ use Rattle.meson_syntax.specs.declared.tree.Arg.TheVariants as arg
 use Rattle.meson_syntax.specs.declared.tree.Arg.TheFolds.{the_lemmas}
 use Rattle.meson_syntax.specs.declared.tree.Expr.{Expr}
 use Rattle.meson_syntax.specs.declared.tree.List as rust
-use Rattle.meson_syntax.specs.Tree.{Expression, Argument, plain, named, pair}
-use Rattle.meson_syntax.specs.Paths.{nth}
-use Rattle.meson_syntax.specs.View.{arg_view, args_view, expr_view, list_view, text_at}
+use Rattle.meson_syntax.specs.Tree.{Expression, plain, named, pair}
+use Rattle.meson_syntax.specs.View.{arg_view, expr_view, list_view, text_at}
 use Rattle.meson_syntax.proofs.parsing.Steps.{some-injective}
 use Rattle.meson_plan.specs.declared.call.CallRef.{CallRef}
 use Rattle.meson_plan.specs.declared.refusal.Refusal.{Refusal}
 use Rattle.meson_plan.specs.declared.step.ListStep.{ListStep}
 use Rattle.meson_plan.specs.Calls.{Call, Numbered, keyword, value_with_name, literal}
-use Rattle.meson_plan.specs.Expansion.{Mark, max_followed}
+use Rattle.meson_plan.specs.Expansion.{max_followed}
 use Rattle.meson_plan.specs.Keywords.{IsFirstNamed}
 use Rattle.meson_plan.specs.ListSteps.{bare}
 use Rattle.meson_plan.specs.Naming.{new_among}
@@ -25,7 +24,6 @@ use Rattle.meson_plan.specs.Project.{Project, Placed, placed}
 use Rattle.meson_plan.specs.Sourced.{kept_args}
 use Rattle.meson_plan.specs.Sources.{or_option, first_list, first_empty}
 use Rattle.meson_plan.specs.SourceEdits.{extra_key, checked_extra, extra_added, extra_inserted, without_home, into_new_list, behind_value, inserted, inserted_in, plain_len, elements_there, new_names}
-use Rattle.meson_plan.specs.Steps.{Step}
 use Rattle.meson_plan.specs.Tallies.{Tally}
 use Rattle.meson_plan.specs.Targeted.{AreMeant, AreBehind, extra_gathered, lone_or_new, new_list_steps}
 use Rattle.meson_plan.proofs.Answered.{keyword_is}

@@ -13,8 +13,8 @@ use Rattle.meson_plan.specs.Project.{Project, Placed, placed}
 use Rattle.meson_plan.specs.Calls.{Call, keyword, value_with_name}
 use Rattle.meson_plan.specs.Expansion.{Mark, fixed, max_followed}
 use Rattle.meson_plan.specs.ListSteps.{bare}
-use Rattle.meson_plan.specs.Naming.{spots_of_names}
 use Rattle.meson_plan.specs.Picking.{call_with}
+use Rattle.meson_plan.specs.Spots.{spots_of_names}
 use Rattle.meson_plan.specs.Sources.{kwargs_key, once, expand_arguments}
 use Rattle.meson_plan.specs.Sourced.{kept_args}
 use Rattle.meson_plan.specs.SourceEdits.{checked_names, distinct, extra_key, extra_marks, not_hidden, checked_extra, Spot, spots_named, removed, distinct_spots, extra_removed}

@@ -1,10 +1,10 @@
 -- The first argument of a name: it is there, and its value is the first of that name.
-use Rattle.std.proofs.Common.{◌≡◌, ℕ, ◌+◌, ◌<◌, List, ◌∷◌, length, drop, get_or, refl, ap, ◌∙◌}
+use Rattle.std.proofs.Common.{◌≡◌, ℕ, ◌+◌, ◌<◌, List, length, drop, get_or, refl, ap, ◌∙◌}
 use Rattle.std.specs.Prelude.{true, Option, Some, None, is_some, option_map}
 use Rattle.std.specs.List.{cons_option}
 use Rattle.meson_syntax.specs.declared.tree.Arg.{Arg}
 use Rattle.meson_syntax.specs.View.{arg_view}
-use Rattle.meson_plan.specs.Calls.{Numbered, value_with_name}
+use Rattle.meson_plan.specs.Calls.{value_with_name}
 use Rattle.meson_plan.specs.Sourced.{kept_args}
 use Rattle.meson_plan.specs.Keywords.{IsFirstNamed}
 use Rattle.meson_plan.proofs.ArgumentValues.{nth_there}

@@ -19,9 +19,12 @@ use Rattle.meson_plan.specs.Project.{Project}
 use Rattle.meson_plan.specs.SourceEdits.{inserted, inserted_in, plain_len, elements_there}
 use Rattle.meson_plan.specs.Sources.{first_list, first_empty, list_of_slot, or_option}
 use Rattle.meson_plan.specs.Standings.{ListThere, StringThere, NothingThere, SlotStands, MarkStands}
-use Rattle.meson_plan.proofs.Insertable.{Room, place_no_pairs}
-use Rattle.meson_plan.proofs.SpannedPlaces.{plain_count, plain_count_is, count_erased, empty_erased, some_plain, last_plain, plain_place, elements_are, tree_there, trees_stand}
-use Rattle.meson_plan.proofs.StepsDone.{behind_doable, first_doable, all_nth}
+use Rattle.meson_plan.proofs.Insertable.{Room}
+use Rattle.meson_plan.proofs.ListNodes.{place_no_pairs}
+use Rattle.meson_plan.proofs.PlainCounts.{plain_count, plain_count_is, count_erased, some_plain, last_plain, elements_are}
+use Rattle.meson_plan.proofs.PlainTrees.{empty_erased, plain_place, tree_there, trees_stand}
+use Rattle.meson_plan.proofs.StepsDoable.{behind_doable, first_doable}
+use Rattle.meson_plan.proofs.WithOne.{all_nth}
 
 -- the list is there, and holds nothing or an element without a name
 pub record Home (p : Project Span) (c : CallRef) : Type 0 where

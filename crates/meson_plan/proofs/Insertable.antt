@@ -1,5 +1,5 @@
 -- A list with an element without a name, behind which strings are put one after another.
-use Rattle.std.proofs.Common.{◌≡◌, ℕ, zero, suc, ◌≤◌, false, List, [], ◌∷◌, ◌++◌, take, drop, Some, refl, ap, ◌∙◌, subst}
+use Rattle.std.proofs.Common.{◌≡◌, ℕ, zero, suc, ◌≤◌, false, List, [], ◌∷◌, ◌++◌, take, drop, Some, refl, ap, ◌∙◌}
 use Rattle.std.specs.Prelude.{option_map, option_and_then}
 use Rattle.meson_syntax.specs.declared.operator.Bracket.{Bracket}
 use Rattle.meson_syntax.specs.declared.operator.Bracket.TheVariants as bracket
@@ -12,7 +12,7 @@ use Rattle.meson_edit.specs.Sequences.{MayFollow, StaysThere}
 use Rattle.meson_edit.proofs.paths.PutThere.{lists-stay}
 use Rattle.meson_edit.proofs.sequences.Deepened.{firsts-stay-within, insertions-stay-within}
 use Rattle.meson_edit.proofs.sequences.Levelled.{firsts-keep-levels, insertions-keep-levels}
-use Rattle.meson_plan.proofs.ListNodes.{list_node, no_pairs}
+use Rattle.meson_plan.proofs.ListNodes.{place_no_pairs}
 
 -- ---- lists
 
@@ -31,10 +31,6 @@ nth_inserted (x ∷ xs) (suc n) it a is = nth_inserted xs n it a is
 pub first_there : (a : Argument Nowhere) (xs : List (Argument Nowhere)) → xs ≡ [] → first_element a xs ≡ Some (a ∷ [])
 first_there a [] none = refl
 first_there a (x ∷ xs) none = absurd cc
-
--- the brackets of a list that a path names hold no pairs
-pub place_no_pairs : (t : Plain) (path : List ℕ) (q : ListAt Nowhere) → list_at t path ≡ Some q → holds_pairs q.bracket ≡ false
-place_no_pairs t path q is = let at = list_node Nowhere t path q is in subst (λ b. holds_pairs b ≡ false) at.bracket (no_pairs at.node at.inner at.is_inner)
 
 -- ---- edits of a list that is there
 

@@ -1,5 +1,5 @@
 -- A keyword argument that is set: the one of its name among the arguments of a call.
-use Rattle.std.proofs.Common.{◌≡◌, ℕ, zero, suc, ◌+◌, ◌<◌, ◌≤◌, List, [], ◌∷◌, length, get_or, Option, Some, None, refl, sym, ap, ap₂, ◌∙◌, subst, arith}
+use Rattle.std.proofs.Common.{◌≡◌, ℕ, suc, ◌<◌, ◌≤◌, List, [], ◌∷◌, length, get_or, Some, None, refl, sym, ap, ap₂, ◌∙◌, subst, arith}
 use Rattle.std.specs.Prelude.{Bool, true, false, if◌then◌else◌, bytes_eq, Result, Ok, Err, IfOk, IfErr, ◌≢◌}
 use Rattle.meson_lex.specs.declared.kinds.Span.{Span}
 use Rattle.meson_splice.specs.Patch.{then_ok}
@@ -14,7 +14,7 @@ use Rattle.meson_plan.specs.declared.command.Setting.{Setting}
 use Rattle.meson_plan.specs.declared.planning.Replacement.{Replacement}
 use Rattle.meson_plan.specs.declared.refusal.Refusal.{Refusal}
 use Rattle.meson_plan.specs.declared.refusal.Refusal.TheVariants.{DuplicateKeyword, NotYet, OutOfMemory}
-use Rattle.meson_plan.specs.Calls.{Call, Numbered, keyword, value_with_name}
+use Rattle.meson_plan.specs.Calls.{Call, Numbered, value_with_name}
 use Rattle.meson_plan.specs.Keywords.{IsFirstNamed}
 use Rattle.meson_plan.specs.Picking.{call_with}
 use Rattle.meson_plan.specs.Planning.{not_hidden, replaced, set_keyword, set_one}
@@ -29,7 +29,7 @@ use Rattle.meson_plan.proofs.ArgumentValues.{list_elements}
 
 -- ---- the argument that is there
 
-named_value : (key : List ℕ) (a : Argument Span) (v : Expression Span) → value_with_name key a ≡ Some v → value_of a ≡ Some v
+pub named_value : (key : List ℕ) (a : Argument Span) (v : Expression Span) → value_with_name key a ≡ Some v → value_of a ≡ Some v
 named_value key (plain e) v is = absurd cc
 named_value key (named s x e) v is = go (bytes_eq x key) is
   where

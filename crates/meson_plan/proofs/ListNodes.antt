@@ -15,7 +15,7 @@ use Rattle.meson_syntax.proofs.paths.Reaching.{map-some, and-then-some, list-fit
 use Rattle.meson_edit.specs.Edits.{elements}
 
 -- an array or a call has no pairs
-pub no_pairs : {S : Type 0} (e : Expression S) (l : ListIn S) → list_in e ≡ Some l → holds_pairs l.bracket ≡ false
+no_pairs : {S : Type 0} (e : Expression S) (l : ListIn S) → list_in e ≡ Some l → holds_pairs l.bracket ≡ false
 no_pairs {S} (array l) m is = subst (λ (x : ListIn S). holds_pairs x.bracket ≡ false) (some-injective _ _ is) refl
 no_pairs {S} (call s x l) m is = subst (λ (x : ListIn S). holds_pairs x.bracket ≡ false) (some-injective _ _ is) refl
 no_pairs _ m is = absurd cc
@@ -80,10 +80,14 @@ module _ (S : Type 0) (f : File S) where
       let w = within_of h.sort h.inside h.before h.behind h.back e l o.2 in_it in
       record { place = w.place; is_place = ap (option_and_then (λ (g : Hole S (Block S)). list_of_node S g.sort g.inside f g.before g.behind g.back)) o.1 ∙ w.is_place; list = w.list; bracket = w.bracket }
 
+-- the brackets of a list that a path names hold no pairs
+pub place_no_pairs : {S : Type 0} (f : File S) (path : List ℕ) (q : ListAt S) → list_at f path ≡ Some q → holds_pairs q.bracket ≡ false
+place_no_pairs {S} f path q is = let at = list_node S f path q is in subst (λ b. holds_pairs b ≡ false) at.bracket (no_pairs at.node at.inner at.is_inner)
+
 -- ---- an element of it
 
 module _ (S : Type 0) where
-  node_below : (r : Any S) (path : List ℕ) (x : Any S) (n : ℕ) → node_at r path ≡ Some x → node_at r (path ++ n ∷ []) ≡ nth (parts x) n
+  pub node_below : (r : Any S) (path : List ℕ) (x : Any S) (n : ℕ) → node_at r path ≡ Some x → node_at r (path ++ n ∷ []) ≡ nth (parts x) n
   node_below r [] x n is = whole (nth (parts r) n) ∙ ap (λ o. option_and_then (λ y. nth (parts y) n) o) is
     where
       whole : (o : Option (Any S)) → option_and_then (λ y. Some y) o ≡ o
@@ -120,7 +124,7 @@ module _ (S : Type 0) where
   value_part (argument (plain e) more) b seen (suc n) a v none level is value = value_part more b false n a v none level.1 is value
   value_part (argument (named s x e) more) b seen (suc n) a v none level is value = value_part more b true n a v none level.1 is value
 
-  list_part : (e : Expression S) (l : ListIn S) (n : ℕ) (a : Argument S) (v : Expression S) → list_in e ≡ Some l → LevelListing l.list l.bracket → nth (elements l.list) n ≡ Some a → value_of a ≡ Some v
+  pub list_part : (e : Expression S) (l : ListIn S) (n : ℕ) (a : Argument S) (v : Expression S) → list_in e ≡ Some l → LevelListing l.list l.bracket → nth (elements l.list) n ≡ Some a → value_of a ≡ Some v
       → nth (expression_parts e) n ≡ Some (an_expression v)
   list_part (array (listing s trailing list)) l n a v is level there value =
       let same = some-injective _ _ is in

@@ -1,16 +1,15 @@
 -- What gathered marks say of commands: the names that are new, where further ones go, and where the items of names stand.
 use Rattle.std.proofs.Common.{◌≡◌, ℕ, List, [], ◌∷◌, ◌++◌, length, map, refl, sym, ap, ◌∙◌, zero-add}
-use Rattle.std.specs.Prelude.{Bool, true, false, not, Option, Some, None, option_map, option_and_then, Result, Ok, if◌then◌else◌}
+use Rattle.std.specs.Prelude.{Bool, true, false, not, Option, option_map, option_and_then, Ok, if◌then◌else◌}
 use Rattle.std.specs.List.{filter, list_any}
 use Rattle.std.proofs.lemmas.List.{length-map}
 use Rattle.meson_lex.specs.declared.kinds.Span.{Span}
 use Rattle.meson_splice.specs.Patch.{then_ok}
-use Rattle.meson_plan.specs.declared.call.SourceItem.{SourceItem}
-use Rattle.meson_plan.specs.declared.refusal.Refusal.{Refusal}
 use Rattle.meson_plan.specs.Expansion.{Slot, in_list, fixed, Item, Mark}
+use Rattle.meson_plan.specs.Spots.{spot_at, spots_at, all_there, spots_from, spots_of_names}
 use Rattle.meson_plan.specs.Sources.{items, opaque_count, first_list, first_empty, list_of_slot, source_item}
 use Rattle.meson_plan.specs.SourceEdits.{distinct, new_names, has_text, is_known, items_of, Spot, spot_of, spots_of, spots_by, spots_named, removable}
-use Rattle.meson_plan.specs.Naming.{has_value, new_among, spot_at, spots_at, all_there, spots_from, spots_of_names}
+use Rattle.meson_plan.specs.Naming.{has_value, new_among}
 use Rattle.meson_plan.specs.Tallies.{Tally, number_of_slot, all_marked, no_marks}
 use Rattle.meson_plan.proofs.Answered.{tally_is}
 use Rattle.meson_plan.proofs.Anys.{any-map}

@@ -7,13 +7,13 @@ use Rattle.meson_syntax.specs.declared.operator.StringKind.{StringKind}
 use Rattle.meson_syntax.specs.Operators.{string_kind}
 use Rattle.meson_syntax.specs.Paths.{ListIn, list_in, nth}
 use Rattle.meson_syntax.specs.Tree.{Expression, identifier, string, array, call, Listing, listing, Argument, plain, named, pair, Arguments, no_arguments, argument, argument_list}
+use Rattle.meson_syntax.proofs.paths.Every.{Every, every-append}
 use Rattle.meson_edit.specs.Edits.{elements}
 use Rattle.meson_plan.specs.declared.call.CallRef.{CallRef}
 use Rattle.meson_plan.specs.Expansion.{Slot, in_list, fixed, Mark, opaque, Expansion, Stand, joined, element, or_empty, within, are_named, literal_item, expand_by, expand_listing, expand_each, expand_argument}
 use Rattle.meson_plan.specs.Project.{Project, child, expression_at}
 use Rattle.meson_plan.specs.Roles.{one_of}
 use Rattle.meson_plan.specs.Standings.{ListThere, SlotStands, MarkStands}
-use Rattle.meson_plan.proofs.CallsReached.{Every, every_both}
 use Rattle.meson_plan.proofs.ExpressionsAt.{list_here}
 use Rattle.meson_plan.proofs.ElementsAt.{AreLevel, value_stands}
 
@@ -81,7 +81,7 @@ module _ (p : Project Span) (levels : AreLevel p) where
     call_met false c x followed m = opaque_met p
 
     after_first : (e : Expansion Span) (more : Expansion Span) (a : Argument Span) (es : List (Argument Span)) → Met p e.marks → Every (MarkStands p) more.marks → Within p (a ∷ es) (joined e more).marks
-    after_first e more a es first others = record { each = every_both (MarkStands p) e.marks more.marks first.each others; none = λ nothing. absurd (first.some (front e.marks more.marks nothing)) }
+    after_first e more a es first others = record { each = every-append (MarkStands p) e.marks more.marks first.each others; none = λ nothing. absurd (first.some (front e.marks more.marks nothing)) }
       where
         front : (xs ys : List (Mark Span)) → xs ++ ys ≡ [] → xs ≡ []
         front [] ys h = refl

@@ -4,6 +4,7 @@ use Rattle.std.specs.Prelude.{Bool, true, false, not, ◌&&◌, if◌then◌else
 use Rattle.meson_lex.specs.declared.kinds.Span.{Span}
 use Rattle.meson_syntax.specs.declared.operator.Assignment.{Assignment}
 use Rattle.meson_syntax.specs.Tree.{Expression, Statement, assign}
+use Rattle.meson_syntax.proofs.paths.Every.{Every, every-append}
 use Rattle.meson_plan.specs.declared.call.CallRef.{CallRef}
 use Rattle.meson_plan.specs.Calls.{Numbered}
 use Rattle.meson_plan.specs.Expansion.{Slot, opaque, Stand, Expansion, of_variable, follow_single, expand, max_followed}
@@ -13,7 +14,7 @@ use Rattle.meson_plan.specs.Project.{Project, Placed, placed, child, expression_
 use Rattle.meson_plan.specs.Sources.{expand_arguments}
 use Rattle.meson_plan.specs.Standings.{MarkStands}
 use Rattle.meson_plan.specs.Variables.{Assigned, is_set, assigned_by, part_assigned, assignments, is_outermost, only_value, all_known, is_set_otherwise, single}
-use Rattle.meson_plan.proofs.CallsReached.{Every, every_both, every_chosen, InProject, every_part}
+use Rattle.meson_plan.proofs.CallsReached.{every_chosen, InProject, every_part}
 use Rattle.meson_plan.proofs.ElementsAt.{AreLevel}
 use Rattle.meson_plan.proofs.ExpressionsAt.{assigned_stands}
 use Rattle.meson_plan.proofs.MarksStand.{StandsAs, Met, opaque_met, expression_met}
@@ -74,5 +75,5 @@ module _ (p : Project Span) (levels : AreLevel p) where
   arguments_met c slot [] followed all = tt
   arguments_met c slot (a ∷ more) followed all =
       let e = expand p max_followed a.value (record { place = child c a.number; slot = slot a.number; variable = None }) followed in
-      every_both (MarkStands p) e.marks (expand_arguments p c slot more e.followed).marks
+      every-append (MarkStands p) e.marks (expand_arguments p c slot more e.followed).marks
       (expand_met max_followed a.value (record { place = child c a.number; slot = slot a.number; variable = None }) followed all.0).each (arguments_met c slot more e.followed all.1)

@@ -12,15 +12,15 @@ use Rattle.meson_edit.proofs.sequences.Deepened.{edits-deepen-by-one}
 use Rattle.meson_edit.proofs.sequences.Levelled.{insertions-keep-levels, wraps-keep-levels}
 use Rattle.meson_plan.specs.declared.call.CallRef.{CallRef}
 use Rattle.meson_plan.specs.ListSteps.{MayStand, AreDoable}
-use Rattle.meson_plan.specs.Outcomes.{with_one}
+use Rattle.meson_plan.specs.OtherValues.{with_one}
 use Rattle.meson_plan.specs.Project.{child}
 use Rattle.meson_plan.specs.Settings.{string_of}
 use Rattle.meson_plan.specs.SourceEdits as plan
 use Rattle.meson_plan.specs.SourceEdits.{step_in, extra_key, array_with, written_keyword}
 use Rattle.meson_plan.proofs.Insertable.{Room, elements_with, nth_inserted, edited_there, there_again}
 use Rattle.meson_plan.proofs.ListNodes.{array_below}
-use Rattle.meson_plan.proofs.StepsDone.{step_doable, behind_doable, nth_with}
-use Rattle.meson_plan.proofs.WithOne.{all_with}
+use Rattle.meson_plan.proofs.StepsDoable.{step_doable, behind_doable}
+use Rattle.meson_plan.proofs.WithOne.{changed_there, all_with}
 
 -- ---- elements
 
@@ -103,4 +103,4 @@ array_doable c n e names utf8 trees t is all shallow writes g =
     let deep = g.depth in
     let now_stands : MayStand g.now = (g.level, omega (arith, shallow, deep)) in
     step_doable (step_in c e) (plan.inserted (child c n) 1 names) trees t g.now is g.is writes all now_stands
-    (behind_doable (child c n) names utf8 0 (with_one c.file g.now trees) g.now (nth_with trees c.file t g.now is) (all_with MayStand trees c.file g.now all now_stands) g.room)
+    (behind_doable (child c n) names utf8 0 (with_one c.file g.now trees) g.now (changed_there trees c.file t g.now is) (all_with MayStand trees c.file g.now all now_stands) g.room)

@@ -1,5 +1,5 @@
 -- The one call that an id names, by its place.
-use Rattle.std.proofs.Common.{◌≡◌, ◌≢◌, ℕ, List, [], ◌∷◌, length, codes, refl, sym, ap, ◌∙◌, subst}
+use Rattle.std.proofs.Common.{◌≡◌, ◌≢◌, ℕ, List, [], ◌∷◌, length, refl, sym, ap, ◌∙◌}
 use Rattle.std.specs.Prelude.{false, ◌==◌}
 use Rattle.meson_lex.specs.declared.kinds.Span.{Span}
 use Rattle.meson_splice.specs.Patch.{then_ok}
@@ -9,16 +9,12 @@ use Rattle.meson_plan.specs.declared.call.Role.TheVariants as role
 use Rattle.meson_plan.specs.Calls.{Call}
 use Rattle.meson_plan.specs.Notes.{notes}
 use Rattle.meson_plan.specs.Picking.{found_places}
-use Rattle.meson_plan.specs.Planning.{only_one, any_project, the_call, not_yet, planned}
+use Rattle.meson_plan.specs.Planning.{only_one, any_project, the_call, not_yet}
 use Rattle.meson_plan.specs.Project.{Project, Placed}
-use Rattle.meson_plan.specs.Replacing.{any_place, the_place, subject, IsLookedFor, IsNotDone}
+use Rattle.meson_plan.specs.Replacing.{any_place, the_place, IsNotYet}
 use Rattle.meson_plan.specs.Roles.{found, role_calls, places}
-use Rattle.meson_plan.specs.Steps.{Step}
 use Rattle.meson_plan.proofs.Picked.{role_places, found_notes}
 use Rattle.std.specs.Prelude.{Result, Ok, Err, IfErr, IfOk}
-use Rattle.meson_plan.specs.declared.command.Command.{Command}
-use Rattle.meson_plan.specs.declared.command.Command.TheVariants as command
-use Rattle.meson_plan.specs.declared.command.Setting.{Setting}
 use Rattle.meson_plan.specs.declared.refusal.Refusal.{Refusal}
 use Rattle.meson_plan.specs.declared.refusal.Refusal.TheVariants.{OutOfMemory, NotYet}
 
@@ -71,48 +67,11 @@ pub call_refused : (x : Result (Placed (Call Span)) Refusal) (e : Refusal) → p
 call_refused (Ok c) e is = absurd cc
 call_refused (Err f) e is = let same : f ≡ e = cc in ap Err same
 
-pub looked : {Y : Type 0} (x : Result (Placed (Call Span)) Refusal) (place : Result CallRef Refusal) (e : Refusal) → place ≡ placed_at x → IsLookedFor place e → not_yet {Y = Y} x ≡ Err e
-looked (Ok c) place e is told = let same : e ≡ NotYet = subst (λ r. IsLookedFor r e) is told in ap Err (sym same)
-looked (Err f) place e is told = let same : e ≡ f = subst (λ r. IsLookedFor r e) is told in ap Err (sym same)
+-- ---- a command that is not done so far
 
--- ---- commands that are not done so far
+module _ (p : Project Span) (r : Role) (id : List ℕ) where
+  pub found_not_yet : (call : CallRef) → the_place r id (notes p) ≡ Ok call → IsNotYet p r id NotYet
+  found_not_yet call is = ap not_yet (call_there (the_call p r id) call (sym (place_is r id p) ∙ is)).1
 
-abbrev pub IsDone : Command → Type 0
-IsDone (command.SourcesAdd target sources) = Unit {0}
-IsDone (command.SourcesRemove target sources) = Unit {0}
-IsDone (command.ExtraAdd target sources) = Unit {0}
-IsDone (command.ExtraRemove target sources) = Unit {0}
-IsDone (command.KwargsSet role.Project id pairs) = Unit {0}
-IsDone _ = ⊥
-
-pub none_of_them : (k : Command) → ((t : List ℕ) (s : List (List ℕ)) → k ≡ command.SourcesAdd t s → ⊥) → ((t : List ℕ) (s : List (List ℕ)) → k ≡ command.SourcesRemove t s → ⊥)
-    → ((t : List ℕ) (s : List (List ℕ)) → k ≡ command.ExtraAdd t s → ⊥) → ((t : List ℕ) (s : List (List ℕ)) → k ≡ command.ExtraRemove t s → ⊥)
-    → ((r : Role) (id : List ℕ) (pairs : List (List ℕ × Setting)) → k ≡ command.KwargsSet r id pairs → ⊥) → IsDone k → ⊥
-none_of_them (command.SourcesAdd target sources) a b c d e done = a target sources refl
-none_of_them (command.SourcesRemove target sources) a b c d e done = b target sources refl
-none_of_them (command.ExtraAdd target sources) a b c d e done = c target sources refl
-none_of_them (command.ExtraRemove target sources) a b c d e done = d target sources refl
-none_of_them (command.KwargsSet role.Project id pairs) a b c d e done = e role.Project id pairs refl
-none_of_them _ a b c d e done = done
-
-module _ (p : Project Span) (e : Refusal) where
-  by_place : (r : Role) (id : List ℕ) → IsLookedFor (the_place r id (notes p)) e → not_yet {Y = List Step} (the_call p r id) ≡ Err e
-  by_place r id told = looked (the_call p r id) (the_place r id (notes p)) e (place_is r id p) told
-
-  pub not_done : (k : Command) → (IsDone k → ⊥) → IsNotDone (subject k) (notes p) e → planned p k ≡ Err e
-  not_done (command.SourcesAdd target sources) other told = absurd (other tt)
-  not_done (command.SourcesRemove target sources) other told = absurd (other tt)
-  not_done (command.ExtraAdd target sources) other told = absurd (other tt)
-  not_done (command.ExtraRemove target sources) other told = absurd (other tt)
-  not_done (command.TargetAdd target kind subdir sources) other told = ap Err (sym told)
-  not_done (command.TargetRemove target) other told = by_place role.Target target told
-  not_done (command.TargetInfo target) other told = by_place role.Target target told
-  not_done (command.KwargsSet role.Target id pairs) other told = by_place role.Target id told
-  not_done (command.KwargsSet role.Dependency id pairs) other told = by_place role.Dependency id told
-  not_done (command.KwargsSet role.Project id pairs) other told = absurd (other tt)
-  not_done (command.KwargsAdd r id pairs) other told = by_place r id told
-  not_done (command.KwargsRemove r id pairs) other told = by_place r id told
-  not_done (command.KwargsDelete r id keys) other told = by_place r id told
-  not_done (command.KwargsInfo r id) other told = by_place r id told
-  not_done (command.OptionsSet pairs) other told = by_place role.Project (codes "/") told
-  not_done (command.OptionsDelete names) other told = by_place role.Project (codes "/") told
+  pub lost_not_yet : (e : Refusal) → the_place r id (notes p) ≡ Err e → IsNotYet p r id e
+  lost_not_yet e is = ap not_yet (call_refused (the_call p r id) e (sym (place_is r id p) ∙ is))

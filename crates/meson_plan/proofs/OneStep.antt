@@ -1,6 +1,7 @@
 -- One step of those that may be done one after another.
 use Rattle.std.proofs.Common.{◌≡◌, ℕ, ◌+◌, ◌<◌, ◌≤◌, List, [], ◌∷◌, ◌++◌, length, get_or, append-nil, refl, sym, ap, ◌∙◌, subst, arith}
-use Rattle.std.specs.Prelude.{All, Some, Ok}
+use Rattle.std.specs.Prelude.{All, None, Some, Ok}
+use Rattle.std.specs.Str.{IsUtf8}
 use Rattle.meson_lex.specs.declared.kinds.Span.{Span}
 use Rattle.meson_lex.specs.Items.{Lexeme, IsItemList}
 use Rattle.meson_layout.specs.declared.primitive.Primitive.{Primitive}
@@ -10,30 +11,43 @@ use Rattle.meson_splice.specs.declared.file_set.File.{File}
 use Rattle.meson_splice.specs.declared.splice.Splice.{Splice}
 use Rattle.meson_splice.specs.Files.{IsDistinct, bytes_at, with_bytes}
 use Rattle.meson_splice.specs.Patch.{patched_all}
+use Rattle.meson_syntax.specs.declared.source.Limits.{Limits}
 use Rattle.meson_syntax.specs.declared.tree.Parsed.{Parsed}
+use Rattle.meson_syntax.specs.Grammar.{file_depth}
 use Rattle.meson_syntax.specs.Reads.{IsSpannedWithin, ReadsWithin, Spells, wide}
 use Rattle.meson_syntax.specs.Tree as tree
 use Rattle.meson_syntax.specs.Tree.{Plain, erase}
 use Rattle.meson_syntax.specs.View.{view}
 use Rattle.meson_syntax.proofs.exchange.Standing.{spelled-reads}
+use Rattle.meson_syntax.proofs.parsing.Answers.{reads-found}
 use Rattle.meson_syntax.proofs.parsing.Steps.{some-injective}
 use Rattle.meson_edit.specs.Edits.{edited}
 use Rattle.meson_edit.specs.Laws.{Makes}
 use Rattle.meson_plan.specs.declared.step.ListStep.{ListStep}
 use Rattle.meson_plan.specs.declared.work.Work.{Work}
-use Rattle.meson_plan.specs.Done.{with_some}
 use Rattle.meson_plan.specs.ListSteps.{AreDoable, MayStand, bare}
 use Rattle.meson_plan.specs.Loading.{HasFileName, Loaded, max_files, name_at}
-use Rattle.meson_plan.specs.Outcomes.{with_one}
+use Rattle.meson_plan.specs.OtherValues.{with_one, with_some}
 use Rattle.meson_plan.specs.Performing.{plain_trees, saturated}
 use Rattle.meson_plan.specs.Steps.{Step, StepsMake, Laid, effective, read_again}
 use Rattle.meson_plan.specs.Working.{AreKnown, IsChanged, MayChange, Reached, placed_edit, so_far}
 use Rattle.meson_plan.proofs.PatchedFiles.{OfFile, all_patched, distinct_with, effective_of_file, effective_patches, of_file}
-use Rattle.meson_plan.proofs.ReplacedTrees.{one_spelled}
 use Rattle.meson_plan.proofs.StepPlaces.{every_edit, next_doable, step_code, NextDoable, IsCode}
-use Rattle.meson_plan.proofs.StepsMade.{ChangedAt, changed_from, saturated_more, stepped_more, steps_more}
-use Rattle.meson_plan.proofs.WithOne.{all_at, as_many_files, as_many_plain, bytes_there, named_with, plain_at, plain_with, with_same}
+use Rattle.meson_plan.proofs.OneMoreStep.{saturated_more, stepped_more, steps_more}
+use Rattle.meson_plan.proofs.OtherBytes.{as_many_files, as_many_plain, bytes_there, named_with, plain_at, plain_with}
+use Rattle.meson_plan.proofs.WithOne.{ChangedAt, all_at, changed_from, with_same}
 use Rattle.meson_plan.proofs.WorkKnown.{AsMany, IsKnown, as_many_known, known_at, known_with, some_with}
+
+-- a text spells one tree, however deep it nests
+one_spelled : (bytes : List ℕ) (s t : Plain) → IsUtf8 bytes → Spells bytes s → Spells bytes t → s ≡ t
+one_spelled bytes s t utf8 p q =
+    let limits : Limits = record { len = None; depth = file_depth s + file_depth t } in
+    let ps : ReadsWithin limits bytes s = spelled-reads limits bytes s p utf8 tt (omega arith) in
+    let qs : ReadsWithin limits bytes t = spelled-reads limits bytes t q utf8 tt (omega arith) in
+    let f = reads-found limits bytes p.items ps.source p.are_items s ps in
+    let g = reads-found limits bytes p.items ps.source p.are_items t qs in
+    let same : f.0 ≡ g.0 = some-injective _ _ (sym f.2 ∙ g.2) in
+    sym f.1 ∙ ap erase same ∙ g.1
 
 pub read_some : (splices : List Splice) (i : ℕ) (files : List File) → (splices ≡ [] → ⊥) → read_again splices i files ≡ length (bytes_at i files)
 read_some [] i files some = absurd (some refl)

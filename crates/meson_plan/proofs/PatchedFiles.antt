@@ -15,7 +15,7 @@ use Rattle.meson_splice.specs.Patch.{patched, patched_in, patched_all, then_ok}
 use Rattle.meson_plan.specs.Loading.{name_at}
 use Rattle.meson_plan.specs.Steps.{effective}
 use Rattle.meson_plan.proofs.Spliced.{patched_named, same_text}
-use Rattle.meson_plan.proofs.WithOne.{bytes_there, as_many_files}
+use Rattle.meson_plan.proofs.OtherBytes.{bytes_there, as_many_files}
 
 -- ---- as many files
 
@@ -44,6 +44,9 @@ all_as_many files new (s ∷ ss) done = go (patched_in files s) refl done (λ mo
         → ((more : List File) → patched_in files s ≡ Ok more → patched_all more ss ≡ Ok new → length new ≡ length files) → length new ≡ length files
     go (Ok more) is rest later = later more is rest
     go (Err e) is rest later = absurd cc
+
+pub same_files : (x y : List File) (r : Result (List File) SpliceFault) → r ≡ Ok x → r ≡ Ok y → x ≡ y
+same_files x y r one other = cc
 
 -- ---- splices that change nothing
 

@@ -1,4 +1,4 @@
--- What a command makes of a project, from what its steps make.
+-- What a command makes of a project, and why it is refused, from what its steps make.
 use Rattle.std.proofs.Common.{◌≡◌, ℕ, List, refl, ◌∙◌}
 use Rattle.meson_splice.specs.declared.splice.Splice.{Splice}
 use Rattle.meson_plan.specs.declared.command.Command.{Command}

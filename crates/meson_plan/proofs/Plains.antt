@@ -1,6 +1,6 @@
 -- Elements without a name, counted; and the elements of the list at a place.
-use Rattle.std.proofs.Common.{◌≡◌, ℕ, suc, ◌+◌, ◌<◌, ◌≤◌, List, [], ◌∷◌, length, drop, get_or, refl, sym, ap, ◌∙◌, arith}
-use Rattle.std.specs.Prelude.{Bool, true, false, Option, Some, None, is_some, option_map, option_and_then, if◌then◌else◌}
+use Rattle.std.proofs.Common.{◌≡◌, ℕ, suc, ◌+◌, ◌<◌, ◌≤◌, List, [], ◌∷◌, length, drop, get_or, refl, sym, ap, ◌∙◌}
+use Rattle.std.specs.Prelude.{true, false, Option, Some, None, is_some, option_map, option_and_then, if◌then◌else◌}
 use Rattle.std.specs.List.{filter}
 use Rattle.std.proofs.lemmas.List.{at_drop_more, at_drop_all}
 use Rattle.meson_lex.specs.declared.kinds.Span.{Span}

@@ -1,10 +1,9 @@
 -- What commands mean may be done: the steps on a target, and the one value of a keyword argument that is set.
-use Rattle.std.proofs.Common.{◌≡◌, ℕ, List, [], ◌∷◌, map, Some, refl, sym, ap, ◌∙◌, subst}
+use Rattle.std.proofs.Common.{◌≡◌, ℕ, List, [], ◌∷◌, map, Some, sym, ap}
 use Rattle.std.specs.Prelude.{All, Result, Ok, Err, IfOk}
 use Rattle.std.specs.Str.{IsUtf8}
 use Rattle.meson_lex.specs.declared.kinds.Span.{Span}
 use Rattle.meson_plan.specs.declared.call.Role.TheVariants as role
-use Rattle.meson_plan.specs.declared.command.Command.{Command}
 use Rattle.meson_plan.specs.declared.planning.Replacement.{Replacement}
 use Rattle.meson_plan.specs.declared.refusal.Refusal.{Refusal}
 use Rattle.meson_plan.specs.declared.step.ListEdit.TheVariants as code
@@ -12,22 +11,23 @@ use Rattle.meson_plan.specs.declared.step.ListStep.{ListStep}
 use Rattle.meson_plan.specs.declared.targeting.Change.{Change}
 use Rattle.meson_plan.specs.declared.targeting.Change.TheVariants.{SourcesAdded, SourcesRemoved, ExtraAdded, ExtraRemoved}
 use Rattle.meson_plan.specs.Calls.{Call}
-use Rattle.meson_plan.specs.ListSteps.{AreDoable, bare}
-use Rattle.meson_plan.specs.Loading.{Loaded, IsProject, AreParsed, project}
+use Rattle.meson_plan.specs.ListSteps.{AreDoable}
+use Rattle.meson_plan.specs.Loading.{Loaded, IsProject, project}
 use Rattle.meson_plan.specs.Performing.{plain_trees}
-use Rattle.meson_plan.specs.Planning.{the_call, planned}
-use Rattle.meson_plan.specs.Plans.{Doable, MeansSteps}
+use Rattle.meson_plan.specs.Planning.{the_call}
+use Rattle.meson_plan.specs.Plans.{ArePlanned}
 use Rattle.meson_plan.specs.Project.{Project, Placed}
 use Rattle.meson_plan.specs.Replacing.{IsOneStep, ValueAt, step_of}
 use Rattle.meson_plan.specs.Standings.{TargetThere}
 use Rattle.meson_plan.specs.Steps.{Step}
 use Rattle.meson_plan.specs.Targeted.{AreMeant, change_steps, target_steps}
 use Rattle.meson_plan.proofs.ReplacementDoable.{replacement_doable}
-use Rattle.meson_plan.proofs.SourcesAddable.{sources_may_be_added, then_was}
+use Rattle.meson_plan.proofs.SourcesAddable.{sources_may_be_added}
 use Rattle.meson_plan.proofs.ExtrasAddable.{extras_may_be_added}
 use Rattle.meson_plan.proofs.RemovedSources.{sources_may_be_removed, extras_may_be_removed}
 use Rattle.meson_plan.proofs.TargetMarks.{sources_stand, extras_stand}
 use Rattle.meson_plan.proofs.TargetsFound.{targets_stand}
+use Rattle.meson_plan.proofs.WentWell.{then_was}
 
 module _ (old : Loaded) (whole : IsProject old) where
   abbrev p : Project Span
@@ -41,27 +41,26 @@ module _ (old : Loaded) (whole : IsProject old) where
   changed ExtraRemoved c there names utf8 steps is = extras_may_be_removed old whole.parsed c there (extras_stand old whole.parsed c there) names utf8 steps is
 
   -- the steps on a target
-  target_means : (target : List ℕ) (change : Change) (names : List (List ℕ)) → All IsUtf8 names → (list : List ListStep) → AreMeant (target_steps p target change names) list
-      → (k : Command) → planned p k ≡ target_steps p target change names → MeansSteps old k list
-  target_means target change names utf8 list meant k is =
+  target_means : (target : List ℕ) (change : Change) (names : List (List ℕ)) → All IsUtf8 names → (list : List ListStep) → AreMeant (target_steps p target change names) list → ArePlanned old (target_steps p target change names) list
+  target_means target change names utf8 list meant =
       let c = then_was (the_call p role.Target target) (change_steps p change names) meant.steps meant.is in
       let there = targets_stand p target c.0 c.1 in
       record {
         steps = meant.steps;
-        are_planned = is ∙ meant.is;
+        are_planned = meant.is;
         are_doable = record { bare = meant.bare; doable = changed change c.0 there names utf8 meant.steps c.2 };
       }
 
   module _ {V : Type 0} (list : V → List ListStep) where
-    pub all_mean : (target : List ℕ) (change : Change) (names : List (List ℕ)) (k : Command) → planned p k ≡ target_steps p target change names
-        → (r : Result V Refusal) → IfOk r (λ v. All IsUtf8 names) → IfOk r (λ v. AreMeant (target_steps p target change names) (list v)) → IfOk r (λ v. MeansSteps old k (list v))
-    all_mean target change names k is (Ok v) utf8 meant = target_means target change names utf8 (list v) meant k is
-    all_mean target change names k is (Err e) utf8 meant = tt
+    pub all_mean : (target : List ℕ) (change : Change) (names : List (List ℕ)) (r : Result V Refusal) → IfOk r (λ v. All IsUtf8 names)
+        → IfOk r (λ v. AreMeant (target_steps p target change names) (list v)) → IfOk r (λ v. ArePlanned old (target_steps p target change names) (list v))
+    all_mean target change names (Ok v) utf8 meant = target_means target change names utf8 (list v) meant
+    all_mean target change names (Err e) utf8 meant = tt
 
   -- the value of a keyword argument
-  value_means : (r : Replacement) (k : Command) → IsOneStep (planned p k) r → ValueAt p r.call r.argument → (list : List ListStep) → list ≡ record { list = r.call; edit = code.Replace r.argument r.new } ∷ []
-      → MeansSteps old k list
-  value_means r k one there list is =
+  value_means : (r : Replacement) (meant : Result (List Step) Refusal) → IsOneStep meant r → ValueAt p r.call r.argument → (list : List ListStep) → list ≡ record { list = r.call; edit = code.Replace r.argument r.new } ∷ []
+      → ArePlanned old meant list
+  value_means r meant one there list is =
       record {
         steps = step_of r one.new ∷ [];
         are_planned = one.is;
@@ -69,7 +68,7 @@ module _ (old : Loaded) (whole : IsProject old) where
       }
 
   module _ {V : Type 0} (list : V → List ListStep) where
-    pub one_means : (r : Replacement) (k : Command) → IsOneStep (planned p k) r → ValueAt p r.call r.argument
-        → (s : Result V Refusal) → IfOk s (λ v. list v ≡ record { list = r.call; edit = code.Replace r.argument r.new } ∷ []) → IfOk s (λ v. MeansSteps old k (list v))
-    one_means r k one there (Ok v) is = value_means r k one there (list v) is
-    one_means r k one there (Err e) is = tt
+    pub one_means : (r : Replacement) (meant : Result (List Step) Refusal) → IsOneStep meant r → ValueAt p r.call r.argument
+        → (s : Result V Refusal) → IfOk s (λ v. list v ≡ record { list = r.call; edit = code.Replace r.argument r.new } ∷ []) → IfOk s (λ v. ArePlanned old meant (list v))
+    one_means r meant one there (Ok v) is = value_means r meant one there (list v) is
+    one_means r meant one there (Err e) is = tt

@@ -1,16 +1,15 @@
 -- The place of a part of a project names it.
-use Rattle.std.proofs.Common.{◌≡◌, ℕ, zero, suc, ◌+◌, ◌<◌, List, [], ◌∷◌, ◌++◌, length, length-append, Option, Some, None, refl, sym, ap, ◌∙◌, subst, arith}
-use Rattle.std.specs.Prelude.{Bool, true, false, if◌then◌else◌, option_map, option_and_then, Result, Ok, Err}
-use Rattle.std.specs.List.{cons_option}
+use Rattle.std.proofs.Common.{◌≡◌, ℕ, zero, suc, ◌+◌, List, [], ◌∷◌, ◌++◌, length, length-append, Some, refl, ap, ◌∙◌, subst, arith}
 use Rattle.meson_lex.specs.declared.kinds.Span.{Span}
 use Rattle.meson_syntax.specs.Tree.{Expression, identifier, boolean, integer, string, paren, array, dictionary, call, unary, row, postfix, conditional, Operands, no_operands, operand, Tail, method, index, Tails, no_tails, tail, Listing, listing, Argument, plain, named, pair, Arguments, no_arguments, argument, Statement, evaluate, assign, selection, iteration, breaks, continues, Branches, no_branches, branch, Otherwise, nothing_else, otherwise, Statements, no_statements, statement, Block, block, File, file}
 use Rattle.meson_syntax.specs.Parts.{Any, an_expression, a_statement, a_block, parts, node_at}
 use Rattle.meson_syntax.specs.Parts as syntax
 use Rattle.meson_syntax.specs.Paths.{nth, block_of}
 use Rattle.meson_plan.specs.declared.call.CallRef.{CallRef}
-use Rattle.meson_plan.specs.Project.{Project, BuildFile, Placed, child, place, nth_file}
+use Rattle.meson_plan.specs.Project.{Placed, child, place}
 use Rattle.meson_plan.specs.Parts.{Part, expression_parts, operands_parts, tail_parts, tails_parts, listing_parts, argument_parts, arguments_parts, statement_parts, branches_parts, otherwise_parts, statements_parts, block_parts, file_parts, parts_from, argument_children, arguments_children, listing_children, tail_children, branches_children}
 use Rattle.meson_plan.specs.Parts as part
+use Rattle.meson_plan.proofs.ListNodes.{node_below}
 
 -- ---- what stands behind a path
 
@@ -22,19 +21,6 @@ nth_left (x ∷ xs) ys (suc j) y is = nth_left xs ys j y is
 nth_right : {X : Type 0} (xs ys : List X) (j : ℕ) → nth (xs ++ ys) (length xs + j) ≡ nth ys j
 nth_right [] ys j = let e : 0 + j ≡ j = omega arith in ap (nth ys) e
 nth_right (x ∷ xs) ys j = let e : length (x ∷ xs) + j ≡ suc (length xs + j) = omega arith in ap (nth (x ∷ (xs ++ ys))) e ∙ nth_right xs ys j
-
-pub node_below : (r : Any Span) (path : List ℕ) (x : Any Span) (n : ℕ) → node_at r path ≡ Some x → node_at r (path ++ n ∷ []) ≡ nth (parts x) n
-node_below r [] x n is = whole (nth (parts r) n) ∙ ap (λ o. option_and_then (λ y. nth (parts y) n) o) is
-  where
-    whole : (o : Option (Any Span)) → option_and_then (λ y. Some y) o ≡ o
-    whole None = refl
-    whole (Some y) = refl
-node_below r (m ∷ path) x n is = go (nth (parts r) m) is (λ y h. node_below y path x n h)
-  where
-    go : (o : Option (Any Span)) → option_and_then (λ y. node_at y path) o ≡ Some x → ((y : Any Span) → node_at y path ≡ Some x → node_at y (path ++ n ∷ []) ≡ nth (parts x) n)
-        → option_and_then (λ y. node_at y (path ++ n ∷ [])) o ≡ nth (parts x) n
-    go None h below = absurd cc
-    go (Some y) h below = below y h
 
 -- ---- how many children there are
 
@@ -77,7 +63,7 @@ module _ (k : ℕ) (r : Any Span) where
   AllAt p n xs = (j : ℕ) (y : Any Span) → nth xs j ≡ Some y → At (child p (n + j)) y
 
   kids : (p : CallRef) (x : Any Span) → At p x → AllAt p 0 (parts x)
-  kids p x at = λ j y is. let e : 0 + j ≡ j = omega arith in (at.0, ap (λ m. node_at r (p.path.steps ++ m ∷ [])) e ∙ node_below r p.path.steps x j at.1 ∙ is)
+  kids p x at = λ j y is. let e : 0 + j ≡ j = omega arith in (at.0, ap (λ m. node_at r (p.path.steps ++ m ∷ [])) e ∙ node_below Span r p.path.steps x j at.1 ∙ is)
 
   first : (p : CallRef) (n : ℕ) (x : Any Span) (xs : List (Any Span)) → AllAt p n (x ∷ xs) → At (child p n) x
   first p n x xs all = let e : n + 0 ≡ n = omega arith in subst (λ m. At (child p m) x) e (all 0 x refl)

@@ -2,46 +2,27 @@
 use Rattle.std.specs.Prelude.{false, option_and_then}
 use Rattle.std.proofs.Common.{◌≡◌, ℕ, List, [], ◌∷◌, Some, refl, sym, ap, ◌∙◌, subst}
 use Rattle.meson_syntax.specs.declared.operator.Bracket.{Bracket}
-use Rattle.meson_lex.specs.Significant.{Word}
 use Rattle.meson_syntax.specs.Operators.{holds_pairs}
-use Rattle.meson_syntax.specs.Tree.{Nowhere, Plain, Expression, array, call, Listing, listing, Argument, Block, arguments_of, argument_list}
+use Rattle.meson_syntax.specs.Tree.{Nowhere, Plain, array, call, Listing, listing, Argument, arguments_of, argument_list}
 use Rattle.meson_syntax.specs.Grammar.{LevelListing, LevelFile}
-use Rattle.meson_syntax.specs.Paths.{Sort, of_expression, of_statement, of_block, Node, reach, ListIn, list_in, ListAt, list_at, list_within, list_of_node, nth, block_of}
+use Rattle.meson_syntax.specs.Paths.{ListAt, nth}
 use Rattle.meson_syntax.specs.Parts.{Any, an_expression, a_statement, a_block, arguments_parts, listing_parts, parts}
 use Rattle.meson_syntax.proofs.parsing.Complete.{list-of-arguments}
 use Rattle.meson_syntax.proofs.parsing.Steps.{some-injective}
 use Rattle.meson_syntax.proofs.paths.Every.{Every}
-use Rattle.meson_syntax.proofs.paths.Reaching.{map-some, and-then-some, list-fits}
+use Rattle.meson_syntax.proofs.paths.Reaching.{map-some, list-fits}
 use Rattle.meson_edit.specs.Edits.{Remove, elements, with_elements, removed, edited}
 use Rattle.meson_edit.proofs.sequences.Changed.{changed}
 use Rattle.meson_plan.specs.Renaming.{StandsIn, IsString, RemovalsRename, number_after}
 use Rattle.meson_plan.specs.SourceEdits.{path_after}
 use Rattle.meson_plan.proofs.ElementsThere.{root, stands_at, at_stands}
+use Rattle.meson_plan.proofs.ListNodes.{place_no_pairs}
 use Rattle.meson_plan.proofs.OneGone.{without, every_without, HasOnePart, one_part_each, parts_of_each}
 use Rattle.meson_plan.proofs.PutAlong.{PutAt, list_put}
 use Rattle.meson_plan.proofs.RenamedStrings.{LosesString, NotThrough, strings_move, stands_apart}
 use Rattle.meson_plan.proofs.StringsStay.{list_any}
 
 -- ---- a list of an array or a call
-
-in_no_pairs : (e : Expression Nowhere) (l : ListIn Nowhere) → list_in e ≡ Some l → holds_pairs l.bracket ≡ false
-in_no_pairs (array l) m is = subst (λ (u : ListIn Nowhere). holds_pairs u.bracket ≡ false) (some-injective _ _ is) refl
-in_no_pairs (call s x l) m is = subst (λ (u : ListIn Nowhere). holds_pairs u.bracket ≡ false) (some-injective _ _ is) refl
-in_no_pairs _ m is = absurd cc
-
-no_pairs : (t : Plain) (sort : Sort) (x : Node sort Nowhere) (before behind : List Word) (back : Node sort Nowhere → Block Nowhere) (q : ListAt Nowhere)
-    → list_of_node Nowhere sort x t before behind back ≡ Some q → holds_pairs q.bracket ≡ false
-no_pairs t of_expression x before behind back q is =
-    let o = map-some (list_within t before behind back) (list_in x) q is in
-    subst (λ (u : ListAt Nowhere). holds_pairs u.bracket ≡ false) o.2 (in_no_pairs x o.0 o.1)
-no_pairs t of_statement x before behind back q is = absurd cc
-no_pairs t of_block x before behind back q is = absurd cc
-
-no_pairs_at : (t : Plain) (path : List ℕ) (q : ListAt Nowhere) → list_at t path ≡ Some q → holds_pairs q.bracket ≡ false
-no_pairs_at t path q is =
-    let o = and-then-some (λ h. list_of_node Nowhere h.sort h.inside t h.before h.behind h.back) (reach Nowhere of_block (block_of t) path) q is in
-    let h = o.0 in
-    no_pairs t h.sort h.inside h.before h.behind h.back q o.2
 
 list_parts : (x : Any Nowhere) (l : Listing Nowhere) → list_any x ≡ Some l → parts x ≡ arguments_parts (arguments_of (elements l))
 list_parts (an_expression (array m)) l is = of_list m l (some-injective _ _ is) where
@@ -104,7 +85,7 @@ goes t now level list gone it here is_string is =
       old = p.old_node;
       new = p.new_node;
       xs = xs;
-      loses = loses p.old_node p.new_node q.list gone p.old_list new_list it here_too is_string (one_part q.list q.bracket (no_pairs_at t list q c.is_place) (fits.level level));
+      loses = loses p.old_node p.new_node q.list gone p.old_list new_list it here_too is_string (one_part q.list q.bracket (place_no_pairs t list q c.is_place) (fits.level level));
       put = subst (λ u. PutAt Nowhere p.old_node p.new_node list (root t) (root u)) c.is_now p.put;
     }
 

@@ -1,7 +1,7 @@
 -- The spots of names are those of items that stand, so that sources and extra files may be removed.
-use Rattle.std.specs.Prelude.{All, option_map, if◌then◌else◌, Result, Ok, Err}
+use Rattle.std.specs.Prelude.{All, option_map, if◌then◌else◌, Result, Ok}
 use Rattle.std.specs.List.{filter}
-use Rattle.std.proofs.Common.{◌≡◌, ℕ, Bool, true, false, List, [], ◌∷◌, ◌++◌, Option, Some, None, refl, ap, ◌∙◌, subst}
+use Rattle.std.proofs.Common.{◌≡◌, ℕ, Bool, true, false, List, [], ◌∷◌, ◌++◌, Option, Some, None, ap, ◌∙◌, subst}
 use Rattle.std.proofs.lemmas.List.Elements.{All-cons, All-head, All-tail, All-nil}
 use Rattle.meson_lex.specs.declared.kinds.Span.{Span}
 use Rattle.meson_splice.specs.Patch.{then_ok}
@@ -20,20 +20,12 @@ use Rattle.meson_plan.specs.SourceEdits.{Spot, spot_of, spots_of, spots_by, spot
 use Rattle.meson_plan.specs.Standings.{SlotStands, MarkStands, SpotStands, SourcesMayBeRemoved, ExtrasMayBeRemoved}
 use Rattle.meson_plan.specs.Steps.{Step}
 use Rattle.meson_plan.proofs.RemovedSpots.{removals_doable}
+use Rattle.meson_plan.proofs.WentWell.{then_was, once_was}
 
 -- ---- steps that went well
 
 ok-injective : {X E : Type 0} (x y : X) → ◌≡◌ {A = Result X E} (Ok x) (Ok y) → x ≡ y
 ok-injective x y same = cc
-
-pub went_well : {X Y E : Type 0} (r : Result X E) (f : X → Result Y E) (y : Y) → then_ok r f ≡ Ok y → (x : X) × (r ≡ Ok x) × (f x ≡ Ok y)
-went_well (Ok x) f y is = (x, refl, is)
-went_well (Err e) f y is = absurd cc
-
-pub once_is : {X Y : Type 0} (key : List ℕ) (xs : List X) (y z : Y) → once key xs y ≡ Ok z → y ≡ z
-once_is key [] y z is = cc
-once_is key (x ∷ []) y z is = cc
-once_is key (x ∷ w ∷ more) y z is = absurd cc
 
 -- ---- what holds of all elements of a list
 
@@ -84,8 +76,8 @@ module _ (p : Project Span) where
   pub named_stand : (marks : List (Mark Span)) → All (MarkStands p) marks → (names : List (List ℕ)) (spots : List Spot) → spots_named marks names ≡ Ok spots → All (SpotStands p) spots
   named_stand marks all [] spots is = subst (All (SpotStands p)) (ok-injective [] spots is) (All-nil (SpotStands p))
   named_stand marks all (name ∷ more) spots is =
-      let a = went_well (spots_by (opaque_count marks) (items_of name marks)) (λ here. then_ok (spots_named marks more) (λ later. Ok (here ++ later))) spots is in
-      let b = went_well (spots_named marks more) (λ later. Ok (a.0 ++ later)) spots a.2 in
+      let a = then_was (spots_by (opaque_count marks) (items_of name marks)) (λ here. then_ok (spots_named marks more) (λ later. Ok (here ++ later))) spots is in
+      let b = then_was (spots_named marks more) (λ later. Ok (a.0 ++ later)) spots a.2 in
       subst (All (SpotStands p)) (ok-injective (a.0 ++ b.0) spots b.2)
       (all_both (SpotStands p) a.0 b.0
       (by_stand (opaque_count marks) (items_of name marks) a.0 a.1 (all_kept ItemStands (has_text name) (items marks) (items_stand marks all)))
@@ -99,7 +91,7 @@ module _ (old : Loaded) (parsed : AreParsed old.files old.parsed) where
 
   steps_doable : (marks : List (Mark Span)) → All (MarkStands (project old)) marks → (names : List (List ℕ)) (steps : List Step) → spots_steps marks names ≡ Ok steps → AreDoable steps (plain_trees old)
   steps_doable marks all names steps is =
-      let found = went_well (spots_named marks (distinct names)) (λ spots. Ok (removed (distinct_spots spots))) steps is in
+      let found = then_was (spots_named marks (distinct names)) (λ spots. Ok (removed (distinct_spots spots))) steps is in
       subst (λ ss. AreDoable ss (plain_trees old)) (ok-injective (removed (distinct_spots found.0)) steps found.2)
       (removals_doable old parsed found.0 (named_stand (project old) marks all (distinct names) found.0 found.1))
 
@@ -108,9 +100,9 @@ sources_may_be_removed old parsed c there all names utf8 steps is =
     let p = project old in
     let marks = source_marks p c in
     let keys = calls.keyword sources_key c.it in
-    let a = went_well (checked_names names) (λ _. then_ok (once sources_key keys marks) (λ ms. spots_steps old parsed ms names)) steps is in
-    let b = went_well (once sources_key keys marks) (λ ms. spots_steps old parsed ms names) steps a.2 in
-    let same = once_is sources_key keys marks b.0 b.1 in
+    let a = then_was (checked_names names) (λ _. then_ok (once sources_key keys marks) (λ ms. spots_steps old parsed ms names)) steps is in
+    let b = then_was (once sources_key keys marks) (λ ms. spots_steps old parsed ms names) steps a.2 in
+    let same = once_was sources_key keys marks b.0 b.1 in
     steps_doable old parsed marks all names steps (ap (λ ms. spots_steps old parsed ms names) same ∙ b.2)
 
 -- the marks that are checked are all that the argument holds
@@ -119,13 +111,13 @@ extra_marks_are p c names marks is =
     let keys = calls.keyword extra_key c.it in
     let hidden = calls.keyword kwargs_key c.it in
     let ms = extra_marks p c in
-    let a = went_well (checked_names names) (λ _. then_ok (not_hidden hidden) (λ _. once extra_key keys ms)) marks is in
-    let b = went_well (not_hidden hidden) (λ _. once extra_key keys ms) marks a.2 in
-    once_is extra_key keys ms marks b.2
+    let a = then_was (checked_names names) (λ _. then_ok (not_hidden hidden) (λ _. once extra_key keys ms)) marks is in
+    let b = then_was (not_hidden hidden) (λ _. once extra_key keys ms) marks a.2 in
+    once_was extra_key keys ms marks b.2
 
 pub extras_may_be_removed : ExtrasMayBeRemoved
 extras_may_be_removed old parsed c there all names utf8 steps is =
     let p = project old in
-    let a = went_well (checked_extra p c names) (λ ms. spots_steps old parsed ms names) steps is in
+    let a = then_was (checked_extra p c names) (λ ms. spots_steps old parsed ms names) steps is in
     let same = extra_marks_are p c names a.0 a.1 in
     steps_doable old parsed (extra_marks p c) all names steps (ap (λ ms. spots_steps old parsed ms names) same ∙ a.2)

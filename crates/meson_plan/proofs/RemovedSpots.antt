@@ -13,18 +13,18 @@ use Rattle.meson_edit.proofs.sequences.Deepened.{removals-stay-within}
 use Rattle.meson_edit.proofs.sequences.Levelled.{removals-keep-levels}
 use Rattle.meson_plan.specs.ListSteps.{AreDoable, none, one, MayStand}
 use Rattle.meson_plan.specs.Loading.{Loaded, project}
-use Rattle.meson_plan.specs.Outcomes.{with_one}
+use Rattle.meson_plan.specs.OtherValues.{with_one}
 use Rattle.meson_plan.specs.Performing.{plain_trees}
 use Rattle.meson_plan.specs.Project.{place}
 use Rattle.meson_plan.specs.Renaming.{StandsIn}
 use Rattle.meson_plan.specs.SourceEdits.{Spot, moved_up, path_after, is_path, spot_after, spots_after, step_in, removed_by, distinct_spots}
 use Rattle.meson_plan.specs.Standings.{SpotStands, RemovalsDoable}
-use Rattle.meson_plan.proofs.ChangedThere.{change_there, changed_there, others_there, all_nth}
 use Rattle.meson_plan.proofs.DistinctSpots.{AreApart, distinct_apart, every_distinct}
-use Rattle.meson_plan.proofs.PlainStanding.{StringIn, spot_in, parsed_stand}
+use Rattle.meson_plan.proofs.StringsThere.{StringIn, spot_in}
+use Rattle.meson_plan.proofs.PlainTrees.{trees_stand}
 use Rattle.meson_plan.proofs.RemovalsRename.{removals_rename, removals_apart}
 use Rattle.meson_plan.proofs.SpotsApart.{Apart, Clear, apart_after}
-use Rattle.meson_plan.proofs.WithOne.{all_with}
+use Rattle.meson_plan.proofs.WithOne.{change_there, changed_there, others_there, all_nth, all_with}
 
 -- ---- one string goes
 
@@ -39,7 +39,7 @@ goes trees all s there =
     let q = there.stands.place in
     let path = s.list.path.steps in
     let n = s.number in
-    let may = all_nth MayStand trees s.list.file there.tree there.is_tree all in
+    let may = all_nth MayStand trees s.list.file there.tree all there.is_tree in
     let now = q.back (with_elements q.list (removed n (elements q.list) there.it)) in
     let is : edited (Remove path n) there.tree ≡ Some now =
     ap (option_and_then (λ (p : ListAt Nowhere). option_map (λ list. p.back (with_elements p.list list)) (option_map (removed n (elements p.list)) (nth (elements p.list) n)))) there.stands.is_place
@@ -59,7 +59,7 @@ module _ (trees : List Plain) (all : All MayStand trees) (s : Spot) (there : Str
   between_stand = all_with MayStand trees s.list.file gone.now all gone.may
 
   level : LevelFile there.tree
-  level = (all_nth MayStand trees s.list.file there.tree there.is_tree all).0
+  level = (all_nth MayStand trees s.list.file there.tree all there.is_tree).0
 
   module _ (t : Spot) (here : StringIn trees t) (apart : Apart s t) where
     same_tree : s.list.file ≡ t.list.file → here.tree ≡ there.tree
@@ -135,4 +135,4 @@ all_in old (s ∷ more) all = (spot_in old s (All-head (SpotStands (project old)
 pub removals_doable : RemovalsDoable
 removals_doable old parsed spots all =
     let there = distinct_spots spots in
-    removed_doable (length there) there (plain_trees old) (parsed_stand old.files old.parsed parsed) (every_distinct (StringIn (plain_trees old)) spots (all_in old spots all)) (distinct_apart spots)
+    removed_doable (length there) there (plain_trees old) (trees_stand old.files old.parsed parsed) (every_distinct (StringIn (plain_trees old)) spots (all_in old spots all)) (distinct_apart spots)

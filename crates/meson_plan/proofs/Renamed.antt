@@ -1,13 +1,13 @@
 -- Spots of which each is renamed after all that went before it.
-use Rattle.std.proofs.Common.{◌≡◌, ℕ, suc, ◌+◌, ◌<◌, List, [], ◌∷◌, ◌++◌, length, get_or, drop, map, refl, sym, ap, ◌∙◌, add-one}
+use Rattle.std.proofs.Common.{◌≡◌, ℕ, ◌+◌, ◌<◌, List, [], ◌∷◌, ◌++◌, length, get_or, drop, map, refl, sym, ap, ◌∙◌, add-one}
 use Rattle.std.specs.Prelude.{Option}
 use Rattle.std.proofs.Math.Seq.{drop-cons}
 use Rattle.std.proofs.lemmas.List.{length-map}
 use Rattle.meson_edit.specs.Edits.{Remove}
 use Rattle.meson_plan.specs.declared.step.ListStep.{ListStep}
 use Rattle.meson_plan.specs.ListSteps.{bare}
-use Rattle.meson_plan.specs.Naming.{after_each}
 use Rattle.meson_plan.specs.SourceEdits.{Spot, spot_after, spots_after, step_in, removed, removed_by}
+use Rattle.meson_plan.specs.Spots.{after_each}
 
 pub after_more : (gone : List Spot) (g s : Spot) → after_each spot_after (gone ++ g ∷ []) s ≡ spot_after g (after_each spot_after gone s)
 after_more [] g s = refl

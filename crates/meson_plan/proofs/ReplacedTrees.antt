@@ -1,54 +1,16 @@
 -- The tree in which the value of an element becomes another one: it is there where the element has a value, and has its levels.
-use Rattle.std.proofs.Common.{◌≡◌, ℕ, zero, suc, ◌+◌, Bool, true, false, List, [], ◌∷◌, ◌++◌, map, take, drop, Some, refl, sym, ap, ◌∙◌, subst, arith}
-use Rattle.std.specs.Prelude.{None, if◌then◌else◌, option_map, option_and_then}
-use Rattle.std.specs.Str.{IsUtf8}
+use Rattle.std.proofs.Common.{◌≡◌, ℕ, zero, suc, Bool, false, List, [], ◌∷◌, ◌++◌, take, drop, Some, sym, ap, ◌∙◌, subst}
+use Rattle.std.specs.Prelude.{if◌then◌else◌, option_map, option_and_then}
 use Rattle.meson_lex.specs.declared.kinds.Span.{Span}
-use Rattle.meson_syntax.specs.declared.source.Limits.{Limits}
 use Rattle.meson_syntax.specs.declared.operator.Bracket.{Bracket}
-use Rattle.meson_syntax.specs.Tree.{Nowhere, Plain, Expression, Listing, listing, Arguments, no_arguments, argument, Argument, plain, named, pair, arguments_of, argument_list, File, erase, erase_expression, erase_argument, erase_arguments, erase_listing}
-use Rattle.meson_syntax.specs.Grammar.{LevelExpression, LevelArgument, LevelArguments, LevelListing, LevelFile, Flagged, file_depth}
-use Rattle.meson_syntax.specs.Laws.{ListFront, list_front, erase_list_front}
+use Rattle.meson_syntax.specs.Tree.{Nowhere, Plain, Expression, Listing, listing, Argument, plain, named, pair, arguments_of, argument_list, File, erase, erase_expression, erase_argument}
+use Rattle.meson_syntax.specs.Grammar.{LevelExpression, LevelArguments, LevelListing, LevelFile, Flagged}
 use Rattle.meson_syntax.specs.Paths.{ListAt, list_at, nth, value_of}
-use Rattle.meson_syntax.specs.Reads.{Spells, ReadsWithin}
-use Rattle.meson_syntax.proofs.exchange.Standing.{spelled-reads}
-use Rattle.meson_syntax.proofs.parsing.Answers.{reads-found}
 use Rattle.meson_syntax.proofs.parsing.Steps.{some-injective}
-use Rattle.meson_syntax.proofs.paths.Erased.{lists-erase}
-use Rattle.meson_syntax.proofs.paths.Reaching.{map-some, list-fits}
+use Rattle.meson_syntax.proofs.paths.Reaching.{list-fits}
 use Rattle.meson_edit.specs.Edits.{Written, Replace, is_empty, elements, with_elements, with_value, exchanged, edited}
 use Rattle.meson_edit.proofs.lists.Words.{list-back}
-
--- ---- one tree
-
--- a text spells one tree, however deep it nests
-pub one_spelled : (bytes : List ℕ) (s t : Plain) → IsUtf8 bytes → Spells bytes s → Spells bytes t → s ≡ t
-one_spelled bytes s t utf8 p q =
-    let limits : Limits = record { len = None; depth = file_depth s + file_depth t } in
-    let ps : ReadsWithin limits bytes s = spelled-reads limits bytes s p utf8 tt (omega arith) in
-    let qs : ReadsWithin limits bytes t = spelled-reads limits bytes t q utf8 tt (omega arith) in
-    let f = reads-found limits bytes p.items ps.source p.are_items s ps in
-    let g = reads-found limits bytes p.items ps.source p.are_items t qs in
-    let same : f.0 ≡ g.0 = some-injective _ _ (sym f.2 ∙ g.2) in
-    sym f.1 ∙ ap erase same ∙ g.1
-
--- ---- elements without their spans
-
-erased_list : (list : Arguments Span) → argument_list (erase_arguments list) ≡ map erase_argument (argument_list list)
-erased_list no_arguments = refl
-erased_list (argument a more) = ap (λ l. erase_argument a ∷ l) (erased_list more)
-
-erased_elements : (l : Listing Span) → elements (erase_listing l) ≡ map erase_argument (elements l)
-erased_elements (listing s trailing list) = erased_list list
-
-nth_map : (xs : List (Argument Span)) (n : ℕ) (x : Argument Span) → nth xs n ≡ Some x → nth (map erase_argument xs) n ≡ Some (erase_argument x)
-nth_map [] n x is = absurd cc
-nth_map (y ∷ xs) zero x is = ap (option_map erase_argument) is
-nth_map (y ∷ xs) (suc n) x is = nth_map xs n x is
-
-value_erased : (a : Argument Span) (v : Expression Span) → value_of a ≡ Some v → value_of (erase_argument a) ≡ Some (erase_expression v)
-value_erased (plain e) v is = ap (option_map erase_expression) is
-value_erased (named s x e) v is = ap (option_map erase_expression) is
-value_erased (pair s e f) v is = absurd cc
+use Rattle.meson_plan.proofs.PlainTrees.{element_erased, value_erased, plain_place}
 
 -- ---- levels
 
@@ -87,18 +49,16 @@ pub record ReplacedTree (f : File Span) (path : List ℕ) (n : ℕ) (new : Writt
 pub replaced_tree : (f : File Span) (path : List ℕ) (p : ListAt Span) → list_at f path ≡ Some p → (n : ℕ) (a : Argument Span) → nth (elements p.list) n ≡ Some a
     → (v : Expression Span) → value_of a ≡ Some v → (new : Written (Expression Nowhere)) → LevelExpression new.node → LevelFile (erase f) → ReplacedTree f path n new
 replaced_tree f path p is_p n a is_a v is_v new level whole =
-    let front = lists-erase f path ∙ ap (option_map (λ (p : ListAt Span). erase_list_front (list_front p))) is_p in
-    let o = map-some list_front (list_at (erase f) path) (erase_list_front (list_front p)) front in
-    let q = o.0 in
-    let same : q.list ≡ erase_listing p.list = ap (λ (u : ListFront Nowhere). u.list) o.2 in
+    let o = plain_place f path p is_p in
+    let q = o.place in
     let it = erase_argument a in
-    let here : nth (elements q.list) n ≡ Some it = ap (λ l. nth (elements l) n) same ∙ ap (λ xs. nth xs n) (erased_elements p.list) ∙ nth_map (elements p.list) n a is_a in
+    let here : nth (elements q.list) n ≡ Some it = ap (λ l. nth (elements l) n) o.list ∙ element_erased p.list n a is_a in
     let value = value_erased a v is_v in
     let now = take n (elements q.list) ++ with_value new.node it ∷ drop (suc n) (elements q.list) in
-    let fits = list-fits Nowhere (erase f) path q o.1 in
+    let fits = list-fits Nowhere (erase f) path q o.is_place in
     record {
       tree = q.back (with_elements q.list now);
-      is = ap (option_and_then (λ (p : ListAt Nowhere). option_map (λ list. p.back (with_elements p.list list)) (option_and_then (exchanged n (λ v. new.node) (elements p.list)) (nth (elements p.list) n)))) o.1
+      is = ap (option_and_then (λ (p : ListAt Nowhere). option_map (λ list. p.back (with_elements p.list list)) (option_and_then (exchanged n (λ v. new.node) (elements p.list)) (nth (elements p.list) n)))) o.is_place
           ∙ ap (λ i. option_map (λ list. q.back (with_elements q.list list)) (option_and_then (exchanged n (λ v. new.node) (elements q.list)) i)) here
           ∙ ap (λ u. option_map (λ list. q.back (with_elements q.list list)) (option_map (λ v. now) u)) value;
       level = fits.outside whole (with_elements q.list now) (put_listing q.bracket new.node level q.list n it (erase_expression v) here value (fits.level whole));

@@ -1,5 +1,5 @@
 -- Keyword arguments of the project that are set: the call that is found, and the list at its place.
-use Rattle.std.proofs.Common.{◌≡◌, ◌≢◌, ℕ, ◌<◌, List, [], ◌∷◌, length, get_or, Option, Some, None, refl, sym, ap, ap₂, ◌∙◌, subst}
+use Rattle.std.proofs.Common.{◌≡◌, ◌≢◌, ℕ, ◌<◌, List, length, get_or, Some, None, sym, ap, ap₂, ◌∙◌, subst}
 use Rattle.std.specs.Prelude.{option_map, Result, Ok, Err, IfOk, IfErr}
 use Rattle.meson_lex.specs.declared.kinds.Span.{Span}
 use Rattle.meson_splice.specs.Patch.{then_ok}
@@ -24,11 +24,11 @@ use Rattle.meson_plan.specs.Picking.{call_with}
 use Rattle.meson_plan.specs.Planning.{the_call, set_one, kwargs_set}
 use Rattle.meson_plan.specs.Project.{Project, BuildFile, Placed, placed, nth_file}
 use Rattle.meson_plan.specs.Replacing.{IsOneStep, ValueAt, ValueIn}
-use Rattle.meson_plan.proofs.CallsAt.{nth_there}
+use Rattle.meson_plan.proofs.CallsAt.{some_within}
+use Rattle.meson_plan.proofs.Standing.{nth_there}
 use Rattle.meson_plan.proofs.CallsReached.{CallStands, project_stands}
 use Rattle.meson_plan.proofs.Loads.{as_many}
 use Rattle.meson_plan.proofs.OneCall.{placed_at, call_there}
-use Rattle.meson_plan.proofs.ReplacedFiles.{some_within}
 
 module _ (files : List File) (trees : List Parsed) (are : AreParsed files trees) (id : List ℕ) (place : CallRef) (found : placed_at (the_call (named_trees files (views files trees)) role.Project id) ≡ Ok place) where
   abbrev p : Project Span

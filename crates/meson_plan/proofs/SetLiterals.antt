@@ -7,19 +7,16 @@ use Rattle.meson_plan.proofs.Loads.{take_more}
 use Rattle.std.proofs.lemmas.List.{append-nil}
 use Rattle.std.proofs.lemmas.Str.{IsUtf8-append}
 use Rattle.meson_lex.specs.declared.kinds.Kind.TheVariants as k
-use Rattle.meson_lex.specs.Items.{Lexeme, joined, IsItem, AreItems, IsItemList}
+use Rattle.meson_lex.specs.Items.{Lexeme, joined, IsItem, AreItems}
 use Rattle.meson_lex.specs.Literals.{literal}
-use Rattle.meson_lex.specs.Significant.{Word}
-use Rattle.meson_lex.specs.Words.{spoken, IsTight}
+use Rattle.meson_lex.specs.Words.{spoken}
 use Rattle.meson_lex.proofs.Seams.{joined-append, AreItems-append}
 use Rattle.meson_lex.proofs.Written.{literal_text, literal_string, literal_return}
-use Rattle.meson_layout.specs.Edited.{IsNew}
 use Rattle.meson_layout.specs.Pieces.{comma, space, open_square, close_square}
 use Rattle.meson_layout.specs.Words.{remarks}
 use Rattle.meson_syntax.specs.declared.operator.Bracket.TheVariants as bracket
-use Rattle.meson_syntax.specs.Tree.{Nowhere, Expression, Arguments, plain, arguments_of}
-use Rattle.meson_syntax.specs.Grammar.{expression_words, arguments_words, LevelExpression, LevelArguments, Flagged, arguments_depth}
-use Rattle.meson_edit.specs.Places.{IsWritten}
+use Rattle.meson_syntax.specs.Tree.{Nowhere, Arguments, plain, arguments_of}
+use Rattle.meson_syntax.specs.Grammar.{arguments_words, LevelArguments, Flagged, arguments_depth}
 use Rattle.meson_plan.specs.declared.refusal.Refusal.{Refusal}
 use Rattle.meson_plan.specs.Settings.{string_of, array_of, comma_between, written_text, written_texts}
 use Rattle.meson_plan.specs.Replacing.{WrittenFor, IsSet}

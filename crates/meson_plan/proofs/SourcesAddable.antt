@@ -1,10 +1,9 @@
 -- Sources may be put into the list where they go, one after another.
 use Rattle.std.proofs.Common.{◌≡◌, ℕ, ◌+◌, ◌<◌, true, false, List, [], ◌∷◌, Option, Some, None, refl, sym, subst, arith, inr, IsUtf8}
-use Rattle.std.specs.Prelude.{Bool, not, if◌then◌else◌, option_map, All, Result, Ok, Err}
+use Rattle.std.specs.Prelude.{Bool, not, if◌then◌else◌, option_map, All}
 use Rattle.std.specs.List.{filter_map}
 use Rattle.std.proofs.lemmas.List.Elements.{All-head, All-tail, All-cons, All-filter}
 use Rattle.meson_lex.specs.declared.kinds.Span.{Span}
-use Rattle.meson_splice.specs.Patch.{then_ok}
 use Rattle.meson_syntax.specs.Tree.{Expression, Listing, listing, plain, named, pair, Arguments, no_arguments, argument, argument_list}
 use Rattle.meson_edit.specs.Edits.{elements}
 use Rattle.meson_plan.specs.declared.call.CallRef.{CallRef}
@@ -19,18 +18,8 @@ use Rattle.meson_plan.specs.SourceEdits.{checked_names, distinct, distinct_by, i
 use Rattle.meson_plan.specs.Sources.{sources_key, source_marks, first_list, first_empty, or_option, or_call, home, once}
 use Rattle.meson_plan.specs.Standings.{MarkStands, TargetThere, SourcesMayBeAdded}
 use Rattle.meson_plan.proofs.Homes.{Home, marked_home, home_doable}
-use Rattle.meson_plan.proofs.SpannedPlaces.{plain_count}
-
--- ---- results
-
-pub then_was : {X Y E : Type 0} (r : Result X E) (f : X → Result Y E) (y : Y) → then_ok r f ≡ Ok y → (x : X) × (r ≡ Ok x) × (f x ≡ Ok y)
-then_was (Ok x) f y is = (x, refl, is)
-then_was (Err e) f y is = absurd cc
-
-pub once_was : {X Y : Type 0} (key : List ℕ) (xs : List X) (y z : Y) → once key xs y ≡ Ok z → y ≡ z
-once_was key [] y z is = cc
-once_was key (x ∷ []) y z is = cc
-once_was key (x ∷ w ∷ more) y z is = absurd cc
+use Rattle.meson_plan.proofs.PlainCounts.{plain_count}
+use Rattle.meson_plan.proofs.WentWell.{then_was, once_was}
 
 -- ---- new names are among the names
 

@@ -1,6 +1,6 @@
 -- The steps that commands on sources mean, by what the code finds.
 use Rattle.std.proofs.Common.{◌≡◌, ℕ, ◌<◌, ◌≤◌, List, [], ◌∷◌, length, map, refl, sym, ap, ◌∙◌, arith}
-use Rattle.std.specs.Prelude.{Some, Result, Ok, Err}
+use Rattle.std.specs.Prelude.{Some, Ok, Err}
 use Rattle.meson_lex.specs.declared.kinds.Span.{Span}
 use Rattle.meson_splice.specs.Patch.{then_ok}
 use Rattle.meson_syntax.specs.declared.tree.List as rust
@@ -13,9 +13,10 @@ use Rattle.meson_plan.specs.Project.{Project, Placed, placed}
 use Rattle.meson_plan.specs.Calls.{Call, keyword, value_with_name}
 use Rattle.meson_plan.specs.Expansion.{Mark, max_followed}
 use Rattle.meson_plan.specs.ListSteps.{bare}
-use Rattle.meson_plan.specs.Naming.{new_among, spots_of_names}
+use Rattle.meson_plan.specs.Naming.{new_among}
 use Rattle.meson_plan.specs.Picking.{call_with}
-use Rattle.meson_plan.specs.Sources.{sources_key, source_marks, home, once, or_call, or_option, first_list, first_empty}
+use Rattle.meson_plan.specs.Spots.{spots_of_names}
+use Rattle.meson_plan.specs.Sources.{sources_key, source_marks, home, once, or_call, or_option, first_list}
 use Rattle.meson_plan.specs.Sourced.{kept_args, all_gathered}
 use Rattle.meson_plan.specs.SourceEdits.{checked_names, distinct, new_names, inserted, plain_len, Spot, spots_named, removed, distinct_spots, sources_added, sources_removed}
 use Rattle.meson_plan.specs.Tallies.{Tally}

@@ -1,17 +1,14 @@
 -- One splice of a file of a set, where names are distinct; and a splice that changes nothing.
-use Rattle.std.proofs.Common.{◌≡◌, ◌≢◌, ℕ, zero, suc, ◌+◌, ◌<◌, List, [], ◌∷◌, ◌++◌, length, refl, sym, ap, ◌∙◌, subst, arith, cond}
-use Rattle.std.specs.Prelude.{slice_index_or, Bool, true, false, not, bytes_eq, Result, Ok, Err, ◌⊎◌}
-use Rattle.std.proofs.Common.{inl, inr}
+use Rattle.std.proofs.Common.{◌≡◌, ◌≢◌, ℕ, zero, suc, ◌<◌, List, [], ◌∷◌, ◌++◌, length, refl, sym, ap, ◌∙◌, arith}
+use Rattle.std.specs.Prelude.{slice_index_or, true, false, bytes_eq, Ok}
 use Rattle.std.proofs.lemmas.Bool.{false_from_ne_true}
 use Rattle.std.proofs.lemmas.Slice.Eq.{bytes_eq-Decides}
-use Rattle.meson_splice.specs.declared.fault.SpliceFault.{SpliceFault}
 use Rattle.meson_splice.specs.declared.file_set.File.{File}
 use Rattle.meson_splice.specs.declared.splice.Splice.{Splice}
 use Rattle.meson_splice.specs.Files.{IsDistinct, bytes_at, with_bytes}
-use Rattle.meson_splice.specs.Patch.{Patches, patched, patched_in, then_ok}
+use Rattle.meson_splice.specs.Patch.{patched, patched_in, then_ok}
 use Rattle.meson_splice.proofs.Inverses.{patched-means-patches}
 use Rattle.meson_plan.specs.Loading.{name_at}
-use Rattle.meson_plan.specs.Steps.{effective}
 
 -- ---- a splice of the i-th file
 
@@ -41,18 +38,6 @@ patched_named (f ∷ files) (suc i) s text all within name done =
     rw other (ap (λ r. then_ok r (λ more. Ok (f ∷ more))) (patched_named files i s text (tail_distinct f files all) below name done))
 
 -- ---- one splice
-
-pub then_done : (r : Result (List ℕ) SpliceFault) (text : List ℕ) → then_ok r (λ next. Ok next) ≡ Ok text → r ≡ Ok text
-then_done (Ok x) text is = is
-then_done (Err e) text is = absurd cc
-
--- a splice is made, or it changes nothing
-pub one_effective : (s : Splice) → (effective (s ∷ []) ≡ s ∷ []) ⊎ ((effective (s ∷ []) ≡ []) × (s.was ≡ s.now))
-one_effective s = go (bytes_eq s.was s.now) (bytes_eq-Decides s.was s.now).0
-  where
-    go : (b : Bool) → (b ≡ true → s.was ≡ s.now) → (cond (not b) (s ∷ []) [] ≡ s ∷ []) ⊎ ((cond (not b) (s ∷ []) [] ≡ []) × (s.was ≡ s.now))
-    go true same = inr (refl, same refl)
-    go false same = inl refl
 
 pub same_text : (bytes : List ℕ) (s : Splice) (text : List ℕ) → patched bytes s ≡ Ok text → s.was ≡ s.now → text ≡ bytes
 same_text bytes s text done same =

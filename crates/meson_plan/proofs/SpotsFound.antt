@@ -1,14 +1,14 @@
 -- Where the items of a name stand, gathered one after another.
 use Rattle.std.proofs.Common.{◌≡◌, ℕ, ◌+◌, ◌<◌, List, [], ◌∷◌, ◌++◌, length, get_or, drop, refl, sym, ap, ◌∙◌, add-one}
-use Rattle.std.specs.Prelude.{Bool, true, false, ◌||◌, Option, Some, None, option_map, Result, Ok, Err, if◌then◌else◌, cond}
+use Rattle.std.specs.Prelude.{Bool, true, false, ◌||◌, Option, Some, None, option_map, Result, Ok, Err, if◌then◌else◌}
 use Rattle.std.proofs.Math.Seq.{drop-cons}
 use Rattle.std.proofs.lemmas.List.{append_assoc}
 use Rattle.meson_splice.specs.Patch.{then_ok}
-use Rattle.meson_plan.specs.declared.call.CallRef.{CallRef}
 use Rattle.meson_plan.specs.declared.call.SourceItem.{SourceItem}
 use Rattle.meson_plan.specs.declared.refusal.Refusal.{Refusal}
 use Rattle.meson_plan.specs.SourceEdits.{Spot, removable}
-use Rattle.meson_plan.specs.Naming.{has_value, spot_at, spots_at, all_there, spots_from, before_all, behind_all, is_some_there}
+use Rattle.meson_plan.specs.Naming.{has_value}
+use Rattle.meson_plan.specs.Spots.{spot_at, spots_at, all_there, spots_from, before_all, behind_all, is_some_there}
 
 module _ (name : List ℕ) (items : List SourceItem) (numbers : List (Option ℕ)) (i : ℕ) (d : SourceItem) (e : Option ℕ) (within : i < length items) (also : i < length numbers) where
   abbrev item : SourceItem

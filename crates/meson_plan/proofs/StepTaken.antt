@@ -1,6 +1,7 @@
 -- One step as the code takes it: by the number of its file and the tree that it reads there.
-use Rattle.std.proofs.Common.{◌≡◌, ℕ, ◌<◌, List, [], ◌∷◌, ◌++◌, length, get_or, sym, ap, ◌∙◌, subst}
-use Rattle.std.specs.Prelude.{OnOk, Option, Result, Some, None, Ok, Err, option_map}
+use Rattle.std.proofs.Common.{◌≡◌, ℕ, ◌<◌, List, [], ◌∷◌, ◌++◌, length, get_or, sym, ap, ◌∙◌, subst, arith}
+use Rattle.std.specs.Prelude.{true, false, ◌==◌, OnOk, Option, Result, Some, None, Ok, Err, option_map}
+use Rattle.std.proofs.lemmas.Bool.{eqb-true}
 use Rattle.meson_lex.specs.Items.{Lexeme, IsItemList}
 use Rattle.meson_layout.specs.declared.primitive.Primitive.{Primitive}
 use Rattle.meson_layout.specs.Layout.{IsReady, layout_of}
@@ -12,18 +13,26 @@ use Rattle.meson_syntax.specs.View.{view}
 use Rattle.meson_plan.specs.declared.step.ListEdit.{ListEdit}
 use Rattle.meson_plan.specs.declared.step.ListStep.{ListStep}
 use Rattle.meson_plan.specs.declared.work.Work.{Work}
-use Rattle.meson_plan.specs.Done.{with_some}
 use Rattle.meson_plan.specs.ListSteps.{bare, bare_edit, path_of}
 use Rattle.meson_plan.specs.Loading.{Loaded, name_at}
 use Rattle.meson_plan.specs.Project.{place}
 use Rattle.meson_plan.specs.Steps.{Step, effective}
 use Rattle.meson_plan.specs.Working.{IsChanged, MayChange, Reached, placed_edit}
+use Rattle.meson_plan.specs.OtherValues.{with_some}
 use Rattle.meson_plan.proofs.Loads.{nth_name}
 use Rattle.meson_plan.proofs.OneStep.{in_files, in_trees, in_old, is_ready, items, laid_is, made, may_change, new_reached, same_reached, splices_are}
 
 pub when_ok : {X E P Q : Type 0} (r : Result X E) → (P → Q) → OnOk r P → OnOk r Q
 when_ok (Ok x) then p = then p
 when_ok (Err e) then p = tt
+
+pub empty_list : (xs ys : List Splice) → xs ≡ ys → true ≡ (length xs == 0) → ys ≡ []
+empty_list [] ys is empty = sym is
+empty_list (x ∷ xs) ys is empty = let none : length (x ∷ xs) ≡ 0 = eqb-true (length (x ∷ xs)) 0 (sym empty) in absurd (omega (arith, none))
+
+pub some_list : (xs ys : List Splice) → xs ≡ ys → false ≡ (length xs == 0) → ys ≡ [] → ⊥
+some_list [] ys is some empty = cc
+some_list (x ∷ xs) ys is some empty = cc
 
 file_of : (s : Step) (code : ListStep) (o : Option ListEdit) → option_map (λ e. record { list = place s.file (path_of s.edit); edit = e }) o ≡ Some code → code.list.file ≡ s.file
 file_of s code (Some e) is = let same : code ≡ record { list = place s.file (path_of s.edit); edit = e } = cc in ap (λ (c : ListStep). c.list.file) same

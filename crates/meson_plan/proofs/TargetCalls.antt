@@ -27,10 +27,10 @@ use Rattle.meson_plan.specs.Project.{Project, BuildFile, Placed, placed, nth_fil
 use Rattle.meson_plan.specs.SourceEdits.{elements_of, elements_there}
 use Rattle.meson_plan.specs.Targeted.{change_steps, target_steps}
 use Rattle.meson_plan.proofs.ArgumentValues.{list_elements}
-use Rattle.meson_plan.proofs.CallsAt.{nth_there}
+use Rattle.meson_plan.proofs.CallsAt.{some_within}
+use Rattle.meson_plan.proofs.Standing.{nth_there}
 use Rattle.meson_plan.proofs.Loads.{as_many}
 use Rattle.meson_plan.proofs.OneCall.{placed_at, call_there}
-use Rattle.meson_plan.proofs.ReplacedFiles.{some_within}
 use Rattle.meson_plan.proofs.TargetsFound.{CallAt, target_found}
 
 call_elements : (e : Expression Span) (k : Call Span) → call_of e ≡ Some k → elements_of (list_in e) ≡ elements k.arguments

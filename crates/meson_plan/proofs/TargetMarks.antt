@@ -1,6 +1,6 @@
 -- What a target of files that are read holds stands where its slot says.
 use Rattle.std.proofs.Common.{◌≡◌, ℕ, suc, ◌+◌, List, [], ◌∷◌, ◌++◌, Option, Some, None, refl, sym, ap, ◌∙◌, subst, arith}
-use Rattle.std.specs.Prelude.{Bool, true, false, if◌then◌else◌, bytes_eq, All, option_map, option_and_then}
+use Rattle.std.specs.Prelude.{All, option_map, option_and_then}
 use Rattle.std.specs.List.{filter_map, cons_option}
 use Rattle.std.proofs.lemmas.List.Elements.{All-cons, All-nil}
 use Rattle.meson_lex.specs.declared.kinds.Span.{Span}
@@ -9,16 +9,17 @@ use Rattle.meson_syntax.specs.Paths as paths
 use Rattle.meson_syntax.specs.Tree.{Expression, Listing, listing, Argument, plain, named, pair, Arguments, no_arguments, argument, argument_list}
 use Rattle.meson_syntax.proofs.PathNodes.{list-reached}
 use Rattle.meson_syntax.proofs.paths.Reaching.{and-then-some, map-some}
+use Rattle.meson_syntax.proofs.paths.Every.{Every, every-append}
 use Rattle.meson_edit.specs.Edits.{elements}
 use Rattle.meson_plan.specs.Calls.{Call, Numbered, numbered, arguments_of, value_without_name, value_with_name, kept_number, positional, keyword}
 use Rattle.meson_plan.specs.Expansion.{in_list, fixed}
-use Rattle.meson_plan.specs.Loading.{Loaded, AreParsed, project}
+use Rattle.meson_plan.specs.Loading.{project}
 use Rattle.meson_plan.specs.Project.{Project, BuildFile, Placed, child, expression_at}
 use Rattle.meson_plan.specs.SourceEdits.{extra_key, extra_marks}
 use Rattle.meson_plan.specs.Sources.{sources_key, kwargs_key, expand_arguments, rest, hidden, source_marks}
 use Rattle.meson_plan.specs.Standings.{TargetThere, MarkStands, SourcesStand, ExtrasStand}
-use Rattle.meson_plan.proofs.CallsReached.{Every, every_both}
 use Rattle.meson_plan.proofs.ElementsAt.{AreLevel, value_stands, parsed_level}
+use Rattle.meson_plan.proofs.KeywordSet.{named_value}
 use Rattle.meson_plan.proofs.MarksThere.{ArgumentAt, arguments_met}
 
 -- ---- the arguments of a call, by their numbers
@@ -43,15 +44,6 @@ nameless : (a : Argument Span) (x : Expression Span) → value_without_name a �
 nameless (plain e) x is = let same : e ≡ x = cc in ap plain same
 nameless (named s k e) x is = absurd cc
 nameless (pair s e f) x is = absurd cc
-
-of_name : (key : List ℕ) (a : Argument Span) (x : Expression Span) → value_with_name key a ≡ Some x → value_of a ≡ Some x
-of_name key (plain e) x is = absurd cc
-of_name key (named s k e) x is = go (bytes_eq k key) is
-  where
-    go : (b : Bool) → (if b then Some e else None) ≡ Some x → Some e ≡ Some x
-    go true h = h
-    go false h = absurd cc
-of_name key (pair s e f) x is = absurd cc
 
 every_rest : {X : Type 0} (P : X → Type 0) (xs : List X) → Every P xs → Every P (rest xs)
 every_rest P [] all = tt
@@ -97,7 +89,7 @@ module _ (p : Project Span) (levels : AreLevel p) (c : Placed (Call Span)) (t : 
       record { is_at = value_at j (plain x) x there refl; slot = record { there = t.there; is_element = ap (λ m. nth (elements m) j) t.is_list ∙ there } })
 
   keyword_at : (key : List ℕ) → Every (ArgumentAt p levels c.place (λ n. fixed)) (keyword key c.it)
-  keyword_at key = listed_each (value_with_name key) (ArgumentAt p levels c.place (λ n. fixed)) c.it.arguments (λ j a x is chosen. record { is_at = value_at j a x is (of_name key a x chosen); slot = tt })
+  keyword_at key = listed_each (value_with_name key) (ArgumentAt p levels c.place (λ n. fixed)) c.it.arguments (λ j a x is chosen. record { is_at = value_at j a x is (named_value key a x chosen); slot = tt })
 
   hidden_each : (xs : List (Numbered (Expression Span))) → Every (MarkStands p) (hidden xs)
   hidden_each [] = tt
@@ -108,8 +100,8 @@ module _ (p : Project Span) (levels : AreLevel p) (c : Placed (Call Span)) (t : 
       let first = expand_arguments p c.place (in_list c.place) (rest (positional c.it)) [] in
       let second = expand_arguments p c.place (λ n. fixed) (keyword sources_key c.it) first.followed in
       all_of (MarkStands p) (source_marks p c)
-      (every_both (MarkStands p) (first.marks ++ second.marks) (hidden (keyword kwargs_key c.it))
-      (every_both (MarkStands p) first.marks second.marks
+      (every-append (MarkStands p) (first.marks ++ second.marks) (hidden (keyword kwargs_key c.it))
+      (every-append (MarkStands p) first.marks second.marks
       (arguments_met p levels c.place (in_list c.place) (rest (positional c.it)) [] (every_rest (ArgumentAt p levels c.place (in_list c.place)) (positional c.it) positional_at))
       (arguments_met p levels c.place (λ n. fixed) (keyword sources_key c.it) first.followed (keyword_at sources_key)))
       (hidden_each (keyword kwargs_key c.it)))

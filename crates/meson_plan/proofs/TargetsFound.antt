@@ -6,6 +6,7 @@ use Rattle.meson_syntax.specs.declared.operator.Assignment.TheVariants as assign
 use Rattle.meson_syntax.specs.declared.operator.Bracket.TheVariants as bracket
 use Rattle.meson_syntax.specs.Tree.{Expression, call, Statement, assign}
 use Rattle.meson_syntax.specs.Paths.{ListIn, list_in}
+use Rattle.meson_syntax.proofs.paths.Every.{Every}
 use Rattle.meson_plan.specs.declared.call.Role.TheVariants as role
 use Rattle.meson_plan.specs.Calls.{Call, call_of, part_call, all_chosen, calls, first_argument, first_literal, is}
 use Rattle.meson_plan.specs.Parts.{Part, parts}
@@ -14,7 +15,7 @@ use Rattle.meson_plan.specs.Planning.{only_one, the_call}
 use Rattle.meson_plan.specs.Project.{Project, Placed, placed, child, expression_at}
 use Rattle.meson_plan.specs.Roles.{has_role, with_role, role_calls, with_name, set_to, part_set_to, value_of_assignment, assigned_values, or_else, found, one_of, target_functions}
 use Rattle.meson_plan.specs.Standings.{TargetThere, TargetsStand}
-use Rattle.meson_plan.proofs.CallsReached.{Every, every_chosen, InProject, every_part}
+use Rattle.meson_plan.proofs.CallsReached.{every_chosen, InProject, every_part}
 use Rattle.meson_plan.proofs.ExpressionsAt.{list_here, expression_stands, assigned_stands}
 
 -- ---- calls at their places

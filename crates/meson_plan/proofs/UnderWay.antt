@@ -7,13 +7,14 @@ use Rattle.meson_syntax.specs.Reads.{max_len}
 use Rattle.meson_plan.specs.declared.refusal.Refusal.TheVariants.{TooDeep, TooLarge}
 use Rattle.meson_plan.specs.declared.step.ListStep.{ListStep}
 use Rattle.meson_plan.specs.declared.work.Work.{Work}
-use Rattle.meson_plan.specs.Done.{IsMade, IsOutcome, MayNotBeMade, deep, large, with_some}
+use Rattle.meson_plan.specs.Done.{IsMade, IsOutcome, MayNotBeMade, deep, large}
 use Rattle.meson_plan.specs.ListSteps.{AreBare, AreDoable, bare}
 use Rattle.meson_plan.specs.Loading.{HasFileName, IsProject, Loaded, max_files}
 use Rattle.meson_plan.specs.Performing.{AreShallow, plain_trees}
 use Rattle.meson_plan.specs.Plans.{Doable}
 use Rattle.meson_plan.specs.Steps.{Step, StepsMake, none}
 use Rattle.meson_plan.specs.Working.{AreKnown, HasDeep, HasLarge, IsNext, IsShallow, IsUnderWay, Reached, so_far}
+use Rattle.meson_plan.specs.OtherValues.{with_some}
 use Rattle.meson_plan.proofs.Loads.{as_many}
 use Rattle.meson_plan.proofs.WorkKnown.{known_first, nothing_new}
 use Rattle.meson_plan.proofs.WorkLimits.{all_small, known_parsed, known_shallow, not_shallow, not_small}

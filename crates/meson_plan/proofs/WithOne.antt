@@ -1,31 +1,41 @@
--- Lists with another value in one place, and the trees of files of which one has other bytes.
-use Rattle.std.proofs.Common.{◌≡◌, ◌≢◌, ℕ, zero, suc, ◌<◌, ◌≤◌, List, [], ◌∷◌, map, length, get_or, Option, Some, refl, sym, ap, ◌∙◌, subst, arith}
-use Rattle.std.specs.Prelude.{All, option_map}
+-- Lists with another value in one place.
+use Rattle.std.specs.Prelude.{All, None, option_map}
+use Rattle.std.proofs.Common.{◌≡◌, ℕ, zero, suc, ◌<◌, List, [], ◌∷◌, length, get_or, Option, Some, refl, sym, ap, ◌∙◌, subst, arith}
 use Rattle.std.proofs.lemmas.List.Elements.{All-cons, All-head, All-tail, All-nil}
-use Rattle.meson_splice.specs.declared.file_set.File.{File}
-use Rattle.meson_splice.specs.Files.{bytes_at, with_bytes}
-use Rattle.meson_syntax.specs.declared.tree.Parsed.{Parsed}
-use Rattle.meson_syntax.specs.Reads.{IsSpanned, max_len, max_depth}
-use Rattle.meson_syntax.specs.Grammar.{file_depth}
-use Rattle.meson_syntax.specs.Tree.{Plain, erase}
-use Rattle.meson_syntax.specs.View.{view}
-use Rattle.meson_plan.specs.Loading.{AreParsed, HasFileName, views}
-use Rattle.meson_plan.specs.Outcomes.{with_one}
-use Rattle.meson_plan.specs.Performing.{AreShallow, AreSmall}
+use Rattle.meson_syntax.specs.Paths.{nth}
+use Rattle.meson_syntax.proofs.parsing.Steps.{some-injective}
+use Rattle.meson_plan.specs.OtherValues.{with_one}
 use Rattle.meson_plan.specs.Steps.{changed_at}
 
--- ---- any values
+-- ---- what stands at a number
 
 module _ {X : Type 0} where
-  pub changed_to : (change : X → Option X) (xs : List X) (i : ℕ) (d y : X) → i < length xs → change (get_or xs i d) ≡ Some y → changed_at i change xs ≡ Some (with_one i y xs)
-  changed_to change [] i d y within is = absurd (omega (arith, within))
-  changed_to change (x ∷ xs) zero d y within is = ap (option_map (λ z. z ∷ xs)) is
-  changed_to change (x ∷ xs) (suc i) d y within is = let below : i < length xs = omega (arith, within) in ap (option_map (λ zs. x ∷ zs)) (changed_to change xs i d y below is)
-
   pub with_same : (xs : List X) (i : ℕ) (d : X) → with_one i (get_or xs i d) xs ≡ xs
   with_same [] i d = refl
   with_same (x ∷ xs) zero d = refl
   with_same (x ∷ xs) (suc i) d = ap (λ zs. x ∷ zs) (with_same xs i d)
+
+  pub change_there : (change : X → Option X) (xs : List X) (i : ℕ) (x y : X) → nth xs i ≡ Some x → change x ≡ Some y → changed_at i change xs ≡ Some (with_one i y xs)
+  change_there change [] i x y here is = absurd cc
+  change_there change (z ∷ xs) zero x y here is = ap (option_map (λ w. w ∷ xs)) (ap change (some-injective z x here) ∙ is)
+  change_there change (z ∷ xs) (suc i) x y here is = ap (option_map (λ zs. z ∷ zs)) (change_there change xs i x y here is)
+
+  pub changed_there : (xs : List X) (i : ℕ) (x y : X) → nth xs i ≡ Some x → nth (with_one i y xs) i ≡ Some y
+  changed_there [] i x y here = absurd cc
+  changed_there (z ∷ xs) zero x y here = refl
+  changed_there (z ∷ xs) (suc i) x y here = changed_there xs i x y here
+
+  pub others_there : (xs : List X) (i k : ℕ) (y : X) → (i ≡ k → ⊥) → nth (with_one i y xs) k ≡ nth xs k
+  others_there [] i k y other = refl
+  others_there (z ∷ xs) zero zero y other = absurd (other refl)
+  others_there (z ∷ xs) zero (suc k) y other = refl
+  others_there (z ∷ xs) (suc i) zero y other = refl
+  others_there (z ∷ xs) (suc i) (suc k) y other = others_there xs i k y (λ same. other (ap suc same))
+
+  pub all_nth : (P : X → Type 0) (xs : List X) (i : ℕ) (x : X) → All P xs → nth xs i ≡ Some x → P x
+  all_nth P [] i x all here = absurd cc
+  all_nth P (z ∷ xs) zero x all here = subst P (some-injective z x here) (All-head P z xs all)
+  all_nth P (z ∷ xs) (suc i) x all here = all_nth P xs i x (All-tail P z xs all) here
 
   pub all_with : (P : X → Type 0) (xs : List X) (i : ℕ) (y : X) → All P xs → P y → All P (with_one i y xs)
   all_with P [] i y all one = All-nil P
@@ -37,76 +47,28 @@ module _ {X : Type 0} where
   all_at P (x ∷ xs) zero y within all = All-head P y xs all
   all_at P (x ∷ xs) (suc i) y within all = let below : i < length xs = omega (arith, within) in all_at P xs i y below (All-tail P x (with_one i y xs) all)
 
--- ---- files
+-- ---- a value that a change makes
 
-pub bytes_there : (files : List File) (i : ℕ) (text : List ℕ) → i < length files → bytes_at i (with_bytes i text files) ≡ text
-bytes_there [] i text within = absurd (omega (arith, within))
-bytes_there (f ∷ files) zero text within = refl
-bytes_there (f ∷ files) (suc i) text within = let below : i < length files = omega (arith, within) in bytes_there files i text below
+pub record ChangedAt {X : Type 0} (change : X → Option X) (i : ℕ) (xs ys : List X) : Type 0 where
+  pub within : i < length xs
+  pub new : X
+  pub is : (d : X) → change (get_or xs i d) ≡ Some new
+  pub are : ys ≡ with_one i new xs
 
-pub as_many_files : (files : List File) (i : ℕ) (text : List ℕ) → length (with_bytes i text files) ≡ length files
-as_many_files [] i text = refl
-as_many_files (f ∷ files) zero text = refl
-as_many_files (f ∷ files) (suc i) text = ap suc (as_many_files files i text)
+module _ {X : Type 0} (change : X → Option X) where
+  first_changed : (x : X) (xs ys : List X) (o : Option X) → change x ≡ o → option_map (λ y. y ∷ xs) o ≡ Some ys → ChangedAt change zero (x ∷ xs) ys
+  first_changed x xs ys (Some y) is done = record { within = omega arith; new = y; is = λ d. is; are = cc }
+  first_changed x xs ys None is done = absurd cc
 
-pub named_with : (files : List File) (i : ℕ) (text : List ℕ) → All HasFileName files → All HasFileName (with_bytes i text files)
-named_with [] i text all = all
-named_with (f ∷ files) zero text all = All-cons HasFileName (record f { bytes = text }) files (All-head HasFileName f files all) (All-tail HasFileName f files all)
-named_with (f ∷ files) (suc i) text all = All-cons HasFileName f (with_bytes i text files) (All-head HasFileName f files all) (named_with files i text (All-tail HasFileName f files all))
+  later_changed : (x : X) (xs ys : List X) (i : ℕ) (o : Option (List X)) → ((zs : List X) → o ≡ Some zs → ChangedAt change i xs zs) → option_map (λ zs. x ∷ zs) o ≡ Some ys → ChangedAt change (suc i) (x ∷ xs) ys
+  later_changed x xs ys i (Some zs) from done =
+      let r = from zs refl in
+      let below = r.within in
+      let same : x ∷ zs ≡ ys = cc in
+      record { within = omega (arith, below); new = r.new; is = r.is; are = sym same ∙ ap (λ l. x ∷ l) r.are }
+  later_changed x xs ys i None from done = absurd cc
 
-abbrev IsSmall : File → Type 0
-IsSmall f = length f.bytes ≤ max_len
-
-pub small_at : (files : List File) (i : ℕ) (text : List ℕ) → i < length files → AreSmall (with_bytes i text files) → length text ≤ max_len
-small_at [] i text within all = absurd (omega (arith, within))
-small_at (f ∷ files) zero text within all = All-head IsSmall (record f { bytes = text }) files all
-small_at (f ∷ files) (suc i) text within all = let below : i < length files = omega (arith, within) in small_at files i text below (All-tail IsSmall f (with_bytes i text files) all)
-
--- ---- files with their trees
-
-pub plain_at : (files : List File) (trees : List Parsed) (i : ℕ) (d : Parsed) (p : Plain) → length trees ≡ length files → i < length trees
-    → get_or (map erase (views files trees)) i p ≡ erase (view (bytes_at i files) (get_or trees i d))
-plain_at files [] i d p many within = absurd (omega (arith, within))
-plain_at [] (t ∷ trees) i d p many within = absurd (omega (arith, many))
-plain_at (f ∷ files) (t ∷ trees) zero d p many within = refl
-plain_at (f ∷ files) (t ∷ trees) (suc i) d p many within =
-    let alike : length trees ≡ length files = omega (arith, many) in
-    let below : i < length trees = omega (arith, within) in
-    plain_at files trees i d p alike below
-
-pub as_many_plain : (files : List File) (trees : List Parsed) → length trees ≡ length files → length (map erase (views files trees)) ≡ length trees
-as_many_plain [] [] many = refl
-as_many_plain [] (t ∷ trees) many = absurd (omega (arith, many))
-as_many_plain (f ∷ files) [] many = refl
-as_many_plain (f ∷ files) (t ∷ trees) many = let alike : length trees ≡ length files = omega (arith, many) in ap suc (as_many_plain files trees alike)
-
-pub plain_with : (files : List File) (trees : List Parsed) (i : ℕ) (text : List ℕ) (tree : Parsed) → length trees ≡ length files
-    → map erase (views (with_bytes i text files) (with_one i tree trees)) ≡ with_one i (erase (view text tree)) (map erase (views files trees))
-plain_with [] [] i text tree many = refl
-plain_with [] (t ∷ trees) i text tree many = absurd (omega (arith, many))
-plain_with (f ∷ files) [] i text tree many = absurd (omega (arith, many))
-plain_with (f ∷ files) (t ∷ trees) zero text tree many = refl
-plain_with (f ∷ files) (t ∷ trees) (suc i) text tree many =
-    let alike : length trees ≡ length files = omega (arith, many) in ap (λ ts. erase (view f.bytes t) ∷ ts) (plain_with files trees i text tree alike)
-
-pub parsed_with : (files : List File) (trees : List Parsed) (i : ℕ) (text : List ℕ) (tree : Parsed) → AreParsed files trees → IsSpanned text (view text tree) → AreParsed (with_bytes i text files) (with_one i tree trees)
-parsed_with [] [] i text tree are new = are
-parsed_with [] (t ∷ trees) i text tree are new = absurd are
-parsed_with (f ∷ files) [] i text tree are new = absurd are
-parsed_with (f ∷ files) (t ∷ trees) zero text tree are new = (new, are.1)
-parsed_with (f ∷ files) (t ∷ trees) (suc i) text tree are new = (are.0, parsed_with files trees i text tree are.1 new)
-
-abbrev IsShallow : Plain → Type 0
-IsShallow t = file_depth t ≤ max_depth
-
-pub parsed_shallow : (files : List File) (trees : List Parsed) → AreParsed files trees → AreShallow (map erase (views files trees))
-parsed_shallow [] [] are = All-nil IsShallow
-parsed_shallow [] (t ∷ trees) are = absurd are
-parsed_shallow (f ∷ files) [] are = absurd are
-parsed_shallow (f ∷ files) (t ∷ trees) are = All-cons IsShallow (erase (view f.bytes t)) (map erase (views files trees)) are.0.reads.depth (parsed_shallow files trees are.1)
-
-pub parsed_small : (files : List File) (trees : List Parsed) → AreParsed files trees → AreSmall files
-parsed_small [] [] are = All-nil IsSmall
-parsed_small [] (t ∷ trees) are = absurd are
-parsed_small (f ∷ files) [] are = absurd are
-parsed_small (f ∷ files) (t ∷ trees) are = All-cons IsSmall f files are.0.reads.source.fits (parsed_small files trees are.1)
+  pub changed_from : (xs ys : List X) (i : ℕ) → changed_at i change xs ≡ Some ys → ChangedAt change i xs ys
+  changed_from [] ys i is = absurd cc
+  changed_from (x ∷ xs) ys zero is = first_changed x xs ys (change x) refl is
+  changed_from (x ∷ xs) ys (suc i) is = later_changed x xs ys i (changed_at i change xs) (λ zs here. changed_from xs zs i here) is

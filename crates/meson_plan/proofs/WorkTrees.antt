@@ -6,8 +6,8 @@ use Rattle.meson_syntax.specs.declared.tree.Parsed.{Parsed}
 use Rattle.meson_syntax.specs.Grammar.{file_depth}
 use Rattle.meson_syntax.specs.Reads.{max_depth}
 use Rattle.meson_syntax.specs.View.{view}
-use Rattle.meson_plan.specs.Done.{with_some}
 use Rattle.meson_plan.specs.Working.{IsShallow}
+use Rattle.meson_plan.specs.OtherValues.{with_some}
 use Rattle.meson_plan.proofs.Distincts.{same_read}
 
 -- ---- the tree of a file, by the values that are read at its place

@@ -1,20 +1,11 @@
 -- What steps make of the files and the trees of a project, and why they are refused.
-use Rattle.std.specs.Prelude.{◌≡◌, ◌≤◌, ℕ, zero, suc, List, [], ◌∷◌, Option, Some, None, length}
-use Rattle.meson_splice.specs.declared.file_set.File.{File}
+use Rattle.std.specs.Prelude.{◌≡◌, ℕ, List, Some}
 use Rattle.meson_splice.specs.declared.splice.Splice.{Splice}
-use Rattle.meson_syntax.specs.declared.tree.Parsed.{Parsed}
 use Rattle.meson_plan.specs.declared.refusal.Refusal.{Refusal}
 use Rattle.meson_plan.specs.declared.refusal.Refusal.TheVariants.{TooDeep, TooLarge}
 use Rattle.meson_plan.specs.Loading.{Loaded, IsProject}
 use Rattle.meson_plan.specs.Performing.{AreShallow, AreSmall, plain_trees, saturated}
 use Rattle.meson_plan.specs.Steps.{Step, all_stepped, StepsMake}
-
--- the trees, but for those that have another one
-abbrev pub with_some : List (Option Parsed) → List Parsed → List Parsed
-with_some (Some t ∷ new) (u ∷ trees) = t ∷ with_some new trees
-with_some (None ∷ new) (u ∷ trees) = u ∷ with_some new trees
-with_some [] trees = trees
-with_some (o ∷ new) [] = []
 
 -- Steps make these splices, files and trees, and have so many bytes read again.
 pub record IsMade (old : Loaded) (steps : List Step) (splices : List Splice) (new : Loaded) (relexed : ℕ) : Type 0 where

@@ -30,9 +30,9 @@ pub mod Targeted
 pub mod Renaming
 pub mod Planning
 pub mod Performing
+pub mod OtherValues
 pub mod Keywords
 pub mod Replacing
-pub mod Outcomes
 pub mod Plans
 pub mod Done
 pub mod Standings

@@ -1,12 +1,10 @@
 -- A plan: the steps that a command means, as the code has them, which may be done one after another.
-use Rattle.std.specs.Prelude.{◌≡◌, List, map, Ok}
-use Rattle.meson_splice.specs.declared.file_set.File.{File}
-use Rattle.meson_syntax.specs.declared.tree.Parsed.{Parsed}
-use Rattle.meson_syntax.specs.Tree.{erase}
+use Rattle.std.specs.Prelude.{◌≡◌, List, Result, Ok}
 use Rattle.meson_plan.specs.declared.command.Command.{Command}
+use Rattle.meson_plan.specs.declared.refusal.Refusal.{Refusal}
 use Rattle.meson_plan.specs.declared.step.ListStep.{ListStep}
 use Rattle.meson_plan.specs.ListSteps.{AreBare, AreDoable}
-use Rattle.meson_plan.specs.Loading.{Loaded, project, trees}
+use Rattle.meson_plan.specs.Loading.{Loaded, project}
 use Rattle.meson_plan.specs.Performing.{plain_trees}
 use Rattle.meson_plan.specs.Planning.{planned}
 use Rattle.meson_plan.specs.Steps.{Step}
@@ -16,8 +14,11 @@ pub record Doable (old : Loaded) (steps : List Step) (code : List ListStep) : Ty
   pub bare : AreBare steps code
   pub doable : AreDoable steps (plain_trees old)
 
--- What a command means are these steps.
-pub record MeansSteps (old : Loaded) (c : Command) (code : List ListStep) : Type 0 where
+-- What is meant are these steps.
+pub record ArePlanned (old : Loaded) (meant : Result (List Step) Refusal) (code : List ListStep) : Type 0 where
   pub steps : List Step
-  pub are_planned : planned (project old) c ≡ Ok steps
+  pub are_planned : meant ≡ Ok steps
   pub are_doable : Doable old steps code
+
+abbrev pub MeansSteps : Loaded → Command → List ListStep → Type 0
+MeansSteps old c code = ArePlanned old (planned (project old) c) code

@@ -1,6 +1,6 @@
 -- After an element of a list has gone, an element that stands elsewhere is found where its spot has moved to.
 use Rattle.std.specs.Prelude.{◌≡◌, ℕ, List, Some, if◌then◌else◌}
-use Rattle.meson_syntax.specs.Tree.{Nowhere, Plain, Expression, string, Argument, plain}
+use Rattle.meson_syntax.specs.Tree.{Nowhere, Plain, string, Argument, plain}
 use Rattle.meson_syntax.specs.declared.operator.StringKind.{StringKind}
 use Rattle.meson_syntax.specs.Grammar.{LevelFile}
 use Rattle.meson_syntax.specs.Paths.{ListAt, list_at, nth}

@@ -1,5 +1,5 @@
 -- One value of a call's argument that becomes another: what is written there, which step that is, and where the value stands.
-use Rattle.std.specs.Prelude.{◌≡◌, ◌≤◌, ℕ, List, [], ◌∷◌, codes, Option, Some, None, Result, Ok, Err}
+use Rattle.std.specs.Prelude.{◌≡◌, ◌≤◌, ℕ, List, [], ◌∷◌, Some, Result, Ok, Err}
 use Rattle.meson_lex.specs.declared.kinds.Span.{Span}
 use Rattle.meson_syntax.specs.Grammar.{expression_words, LevelExpression, expression_depth}
 use Rattle.meson_syntax.specs.Paths.{ListAt, list_at, nth, value_of}
@@ -10,15 +10,13 @@ use Rattle.meson_edit.specs.Places.{IsWritten}
 use Rattle.meson_plan.specs.declared.call.CallRef.{CallRef}
 use Rattle.meson_plan.specs.declared.call.Role.{Role}
 use Rattle.meson_plan.specs.declared.call.Role.TheVariants as role
-use Rattle.meson_plan.specs.declared.command.Command.{Command}
-use Rattle.meson_plan.specs.declared.command.Command.TheVariants as command
 use Rattle.meson_plan.specs.declared.planning.Replacement.{Replacement}
 use Rattle.meson_plan.specs.declared.refusal.Refusal.{Refusal}
-use Rattle.meson_plan.specs.declared.refusal.Refusal.TheVariants.{NoProject, NotYet}
+use Rattle.meson_plan.specs.declared.refusal.Refusal.TheVariants.{NoProject}
 use Rattle.meson_plan.specs.Project.{Project, BuildFile, Placed, nth_file}
 use Rattle.meson_plan.specs.Notes.{Note}
 use Rattle.meson_plan.specs.Picking.{found_places, places_with_role}
-use Rattle.meson_plan.specs.Planning.{only_one, planned}
+use Rattle.meson_plan.specs.Planning.{only_one, not_yet, the_call}
 use Rattle.meson_plan.specs.Steps.{Step}
 
 -- ---- what is written
@@ -74,35 +72,8 @@ pub record ValueAt (p : Project Span) (c : CallRef) (n : ℕ) : Type 0 where
   pub is_list : list_at file.tree c.path.steps ≡ Some list
   pub value : ValueIn list.list n
 
--- What a command means is the one step of the replacement, and its value is there.
-pub record IsPlan (p : Project Span) (c : Command) (r : Replacement) : Type 0 where
-  pub step : IsOneStep (planned p c) r
-  pub there : ValueAt p r.call r.argument
-
 -- ---- commands that are not done so far
 
--- what such a command is refused as, once its call was looked for
-abbrev pub IsLookedFor : {X : Type 0} → Result X Refusal → Refusal → Type 0
-IsLookedFor (Ok x) e = e ≡ NotYet
-IsLookedFor (Err f) e = e ≡ f
-
--- which call a command is about
-abbrev pub subject : Command → Option (Role × List ℕ)
-subject (command.SourcesAdd target sources) = Some (role.Target, target)
-subject (command.SourcesRemove target sources) = Some (role.Target, target)
-subject (command.ExtraAdd target sources) = Some (role.Target, target)
-subject (command.ExtraRemove target sources) = Some (role.Target, target)
-subject (command.TargetAdd target kind subdir sources) = None
-subject (command.TargetRemove target) = Some (role.Target, target)
-subject (command.TargetInfo target) = Some (role.Target, target)
-subject (command.KwargsSet r id pairs) = Some (r, id)
-subject (command.KwargsAdd r id pairs) = Some (r, id)
-subject (command.KwargsRemove r id pairs) = Some (r, id)
-subject (command.KwargsDelete r id keys) = Some (r, id)
-subject (command.KwargsInfo r id) = Some (r, id)
-subject (command.OptionsSet pairs) = Some (role.Project, codes "/")
-subject (command.OptionsDelete names) = Some (role.Project, codes "/")
-
-abbrev pub IsNotDone : {S : Type 0} → Option (Role × List ℕ) → List (Placed (Note S)) → Refusal → Type 0
-IsNotDone None notes e = e ≡ NotYet
-IsNotDone (Some about) notes e = IsLookedFor (the_place about.0 about.1 notes) e
+-- such a command on a call is refused so
+abbrev pub IsNotYet : Project Span → Role → List ℕ → Refusal → Type 0
+IsNotYet p r id e = not_yet {Y = List Step} (the_call p r id) ≡ Err e

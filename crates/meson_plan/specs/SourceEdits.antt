@@ -1,10 +1,10 @@
 -- Sources put into a target and taken out of it, and the same for its extra files. Meson manual, Rewriter: `target add`, `target rm`, `target add_extra_files`,
 -- `target rm_extra_files`.
-use Rattle.std.specs.Prelude.{ℕ, zero, suc, ◌+◌, ◌-◌, Bool, true, false, not, ◌&&◌, nat_eq, nat_lt, List, [], ◌∷◌, ◌++◌, length, codes, if◌then◌else◌, bytes_eq, Option, Some, None, option_map, option_and_then, Result, Ok, Err}
+use Rattle.std.specs.Prelude.{ℕ, zero, suc, ◌-◌, Bool, true, false, not, ◌&&◌, nat_eq, nat_lt, List, [], ◌∷◌, ◌++◌, length, codes, if◌then◌else◌, bytes_eq, Option, Some, None, option_map, option_and_then, Result, Ok, Err}
 use Rattle.std.specs.List.{filter, list_any}
 use Rattle.meson_lex.specs.Literals.{literal}
 use Rattle.meson_splice.specs.Patch.{then_ok}
-use Rattle.meson_syntax.specs.Tree.{Nowhere, Expression, array, listing, Argument, plain, named, pair, argument_list, arguments_of}
+use Rattle.meson_syntax.specs.Tree.{Nowhere, Expression, array, listing, Argument, plain, named, pair, arguments_of}
 use Rattle.meson_syntax.specs.Paths.{ListIn, list_in}
 use Rattle.meson_edit.specs.Edits.{Written, Edit, First, After, Remove, Wrap, elements}
 use Rattle.meson_plan.specs.declared.call.CallRef.{CallRef}

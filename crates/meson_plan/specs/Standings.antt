@@ -1,11 +1,11 @@
 -- Where what a target holds stands in the trees of its project, and that the steps of commands on it may be done.
-use Rattle.std.specs.Prelude.{◌≡◌, ℕ, List, [], ◌∷◌, All, Option, Some, Result, Ok}
+use Rattle.std.specs.Prelude.{◌≡◌, ℕ, List, [], All, Some, Result, Ok}
 use Rattle.std.specs.Str.{IsUtf8}
 use Rattle.meson_lex.specs.declared.kinds.Span.{Span}
 use Rattle.meson_syntax.specs.declared.operator.Bracket.TheVariants as bracket
 use Rattle.meson_syntax.specs.declared.operator.StringKind.{StringKind}
 use Rattle.meson_syntax.specs.Paths.{ListAt, list_at, nth}
-use Rattle.meson_syntax.specs.Tree.{Expression, string, Argument, plain}
+use Rattle.meson_syntax.specs.Tree.{Expression, string, plain}
 use Rattle.meson_edit.specs.Edits.{elements}
 use Rattle.meson_plan.specs.declared.call.CallRef.{CallRef}
 use Rattle.meson_plan.specs.declared.call.Role.TheVariants as role

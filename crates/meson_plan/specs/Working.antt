@@ -17,9 +17,10 @@ use Rattle.meson_plan.specs.declared.step.ListStep.{ListStep}
 use Rattle.meson_plan.specs.declared.step.ListEdit.{ListEdit}
 use Rattle.meson_plan.specs.declared.step.ListEdit.TheVariants as code
 use Rattle.meson_plan.specs.declared.work.Work.{Work}
-use Rattle.meson_plan.specs.Done.{IsMade, with_some}
+use Rattle.meson_plan.specs.Done.{IsMade}
 use Rattle.meson_plan.specs.ListSteps.{AreBare, AreDoable, bare}
 use Rattle.meson_plan.specs.Loading.{Loaded, HasFileName, max_files}
+use Rattle.meson_plan.specs.OtherValues.{with_some}
 use Rattle.meson_plan.specs.Performing.{plain_trees, saturated}
 use Rattle.meson_plan.specs.Plans.{Doable}
 use Rattle.meson_plan.specs.Steps.{Step}

@@ -21,7 +21,6 @@ mod meeting;
 mod naming;
 mod note;
 mod notes;
-mod performing;
 mod picking;
 mod planning;
 mod project;

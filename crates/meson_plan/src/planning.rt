@@ -1,16 +1,18 @@
-//! What a command means: the one replacement that is done so far, or why it is refused.
+//! What a command means: its steps, or why it is refused.
 
 ghost use Rattle.std.specs.Prelude.{◌≡◌, ◌≢◌, ◌∷◌, [], Err, IfErr, IfOk, Ok};
+ghost use Rattle.meson_lex.specs.declared.kinds.Span.{Span};
 ghost use Rattle.meson_syntax.specs.View.{list_view};
 ghost use Rattle.meson_plan.specs.declared.refusal.Refusal.TheVariants.{OutOfMemory};
 ghost use Rattle.meson_plan.specs.Loading.{AreParsed, IsProject, named_trees, views};
 ghost use Rattle.meson_plan.specs.Notes.{note_views, notes};
 ghost use Rattle.meson_plan.specs.Picking.{Source, call_with, found_places};
 ghost use Rattle.meson_plan.specs.Planning.{kwargs_set, only_one, planned, set_keyword, set_one};
-ghost use Rattle.meson_plan.specs.Plans.{MeansSteps};
-ghost use Rattle.meson_plan.specs.Project.{placed};
-ghost use Rattle.meson_plan.specs.Replacing.{IsLookedFor, IsNotDone, IsOneStep, ValueAt, ValueIn, WrittenFor, step_of, subject, the_place, written};
+ghost use Rattle.meson_plan.specs.Plans.{ArePlanned, MeansSteps};
+ghost use Rattle.meson_plan.specs.Project.{Project, placed};
+ghost use Rattle.meson_plan.specs.Replacing.{IsNotYet, IsOneStep, ValueAt, ValueIn, WrittenFor, step_of, the_place, written};
 ghost use Rattle.meson_plan.specs.Strings.{NotesGood};
+ghost use Rattle.meson_plan.specs.Targeted.{target_steps};
 
 use crate::arguments::{count_named, first_named};
 use crate::call::{CallRef, Role};
@@ -22,8 +24,9 @@ use crate::picking::with_role;
 use crate::refusal::Refusal;
 use crate::settings::{key_of, project_setting};
 use crate::step::{ListEdit, ListStep, push_step};
+use crate::targeting::Change::{ExtraAdded, ExtraRemoved, SourcesAdded, SourcesRemoved};
 use crate::targeting::{Change, target_steps};
-use meson_splice::{Bytes, FileSet, Text};
+use meson_splice::{Bytes, FileSet, Many, Text};
 use meson_syntax::{List, Parsed};
 use std::alloc::Global;
 
@@ -198,37 +201,72 @@ fn one_step(alloc: Global, replacement: Replacement) -> Result<Vec<ListStep>, Re
     Ok(steps)
 }
 
-/// Commands that are not done so far are refused after their call was looked for.
-fn not_yet(alloc: Global, role: Role, id: &str, notes: &[Note<'_>]) -> Refusal
-    requires { NotesGood (note_views notes.now) }
-    ensures { result ≢ OutOfMemory → IsLookedFor (the_place role id.now (note_views notes.now)) result }
+/// The refusal of a command that is not done so far, after its call was looked for.
+fn not_yet(alloc: Global, role: Role, id: &str, noted: &[Note<'_>]) -> Refusal
+    requires { NotesGood (note_views noted.now) }
+    ensures { (p : Project Span) → note_views noted.now ≡ notes p → result ≢ OutOfMemory → IsNotYet p role id.now result }
 {
-    match the_call(alloc, role, id, notes) {
+    match the_call(alloc, role, id, noted) {
         Ok(_) => Refusal::NotYet,
         Err(refusal) => refusal,
     }
 }
 
-/// The refusal of a command that is not done so far.
-fn told(alloc: Global, notes: &[Note<'_>], command: &Command) -> Refusal
-    requires { NotesGood (note_views notes.now) }
-    ensures { result ≢ OutOfMemory → IsNotDone (subject command.now) (note_views notes.now) result }
+/// A change of a target.
+///
+/// # Errors
+/// Why it is refused, or want of memory.
+fn on_target(
+    alloc: Global,
+    files: &FileSet,
+    trees: &[Parsed],
+    noted: &[Note<'_>],
+    target: &Text,
+    change: Change,
+    names: &Many<Text>,
+) -> Result<Vec<ListStep>, Refusal>
+    requires project { IsProject (record { files = files.now; parsed = trees.now }) }
+    requires taken { note_views noted.now ≡ notes (named_trees files.now (views files.now trees.now)) }
+    ensures plan { IfOk result (λ steps. ArePlanned (record { files = files.now; parsed = trees.now }) (target_steps (named_trees files.now (views files.now trees.now)) target.now change names.now) steps.items) }
+    ensures refused { IfErr result (λ e. e ≢ OutOfMemory → target_steps (named_trees files.now (views files.now trees.now)) target.now change names.now ≡ Err e) }
 {
-    match command {
-        Command::SourcesAdd { target, .. } => not_yet(alloc, Role::Target, target.get(), notes),
-        Command::SourcesRemove { target, .. } => not_yet(alloc, Role::Target, target.get(), notes),
-        Command::ExtraAdd { target, .. } => not_yet(alloc, Role::Target, target.get(), notes),
-        Command::ExtraRemove { target, .. } => not_yet(alloc, Role::Target, target.get(), notes),
-        Command::TargetAdd { .. } => Refusal::NotYet,
-        Command::TargetRemove { target } => not_yet(alloc, Role::Target, target.get(), notes),
-        Command::TargetInfo { target } => not_yet(alloc, Role::Target, target.get(), notes),
-        Command::KwargsSet { role, id, .. } => not_yet(alloc, *role, id.get(), notes),
-        Command::KwargsAdd { role, id, .. } => not_yet(alloc, *role, id.get(), notes),
-        Command::KwargsRemove { role, id, .. } => not_yet(alloc, *role, id.get(), notes),
-        Command::KwargsDelete { role, id, .. } => not_yet(alloc, *role, id.get(), notes),
-        Command::KwargsInfo { role, id } => not_yet(alloc, *role, id.get(), notes),
-        Command::OptionsSet { .. } => not_yet(alloc, Role::Project, "/", notes),
-        Command::OptionsDelete { .. } => not_yet(alloc, Role::Project, "/", notes),
+    target_steps(
+        alloc,
+        files,
+        trees,
+        noted,
+        target.get(),
+        change,
+        names.get(),
+    )
+}
+
+/// Keyword arguments are set.
+///
+/// # Errors
+/// Why it is refused, or want of memory.
+#[tactic(auto, using(crate::proofs::GoodNotes::taken_good))]
+fn kwargs_set(
+    alloc: Global,
+    files: &FileSet,
+    trees: &[Parsed],
+    noted: &[Note<'_>],
+    role: Role,
+    id: &Text,
+    pairs: &Many<(Text, Setting)>,
+) -> Result<Vec<ListStep>, Refusal>
+    requires project { IsProject (record { files = files.now; parsed = trees.now }) }
+    requires taken { note_views noted.now ≡ notes (named_trees files.now (views files.now trees.now)) }
+    ensures plan { IfOk result (λ steps. ArePlanned (record { files = files.now; parsed = trees.now }) (kwargs_set (named_trees files.now (views files.now trees.now)) role id.now pairs.now) steps.items) }
+    ensures refused { IfErr result (λ e. e ≢ OutOfMemory → kwargs_set (named_trees files.now (views files.now trees.now)) role id.now pairs.now ≡ Err e) }
+{
+    match role {
+        Role::Project => match set_in_project(alloc, files, trees, noted, id.get(), pairs.get()) {
+            Ok(replacement) => one_step(alloc, replacement),
+            Err(refusal) => Err(refusal),
+        },
+        Role::Target => Err(not_yet(alloc, Role::Target, id.get(), noted)),
+        Role::Dependency => Err(not_yet(alloc, Role::Dependency, id.get(), noted)),
     }
 }
 
@@ -236,6 +274,7 @@ fn told(alloc: Global, notes: &[Note<'_>], command: &Command) -> Refusal
 ///
 /// # Errors
 /// Why it is refused, or want of memory.
+#[tactic(auto, using(crate::proofs::GoodNotes::taken_good))]
 pub(crate) fn planned(
     alloc: Global,
     files: &FileSet,
@@ -249,52 +288,29 @@ pub(crate) fn planned(
     let notes = notes_of(alloc, files, trees)?;
     let notes = notes.as_slice();
     match command {
-        Command::KwargsSet { role, id, pairs } => match role {
-            Role::Project => {
-                match set_in_project(alloc, files, trees, notes, id.get(), pairs.get()) {
-                    Ok(replacement) => one_step(alloc, replacement),
-                    Err(refusal) => Err(refusal),
-                }
-            }
-            Role::Target => Err(told(alloc, notes, command)),
-            Role::Dependency => Err(told(alloc, notes, command)),
-        },
-        Command::SourcesAdd { target, sources } => target_steps(
-            alloc,
-            files,
-            trees,
-            notes,
-            target.get(),
-            Change::SourcesAdded,
-            sources.get(),
-        ),
-        Command::SourcesRemove { target, sources } => target_steps(
-            alloc,
-            files,
-            trees,
-            notes,
-            target.get(),
-            Change::SourcesRemoved,
-            sources.get(),
-        ),
-        Command::ExtraAdd { target, sources } => target_steps(
-            alloc,
-            files,
-            trees,
-            notes,
-            target.get(),
-            Change::ExtraAdded,
-            sources.get(),
-        ),
-        Command::ExtraRemove { target, sources } => target_steps(
-            alloc,
-            files,
-            trees,
-            notes,
-            target.get(),
-            Change::ExtraRemoved,
-            sources.get(),
-        ),
-        _ => Err(told(alloc, notes, command)),
+        Command::SourcesAdd { target, sources } => {
+            on_target(alloc, files, trees, notes, target, SourcesAdded, sources)
+        }
+        Command::SourcesRemove { target, sources } => {
+            on_target(alloc, files, trees, notes, target, SourcesRemoved, sources)
+        }
+        Command::ExtraAdd { target, sources } => {
+            on_target(alloc, files, trees, notes, target, ExtraAdded, sources)
+        }
+        Command::ExtraRemove { target, sources } => {
+            on_target(alloc, files, trees, notes, target, ExtraRemoved, sources)
+        }
+        Command::TargetAdd { .. } => Err(Refusal::NotYet),
+        Command::TargetRemove { target } => Err(not_yet(alloc, Role::Target, target.get(), notes)),
+        Command::TargetInfo { target } => Err(not_yet(alloc, Role::Target, target.get(), notes)),
+        Command::KwargsSet { role, id, pairs } => {
+            kwargs_set(alloc, files, trees, notes, *role, id, pairs)
+        }
+        Command::KwargsAdd { role, id, .. } => Err(not_yet(alloc, *role, id.get(), notes)),
+        Command::KwargsRemove { role, id, .. } => Err(not_yet(alloc, *role, id.get(), notes)),
+        Command::KwargsDelete { role, id, .. } => Err(not_yet(alloc, *role, id.get(), notes)),
+        Command::KwargsInfo { role, id } => Err(not_yet(alloc, *role, id.get(), notes)),
+        Command::OptionsSet { .. } => Err(not_yet(alloc, Role::Project, "/", notes)),
+        Command::OptionsDelete { .. } => Err(not_yet(alloc, Role::Project, "/", notes)),
     }
 }

@@ -2,8 +2,8 @@
 
 ghost use Rattle.std.specs.Prelude.{◌≡◌, ◌≢◌, [], Some, Ok, Err, IfErr, IfOk, IsTrue, OnErr};
 ghost use Rattle.meson_plan.specs.Directories.{IsFileName};
-ghost use Rattle.meson_plan.specs.Done.{with_some};
 ghost use Rattle.meson_plan.specs.Loading.{project, MayNotLoad};
+ghost use Rattle.meson_plan.specs.OtherValues.{with_some};
 ghost use Rattle.meson_plan.specs.Performing.{MayRefuse, Performs};
 ghost use Rattle.meson_plan.specs.Roles.{targets, found, is_target, places};
 ghost use Rattle.meson_plan.specs.Sources.{sources};

@@ -3,8 +3,7 @@
 ghost use Rattle.std.specs.Prelude.{◌≡◌, ◌≢◌, ◌++◌, ◌∷◌, [], Err, IfErr, IfOk, None, Ok, OnOk, Some, true, length, map, option_map};
 ghost use Rattle.std.specs.List.{list_any};
 ghost use Rattle.meson_plan.specs.ListSteps.{bare};
-ghost use Rattle.meson_plan.specs.Naming.{after_each, all_there, before_all, is_some_there, spot_at, spots_at, spots_of_names};
-ghost use Rattle.meson_plan.specs.Spots.{spot_view};
+ghost use Rattle.meson_plan.specs.Spots.{after_each, all_there, before_all, is_some_there, spot_at, spot_view, spots_at, spots_of_names};
 ghost use Rattle.meson_plan.specs.SourceEdits.{distinct_spots, moved_up, path_after, removed, same_spot, spot_after};
 
 use crate::call::{CallRef, SourceItem};

@@ -7,8 +7,9 @@ ghost use Rattle.meson_splice.specs.Files.{IsDistinct, bytes_at};
 ghost use Rattle.meson_splice.specs.declared.file_set.File.{File};
 ghost use Rattle.meson_syntax.specs.View.{view};
 ghost use Rattle.meson_syntax.specs.declared.tree.Parsed.{Parsed};
-ghost use Rattle.meson_plan.specs.Done.{IsMade, IsOutcome, MayNotBeMade, with_some};
+ghost use Rattle.meson_plan.specs.Done.{IsMade, IsOutcome, MayNotBeMade};
 ghost use Rattle.meson_plan.specs.Loading.{IsProject};
+ghost use Rattle.meson_plan.specs.OtherValues.{with_some};
 ghost use Rattle.meson_plan.specs.Performing.{AreSmall};
 ghost use Rattle.meson_plan.specs.Picking.{Source};
 ghost use Rattle.meson_plan.specs.Plans.{Doable};
@@ -17,7 +18,6 @@ ghost use Rattle.meson_plan.specs.Steps.{effective};
 ghost use Rattle.meson_plan.specs.Working.{HasDeep, HasLarge, HasSteps, IsChanged, IsNext, IsShallow, MayChange, Reached, placed_edit};
 ghost use Rattle.meson_plan.specs.ListSteps.{bare};
 
-use crate::performing::leave_effective;
 use crate::refusal::Refusal;
 use crate::spans::{bracket_offset, element_span, value_span};
 use crate::step::{ListEdit, ListStep};
@@ -66,6 +66,13 @@ fn primitive_of(tree: &Parsed, step: ListStep) -> Option<Primitive>
             None => None,
         },
     }
+}
+
+/// Leaves the splices that change something.
+fn leave_effective(splices: &mut Vec<Splice>)
+    ensures { splices.new.items ≡ effective splices.old.items }
+{
+    splices.retain(|splice| splice.was != splice.now);
 }
 
 /// The splices of an edit, but for those that change nothing.

@@ -1,8 +1,8 @@
-use Rattle.std.proofs.Common.{◌≡◌, ◌+◌, ◌≤◌, drop, length, sym, ap, ◌∙◌, arith}
+use Rattle.std.proofs.Common.{sym, ap, ◌∙◌, arith}
 use Rattle.std.specs.Prelude.{is_some}
 use Rattle.meson_syntax.specs.View.{arg_view}
 use Rattle.meson_plan.specs.Calls.{value_without_name}
-use Rattle.meson_plan.proofs.Plains.{plains, one_plain, not_plain, all_counted}
+use Rattle.meson_plan.proofs.Plains.{one_plain, not_plain, all_counted}
 use Rattle.meson_plan.proofs.arguments.count_plain.Goals as goal
 use Rattle.meson_plan.proofs.arguments.count_plain.Goals.{then-is_plain, else-is_plain}
 

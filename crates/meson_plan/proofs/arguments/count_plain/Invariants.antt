@@ -1,4 +1,4 @@
-use Rattle.std.proofs.Common.{◌≡◌, ℕ, List, ◌+◌, ◌≤◌, length, drop}
+use Rattle.std.proofs.Common.{◌≡◌, ℕ, List, ◌+◌, ◌≤◌, drop}
 use Rattle.meson_plan.proofs.Plains.{plains}
 use Rattle.meson_plan.proofs.arguments.count_plain.Given as goal
 

@@ -1,5 +1,5 @@
-use Rattle.std.proofs.Common.{◌≡◌, ◌++◌, [], length, map, sym, ap, ◌∙◌, subst}
-use Rattle.std.specs.Prelude.{Some, Ok, Err}
+use Rattle.std.proofs.Common.{◌++◌, length, map, sym, ap, ◌∙◌, subst}
+use Rattle.std.specs.Prelude.{Some}
 use Rattle.meson_plan.specs.Calls.{value_with_name}
 use Rattle.meson_plan.specs.ListSteps.{bare}
 use Rattle.meson_plan.specs.Named.{project_of}

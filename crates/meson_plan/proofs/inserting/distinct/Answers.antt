@@ -1,8 +1,7 @@
-use Rattle.std.proofs.Common.{◌≡◌, ◌+◌, List, [], ◌∷◌, ◌++◌, map, drop, sym, ap, ◌∙◌, Bor, rules}
+use Rattle.std.proofs.Common.{◌≡◌, ◌+◌, [], ◌∷◌, ◌++◌, map, drop, sym, ap, ◌∙◌, rules}
 use Rattle.std.specs.Prelude.{reverse, bytes_eq, true, false}
 use Rattle.std.specs.List.{list_any}
 use Rattle.std.proofs.lemmas.List.{map-append}
-use Rattle.meson_values.specs.declared.text.Text.{Text}
 use Rattle.meson_plan.specs.SourceEdits.{distinct_by}
 use Rattle.meson_plan.proofs.Distincts.{distinct_more, distinct_same, same_read}
 use Rattle.meson_plan.proofs.inserting.distinct.Goals as goal

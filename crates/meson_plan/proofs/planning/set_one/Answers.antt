@@ -1,4 +1,4 @@
-use Rattle.std.proofs.Common.{◌≡◌, ◌∷◌, [], length, sym, ap, ◌∙◌}
+use Rattle.std.proofs.Common.{◌∷◌, [], sym, ap, ◌∙◌}
 use Rattle.meson_syntax.specs.View.{list_view}
 use Rattle.meson_plan.specs.Picking.{call_with}
 use Rattle.meson_plan.specs.Project.{placed}

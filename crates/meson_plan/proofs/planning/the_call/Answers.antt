@@ -1,6 +1,5 @@
-use Rattle.std.proofs.Common.{◌≡◌, ap, ◌∙◌, sym, subst, length}
-use Rattle.std.specs.Prelude.{false, ◌==◌, IfErr, ◌≢◌, Err}
-use Rattle.meson_plan.specs.declared.refusal.Refusal.TheVariants.{OutOfMemory}
+use Rattle.std.proofs.Common.{◌≡◌, ap, ◌∙◌, subst, length}
+use Rattle.std.specs.Prelude.{false, ◌==◌}
 use Rattle.meson_plan.specs.Notes.{note_views}
 use Rattle.meson_plan.specs.Picking.{found_places}
 use Rattle.meson_plan.specs.Planning.{only_one}

@@ -1,7 +1,6 @@
 use Rattle.std.proofs.Common.{◌≡◌, drop, map}
 use Rattle.std.specs.Prelude.{◌||◌}
-use Rattle.meson_plan.specs.Naming.{all_there, before_all, is_some_there, spots_at}
-use Rattle.meson_plan.specs.Spots.{spot_view}
+use Rattle.meson_plan.specs.Spots.{all_there, before_all, is_some_there, spot_view, spots_at}
 use Rattle.meson_plan.proofs.removing.find_spots.Given as goal
 
 abbrev pub invariant-loop-i : goal.invariant-loop-i

@@ -1,9 +1,8 @@
 use Rattle.std.proofs.Common.{◌≡◌, ◌++◌, drop, map, length}
 use Rattle.std.specs.Prelude.{Some}
 use Rattle.meson_plan.specs.ListSteps.{bare}
-use Rattle.meson_plan.specs.Naming.{after_each}
 use Rattle.meson_plan.specs.SourceEdits.{removed, removed_by, spot_after}
-use Rattle.meson_plan.specs.Spots.{spot_view}
+use Rattle.meson_plan.specs.Spots.{after_each, spot_view}
 use Rattle.meson_plan.proofs.removing.removals.Given as goal
 
 abbrev pub invariant-loop-i : goal.invariant-loop-i

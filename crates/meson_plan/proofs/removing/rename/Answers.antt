@@ -1,11 +1,11 @@
-use Rattle.std.proofs.Common.{◌≡◌, length, refl, sym, ap, ◌∙◌, arith}
+use Rattle.std.proofs.Common.{◌≡◌, length, sym, ap, ◌∙◌, arith}
 use Rattle.std.proofs.lemmas.List.{with_items_is}
 use Rattle.meson_plan.specs.Project.{place}
 use Rattle.std.specs.Cmp.Lexicographic.{pointwise}
-use Rattle.std.specs.Prelude.{true, false, nat_eq, if◌then◌else◌, cond}
+use Rattle.std.specs.Prelude.{true, false, nat_eq, if◌then◌else◌}
 use Rattle.std.specs.Vec.{with_items}
 use Rattle.meson_plan.specs.declared.removing.Spot as code
-use Rattle.meson_plan.specs.SourceEdits.{moved_up, path_after, is_path, Spot}
+use Rattle.meson_plan.specs.SourceEdits.{moved_up, path_after, is_path}
 use Rattle.meson_plan.specs.Spots.{spot_view}
 use Rattle.meson_plan.proofs.PathsAfter.{renamed, pointwise_is, length_after}
 use Rattle.meson_plan.proofs.removing.rename.Goals as goal

@@ -1,7 +1,6 @@
 use Rattle.std.proofs.Common.{◌≡◌, drop, map}
-use Rattle.meson_plan.specs.Naming.{after_each}
 use Rattle.meson_plan.specs.SourceEdits.{spot_after}
-use Rattle.meson_plan.specs.Spots.{spot_view}
+use Rattle.meson_plan.specs.Spots.{after_each, spot_view}
 use Rattle.meson_plan.proofs.removing.rename_after.Given as goal
 
 abbrev pub invariant-loop-i : goal.invariant-loop-i

@@ -1,4 +1,4 @@
-use Rattle.std.proofs.Common.{◌≡◌, ◌<◌, length, take, get_or, sym, ap, ◌∙◌, arith, rules}
+use Rattle.std.proofs.Common.{◌≡◌, length, take, ap, ◌∙◌, arith, rules}
 use Rattle.std.specs.Prelude.{slice_set}
 use Rattle.meson_plan.proofs.PathsAfter.{put_there, not_there, pointwise_is, is_same_path}
 use Rattle.meson_plan.proofs.removing.renumber.Goals as goal

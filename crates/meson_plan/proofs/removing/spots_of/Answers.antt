@@ -1,8 +1,7 @@
 use Rattle.std.proofs.Common.{◌≡◌, ◌+◌, ◌∷◌, map, drop, get_or, sym, ap, ◌∙◌, add-one, rules}
 use Rattle.std.specs.Prelude.{true}
 use Rattle.std.proofs.Math.Seq.{drop-cons}
-use Rattle.meson_plan.specs.Naming.{behind_all, spots_at, spots_of_names}
-use Rattle.meson_plan.specs.Spots.{spot_view}
+use Rattle.meson_plan.specs.Spots.{behind_all, spot_view, spots_at, spots_of_names}
 use Rattle.meson_plan.proofs.SpotsFound.{next_name}
 use Rattle.meson_plan.proofs.removing.spots_of.Goals as goal
 

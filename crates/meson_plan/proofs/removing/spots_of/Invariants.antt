@@ -1,6 +1,5 @@
 use Rattle.std.proofs.Common.{◌≡◌, drop, map}
-use Rattle.meson_plan.specs.Naming.{behind_all, spots_of_names}
-use Rattle.meson_plan.specs.Spots.{spot_view}
+use Rattle.meson_plan.specs.Spots.{behind_all, spot_view, spots_of_names}
 use Rattle.meson_plan.proofs.removing.spots_of.Given as goal
 
 abbrev pub invariant-loop-i : goal.invariant-loop-i

@@ -1,6 +1,5 @@
-use Rattle.std.proofs.Common.{ap, ◌∙◌, sym, rules}
+use Rattle.std.proofs.Common.{ap, ◌∙◌, sym}
 use Rattle.std.specs.Prelude.{Some, option_map}
-use Rattle.meson_syntax.specs.declared.tree.Arg.TheFolds.{the_lemmas}
 use Rattle.meson_syntax.specs.Paths.{value_of}
 use Rattle.meson_syntax.specs.Places.{expression_span}
 use Rattle.meson_syntax.specs.View.{arg_view}

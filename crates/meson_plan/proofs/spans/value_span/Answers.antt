@@ -1,4 +1,4 @@
-use Rattle.std.proofs.Common.{ap, ◌∙◌, sym, subst}
+use Rattle.std.proofs.Common.{ap, ◌∙◌}
 use Rattle.std.specs.Prelude.{option_map}
 use Rattle.meson_syntax.specs.Paths.{value_of}
 use Rattle.meson_syntax.specs.Places.{expression_span}

@@ -1,9 +1,9 @@
-use Rattle.std.proofs.Common.{◌≡◌, refl, sym, ap, ◌∙◌, subst}
+use Rattle.std.proofs.Common.{refl, sym, ap, ◌∙◌, subst}
 use Rattle.meson_plan.specs.declared.command.Done.{Done}
-use Rattle.meson_plan.specs.Done.{with_some}
 use Rattle.meson_plan.specs.Loading.{Loaded}
 use Rattle.meson_plan.specs.Performing.{MayRefuse, Performs}
 use Rattle.meson_plan.specs.Performing as performing
+use Rattle.meson_plan.specs.OtherValues.{with_some}
 use Rattle.meson_plan.proofs.Performed.{may_refuse, performed}
 use Rattle.meson_plan.proofs.project.Project.perform.Goals as goal
 

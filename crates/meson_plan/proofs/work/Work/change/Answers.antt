@@ -4,8 +4,7 @@ use Rattle.meson_splice.specs.Patch.{patched_all}
 use Rattle.meson_syntax.specs.Reads.{IsSpannedWithin, ReadsWithin, wide}
 use Rattle.meson_syntax.specs.View.{view}
 use Rattle.meson_plan.specs.Performing.{saturated}
-use Rattle.meson_plan.proofs.PatchedFiles.{all_as_many, only_memory}
-use Rattle.meson_plan.proofs.ReplacedFiles.{same_files}
+use Rattle.meson_plan.proofs.PatchedFiles.{all_as_many, only_memory, same_files}
 use Rattle.meson_plan.proofs.work.Work.change.Goals as goal
 
 pub bytes-bytes-requires : goal.bytes-bytes-requires

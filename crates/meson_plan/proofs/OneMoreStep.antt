@@ -1,14 +1,13 @@
 -- One more step behind those that are done.
-use Rattle.std.proofs.Common.{◌≡◌, ℕ, zero, suc, ◌+◌, ◌<◌, List, [], ◌∷◌, ◌++◌, length, get_or, append-nil, refl, sym, ap, ◌∙◌, subst, arith}
-use Rattle.std.specs.Prelude.{Option, Some, None, Ok, option_map, option_and_then}
+use Rattle.std.proofs.Common.{◌≡◌, ℕ, ◌+◌, List, [], ◌∷◌, ◌++◌, append-nil, refl, sym, ap, ◌∙◌, subst, arith}
+use Rattle.std.specs.Prelude.{Option, Some, None, Ok, option_and_then}
 use Rattle.std.proofs.lemmas.List.{append_assoc}
 use Rattle.meson_splice.specs.declared.file_set.File.{File}
 use Rattle.meson_splice.specs.declared.splice.Splice.{Splice}
 use Rattle.meson_splice.specs.Patch.{patched_all}
 use Rattle.meson_syntax.specs.Tree.{Plain}
-use Rattle.meson_plan.specs.Outcomes.{with_one}
 use Rattle.meson_plan.specs.Performing.{saturated}
-use Rattle.meson_plan.specs.Steps.{Step, Laid, StepsMake, none, step, all_stepped, stepped, changed_at, read_again}
+use Rattle.meson_plan.specs.Steps.{Step, Laid, StepsMake, none, step, all_stepped, stepped, read_again}
 
 -- ---- trees
 
@@ -41,29 +40,3 @@ steps_more files between last steps s splices here bytes (step fs next end t mor
 
 pub saturated_more : (a n : ℕ) → saturated (saturated a + n) ≡ saturated (a + n)
 saturated_more a n = omega arith
-
--- ---- a value changed in one place
-
-pub record ChangedAt {X : Type 0} (change : X → Option X) (i : ℕ) (xs ys : List X) : Type 0 where
-  pub within : i < length xs
-  pub new : X
-  pub is : (d : X) → change (get_or xs i d) ≡ Some new
-  pub are : ys ≡ with_one i new xs
-
-module _ {X : Type 0} (change : X → Option X) where
-  first_changed : (x : X) (xs ys : List X) (o : Option X) → change x ≡ o → option_map (λ y. y ∷ xs) o ≡ Some ys → ChangedAt change zero (x ∷ xs) ys
-  first_changed x xs ys (Some y) is done = record { within = omega arith; new = y; is = λ d. is; are = cc }
-  first_changed x xs ys None is done = absurd cc
-
-  later_changed : (x : X) (xs ys : List X) (i : ℕ) (o : Option (List X)) → ((zs : List X) → o ≡ Some zs → ChangedAt change i xs zs) → option_map (λ zs. x ∷ zs) o ≡ Some ys → ChangedAt change (suc i) (x ∷ xs) ys
-  later_changed x xs ys i (Some zs) from done =
-      let r = from zs refl in
-      let below = r.within in
-      let same : x ∷ zs ≡ ys = cc in
-      record { within = omega (arith, below); new = r.new; is = r.is; are = sym same ∙ ap (λ l. x ∷ l) r.are }
-  later_changed x xs ys i None from done = absurd cc
-
-  pub changed_from : (xs ys : List X) (i : ℕ) → changed_at i change xs ≡ Some ys → ChangedAt change i xs ys
-  changed_from [] ys i is = absurd cc
-  changed_from (x ∷ xs) ys zero is = first_changed x xs ys (change x) refl is
-  changed_from (x ∷ xs) ys (suc i) is = later_changed x xs ys i (changed_at i change xs) (λ zs here. changed_from xs zs i here) is
