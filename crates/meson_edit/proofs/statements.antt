@@ -1,3 +1,4 @@
 pub mod Erasing
 pub mod Removed
 pub mod Appended
+pub mod Kept

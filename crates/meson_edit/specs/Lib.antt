@@ -4,3 +4,4 @@ pub mod Places
 pub mod Laws
 pub mod Sequences
 pub mod Depths
+pub mod Kept

@@ -1,5 +1,6 @@
 //! Laws of edits. The functions do nothing: what they ensure is the law.
 
+ghost use Rattle.meson_edit.specs.Kept.{AppendedKeep, StatementRemovalsKeep};
 ghost use Rattle.meson_edit.specs.Laws.{AppendedSpell, FirstsSpell, InsertionsSpell, ListEditsKeep, RemovalsSpell, ReplacementsSpell, StatementRemovalsSpell, WrapsSpell};
 ghost use Rattle.meson_edit.specs.Sequences.{DepthsGrow, EditsDeepen, EditsDeepenByOne, FirstsKeepLevels, FirstsStayWithin, InsertionsKeepLevels, InsertionsStayWithin, ListsStay, RemovalsKeepLevels, RemovalsStayWithin, ReplacementsKeepLevels, WrapsKeepLevels};
 
@@ -17,6 +18,12 @@ pub fn lists()
 pub fn statements()
     ensures removals { StatementRemovalsSpell }
     ensures appended { AppendedSpell }
+{}
+
+/// A statement removed or appended: of the bytes around it only blanks and line ends change.
+pub fn kept()
+    ensures removals { StatementRemovalsKeep }
+    ensures appended { AppendedKeep }
 {}
 
 /// What one edit leaves to the next: a list stands where it was put and all around it as before, the tree is no deeper than what was put in makes it, and it keeps its levels.

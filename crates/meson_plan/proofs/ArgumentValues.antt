@@ -1,31 +1,36 @@
 -- The values of arguments, and where they stand.
-use Rattle.std.proofs.Common.{rules, ◌≡◌, ℕ, zero, suc, ◌<◌, ◌≤◌, List, [], ◌∷◌, length, get_or, Option, Some, None, refl, ap, ◌∙◌, sym, arith}
-use Rattle.std.specs.Prelude.{option_map, option_and_then}
+use Rattle.std.proofs.Common.{◌≡◌, ℕ, ◌<◌, ◌≤◌, List, [], ◌∷◌, length, get_or, Option, Some, None, refl, ap, ◌∙◌, sym}
+use Rattle.std.specs.Prelude.{Bool, true, false, if◌then◌else◌, bytes_eq, option_map, option_and_then}
 use Rattle.meson_lex.specs.declared.kinds.Span.{Span}
 use Rattle.meson_syntax.specs.declared.tree.Arg.{Arg}
 use Rattle.meson_syntax.specs.declared.tree.Arg.TheVariants as arg
-use Rattle.meson_syntax.specs.declared.tree.Arg.TheFolds.{the_lemmas}
 use Rattle.meson_syntax.specs.declared.tree.Expr.{Expr}
 use Rattle.meson_syntax.specs.declared.tree.List as rust
 use Rattle.meson_syntax.specs.Paths.{ListAt, list_at, nth, value_of, list_span}
 use Rattle.meson_syntax.specs.Places.{expression_span, argument_span}
-use Rattle.meson_syntax.specs.Tree.{Argument, Listing, File, plain, named, arguments_of, argument_list}
-use Rattle.meson_syntax.specs.View.{arg_view, args_view, expr_view, list_view, text_at}
-use Rattle.meson_plan.proofs.Listed.{list_is}
+use Rattle.meson_syntax.specs.Tree.{Expression, Argument, Listing, File, plain, named, pair, arguments_of, argument_list}
+use Rattle.meson_syntax.specs.View.{arg_view, args_view, expr_view, list_view}
+use Rattle.meson_calls.specs.Calls.{value_with_name}
+use Rattle.meson_calls.proofs.ArgumentViews.{plain_view, named_view, nth_there, nth_past}
+use Rattle.meson_calls.proofs.Listed.{list_is}
 use Rattle.meson_edit.specs.Edits.{elements}
 use Rattle.meson_edit.specs.Places.{value_span, element_there, element_span, bracket_offset}
-
-pub plain_view : (source : List ℕ) (e : Expr) → arg_view source (arg.Plain e) ≡ plain (expr_view source e)
-plain_view source e = search (rules, the_lemmas)
-
-pub named_view : (source : List ℕ) (s x : Span) (e : Expr) → arg_view source (arg.Named s x e) ≡ named s (text_at source x) (expr_view source e)
-named_view source s x e = search (rules, the_lemmas)
 
 pub plain_span : (source : List ℕ) (e : Expr) → option_map expression_span (value_of (arg_view source (arg.Plain e))) ≡ Some (expression_span (expr_view source e))
 plain_span source e = ap (λ a. option_map expression_span (value_of a)) (plain_view source e)
 
 pub named_span : (source : List ℕ) (s x : Span) (e : Expr) → option_map expression_span (value_of (arg_view source (arg.Named s x e))) ≡ Some (expression_span (expr_view source e))
 named_span source s x e = ap (λ a. option_map expression_span (value_of a)) (named_view source s x e)
+
+-- the value of an argument of a name
+pub named_value : (key : List ℕ) (a : Argument Span) (v : Expression Span) → value_with_name key a ≡ Some v → value_of a ≡ Some v
+named_value key (plain e) v is = absurd cc
+named_value key (named s x e) v is = go (bytes_eq x key) is
+  where
+    go : (b : Bool) → (if b then Some e else None) ≡ Some v → Some e ≡ Some v
+    go true h = h
+    go false h = absurd cc
+named_value key (pair s e f) v is = absurd cc
 
 -- ---- the n-th element of a list
 
@@ -35,16 +40,6 @@ listed (a ∷ args) = ap (λ l. a ∷ l) (listed args)
 
 pub list_elements : (source : List ℕ) (l : rust.List) → elements (list_view source l) ≡ args_view source (rust.out-List l).items
 list_elements source l = ap elements (list_is source l) ∙ listed (args_view source (rust.out-List l).items)
-
-pub nth_there : (source : List ℕ) (args : List Arg) (n : ℕ) (d : Arg) → n < length args → nth (args_view source args) n ≡ Some (arg_view source (get_or args n d))
-nth_there source [] n d within = absurd (omega (arith, within))
-nth_there source (a ∷ args) zero d within = refl
-nth_there source (a ∷ args) (suc n) d within = let below : n < length args = omega (arith, within) in nth_there source args n d below
-
-pub nth_past : (source : List ℕ) (args : List Arg) (n : ℕ) → length args ≤ n → nth (args_view source args) n ≡ None
-nth_past source [] n past = refl
-nth_past source (a ∷ args) zero past = absurd (omega (arith, past))
-nth_past source (a ∷ args) (suc n) past = let below : length args ≤ n = omega (arith, past) in nth_past source args n below
 
 element_at_list : (o : Option (ListAt Span)) (l : Listing Span) (n : ℕ) → Some l ≡ option_map (λ p. p.list) o → option_and_then (element_there n) o ≡ nth (elements l) n
 element_at_list None l n is = absurd cc

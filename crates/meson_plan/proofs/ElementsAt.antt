@@ -15,9 +15,9 @@ use Rattle.meson_syntax.proofs.parsing.Levels.{file-level}
 use Rattle.meson_syntax.proofs.parsing.Steps.{some-injective}
 use Rattle.meson_syntax.proofs.paths.Reaching.{and-then-some, list-fits}
 use Rattle.meson_edit.specs.Edits.{elements}
-use Rattle.meson_plan.specs.declared.call.CallRef.{CallRef}
-use Rattle.meson_plan.specs.Loading.{AreParsed, named_trees, views}
-use Rattle.meson_plan.specs.Project.{Project, BuildFile, child, nth_file, expression_at}
+use Rattle.meson_calls.specs.declared.call.CallRef.{CallRef}
+use Rattle.meson_calls.specs.Loading.{AreParsed, named_trees, views}
+use Rattle.meson_calls.specs.Project.{Project, BuildFile, child, nth_file, expression_at}
 use Rattle.meson_plan.proofs.ListNodes.{list_of, list_part, value_below}
 
 -- each list of its files has what its brackets hold

@@ -9,10 +9,10 @@ use Rattle.meson_syntax.specs.Paths.{Sort, of_expression, of_statement, of_block
 use Rattle.meson_syntax.specs.Paths as paths
 use Rattle.meson_syntax.proofs.PathNodes.{expression-reached}
 use Rattle.meson_syntax.proofs.paths.Reaching.{and-then-some}
-use Rattle.meson_plan.specs.declared.call.CallRef.{CallRef}
-use Rattle.meson_plan.specs.Parts.{Part}
-use Rattle.meson_plan.specs.Parts as part
-use Rattle.meson_plan.specs.Project.{Project, BuildFile, Placed, child, nth_file, expression_at}
+use Rattle.meson_calls.specs.declared.call.CallRef.{CallRef}
+use Rattle.meson_calls.specs.Parts.{Part}
+use Rattle.meson_calls.specs.Parts as part
+use Rattle.meson_calls.specs.Project.{Project, BuildFile, Placed, child, nth_file, expression_at}
 use Rattle.meson_plan.specs.Standings.{ListThere}
 use Rattle.meson_plan.proofs.CallsReached.{InProject}
 use Rattle.meson_plan.proofs.ListNodes.{list_of, node_below}

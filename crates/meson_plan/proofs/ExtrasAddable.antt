@@ -8,16 +8,16 @@ use Rattle.meson_syntax.specs.Tree.{Plain, Expression, Listing, listing, Argumen
 use Rattle.meson_syntax.specs.Grammar.{LevelFile, file_depth}
 use Rattle.meson_syntax.specs.Paths.{nth}
 use Rattle.meson_edit.specs.Edits.{After, Wrap, elements}
-use Rattle.meson_plan.specs.declared.call.CallRef.{CallRef}
-use Rattle.meson_plan.specs.Calls.{Call, Numbered, numbered, kept_number, value_with_name, keyword}
-use Rattle.meson_plan.specs.Calls as calls
-use Rattle.meson_plan.specs.Expansion.{Mark}
+use Rattle.meson_calls.specs.declared.call.CallRef.{CallRef}
+use Rattle.meson_calls.specs.Calls.{Call, Numbered, numbered, kept_number, value_with_name, keyword}
+use Rattle.meson_calls.specs.Calls as calls
+use Rattle.meson_calls.specs.Expansion.{Mark}
 use Rattle.meson_plan.specs.ListSteps.{MayStand, AreDoable, none}
-use Rattle.meson_plan.specs.Loading.{Loaded, AreParsed, project}
+use Rattle.meson_calls.specs.Loading.{Loaded, AreParsed, project}
 use Rattle.meson_plan.specs.Performing.{plain_trees}
-use Rattle.meson_plan.specs.Project.{Project, Placed, child}
+use Rattle.meson_calls.specs.Project.{Project, Placed, child}
 use Rattle.meson_plan.specs.SourceEdits.{checked_names, checked_extra, not_hidden, extra_key, extra_marks, new_names, inserted, inserted_in, step_in, written_keyword, elements_there, into_new_list, behind_value, without_home, extra_inserted}
-use Rattle.meson_plan.specs.Sources.{kwargs_key, first_list, first_empty, or_option, once}
+use Rattle.meson_calls.specs.Sources.{kwargs_key, first_list, first_empty, or_option, once}
 use Rattle.meson_plan.specs.Standings.{MarkStands, TargetThere, ExtrasMayBeAdded}
 use Rattle.meson_plan.specs.Steps.{Step}
 use Rattle.meson_plan.proofs.Homes.{Home, marked_home, home_doable, tree_is, all_stand}

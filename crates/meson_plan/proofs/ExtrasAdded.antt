@@ -11,27 +11,27 @@ use Rattle.meson_syntax.specs.declared.tree.List as rust
 use Rattle.meson_syntax.specs.Tree.{Expression, plain, named, pair}
 use Rattle.meson_syntax.specs.View.{arg_view, expr_view, list_view, text_at}
 use Rattle.meson_syntax.proofs.parsing.Steps.{some-injective}
-use Rattle.meson_plan.specs.declared.call.CallRef.{CallRef}
-use Rattle.meson_plan.specs.declared.refusal.Refusal.{Refusal}
+use Rattle.meson_calls.specs.declared.call.CallRef.{CallRef}
+use Rattle.meson_calls.specs.declared.refusal.Refusal.{Refusal}
 use Rattle.meson_plan.specs.declared.step.ListStep.{ListStep}
-use Rattle.meson_plan.specs.Calls.{Call, Numbered, keyword, value_with_name, literal}
-use Rattle.meson_plan.specs.Expansion.{max_followed}
-use Rattle.meson_plan.specs.Keywords.{IsFirstNamed}
+use Rattle.meson_calls.specs.Calls.{Call, Numbered, keyword, value_with_name, literal}
+use Rattle.meson_calls.specs.Expansion.{max_followed}
+use Rattle.meson_calls.specs.Keywords.{IsFirstNamed}
 use Rattle.meson_plan.specs.ListSteps.{bare}
 use Rattle.meson_plan.specs.Naming.{new_among}
-use Rattle.meson_plan.specs.Picking.{call_with}
-use Rattle.meson_plan.specs.Project.{Project, Placed, placed}
-use Rattle.meson_plan.specs.Sourced.{kept_args}
-use Rattle.meson_plan.specs.Sources.{or_option, first_list, first_empty}
+use Rattle.meson_calls.specs.Picking.{call_with}
+use Rattle.meson_calls.specs.Project.{Project, Placed, placed}
+use Rattle.meson_calls.specs.Sourced.{kept_args}
+use Rattle.meson_calls.specs.Sources.{or_option, first_list, first_empty}
 use Rattle.meson_plan.specs.SourceEdits.{extra_key, checked_extra, extra_added, extra_inserted, without_home, into_new_list, behind_value, inserted, inserted_in, plain_len, elements_there, new_names}
-use Rattle.meson_plan.specs.Tallies.{Tally}
+use Rattle.meson_calls.specs.Tallies.{Tally}
 use Rattle.meson_plan.specs.Targeted.{AreMeant, AreBehind, extra_gathered, lone_or_new, new_list_steps}
-use Rattle.meson_plan.proofs.Answered.{keyword_is}
-use Rattle.meson_plan.proofs.ArgumentValues.{nth_there, named_view, plain_view}
+use Rattle.meson_calls.proofs.Answered.{keyword_is}
+use Rattle.meson_calls.proofs.ArgumentViews.{nth_there, named_view, plain_view}
 use Rattle.meson_syntax.specs.Grammar.{argument_words, expression_words}
-use Rattle.meson_plan.specs.GoodLists.{GoodArgs}
-use Rattle.meson_plan.specs.Strings.{AreGood}
-use Rattle.meson_plan.proofs.Nested.{good_arg}
+use Rattle.meson_calls.specs.GoodLists.{GoodArgs}
+use Rattle.meson_calls.specs.Strings.{AreGood}
+use Rattle.meson_calls.proofs.Nested.{good_arg}
 use Rattle.meson_plan.proofs.Marked.{new_are}
 use Rattle.meson_plan.proofs.ExtrasMeant.{extras, extra_fields}
 

@@ -5,23 +5,23 @@ use Rattle.meson_lex.specs.declared.kinds.Span.{Span}
 use Rattle.meson_splice.specs.Patch.{then_ok}
 use Rattle.meson_syntax.specs.declared.tree.List as rust
 use Rattle.meson_syntax.specs.View.{list_view}
-use Rattle.meson_plan.specs.declared.call.CallRef.{CallRef}
-use Rattle.meson_plan.specs.declared.refusal.Refusal.{Refusal}
-use Rattle.meson_plan.specs.declared.refusal.Refusal.TheVariants.{DuplicateKeyword, HiddenKeywords}
+use Rattle.meson_calls.specs.declared.call.CallRef.{CallRef}
+use Rattle.meson_calls.specs.declared.refusal.Refusal.{Refusal}
+use Rattle.meson_calls.specs.declared.refusal.Refusal.TheVariants.{DuplicateKeyword, HiddenKeywords}
 use Rattle.meson_plan.specs.declared.step.ListStep.{ListStep}
-use Rattle.meson_plan.specs.Project.{Project, Placed, placed}
-use Rattle.meson_plan.specs.Calls.{Call, keyword, value_with_name}
-use Rattle.meson_plan.specs.Expansion.{Mark, fixed, max_followed}
+use Rattle.meson_calls.specs.Project.{Project, Placed, placed}
+use Rattle.meson_calls.specs.Calls.{Call, keyword, value_with_name}
+use Rattle.meson_calls.specs.Expansion.{Mark, fixed, max_followed}
 use Rattle.meson_plan.specs.ListSteps.{bare}
-use Rattle.meson_plan.specs.Picking.{call_with}
+use Rattle.meson_calls.specs.Picking.{call_with}
 use Rattle.meson_plan.specs.Spots.{spots_of_names}
-use Rattle.meson_plan.specs.Sources.{kwargs_key, once, expand_arguments}
-use Rattle.meson_plan.specs.Sourced.{kept_args}
+use Rattle.meson_calls.specs.Sources.{kwargs_key, once, expand_arguments}
+use Rattle.meson_calls.specs.Sourced.{kept_args}
 use Rattle.meson_plan.specs.SourceEdits.{checked_names, distinct, extra_key, extra_marks, not_hidden, checked_extra, Spot, spots_named, removed, distinct_spots, extra_removed}
 use Rattle.meson_plan.specs.Steps.{Step}
-use Rattle.meson_plan.specs.Tallies.{Tally, all_marked, no_marks}
+use Rattle.meson_calls.specs.Tallies.{Tally, all_marked, no_marks}
 use Rattle.meson_plan.specs.Targeted.{AreMeant, extra_gathered}
-use Rattle.meson_plan.proofs.Answered.{keyword_is, arguments_are}
+use Rattle.meson_calls.proofs.Answered.{keyword_is, arguments_are}
 use Rattle.meson_plan.proofs.Marked.{Told, told, told_spots}
 use Rattle.meson_plan.proofs.SourcesMeant.{once_few, once_twice}
 

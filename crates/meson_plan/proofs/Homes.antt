@@ -10,14 +10,14 @@ use Rattle.meson_syntax.specs.Paths.{nth}
 use Rattle.meson_syntax.proofs.parsing.Complete.{list-of-arguments}
 use Rattle.meson_syntax.proofs.paths.Reaching.{list-fits}
 use Rattle.meson_edit.specs.Edits.{elements}
-use Rattle.meson_plan.specs.declared.call.CallRef.{CallRef}
-use Rattle.meson_plan.specs.Expansion.{Slot, in_list, fixed, Mark, known, opaque, empty}
+use Rattle.meson_calls.specs.declared.call.CallRef.{CallRef}
+use Rattle.meson_calls.specs.Expansion.{Slot, in_list, fixed, Mark, known, opaque, empty}
 use Rattle.meson_plan.specs.ListSteps.{MayStand, AreDoable}
-use Rattle.meson_plan.specs.Loading.{Loaded, AreParsed, project}
+use Rattle.meson_calls.specs.Loading.{Loaded, AreParsed, project}
 use Rattle.meson_plan.specs.Performing.{plain_trees}
-use Rattle.meson_plan.specs.Project.{Project}
+use Rattle.meson_calls.specs.Project.{Project}
 use Rattle.meson_plan.specs.SourceEdits.{inserted, inserted_in, plain_len, elements_there}
-use Rattle.meson_plan.specs.Sources.{first_list, first_empty, list_of_slot, or_option}
+use Rattle.meson_calls.specs.Sources.{first_list, first_empty, list_of_slot, or_option}
 use Rattle.meson_plan.specs.Standings.{ListThere, StringThere, NothingThere, SlotStands, MarkStands}
 use Rattle.meson_plan.proofs.Insertable.{Room}
 use Rattle.meson_plan.proofs.ListNodes.{place_no_pairs}

@@ -16,7 +16,7 @@ use Rattle.meson_syntax.specs.Tree.{Nowhere, Expression}
 use Rattle.meson_syntax.specs.Grammar.{argument_words, expression_words}
 use Rattle.meson_edit.specs.Edits.{Written}
 use Rattle.meson_edit.specs.Places.{IsWritten}
-use Rattle.meson_plan.specs.Replacing.{IsSet}
+use Rattle.meson_plan.specs.WrittenValues.{IsSet}
 use Rattle.meson_plan.specs.Settings.{written_texts}
 use Rattle.meson_plan.specs.SourceEdits.{extra_key, array_with, written_keyword}
 use Rattle.meson_plan.proofs.SetLiterals.{one_set}
@@ -35,7 +35,7 @@ array_written name utf8 =
 
 -- ---- the keyword before it
 
-differs : (x y : List ℕ) → bytes_eq x y ≡ false → x ≢ y
+pub differs : (x y : List ℕ) → bytes_eq x y ≡ false → x ≢ y
 differs x y other = λ same. let alike : bytes_eq x y ≡ true = (bytes_eq-Decides x y).1 same in cc
 
 abbrev is_spelling : List Kind → List ℕ → Bool
@@ -46,7 +46,7 @@ neither : (a b : Bool) → a || b ≡ false → (a ≡ false) × (b ≡ false)
 neither true b is = absurd cc
 neither false b is = (refl, is)
 
-none_of : (ks : List Kind) (text : List ℕ) → is_spelling ks text ≡ false → IsNoneOf ks text
+pub none_of : (ks : List Kind) (text : List ℕ) → is_spelling ks text ≡ false → IsNoneOf ks text
 none_of [] text other = tt
 none_of (k ∷ ks) text other = let both = neither (bytes_eq text (spelling k)) (is_spelling ks text) other in (differs text (spelling k) both.0, none_of ks text both.1)
 

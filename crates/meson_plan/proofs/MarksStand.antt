@@ -9,10 +9,10 @@ use Rattle.meson_syntax.specs.Paths.{ListIn, list_in, nth}
 use Rattle.meson_syntax.specs.Tree.{Expression, identifier, string, array, call, Listing, listing, Argument, plain, named, pair, Arguments, no_arguments, argument, argument_list}
 use Rattle.meson_syntax.proofs.paths.Every.{Every, every-append}
 use Rattle.meson_edit.specs.Edits.{elements}
-use Rattle.meson_plan.specs.declared.call.CallRef.{CallRef}
-use Rattle.meson_plan.specs.Expansion.{Slot, in_list, fixed, Mark, opaque, Expansion, Stand, joined, element, or_empty, within, are_named, literal_item, expand_by, expand_listing, expand_each, expand_argument}
-use Rattle.meson_plan.specs.Project.{Project, child, expression_at}
-use Rattle.meson_plan.specs.Roles.{one_of}
+use Rattle.meson_calls.specs.declared.call.CallRef.{CallRef}
+use Rattle.meson_calls.specs.Expansion.{Slot, in_list, fixed, Mark, opaque, Expansion, Stand, joined, element, or_empty, within, are_named, literal_item, expand_by, expand_listing, expand_each, expand_argument}
+use Rattle.meson_calls.specs.Project.{Project, child, expression_at}
+use Rattle.meson_calls.specs.Roles.{one_of}
 use Rattle.meson_plan.specs.Standings.{ListThere, SlotStands, MarkStands}
 use Rattle.meson_plan.proofs.ExpressionsAt.{list_here}
 use Rattle.meson_plan.proofs.ElementsAt.{AreLevel, value_stands}

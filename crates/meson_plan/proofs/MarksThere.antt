@@ -5,15 +5,15 @@ use Rattle.meson_lex.specs.declared.kinds.Span.{Span}
 use Rattle.meson_syntax.specs.declared.operator.Assignment.{Assignment}
 use Rattle.meson_syntax.specs.Tree.{Expression, Statement, assign}
 use Rattle.meson_syntax.proofs.paths.Every.{Every, every-append}
-use Rattle.meson_plan.specs.declared.call.CallRef.{CallRef}
-use Rattle.meson_plan.specs.Calls.{Numbered}
-use Rattle.meson_plan.specs.Expansion.{Slot, opaque, Stand, Expansion, of_variable, follow_single, expand, max_followed}
-use Rattle.meson_plan.specs.Parts.{Part, parts}
-use Rattle.meson_plan.specs.Parts as part
-use Rattle.meson_plan.specs.Project.{Project, Placed, placed, child, expression_at}
-use Rattle.meson_plan.specs.Sources.{expand_arguments}
+use Rattle.meson_calls.specs.declared.call.CallRef.{CallRef}
+use Rattle.meson_calls.specs.Calls.{Numbered}
+use Rattle.meson_calls.specs.Expansion.{Slot, opaque, Stand, Expansion, of_variable, follow_single, expand, max_followed}
+use Rattle.meson_calls.specs.Parts.{Part, parts}
+use Rattle.meson_calls.specs.Parts as part
+use Rattle.meson_calls.specs.Project.{Project, Placed, placed, child, expression_at}
+use Rattle.meson_calls.specs.Sources.{expand_arguments}
 use Rattle.meson_plan.specs.Standings.{MarkStands}
-use Rattle.meson_plan.specs.Variables.{Assigned, is_set, assigned_by, part_assigned, assignments, is_outermost, only_value, all_known, is_set_otherwise, single}
+use Rattle.meson_calls.specs.Variables.{Assigned, is_set, assigned_by, part_assigned, assignments, is_outermost, only_value, all_known, is_set_otherwise, single}
 use Rattle.meson_plan.proofs.CallsReached.{every_chosen, InProject, every_part}
 use Rattle.meson_plan.proofs.ElementsAt.{AreLevel}
 use Rattle.meson_plan.proofs.ExpressionsAt.{assigned_stands}

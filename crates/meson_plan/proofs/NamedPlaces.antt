@@ -6,7 +6,7 @@ use Rattle.meson_lex.specs.declared.kinds.Span.{Span}
 use Rattle.meson_syntax.specs.Tree.{Expression, Listing, listing, Argument, plain, named, pair, Arguments, no_arguments, argument, argument_list}
 use Rattle.meson_syntax.specs.Paths.{nth, value_of}
 use Rattle.meson_edit.specs.Edits.{elements}
-use Rattle.meson_plan.specs.Calls.{Call, Numbered, numbered, kept_number, value_with_name, keyword}
+use Rattle.meson_calls.specs.Calls.{Call, Numbered, numbered, kept_number, value_with_name, keyword}
 
 record NamedThere (list : Arguments Span) (n : ℕ) (v : Numbered (Expression Span)) : Type 0 where
   number : ℕ

@@ -10,10 +10,10 @@ use Rattle.meson_edit.specs.Places.{Writes}
 use Rattle.meson_edit.specs.Sequences.{MayFollow}
 use Rattle.meson_edit.proofs.sequences.Deepened.{edits-deepen-by-one}
 use Rattle.meson_edit.proofs.sequences.Levelled.{insertions-keep-levels, wraps-keep-levels}
-use Rattle.meson_plan.specs.declared.call.CallRef.{CallRef}
+use Rattle.meson_calls.specs.declared.call.CallRef.{CallRef}
 use Rattle.meson_plan.specs.ListSteps.{MayStand, AreDoable}
 use Rattle.meson_plan.specs.OtherValues.{with_one}
-use Rattle.meson_plan.specs.Project.{child}
+use Rattle.meson_calls.specs.Project.{child}
 use Rattle.meson_plan.specs.Settings.{string_of}
 use Rattle.meson_plan.specs.SourceEdits as plan
 use Rattle.meson_plan.specs.SourceEdits.{step_in, extra_key, array_with, written_keyword}

@@ -3,20 +3,20 @@ use Rattle.std.proofs.Common.{◌≡◌, ◌≢◌, ℕ, List, [], ◌∷◌, le
 use Rattle.std.specs.Prelude.{false, ◌==◌}
 use Rattle.meson_lex.specs.declared.kinds.Span.{Span}
 use Rattle.meson_splice.specs.Patch.{then_ok}
-use Rattle.meson_plan.specs.declared.call.CallRef.{CallRef}
-use Rattle.meson_plan.specs.declared.call.Role.{Role}
-use Rattle.meson_plan.specs.declared.call.Role.TheVariants as role
-use Rattle.meson_plan.specs.Calls.{Call}
-use Rattle.meson_plan.specs.Notes.{notes}
-use Rattle.meson_plan.specs.Picking.{found_places}
-use Rattle.meson_plan.specs.Planning.{only_one, any_project, the_call, not_yet}
-use Rattle.meson_plan.specs.Project.{Project, Placed}
-use Rattle.meson_plan.specs.Replacing.{any_place, the_place, IsNotYet}
-use Rattle.meson_plan.specs.Roles.{found, role_calls, places}
-use Rattle.meson_plan.proofs.Picked.{role_places, found_notes}
+use Rattle.meson_calls.specs.declared.call.CallRef.{CallRef}
+use Rattle.meson_calls.specs.declared.call.Role.{Role}
+use Rattle.meson_calls.specs.declared.call.Role.TheVariants as role
+use Rattle.meson_calls.specs.Calls.{Call}
+use Rattle.meson_calls.specs.Notes.{notes}
+use Rattle.meson_calls.specs.Picking.{found_places}
+use Rattle.meson_plan.specs.Planning.{only_one, any_project, the_call}
+use Rattle.meson_calls.specs.Project.{Project, Placed}
+use Rattle.meson_plan.specs.OnePlace.{any_place, the_place}
+use Rattle.meson_calls.specs.Roles.{found, role_calls, places}
+use Rattle.meson_calls.proofs.Picked.{role_places, found_notes}
 use Rattle.std.specs.Prelude.{Result, Ok, Err, IfErr, IfOk}
-use Rattle.meson_plan.specs.declared.refusal.Refusal.{Refusal}
-use Rattle.meson_plan.specs.declared.refusal.Refusal.TheVariants.{OutOfMemory, NotYet}
+use Rattle.meson_calls.specs.declared.refusal.Refusal.{Refusal}
+use Rattle.meson_calls.specs.declared.refusal.Refusal.TheVariants.{OutOfMemory}
 
 -- a result that is known as a whole
 pub refused_as : {X : Type 0} (r wanted : Result X Refusal) → r ≡ wanted → IfErr r (λ e. e ≢ OutOfMemory → wanted ≡ Err e)
@@ -66,12 +66,3 @@ call_there (Err e) call is = absurd cc
 pub call_refused : (x : Result (Placed (Call Span)) Refusal) (e : Refusal) → placed_at x ≡ Err e → x ≡ Err e
 call_refused (Ok c) e is = absurd cc
 call_refused (Err f) e is = let same : f ≡ e = cc in ap Err same
-
--- ---- a command that is not done so far
-
-module _ (p : Project Span) (r : Role) (id : List ℕ) where
-  pub found_not_yet : (call : CallRef) → the_place r id (notes p) ≡ Ok call → IsNotYet p r id NotYet
-  found_not_yet call is = ap not_yet (call_there (the_call p r id) call (sym (place_is r id p) ∙ is)).1
-
-  pub lost_not_yet : (e : Refusal) → the_place r id (notes p) ≡ Err e → IsNotYet p r id e
-  lost_not_yet e is = ap not_yet (call_refused (the_call p r id) e (sym (place_is r id p) ∙ is))

@@ -16,7 +16,7 @@ after_first : (steps more : List Step) (o : Option (List Plain)) → ((trees : L
 after_first steps more (Some next) later = later next
 after_first steps more None later = refl
 
-all_after : (steps more : List Step) (trees : List Plain) → all_stepped (steps ++ more) trees ≡ option_and_then (all_stepped more) (all_stepped steps trees)
+pub all_after : (steps more : List Step) (trees : List Plain) → all_stepped (steps ++ more) trees ≡ option_and_then (all_stepped more) (all_stepped steps trees)
 all_after [] more trees = refl
 all_after (s ∷ steps) more trees = after_first steps more (stepped s trees) (λ next. all_after steps more next)
 

@@ -26,7 +26,7 @@ use Rattle.meson_edit.specs.Laws.{Makes}
 use Rattle.meson_plan.specs.declared.step.ListStep.{ListStep}
 use Rattle.meson_plan.specs.declared.work.Work.{Work}
 use Rattle.meson_plan.specs.ListSteps.{AreDoable, MayStand, bare}
-use Rattle.meson_plan.specs.Loading.{HasFileName, Loaded, max_files, name_at}
+use Rattle.meson_calls.specs.Loading.{HasFileName, Loaded, max_files, name_at}
 use Rattle.meson_plan.specs.OtherValues.{with_one, with_some}
 use Rattle.meson_plan.specs.Performing.{plain_trees, saturated}
 use Rattle.meson_plan.specs.Steps.{Step, StepsMake, Laid, effective, read_again}

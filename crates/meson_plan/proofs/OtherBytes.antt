@@ -7,7 +7,7 @@ use Rattle.meson_splice.specs.Files.{bytes_at, with_bytes}
 use Rattle.meson_syntax.specs.declared.tree.Parsed.{Parsed}
 use Rattle.meson_syntax.specs.Tree.{Plain, erase}
 use Rattle.meson_syntax.specs.View.{view}
-use Rattle.meson_plan.specs.Loading.{HasFileName, views}
+use Rattle.meson_calls.specs.Loading.{HasFileName, views}
 use Rattle.meson_plan.specs.OtherValues.{with_one}
 
 -- ---- files

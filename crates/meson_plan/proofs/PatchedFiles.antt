@@ -12,7 +12,7 @@ use Rattle.meson_splice.specs.declared.file_set.File.{File}
 use Rattle.meson_splice.specs.declared.splice.Splice.{Splice}
 use Rattle.meson_splice.specs.Files.{IsDistinct, bytes_at, with_bytes}
 use Rattle.meson_splice.specs.Patch.{patched, patched_in, patched_all, then_ok}
-use Rattle.meson_plan.specs.Loading.{name_at}
+use Rattle.meson_calls.specs.Loading.{name_at}
 use Rattle.meson_plan.specs.Steps.{effective}
 use Rattle.meson_plan.proofs.Spliced.{patched_named, same_text}
 use Rattle.meson_plan.proofs.OtherBytes.{bytes_there, as_many_files}

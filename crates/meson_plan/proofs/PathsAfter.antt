@@ -3,7 +3,7 @@ use Rattle.std.proofs.Common.{◌≡◌, ℕ, suc, ◌<◌, List, [], ◌∷◌,
 use Rattle.std.specs.Prelude.{Bool, true, false, ◌&&◌, nat_eq, slice_set, if◌then◌else◌}
 use Rattle.std.specs.Cmp.Lexicographic.{pointwise}
 use Rattle.std.proofs.lemmas.Bool.{eq-eqb, eqb-true}
-use Rattle.meson_plan.specs.Project.{place}
+use Rattle.meson_calls.specs.Project.{place}
 use Rattle.meson_plan.specs.SourceEdits.{moved_up, path_after, is_path, Spot, spot_after}
 
 pub put_there : (list path : List ℕ) (gone : ℕ) → length list < length path → take (length list) path ≡ list

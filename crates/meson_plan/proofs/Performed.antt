@@ -1,41 +1,49 @@
--- What a command makes of a project, and why it is refused, from what its steps make.
-use Rattle.std.proofs.Common.{◌≡◌, ℕ, List, refl, ◌∙◌}
-use Rattle.meson_splice.specs.declared.splice.Splice.{Splice}
+-- What a command makes of a project, and why it is refused, from what is done of the steps that it means.
+use Rattle.std.proofs.Common.{◌≡◌, List, refl, ◌∙◌}
+use Rattle.std.specs.Prelude.{Ok}
 use Rattle.meson_plan.specs.declared.command.Command.{Command}
 use Rattle.meson_plan.specs.declared.command.Done.{Done}
-use Rattle.meson_plan.specs.declared.refusal.Refusal.{Refusal}
-use Rattle.meson_plan.specs.declared.step.ListStep.{ListStep}
-use Rattle.meson_plan.specs.Done.{IsOutcome, MayNotBeMade}
-use Rattle.meson_plan.specs.Done as outcome
-use Rattle.meson_plan.specs.Loading.{Loaded}
+use Rattle.meson_calls.specs.declared.refusal.Refusal.{Refusal}
+use Rattle.meson_plan.specs.declared.work.Work.{Work}
+use Rattle.meson_plan.specs.Done.{MayNotBeMade}
+use Rattle.meson_plan.specs.Done as done
+use Rattle.meson_calls.specs.Loading.{Loaded, project}
+use Rattle.meson_plan.specs.Outcomes.{IsDone, MayNotBeDone}
+use Rattle.meson_plan.specs.Outcomes as outcome
 use Rattle.meson_plan.specs.Performing.{MayRefuse, Performs, plain_trees}
 use Rattle.meson_plan.specs.Performing as performing
-use Rattle.meson_plan.specs.Plans.{MeansSteps}
+use Rattle.meson_plan.specs.Planning.{planned}
+use Rattle.meson_plan.specs.Steps.{Step}
+use Rattle.meson_plan.specs.Working.{so_far}
 
-module _ (old : Loaded) (k : Command) (code : List ListStep) (means : MeansSteps old k code) where
-  pub may_refuse : (e : Refusal) → MayNotBeMade old means.steps e → MayRefuse old k e
-  may_refuse e (outcome.deep new splices relexed made deep) = performing.deep means.steps (plain_trees new) means.are_planned made.are_trees deep
-  may_refuse e (outcome.large new splices relexed made shallow big) =
+module _ (old : Loaded) (k : Command) where
+  unmade : (steps : List Step) → planned (project old) k ≡ Ok steps → (e : Refusal) → MayNotBeMade old steps e → MayRefuse old k e
+  unmade steps is e (done.deep new splices relexed made deep) = performing.deep steps (plain_trees new) is made.are_trees deep
+  unmade steps is e (done.large new splices relexed made shallow big) =
       performing.large
-      (record { steps = means.steps; are_planned = means.are_planned; trees = plain_trees new; are_trees = made.are_trees; splices = splices; files = new.files; bytes = made.bytes; are_done = made.are_done })
+      (record { steps = steps; are_planned = is; trees = plain_trees new; are_trees = made.are_trees; splices = splices; files = new.files; bytes = made.bytes; are_done = made.are_done })
       shallow big
 
-  pub performed : (splices : List Splice) (new : Loaded) (relexed : ℕ) → IsOutcome old means.steps splices new relexed → (d : Done) → d.change.splices ≡ splices → d.relexed ≡ relexed → Performs old k d new
-  performed splices new relexed out d is_change is_relexed = record {
+  pub may_refuse : (e : Refusal) → MayNotBeDone old (planned (project old) k) e → MayRefuse old k e
+  may_refuse e (outcome.unmeant refusal is) = performing.unplanned refusal is
+  may_refuse e (outcome.unmade steps is refusal why) = unmade steps is refusal why
+
+  pub performed : (w : Work) → IsDone old (planned (project old) k) w → (d : Done) → d.change.splices ≡ w.splices.items → d.relexed ≡ w.relexed → Performs old k d (so_far old w)
+  performed w out d is_change is_relexed = record {
     made = record {
-      steps = means.steps;
-      are_planned = means.are_planned;
-      trees = plain_trees new;
-      are_trees = out.made.are_trees;
-      splices = splices;
-      files = new.files;
-      bytes = out.made.bytes;
-      are_done = out.made.are_done;
+      steps = out.steps;
+      are_planned = out.is;
+      trees = plain_trees (so_far old w);
+      are_trees = out.outcome.made.are_trees;
+      splices = w.splices.items;
+      files = w.files;
+      bytes = out.outcome.made.bytes;
+      are_done = out.outcome.made.are_done;
     };
-    shallow = out.shallow;
-    small = out.small;
+    shallow = out.outcome.shallow;
+    small = out.outcome.small;
     is_change = is_change;
-    is_relexed = is_relexed ∙ out.made.is_relexed;
+    is_relexed = is_relexed ∙ out.outcome.made.is_relexed;
     are_files = refl;
     are_trees = refl;
   }

@@ -10,8 +10,8 @@ use Rattle.meson_syntax.specs.Grammar.{LevelArguments}
 use Rattle.meson_syntax.specs.Paths.{ListIn, list_in, ListAt, list_at, nth}
 use Rattle.meson_syntax.specs.Paths as paths
 use Rattle.meson_edit.specs.Edits.{elements}
-use Rattle.meson_plan.specs.declared.call.CallRef.{CallRef}
-use Rattle.meson_plan.specs.Project.{Project, BuildFile}
+use Rattle.meson_calls.specs.declared.call.CallRef.{CallRef}
+use Rattle.meson_calls.specs.Project.{Project, BuildFile}
 use Rattle.meson_plan.specs.SourceEdits.{is_plain, elements_of, elements_there}
 use Rattle.meson_plan.specs.Standings.{ListThere}
 use Rattle.meson_plan.proofs.ListNodes.{list_node}

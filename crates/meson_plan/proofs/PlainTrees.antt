@@ -15,9 +15,9 @@ use Rattle.meson_syntax.proofs.paths.Erased.{lists-erase}
 use Rattle.meson_syntax.proofs.paths.Reaching.{map-some}
 use Rattle.meson_edit.specs.Edits.{elements}
 use Rattle.meson_plan.specs.ListSteps.{MayStand}
-use Rattle.meson_plan.specs.Loading.{AreParsed, named_trees, views}
+use Rattle.meson_calls.specs.Loading.{AreParsed, named_trees, views}
 use Rattle.meson_plan.specs.Performing.{AreShallow}
-use Rattle.meson_plan.specs.Project.{BuildFile, nth_file}
+use Rattle.meson_calls.specs.Project.{BuildFile, nth_file}
 use Rattle.meson_plan.proofs.OneGone.{nth_map}
 
 -- ---- trees
@@ -53,7 +53,7 @@ erased_list : (list : Arguments Span) → argument_list (erase_arguments list) �
 erased_list no_arguments = refl
 erased_list (argument a more) = ap (λ l. erase_argument a ∷ l) (erased_list more)
 
-erased_elements : (l : Listing Span) → elements (erase_listing l) ≡ map erase_argument (elements l)
+pub erased_elements : (l : Listing Span) → elements (erase_listing l) ≡ map erase_argument (elements l)
 erased_elements (listing s trailing list) = erased_list list
 
 pub element_erased : (l : Listing Span) (n : ℕ) (a : Argument Span) → nth (elements l) n ≡ Some a → nth (elements (erase_listing l)) n ≡ Some (erase_argument a)

@@ -14,12 +14,12 @@ use Rattle.meson_syntax.specs.Tree.{Expression, Block, Argument, plain, named, p
 use Rattle.meson_syntax.specs.Paths.{Sort, of_expression, of_statement, of_block, Node, Hole, ListIn, list_in, ListAt, list_at, list_of_node, list_within, expression_of, expression_at, reach, block_of}
 use Rattle.meson_syntax.specs.View.{arg_view, args_view, list_view, view}
 use Rattle.meson_edit.specs.Edits.{elements}
-use Rattle.meson_plan.specs.declared.call.CallRef.{CallRef}
-use Rattle.meson_plan.specs.Loading.{named_trees, views}
-use Rattle.meson_plan.specs.Project.{Project, BuildFile}
+use Rattle.meson_calls.specs.declared.call.CallRef.{CallRef}
+use Rattle.meson_calls.specs.Loading.{named_trees, views}
+use Rattle.meson_calls.specs.Project.{Project, BuildFile}
 use Rattle.meson_plan.proofs.ArgumentValues.{list_elements}
-use Rattle.meson_plan.proofs.Standing.{nth_there, nth_past}
-use Rattle.meson_plan.specs.Calls.{value_without_name}
+use Rattle.meson_calls.proofs.Standing.{nth_there, nth_past}
+use Rattle.meson_calls.specs.Calls.{value_without_name}
 use Rattle.meson_plan.specs.SourceEdits.{is_plain, elements_of, plain_len}
 
 pub plain_is : {S : Type 0} (a : Argument S) → is_some (value_without_name a) ≡ is_plain a

@@ -1,27 +1,23 @@
 -- What commands mean may be done: the steps on a target, and the one value of a keyword argument that is set.
-use Rattle.std.proofs.Common.{◌≡◌, ℕ, List, [], ◌∷◌, map, Some, sym, ap}
+use Rattle.std.proofs.Common.{◌≡◌, ℕ, List}
 use Rattle.std.specs.Prelude.{All, Result, Ok, Err, IfOk}
 use Rattle.std.specs.Str.{IsUtf8}
 use Rattle.meson_lex.specs.declared.kinds.Span.{Span}
-use Rattle.meson_plan.specs.declared.call.Role.TheVariants as role
-use Rattle.meson_plan.specs.declared.planning.Replacement.{Replacement}
-use Rattle.meson_plan.specs.declared.refusal.Refusal.{Refusal}
-use Rattle.meson_plan.specs.declared.step.ListEdit.TheVariants as code
+use Rattle.meson_calls.specs.declared.call.Role.TheVariants as role
+use Rattle.meson_calls.specs.declared.refusal.Refusal.{Refusal}
 use Rattle.meson_plan.specs.declared.step.ListStep.{ListStep}
 use Rattle.meson_plan.specs.declared.targeting.Change.{Change}
 use Rattle.meson_plan.specs.declared.targeting.Change.TheVariants.{SourcesAdded, SourcesRemoved, ExtraAdded, ExtraRemoved}
-use Rattle.meson_plan.specs.Calls.{Call}
+use Rattle.meson_calls.specs.Calls.{Call}
 use Rattle.meson_plan.specs.ListSteps.{AreDoable}
-use Rattle.meson_plan.specs.Loading.{Loaded, IsProject, project}
+use Rattle.meson_calls.specs.Loading.{Loaded, IsProject, project}
 use Rattle.meson_plan.specs.Performing.{plain_trees}
 use Rattle.meson_plan.specs.Planning.{the_call}
 use Rattle.meson_plan.specs.Plans.{ArePlanned}
-use Rattle.meson_plan.specs.Project.{Project, Placed}
-use Rattle.meson_plan.specs.Replacing.{IsOneStep, ValueAt, step_of}
+use Rattle.meson_calls.specs.Project.{Project, Placed}
 use Rattle.meson_plan.specs.Standings.{TargetThere}
 use Rattle.meson_plan.specs.Steps.{Step}
 use Rattle.meson_plan.specs.Targeted.{AreMeant, change_steps, target_steps}
-use Rattle.meson_plan.proofs.ReplacementDoable.{replacement_doable}
 use Rattle.meson_plan.proofs.SourcesAddable.{sources_may_be_added}
 use Rattle.meson_plan.proofs.ExtrasAddable.{extras_may_be_added}
 use Rattle.meson_plan.proofs.RemovedSources.{sources_may_be_removed, extras_may_be_removed}
@@ -56,19 +52,3 @@ module _ (old : Loaded) (whole : IsProject old) where
         → IfOk r (λ v. AreMeant (target_steps p target change names) (list v)) → IfOk r (λ v. ArePlanned old (target_steps p target change names) (list v))
     all_mean target change names (Ok v) utf8 meant = target_means target change names utf8 (list v) meant
     all_mean target change names (Err e) utf8 meant = tt
-
-  -- the value of a keyword argument
-  value_means : (r : Replacement) (meant : Result (List Step) Refusal) → IsOneStep meant r → ValueAt p r.call r.argument → (list : List ListStep) → list ≡ record { list = r.call; edit = code.Replace r.argument r.new } ∷ []
-      → ArePlanned old meant list
-  value_means r meant one there list is =
-      record {
-        steps = step_of r one.new ∷ [];
-        are_planned = one.is;
-        are_doable = record { bare = sym (ap (map Some) is); doable = replacement_doable old.files old.parsed r whole there one.new };
-      }
-
-  module _ {V : Type 0} (list : V → List ListStep) where
-    pub one_means : (r : Replacement) (meant : Result (List Step) Refusal) → IsOneStep meant r → ValueAt p r.call r.argument
-        → (s : Result V Refusal) → IfOk s (λ v. list v ≡ record { list = r.call; edit = code.Replace r.argument r.new } ∷ []) → IfOk s (λ v. ArePlanned old meant (list v))
-    one_means r meant one there (Ok v) is = value_means r meant one there (list v) is
-    one_means r meant one there (Err e) is = tt

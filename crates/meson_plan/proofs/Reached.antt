@@ -5,10 +5,10 @@ use Rattle.meson_syntax.specs.Tree.{Expression, identifier, boolean, integer, st
 use Rattle.meson_syntax.specs.Parts.{Any, an_expression, a_statement, a_block, parts, node_at}
 use Rattle.meson_syntax.specs.Parts as syntax
 use Rattle.meson_syntax.specs.Paths.{nth, block_of}
-use Rattle.meson_plan.specs.declared.call.CallRef.{CallRef}
-use Rattle.meson_plan.specs.Project.{Placed, child, place}
-use Rattle.meson_plan.specs.Parts.{Part, expression_parts, operands_parts, tail_parts, tails_parts, listing_parts, argument_parts, arguments_parts, statement_parts, branches_parts, otherwise_parts, statements_parts, block_parts, file_parts, parts_from, argument_children, arguments_children, listing_children, tail_children, branches_children}
-use Rattle.meson_plan.specs.Parts as part
+use Rattle.meson_calls.specs.declared.call.CallRef.{CallRef}
+use Rattle.meson_calls.specs.Project.{Placed, child, place}
+use Rattle.meson_calls.specs.Parts.{Part, expression_parts, operands_parts, tail_parts, tails_parts, listing_parts, argument_parts, arguments_parts, statement_parts, branches_parts, otherwise_parts, statements_parts, block_parts, file_parts, parts_from, argument_children, arguments_children, listing_children, tail_children, branches_children}
+use Rattle.meson_calls.specs.Parts as part
 use Rattle.meson_plan.proofs.ListNodes.{node_below}
 
 -- ---- what stands behind a path

@@ -7,15 +7,15 @@ use Rattle.meson_lex.specs.declared.kinds.Span.{Span}
 use Rattle.meson_splice.specs.Patch.{then_ok}
 use Rattle.meson_syntax.proofs.parsing.Steps.{some-injective}
 use Rattle.meson_syntax.proofs.paths.Reaching.{map-some, and-then-some}
-use Rattle.meson_plan.specs.declared.refusal.Refusal.{Refusal}
-use Rattle.meson_plan.specs.Calls.{Call}
-use Rattle.meson_plan.specs.Expansion.{Slot, in_list, fixed, Item, Mark, known, opaque, empty}
-use Rattle.meson_plan.specs.Loading.{Loaded, AreParsed, project}
+use Rattle.meson_calls.specs.declared.refusal.Refusal.{Refusal}
+use Rattle.meson_calls.specs.Calls.{Call}
+use Rattle.meson_calls.specs.Expansion.{Slot, in_list, fixed, Item, Mark, known, opaque, empty}
+use Rattle.meson_calls.specs.Loading.{Loaded, AreParsed, project}
 use Rattle.meson_plan.specs.ListSteps.{AreDoable}
 use Rattle.meson_plan.specs.Performing.{plain_trees}
-use Rattle.meson_plan.specs.Project.{Project, Placed}
-use Rattle.meson_plan.specs.Sources.{items, opaque_count, once, source_marks, sources_key, kwargs_key}
-use Rattle.meson_plan.specs.Calls as calls
+use Rattle.meson_calls.specs.Project.{Project, Placed}
+use Rattle.meson_calls.specs.Sources.{items, opaque_count, once, source_marks, sources_key, kwargs_key}
+use Rattle.meson_calls.specs.Calls as calls
 use Rattle.meson_plan.specs.SourceEdits.{Spot, spot_of, spots_of, spots_by, spots_named, removable, items_of, has_text, distinct, distinct_spots, removed, extra_marks, extra_key, checked_extra, checked_names, not_hidden}
 use Rattle.meson_plan.specs.Standings.{SlotStands, MarkStands, SpotStands, SourcesMayBeRemoved, ExtrasMayBeRemoved}
 use Rattle.meson_plan.specs.Steps.{Step}

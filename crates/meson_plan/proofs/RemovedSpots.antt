@@ -12,10 +12,10 @@ use Rattle.meson_edit.specs.Edits.{Remove, elements, with_elements, removed, edi
 use Rattle.meson_edit.proofs.sequences.Deepened.{removals-stay-within}
 use Rattle.meson_edit.proofs.sequences.Levelled.{removals-keep-levels}
 use Rattle.meson_plan.specs.ListSteps.{AreDoable, none, one, MayStand}
-use Rattle.meson_plan.specs.Loading.{Loaded, project}
+use Rattle.meson_calls.specs.Loading.{Loaded, project}
 use Rattle.meson_plan.specs.OtherValues.{with_one}
 use Rattle.meson_plan.specs.Performing.{plain_trees}
-use Rattle.meson_plan.specs.Project.{place}
+use Rattle.meson_calls.specs.Project.{place}
 use Rattle.meson_plan.specs.Renaming.{StandsIn}
 use Rattle.meson_plan.specs.SourceEdits.{Spot, moved_up, path_after, is_path, spot_after, spots_after, step_in, removed_by, distinct_spots}
 use Rattle.meson_plan.specs.Standings.{SpotStands, RemovalsDoable}

@@ -1,9 +1,8 @@
 -- What is written for a text and for a list of texts: the bytes of a string and of an array of strings.
-use Rattle.std.proofs.Common.{◌≡◌, ℕ, zero, suc, ◌+◌, ◌<◌, false, List, [], ◌∷◌, ◌++◌, map, length, get_or, take, codes, IsUtf8, refl, sym, ap, ◌∙◌, subst, append_assoc, arith}
+use Rattle.std.proofs.Common.{◌≡◌, ℕ, ◌<◌, false, List, [], ◌∷◌, ◌++◌, map, length, codes, IsUtf8, refl, sym, ap, ◌∙◌, subst, append_assoc, arith}
 use Rattle.std.specs.Prelude.{All, Result, Ok, Err, IfOk}
 use Rattle.std.specs.Char.{encode_utf8}
 use Rattle.std.proofs.lemmas.List.Elements.{All-head, All-tail}
-use Rattle.meson_plan.proofs.Loads.{take_more}
 use Rattle.std.proofs.lemmas.List.{append-nil}
 use Rattle.std.proofs.lemmas.Str.{IsUtf8-append}
 use Rattle.meson_lex.specs.declared.kinds.Kind.TheVariants as k
@@ -17,9 +16,9 @@ use Rattle.meson_layout.specs.Words.{remarks}
 use Rattle.meson_syntax.specs.declared.operator.Bracket.TheVariants as bracket
 use Rattle.meson_syntax.specs.Tree.{Nowhere, Arguments, plain, arguments_of}
 use Rattle.meson_syntax.specs.Grammar.{arguments_words, LevelArguments, Flagged, arguments_depth}
-use Rattle.meson_plan.specs.declared.refusal.Refusal.{Refusal}
+use Rattle.meson_calls.specs.declared.refusal.Refusal.{Refusal}
 use Rattle.meson_plan.specs.Settings.{string_of, array_of, comma_between, written_text, written_texts}
-use Rattle.meson_plan.specs.Replacing.{WrittenFor, IsSet}
+use Rattle.meson_plan.specs.WrittenValues.{WrittenFor, IsSet}
 
 -- ---- one text
 
@@ -177,28 +176,9 @@ between_last x [] y = refl
 between_last x (z ∷ xs) y =
     ap (λ l. x ++ (codes ", " ++ l)) (between_last z xs y) ∙ sym (append_assoc x (codes ", " ++ comma_between (z ∷ xs)) (codes ", " ++ y))
 
-more_between : (ts : List (List ℕ)) (t : List ℕ) → 0 < length ts → comma_between (map literal (ts ++ t ∷ [])) ≡ comma_between (map literal ts) ++ (codes ", " ++ literal t)
+pub more_between : (ts : List (List ℕ)) (t : List ℕ) → 0 < length ts → comma_between (map literal (ts ++ t ∷ [])) ≡ comma_between (map literal ts) ++ (codes ", " ++ literal t)
 more_between [] t some = absurd (omega (arith, some))
 more_between (u ∷ ts) t some = ap (λ l. comma_between (literal u ∷ l)) (map_last ts t) ∙ between_last (literal u) (map literal ts) (literal t)
-
-take_some : (ts : List (List ℕ)) (i : ℕ) → 0 < i → i < length ts → 0 < length (take i ts)
-take_some [] i some within = absurd (omega (arith, within))
-take_some (t ∷ ts) zero some within = absurd (omega (arith, some))
-take_some (t ∷ ts) (suc i) some within = omega arith
-
-module _ (ts : List (List ℕ)) (i : ℕ) (d : List ℕ) (within : i < length ts) (before after : List ℕ) (so_far : before ≡ 91 ∷ comma_between (map literal (take i ts))) where
-  pub first_text : i ≡ 0 → after ≡ before ++ literal (get_or ts i d) → after ≡ 91 ∷ comma_between (map literal (take (i + 1) ts))
-  first_text none is =
-      let here : before ≡ 91 ∷ [] = so_far ∙ ap (λ n. 91 ∷ comma_between (map literal (take n ts))) none in
-      let one : take (i + 1) ts ≡ get_or ts i d ∷ [] = take_more ts i d within ∙ ap (λ n. take n ts ++ get_or ts i d ∷ []) none in
-      is ∙ ap (λ l. l ++ literal (get_or ts i d)) here ∙ sym (ap (λ l. 91 ∷ comma_between (map literal l)) one)
-
-  pub next_text : (mid : List ℕ) → 0 < i → mid ≡ before ++ codes ", " → after ≡ mid ++ literal (get_or ts i d) → after ≡ 91 ∷ comma_between (map literal (take (i + 1) ts))
-  next_text mid some comma is =
-      let t = literal (get_or ts i d) in
-      is ∙ ap (λ l. l ++ t) (comma ∙ ap (λ l. l ++ codes ", ") so_far)
-      ∙ ap (λ l. 91 ∷ l) (append_assoc (comma_between (map literal (take i ts))) (codes ", ") t ∙ sym (more_between (take i ts) (get_or ts i d) (take_some ts i some within)))
-      ∙ sym (ap (λ l. 91 ∷ comma_between (map literal l)) (take_more ts i d within))
 
 -- ---- what is set
 
@@ -217,7 +197,3 @@ text_set t (Err e) is utf8 = tt
 pub one_set : (t : List ℕ) (r : Result (List ℕ) Refusal) → IfOk r (λ b. b ≡ 91 ∷ (literal t ++ 93 ∷ [])) → IfOk r (λ b. IsUtf8 t) → IfOk r (IsSet (Ok (written_texts (t ∷ []))))
 one_set t (Ok bytes) is utf8 = texts_are (t ∷ []) bytes is (utf8, tt)
 one_set t (Err e) is utf8 = tt
-
-pub texts_set : (ts : List (List ℕ)) (r : Result (List ℕ) Refusal) → IfOk r (λ b. b ≡ 91 ∷ (comma_between (map literal ts) ++ 93 ∷ [])) → IfOk r (λ b. All IsUtf8 ts) → IfOk r (IsSet (Ok (written_texts ts)))
-texts_set ts (Ok bytes) is utf8 = texts_are ts bytes is (all_texts ts utf8)
-texts_set ts (Err e) is utf8 = tt

@@ -6,16 +6,16 @@ use Rattle.std.proofs.lemmas.List.Elements.{All-head, All-tail, All-cons, All-fi
 use Rattle.meson_lex.specs.declared.kinds.Span.{Span}
 use Rattle.meson_syntax.specs.Tree.{Expression, Listing, listing, plain, named, pair, Arguments, no_arguments, argument, argument_list}
 use Rattle.meson_edit.specs.Edits.{elements}
-use Rattle.meson_plan.specs.declared.call.CallRef.{CallRef}
-use Rattle.meson_plan.specs.Calls.{Call, numbered, kept_number, value_without_name, first, first_argument, keyword}
-use Rattle.meson_plan.specs.Expansion.{Mark}
+use Rattle.meson_calls.specs.declared.call.CallRef.{CallRef}
+use Rattle.meson_calls.specs.Calls.{Call, numbered, kept_number, value_without_name, first, first_argument, keyword}
+use Rattle.meson_calls.specs.Expansion.{Mark}
 use Rattle.meson_plan.specs.ListSteps.{AreDoable}
-use Rattle.meson_plan.specs.Loading.{project}
+use Rattle.meson_calls.specs.Loading.{project}
 use Rattle.meson_plan.specs.Performing.{plain_trees}
-use Rattle.meson_plan.specs.Project.{Project, Placed}
-use Rattle.meson_plan.specs.Roles.{one_of}
+use Rattle.meson_calls.specs.Project.{Project, Placed}
+use Rattle.meson_calls.specs.Roles.{one_of}
 use Rattle.meson_plan.specs.SourceEdits.{checked_names, distinct, distinct_by, is_known, new_names, inserted_in}
-use Rattle.meson_plan.specs.Sources.{sources_key, source_marks, first_list, first_empty, or_option, or_call, home, once}
+use Rattle.meson_calls.specs.Sources.{sources_key, source_marks, first_list, first_empty, or_option, or_call, home, once}
 use Rattle.meson_plan.specs.Standings.{MarkStands, TargetThere, SourcesMayBeAdded}
 use Rattle.meson_plan.proofs.Homes.{Home, marked_home, home_doable}
 use Rattle.meson_plan.proofs.PlainCounts.{plain_count}
@@ -23,7 +23,7 @@ use Rattle.meson_plan.proofs.WentWell.{then_was, once_was}
 
 -- ---- new names are among the names
 
-distinct_texts : (seen names : List (List ℕ)) → All IsUtf8 names → All IsUtf8 (distinct_by seen names)
+pub distinct_texts : (seen names : List (List ℕ)) → All IsUtf8 names → All IsUtf8 (distinct_by seen names)
 distinct_texts seen [] all = all
 distinct_texts seen (x ∷ xs) all =
     let rest = All-tail IsUtf8 x xs all in

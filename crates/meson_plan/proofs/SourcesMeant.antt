@@ -5,23 +5,23 @@ use Rattle.meson_lex.specs.declared.kinds.Span.{Span}
 use Rattle.meson_splice.specs.Patch.{then_ok}
 use Rattle.meson_syntax.specs.declared.tree.List as rust
 use Rattle.meson_syntax.specs.View.{list_view}
-use Rattle.meson_plan.specs.declared.call.CallRef.{CallRef}
-use Rattle.meson_plan.specs.declared.refusal.Refusal.{Refusal}
-use Rattle.meson_plan.specs.declared.refusal.Refusal.TheVariants.{DuplicateKeyword}
+use Rattle.meson_calls.specs.declared.call.CallRef.{CallRef}
+use Rattle.meson_calls.specs.declared.refusal.Refusal.{Refusal}
+use Rattle.meson_calls.specs.declared.refusal.Refusal.TheVariants.{DuplicateKeyword}
 use Rattle.meson_plan.specs.declared.step.ListStep.{ListStep}
-use Rattle.meson_plan.specs.Project.{Project, Placed, placed}
-use Rattle.meson_plan.specs.Calls.{Call, keyword, value_with_name}
-use Rattle.meson_plan.specs.Expansion.{Mark, max_followed}
+use Rattle.meson_calls.specs.Project.{Project, Placed, placed}
+use Rattle.meson_calls.specs.Calls.{Call, keyword, value_with_name}
+use Rattle.meson_calls.specs.Expansion.{Mark, max_followed}
 use Rattle.meson_plan.specs.ListSteps.{bare}
 use Rattle.meson_plan.specs.Naming.{new_among}
-use Rattle.meson_plan.specs.Picking.{call_with}
+use Rattle.meson_calls.specs.Picking.{call_with}
 use Rattle.meson_plan.specs.Spots.{spots_of_names}
-use Rattle.meson_plan.specs.Sources.{sources_key, source_marks, home, once, or_call, or_option, first_list}
-use Rattle.meson_plan.specs.Sourced.{kept_args, all_gathered}
+use Rattle.meson_calls.specs.Sources.{sources_key, source_marks, home, once, or_call, or_option, first_list}
+use Rattle.meson_calls.specs.Sourced.{kept_args, all_gathered}
 use Rattle.meson_plan.specs.SourceEdits.{checked_names, distinct, new_names, inserted, plain_len, Spot, spots_named, removed, distinct_spots, sources_added, sources_removed}
-use Rattle.meson_plan.specs.Tallies.{Tally}
+use Rattle.meson_calls.specs.Tallies.{Tally}
 use Rattle.meson_plan.specs.Targeted.{AreMeant}
-use Rattle.meson_plan.proofs.Answered.{keyword_is, gathered_marks}
+use Rattle.meson_calls.proofs.Answered.{keyword_is, gathered_marks}
 use Rattle.meson_plan.proofs.Marked.{Told, told, new_are, told_spots}
 
 pub once_few : {X Y : Type 0} (key : List ℕ) (xs : List X) (y : Y) → length xs ≤ 1 → once key xs y ≡ Ok y

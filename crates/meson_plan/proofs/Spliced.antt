@@ -8,7 +8,7 @@ use Rattle.meson_splice.specs.declared.splice.Splice.{Splice}
 use Rattle.meson_splice.specs.Files.{IsDistinct, bytes_at, with_bytes}
 use Rattle.meson_splice.specs.Patch.{patched, patched_in, then_ok}
 use Rattle.meson_splice.proofs.Inverses.{patched-means-patches}
-use Rattle.meson_plan.specs.Loading.{name_at}
+use Rattle.meson_calls.specs.Loading.{name_at}
 
 -- ---- a splice of the i-th file
 

@@ -2,7 +2,7 @@
 use Rattle.std.specs.Prelude.{nat_eq, nat_lt, if◌then◌else◌}
 use Rattle.std.proofs.Common.{◌≡◌, ℕ, ◌-◌, ◌<◌, ◌≤◌, Bool, true, false, List, [], ◌∷◌, length, refl, sym, ap, ◌∙◌, arith}
 use Rattle.std.proofs.lemmas.Bool.{eqb-true, eq-eqb, ltb-true, ltb-false}
-use Rattle.meson_plan.specs.Project.{place}
+use Rattle.meson_calls.specs.Project.{place}
 use Rattle.meson_plan.specs.SourceEdits.{moved_up, path_after, is_path, Spot, spot_after}
 use Rattle.meson_plan.proofs.PathsAfter.{length_after, same_paths}
 use Rattle.meson_plan.proofs.RenamedStrings.{NotThrough}

@@ -4,8 +4,8 @@ use Rattle.std.specs.Prelude.{Bool, true, false, ◌||◌, Option, Some, None, o
 use Rattle.std.proofs.Math.Seq.{drop-cons}
 use Rattle.std.proofs.lemmas.List.{append_assoc}
 use Rattle.meson_splice.specs.Patch.{then_ok}
-use Rattle.meson_plan.specs.declared.call.SourceItem.{SourceItem}
-use Rattle.meson_plan.specs.declared.refusal.Refusal.{Refusal}
+use Rattle.meson_calls.specs.declared.call.SourceItem.{SourceItem}
+use Rattle.meson_calls.specs.declared.refusal.Refusal.{Refusal}
 use Rattle.meson_plan.specs.SourceEdits.{Spot, removable}
 use Rattle.meson_plan.specs.Naming.{has_value}
 use Rattle.meson_plan.specs.Spots.{spot_at, spots_at, all_there, spots_from, before_all, behind_all, is_some_there}

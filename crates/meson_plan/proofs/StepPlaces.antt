@@ -12,7 +12,7 @@ use Rattle.meson_edit.proofs.statements.Removed as removed
 use Rattle.meson_plan.specs.declared.step.ListEdit.{ListEdit}
 use Rattle.meson_plan.specs.declared.step.ListStep.{ListStep}
 use Rattle.meson_plan.specs.ListSteps.{AreDoable, MayStand, one, bare, bare_edit, path_of}
-use Rattle.meson_plan.specs.Project.{place}
+use Rattle.meson_calls.specs.Project.{place}
 use Rattle.meson_plan.specs.Steps.{Step, stepped}
 use Rattle.meson_plan.specs.Working.{placed_edit}
 
@@ -34,8 +34,8 @@ edit_code f file (After path n new) code is = code_is f file (After path n new) 
 edit_code f file (Remove path n) code is = code_is f file (Remove path n) _ code refl is
 edit_code f file (Replace path n new) code is = code_is f file (Replace path n new) _ code refl is
 edit_code f file (Wrap path n) code is = code_is f file (Wrap path n) _ code refl is
-edit_code f file (RemoveStatement path n) code is = absurd cc
-edit_code f file (Append new) code is = absurd cc
+edit_code f file (RemoveStatement path n) code is = code_is f file (RemoveStatement path n) _ code refl is
+edit_code f file (Append new) code is = code_is f file (Append new) _ code refl is
 
 pub step_code : (f : File Span) (s : Step) (code : ListStep) → bare s ≡ Some code → IsCode f s code
 step_code f s code is = edit_code f s.file s.edit code is

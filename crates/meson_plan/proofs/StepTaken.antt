@@ -14,12 +14,12 @@ use Rattle.meson_plan.specs.declared.step.ListEdit.{ListEdit}
 use Rattle.meson_plan.specs.declared.step.ListStep.{ListStep}
 use Rattle.meson_plan.specs.declared.work.Work.{Work}
 use Rattle.meson_plan.specs.ListSteps.{bare, bare_edit, path_of}
-use Rattle.meson_plan.specs.Loading.{Loaded, name_at}
-use Rattle.meson_plan.specs.Project.{place}
+use Rattle.meson_calls.specs.Loading.{Loaded, name_at}
+use Rattle.meson_calls.specs.Project.{place}
 use Rattle.meson_plan.specs.Steps.{Step, effective}
 use Rattle.meson_plan.specs.Working.{IsChanged, MayChange, Reached, placed_edit}
 use Rattle.meson_plan.specs.OtherValues.{with_some}
-use Rattle.meson_plan.proofs.Loads.{nth_name}
+use Rattle.meson_calls.proofs.Loads.{nth_name}
 use Rattle.meson_plan.proofs.OneStep.{in_files, in_trees, in_old, is_ready, items, laid_is, made, may_change, new_reached, same_reached, splices_are}
 
 pub when_ok : {X E P Q : Type 0} (r : Result X E) → (P → Q) → OnOk r P → OnOk r Q

@@ -9,10 +9,10 @@ use Rattle.meson_syntax.specs.Grammar.{expression_words, LevelFile, file_depth}
 use Rattle.meson_syntax.specs.Paths.{ListAt, list_at, nth}
 use Rattle.meson_edit.specs.Edits.{Written, First, After, elements, edited}
 use Rattle.meson_edit.specs.Places.{IsWritten, Writes}
-use Rattle.meson_plan.specs.declared.call.CallRef.{CallRef}
+use Rattle.meson_calls.specs.declared.call.CallRef.{CallRef}
 use Rattle.meson_plan.specs.ListSteps.{MayStand, AreDoable, none, one}
 use Rattle.meson_plan.specs.OtherValues.{with_one}
-use Rattle.meson_plan.specs.Replacing.{IsSet}
+use Rattle.meson_plan.specs.WrittenValues.{IsSet}
 use Rattle.meson_plan.specs.Settings.{string_of, written_text}
 use Rattle.meson_plan.specs.SourceEdits.{inserted, step_in, written_source}
 use Rattle.meson_plan.specs.Steps.{Step}

@@ -3,7 +3,7 @@ use Rattle.std.proofs.Common.{◌≡◌, List, Some, refl, ap, ◌∙◌}
 use Rattle.meson_syntax.specs.Paths.{nth}
 use Rattle.meson_syntax.specs.Tree.{Nowhere, Plain, Argument, plain, string, erase}
 use Rattle.meson_edit.specs.Edits.{elements}
-use Rattle.meson_plan.specs.Loading.{Loaded, project}
+use Rattle.meson_calls.specs.Loading.{Loaded, project}
 use Rattle.meson_plan.specs.Performing.{plain_trees}
 use Rattle.meson_plan.specs.Renaming.{StandsIn, IsString}
 use Rattle.meson_plan.specs.SourceEdits.{Spot}

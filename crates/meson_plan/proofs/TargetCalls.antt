@@ -16,22 +16,22 @@ use Rattle.meson_syntax.specs.View.{list_view, arg_view, view}
 use Rattle.meson_syntax.proofs.parsing.Steps.{some-injective}
 use Rattle.meson_syntax.proofs.paths.Reaching.{and-then-some}
 use Rattle.meson_edit.specs.Edits.{elements}
-use Rattle.meson_plan.specs.declared.call.CallRef.{CallRef}
-use Rattle.meson_plan.specs.declared.call.Role.TheVariants as role
+use Rattle.meson_calls.specs.declared.call.CallRef.{CallRef}
+use Rattle.meson_calls.specs.declared.call.Role.TheVariants as role
 use Rattle.meson_plan.specs.declared.targeting.Change.{Change}
-use Rattle.meson_plan.specs.Calls.{Call, call_of}
-use Rattle.meson_plan.specs.Loading.{AreParsed, named_trees, views}
-use Rattle.meson_plan.specs.Picking.{call_with}
+use Rattle.meson_calls.specs.Calls.{Call, call_of}
+use Rattle.meson_calls.specs.Loading.{AreParsed, named_trees, views}
+use Rattle.meson_calls.specs.Picking.{call_with}
 use Rattle.meson_plan.specs.Planning.{the_call}
-use Rattle.meson_plan.specs.Project.{Project, BuildFile, Placed, placed, nth_file, expression_at}
+use Rattle.meson_calls.specs.Project.{Project, BuildFile, Placed, placed, nth_file, expression_at}
 use Rattle.meson_plan.specs.SourceEdits.{elements_of, elements_there}
 use Rattle.meson_plan.specs.Targeted.{change_steps, target_steps}
 use Rattle.meson_plan.proofs.ArgumentValues.{list_elements}
-use Rattle.meson_plan.proofs.CallsAt.{some_within}
-use Rattle.meson_plan.proofs.Standing.{nth_there}
-use Rattle.meson_plan.proofs.Loads.{as_many}
+use Rattle.meson_calls.proofs.CallsAt.{some_within}
+use Rattle.meson_calls.proofs.Standing.{nth_there}
+use Rattle.meson_calls.proofs.Loads.{as_many}
 use Rattle.meson_plan.proofs.OneCall.{placed_at, call_there}
-use Rattle.meson_plan.proofs.TargetsFound.{CallAt, target_found}
+use Rattle.meson_plan.proofs.CallsFound.{CallAt, role_found}
 
 call_elements : (e : Expression Span) (k : Call Span) → call_of e ≡ Some k → elements_of (list_in e) ≡ elements k.arguments
 call_elements (call s x l) k is = ap (λ (j : Call Span). elements j.arguments) (some-injective _ _ is)
@@ -49,7 +49,7 @@ module _ (files : List File) (trees : List Parsed) (are : AreParsed files trees)
 
   stands : CallAt p the_one
   unfolding the_one
-  stands = target_found p id one.0 one.1
+  stands = (role_found p role.Target id one.0 one.1).at
 
   place_is : the_one.place ≡ place
   unfolding the_one

@@ -11,15 +11,15 @@ use Rattle.meson_syntax.proofs.PathNodes.{list-reached}
 use Rattle.meson_syntax.proofs.paths.Reaching.{and-then-some, map-some}
 use Rattle.meson_syntax.proofs.paths.Every.{Every, every-append}
 use Rattle.meson_edit.specs.Edits.{elements}
-use Rattle.meson_plan.specs.Calls.{Call, Numbered, numbered, arguments_of, value_without_name, value_with_name, kept_number, positional, keyword}
-use Rattle.meson_plan.specs.Expansion.{in_list, fixed}
-use Rattle.meson_plan.specs.Loading.{project}
-use Rattle.meson_plan.specs.Project.{Project, BuildFile, Placed, child, expression_at}
+use Rattle.meson_calls.specs.Calls.{Call, Numbered, numbered, arguments_of, value_without_name, value_with_name, kept_number, positional, keyword}
+use Rattle.meson_calls.specs.Expansion.{in_list, fixed}
+use Rattle.meson_calls.specs.Loading.{project}
+use Rattle.meson_calls.specs.Project.{Project, BuildFile, Placed, child, expression_at}
 use Rattle.meson_plan.specs.SourceEdits.{extra_key, extra_marks}
-use Rattle.meson_plan.specs.Sources.{sources_key, kwargs_key, expand_arguments, rest, hidden, source_marks}
+use Rattle.meson_calls.specs.Sources.{sources_key, kwargs_key, expand_arguments, rest, hidden, source_marks}
 use Rattle.meson_plan.specs.Standings.{TargetThere, MarkStands, SourcesStand, ExtrasStand}
 use Rattle.meson_plan.proofs.ElementsAt.{AreLevel, value_stands, parsed_level}
-use Rattle.meson_plan.proofs.KeywordSet.{named_value}
+use Rattle.meson_plan.proofs.ArgumentValues.{named_value}
 use Rattle.meson_plan.proofs.MarksThere.{ArgumentAt, arguments_met}
 
 -- ---- the arguments of a call, by their numbers

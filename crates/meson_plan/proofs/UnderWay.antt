@@ -4,18 +4,18 @@ use Rattle.std.specs.Prelude.{All, Some, None, replicate}
 use Rattle.std.proofs.lemmas.List.{append_assoc}
 use Rattle.meson_splice.specs.Files.{IsDistinct, bytes_at}
 use Rattle.meson_syntax.specs.Reads.{max_len}
-use Rattle.meson_plan.specs.declared.refusal.Refusal.TheVariants.{TooDeep, TooLarge}
+use Rattle.meson_calls.specs.declared.refusal.Refusal.TheVariants.{TooDeep, TooLarge}
 use Rattle.meson_plan.specs.declared.step.ListStep.{ListStep}
 use Rattle.meson_plan.specs.declared.work.Work.{Work}
 use Rattle.meson_plan.specs.Done.{IsMade, IsOutcome, MayNotBeMade, deep, large}
 use Rattle.meson_plan.specs.ListSteps.{AreBare, AreDoable, bare}
-use Rattle.meson_plan.specs.Loading.{HasFileName, IsProject, Loaded, max_files}
+use Rattle.meson_calls.specs.Loading.{HasFileName, IsProject, Loaded, max_files}
 use Rattle.meson_plan.specs.Performing.{AreShallow, plain_trees}
 use Rattle.meson_plan.specs.Plans.{Doable}
 use Rattle.meson_plan.specs.Steps.{Step, StepsMake, none}
 use Rattle.meson_plan.specs.Working.{AreKnown, HasDeep, HasLarge, IsNext, IsShallow, IsUnderWay, Reached, so_far}
 use Rattle.meson_plan.specs.OtherValues.{with_some}
-use Rattle.meson_plan.proofs.Loads.{as_many}
+use Rattle.meson_calls.proofs.Loads.{as_many}
 use Rattle.meson_plan.proofs.WorkKnown.{known_first, nothing_new}
 use Rattle.meson_plan.proofs.WorkLimits.{all_small, known_parsed, known_shallow, not_shallow, not_small}
 
@@ -27,10 +27,10 @@ module _ (old : Loaded) (w : Work) (whole : IsProject old) (are_files : w.files 
   same_parsed =
       ap (λ ts. with_some ts old.parsed) are_trees ∙ ap (λ n. with_some (replicate n None) old.parsed) (sym (as_many old.files old.parsed whole.parsed)) ∙ nothing_new old.parsed
 
-  same_trees : plain_trees (so_far old w) ≡ plain_trees old
+  pub same_trees : plain_trees (so_far old w) ≡ plain_trees old
   same_trees = ap (λ fs. plain_trees (record { files = fs; parsed = with_some w.trees.items old.parsed })) are_files ∙ ap (λ ts. plain_trees (record { files = old.files; parsed = ts })) same_parsed
 
-  first_reached : (steps : List Step) → AreDoable steps (plain_trees old) → Reached old [] steps w
+  pub first_reached : (steps : List Step) → AreDoable steps (plain_trees old) → Reached old [] steps w
   first_reached steps doable = record {
     made = record {
       bytes = 0;

@@ -9,7 +9,7 @@ use Rattle.meson_syntax.specs.declared.tree.Parsed.{Parsed}
 use Rattle.meson_syntax.specs.Reads.{IsSpannedWithin, of_files, wide}
 use Rattle.meson_syntax.specs.Tree as tree
 use Rattle.meson_syntax.specs.View.{view}
-use Rattle.meson_plan.specs.Loading.{AreParsed}
+use Rattle.meson_calls.specs.Loading.{AreParsed}
 use Rattle.meson_plan.specs.OtherValues.{with_one, with_some}
 use Rattle.meson_plan.specs.Working.{AreKnown}
 

@@ -10,7 +10,7 @@ use Rattle.meson_syntax.specs.Reads.{IsSpanned, IsSpannedWithin, max_depth, max_
 use Rattle.meson_syntax.specs.Tree.{Plain, erase}
 use Rattle.meson_syntax.specs.View.{view}
 use Rattle.meson_syntax.proofs.parsing.FileErased.{file-depth-erased}
-use Rattle.meson_plan.specs.Loading.{AreParsed, views}
+use Rattle.meson_calls.specs.Loading.{AreParsed, views}
 use Rattle.meson_plan.specs.Performing.{AreShallow, AreSmall}
 use Rattle.meson_plan.specs.Working.{AreKnown, HasDeep, HasLarge, IsShallow}
 use Rattle.meson_plan.specs.OtherValues.{with_some}

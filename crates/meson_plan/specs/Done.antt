@@ -1,9 +1,9 @@
 -- What steps make of the files and the trees of a project, and why they are refused.
 use Rattle.std.specs.Prelude.{◌≡◌, ℕ, List, Some}
 use Rattle.meson_splice.specs.declared.splice.Splice.{Splice}
-use Rattle.meson_plan.specs.declared.refusal.Refusal.{Refusal}
-use Rattle.meson_plan.specs.declared.refusal.Refusal.TheVariants.{TooDeep, TooLarge}
-use Rattle.meson_plan.specs.Loading.{Loaded, IsProject}
+use Rattle.meson_calls.specs.declared.refusal.Refusal.{Refusal}
+use Rattle.meson_calls.specs.declared.refusal.Refusal.TheVariants.{TooDeep, TooLarge}
+use Rattle.meson_calls.specs.Loading.{Loaded, IsProject}
 use Rattle.meson_plan.specs.Performing.{AreShallow, AreSmall, plain_trees, saturated}
 use Rattle.meson_plan.specs.Steps.{Step, all_stepped, StepsMake}
 

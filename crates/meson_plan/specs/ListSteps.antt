@@ -1,5 +1,5 @@
 -- The steps of the code, and which of them may be done one after another.
-use Rattle.std.specs.Prelude.{◌≡◌, ◌≤◌, ℕ, List, [], ◌∷◌, map, All, Option, Some, None, option_map}
+use Rattle.std.specs.Prelude.{◌≡◌, ◌≤◌, ℕ, List, [], ◌∷◌, map, All, Option, Some, option_map}
 use Rattle.meson_syntax.specs.Tree.{Plain}
 use Rattle.meson_syntax.specs.Grammar.{LevelFile, file_depth}
 use Rattle.meson_edit.specs.Edits.{Edit, First, After, Remove, Replace, Wrap, RemoveStatement, Append}
@@ -7,22 +7,22 @@ use Rattle.meson_edit.specs.Places.{Writes}
 use Rattle.meson_plan.specs.declared.step.ListEdit.{ListEdit}
 use Rattle.meson_plan.specs.declared.step.ListEdit.TheVariants as code
 use Rattle.meson_plan.specs.declared.step.ListStep.{ListStep}
-use Rattle.meson_plan.specs.Project.{place}
+use Rattle.meson_calls.specs.Project.{place}
 use Rattle.meson_plan.specs.Steps.{Step, stepped}
 
 -- ---- what the steps of the code stand for
 
--- an edit of a list without the tree that is written
+-- an edit without the tree that is written
 abbrev pub bare_edit : Edit → Option ListEdit
 bare_edit (First path new) = Some (code.First new.bytes)
 bare_edit (After path n new) = Some (code.After n new.bytes)
 bare_edit (Remove path n) = Some (code.Remove n)
 bare_edit (Replace path n new) = Some (code.Replace n new.bytes)
 bare_edit (Wrap path n) = Some (code.Wrap n)
-bare_edit (RemoveStatement path n) = None
-bare_edit (Append new) = None
+bare_edit (RemoveStatement path n) = Some (code.RemoveStatement n)
+bare_edit (Append new) = Some (code.Append new.bytes)
 
--- the list or the block of an edit
+-- the list or the block of an edit; a statement is appended to the block of the file
 abbrev pub path_of : Edit → List ℕ
 path_of (First path new) = path
 path_of (After path n new) = path

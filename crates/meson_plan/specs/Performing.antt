@@ -7,9 +7,9 @@ use Rattle.meson_syntax.specs.Grammar.{file_depth}
 use Rattle.meson_syntax.specs.Reads.{max_len, max_depth}
 use Rattle.meson_plan.specs.declared.command.Command.{Command}
 use Rattle.meson_plan.specs.declared.command.Done.{Done}
-use Rattle.meson_plan.specs.declared.refusal.Refusal.{Refusal}
-use Rattle.meson_plan.specs.declared.refusal.Refusal.TheVariants.{TooDeep, TooLarge}
-use Rattle.meson_plan.specs.Loading.{Loaded, project, trees}
+use Rattle.meson_calls.specs.declared.refusal.Refusal.{Refusal}
+use Rattle.meson_calls.specs.declared.refusal.Refusal.TheVariants.{TooDeep, TooLarge}
+use Rattle.meson_calls.specs.Loading.{Loaded, project, trees}
 use Rattle.meson_plan.specs.Steps.{Step, all_stepped, StepsMake}
 use Rattle.meson_plan.specs.Planning.{planned}
 

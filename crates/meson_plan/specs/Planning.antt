@@ -1,24 +1,24 @@
--- The edits that a command means, or why it is refused.
--- So far: sources and extra files of a target, and a keyword argument of `project` that is there and gets another value. Meson manual, Rewriter.
-use Rattle.std.specs.Prelude.{ℕ, List, [], ◌∷◌, codes, Result, Ok, Err}
+-- The edits that a command means, or why it is refused. Meson manual, Rewriter.
+use Rattle.std.specs.Prelude.{ℕ, List, [], ◌∷◌, codes, if◌then◌else◌, Option, Some, None, Result, Ok, Err}
+use Rattle.std.specs.List.{filter_map}
 use Rattle.meson_splice.specs.Patch.{then_ok}
-use Rattle.meson_syntax.specs.Tree.{Nowhere, Expression}
-use Rattle.meson_edit.specs.Edits.{Written, Replace}
-use Rattle.meson_plan.specs.declared.call.CallRef.{CallRef}
-use Rattle.meson_plan.specs.declared.call.Role.{Role}
-use Rattle.meson_plan.specs.declared.call.Role.TheVariants as role
+use Rattle.meson_syntax.specs.Tree.{Argument, plain, named, pair}
+use Rattle.meson_edit.specs.Edits.{elements}
+use Rattle.meson_calls.specs.declared.call.Role.{Role}
+use Rattle.meson_calls.specs.declared.call.Role.TheVariants as role
 use Rattle.meson_plan.specs.declared.command.Command.{Command}
 use Rattle.meson_plan.specs.declared.command.Command.TheVariants as command
-use Rattle.meson_plan.specs.declared.command.Setting.{Setting}
-use Rattle.meson_plan.specs.declared.refusal.Refusal.{Refusal}
-use Rattle.meson_plan.specs.declared.refusal.Refusal.TheVariants.{NoProject, NotFound, Ambiguous, DuplicateKeyword, NotYet}
-use Rattle.meson_plan.specs.Project.{Project, Placed}
-use Rattle.meson_plan.specs.Calls.{Call, Numbered, keyword}
-use Rattle.meson_plan.specs.Roles.{found, role_calls}
-use Rattle.meson_plan.specs.Sources.{kwargs_key}
-use Rattle.meson_plan.specs.Settings.{project_setting}
-pub use Rattle.meson_plan.specs.SourceEdits.{not_hidden}
-use Rattle.meson_plan.specs.SourceEdits.{sources_added, sources_removed, extra_added, extra_removed}
+use Rattle.meson_calls.specs.declared.refusal.Refusal.{Refusal}
+use Rattle.meson_calls.specs.declared.refusal.Refusal.TheVariants.{NoProject, NotFound, Ambiguous}
+use Rattle.meson_calls.specs.Project.{Project, Placed}
+use Rattle.meson_calls.specs.Calls.{Call, keyword}
+use Rattle.meson_calls.specs.Roles.{found, role_calls}
+use Rattle.meson_calls.specs.Sources.{sources_key, once}
+use Rattle.meson_plan.specs.Keys.{is_key}
+use Rattle.meson_plan.specs.SourceEdits.{extra_key, sources_added, sources_removed, extra_added, extra_removed}
+use Rattle.meson_plan.specs.TargetEdits.{target_added, target_removed}
+use Rattle.meson_plan.specs.Tasks.{each_made, set_entry, delete_entry, add_entry, remove_entry, set_option_entry, delete_option_entry}
+use Rattle.meson_plan.specs.TaskSteps.{call_changed}
 use Rattle.meson_plan.specs.Steps.{Step}
 
 -- ---- finding
@@ -38,30 +38,29 @@ the_call p role.Target id = only_one (found p role.Target id)
 the_call p role.Dependency id = only_one (found p role.Dependency id)
 the_call p role.Project id = then_ok (any_project (role_calls p role.Project)) (λ _. only_one (found p role.Project id))
 
--- commands that are not done so far are refused after their call was looked for
-abbrev pub not_yet : {X Y : Type 0} → Result X Refusal → Result Y Refusal
-not_yet r = then_ok r (λ _. Err NotYet)
+-- ---- commands that change nothing: what they tell of may be there once only
 
--- ---- setting a keyword argument
+abbrev pub only_once : {S : Type 0} → List ℕ → Call S → Result (Unit {0}) Refusal
+only_once key c = once key (keyword key c) tt
 
--- The one argument of that name gets the value.
-abbrev pub replaced : {S : Type 0} → List ℕ → CallRef → Written (Expression Nowhere) → List (Numbered (Expression S)) → Result (List Step) Refusal
-replaced key c new [] = Err NotYet
-replaced key c new (v ∷ []) = Ok (record { file = c.file; edit = Replace c.path.steps v.number new } ∷ [])
-replaced key c new (v ∷ w ∷ more) = Err (DuplicateKeyword key)
+abbrev pub target_told : {S : Type 0} → Call S → Result (List Step) Refusal
+target_told c = then_ok (only_once sources_key c) (λ _. then_ok (only_once extra_key c) (λ _. Ok []))
 
-abbrev pub set_keyword : {S : Type 0} → List ℕ → Placed (Call S) → Written (Expression Nowhere) → Result (List Step) Refusal
-set_keyword key c new = then_ok (not_hidden (keyword kwargs_key c.it)) (λ _. replaced key c.place new (keyword key c.it))
+abbrev pub name_in : {S : Type 0} → Argument S → Option (List ℕ)
+name_in (plain e) = None
+name_in (named s x e) = Some x
+name_in (pair s e f) = None
 
-abbrev pub set_one : {S : Type 0} → Placed (Call S) → List (List ℕ × Setting) → Result (List Step) Refusal
-set_one c [] = Err NotYet
-set_one c (pair ∷ []) = then_ok (project_setting pair.0 pair.1) (set_keyword pair.0 c)
-set_one c (pair ∷ other ∷ more) = Err NotYet
+abbrev pub key_told : {S : Type 0} → Role → Call S → List ℕ → Result (Unit {0}) Refusal
+key_told r c key = if is_key r key then only_once key c else Ok tt
 
-abbrev pub kwargs_set : {S : Type 0} → Project S → Role → List ℕ → List (List ℕ × Setting) → Result (List Step) Refusal
-kwargs_set p role.Project id pairs = then_ok (the_call p role.Project id) (λ c. set_one c pairs)
-kwargs_set p role.Target id pairs = not_yet (the_call p role.Target id)
-kwargs_set p role.Dependency id pairs = not_yet (the_call p role.Dependency id)
+abbrev pub keys_told : {S : Type 0} → Role → Call S → List (List ℕ) → Result (List Step) Refusal
+keys_told r c [] = Ok []
+keys_told r c (key ∷ more) = then_ok (key_told r c key) (λ _. keys_told r c more)
+
+-- the keyword arguments that commands change, in the call's order
+abbrev pub call_told : {S : Type 0} → Role → Call S → Result (List Step) Refusal
+call_told r c = keys_told r c (filter_map name_in (elements c.arguments))
 
 -- ---- commands
 
@@ -70,13 +69,13 @@ planned p (command.SourcesAdd target sources) = then_ok (the_call p role.Target 
 planned p (command.SourcesRemove target sources) = then_ok (the_call p role.Target target) (λ c. sources_removed p c sources)
 planned p (command.ExtraAdd target sources) = then_ok (the_call p role.Target target) (λ c. extra_added p c sources)
 planned p (command.ExtraRemove target sources) = then_ok (the_call p role.Target target) (λ c. extra_removed p c sources)
-planned p (command.TargetAdd target kind subdir sources) = Err NotYet
-planned p (command.TargetRemove target) = not_yet (the_call p role.Target target)
-planned p (command.TargetInfo target) = not_yet (the_call p role.Target target)
-planned p (command.KwargsSet r id pairs) = kwargs_set p r id pairs
-planned p (command.KwargsAdd r id pairs) = not_yet (the_call p r id)
-planned p (command.KwargsRemove r id pairs) = not_yet (the_call p r id)
-planned p (command.KwargsDelete r id keys) = not_yet (the_call p r id)
-planned p (command.KwargsInfo r id) = not_yet (the_call p r id)
-planned p (command.OptionsSet pairs) = not_yet (the_call p role.Project (codes "/"))
-planned p (command.OptionsDelete names) = not_yet (the_call p role.Project (codes "/"))
+planned p (command.TargetAdd target kind subdir sources) = target_added p target kind subdir sources
+planned p (command.TargetRemove target) = then_ok (the_call p role.Target target) (λ c. target_removed p c)
+planned p (command.TargetInfo target) = then_ok (the_call p role.Target target) (λ c. target_told c.it)
+planned p (command.KwargsSet r id pairs) = then_ok (the_call p r id) (call_changed p (each_made (set_entry r) pairs))
+planned p (command.KwargsAdd r id pairs) = then_ok (the_call p r id) (call_changed p (each_made (add_entry r) pairs))
+planned p (command.KwargsRemove r id pairs) = then_ok (the_call p r id) (call_changed p (each_made (remove_entry r) pairs))
+planned p (command.KwargsDelete r id keys) = then_ok (the_call p r id) (call_changed p (each_made (delete_entry r) keys))
+planned p (command.KwargsInfo r id) = then_ok (the_call p r id) (λ c. call_told r c.it)
+planned p (command.OptionsSet pairs) = then_ok (the_call p role.Project (codes "/")) (call_changed p (each_made set_option_entry pairs))
+planned p (command.OptionsDelete names) = then_ok (the_call p role.Project (codes "/")) (call_changed p (each_made delete_option_entry names))

@@ -1,10 +1,10 @@
 -- A plan: the steps that a command means, as the code has them, which may be done one after another.
 use Rattle.std.specs.Prelude.{◌≡◌, List, Result, Ok}
 use Rattle.meson_plan.specs.declared.command.Command.{Command}
-use Rattle.meson_plan.specs.declared.refusal.Refusal.{Refusal}
+use Rattle.meson_calls.specs.declared.refusal.Refusal.{Refusal}
 use Rattle.meson_plan.specs.declared.step.ListStep.{ListStep}
 use Rattle.meson_plan.specs.ListSteps.{AreBare, AreDoable}
-use Rattle.meson_plan.specs.Loading.{Loaded, project}
+use Rattle.meson_calls.specs.Loading.{Loaded, project}
 use Rattle.meson_plan.specs.Performing.{plain_trees}
 use Rattle.meson_plan.specs.Planning.{planned}
 use Rattle.meson_plan.specs.Steps.{Step}

@@ -7,15 +7,15 @@ use Rattle.meson_splice.specs.Patch.{then_ok}
 use Rattle.meson_syntax.specs.Tree.{Nowhere, Expression, array, listing, Argument, plain, named, pair, arguments_of}
 use Rattle.meson_syntax.specs.Paths.{ListIn, list_in}
 use Rattle.meson_edit.specs.Edits.{Written, Edit, First, After, Remove, Wrap, elements}
-use Rattle.meson_plan.specs.declared.call.CallRef.{CallRef}
-use Rattle.meson_plan.specs.declared.refusal.Refusal.{Refusal}
-use Rattle.meson_plan.specs.declared.refusal.Refusal.TheVariants.{BadName, HiddenKeywords, NotLiteral, SourceNotFound, Unresolved, NotRemovable}
-use Rattle.meson_plan.specs.Project.{Project, Placed, child, place, expression_at}
-use Rattle.meson_plan.specs.Calls.{Call, Numbered, keyword}
-use Rattle.meson_plan.specs.Calls as calls
-use Rattle.meson_plan.specs.Roles.{one_of}
-use Rattle.meson_plan.specs.Expansion.{Slot, in_list, fixed, Item, Mark}
-use Rattle.meson_plan.specs.Sources.{sources_key, kwargs_key, expand_arguments, source_marks, items, opaque_count, first_list, first_empty, or_option, home, once}
+use Rattle.meson_calls.specs.declared.call.CallRef.{CallRef}
+use Rattle.meson_calls.specs.declared.refusal.Refusal.{Refusal}
+use Rattle.meson_calls.specs.declared.refusal.Refusal.TheVariants.{BadName, HiddenKeywords, NotLiteral, SourceNotFound, Unresolved, NotRemovable}
+use Rattle.meson_calls.specs.Project.{Project, Placed, child, place, expression_at}
+use Rattle.meson_calls.specs.Calls.{Call, Numbered, keyword}
+use Rattle.meson_calls.specs.Calls as calls
+use Rattle.meson_calls.specs.Roles.{one_of}
+use Rattle.meson_calls.specs.Expansion.{Slot, in_list, fixed, Item, Mark}
+use Rattle.meson_calls.specs.Sources.{sources_key, kwargs_key, expand_arguments, source_marks, items, opaque_count, first_list, first_empty, or_option, home, once}
 use Rattle.meson_plan.specs.Settings.{string_of}
 use Rattle.meson_plan.specs.Steps.{Step}
 

@@ -1,13 +1,13 @@
 -- Spots of the code, and those of the items that it keeps.
 use Rattle.std.specs.Prelude.{ℕ, Bool, true, false, List, [], ◌∷◌, ◌++◌, if◌then◌else◌, Option, Some, None, option_map, option_and_then, Result, Ok, Err}
 use Rattle.meson_splice.specs.Patch.{then_ok}
-use Rattle.meson_plan.specs.declared.call.CallRef.{CallRef}
-use Rattle.meson_plan.specs.declared.call.SourceItem.{SourceItem}
-use Rattle.meson_plan.specs.declared.refusal.Refusal.{Refusal}
+use Rattle.meson_calls.specs.declared.call.CallRef.{CallRef}
+use Rattle.meson_calls.specs.declared.call.SourceItem.{SourceItem}
+use Rattle.meson_calls.specs.declared.refusal.Refusal.{Refusal}
 use Rattle.meson_plan.specs.SourceEdits.{Spot, none_found, removable}
 use Rattle.meson_plan.specs.declared.removing.Spot as code
 use Rattle.meson_plan.specs.Naming.{has_value}
-use Rattle.meson_plan.specs.Project.{place}
+use Rattle.meson_calls.specs.Project.{place}
 
 abbrev pub spot_view : code.Spot → Spot
 spot_view s = record { list = place s.file s.list.items; number = s.number }

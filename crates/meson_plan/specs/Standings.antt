@@ -2,21 +2,24 @@
 use Rattle.std.specs.Prelude.{◌≡◌, ℕ, List, [], All, Some, Result, Ok}
 use Rattle.std.specs.Str.{IsUtf8}
 use Rattle.meson_lex.specs.declared.kinds.Span.{Span}
+use Rattle.meson_splice.specs.declared.file_set.File.{File}
 use Rattle.meson_syntax.specs.declared.operator.Bracket.TheVariants as bracket
+use Rattle.meson_syntax.specs.declared.tree.Parsed.{Parsed}
 use Rattle.meson_syntax.specs.declared.operator.StringKind.{StringKind}
 use Rattle.meson_syntax.specs.Paths.{ListAt, list_at, nth}
 use Rattle.meson_syntax.specs.Tree.{Expression, string, plain}
 use Rattle.meson_edit.specs.Edits.{elements}
-use Rattle.meson_plan.specs.declared.call.CallRef.{CallRef}
-use Rattle.meson_plan.specs.declared.call.Role.TheVariants as role
-use Rattle.meson_plan.specs.declared.refusal.Refusal.{Refusal}
-use Rattle.meson_plan.specs.Project.{Project, BuildFile, Placed, nth_file}
-use Rattle.meson_plan.specs.Calls.{Call, first_argument}
-use Rattle.meson_plan.specs.Expansion.{Slot, in_list, fixed, Mark, known, opaque, empty}
-use Rattle.meson_plan.specs.Sources.{source_marks}
+use Rattle.meson_calls.specs.declared.call.CallRef.{CallRef}
+use Rattle.meson_calls.specs.declared.call.Role.{Role}
+use Rattle.meson_calls.specs.declared.call.Role.TheVariants as role
+use Rattle.meson_calls.specs.declared.refusal.Refusal.{Refusal}
+use Rattle.meson_calls.specs.Project.{Project, BuildFile, Placed, nth_file}
+use Rattle.meson_calls.specs.Calls.{Call, first_argument}
+use Rattle.meson_calls.specs.Expansion.{Slot, in_list, fixed, Mark, known, opaque, empty}
+use Rattle.meson_calls.specs.Sources.{source_marks}
 use Rattle.meson_plan.specs.SourceEdits.{Spot, distinct_spots, removed, extra_marks, sources_added, sources_removed, extra_added, extra_removed}
 use Rattle.meson_plan.specs.Planning.{the_call}
-use Rattle.meson_plan.specs.Loading.{Loaded, AreParsed, project}
+use Rattle.meson_calls.specs.Loading.{Loaded, AreParsed, named_trees, project, views}
 use Rattle.meson_plan.specs.Performing.{plain_trees}
 use Rattle.meson_plan.specs.ListSteps.{AreDoable}
 use Rattle.meson_plan.specs.Steps.{Step}
@@ -43,6 +46,20 @@ pub record NothingThere (p : Project Span) (c : CallRef) : Type 0 where
   pub there : ListThere p c
   pub is_empty : elements there.list.list ≡ []
 
+-- a call with its arguments, which are in round brackets
+pub record CallThere (p : Project Span) (c : Placed (Call Span)) : Type 0 where
+  pub there : ListThere p c.place
+  pub is_list : there.list.list ≡ c.it.arguments
+  pub is_round : there.list.bracket ≡ bracket.Round
+
+-- the call at a place of trees, as they are read in files
+pub record CallIn (trees : List Parsed) (place : CallRef) : Type 0 where
+  pub files : List File
+  pub parsed : AreParsed files trees
+  pub call : Placed (Call Span)
+  pub is_place : call.place ≡ place
+  pub there : CallThere (named_trees files (views files trees)) call
+
 -- the call of a target, which has an argument without a name
 pub record TargetThere (p : Project Span) (c : Placed (Call Span)) : Type 0 where
   pub there : ListThere p c.place
@@ -64,6 +81,9 @@ abbrev pub SpotStands : Project Span → Spot → Type 0
 SpotStands p s = StringThere p s.list s.number
 
 -- ---- what stands
+
+abbrev pub CallsStand : Type 0
+CallsStand = (p : Project Span) (r : Role) (id : List ℕ) (c : Placed (Call Span)) → the_call p r id ≡ Ok c → CallThere p c
 
 abbrev pub TargetsStand : Type 0
 TargetsStand = (p : Project Span) (id : List ℕ) (c : Placed (Call Span)) → the_call p role.Target id ≡ Ok c → TargetThere p c

@@ -15,7 +15,7 @@ use Rattle.meson_syntax.specs.Tree as tree
 use Rattle.meson_syntax.specs.Reads.{IsSpannedWithin}
 use Rattle.meson_edit.specs.Edits.{Edit, edited}
 use Rattle.meson_edit.specs.Places.{primitive_of}
-use Rattle.meson_plan.specs.Loading.{name_at}
+use Rattle.meson_calls.specs.Loading.{name_at}
 
 -- an edit of one of the files
 pub record Step : Type 0 where

@@ -5,22 +5,22 @@ use Rattle.meson_lex.specs.declared.kinds.Span.{Span}
 use Rattle.meson_syntax.specs.declared.tree.Arg.{Arg}
 use Rattle.meson_syntax.specs.Tree.{Expression}
 use Rattle.meson_edit.specs.Edits.{After}
-use Rattle.meson_plan.specs.declared.call.CallRef.{CallRef}
-use Rattle.meson_plan.specs.declared.refusal.Refusal.{Refusal}
+use Rattle.meson_calls.specs.declared.call.CallRef.{CallRef}
+use Rattle.meson_calls.specs.declared.refusal.Refusal.{Refusal}
 use Rattle.meson_plan.specs.declared.step.ListStep.{ListStep}
-use Rattle.meson_plan.specs.Calls.{Call, Numbered, value_with_name}
-use Rattle.meson_plan.specs.Calls as calls
-use Rattle.meson_plan.specs.Expansion.{fixed}
+use Rattle.meson_calls.specs.Calls.{Call, Numbered, value_with_name}
+use Rattle.meson_calls.specs.Calls as calls
+use Rattle.meson_calls.specs.Expansion.{fixed}
 use Rattle.meson_plan.specs.ListSteps.{AreBare, bare}
 use Rattle.meson_plan.specs.declared.targeting.Change.{Change}
 use Rattle.meson_plan.specs.declared.targeting.Change.TheVariants.{SourcesAdded, SourcesRemoved, ExtraAdded, ExtraRemoved}
-use Rattle.meson_plan.specs.declared.call.Role.TheVariants as role
-use Rattle.meson_plan.specs.Project.{Project, Placed, child}
+use Rattle.meson_calls.specs.declared.call.Role.TheVariants as role
+use Rattle.meson_calls.specs.Project.{Project, Placed, child}
 use Rattle.meson_plan.specs.Planning.{the_call}
 use Rattle.meson_plan.specs.SourceEdits.{extra_key, step_in, written_keyword, inserted, behind_value, sources_added, sources_removed, extra_added, extra_removed}
-use Rattle.meson_plan.specs.Sourced.{kept_args, arguments_by}
+use Rattle.meson_calls.specs.Sourced.{kept_args, arguments_by}
 use Rattle.meson_plan.specs.Steps.{Step}
-use Rattle.meson_plan.specs.Tallies.{Gathered, expanded, no_marks}
+use Rattle.meson_calls.specs.Tallies.{Gathered, expanded, no_marks}
 
 -- the code's steps are those that are meant
 pub record AreMeant (meant : Result (List Step) Refusal) (code : List ListStep) : Type 0 where

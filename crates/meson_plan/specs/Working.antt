@@ -12,14 +12,14 @@ use Rattle.meson_syntax.specs.Grammar.{file_depth}
 use Rattle.meson_syntax.specs.Tree as tree
 use Rattle.meson_syntax.specs.Reads.{IsSpanned, IsSpannedWithin, ReadsWithin, wide, max_depth, max_len}
 use Rattle.meson_syntax.specs.View.{view}
-use Rattle.meson_edit.specs.Places.{bracket_offset, element_span, value_span}
+use Rattle.meson_edit.specs.Places.{bracket_offset, element_span, value_span, span_of_statement}
 use Rattle.meson_plan.specs.declared.step.ListStep.{ListStep}
 use Rattle.meson_plan.specs.declared.step.ListEdit.{ListEdit}
 use Rattle.meson_plan.specs.declared.step.ListEdit.TheVariants as code
 use Rattle.meson_plan.specs.declared.work.Work.{Work}
 use Rattle.meson_plan.specs.Done.{IsMade}
 use Rattle.meson_plan.specs.ListSteps.{AreBare, AreDoable, bare}
-use Rattle.meson_plan.specs.Loading.{Loaded, HasFileName, max_files}
+use Rattle.meson_calls.specs.Loading.{Loaded, HasFileName, max_files}
 use Rattle.meson_plan.specs.OtherValues.{with_some}
 use Rattle.meson_plan.specs.Performing.{plain_trees, saturated}
 use Rattle.meson_plan.specs.Plans.{Doable}
@@ -27,13 +27,15 @@ use Rattle.meson_plan.specs.Steps.{Step}
 
 -- ---- one step
 
--- an edit of the list at a path as it is laid out
+-- an edit of the list or the block at a path as it is laid out
 abbrev pub placed_edit : tree.File Span → List ℕ → ListEdit → Option Primitive
 placed_edit f path (code.First new) = option_map (λ at. layout.First at new) (bracket_offset f path)
 placed_edit f path (code.After n new) = option_map (λ s. layout.After s new) (element_span f path n)
 placed_edit f path (code.Remove n) = option_map layout.Remove (element_span f path n)
 placed_edit f path (code.Replace n new) = option_map (λ s. layout.Replace s new) (value_span f path n)
 placed_edit f path (code.Wrap n) = option_map layout.Wrap (value_span f path n)
+placed_edit f path (code.RemoveStatement n) = option_map layout.RemoveStatement (span_of_statement f path n)
+placed_edit f path (code.Append new) = Some (layout.Append new)
 
 -- The splices of a file can be made, and the file then reads as a tree.
 pub record MayChange (w : Work) (file : ℕ) (splices : List Splice) : Type 0 where

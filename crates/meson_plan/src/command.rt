@@ -1,6 +1,6 @@
 //! Commands, and what a command did.
 
-use crate::call::Role;
+use meson_calls::Role;
 use meson_splice::{Change, Many, Text};
 
 /// The value that a keyword argument is set to.

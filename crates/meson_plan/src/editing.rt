@@ -2,29 +2,42 @@
 
 ghost use Rattle.std.specs.Prelude.{◌≡◌, ◌≢◌, ◌<◌, ◌≤◌, All, Err, IfErr, IfOk, OnOk, length};
 ghost use Rattle.std.specs.Str.{IsUtf8};
-ghost use Rattle.meson_syntax.specs.View.{list_view};
-ghost use Rattle.meson_plan.specs.Calls.{value_with_name};
-ghost use Rattle.meson_plan.specs.GoodLists.{GoodListing};
-ghost use Rattle.meson_plan.specs.Loading.{AreParsed};
-ghost use Rattle.meson_plan.specs.Named.{AreVariables, project_of};
-ghost use Rattle.meson_plan.specs.Picking.{Source, call_with};
-ghost use Rattle.meson_plan.specs.Project.{placed};
-ghost use Rattle.meson_plan.specs.SourceEdits.{plain_len, sources_added, sources_removed};
-ghost use Rattle.meson_plan.specs.Sourced.{kept_args};
+ghost use Rattle.std.specs.List.{filter};
+ghost use Rattle.meson_syntax.specs.View.{args_view, list_view};
+ghost use Rattle.meson_calls.specs.Calls.{value_with_name};
+ghost use Rattle.meson_calls.specs.GoodLists.{GoodListing};
+ghost use Rattle.meson_calls.specs.Loading.{AreParsed};
+ghost use Rattle.meson_calls.specs.Named.{AreVariables, project_of};
+ghost use Rattle.meson_calls.specs.Picking.{Source, call_with};
+ghost use Rattle.meson_calls.specs.Project.{placed};
+ghost use Rattle.meson_plan.specs.SourceEdits.{is_plain, plain_len, sources_added, sources_removed};
+ghost use Rattle.meson_calls.specs.Sourced.{kept_args};
 ghost use Rattle.meson_plan.specs.Targeted.{AreMeant};
 
-use crate::arguments::{count_named, count_plain};
-use crate::call::CallRef;
 use crate::inserting::{checked_names, distinct, insert, new_names};
-use crate::marks::{Marks, text_of_name};
-use crate::refusal::Refusal;
 use crate::removing::{removed, spots_of};
-use crate::sourcing::{MAX_FOLLOWED, home_of, met};
 use crate::step::ListStep;
-use crate::variables::Variables;
+use meson_calls::arguments::{count_named, is_plain};
+use meson_calls::marks::{Marks, text_of_name};
+use meson_calls::sourcing::{MAX_FOLLOWED, home_of, met};
+use meson_calls::variables::Variables;
+use meson_calls::{CallRef, Refusal};
 use meson_splice::Text;
-use meson_syntax::{List, Parsed};
+use meson_syntax::{Arg, List, Parsed};
 use std::alloc::Global;
+
+/// How many arguments have no name.
+fn count_plain(args: &[Arg]) -> usize
+    ensures { (source : Source) → result ≡ length (filter is_plain (args_view source args.now)) }
+{
+    let mut count = 0;
+    for i in 0..args.len() {
+        if is_plain(&args[i]) {
+            count += 1;
+        }
+    }
+    count
+}
 
 /// How many elements without a name the list at a place has.
 pub(crate) fn plain_len(variables: &Variables<'_>, list: &CallRef) -> usize

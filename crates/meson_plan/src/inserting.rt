@@ -7,11 +7,10 @@ ghost use Rattle.meson_plan.specs.ListSteps.{bare};
 ghost use Rattle.meson_plan.specs.Naming.{has_value, new_among};
 ghost use Rattle.meson_plan.specs.SourceEdits.{checked_names, distinct, inserted};
 
-use crate::call::{CallRef, SourceItem};
-use crate::picking::copy_place;
-use crate::refusal::Refusal;
 use crate::settings::written_text;
 use crate::step::{ListEdit, ListStep, push_step};
+use meson_calls::picking::copy_place;
+use meson_calls::{CallRef, Refusal, SourceItem};
 use meson_splice::Text;
 use std::alloc::{AllocError, Global};
 
@@ -32,7 +31,7 @@ pub(crate) fn checked_names(names: &[Text]) -> Result<(), Refusal>
 }
 
 /// Whether a name is one of these.
-fn is_among(names: &[&Text], name: &Text) -> bool
+pub(crate) fn is_among(names: &[&Text], name: &Text) -> bool
     ensures { result ≡ list_any (λ x. bytes_eq x name.now) (map (λ x. x.now) names.now) }
 {
     for i in 0..names.len() {

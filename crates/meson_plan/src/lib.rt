@@ -1,48 +1,37 @@
-//! A project of many build files: what stands where, and which calls an id names.
+//! A project of many build files, and what commands do to it.
 #![tactic(auto)]
 
-mod arguments;
-mod arriving;
-mod call;
+mod changing;
 mod command;
 mod editing;
-mod entering;
-mod expansion;
+mod elements;
 mod extra;
-mod folders;
+mod finding;
+mod identifier_statements;
+mod identifiers;
+mod info;
 mod inserting;
-mod known;
-mod literals;
-mod load_fault;
-mod loading;
-mod looking;
-mod marks;
-mod meeting;
-mod naming;
-mod note;
-mod notes;
-mod picking;
+mod keys;
+mod keyword_steps;
+mod option_steps;
 mod planning;
 mod project;
-mod refusal;
 mod removing;
-mod roles;
-mod setters;
+mod request;
 mod settings;
-mod sourcing;
 mod spans;
+mod statements;
 mod step;
+mod target_adding;
+mod target_removing;
 mod targeting;
-mod values;
-mod variables;
-mod walk;
-mod walk_statements;
+mod tasks;
+mod uses;
 mod work;
+mod writing;
 
-pub use call::{CallRef, Role, SourceItem, Sources};
 pub use command::{Command, Done, Setting};
-pub use entering::subdirs;
-pub use load_fault::{LoadFault, Unloaded};
-pub use loading::MAX_FILES;
+pub use meson_calls::{
+    CallRef, LoadFault, MAX_FILES, Refusal, Role, SourceItem, Sources, Unloaded, subdirs,
+};
 pub use project::Project;
-pub use refusal::Refusal;

@@ -1,26 +1,28 @@
 //! A project: its files, and the tree of each.
 
 ghost use Rattle.std.specs.Prelude.{◌≡◌, ◌≢◌, [], Some, Ok, Err, IfErr, IfOk, IsTrue, OnErr};
-ghost use Rattle.meson_plan.specs.Directories.{IsFileName};
-ghost use Rattle.meson_plan.specs.Loading.{project, MayNotLoad};
+ghost use Rattle.meson_calls.specs.Directories.{IsFileName};
+ghost use Rattle.meson_calls.specs.Loading.{IsProject, MayNotLoad, project};
 ghost use Rattle.meson_plan.specs.OtherValues.{with_some};
+ghost use Rattle.meson_plan.specs.Outcomes.{IsDone, MayNotBeDone};
 ghost use Rattle.meson_plan.specs.Performing.{MayRefuse, Performs};
-ghost use Rattle.meson_plan.specs.Roles.{targets, found, is_target, places};
-ghost use Rattle.meson_plan.specs.Sources.{sources};
+ghost use Rattle.meson_plan.specs.Planning.{planned};
+ghost use Rattle.meson_calls.specs.Roles.{targets, found, is_target, places};
+ghost use Rattle.meson_calls.specs.Sources.{sources};
 
-use crate::arriving::sources_at;
-use crate::call::{CallRef, Role, Sources};
+use crate::changing::changed;
 use crate::command::{Command, Done};
-use crate::load_fault::Unloaded;
-use crate::loading::{copy_trees, loaded};
-use crate::looking::is_target;
-use crate::naming::found;
-use crate::notes::notes_of;
-use crate::picking::with_role;
 use crate::planning::planned;
-use crate::refusal::Refusal;
-use crate::variables::Variables;
+use crate::request::request_of;
 use crate::work::{Work, done};
+use meson_calls::arriving::sources_at;
+use meson_calls::loading::{copy_trees, loaded};
+use meson_calls::looking::is_target;
+use meson_calls::naming::found;
+use meson_calls::notes::notes_of;
+use meson_calls::picking::with_role;
+use meson_calls::variables::Variables;
+use meson_calls::{CallRef, Refusal, Role, Sources, Unloaded};
 use meson_splice::{Change, FileSet, Many};
 use meson_syntax::Parsed;
 use std::alloc::Global;
@@ -35,7 +37,7 @@ pub struct Project {
 
 impl Model for Project {
     ghost use Rattle.std.specs.Coded.{codes};
-    ghost use Rattle.meson_plan.specs.Loading.{Loaded, IsProject};
+    ghost use Rattle.meson_calls.specs.Loading.{Loaded, IsProject};
     ghost use Rattle.meson_syntax.specs.contracts.tree.Stmt as statement;
 
     ghost Value = { Loaded };
@@ -132,11 +134,7 @@ impl Project {
         ensures kept { OnErr result (self.new ≡ self.old) }
     {
         let trees = self.trees.as_slice();
-        let steps = match planned(alloc, &self.files, trees, command) {
-            Ok(steps) => steps,
-            Err(refusal) => return Err(refusal),
-        };
-        let work = match done(alloc, &self.files, trees, steps) {
+        let work = match performed(alloc, &self.files, trees, command) {
             Ok(work) => work,
             Err(refusal) => return Err(refusal),
         };
@@ -154,6 +152,29 @@ impl Project {
             },
             relexed,
         })
+    }
+}
+
+/// Does a command on a copy of the files.
+///
+/// # Errors
+/// The first refusal that holds, or want of memory.
+fn performed(
+    alloc: Global,
+    files: &FileSet,
+    trees: &[Parsed],
+    command: &Command,
+) -> Result<Work, Refusal>
+    requires { IsProject (record { files = files.now; parsed = trees.now }) }
+    ensures done { IfOk result (IsDone (record { files = files.now; parsed = trees.now }) (planned (project (record { files = files.now; parsed = trees.now })) command.now)) }
+    ensures refused { IfErr result (λ e. e ≢ Refusal.OutOfMemory → MayNotBeDone (record { files = files.now; parsed = trees.now }) (planned (project (record { files = files.now; parsed = trees.now })) command.now) e) }
+{
+    match request_of(command) {
+        Some(request) => changed(alloc, files, trees, request),
+        None => match planned(alloc, files, trees, command) {
+            Ok(steps) => done(alloc, files, trees, steps),
+            Err(refusal) => Err(refusal),
+        },
     }
 }
 

@@ -6,10 +6,9 @@ ghost use Rattle.meson_plan.specs.ListSteps.{bare};
 ghost use Rattle.meson_plan.specs.Spots.{after_each, all_there, before_all, is_some_there, spot_at, spot_view, spots_at, spots_of_names};
 ghost use Rattle.meson_plan.specs.SourceEdits.{distinct_spots, moved_up, path_after, removed, same_spot, spot_after};
 
-use crate::call::{CallRef, SourceItem};
-use crate::marks::{Marks, place_of};
-use crate::refusal::Refusal;
 use crate::step::{ListEdit, ListStep, push_step};
+use meson_calls::marks::{Marks, place_of};
+use meson_calls::{CallRef, Refusal, SourceItem};
 use meson_splice::Text;
 use std::alloc::{AllocError, Global};
 

@@ -5,13 +5,13 @@ ghost use Rattle.meson_syntax.specs.Paths.{value_of};
 ghost use Rattle.meson_syntax.specs.Places.{argument_span, expression_span};
 ghost use Rattle.meson_syntax.specs.View.{arg_view, expr_view, view};
 ghost use Rattle.meson_edit.specs.Places.{bracket_offset, element_span, value_span};
-ghost use Rattle.meson_plan.specs.Picking.{Source};
+ghost use Rattle.meson_calls.specs.Picking.{Source};
 
 use meson_lex::Span;
 use meson_syntax::{Arg, Expr, Parsed, Path};
 
 /// Where an expression stands.
-fn span_of(expr: &Expr) -> Span
+pub(crate) fn span_of(expr: &Expr) -> Span
     ensures { (source : Source) → result ≡ expression_span (expr_view source expr.now) }
 {
     match expr {

@@ -1,12 +1,12 @@
-//! The steps of a command: edits of lists, one after another.
+//! The steps of a command: edits of lists and of whole statements, one after another.
 
 ghost use Rattle.std.specs.Prelude.{◌≡◌, ◌++◌, ◌∷◌, [], OnOk};
 
-use crate::call::CallRef;
+use meson_calls::CallRef;
 use meson_splice::Bytes;
 use std::alloc::AllocError;
 
-/// One edit of a list, with the numbers of its elements and the bytes that are written.
+/// One edit of a list or a block, with the numbers of its elements or statements and the bytes that are written.
 #[derive(Debug, Drop)]
 pub(crate) enum ListEdit {
     /// The first element of an empty list.
@@ -19,9 +19,13 @@ pub(crate) enum ListEdit {
     Replace(usize, Bytes),
     /// Its value becomes the array of it.
     Wrap(usize),
+    /// The statement of this number goes.
+    RemoveStatement(usize),
+    /// A statement behind all others of the file.
+    Append(Bytes),
 }
 
-/// An edit of the list of the array or call at a place.
+/// An edit of the list of the array or call at a place, or of the block there.
 #[derive(Debug, Drop)]
 pub(crate) struct ListStep {
     pub list: CallRef,

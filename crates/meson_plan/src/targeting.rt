@@ -2,20 +2,19 @@
 
 ghost use Rattle.std.specs.Prelude.{◌≡◌, ◌≢◌, All, Err, IfErr, IfOk};
 ghost use Rattle.std.specs.Str.{IsUtf8};
-ghost use Rattle.meson_plan.specs.Loading.{AreParsed, HasFileName, named_trees, views};
-ghost use Rattle.meson_plan.specs.Notes.{note_views, notes};
-ghost use Rattle.meson_plan.specs.Strings.{NotesGood};
+ghost use Rattle.meson_calls.specs.Loading.{AreParsed, HasFileName, named_trees, views};
+ghost use Rattle.meson_calls.specs.Notes.{note_views, notes};
+ghost use Rattle.meson_calls.specs.Strings.{NotesGood};
 ghost use Rattle.meson_plan.specs.Targeted.{AreMeant, target_steps};
 
-use crate::arriving::arguments_of;
-use crate::call::Role;
 use crate::editing::{sources_added, sources_removed};
 use crate::extra::{extra_added, extra_removed};
-use crate::note::Note;
-use crate::planning::the_call;
-use crate::refusal::Refusal;
+use crate::finding::the_call;
 use crate::step::ListStep;
-use crate::variables::Variables;
+use meson_calls::arriving::arguments_of;
+use meson_calls::note::Note;
+use meson_calls::variables::Variables;
+use meson_calls::{Refusal, Role};
 use meson_splice::{FileSet, Text};
 use meson_syntax::Parsed;
 use std::alloc::Global;

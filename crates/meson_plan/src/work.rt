@@ -8,19 +8,20 @@ ghost use Rattle.meson_splice.specs.declared.file_set.File.{File};
 ghost use Rattle.meson_syntax.specs.View.{view};
 ghost use Rattle.meson_syntax.specs.declared.tree.Parsed.{Parsed};
 ghost use Rattle.meson_plan.specs.Done.{IsMade, IsOutcome, MayNotBeMade};
-ghost use Rattle.meson_plan.specs.Loading.{IsProject};
+ghost use Rattle.meson_calls.specs.Loading.{IsProject, Loaded};
 ghost use Rattle.meson_plan.specs.OtherValues.{with_some};
 ghost use Rattle.meson_plan.specs.Performing.{AreSmall};
-ghost use Rattle.meson_plan.specs.Picking.{Source};
+ghost use Rattle.meson_calls.specs.Picking.{Source};
 ghost use Rattle.meson_plan.specs.Plans.{Doable};
 ghost use Rattle.meson_plan.specs.Steps as meant;
 ghost use Rattle.meson_plan.specs.Steps.{effective};
-ghost use Rattle.meson_plan.specs.Working.{HasDeep, HasLarge, HasSteps, IsChanged, IsNext, IsShallow, MayChange, Reached, placed_edit};
+ghost use Rattle.meson_plan.specs.Working.{HasDeep, HasLarge, HasSteps, IsChanged, IsNext, IsShallow, IsUnderWay, MayChange, Reached, placed_edit, so_far};
 ghost use Rattle.meson_plan.specs.ListSteps.{bare};
 
-use crate::refusal::Refusal;
 use crate::spans::{bracket_offset, element_span, value_span};
+use crate::statements::statement_span;
 use crate::step::{ListEdit, ListStep};
+use meson_calls::Refusal;
 use meson_edit::nests_within;
 use meson_layout::{Primitive, layout};
 use meson_splice::{Change, FileSet, Many, Splice, SpliceFault, apply_all};
@@ -65,6 +66,11 @@ fn primitive_of(tree: &Parsed, step: ListStep) -> Option<Primitive>
             Some(value) => Some(Primitive::Wrap { value }),
             None => None,
         },
+        ListEdit::RemoveStatement(n) => match statement_span(tree, &list.path, n) {
+            Some(statement) => Some(Primitive::RemoveStatement { statement }),
+            None => None,
+        },
+        ListEdit::Append(new) => Some(Primitive::Append { new }),
     }
 }
 
@@ -120,7 +126,7 @@ fn unread(fault: ParseFault) -> Refusal
 
 impl Work {
     /// Nothing so far, on a copy of the files.
-    fn start(alloc: Global, files: &FileSet) -> Result<Work, Refusal>
+    pub fn start(alloc: Global, files: &FileSet) -> Result<Work, Refusal>
         ensures files { IfOk result (λ w. w.files ≡ files.now) }
         ensures trees { IfOk result (λ w. w.trees.items ≡ replicate (length files.now) None) }
         ensures splices { IfOk result (λ w. w.splices.items ≡ []) }
@@ -144,7 +150,7 @@ impl Work {
     }
 
     /// The tree of a file as the steps so far leave it.
-    fn tree<'w>(&'w self, old: &'w [Parsed], file: usize) -> &'w Parsed
+    pub fn tree<'w>(&'w self, old: &'w [Parsed], file: usize) -> &'w Parsed
         requires new { file < length self.now.trees.items }
         requires old { file < length old.now }
         ensures { (d : Parsed) → result.now ≡ slice_index_or (with_some self.now.trees.items old.now) file d }
@@ -210,6 +216,43 @@ impl Work {
         let Change { splices } = change;
         push_all(&mut self.splices, splices.take())?;
         Ok(())
+    }
+
+    /// Does steps, one after another.
+    ///
+    /// # Errors
+    /// Memory is refused.
+    pub fn do_steps(
+        &mut self,
+        alloc: Global,
+        old: &[Parsed],
+        steps: Vec<ListStep>,
+    ) -> Result<(), Refusal>
+        requires { (first : List File) × ((ss : List meant.Step) × IsUnderWay (record { files = first; parsed = old.now }) ss steps.items self.old) }
+        ensures done { (first : List File) (ss : List meant.Step) → IsUnderWay (record { files = first; parsed = old.now }) ss steps.items self.old → OnOk result (Reached (record { files = first; parsed = old.now }) ss [] self.new) }
+        ensures refused { IfErr result (λ e. e ≡ Refusal.OutOfMemory) }
+    {
+        for step in steps {
+            self.step(alloc, old, step)?;
+        }
+        Ok(())
+    }
+
+    /// The work, where what it made passes no limit.
+    ///
+    /// # Errors
+    /// A limit is passed.
+    pub fn within_limits(self) -> Result<Work, Refusal>
+        ensures done { (old : Loaded) (ss : List meant.Step) → Reached old ss [] self → IfOk result (λ w. IsOutcome old ss w.splices.items (so_far old w) w.relexed) }
+        ensures refused { (old : Loaded) (ss : List meant.Step) → Reached old ss [] self → IfErr result (MayNotBeMade old ss) }
+    {
+        if !self.is_shallow() {
+            return Err(Refusal::TooDeep);
+        }
+        if !self.is_small() {
+            return Err(Refusal::TooLarge);
+        }
+        Ok(self)
     }
 
     /// Whether no changed tree nests too deep.

@@ -72,11 +72,6 @@ fn refuses_and_leaves_the_file(rt: HostRuntime) {
             line: "error: command 0: C8 duplicate keyword: version\n",
         },
         Refused {
-            before: b"project('p', 'c')\n",
-            id: "/",
-            line: "error: command 0: not yet\n",
-        },
-        Refused {
             before: b"x = 1\n",
             id: "/",
             line: "error: command 0: C1 no project\n",

@@ -13,7 +13,7 @@ struct Accepted {
 }
 
 #[test]
-fn replaces_the_version_alone(rt: HostRuntime) {
+fn sets_the_version_alone(rt: HostRuntime) {
     let rows = [
         Accepted {
             shows: "the version of a project",
@@ -28,6 +28,13 @@ fn replaces_the_version_alone(rt: HostRuntime) {
             id: "//",
             value: "1.0.0",
             after: b"project('p', 'c', version: '1.0.0') # v\n",
+        },
+        Accepted {
+            shows: "an absent version is the last argument",
+            before: b"project(\n  'p',\n  'c', # language\n)\n",
+            id: "/",
+            value: "1",
+            after: b"project(\n  'p',\n  'c', # language\n  version: '1',\n)\n",
         },
         Accepted {
             shows: "a quote and a backslash",

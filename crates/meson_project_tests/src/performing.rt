@@ -104,7 +104,6 @@ fn refusals_in_order(rt: HostRuntime) {
         "project('p', version: '1', version: '2', kwargs: k)\n",
     );
     let double: Row<'_> = ("meson.build", "project('p', version: '1', version: '2')\n");
-    let absent: Row<'_> = ("meson.build", "project('p')\n");
     let no_project: Row<'_> = ("meson.build", "executable('p', version: '1')\n");
     assert_refused(&rt, alloc, &unknown, &[no_project], &Refusal::NoProject);
     assert_refused(&rt, alloc, &unknown, &[twice], &Refusal::Ambiguous);
@@ -115,26 +114,6 @@ fn refusals_in_order(rt: HostRuntime) {
     assert_refused(&rt, alloc, &version, &[hidden], &Refusal::HiddenKeywords);
     let name = Refusal::DuplicateKeyword(text(&rt, alloc, "version"));
     assert_refused(&rt, alloc, &version, &[double], &name);
-    assert_refused(&rt, alloc, &version, &[absent], &Refusal::NotYet);
-}
-
-#[test]
-fn commands_that_are_not_done_so_far(rt: HostRuntime) {
-    let alloc = rt.alloc();
-    let rows: &[Row<'_>] = &[("meson.build", "project('p')\nexecutable('t', 'a.c')\n")];
-    let known = Command::TargetInfo {
-        target: text(&rt, alloc, "t"),
-    };
-    assert_refused(&rt, alloc, &known, rows, &Refusal::NotYet);
-    let other = Command::TargetInfo {
-        target: text(&rt, alloc, "u"),
-    };
-    assert_refused(&rt, alloc, &other, rows, &Refusal::NotFound);
-    let elsewhere = Command::KwargsInfo {
-        role: Role::Project,
-        id: text(&rt, alloc, "p"),
-    };
-    assert_refused(&rt, alloc, &elsewhere, rows, &Refusal::NotFound);
 }
 
 /// The file of a project with one keyword argument, inside so many brackets.

@@ -6,8 +6,8 @@ use Rattle.std.proofs.Math.Seq.{take-suc}
 use Rattle.std.proofs.lemmas.List.Elements.{All-nil, All-cons, All-append, All-contains, All-same, Contains-append_right}
 use Rattle.meson_splice.specs.declared.file_set.File.{File}
 use Rattle.meson_splice.specs.Files.{found}
-use Rattle.meson_plan.specs.Directories.{IsFileName}
-use Rattle.meson_plan.specs.Loading.{max_files, HasFileName}
+use Rattle.meson_calls.specs.Directories.{IsFileName}
+use Rattle.meson_calls.specs.Loading.{max_files, HasFileName}
 use Rattle.meson_rewrite.specs.Content.{Content}
 use Rattle.meson_rewrite.specs.Gathering.{file_of, with_more, joined, held, entered, Ending, IsNext}
 use Rattle.meson_rewrite.specs.Gathered.{IsNotEntered, past_limit, at_name, Grows}

@@ -9,10 +9,10 @@ use Rattle.meson_syntax.specs.declared.fault.ParseFault.TheVariants as parse
 use Rattle.meson_syntax.specs.Tree.{Plain}
 use Rattle.meson_syntax.specs.Reads.{Reads, MayRefuse, of_files}
 use Rattle.meson_syntax.proofs.parsing.Refusals.{unreadable-none}
-use Rattle.meson_plan.specs.declared.load_fault.LoadFault.{LoadFault}
-use Rattle.meson_plan.specs.declared.load_fault.LoadFault.TheVariants.{TooManyFiles, BadFileName, Parse, OutOfMemory}
-use Rattle.meson_plan.specs.Directories.{IsFileName}
-use Rattle.meson_plan.specs.Loading.{HasFileName, HasTree, MayNotLoad, name_at}
+use Rattle.meson_calls.specs.declared.load_fault.LoadFault.{LoadFault}
+use Rattle.meson_calls.specs.declared.load_fault.LoadFault.TheVariants.{TooManyFiles, BadFileName, Parse, OutOfMemory}
+use Rattle.meson_calls.specs.Directories.{IsFileName}
+use Rattle.meson_calls.specs.Loading.{HasFileName, HasTree, MayNotLoad, name_at}
 use Rattle.meson_rewrite.specs.Gathered.{IsLoadable}
 
 pub named_at : (files : List File) (i : ℕ) → i < length files → All HasFileName files → IsFileName (name_at i files)

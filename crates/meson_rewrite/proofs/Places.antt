@@ -9,8 +9,8 @@ use Rattle.meson_syntax.specs.declared.fault.ParseFault.{ParseFault}
 use Rattle.meson_syntax.specs.declared.fault.ParseFault.TheVariants as parse
 use Rattle.meson_syntax.specs.Tree.{erase}
 use Rattle.meson_syntax.specs.Reads.{MayRefuse}
-use Rattle.meson_plan.specs.Loading.{name_at, HasTree}
-use Rattle.meson_plan.specs.Subdirs.{Enters}
+use Rattle.meson_calls.specs.Loading.{name_at, HasTree}
+use Rattle.meson_calls.specs.Subdirs.{Enters}
 use Rattle.meson_rewrite.specs.Content.{Content}
 use Rattle.meson_rewrite.specs.Gathering.{file_of, entered, Ending, whole, unparsed, IsNext, Gathers, ended, enters, is_unparsed, is_unread, are_too_many}
 use Rattle.meson_rewrite.specs.Gathered.{IsNotEntered, past_limit, at_name, LooksAt}

@@ -7,7 +7,7 @@ use Rattle.meson_splice.specs.declared.splice.Splice.{Splice}
 use Rattle.meson_splice.specs.Patch.{patched, patched_in, patched_all, then_ok}
 use Rattle.meson_plan.specs.declared.command.Command.{Command}
 use Rattle.meson_plan.specs.declared.command.Done.{Done}
-use Rattle.meson_plan.specs.Loading.{Loaded}
+use Rattle.meson_calls.specs.Loading.{Loaded}
 use Rattle.meson_plan.specs.Performing.{Performs}
 use Rattle.meson_plan.specs.Steps.{Step, StepsMake, none, step}
 

@@ -2,8 +2,8 @@
 use Rattle.std.specs.Prelude.{◌≡◌, ◌≢◌, length}
 use Rattle.meson_plan.specs.declared.command.Command.{Command}
 use Rattle.meson_plan.specs.declared.command.Done as plan
-use Rattle.meson_plan.specs.declared.refusal.Refusal.TheVariants as refusal
-use Rattle.meson_plan.specs.Loading.{Loaded}
+use Rattle.meson_calls.specs.declared.refusal.Refusal.TheVariants as refusal
+use Rattle.meson_calls.specs.Loading.{Loaded}
 use Rattle.meson_plan.specs.Performing.{Performs, MayRefuse}
 use Rattle.meson_rewrite.specs.declared.program.Edit.{Edit}
 use Rattle.meson_rewrite.specs.declared.stop.Stop.{Stop}

@@ -4,9 +4,9 @@ use Rattle.meson_splice.specs.declared.file_set.File.{File}
 use Rattle.meson_splice.specs.Files.{bytes_at}
 use Rattle.meson_syntax.specs.declared.fault.ParseFault.TheVariants as parse
 use Rattle.meson_syntax.specs.Reads.{MayRefuse}
-use Rattle.meson_plan.specs.Directories.{build_file}
-use Rattle.meson_plan.specs.Loading.{max_files, name_at, HasFileName, HasTree}
-use Rattle.meson_plan.specs.Subdirs.{Enters}
+use Rattle.meson_calls.specs.Directories.{build_file}
+use Rattle.meson_calls.specs.Loading.{max_files, name_at, HasFileName, HasTree}
+use Rattle.meson_calls.specs.Subdirs.{Enters}
 use Rattle.meson_rewrite.specs.Content.{Content, Rose}
 use Rattle.meson_rewrite.specs.Gathering.{entered, with_more, IsNext, Ending, rootless, unparsed, unread, too_many}
 use Rattle.meson_rewrite.specs.declared.stop.Stop.{Stop}

@@ -6,9 +6,9 @@ use Rattle.meson_splice.specs.Files.{found}
 use Rattle.meson_syntax.specs.declared.fault.ParseFault.{ParseFault}
 use Rattle.meson_syntax.specs.declared.fault.ParseFault.TheVariants as parse
 use Rattle.meson_syntax.specs.Reads.{MayRefuse}
-use Rattle.meson_plan.specs.Directories.{build_file}
-use Rattle.meson_plan.specs.Loading.{max_files}
-use Rattle.meson_plan.specs.Subdirs.{Enters}
+use Rattle.meson_calls.specs.Directories.{build_file}
+use Rattle.meson_calls.specs.Loading.{max_files}
+use Rattle.meson_calls.specs.Subdirs.{Enters}
 use Rattle.meson_rewrite.specs.Commit.{path_in}
 use Rattle.meson_rewrite.specs.Content.{Content}
 

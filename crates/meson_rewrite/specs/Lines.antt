@@ -4,8 +4,8 @@ use Rattle.meson_lex.specs.declared.fault.LexFault.{LexFault}
 use Rattle.meson_lex.specs.declared.fault.LexFault.TheVariants as lex
 use Rattle.meson_syntax.specs.declared.fault.ParseFault.{ParseFault}
 use Rattle.meson_syntax.specs.declared.fault.ParseFault.TheVariants as parse
-use Rattle.meson_plan.specs.declared.refusal.Refusal.{Refusal}
-use Rattle.meson_plan.specs.declared.refusal.Refusal.TheVariants as refusal
+use Rattle.meson_calls.specs.declared.refusal.Refusal.{Refusal}
+use Rattle.meson_calls.specs.declared.refusal.Refusal.TheVariants as refusal
 use Rattle.meson_rewrite.specs.declared.store_fault.StoreFault.{StoreFault}
 use Rattle.meson_rewrite.specs.declared.store_fault.StoreFault.TheVariants as store
 use Rattle.meson_rewrite.specs.declared.stop.Done.{Done}
@@ -77,7 +77,6 @@ refusal_label refusal.NotStatement = codes "command 0: C15 not a statement"
 refusal_label (refusal.InUse name) = codes "command 0: C16 in use: "
 refusal_label refusal.TooDeep = codes "command 0: C17 too deep"
 refusal_label refusal.TooLarge = codes "command 0: C18 too large"
-refusal_label refusal.NotYet = codes "command 0: not yet"
 refusal_label refusal.OutOfMemory = codes "out of memory"
 
 abbrev pub refusal_about : Refusal → List ℕ

@@ -1,15 +1,15 @@
 -- How a run of the program ends: what it says, and what the store then holds.
 use Rattle.std.specs.Prelude.{◌≡◌, ◌≢◌, ◌⊎◌, ⊤, ℕ, List, [], ◌∷◌, length, codes, Option, Some, None, Result, Ok, Err}
 use Rattle.std.specs.Io.KnownBytes.{Appends}
-use Rattle.meson_plan.specs.declared.call.Role.TheVariants as role
+use Rattle.meson_calls.specs.declared.call.Role.TheVariants as role
 use Rattle.meson_plan.specs.declared.command.Command.{Command}
 use Rattle.meson_plan.specs.declared.command.Command.TheVariants.{KwargsSet}
 use Rattle.meson_plan.specs.declared.command.Done as plan
 use Rattle.meson_plan.specs.declared.command.Setting.TheVariants.{Text}
-use Rattle.meson_plan.specs.declared.refusal.Refusal.{Refusal}
-use Rattle.meson_plan.specs.declared.refusal.Refusal.TheVariants as refusal
-use Rattle.meson_plan.specs.Directories.{build_file}
-use Rattle.meson_plan.specs.Loading.{Loaded, IsProject}
+use Rattle.meson_calls.specs.declared.refusal.Refusal.{Refusal}
+use Rattle.meson_calls.specs.declared.refusal.Refusal.TheVariants as refusal
+use Rattle.meson_calls.specs.Directories.{build_file}
+use Rattle.meson_calls.specs.Loading.{Loaded, IsProject}
 use Rattle.meson_plan.specs.Performing.{Performs, MayRefuse}
 use Rattle.meson_rewrite.specs.Commit.{Put, puts, put_all, HaltsWith}
 use Rattle.meson_rewrite.specs.Content.{Content, Rose}

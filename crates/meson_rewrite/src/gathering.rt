@@ -2,9 +2,9 @@
 
 ghost use Rattle.std.specs.Prelude.{◌≡◌, ◌≤◌, ◌<◌, ◌∷◌, [], ℕ, List, Some, None, Option, All, IfOk, IfErr, OnOk, length, map, option_map, string_bytes, take, drop};
 ghost use Rattle.meson_splice.specs.Files.{bytes_at};
-ghost use Rattle.meson_plan.specs.Directories.{IsFileName, build_file};
-ghost use Rattle.meson_plan.specs.Loading.{HasFileName, HasTree, max_files, name_at};
-ghost use Rattle.meson_plan.specs.Subdirs.{Enters};
+ghost use Rattle.meson_calls.specs.Directories.{IsFileName, build_file};
+ghost use Rattle.meson_calls.specs.Loading.{HasFileName, HasTree, max_files, name_at};
+ghost use Rattle.meson_calls.specs.Subdirs.{Enters};
 ghost use Rattle.meson_rewrite.specs.Gathering.{Collects, Finds, Gathers, Told, entered, file_of, held, whole, with_more};
 ghost use Rattle.meson_rewrite.specs.Gathered.{Grows, IsLoadable, IsNotAdded, IsNotEntered, IsUnread, LooksAt, StopsAt, StopsLooking};
 

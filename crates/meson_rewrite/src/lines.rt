@@ -132,7 +132,6 @@ fn refusal_label(refusal: &Refusal) -> &'static str
         Refusal::InUse(_) => "error: command 0: C16 in use: ",
         Refusal::TooDeep => "error: command 0: C17 too deep",
         Refusal::TooLarge => "error: command 0: C18 too large",
-        Refusal::NotYet => "error: command 0: not yet",
         Refusal::OutOfMemory => "error: out of memory",
     }
 }

@@ -2,7 +2,7 @@
 
 ghost use Rattle.std.specs.Prelude.{◌≡◌, ◌≤◌, ◌⊎◌, IfErr, IfOk, OnOk, length, map, option_map, string_bytes};
 ghost use Rattle.std.specs.Io.KnownBytes.{Appends};
-ghost use Rattle.meson_plan.specs.Loading.{IsProject};
+ghost use Rattle.meson_calls.specs.Loading.{IsProject};
 ghost use Rattle.meson_rewrite.specs.Commit.{CommitFails, put_all, puts};
 ghost use Rattle.meson_rewrite.specs.Edited.{IsEdited, IsNotEdited};
 ghost use Rattle.meson_rewrite.specs.Gathered.{IsLoadable, StopsAt};

@@ -30,7 +30,7 @@ module _ (items : List Lexeme) (s : Span) (words rest : List Word) (l : LineStan
     to = l.to ∙ ap (λ own. length (joined (l.left ++ own))) l.tight.begins;
   }
 
-  abbrev line-place : StatementIn items s l.more
+  abbrev pub line-place : StatementIn items s l.more
   line-place = record {
     left = l.left;
     own = l.own;

@@ -5,7 +5,7 @@ use Rattle.meson_syntax.specs.Paths.{ListAt, list_at}
 use Rattle.std.specs.Prelude.{option_map}
 use Rattle.meson_syntax.specs.View.{args_view, view}
 use Rattle.meson_plan.specs.SourceEdits.{is_plain}
-use Rattle.meson_plan.proofs.Loads.{as_many}
+use Rattle.meson_calls.proofs.Loads.{as_many}
 use Rattle.meson_plan.proofs.Plains.{no_plains, plains_nowhere, plains_there}
 use Rattle.meson_lex.specs.declared.kinds.Span.{Span}
 use Rattle.meson_plan.proofs.editing.plain_len.Goals as goal

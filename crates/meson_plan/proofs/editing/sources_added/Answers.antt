@@ -1,14 +1,14 @@
 use Rattle.std.proofs.Common.{◌≡◌, ◌<◌, ◌≤◌, ◌++◌, length, map, sym, ap, ◌∙◌, subst}
 use Rattle.std.specs.Prelude.{Some, Ok, Err}
-use Rattle.meson_plan.specs.declared.refusal.Refusal.TheVariants.{DuplicateKeyword}
-use Rattle.meson_plan.specs.Calls.{value_with_name}
-use Rattle.meson_plan.specs.Expansion.{max_followed}
+use Rattle.meson_calls.specs.declared.refusal.Refusal.TheVariants.{DuplicateKeyword}
+use Rattle.meson_calls.specs.Calls.{value_with_name}
+use Rattle.meson_calls.specs.Expansion.{max_followed}
 use Rattle.meson_plan.specs.ListSteps.{bare}
-use Rattle.meson_plan.specs.Named.{project_of}
+use Rattle.meson_calls.specs.Named.{project_of}
 use Rattle.meson_plan.specs.Naming.{new_among}
-use Rattle.meson_plan.specs.Sourced.{kept_args, all_gathered}
+use Rattle.meson_calls.specs.Sourced.{kept_args, all_gathered}
 use Rattle.meson_plan.specs.SourceEdits.{checked_names, inserted}
-use Rattle.meson_plan.specs.Tallies.{gathered}
+use Rattle.meson_calls.specs.Tallies.{gathered}
 use Rattle.meson_plan.proofs.SourcesMeant.{added, added_twice}
 use Rattle.meson_plan.proofs.editing.sources_added.Goals as goal
 

@@ -1,14 +1,14 @@
 use Rattle.std.proofs.Common.{◌≡◌, ◌<◌, ◌≤◌, [], length, map, sym, ap, ◌∙◌, subst}
 use Rattle.std.specs.Prelude.{Ok, Err}
-use Rattle.meson_plan.specs.declared.refusal.Refusal.TheVariants.{DuplicateKeyword}
-use Rattle.meson_plan.specs.Calls.{value_with_name}
-use Rattle.meson_plan.specs.Expansion.{max_followed}
-use Rattle.meson_plan.specs.Named.{project_of}
-use Rattle.meson_plan.specs.Sourced.{kept_args, all_gathered}
+use Rattle.meson_calls.specs.declared.refusal.Refusal.TheVariants.{DuplicateKeyword}
+use Rattle.meson_calls.specs.Calls.{value_with_name}
+use Rattle.meson_calls.specs.Expansion.{max_followed}
+use Rattle.meson_calls.specs.Named.{project_of}
+use Rattle.meson_calls.specs.Sourced.{kept_args, all_gathered}
 use Rattle.meson_plan.specs.SourceEdits.{checked_names, removed, distinct_spots}
 use Rattle.meson_plan.specs.ListSteps.{bare}
 use Rattle.meson_plan.specs.Spots.{spot_view, spots_of_names}
-use Rattle.meson_plan.specs.Tallies.{gathered}
+use Rattle.meson_calls.specs.Tallies.{gathered}
 use Rattle.meson_plan.proofs.Marked.{as_many_numbers}
 use Rattle.meson_plan.proofs.SourcesMeant.{ms, fields, removed_twice, gone, not_gone}
 use Rattle.meson_plan.proofs.editing.sources_removed.Goals as goal

@@ -1,10 +1,10 @@
 use Rattle.std.proofs.Common.{◌≡◌, ◌<◌, ◌≤◌, length, sym, ap, ◌∙◌, subst}
 use Rattle.std.specs.Prelude.{Ok, Err}
-use Rattle.meson_plan.specs.declared.refusal.Refusal.TheVariants.{DuplicateKeyword}
-use Rattle.meson_plan.specs.Calls.{value_with_name}
-use Rattle.meson_plan.specs.Named.{project_of}
-use Rattle.meson_plan.specs.Sources.{kwargs_key}
-use Rattle.meson_plan.specs.Sourced.{kept_args}
+use Rattle.meson_calls.specs.declared.refusal.Refusal.TheVariants.{DuplicateKeyword}
+use Rattle.meson_calls.specs.Calls.{value_with_name}
+use Rattle.meson_calls.specs.Named.{project_of}
+use Rattle.meson_calls.specs.Sources.{kwargs_key}
+use Rattle.meson_calls.specs.Sourced.{kept_args}
 use Rattle.meson_plan.specs.SourceEdits.{checked_names}
 use Rattle.meson_plan.proofs.ExtrasMeant.{extra_once, extra_twice}
 use Rattle.meson_plan.proofs.extra.checked_extra.Goals as goal

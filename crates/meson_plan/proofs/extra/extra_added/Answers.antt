@@ -1,12 +1,12 @@
 use Rattle.std.proofs.Common.{◌++◌, length, map, sym, ap, ◌∙◌, subst}
 use Rattle.std.specs.Prelude.{Some}
-use Rattle.meson_plan.specs.Calls.{value_with_name}
+use Rattle.meson_calls.specs.Calls.{value_with_name}
 use Rattle.meson_plan.specs.ListSteps.{bare}
-use Rattle.meson_plan.specs.Named.{project_of}
+use Rattle.meson_calls.specs.Named.{project_of}
 use Rattle.meson_plan.specs.Naming.{new_among}
-use Rattle.meson_plan.specs.Sourced.{kept_args}
+use Rattle.meson_calls.specs.Sourced.{kept_args}
 use Rattle.meson_plan.specs.SourceEdits.{extra_key, inserted}
-use Rattle.meson_plan.specs.Tallies.{gathered}
+use Rattle.meson_calls.specs.Tallies.{gathered}
 use Rattle.meson_plan.specs.Targeted.{AreBehind, lone_or_new}
 use Rattle.meson_plan.proofs.ExtrasAdded.{added_unchecked, home_meant, call_meant, call_refused}
 use Rattle.meson_plan.proofs.extra.extra_added.Goals as goal

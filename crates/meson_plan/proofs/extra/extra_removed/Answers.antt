@@ -1,9 +1,9 @@
 use Rattle.std.proofs.Common.{[], map, sym, ap, ◌∙◌}
 use Rattle.meson_plan.specs.ListSteps.{bare}
-use Rattle.meson_plan.specs.Named.{project_of}
+use Rattle.meson_calls.specs.Named.{project_of}
 use Rattle.meson_plan.specs.SourceEdits.{removed, distinct_spots}
 use Rattle.meson_plan.specs.Spots.{spot_view, spots_of_names}
-use Rattle.meson_plan.specs.Tallies.{gathered}
+use Rattle.meson_calls.specs.Tallies.{gathered}
 use Rattle.meson_plan.proofs.Marked.{as_many_numbers}
 use Rattle.meson_plan.proofs.ExtrasMeant.{extras, extra_fields, extra_unchecked, extra_gone, extra_not_gone}
 use Rattle.meson_plan.proofs.extra.extra_removed.Goals as goal

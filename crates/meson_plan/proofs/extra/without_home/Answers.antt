@@ -1,8 +1,8 @@
 use Rattle.std.proofs.Common.{◌≡◌, ◌<◌, length, map, sym, ◌∙◌, subst, arith}
 use Rattle.std.specs.Prelude.{OnOk, IfErr, Err, ◌≢◌}
-use Rattle.meson_plan.specs.declared.refusal.Refusal.TheVariants.{OutOfMemory}
+use Rattle.meson_calls.specs.declared.refusal.Refusal.TheVariants.{OutOfMemory}
 use Rattle.std.proofs.lemmas.List.{length-map}
-use Rattle.meson_plan.specs.Keywords.{IsFirstNamed}
+use Rattle.meson_calls.specs.Keywords.{IsFirstNamed}
 use Rattle.meson_plan.specs.Targeted.{AreBehind}
 use Rattle.meson_plan.proofs.ExtrasAdded.{lone, not_a_name, pair_no_name}
 use Rattle.meson_plan.proofs.ExtrasAdded.{good_value}

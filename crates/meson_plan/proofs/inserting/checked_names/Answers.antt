@@ -3,7 +3,7 @@ use Rattle.std.specs.Prelude.{All, false, ◌==◌}
 use Rattle.std.specs.Str.{IsUtf8}
 use Rattle.std.proofs.lemmas.List.{take_all, at_drop_more}
 use Rattle.meson_plan.specs.SourceEdits.{checked_names}
-use Rattle.meson_plan.proofs.Loads.{all_more}
+use Rattle.meson_calls.proofs.Loads.{all_more}
 use Rattle.meson_plan.proofs.inserting.checked_names.Goals as goal
 
 behind_name : (x : List ℕ) (xs : List (List ℕ)) → (length x == 0) ≡ false → checked_names xs ≡ checked_names (x ∷ xs)

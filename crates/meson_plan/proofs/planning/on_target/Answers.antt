@@ -1,7 +1,7 @@
 use Rattle.std.proofs.Common.{◌≡◌, ◌≢◌, subst}
 use Rattle.std.specs.Prelude.{Err, IfErr, IfOk}
-use Rattle.meson_plan.specs.declared.refusal.Refusal.TheVariants.{OutOfMemory}
-use Rattle.meson_plan.specs.Loading.{Loaded, project}
+use Rattle.meson_calls.specs.declared.refusal.Refusal.TheVariants.{OutOfMemory}
+use Rattle.meson_calls.specs.Loading.{Loaded, project}
 use Rattle.meson_plan.specs.Plans.{ArePlanned}
 use Rattle.meson_plan.specs.Targeted.{target_steps}
 use Rattle.meson_plan.proofs.Planned.{all_mean}

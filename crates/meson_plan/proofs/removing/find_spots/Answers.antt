@@ -1,7 +1,7 @@
 use Rattle.std.proofs.Common.{◌+◌, ◌<◌, [], ◌∷◌, map, drop, get_or, length, sym, ap, ◌∙◌, arith}
 use Rattle.std.specs.Prelude.{None, bytes_eq, option_map, ◌||◌}
 use Rattle.std.proofs.lemmas.List.{map-append}
-use Rattle.meson_plan.specs.declared.call.SourceItem.{SourceItem}
+use Rattle.meson_calls.specs.declared.call.SourceItem.{SourceItem}
 use Rattle.meson_plan.specs.Spots.{all_there, before_all, is_some_there, spot_at, spot_view, spots_at}
 use Rattle.meson_plan.proofs.SpotsFound.{spot_here, no_spot_here, one_before, some_spot}
 use Rattle.meson_plan.proofs.removing.find_spots.Goals as goal

@@ -3,7 +3,7 @@ use Rattle.std.specs.Prelude.{Some}
 use Rattle.std.proofs.lemmas.List.{map-append, append_assoc}
 use Rattle.meson_plan.specs.declared.step.ListEdit.TheVariants as code
 use Rattle.meson_plan.specs.declared.removing.Spot as code_spot
-use Rattle.meson_plan.specs.Project.{place}
+use Rattle.meson_calls.specs.Project.{place}
 use Rattle.meson_plan.specs.SourceEdits.{spot_after}
 use Rattle.meson_plan.specs.Spots.{after_each, spot_view}
 use Rattle.meson_plan.proofs.Renamed.{removal, steps_left, none_gone, one_gone}

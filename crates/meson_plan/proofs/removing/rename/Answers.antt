@@ -1,6 +1,6 @@
 use Rattle.std.proofs.Common.{◌≡◌, length, sym, ap, ◌∙◌, arith}
 use Rattle.std.proofs.lemmas.List.{with_items_is}
-use Rattle.meson_plan.specs.Project.{place}
+use Rattle.meson_calls.specs.Project.{place}
 use Rattle.std.specs.Cmp.Lexicographic.{pointwise}
 use Rattle.std.specs.Prelude.{true, false, nat_eq, if◌then◌else◌}
 use Rattle.std.specs.Vec.{with_items}

@@ -1,7 +1,7 @@
 use Rattle.std.proofs.Common.{ap, ◌∙◌, sym}
 use Rattle.meson_syntax.specs.Places.{argument_span}
 use Rattle.meson_syntax.specs.View.{arg_view}
-use Rattle.meson_plan.proofs.ArgumentValues.{plain_view}
+use Rattle.meson_calls.proofs.ArgumentViews.{plain_view}
 use Rattle.meson_plan.proofs.spans.span_of_element.Goals as goal
 
 pub returns-in-Plain : goal.returns-in-Plain

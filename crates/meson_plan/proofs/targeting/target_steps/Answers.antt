@@ -4,19 +4,19 @@ use Rattle.meson_splice.specs.Files.{bytes_at}
 use Rattle.meson_splice.specs.Patch.{then_ok}
 use Rattle.meson_syntax.specs.Paths as paths
 use Rattle.meson_syntax.specs.View.{expr_view, list_view, view}
-use Rattle.meson_plan.specs.declared.call.Role.TheVariants as role
-use Rattle.meson_plan.specs.declared.refusal.Refusal.TheVariants.{OutOfMemory}
+use Rattle.meson_calls.specs.declared.call.Role.TheVariants as role
+use Rattle.meson_calls.specs.declared.refusal.Refusal.TheVariants.{OutOfMemory}
 use Rattle.meson_plan.specs.declared.targeting.Change.TheVariants as change
-use Rattle.meson_plan.specs.GoodLists.{GoodListing}
-use Rattle.meson_plan.specs.Loading.{named_trees, views}
-use Rattle.meson_plan.specs.Named.{project_of}
+use Rattle.meson_calls.specs.GoodLists.{GoodListing}
+use Rattle.meson_calls.specs.Loading.{named_trees, views}
+use Rattle.meson_calls.specs.Named.{project_of}
 use Rattle.meson_plan.specs.Planning.{the_call}
-use Rattle.meson_plan.specs.Replacing.{the_place}
-use Rattle.meson_plan.specs.Strings.{NotesGood}
+use Rattle.meson_plan.specs.OnePlace.{the_place}
+use Rattle.meson_calls.specs.Strings.{NotesGood}
 use Rattle.meson_plan.specs.Targeted.{AreMeant, change_steps, target_steps}
-use Rattle.meson_plan.proofs.CallsAt.{listing_good}
-use Rattle.meson_plan.proofs.GoodNotes.{project_good}
-use Rattle.meson_plan.proofs.Loads.{as_many}
+use Rattle.meson_calls.proofs.CallsAt.{listing_good}
+use Rattle.meson_calls.proofs.GoodNotes.{project_good}
+use Rattle.meson_calls.proofs.Loads.{as_many}
 use Rattle.meson_plan.proofs.OneCall.{place_is, call_refused}
 use Rattle.meson_plan.proofs.TargetCalls.{inside_trees, some_value, some_call, function, steps_are, as_many_there, same_project}
 use Rattle.meson_plan.proofs.targeting.target_steps.Goals as goal

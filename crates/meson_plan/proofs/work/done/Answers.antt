@@ -3,7 +3,7 @@ use Rattle.std.specs.Vec.Iter.{into_iter_items}
 use Rattle.std.proofs.lemmas.List.{append_assoc, map-id}
 use Rattle.std.proofs.lemmas.Iterator.Adapters.{YieldsList-from_vec}
 use Rattle.std.proofs.lemmas.Iterator.Consumers.{YieldsList-end}
-use Rattle.meson_plan.specs.Loading.{Loaded}
+use Rattle.meson_calls.specs.Loading.{Loaded}
 use Rattle.meson_plan.specs.Plans.{Doable}
 use Rattle.meson_plan.proofs.UnderWay.{under_way_first, next_step, under_way_more, too_deep, too_large, is_outcome}
 use Rattle.meson_plan.proofs.work.done.Goals as goal

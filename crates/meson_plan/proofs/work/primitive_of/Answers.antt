@@ -32,5 +32,14 @@ returns-in-Replace c = λ source. ap (option_map (λ s. layout.Replace s c.in-Re
 pub returns-in-Some-value_span-2 : goal.returns-in-Some-value_span-2
 returns-in-Some-value_span-2 c = λ source. ap (option_map (layout.Wrap)) (c.in-Some-value_span-2.ensures source) ∙ ap (placed_edit (view source c.args.tree.now) c.args.step.list.path.steps) (sym c.in-Wrap.is)
 
+pub returns-in-Wrap : goal.returns-in-Wrap
+returns-in-Wrap c = λ source. ap (option_map (layout.Wrap)) (c.in-None-value_span-2.ensures source) ∙ ap (placed_edit (view source c.args.tree.now) c.args.step.list.path.steps) (sym c.in-Wrap.is)
+
+pub returns-in-Some-statement_span : goal.returns-in-Some-statement_span
+returns-in-Some-statement_span c = λ source. ap (option_map (layout.RemoveStatement)) (c.in-Some-statement_span.ensures source) ∙ ap (placed_edit (view source c.args.tree.now) c.args.step.list.path.steps) (sym c.in-RemoveStatement.is)
+
+pub returns-in-RemoveStatement : goal.returns-in-RemoveStatement
+returns-in-RemoveStatement c = λ source. ap (option_map (layout.RemoveStatement)) (c.in-None-statement_span.ensures source) ∙ ap (placed_edit (view source c.args.tree.now) c.args.step.list.path.steps) (sym c.in-RemoveStatement.is)
+
 pub returns : goal.returns
-returns c = λ source. ap (option_map (layout.Wrap)) (c.in-None-value_span-2.ensures source) ∙ ap (placed_edit (view source c.args.tree.now) c.args.step.list.path.steps) (sym c.in-Wrap.is)
+returns c = λ source. ap (placed_edit (view source c.args.tree.now) c.args.step.list.path.steps) (sym c.in-Append.is)

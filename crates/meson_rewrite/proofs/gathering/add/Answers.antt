@@ -1,7 +1,7 @@
 use Rattle.std.proofs.Common.{◌<◌, length, subst, sym, arith}
 use Rattle.std.specs.Prelude.{string_bytes}
-use Rattle.meson_plan.specs.Directories.{IsFileName}
-use Rattle.meson_plan.specs.Loading.{max_files}
+use Rattle.meson_calls.specs.Directories.{IsFileName}
+use Rattle.meson_calls.specs.Loading.{max_files}
 use Rattle.meson_rewrite.specs.Gathering.{file_of}
 use Rattle.meson_rewrite.proofs.EnteredFiles.{grows_one}
 use Rattle.meson_rewrite.proofs.gathering.add.Goals as goal

@@ -2,8 +2,8 @@ use Rattle.std.proofs.Common.{◌≡◌, ◌<◌, ◌≤◌, ◌+◌, [], ◌∷
 use Rattle.std.specs.Prelude.{All}
 use Rattle.std.proofs.lemmas.List.{take_all}
 use Rattle.std.proofs.lemmas.List.Elements.{All-cons, All-nil, All-append}
-use Rattle.meson_plan.specs.Directories.{build_file}
-use Rattle.meson_plan.specs.Loading.{max_files, HasFileName, HasTree}
+use Rattle.meson_calls.specs.Directories.{build_file}
+use Rattle.meson_calls.specs.Loading.{max_files, HasFileName, HasTree}
 use Rattle.meson_rewrite.specs.Gathering.{Told, Finds, Ending, Gathers, file_of, from_root, whole}
 use Rattle.meson_rewrite.proofs.Places.{looks, trees_more, ended_all}
 use Rattle.meson_rewrite.proofs.Stopping.{stops_within}

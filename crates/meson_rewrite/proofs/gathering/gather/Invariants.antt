@@ -1,6 +1,6 @@
 use Rattle.std.proofs.Common.{◌≡◌, ◌≤◌, ◌-◌, length, take, drop, option_map}
 use Rattle.std.specs.Prelude.{All}
-use Rattle.meson_plan.specs.Loading.{max_files, HasFileName, HasTree}
+use Rattle.meson_calls.specs.Loading.{max_files, HasFileName, HasTree}
 use Rattle.meson_rewrite.specs.Gathering.{Told, Ending, Gathers, Collects}
 use Rattle.meson_rewrite.proofs.gathering.gather.Given as goal
 

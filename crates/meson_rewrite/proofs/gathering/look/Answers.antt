@@ -1,6 +1,6 @@
 use Rattle.std.proofs.Common.{◌≡◌, ◌≤◌, ◌∙◌, Some, sym, ap, subst, map, option_map, take, drop, string_bytes, arith}
 use Rattle.meson_splice.specs.Files.{bytes_at}
-use Rattle.meson_plan.specs.Loading.{name_at, HasTree}
+use Rattle.meson_calls.specs.Loading.{name_at, HasTree}
 use Rattle.meson_rewrite.specs.Gathering.{Told, Ending, Gathers, entered, file_of}
 use Rattle.meson_rewrite.specs.Gathered.{IsNotEntered, LooksAt, StopsAt}
 use Rattle.meson_rewrite.proofs.Places.{enters_tree, not_entered, not_parsed}

@@ -2,8 +2,8 @@ use Rattle.std.proofs.Common.{rules, [], ◌∙◌, subst, sym, map, string_byte
 use Rattle.meson_splice.specs.declared.file_set.File.{File}
 use Rattle.meson_splice.specs.Files.{bytes_at}
 use Rattle.meson_syntax.specs.Reads.{MayRefuse}
-use Rattle.meson_plan.specs.Directories.{IsFileName}
-use Rattle.meson_plan.specs.Subdirs.{Enters}
+use Rattle.meson_calls.specs.Directories.{IsFileName}
+use Rattle.meson_calls.specs.Subdirs.{Enters}
 use Rattle.meson_rewrite.proofs.EnteredNames.{names_named}
 use Rattle.meson_rewrite.proofs.Loadable.{name_of, named_at}
 use Rattle.meson_rewrite.proofs.gathering.names_in.Goals as goal

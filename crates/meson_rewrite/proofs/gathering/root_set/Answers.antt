@@ -1,6 +1,6 @@
 use Rattle.std.proofs.Common.{◌++◌, ◌∷◌, [], ◌∙◌, sym, ap, option_map}
 use Rattle.std.specs.Prelude.{string_bytes}
-use Rattle.meson_plan.specs.Directories.{build_file}
+use Rattle.meson_calls.specs.Directories.{build_file}
 use Rattle.meson_rewrite.specs.Gathering.{Finds, file_of, no_root, unread_root}
 use Rattle.meson_rewrite.proofs.Stopping.{unread_stops}
 use Rattle.meson_rewrite.proofs.gathering.root_set.Goals as goal

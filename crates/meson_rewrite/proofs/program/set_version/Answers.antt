@@ -1,5 +1,5 @@
 use Rattle.std.proofs.Common.{option_map, subst}
-use Rattle.meson_plan.specs.Loading.{IsProject}
+use Rattle.meson_calls.specs.Loading.{IsProject}
 use Rattle.meson_rewrite.specs.Runs.{Edits, version_command}
 use Rattle.meson_rewrite.proofs.Endings.{replaced, not_written}
 use Rattle.meson_rewrite.proofs.SameNames.{edit_names}

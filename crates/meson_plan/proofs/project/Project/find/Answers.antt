@@ -1,12 +1,12 @@
 use Rattle.std.proofs.Common.{length, ◌∙◌, sym, ap, subst}
-use Rattle.meson_plan.specs.Roles.{found, places}
-use Rattle.meson_plan.specs.Loading.{named_trees, views, project}
-use Rattle.meson_plan.specs.Notes.{notes, note_views}
-use Rattle.meson_plan.specs.Picking.{found_places}
-use Rattle.meson_plan.specs.Strings.{NotesGood}
-use Rattle.meson_plan.proofs.Loads.{as_many}
-use Rattle.meson_plan.proofs.Picked.{found_notes}
-use Rattle.meson_plan.proofs.GoodNotes.{project_good}
+use Rattle.meson_calls.specs.Roles.{found, places}
+use Rattle.meson_calls.specs.Loading.{named_trees, views, project}
+use Rattle.meson_calls.specs.Notes.{notes, note_views}
+use Rattle.meson_calls.specs.Picking.{found_places}
+use Rattle.meson_calls.specs.Strings.{NotesGood}
+use Rattle.meson_calls.proofs.Loads.{as_many}
+use Rattle.meson_calls.proofs.Picked.{found_notes}
+use Rattle.meson_calls.proofs.GoodNotes.{project_good}
 use Rattle.meson_plan.proofs.project.Project.find.Goals as goal
 
 pub notes_of-requires : goal.notes_of-requires

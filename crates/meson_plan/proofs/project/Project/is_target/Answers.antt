@@ -1,7 +1,7 @@
 use Rattle.std.proofs.Common.{length, ◌∙◌, ap}
-use Rattle.meson_plan.specs.Roles.{is_target}
-use Rattle.meson_plan.specs.Loading.{named_trees, views, project}
-use Rattle.meson_plan.proofs.Loads.{as_many}
+use Rattle.meson_calls.specs.Roles.{is_target}
+use Rattle.meson_calls.specs.Loading.{named_trees, views, project}
+use Rattle.meson_calls.proofs.Loads.{as_many}
 use Rattle.meson_plan.proofs.project.Project.is_target.Goals as goal
 
 pub is_target-requires : goal.is_target-requires

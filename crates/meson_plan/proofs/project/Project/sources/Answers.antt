@@ -1,9 +1,9 @@
 use Rattle.std.proofs.Common.{length, ◌∙◌, sym, ap, subst}
-use Rattle.meson_plan.specs.Loading.{AreParsed, named_trees, views}
-use Rattle.meson_plan.specs.Notes.{notes, note_views}
-use Rattle.meson_plan.specs.Strings.{NotesGood}
-use Rattle.meson_plan.proofs.Loads.{as_many}
-use Rattle.meson_plan.proofs.GoodNotes.{project_good}
+use Rattle.meson_calls.specs.Loading.{AreParsed, named_trees, views}
+use Rattle.meson_calls.specs.Notes.{notes, note_views}
+use Rattle.meson_calls.specs.Strings.{NotesGood}
+use Rattle.meson_calls.proofs.Loads.{as_many}
+use Rattle.meson_calls.proofs.GoodNotes.{project_good}
 use Rattle.meson_plan.proofs.project.Project.sources.Goals as goal
 
 pub notes_of-requires : goal.notes_of-requires

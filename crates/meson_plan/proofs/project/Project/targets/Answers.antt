@@ -1,11 +1,11 @@
 use Rattle.std.proofs.Common.{length, ◌∙◌, ap}
-use Rattle.meson_plan.specs.declared.call.Role.TheVariants as role
-use Rattle.meson_plan.specs.Roles.{targets}
-use Rattle.meson_plan.specs.Loading.{named_trees, views, project}
-use Rattle.meson_plan.specs.Notes.{notes, note_views}
-use Rattle.meson_plan.specs.Picking.{places_with_role}
-use Rattle.meson_plan.proofs.Loads.{as_many}
-use Rattle.meson_plan.proofs.Picked.{role_places}
+use Rattle.meson_calls.specs.declared.call.Role.TheVariants as role
+use Rattle.meson_calls.specs.Roles.{targets}
+use Rattle.meson_calls.specs.Loading.{named_trees, views, project}
+use Rattle.meson_calls.specs.Notes.{notes, note_views}
+use Rattle.meson_calls.specs.Picking.{places_with_role}
+use Rattle.meson_calls.proofs.Loads.{as_many}
+use Rattle.meson_calls.proofs.Picked.{role_places}
 use Rattle.meson_plan.proofs.project.Project.targets.Goals as goal
 
 pub notes_of-requires : goal.notes_of-requires

@@ -1,6 +1,6 @@
 use Rattle.std.proofs.Common.{◌<◌, [], length, arith}
 use Rattle.meson_splice.specs.declared.file_set.File.{File}
-use Rattle.meson_plan.specs.Loading.{Loaded}
+use Rattle.meson_calls.specs.Loading.{Loaded}
 use Rattle.meson_plan.proofs.StepTaken.{empty_list, some_list, when_ok, code_in_files, code_in_trees, code_in_old, code_laid, code_may, code_ready, code_same, code_new}
 use Rattle.meson_plan.proofs.work.Work.step.Goals as goal
 use Rattle.meson_plan.proofs.work.Work.step.Goals.{then-file-old-via-then-file-old, then-file-old-via-else-file-old+then-file-len}

@@ -1,0 +1,26 @@
+-- Arguments of the code and what they stand for.
+use Rattle.std.proofs.Common.{rules, ◌≡◌, ℕ, zero, suc, ◌<◌, ◌≤◌, List, [], ◌∷◌, length, get_or, Some, None, refl, arith}
+use Rattle.meson_lex.specs.declared.kinds.Span.{Span}
+use Rattle.meson_syntax.specs.declared.tree.Arg.{Arg}
+use Rattle.meson_syntax.specs.declared.tree.Arg.TheVariants as arg
+use Rattle.meson_syntax.specs.declared.tree.Arg.TheFolds.{the_lemmas}
+use Rattle.meson_syntax.specs.declared.tree.Expr.{Expr}
+use Rattle.meson_syntax.specs.Paths.{nth}
+use Rattle.meson_syntax.specs.Tree.{plain, named}
+use Rattle.meson_syntax.specs.View.{arg_view, args_view, expr_view, text_at}
+
+pub plain_view : (source : List ℕ) (e : Expr) → arg_view source (arg.Plain e) ≡ plain (expr_view source e)
+plain_view source e = search (rules, the_lemmas)
+
+pub named_view : (source : List ℕ) (s x : Span) (e : Expr) → arg_view source (arg.Named s x e) ≡ named s (text_at source x) (expr_view source e)
+named_view source s x e = search (rules, the_lemmas)
+
+pub nth_there : (source : List ℕ) (args : List Arg) (n : ℕ) (d : Arg) → n < length args → nth (args_view source args) n ≡ Some (arg_view source (get_or args n d))
+nth_there source [] n d within = absurd (omega (arith, within))
+nth_there source (a ∷ args) zero d within = refl
+nth_there source (a ∷ args) (suc n) d within = let below : n < length args = omega (arith, within) in nth_there source args n d below
+
+pub nth_past : (source : List ℕ) (args : List Arg) (n : ℕ) → length args ≤ n → nth (args_view source args) n ≡ None
+nth_past source [] n past = refl
+nth_past source (a ∷ args) zero past = absurd (omega (arith, past))
+nth_past source (a ∷ args) (suc n) past = let below : length args ≤ n = omega (arith, past) in nth_past source args n below

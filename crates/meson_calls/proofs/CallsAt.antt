@@ -1,0 +1,111 @@
+-- The call at a place, and the strings in it.
+use Rattle.std.proofs.Common.{◌≡◌, ◌≢◌, ℕ, zero, suc, ◌<◌, List, [], ◌∷◌, ◌++◌, length, get_or, refl, sym, ap, ◌∙◌, subst, arith}
+use Rattle.std.specs.Prelude.{Option, Some, None, option_map, option_and_then, false, Result, Ok, Err, IfOk, IfErr}
+use Rattle.meson_lex.specs.declared.kinds.Span.{Span}
+use Rattle.meson_splice.specs.declared.file_set.File.{File}
+use Rattle.meson_splice.specs.Files.{bytes_at}
+use Rattle.meson_syntax.specs.declared.operator.Bracket.TheVariants as bracket
+use Rattle.meson_syntax.specs.declared.tree.Parsed.{Parsed}
+use Rattle.meson_syntax.specs.Tree.{Expression, call, Listing, erase}
+use Rattle.meson_syntax.specs.Tree as tree
+use Rattle.meson_syntax.specs.Grammar.{expression_words, file_words}
+use Rattle.meson_syntax.specs.Paths.{Sort, of_expression, of_statement, of_block, Node, node_words, expression_of, reach, block_of}
+use Rattle.meson_syntax.specs.Paths as paths
+use Rattle.meson_syntax.specs.Reads.{IsSpanned}
+use Rattle.meson_syntax.specs.View.{view}
+use Rattle.meson_syntax.proofs.parsing.FileErased.{file-words-erased}
+use Rattle.meson_syntax.proofs.paths.Reaching.{and-then-some, reach-fits}
+use Rattle.meson_calls.specs.declared.call.CallRef.{CallRef}
+use Rattle.meson_calls.specs.declared.call.Sources as found
+use Rattle.meson_calls.specs.declared.refusal.Refusal.{Refusal}
+use Rattle.meson_calls.specs.declared.refusal.Refusal.TheVariants.{OutOfMemory}
+use Rattle.meson_calls.specs.Project.{Project, BuildFile, nth_file, placed}
+use Rattle.meson_calls.specs.Calls.{Call, call_of}
+use Rattle.meson_calls.specs.GoodLists.{GoodListing}
+use Rattle.meson_calls.specs.Loading.{AreParsed, named_trees, views}
+use Rattle.meson_calls.specs.declared.call.Role.TheVariants as role
+use Rattle.meson_calls.specs.Picking.{call_with, is_role_call}
+use Rattle.meson_calls.specs.Sources.{sources, sources_of_call}
+use Rattle.meson_calls.specs.Strings.{AreGood}
+use Rattle.meson_calls.proofs.GoodParts.{good_left, good_right}
+use Rattle.meson_calls.proofs.GoodTexts.{text_good}
+use Rattle.meson_calls.proofs.Nested.{good_listing}
+use Rattle.meson_calls.proofs.Standing.{nth_there}
+
+-- ---- strings
+
+node_good : (sort : Sort) (x : Node sort Span) (e : Expression Span) → AreGood (node_words Span sort x) → expression_of Span sort x ≡ Some e → AreGood (expression_words e)
+node_good of_expression x e good is = let same : x ≡ e = cc in subst (λ y. AreGood (expression_words y)) same good
+node_good of_statement x e good is = cc
+node_good of_block x e good is = cc
+
+expression_good : (f : tree.File Span) (path : List ℕ) (e : Expression Span) → paths.expression_at f path ≡ Some e → AreGood (node_words Span of_block (block_of f)) → AreGood (expression_words e)
+expression_good f path e is good =
+    let o = and-then-some (λ h. expression_of Span h.sort h.inside) (reach Span of_block (block_of f) path) e is in
+    let h = o.0 in
+    let fits = reach-fits Span of_block (block_of f) path h o.1 in
+    let whole = subst AreGood (fits.put h.inside) (subst (λ b. AreGood (node_words Span of_block b)) (sym fits.same) good) in
+    node_good h.sort h.inside e (good_left (node_words Span h.sort h.inside) h.behind (good_right h.before (node_words Span h.sort h.inside ++ h.behind) whole)) o.2
+
+block_good : (f : tree.File Span) → AreGood (file_words f) → AreGood (node_words Span of_block (block_of f))
+block_good (tree.file s b) good = good
+
+pub spanned_at : (files : List File) (trees : List Parsed) (i : ℕ) (d : Parsed) → i < length trees → AreParsed files trees → IsSpanned (bytes_at i files) (view (bytes_at i files) (get_or trees i d))
+spanned_at files [] i d within are = absurd (omega (arith, within))
+spanned_at [] (t ∷ trees) i d within are = absurd are
+spanned_at (f ∷ files) (t ∷ trees) zero d within are = are.0
+spanned_at (f ∷ files) (t ∷ trees) (suc i) d within are = let below : i < length trees = omega (arith, within) in spanned_at files trees i d below are.1
+
+pub some_within : (files : List File) (trees : List Parsed) (n : ℕ) (g : BuildFile Span) → nth_file (named_trees files (views files trees)) n ≡ Some g → n < length trees
+some_within [] trees n g is = absurd cc
+some_within (f ∷ files) [] n g is = absurd cc
+some_within (f ∷ files) (t ∷ trees) zero g is = omega arith
+some_within (f ∷ files) (t ∷ trees) (suc n) g is = let below = some_within files trees n g is in omega (arith, below)
+
+call_good : (e : Expression Span) (l : Listing Span) → Some l ≡ option_map (λ k. k.arguments) (call_of e) → AreGood (expression_words e) → GoodListing l
+call_good (call s x m) l is good = let same : m ≡ l = cc in subst GoodListing same (good_listing m bracket.Round good.1)
+call_good _ l is good = absurd (none_some is)
+  where
+    none_some : Some l ≡ None → ⊥
+    none_some h = cc
+
+-- ---- places
+
+module _ (files : List File) (trees : List Parsed) (c : CallRef) (d : Parsed) (many : length trees ≡ length files) (within : c.file < length trees) where
+  abbrev the_project : Project Span
+  the_project = named_trees files (views files trees)
+
+  abbrev the_tree : tree.File Span
+  the_tree = view (bytes_at c.file files) (get_or trees c.file d)
+
+  pub listing_good : (e : Expression Span) (l : Listing Span) → AreParsed files trees → Some e ≡ paths.expression_at the_tree c.path.steps → Some l ≡ option_map (λ k. k.arguments) (call_of e) → GoodListing l
+  listing_good e l are is is_call =
+      let spanned = spanned_at files trees c.file d within are in
+      let good = subst AreGood (file-words-erased the_tree) (text_good (bytes_at c.file files) (erase the_tree) spanned.reads.spells) in
+      call_good e l is_call (expression_good the_tree c.path.steps e (sym is) (block_good the_tree good))
+
+  by_listing : (r : Result found.Sources Refusal) (k : Option (Call Span)) (l : Listing Span) → Some l ≡ option_map (λ j. j.arguments) k → ((function : List ℕ) → sources_of_call the_project (placed c (call_with function l)) ≡ r) →
+      option_map (sources_of_call the_project) (option_map (placed c) k) ≡ Some r
+  by_listing r None l is so = cc
+  by_listing r (Some k) l is so = let same : l ≡ k.arguments = cc in ap Some (ap (λ m. sources_of_call the_project (placed c (call_with k.function m))) (sym same) ∙ so k.function)
+
+  pub sources_are : (e : Expression Span) (l : Listing Span) (r : Result found.Sources Refusal) → Some e ≡ paths.expression_at the_tree c.path.steps → Some l ≡ option_map (λ k. k.arguments) (call_of e) →
+      ((function : List ℕ) → sources_of_call the_project (placed c (call_with function l)) ≡ r) → sources the_project c ≡ Some r
+  sources_are e l r is is_call so =
+      ap (λ f. option_map (sources_of_call the_project) (option_map (placed c) (option_and_then call_of (option_and_then (λ g. paths.expression_at g.tree c.path.steps) f)))) (nth_there files trees c.file d many within)
+      ∙ ap (λ o. option_map (sources_of_call the_project) (option_map (placed c) (option_and_then call_of o))) (sym is)
+      ∙ by_listing r (call_of e) l is_call so
+
+  module _ (e : Expression Span) (l : Listing Span) (is : Some e ≡ paths.expression_at the_tree c.path.steps) (is_call : Some l ≡ option_map (λ k. k.arguments) (call_of e)) where
+    pub sources_found : (r : Result found.Sources Refusal) → ((function : List ℕ) → IfOk r (λ s. sources_of_call the_project (placed c (call_with function l)) ≡ Ok s)) → IfOk r (λ s. sources the_project c ≡ Some (Ok s))
+    sources_found (Ok s) so = sources_are e l (Ok s) is is_call so
+    sources_found (Err x) so = tt
+
+    pub sources_refused : (r : Result found.Sources Refusal) → ((function : List ℕ) → IfErr r (λ x. x ≢ OutOfMemory → sources_of_call the_project (placed c (call_with function l)) ≡ Err x)) →
+        IfErr r (λ x. x ≢ OutOfMemory → sources the_project c ≡ Some (Err x))
+    sources_refused (Ok s) so = tt
+    sources_refused (Err x) so = λ other. sources_are e l (Err x) is is_call (λ f. so f other)
+
+pub no_call : (o : Option (Call Span)) → None ≡ option_map (λ k. k.arguments) o → is_role_call role.Target o ≡ false
+no_call None is = refl
+no_call (Some k) is = cc

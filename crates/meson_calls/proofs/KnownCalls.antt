@@ -1,0 +1,71 @@
+-- The notes of calls that may set any variable are those calls of a project.
+use Rattle.std.proofs.Common.{◌≡◌, ℕ, zero, suc, List, [], ◌∷◌, length, refl, sym, ap, ◌∙◌, arith}
+use Rattle.std.specs.Prelude.{Bool, not, ◌&&◌, ◌||◌, codes, bytes_eq, Option, Some, None, option_map, option_and_then}
+use Rattle.std.specs.List.{list_any, cons_option}
+use Rattle.meson_lex.specs.declared.kinds.Span.{Span}
+use Rattle.meson_splice.specs.declared.file_set.File.{File}
+use Rattle.meson_syntax.specs.declared.tree.Parsed.{Parsed}
+use Rattle.meson_syntax.specs.Paths.{nth}
+use Rattle.meson_syntax.specs.Tree.{evaluate, assign, selection, iteration, breaks, continues}
+use Rattle.meson_calls.specs.declared.call.CallRef.{CallRef}
+use Rattle.meson_calls.specs.Project.{Project, Placed, placed, nth_file}
+use Rattle.meson_calls.specs.Parts.{Part, an_expression, a_statement, parts}
+use Rattle.meson_calls.specs.Calls.{Call, call_of, part_call, all_chosen, first_literal}
+use Rattle.meson_calls.specs.Loading.{named_trees, views}
+use Rattle.meson_calls.specs.Variables.{calls_function, sets_unknown, has_name, is_there, meant_file, enters_unknown, all_known}
+use Rattle.meson_calls.specs.Notes.{Note, a_call, note_of, noted, notes}
+use Rattle.meson_calls.specs.Knowns.{is_file, is_entered, meant_in, is_unknown_in, has_unknown}
+
+abbrev named : List File → List Parsed → Project Span
+named files trees = named_trees files (views files trees)
+
+-- ---- files with trees have the files' names
+
+name_there : (files : List File) (trees : List Parsed) (x : List ℕ) → length trees ≡ length files → has_name (named files trees) x ≡ is_file files x
+name_there [] trees x whole = refl
+name_there (f ∷ files) [] x whole = absurd (omega (arith, whole))
+name_there (f ∷ files) (t ∷ trees) x whole = let more : length trees ≡ length files = omega (arith, whole) in ap (λ b. bytes_eq f.name x || b) (name_there files trees x more)
+
+nth_name : (files : List File) (trees : List Parsed) (n : ℕ) (g : List ℕ → Option (List ℕ)) → length trees ≡ length files →
+    option_and_then (λ f. g f.name) (nth_file (named files trees) n) ≡ option_and_then (λ f. g f.name) (nth files n)
+nth_name [] trees n g whole = refl
+nth_name (f ∷ files) [] n g whole = absurd (omega (arith, whole))
+nth_name (f ∷ files) (t ∷ trees) zero g whole = refl
+nth_name (f ∷ files) (t ∷ trees) (suc n) g whole = let more : length trees ≡ length files = omega (arith, whole) in nth_name files trees n g more
+
+module _ (files : List File) (trees : List Parsed) (whole : length trees ≡ length files) where
+  there_alike : (o : Option (List ℕ)) → is_entered files o ≡ is_there (named files trees) o
+  there_alike None = refl
+  there_alike (Some x) = sym (name_there files trees x whole)
+
+  unknown_alike : (c : Call Span) (p : CallRef) → is_unknown_in files p (a_call c) ≡ (sets_unknown c || enters_unknown (named files trees) (placed p c))
+  unknown_alike c p =
+      ap (λ b. sets_unknown c || (calls_function (codes "subdir") c && not b))
+      (there_alike (meant_in files p.file (first_literal c))
+      ∙ ap (is_there (named files trees)) (sym (nth_name files trees p.file (λ name. meant_file name c) whole)))
+
+  abbrev unknown_calls : List (Placed (Call Span)) → Bool
+  unknown_calls cs = list_any (λ c. sets_unknown c.it || enters_unknown (named files trees) c) cs
+
+  call_step : (o : Option (Call Span)) (p : CallRef) (ns : List (Placed (Note Span))) (cs : List (Placed (Call Span))) → has_unknown files ns ≡ unknown_calls cs →
+      has_unknown files (cons_option (option_map (placed p) (option_map a_call o)) ns) ≡ unknown_calls (cons_option (option_map (placed p) o) cs)
+  call_step None p ns cs rest = rest
+  call_step (Some c) p ns cs rest =
+      ap (λ b. b || has_unknown files ns) (unknown_alike c p) ∙ ap (λ b. (sets_unknown c || enters_unknown (named files trees) (placed p c)) || b) rest
+
+  part_step : (q : Part Span) (p : CallRef) (ns : List (Placed (Note Span))) (cs : List (Placed (Call Span))) → has_unknown files ns ≡ unknown_calls cs →
+      has_unknown files (cons_option (option_map (placed p) (note_of q)) ns) ≡ unknown_calls (cons_option (option_map (placed p) (part_call q)) cs)
+  part_step (an_expression e) p ns cs rest = call_step (call_of e) p ns cs rest
+  part_step (a_statement (evaluate e)) p ns cs rest = rest
+  part_step (a_statement (assign s y a e)) p ns cs rest = rest
+  part_step (a_statement (selection s bs o)) p ns cs rest = rest
+  part_step (a_statement (iteration s ys e b)) p ns cs rest = rest
+  part_step (a_statement (breaks s)) p ns cs rest = rest
+  part_step (a_statement (continues s)) p ns cs rest = rest
+
+  known_parts : (ps : List (Placed (Part Span))) → has_unknown files (noted ps) ≡ unknown_calls (all_chosen part_call ps)
+  known_parts [] = refl
+  known_parts (q ∷ ps) = part_step q.it q.place (noted ps) (all_chosen part_call ps) (known_parts ps)
+
+  pub known_notes : not (has_unknown files (notes (named files trees))) ≡ all_known (named files trees)
+  known_notes = ap not (known_parts (parts (named files trees)))

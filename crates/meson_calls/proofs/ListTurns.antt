@@ -1,0 +1,40 @@
+-- The parts of arguments, operands and tails over a source, and how many children they count.
+use Rattle.std.proofs.Common.{ℕ, List}
+use Rattle.meson_lex.specs.declared.kinds.Span.{Span}
+use Rattle.meson_syntax.specs.declared.tree.Arg.{Arg}
+use Rattle.meson_syntax.specs.declared.tree.Operand.{Operand}
+use Rattle.meson_syntax.specs.declared.tree.Tail as rust_tail
+use Rattle.meson_syntax.specs.Tree.{arguments_of, operands_of, tails_of}
+use Rattle.meson_syntax.specs.View.{arg_view, args_view, operand_view, operands_view, tail_view, tails_view}
+use Rattle.meson_calls.specs.declared.call.CallRef.{CallRef}
+use Rattle.meson_calls.specs.Project.{Placed, child}
+use Rattle.meson_calls.specs.Parts.{Part, expression_parts, argument_parts, arguments_parts, operands_parts, tail_parts, tails_parts, argument_children, arguments_children, tail_children}
+
+module _ (source : List ℕ) where
+  abbrev pub args_size : Arg → ℕ
+  args_size x = argument_children (arg_view source x)
+
+  abbrev pub args_count : List Arg → ℕ
+  args_count xs = arguments_children (arguments_of (args_view source xs))
+
+  abbrev pub tail_size : rust_tail.Tail → ℕ
+  tail_size x = tail_children (tail_view source x)
+
+module _ (source : List ℕ) (p : CallRef) where
+  abbrev pub args_parts : ℕ → List Arg → List (Placed (Part Span))
+  args_parts n xs = arguments_parts p n (arguments_of (args_view source xs))
+
+  abbrev pub args_part : ℕ → Arg → List (Placed (Part Span))
+  args_part n x = argument_parts p n (arg_view source x)
+
+  abbrev pub row_parts : ℕ → List Operand → List (Placed (Part Span))
+  row_parts n xs = operands_parts p n (operands_of (operands_view source xs))
+
+  abbrev pub row_part : ℕ → Operand → List (Placed (Part Span))
+  row_part n x = expression_parts (child p n) (operand_view source x).1
+
+  abbrev pub tail_list_parts : ℕ → List rust_tail.Tail → List (Placed (Part Span))
+  tail_list_parts n xs = tails_parts p n (tails_of (tails_view source xs))
+
+  abbrev pub tail_part : ℕ → rust_tail.Tail → List (Placed (Part Span))
+  tail_part n x = tail_parts p n (tail_view source x)

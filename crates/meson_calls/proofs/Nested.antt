@@ -1,0 +1,62 @@
+-- Elements of lists: their depth, their strings, and what the code's nodes stand for.
+use Rattle.std.proofs.Common.{rules, ◌≡◌, ℕ, zero, suc, ◌<◌, List, [], ◌∷◌, ◌++◌, length, get_or, ap, subst, arith}
+use Rattle.std.specs.Prelude.{Bool}
+use Rattle.meson_lex.specs.declared.kinds.Span.{Span}
+use Rattle.meson_syntax.specs.declared.operator.Bracket.{Bracket}
+use Rattle.meson_syntax.specs.Operators.{closes}
+use Rattle.meson_syntax.specs.declared.tree.Arg.{Arg}
+use Rattle.meson_syntax.specs.declared.tree.Arg.TheVariants as arg
+use Rattle.meson_syntax.specs.declared.tree.Arg.TheFolds.{the_lemmas}
+use Rattle.meson_syntax.specs.declared.tree.Expr.{Expr}
+use Rattle.meson_syntax.specs.declared.tree.Expr.TheVariants as expr
+use Rattle.meson_syntax.specs.declared.tree.List as rust
+use Rattle.meson_syntax.specs.Tree.{array, call, Listing, listing, plain, Arguments, no_arguments, argument, arguments_of}
+use Rattle.meson_syntax.specs.Grammar.{mark, argument_words, arguments_words, comma_words, listing_words, argument_depth, arguments_depth, listing_depth}
+use Rattle.meson_syntax.specs.View.{text_at, expr_view, list_view, arg_view, args_view}
+use Rattle.meson_calls.specs.Strings.{AreGood}
+use Rattle.meson_calls.specs.GoodLists.{GoodArguments, GoodListing, GoodArgs}
+use Rattle.meson_calls.proofs.GoodParts.{good_left, good_right}
+use Rattle.meson_calls.proofs.Listed.{list_is}
+
+-- ---- strings
+
+good_arguments : (list : Arguments Span) (trailing : Bool) → AreGood (arguments_words list trailing) → GoodArguments list
+good_arguments no_arguments trailing good = tt
+good_arguments (argument a more) trailing good = (
+  good_left (argument_words a) (comma_words more trailing ++ arguments_words more trailing) good,
+  good_arguments more trailing (good_right (comma_words more trailing) (arguments_words more trailing) (good_right (argument_words a) (comma_words more trailing ++ arguments_words more trailing) good)),
+)
+
+pub good_listing : (l : Listing Span) (b : Bracket) → AreGood (listing_words l b) → GoodListing l
+good_listing (listing s trailing list) b good = good_arguments list trailing (good_left (arguments_words list trailing) (mark (closes b)) good.1)
+
+module _ (source : List ℕ) where
+  pub array_view : (l : rust.List) → expr_view source (expr.Array l) ≡ array (list_view source l)
+  array_view l = search (rules, the_lemmas)
+
+  pub call_view : (s x : Span) (l : rust.List) → expr_view source (expr.Call s x l) ≡ call s (text_at source x) (list_view source l)
+  call_view s x l = search (rules, the_lemmas)
+
+  pub plain_view : (e : Expr) → arg_view source (arg.Plain e) ≡ plain (expr_view source e)
+  plain_view e = search (rules, the_lemmas)
+
+  pub good_args : (l : rust.List) → GoodListing (list_view source l) → GoodArgs source (rust.out-List l).items
+  good_args l good = subst GoodListing (list_is source l) good
+
+  pub good_arg : (args : List Arg) (i : ℕ) (d : Arg) → i < length args → GoodArgs source args → AreGood (argument_words (arg_view source (get_or args i d)))
+  good_arg [] i d within good = absurd (omega arith)
+  good_arg (a ∷ args) zero d within good = good.0
+  good_arg (a ∷ args) (suc i) d within good = let below : i < length args = omega arith in good_arg args i d below good.1
+
+  -- ---- depth
+
+  pub args_depth : (l : rust.List) → listing_depth (list_view source l) ≡ suc (arguments_depth (arguments_of (args_view source (rust.out-List l).items)))
+  args_depth l = ap listing_depth (list_is source l)
+
+  pub arg_depth : (args : List Arg) (i : ℕ) (d : Arg) → i < length args → argument_depth (arg_view source (get_or args i d)) < suc (arguments_depth (arguments_of (args_view source args)))
+  arg_depth [] i d within = absurd (omega arith)
+  arg_depth (a ∷ args) zero d within = let x = argument_depth (arg_view source a) in let y = arguments_depth (arguments_of (args_view source args)) in omega arith
+  arg_depth (a ∷ args) (suc i) d within =
+      let below : i < length args = omega arith in
+      let more = arg_depth args i d below in
+      omega arith

@@ -1,0 +1,67 @@
+-- The notes of a statement are those of its parts; statements and branches over a source.
+use Rattle.std.proofs.Common.{rules, ◌≡◌, ℕ, ◌+◌, List, [], ◌∷◌, ◌++◌, ap, ◌∙◌}
+use Rattle.std.specs.Prelude.{Option, Some, None}
+use Rattle.meson_lex.specs.declared.kinds.Span.{Span}
+use Rattle.meson_syntax.specs.declared.tree.Expr.{Expr}
+use Rattle.meson_syntax.specs.declared.tree.Block as rust_block
+use Rattle.meson_syntax.specs.declared.tree.Branch.{Branch}
+use Rattle.meson_syntax.specs.declared.tree.Stmt.{Stmt}
+use Rattle.meson_syntax.specs.declared.tree.Stmt.TheVariants as stmt
+use Rattle.meson_syntax.specs.declared.tree.Stmt.TheFolds.{the_lemmas}
+use Rattle.meson_syntax.specs.Tree.{selection, iteration, branches_of, statements_of}
+use Rattle.meson_syntax.specs.View.{texts_at, expr_view, stmt_view, stmts_view, block_view, branch_view, branches_view}
+use Rattle.meson_calls.specs.declared.call.CallRef.{CallRef}
+use Rattle.meson_calls.specs.Project.{Placed, placed, child}
+use Rattle.meson_calls.specs.Parts.{Part, expression_parts, statement_parts, statements_parts, block_parts, branches_parts, otherwise_parts, branches_children}
+use Rattle.meson_calls.specs.Notes.{a_loop, noted}
+use Rattle.meson_calls.specs.Walks.{else_view, branch_parts}
+use Rattle.meson_calls.proofs.Turns.{noted_append}
+
+module _ (source : List ℕ) where
+  pub if_view : (s : Span) (bs : List Branch) (o : Option rust_block.Block) → stmt_view source (stmt.If s bs o) ≡ selection s (branches_of (branches_view source bs)) (else_view source o)
+  if_view s bs None = search (rules, the_lemmas)
+  if_view s bs (Some b) = search (rules, the_lemmas)
+
+  pub foreach_view : (s : Span) (names : List Span) (items : Expr) (body : rust_block.Block) →
+      stmt_view source (stmt.Foreach s names items body) ≡ iteration s (texts_at source names) (expr_view source items) (block_view source body)
+  foreach_view s names items body = search (rules, the_lemmas)
+
+  pub branch_condition : (b : Branch) → (branch_view source b).0 ≡ expr_view source b.condition
+  branch_condition b = search (rules, the_lemmas)
+
+  pub branch_block : (b : Branch) → (branch_view source b).1 ≡ block_view source b.block
+  branch_block b = search (rules, the_lemmas)
+
+  abbrev pub branches_count : List Branch → ℕ
+  branches_count bs = branches_children (branches_of (branches_view source bs))
+
+  module _ (p : CallRef) where
+    abbrev pub list_parts : ℕ → List Stmt → List (Placed (Part Span))
+    list_parts n ss = statements_parts p n (statements_of (stmts_view source ss))
+
+    abbrev pub list_part : ℕ → Stmt → List (Placed (Part Span))
+    list_part n s = statement_parts (child p n) (stmt_view source s)
+
+    abbrev pub conditions_parts : ℕ → List Branch → List (Placed (Part Span))
+    conditions_parts n bs = branches_parts p n (branches_of (branches_view source bs))
+
+    abbrev pub conditions_part : ℕ → Branch → List (Placed (Part Span))
+    conditions_part n b = branch_parts p n (branch_view source b)
+
+    pub branch_noted : (n : ℕ) (b : Branch) →
+        noted (conditions_part n b) ≡ noted (expression_parts (child p n) (expr_view source b.condition)) ++ noted (block_parts (child p (n + 1)) (block_view source b.block))
+    branch_noted n b =
+        noted_append (expression_parts (child p n) (branch_view source b).0) (block_parts (child p (n + 1)) (branch_view source b).1)
+        ∙ ap (λ e. noted (expression_parts (child p n) e) ++ noted (block_parts (child p (n + 1)) (branch_view source b).1)) (branch_condition b)
+        ∙ ap (λ k. noted (expression_parts (child p n) (expr_view source b.condition)) ++ noted (block_parts (child p (n + 1)) k)) (branch_block b)
+
+    pub if_noted : (s : Span) (bs : List Branch) (o : Option rust_block.Block) →
+        noted (statement_parts p (stmt_view source (stmt.If s bs o))) ≡ noted (conditions_parts 0 bs) ++ noted (otherwise_parts p (branches_count bs) (else_view source o))
+    if_noted s bs o = ap (λ x. noted (statement_parts p x)) (if_view s bs o) ∙ noted_append (conditions_parts 0 bs) (otherwise_parts p (branches_count bs) (else_view source o))
+
+    pub foreach_noted : (s : Span) (names : List Span) (items : Expr) (body : rust_block.Block) →
+        noted (statement_parts p (stmt_view source (stmt.Foreach s names items body)))
+        ≡ (placed p (a_loop (texts_at source names)) ∷ []) ++ (noted (expression_parts (child p 0) (expr_view source items)) ++ noted (block_parts (child p 1) (block_view source body)))
+    foreach_noted s names items body =
+        ap (λ x. noted (statement_parts p x)) (foreach_view s names items body)
+        ∙ ap (λ ns. placed p (a_loop (texts_at source names)) ∷ ns) (noted_append (expression_parts (child p 0) (expr_view source items)) (block_parts (child p 1) (block_view source body)))

@@ -1,0 +1,8 @@
+use Rattle.std.proofs.Common.{◌≡◌, ◌++◌, drop, map}
+use Rattle.std.specs.Prelude.{string_bytes}
+use Rattle.meson_calls.specs.Notes.{note_views}
+use Rattle.meson_calls.specs.Picking.{entered_names}
+use Rattle.meson_calls.proofs.entering.all_entered.Given as goal
+
+abbrev pub invariant-loop-i : goal.invariant-loop-i
+invariant-loop-i l = map string_bytes l.names.items ++ entered_names l.name (note_views (drop l.i l.notes)) ≡ entered_names l.name (note_views l.notes)

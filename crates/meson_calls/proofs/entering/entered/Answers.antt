@@ -1,0 +1,30 @@
+use Rattle.std.proofs.Common.{◌∙◌, sym, ap}
+use Rattle.std.specs.Prelude.{Some, None, option_map, string_bytes, bytes_eq, codes}
+use Rattle.meson_syntax.specs.View.{text_at, list_view}
+use Rattle.meson_calls.specs.Directories.{file_in}
+use Rattle.meson_calls.specs.Notes.{what_view}
+use Rattle.meson_calls.specs.Picking.{call_with, note_enters}
+use Rattle.meson_calls.proofs.Entered.{enters_call}
+use Rattle.meson_calls.proofs.entering.entered.Goals as goal
+
+pub returns-in_ok-file-in-Some : goal.returns-in_ok-file-in-Some
+returns-in_ok-file-in-Some c =
+    let name = c.args.name.now in
+    let source = c.args.note.now.source.now in
+    let function = text_at source c.in-Call.function in
+    let is = sym (ap (λ f. bytes_eq f (codes "subdir")) c.text_of.ensures) ∙ sym (ap (bytes_eq c.text_of.result.now) c.as_slice.ensures) ∙ sym c.eq.ensures ∙ c.if-eq.true in
+    let text = sym (c.in_ok-folder-in-Call.ensures function) ∙ ap (option_map string_bytes) c.in-Some.is in
+    c.in_ok-file-in-Some.ensures
+    ∙ ap (file_in name) c.as_str.ensures.value
+    ∙ sym (enters_call name (call_with function (list_view source c.in-Call.arguments.now)) (Some (string_bytes c.in-Some.folder)) is text)
+    ∙ sym (ap (λ w. note_enters name (what_view source w)) c.in-Call.is)
+
+pub returns-in-None : goal.returns-in-None
+returns-in-None c =
+    let name = c.args.name.now in
+    let source = c.args.note.now.source.now in
+    let function = text_at source c.in-Call.function in
+    let is = sym (ap (λ f. bytes_eq f (codes "subdir")) c.text_of.ensures) ∙ sym (ap (bytes_eq c.text_of.result.now) c.as_slice.ensures) ∙ sym c.eq.ensures ∙ c.if-eq.true in
+    let text = sym (c.in_ok-folder-in-Call.ensures function) ∙ ap (option_map string_bytes) c.in-None.is in
+    sym (enters_call name (call_with function (list_view source c.in-Call.arguments.now)) None is text)
+    ∙ sym (ap (λ w. note_enters name (what_view source w)) c.in-Call.is)

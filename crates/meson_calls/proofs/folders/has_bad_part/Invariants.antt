@@ -1,0 +1,8 @@
+use Rattle.std.proofs.Common.{◌≡◌, ◌≤◌, drop}
+use Rattle.std.specs.Prelude.{slice_range}
+use Rattle.std.specs.List.{list_any}
+use Rattle.meson_calls.specs.Directories.{goes_nowhere, parts_after, slash_parts}
+use Rattle.meson_calls.proofs.folders.has_bad_part.Given as goal
+
+abbrev pub invariant-loop-i : goal.invariant-loop-i
+invariant-loop-i l = (l.from ≤ l.i) × (list_any goes_nowhere (parts_after (slice_range l.folder l.from l.i) (drop l.i l.folder)) ≡ list_any goes_nowhere (slash_parts l.folder))

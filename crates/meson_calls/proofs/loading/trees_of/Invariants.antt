@@ -1,0 +1,6 @@
+use Rattle.std.proofs.Common.{take}
+use Rattle.meson_calls.specs.Loading.{AreParsed}
+use Rattle.meson_calls.proofs.loading.trees_of.Given as goal
+
+abbrev pub invariant-loop-index : goal.invariant-loop-index
+invariant-loop-index l = AreParsed (take l.index l.files) l.trees.items

@@ -1,0 +1,32 @@
+use Rattle.std.proofs.Common.{◌≡◌, ◌<◌, ◌≤◌, length, ◌∙◌, sym, ap, arith}
+use Rattle.meson_calls.specs.Calls.{value_with_name}
+use Rattle.meson_calls.specs.Expansion.{opaque}
+use Rattle.meson_calls.specs.Named.{project_of}
+use Rattle.meson_calls.specs.Sources.{kwargs_key}
+use Rattle.meson_calls.specs.Sourced.{kept_args}
+use Rattle.meson_calls.specs.Tallies.{gathered, with_mark}
+use Rattle.meson_calls.proofs.MetAll.{both, met_both, hidden_some, hidden_none}
+use Rattle.meson_calls.proofs.sourcing.met.Goals as goal
+use Rattle.meson_calls.proofs.sourcing.met.Goals.{then-count_named-gt0+in_ok-miss, else-count_named-gt0}
+
+pub returns : goal.returns
+returns c =
+    let p = project_of c.args.variables.now in
+    let source = c.args.source.now in
+    let args = c.args.args.now in
+    let g = both p c.args.left c.args.call.now source args in
+    let hidden = kept_args source (value_with_name kwargs_key) 0 args in
+    let second = gathered c.expand_nameds.new.marks in
+    let is_both : second ≡ g =
+    met_both p c.args.left c.args.call.now source args c.in_ok-path.path.items c.expand_plains.new.path.items c.as_slice.result.now c.behind_first-from.result
+    (gathered c.new-marks.result) (gathered c.expand_plains.new.marks) second c.new-marks.ensures (c.in_ok-path.ensures.items ∙ c.get.ensures) c.in_ok-expand_plains.ensures.back c.as_slice.ensures
+    c.in_ok-expand_plains.ensures.all (c.behind_first-from.ensures source) c.in_ok-expand_nameds.ensures.all in
+    let count = c.count_named.ensures ∙ ap (λ k. length (kept_args source (value_with_name k) 0 args)) c.as_slice-2.ensures in
+    elim c.if-count_named-gt0.branch [
+      | then-count_named-gt0+in_ok-miss w ↦
+          (let some : 0 < length hidden = omega arith in
+          ap gathered w.marks-is ∙ w.in_ok-miss.ensures ∙ ap (λ h. with_mark h opaque) is_both ∙ sym (hidden_some g hidden some))
+      | else-count_named-gt0 w ↦
+          (let none : length hidden ≤ 0 = omega arith in
+          ap gathered w.marks-is ∙ is_both ∙ sym (hidden_none g hidden none))
+    ]

@@ -1,0 +1,119 @@
+-- What a list of sources holds. Meson manual, Reference manual, `files` and the functions that make targets: sources are strings, `files()` and lists of
+-- these; a variable stands for its one value. All else is opaque: what it holds is not known.
+use Rattle.std.specs.Prelude.{ℕ, zero, suc, ◌+◌, Bool, true, false, not, ◌&&◌, List, [], ◌∷◌, ◌++◌, if◌then◌else◌, bytes_eq, codes, Option, Some, None}
+use Rattle.meson_syntax.specs.Operators.{string_kind}
+use Rattle.meson_lex.specs.Literals.{value}
+use Rattle.meson_syntax.specs.Tree.{Expression, identifier, string, array, call, Listing, listing, Argument, plain, named, pair, is_named, Arguments, no_arguments, argument}
+use Rattle.meson_calls.specs.declared.call.CallRef.{CallRef}
+use Rattle.meson_calls.specs.Project.{Project, child, Placed}
+use Rattle.meson_calls.specs.Roles.{one_of}
+use Rattle.meson_calls.specs.Variables.{single}
+
+-- ---- what is met, in order
+
+-- in the list of an array or a call, as its n-th child, or in none
+pub data Slot : Type 0 where
+  in_list : CallRef → ℕ → Slot
+  fixed : Slot
+
+-- a literal: its text, its place, its slot, and the innermost variable that was followed to it
+pub record Item (S : Type 0) : Type 0 where
+  pub text : List ℕ
+  pub stands : S
+  pub place : CallRef
+  pub slot : Slot
+  pub variable : Option (List ℕ)
+
+pub data Mark (S : Type 0) : Type 0 where
+  known : Item S → Mark S
+  opaque : Mark S
+  -- an array or a `files()` in which nothing is met
+  empty : CallRef → Mark S
+
+-- what is met, and the variables that were followed so far
+pub record Expansion (S : Type 0) : Type 0 where
+  pub marks : List (Mark S)
+  pub followed : List (List ℕ)
+
+-- where an expression stands
+pub record Stand : Type 0 where
+  pub place : CallRef
+  pub slot : Slot
+  pub variable : Option (List ℕ)
+
+abbrev pub met : {S : Type 0} → Mark S → List (List ℕ) → Expansion S
+met m followed = record { marks = m ∷ []; followed = followed }
+
+abbrev pub nothing : {S : Type 0} → List (List ℕ) → Expansion S
+nothing followed = record { marks = []; followed = followed }
+
+-- one and then another, which knows what the first has followed
+abbrev pub joined : {S : Type 0} → Expansion S → Expansion S → Expansion S
+joined e f = record { marks = e.marks ++ f.marks; followed = f.followed }
+
+abbrev pub and_then : {S : Type 0} → Expansion S → (List (List ℕ) → Expansion S) → Expansion S
+and_then e more = joined e (more e.followed)
+
+-- the n-th element of a list
+abbrev pub element : Stand → ℕ → Stand
+element s n = record { place = child s.place n; slot = in_list s.place n; variable = s.variable }
+
+abbrev pub or_empty : {S : Type 0} → CallRef → List (Mark S) → List (Mark S)
+or_empty p [] = empty p ∷ []
+or_empty p (m ∷ ms) = m ∷ ms
+
+abbrev pub within : {S : Type 0} → CallRef → Expansion S → Expansion S
+within p e = record { marks = or_empty p e.marks; followed = e.followed }
+
+-- ---- an expression
+
+abbrev pub has_names : {S : Type 0} → Arguments S → Bool
+has_names no_arguments = false
+has_names (argument a more) = if is_named a then true else has_names more
+
+abbrev pub are_named : {S : Type 0} → Listing S → Bool
+are_named (listing s trailing list) = has_names list
+
+-- a string
+abbrev pub literal_item : {S : Type 0} → S → Stand → List (List ℕ) → Option (List ℕ) → Expansion S
+literal_item at_ s followed (Some text) = met (known (record { text = text; stands = at_; place = s.place; slot = s.slot; variable = s.variable })) followed
+literal_item at_ s followed None = met opaque followed
+
+-- by what a variable gives that was not followed before
+module _ {S : Type 0} (follow : List ℕ → List (List ℕ) → Expansion S) where
+  abbrev mutual
+    pub expand_by : Expression S → Stand → List (List ℕ) → Expansion S
+    expand_by (string at_ q x) s followed = literal_item at_ s followed (value (string_kind q) x)
+    expand_by (array l) s followed = within s.place (expand_listing l s followed)
+    expand_by (call at_ f l) s followed = if bytes_eq f (codes "files") && not (are_named l) then within s.place (expand_listing l s followed) else met opaque followed
+    expand_by (identifier at_ x) s followed = if one_of followed x then met opaque followed else follow x followed
+    expand_by _ s followed = met opaque followed
+
+    pub expand_listing : Listing S → Stand → List (List ℕ) → Expansion S
+    expand_listing (listing at_ trailing list) s followed = expand_each list 0 s followed
+
+    -- from the n-th on
+    pub expand_each : Arguments S → ℕ → Stand → List (List ℕ) → Expansion S
+    expand_each no_arguments n s followed = nothing followed
+    expand_each (argument a more) n s followed = and_then (expand_argument a (element s n) followed) (λ now. expand_each more (n + 1) s now)
+
+    pub expand_argument : Argument S → Stand → List (List ℕ) → Expansion S
+    expand_argument (plain e) s followed = expand_by e s followed
+    expand_argument (named at_ x e) s followed = met opaque followed
+    expand_argument (pair at_ e f) s followed = met opaque followed
+
+-- the value of a variable, which stands in no list itself
+abbrev pub of_variable : List ℕ → CallRef → Stand
+of_variable x p = record { place = p; slot = fixed; variable = Some x }
+
+abbrev pub follow_single : {S : Type 0} → (Expression S → Stand → List (List ℕ) → Expansion S) → List ℕ → List (List ℕ) → Option (Placed (Expression S)) → Expansion S
+follow_single inner x followed None = met opaque followed
+follow_single inner x followed (Some v) = inner v.it (of_variable x v.place) (x ∷ followed)
+
+-- so many variables may be followed inside one another
+abbrev pub expand : {S : Type 0} → Project S → ℕ → Expression S → Stand → List (List ℕ) → Expansion S
+expand p zero = expand_by (λ x followed. met opaque followed)
+expand p (suc left) = expand_by (λ x followed. follow_single (expand p left) x followed (single p x))
+
+abbrev pub max_followed : ℕ
+max_followed = 64

@@ -1,0 +1,215 @@
+//! What the arguments of a call hold, one after another.
+
+ghost use Rattle.std.specs.Prelude.{◌≡◌, [], MatchOption, None, OnOk, drop, is_some, length};
+ghost use Rattle.meson_syntax.specs.Grammar.{argument_words};
+ghost use Rattle.meson_syntax.specs.View.{arg_view};
+ghost use Rattle.meson_calls.specs.Picking.{Source};
+ghost use Rattle.meson_calls.specs.Project.{place};
+ghost use Rattle.meson_calls.specs.Calls.{value_without_name, value_with_name};
+ghost use Rattle.meson_calls.specs.Expansion.{in_list, fixed};
+ghost use Rattle.meson_calls.specs.GoodLists.{GoodArgs};
+ghost use Rattle.meson_calls.specs.Named.{AreVariables, project_of};
+ghost use Rattle.meson_calls.specs.Sources.{rest};
+ghost use Rattle.meson_calls.specs.Strings.{AreGood};
+ghost use Rattle.meson_calls.specs.Sourced.{kept_args, kept_arg, step_by, arguments_by};
+ghost use Rattle.meson_calls.specs.Keywords.{IsFirstNamed};
+ghost use Rattle.meson_calls.specs.Tallies.{gathered, expanded};
+
+use crate::marks::{Marks, Site};
+use crate::roles::text_of;
+use crate::variables::Variables;
+use meson_syntax::Arg;
+use std::alloc::AllocError;
+
+/// Whether an argument has this name.
+fn has_name(source: &[u8], arg: &Arg, key: &[u8]) -> bool
+    ensures { result ≡ is_some (value_with_name key.now (arg_view source.now arg.now)) }
+{
+    match arg {
+        Arg::Named {
+            span: _,
+            name,
+            value: _,
+        } => text_of(source, *name) == key,
+        Arg::Plain(_) => false,
+        Arg::Pair {
+            span: _,
+            key: _,
+            value: _,
+        } => false,
+    }
+}
+
+/// How many arguments have this name.
+pub fn count_named(source: &[u8], args: &[Arg], key: &[u8]) -> usize
+    ensures { result ≡ length (kept_args source.now (value_with_name key.now) 0 args.now) }
+{
+    let mut count = 0;
+    for i in 0..args.len() {
+        if has_name(source, &args[i], key) {
+            count += 1;
+        }
+    }
+    count
+}
+
+/// The number of the first argument that has this name.
+pub fn first_named(source: &[u8], args: &[Arg], key: &[u8]) -> Option<usize>
+    ensures { MatchOption result
+        (kept_args source.now (value_with_name key.now) 0 args.now ≡ [])
+        (IsFirstNamed source.now key.now args.now) }
+{
+    for i in 0..args.len() {
+        if has_name(source, &args[i], key) {
+            return Some(i);
+        }
+    }
+    None
+}
+
+/// Whether an argument has no name.
+pub fn is_plain(arg: &Arg) -> bool
+    ensures { (source : Source) → result ≡ is_some (value_without_name (arg_view source arg.now)) }
+{
+    match arg {
+        Arg::Plain(_) => true,
+        Arg::Named {
+            span: _,
+            name: _,
+            value: _,
+        } => false,
+        Arg::Pair {
+            span: _,
+            key: _,
+            value: _,
+        } => false,
+    }
+}
+
+/// The number behind that of the first argument without a name.
+pub fn behind_first(args: &[Arg]) -> usize
+    ensures { (source : Source) → rest (kept_args source value_without_name 0 args.now) ≡ kept_args source value_without_name result (drop result args.now) }
+{
+    for i in 0..args.len() {
+        if is_plain(&args[i]) {
+            return i + 1;
+        }
+    }
+    args.len()
+}
+
+impl<'t> Variables<'t> {
+    /// What an argument without a name holds, which stands in the list at the path.
+    fn expand_plain(
+        &self,
+        left: usize,
+        site: Site<'t>,
+        number: usize,
+        arg: &'t Arg,
+        path: &mut Vec<usize>,
+        marks: &mut Marks<'t>,
+    ) -> Result<(), AllocError>
+        requires holds { AreVariables self.now }
+        requires whole { site.variable ≡ None }
+        requires good { AreGood (argument_words (arg_view site.source.now arg.now)) }
+        ensures back { OnOk result (path.new.items ≡ path.old.items) }
+        ensures all { OnOk result (gathered marks.new ≡ expanded (gathered marks.old) (step_by (project_of self.now) left (place site.entry.file path.old.items) (in_list (place site.entry.file path.old.items)) (kept_arg site.entry.source.now value_without_name number arg.now))) }
+    {
+        match arg {
+            Arg::Plain(value) => self.expand(left, site, Some(number), value, path, marks),
+            Arg::Named {
+                span: _,
+                name: _,
+                value: _,
+            } => Ok(()),
+            Arg::Pair {
+                span: _,
+                key: _,
+                value: _,
+            } => Ok(()),
+        }
+    }
+
+    /// What an argument of this name holds, which stands in no list.
+    fn expand_named(
+        &self,
+        left: usize,
+        site: Site<'t>,
+        number: usize,
+        arg: &'t Arg,
+        key: &[u8],
+        path: &mut Vec<usize>,
+        marks: &mut Marks<'t>,
+    ) -> Result<(), AllocError>
+        requires holds { AreVariables self.now }
+        requires whole { site.variable ≡ None }
+        requires good { AreGood (argument_words (arg_view site.source.now arg.now)) }
+        ensures back { OnOk result (path.new.items ≡ path.old.items) }
+        ensures all { OnOk result (gathered marks.new ≡ expanded (gathered marks.old) (step_by (project_of self.now) left (place site.entry.file path.old.items) (λ n. fixed) (kept_arg site.entry.source.now (value_with_name key.now) number arg.now))) }
+    {
+        match arg {
+            Arg::Named {
+                span: _,
+                name,
+                value,
+            } => {
+                if text_of(site.source, *name) == key {
+                    path.push(number)?;
+                    self.expand(left, site, None, value, path, marks)?;
+                    path.pop();
+                }
+                Ok(())
+            }
+            Arg::Plain(_) => Ok(()),
+            Arg::Pair {
+                span: _,
+                key: _,
+                value: _,
+            } => Ok(()),
+        }
+    }
+
+    /// What the arguments without a name hold, from this number on.
+    pub fn expand_plains(
+        &self,
+        left: usize,
+        site: Site<'t>,
+        from: usize,
+        args: &'t [Arg],
+        path: &mut Vec<usize>,
+        marks: &mut Marks<'t>,
+    ) -> Result<(), AllocError>
+        requires holds { AreVariables self.now }
+        requires whole { site.variable ≡ None }
+        requires good { GoodArgs site.source.now args.now }
+        ensures back { OnOk result (path.new.items ≡ path.old.items) }
+        ensures all { OnOk result (gathered marks.new ≡ expanded (gathered marks.old) (arguments_by (project_of self.now) left (place site.entry.file path.old.items) (in_list (place site.entry.file path.old.items)) (kept_args site.entry.source.now value_without_name from (drop from args.now)))) }
+    {
+        for i in from..args.len() {
+            self.expand_plain(left, site, i, &args[i], path, marks)?;
+        }
+        Ok(())
+    }
+
+    /// What the arguments of this name hold.
+    pub fn expand_nameds(
+        &self,
+        left: usize,
+        site: Site<'t>,
+        args: &'t [Arg],
+        key: &[u8],
+        path: &mut Vec<usize>,
+        marks: &mut Marks<'t>,
+    ) -> Result<(), AllocError>
+        requires holds { AreVariables self.now }
+        requires whole { site.variable ≡ None }
+        requires good { GoodArgs site.source.now args.now }
+        ensures back { OnOk result (path.new.items ≡ path.old.items) }
+        ensures all { OnOk result (gathered marks.new ≡ expanded (gathered marks.old) (arguments_by (project_of self.now) left (place site.entry.file path.old.items) (λ n. fixed) (kept_args site.entry.source.now (value_with_name key.now) 0 args.now))) }
+    {
+        for i in 0..args.len() {
+            self.expand_named(left, site, i, &args[i], key, path, marks)?;
+        }
+        Ok(())
+    }
+}

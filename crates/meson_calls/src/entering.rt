@@ -1,0 +1,116 @@
+//! The files that a file enters.
+
+ghost use Rattle.std.specs.Prelude.{◌≡◌, IfErr, IfOk, map, option_map, string_bytes};
+ghost use Rattle.meson_syntax.specs.Reads.{IsUnreadable, MayRefuse, Refuses};
+ghost use Rattle.meson_syntax.specs.declared.fault.ParseFault.{ParseFault};
+ghost use Rattle.meson_calls.specs.Directories.{IsFileName, folder_of, file_in};
+ghost use Rattle.meson_calls.specs.Notes.{note_view, note_views};
+ghost use Rattle.meson_calls.specs.Picking.{note_enters, entered_names};
+ghost use Rattle.meson_calls.specs.Strings.{AreGood, NotesGood, note_words};
+ghost use Rattle.meson_calls.specs.Subdirs.{Enters};
+
+use crate::folders::is_plain_folder;
+use crate::literals::first_literal;
+use crate::note::{Note, What};
+use crate::notes::note_file;
+use crate::roles::text_of;
+use meson_syntax::{ParseFault, parse};
+use std::alloc::{AllocError, Global};
+
+/// The folder of a build file, with the slash behind it.
+fn folder_of(name: &str) -> &str
+    requires { IsFileName name.now }
+    ensures { result.now ≡ folder_of name.now }
+{
+    match name.strip_suffix("meson.build") {
+        Some(folder) => folder,
+        None => "",
+    }
+}
+
+/// The file that a `subdir` of this folder means in the file of this name.
+pub fn file_in(alloc: Global, name: &str, folder: &str) -> Result<Option<String>, AllocError>
+    requires { IsFileName name.now }
+    ensures { IfOk result (λ file. option_map string_bytes file ≡ file_in name.now folder.now) }
+{
+    if !is_plain_folder(folder.as_bytes()) {
+        return Ok(None);
+    }
+    let mut file = String::from_str(alloc, folder_of(name))?;
+    file.push_str(folder)?;
+    file.push_str("/meson.build")?;
+    Ok(Some(file))
+}
+
+/// The file that a note enters, if it enters one.
+fn entered(alloc: Global, name: &str, note: &Note<'_>) -> Result<Option<String>, AllocError>
+    requires file { IsFileName name.now }
+    requires good { AreGood (note_words (note_view note.now).it) }
+    ensures { IfOk result (λ file. option_map string_bytes file ≡ note_enters name.now (note_view note.now).it) }
+{
+    match note.what {
+        What::Call {
+            function,
+            arguments,
+        } => {
+            if text_of(note.source, function) == b"subdir".as_slice() {
+                match first_literal(alloc, note.source, arguments)? {
+                    Some(folder) => {
+                        let file = file_in(alloc, name, folder.as_str())?;
+                        Ok(file)
+                    }
+                    None => Ok(None),
+                }
+            } else {
+                Ok(None)
+            }
+        }
+        What::Assign {
+            name: _,
+            sets: _,
+            value: _,
+        } => Ok(None),
+        What::Loop { names: _ } => Ok(None),
+    }
+}
+
+/// The files that notes enter.
+fn all_entered(alloc: Global, name: &str, notes: &[Note<'_>]) -> Result<Vec<String>, AllocError>
+    requires file { IsFileName name.now }
+    requires good { NotesGood (note_views notes.now) }
+    ensures { IfOk result (λ names. map string_bytes names.items ≡ entered_names name.now (note_views notes.now)) }
+{
+    let mut names = Vec::new(alloc);
+    for i in 0..notes.len() {
+        match entered(alloc, name, &notes[i])? {
+            Some(file) => names.push(file)?,
+            None => {}
+        }
+    }
+    Ok(names)
+}
+
+/// The names of the files that the `subdir` calls with a plain literal mean, in order.
+///
+/// # Errors
+/// The bytes are no build file, or memory is refused.
+pub fn subdirs(alloc: Global, name: &str, bytes: &[u8]) -> Result<Vec<String>, ParseFault>
+    requires { IsFileName name.now }
+    ensures all { IfOk result (λ names. Enters name.now bytes.now (map string_bytes names.items)) }
+    ensures unreadable { (e : ParseFault) → IsUnreadable bytes.now e → Refuses result e }
+    ensures refused { IfErr result (MayRefuse bytes.now) }
+{
+    let tree = match parse(alloc, bytes) {
+        Ok(tree) => tree,
+        Err(fault) => return Err(fault),
+    };
+    let mut notes = Vec::new(alloc);
+    match note_file(alloc, 0, bytes, &tree, &mut notes) {
+        Ok(()) => {}
+        Err(_) => return Err(ParseFault::OutOfMemory),
+    }
+    match all_entered(alloc, name, notes.as_slice()) {
+        Ok(names) => Ok(names),
+        Err(_) => Err(ParseFault::OutOfMemory),
+    }
+}

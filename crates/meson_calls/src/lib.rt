@@ -1,0 +1,34 @@
+//! What the build files of a project hold: their calls, which of these an id names, what variables stand for, and the sources of a target.
+#![tactic(auto)]
+
+pub mod arguments;
+pub mod arriving;
+pub mod call;
+pub mod entering;
+pub mod expansion;
+pub mod folders;
+pub mod known;
+pub mod literals;
+pub mod load_fault;
+pub mod loading;
+pub mod looking;
+pub mod marks;
+pub mod meeting;
+pub mod naming;
+pub mod note;
+pub mod notes;
+pub mod picking;
+pub mod refusal;
+pub mod roles;
+pub mod setters;
+pub mod sourcing;
+pub mod values;
+pub mod variables;
+pub mod walk;
+pub mod walk_statements;
+
+pub use call::{CallRef, Role, SourceItem, Sources};
+pub use entering::subdirs;
+pub use load_fault::{LoadFault, Unloaded};
+pub use loading::MAX_FILES;
+pub use refusal::Refusal;

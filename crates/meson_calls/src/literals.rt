@@ -1,0 +1,106 @@
+//! The texts that strings of a file stand for.
+
+ghost use Rattle.std.specs.Prelude.{◌≡◌, IfOk, option_map, string_bytes};
+ghost use Rattle.meson_syntax.specs.Operators.{string_kind};
+ghost use Rattle.meson_syntax.specs.Grammar.{expression_words, listing_words};
+ghost use Rattle.meson_syntax.specs.View.{expr_view, list_view};
+ghost use Rattle.meson_calls.specs.Calls.{literal, first_literal, is};
+ghost use Rattle.meson_calls.specs.Picking.{Source, call_with};
+ghost use Rattle.meson_calls.specs.Strings.{AreGood};
+
+use crate::roles::{first_argument, text_of};
+use meson_lex::{Kind, literal_value};
+use meson_syntax::{Bracket, Expr, List, StringKind};
+use std::alloc::{AllocError, Global};
+
+fn token_kind(kind: StringKind) -> Kind
+    ensures { result ≡ string_kind kind }
+{
+    match kind {
+        StringKind::Plain => Kind::PlainString,
+        StringKind::Multiline => Kind::MultilineString,
+        StringKind::Format => Kind::FormatString,
+        StringKind::FormatMultiline => Kind::FormatMultilineString,
+    }
+}
+
+/// The text that an expression stands for, if it is a literal.
+pub fn literal(alloc: Global, source: &[u8], expr: &Expr) -> Result<Option<String>, AllocError>
+    requires { AreGood (expression_words (expr_view source.now expr.now)) }
+    ensures { IfOk result (λ text. option_map string_bytes text ≡ literal (expr_view source.now expr.now)) }
+{
+    match expr {
+        Expr::String { span, kind } => {
+            match literal_value(alloc, text_of(source, *span), token_kind(*kind)) {
+                Ok(text) => Ok(text),
+                Err(_) => Err(AllocError),
+            }
+        }
+        Expr::Identifier(_) => Ok(None),
+        Expr::Boolean { span: _, value: _ } => Ok(None),
+        Expr::Integer(_) => Ok(None),
+        Expr::Paren { span: _, inside: _ } => Ok(None),
+        Expr::Array(_) => Ok(None),
+        Expr::Dictionary(_) => Ok(None),
+        Expr::Call {
+            span: _,
+            name: _,
+            arguments: _,
+        } => Ok(None),
+        Expr::Unary {
+            span: _,
+            operator: _,
+            operand: _,
+        } => Ok(None),
+        Expr::Row {
+            span: _,
+            first: _,
+            rest: _,
+        } => Ok(None),
+        Expr::Postfix {
+            span: _,
+            base: _,
+            tails: _,
+        } => Ok(None),
+        Expr::Conditional {
+            span: _,
+            condition: _,
+            yes: _,
+            no: _,
+        } => Ok(None),
+    }
+}
+
+/// The text of the first argument without a name, if that is a literal.
+pub fn first_literal(
+    alloc: Global,
+    source: &[u8],
+    arguments: &List,
+) -> Result<Option<String>, AllocError>
+    requires { AreGood (listing_words (list_view source.now arguments.now) Bracket.Round) }
+    ensures { (function : Source) → IfOk result (λ text. option_map string_bytes text ≡ first_literal (call_with function (list_view source.now arguments.now))) }
+{
+    match first_argument(arguments) {
+        Some(value) => {
+            let text = literal(alloc, source, value)?;
+            Ok(text)
+        }
+        None => Ok(None),
+    }
+}
+
+/// Whether the first argument without a name is a literal of this text.
+pub fn first_literal_is(
+    alloc: Global,
+    source: &[u8],
+    arguments: &List,
+    text: &str,
+) -> Result<bool, AllocError>
+    requires { AreGood (listing_words (list_view source.now arguments.now) Bracket.Round) }
+    ensures { (function : Source) → IfOk result (λ b. b ≡ is text.now (first_literal (call_with function (list_view source.now arguments.now)))) }
+{
+    match first_literal(alloc, source, arguments)? {
+        Some(found) => Ok(text == found.as_str()),
+        None => Ok(false),
+    }
+}

@@ -1,0 +1,154 @@
+//! What is met in the sources of a target, gathered in one place.
+
+ghost use Rattle.std.specs.Prelude.{◌≡◌, ◌∷◌, IfOk, OnOk};
+ghost use Rattle.meson_calls.specs.Project.{place};
+ghost use Rattle.meson_calls.specs.Roles.{one_of};
+
+use crate::call::{CallRef, SourceItem};
+use crate::picking::copy_place;
+use meson_splice::Text;
+use meson_syntax::{Many, Path};
+use std::alloc::{AllocError, Global};
+use std::str;
+
+/// A file, its source, and the innermost variable that was followed to it.
+#[derive(Clone, Copy)]
+pub struct Site<'t> {
+    pub file: usize,
+    pub source: &'t [u8],
+    pub variable: Option<&'t [u8]>,
+}
+
+/// The items, their numbers in their lists, the number of opaque marks, the list of the first item that stands in one, the first list that holds nothing, and the
+/// variables that were followed.
+#[derive(Drop)]
+pub struct Marks<'t> {
+    pub items: Vec<SourceItem>,
+    pub numbers: Vec<Option<usize>>,
+    pub unknown: usize,
+    pub list: Option<CallRef>,
+    pub vacant: Option<CallRef>,
+    pub followed: Vec<&'t [u8]>,
+}
+
+/// The place of this path in a file.
+pub fn place_of(alloc: Global, file: usize, path: &[usize]) -> Result<CallRef, AllocError>
+    ensures { IfOk result (λ p. p ≡ place file path.now) }
+{
+    let steps = Vec::from_slice(alloc, path)?;
+    Ok(CallRef {
+        file,
+        path: Path {
+            steps: Many::of(steps),
+        },
+    })
+}
+
+/// A text of these bytes. No name in a source is anything but UTF-8.
+pub fn text_of_name(alloc: Global, name: &[u8]) -> Result<Text, AllocError>
+    ensures { IfOk result (λ t. t ≡ name.now) }
+{
+    let Ok(name) = str::from_utf8(name) else {
+        return Err(AllocError);
+    };
+    let mut text = String::new(alloc);
+    text.push_str(name)?;
+    Ok(Text::of(text))
+}
+
+impl<'t> Marks<'t> {
+    ghost use Rattle.meson_calls.specs.Expansion.{opaque, empty};
+    ghost use Rattle.meson_calls.specs.Tallies.{Gathered, gathered, no_marks, with_mark, with_item};
+
+    /// Nothing so far. Takes no memory.
+    pub fn new(alloc: Global) -> Self
+        ensures { gathered result ≡ no_marks }
+    {
+        Marks {
+            items: Vec::new(alloc),
+            numbers: Vec::new(alloc),
+            unknown: 0,
+            list: None,
+            vacant: None,
+            followed: Vec::new(alloc),
+        }
+    }
+
+    /// Whether a variable was followed.
+    pub fn has_followed(&self, name: &[u8]) -> bool
+        ensures { result ≡ one_of (gathered self.now).followed name.now }
+    {
+        for i in 0..self.followed.len() {
+            if self.followed[i] == name {
+                return true;
+            }
+        }
+        false
+    }
+
+    /// Follows a variable.
+    pub fn follow(&mut self, name: &'t [u8]) -> Result<(), AllocError>
+        ensures { OnOk result (gathered self.new ≡ record { tally = (gathered self.old).tally; followed = name.entry.now ∷ (gathered self.old).followed }) }
+    {
+        self.followed.push(name)?;
+        Ok(())
+    }
+
+    /// Meets something opaque. No project has so many parts that they can't be counted.
+    pub fn miss(&mut self) -> Result<(), AllocError>
+        ensures { OnOk result (gathered self.new ≡ with_mark (gathered self.old) opaque) }
+    {
+        match self.unknown.checked_add(1) {
+            Some(unknown) => {
+                self.unknown = unknown;
+                Ok(())
+            }
+            None => Err(AllocError),
+        }
+    }
+
+    /// Meets a list that holds nothing.
+    pub fn meet_vacant(
+        &mut self,
+        alloc: Global,
+        file: usize,
+        path: &[usize],
+    ) -> Result<(), AllocError>
+        ensures { OnOk result (gathered self.new ≡ with_mark (gathered self.old) (empty (place file path.now))) }
+    {
+        if self.vacant.is_none() {
+            let place = place_of(alloc, file, path)?;
+            self.vacant = Some(place);
+        }
+        Ok(())
+    }
+
+    /// Meets a literal, which has this number in its list.
+    pub fn meet(
+        &mut self,
+        alloc: Global,
+        item: SourceItem,
+        number: Option<usize>,
+    ) -> Result<(), AllocError>
+        ensures { OnOk result (gathered self.new ≡ record { tally = with_item (gathered self.old).tally item number; followed = (gathered self.old).followed }) }
+    {
+        if self.list.is_none() {
+            self.list = copy_list(alloc, &item.list)?;
+        }
+        self.numbers.push(number)?;
+        self.items.push(item)?;
+        Ok(())
+    }
+}
+
+fn copy_list(alloc: Global, list: &Option<CallRef>) -> Result<Option<CallRef>, AllocError>
+    ensures { IfOk result (λ copy. copy ≡ list.now) }
+{
+    match list {
+        Some(place) => {
+            let copy = copy_place(alloc, place)?;
+            Ok(Some(copy))
+        }
+        None => Ok(None),
+    }
+}

@@ -1,0 +1,188 @@
+//! Calls that an id names.
+
+ghost use Rattle.std.specs.Prelude.{◌≡◌, IfOk};
+ghost use Rattle.meson_syntax.specs.View.{expr_view};
+ghost use Rattle.meson_calls.specs.Calls.{call_of};
+ghost use Rattle.meson_calls.specs.Roles.{one_of, project_ids};
+ghost use Rattle.meson_calls.specs.Notes.{note_view, note_views};
+ghost use Rattle.meson_calls.specs.Project.{child};
+ghost use Rattle.meson_calls.specs.Picking.{note_has_name, note_sets_call, is_role_call, places_that, assigned_places, found_places};
+ghost use Rattle.meson_calls.specs.Strings.{AreGood, NotesGood, note_words};
+
+use crate::call::{CallRef, Role};
+use crate::literals::first_literal_is;
+use crate::note::{Note, What};
+use crate::picking::{copy_place, with_role};
+use crate::roles::{has_role, text_of};
+use meson_syntax::{Expr, Many, Path};
+use std::alloc::{AllocError, Global};
+
+/// Whether a note is a call of a role and a name.
+fn has_name(alloc: Global, role: Role, id: &str, note: &Note<'_>) -> Result<bool, AllocError>
+    requires { AreGood (note_words (note_view note.now).it) }
+    ensures { IfOk result (λ b. b ≡ note_has_name role id.now (note_view note.now).it) }
+{
+    match note.what {
+        What::Call {
+            function,
+            arguments,
+        } => {
+            if has_role(role, text_of(note.source, function), arguments) {
+                let named = first_literal_is(alloc, note.source, arguments, id)?;
+                Ok(named)
+            } else {
+                Ok(false)
+            }
+        }
+        What::Assign {
+            name: _,
+            sets: _,
+            value: _,
+        } => Ok(false),
+        What::Loop { names: _ } => Ok(false),
+    }
+}
+
+/// Whether an expression is a call of a role.
+pub fn is_role_call(role: Role, source: &[u8], expr: &Expr) -> bool
+    ensures { result ≡ is_role_call role (call_of (expr_view source.now expr.now)) }
+{
+    match expr {
+        Expr::Call {
+            span: _,
+            name,
+            arguments,
+        } => has_role(role, text_of(source, *name), arguments),
+        Expr::Identifier(_) => false,
+        Expr::Boolean { span: _, value: _ } => false,
+        Expr::Integer(_) => false,
+        Expr::String { span: _, kind: _ } => false,
+        Expr::Paren { span: _, inside: _ } => false,
+        Expr::Array(_) => false,
+        Expr::Dictionary(_) => false,
+        Expr::Unary {
+            span: _,
+            operator: _,
+            operand: _,
+        } => false,
+        Expr::Row {
+            span: _,
+            first: _,
+            rest: _,
+        } => false,
+        Expr::Postfix {
+            span: _,
+            base: _,
+            tails: _,
+        } => false,
+        Expr::Conditional {
+            span: _,
+            condition: _,
+            yes: _,
+            no: _,
+        } => false,
+    }
+}
+
+/// Whether a note sets the variable to a call of a role.
+fn sets_call(role: Role, id: &str, note: &Note<'_>) -> bool
+    ensures { result ≡ note_sets_call role id.now (note_view note.now).it }
+{
+    match note.what {
+        What::Assign { name, sets, value } => {
+            sets && text_of(note.source, name) == id.as_bytes()
+                && is_role_call(role, note.source, value)
+        }
+        What::Call {
+            function: _,
+            arguments: _,
+        } => false,
+        What::Loop { names: _ } => false,
+    }
+}
+
+/// The places of the calls of a role and a name.
+pub fn with_name(
+    alloc: Global,
+    role: Role,
+    id: &str,
+    notes: &[Note<'_>],
+) -> Result<Vec<CallRef>, AllocError>
+    requires { NotesGood (note_views notes.now) }
+    ensures { IfOk result (λ found. found.items ≡ places_that (note_has_name role id.now) (note_views notes.now)) }
+{
+    let mut found = Vec::new(alloc);
+    for i in 0..notes.len() {
+        let note = &notes[i];
+        if has_name(alloc, role, id, note)? {
+            let place = copy_place(alloc, &note.place)?;
+            found.push(place)?;
+        }
+    }
+    Ok(found)
+}
+
+/// The place of the value of an assignment.
+fn value_place(alloc: Global, place: &CallRef) -> Result<CallRef, AllocError>
+    ensures { IfOk result (λ p. p ≡ child place.now 0) }
+{
+    let mut steps = Vec::from_slice(alloc, place.path.steps.get())?;
+    steps.push(0)?;
+    Ok(CallRef {
+        file: place.file,
+        path: Path {
+            steps: Many::of(steps),
+        },
+    })
+}
+
+/// The places of the calls of a role that a variable is set to.
+fn assigned_to(
+    alloc: Global,
+    role: Role,
+    id: &str,
+    notes: &[Note<'_>],
+) -> Result<Vec<CallRef>, AllocError>
+    ensures { IfOk result (λ found. found.items ≡ assigned_places role id.now (note_views notes.now)) }
+{
+    let mut found = Vec::new(alloc);
+    for i in 0..notes.len() {
+        let note = &notes[i];
+        if sets_call(role, id, note) {
+            let place = value_place(alloc, &note.place)?;
+            found.push(place)?;
+        }
+    }
+    Ok(found)
+}
+
+fn names_project(id: &str) -> bool
+    ensures { result ≡ one_of project_ids id.now }
+{
+    "/" == id || "//" == id
+}
+
+/// The places of the calls that an id names.
+pub fn found(
+    alloc: Global,
+    role: Role,
+    id: &str,
+    notes: &[Note<'_>],
+) -> Result<Vec<CallRef>, AllocError>
+    requires { NotesGood (note_views notes.now) }
+    ensures { IfOk result (λ found. found.items ≡ found_places role id.now (note_views notes.now)) }
+{
+    if matches!(role, Role::Project) {
+        if names_project(id) {
+            let found = with_role(alloc, role, notes)?;
+            return Ok(found);
+        }
+        return Ok(Vec::new(alloc));
+    }
+    let named = with_name(alloc, role, id, notes)?;
+    if named.is_empty() {
+        let assigned = assigned_to(alloc, role, id, notes)?;
+        return Ok(assigned);
+    }
+    Ok(named)
+}

@@ -1,0 +1,39 @@
+//! Places of notes that are picked out.
+
+ghost use Rattle.std.specs.Prelude.{◌≡◌, IfOk};
+ghost use Rattle.meson_calls.specs.Notes.{note_views};
+ghost use Rattle.meson_calls.specs.Picking.{places_with_role};
+
+use crate::call::{CallRef, Role};
+use crate::note::Note;
+use crate::roles::note_has_role;
+use meson_syntax::{Many, Path};
+use std::alloc::{AllocError, Global};
+
+/// An equal place.
+pub fn copy_place(alloc: Global, place: &CallRef) -> Result<CallRef, AllocError>
+    ensures { IfOk result (λ p. p ≡ place.now) }
+{
+    let steps = Vec::from_slice(alloc, place.path.steps.get())?;
+    Ok(CallRef {
+        file: place.file,
+        path: Path {
+            steps: Many::of(steps),
+        },
+    })
+}
+
+/// The places of the calls of a role.
+pub fn with_role(alloc: Global, role: Role, notes: &[Note<'_>]) -> Result<Vec<CallRef>, AllocError>
+    ensures { IfOk result (λ found. found.items ≡ places_with_role role (note_views notes.now)) }
+{
+    let mut found = Vec::new(alloc);
+    for i in 0..notes.len() {
+        let note = &notes[i];
+        if note_has_role(role, note.source, note.what) {
+            let place = copy_place(alloc, &note.place)?;
+            found.push(place)?;
+        }
+    }
+    Ok(found)
+}

@@ -1,0 +1,115 @@
+//! The sources of a target.
+
+ghost use Rattle.std.specs.Prelude.{◌≡◌, ◌≢◌, Ok, Err, IfErr, IfOk};
+ghost use Rattle.meson_syntax.specs.View.{list_view};
+ghost use Rattle.meson_calls.specs.Project.{placed};
+ghost use Rattle.meson_calls.specs.GoodLists.{GoodArgs, GoodListing};
+ghost use Rattle.meson_calls.specs.Named.{AreVariables, project_of};
+ghost use Rattle.meson_calls.specs.Picking.{Source, call_with};
+ghost use Rattle.meson_calls.specs.Sources.{or_option, or_call, sources_of_call};
+ghost use Rattle.meson_calls.specs.Tallies.{gathered};
+ghost use Rattle.meson_calls.specs.Sourced.{all_gathered};
+
+use crate::arguments::{behind_first, count_named};
+use crate::call::{CallRef, Sources};
+use crate::marks::{Marks, Site, text_of_name};
+use crate::picking::copy_place;
+use crate::refusal::Refusal;
+use crate::variables::Variables;
+use meson_splice::Many;
+use meson_syntax::{Arg, List};
+use std::alloc::{AllocError, Global};
+
+/// So many variables may be followed inside one another.
+pub const MAX_FOLLOWED: usize = 64;
+
+/// What the arguments of a call hold: those without a name behind the first, `sources:`, and, not known, `kwargs:`.
+pub fn met<'t>(
+    variables: &Variables<'t>,
+    left: usize,
+    call: &CallRef,
+    source: &'t [u8],
+    args: &'t [Arg],
+) -> Result<Marks<'t>, AllocError>
+    requires holds { AreVariables variables.now }
+    requires good { GoodArgs source.now args.now }
+    ensures { IfOk result (λ marks. gathered marks ≡ all_gathered (project_of variables.now) left call.now source.entry.now args.entry.now) }
+{
+    let site = Site {
+        file: call.file,
+        source,
+        variable: None,
+    };
+    let mut path = Vec::from_slice(variables.alloc, call.path.steps.get())?;
+    let mut marks = Marks::new(variables.alloc);
+    let from = behind_first(args);
+    variables.expand_plains(left, site, from, args, &mut path, &mut marks)?;
+    variables.expand_nameds(
+        left,
+        site,
+        args,
+        b"sources".as_slice(),
+        &mut path,
+        &mut marks,
+    )?;
+    if count_named(source, args, b"kwargs".as_slice()) > 0 {
+        marks.miss()?;
+    }
+    Ok(marks)
+}
+
+/// The list of the first item, else the first list that holds nothing, else the call.
+pub fn home_of(
+    alloc: Global,
+    call: &CallRef,
+    list: Option<CallRef>,
+    vacant: Option<CallRef>,
+) -> Result<CallRef, AllocError>
+    ensures { IfOk result (λ home. home ≡ or_call call.now (or_option list vacant)) }
+{
+    match list {
+        Some(place) => Ok(place),
+        None => match vacant {
+            Some(place) => Ok(place),
+            None => copy_place(alloc, call),
+        },
+    }
+}
+
+/// The sources of the call at a place.
+///
+/// # Errors
+/// `sources:` is there twice, or memory is refused.
+pub fn sources_of<'t>(
+    variables: &Variables<'t>,
+    call: &CallRef,
+    source: &'t [u8],
+    arguments: &'t List,
+) -> Result<Sources, Refusal>
+    requires holds { AreVariables variables.now }
+    requires good { GoodListing (list_view source.now arguments.now) }
+    ensures found { (function : Source) → IfOk result (λ s. sources_of_call (project_of variables.now) (placed call.now (call_with function (list_view source.entry.now arguments.entry.now))) ≡ Ok s) }
+    ensures refused { (function : Source) → IfErr result (λ e. e ≢ Refusal.OutOfMemory → sources_of_call (project_of variables.now) (placed call.now (call_with function (list_view source.entry.now arguments.entry.now))) ≡ Err e) }
+{
+    let alloc = variables.alloc;
+    let args = arguments.items.get();
+    if count_named(source, args, b"sources".as_slice()) > 1 {
+        let key = text_of_name(alloc, b"sources".as_slice())?;
+        return Err(Refusal::DuplicateKeyword(key));
+    }
+    let marks = met(variables, MAX_FOLLOWED, call, source, args)?;
+    let Marks {
+        items,
+        numbers: _,
+        unknown,
+        list,
+        vacant,
+        followed: _,
+    } = marks;
+    let home = home_of(alloc, call, list, vacant)?;
+    Ok(Sources {
+        items: Many::of(items),
+        opaque: unknown,
+        home,
+    })
+}

@@ -1,7 +1,0 @@
-use Rattle.std.proofs.Common.{◌≡◌, ◌+◌, ◌≤◌, length, drop}
-use Rattle.meson_plan.specs.Calls.{value_with_name}
-use Rattle.meson_plan.specs.Sourced.{kept_args}
-use Rattle.meson_plan.proofs.arguments.count_named.Given as goal
-
-abbrev pub invariant-loop-i : goal.invariant-loop-i
-invariant-loop-i l = (l.count ≤ l.i) × (l.count + length (kept_args l.source (value_with_name l.key) l.i (drop l.i l.args)) ≡ length (kept_args l.source (value_with_name l.key) 0 l.args))

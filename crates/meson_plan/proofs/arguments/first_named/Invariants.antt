@@ -1,7 +1,0 @@
-use Rattle.std.proofs.Common.{◌≡◌, drop}
-use Rattle.meson_plan.specs.Calls.{value_with_name}
-use Rattle.meson_plan.specs.Sourced.{kept_args}
-use Rattle.meson_plan.proofs.arguments.first_named.Given as goal
-
-abbrev pub invariant-loop-i : goal.invariant-loop-i
-invariant-loop-i l = kept_args l.source (value_with_name l.key) 0 l.args ≡ kept_args l.source (value_with_name l.key) l.i (drop l.i l.args)

@@ -1,7 +1,0 @@
-use Rattle.std.proofs.Common.{◌≡◌, ◌++◌, drop}
-use Rattle.meson_plan.specs.Notes.{note_views}
-use Rattle.meson_plan.specs.Picking.{assigned_places}
-use Rattle.meson_plan.proofs.naming.assigned_to.Given as goal
-
-abbrev pub invariant-loop-i : goal.invariant-loop-i
-invariant-loop-i l = l.found.items ++ assigned_places l.role l.id (note_views (drop l.i l.notes)) ≡ assigned_places l.role l.id (note_views l.notes)

@@ -1,7 +1,0 @@
-use Rattle.std.proofs.Common.{◌≡◌, ◌++◌, drop}
-use Rattle.meson_plan.specs.Notes.{note_views}
-use Rattle.meson_plan.specs.Picking.{places_that, note_has_name}
-use Rattle.meson_plan.proofs.naming.with_name.Given as goal
-
-abbrev pub invariant-loop-i : goal.invariant-loop-i
-invariant-loop-i l = l.found.items ++ places_that (note_has_name l.role l.id) (note_views (drop l.i l.notes)) ≡ places_that (note_has_name l.role l.id) (note_views l.notes)

@@ -1,0 +1,22 @@
+-- What is written for a value of an argument.
+use Rattle.std.specs.Prelude.{◌≡◌, ◌≤◌, ℕ, List, Result, Ok}
+use Rattle.meson_syntax.specs.Grammar.{expression_words, LevelExpression, expression_depth}
+use Rattle.meson_syntax.specs.Tree.{Nowhere, Expression}
+use Rattle.meson_edit.specs.Edits.{Written}
+use Rattle.meson_edit.specs.Places.{IsWritten}
+use Rattle.meson_calls.specs.declared.refusal.Refusal.{Refusal}
+
+-- The bytes are written for an expression in which no construct stands in another, and which may stand as the value of an argument.
+pub record WrittenFor (bytes : List ℕ) : Type 0 where
+  pub node : Expression Nowhere
+  pub writes : IsWritten bytes (expression_words node)
+  pub level : LevelExpression node
+  pub shallow : expression_depth node ≤ 1
+
+abbrev pub written : (bytes : List ℕ) → WrittenFor bytes → Written (Expression Nowhere)
+written bytes w = record { bytes = bytes; node = w.node }
+
+-- what is set are these bytes
+pub record IsSet (set : Result (Written (Expression Nowhere)) Refusal) (bytes : List ℕ) : Type 0 where
+  pub new : WrittenFor bytes
+  pub is : set ≡ Ok (written bytes new)
