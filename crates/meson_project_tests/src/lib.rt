@@ -4,12 +4,6 @@
 #[cfg(test)]
 mod extra_commands;
 #[cfg(test)]
-mod info_commands;
-#[cfg(test)]
-mod keyword_commands;
-#[cfg(test)]
-mod option_commands;
-#[cfg(test)]
 mod performing;
 #[cfg(test)]
 mod plain;
@@ -33,5 +27,3 @@ mod source_refusals;
 mod source_removals;
 #[cfg(test)]
 mod sourcing;
-#[cfg(test)]
-mod target_commands;
