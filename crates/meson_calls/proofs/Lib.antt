@@ -29,3 +29,11 @@ pub mod KnownCalls
 pub mod CallsAt
 pub mod ArgumentViews
 pub mod FirstNamed
+pub mod ListNodes
+pub mod Reached
+pub mod CallsReached
+pub mod ExpressionsAt
+pub mod CallsFound
+pub mod OneCall
+pub mod CallLists
+pub mod FirstValue

@@ -21,3 +21,6 @@ pub mod GoodLists
 pub mod Sourced
 pub mod Knowns
 pub mod Keywords
+pub mod Finding
+pub mod OnePlace
+pub mod CallPlaces

@@ -6,7 +6,7 @@ use Rattle.meson_calls.specs.declared.call.CallRef.{CallRef}
 use Rattle.meson_calls.specs.declared.call.SourceItem.{SourceItem}
 use Rattle.meson_calls.specs.declared.call.Sources as found
 use Rattle.meson_calls.specs.declared.refusal.Refusal.{Refusal}
-use Rattle.meson_calls.specs.declared.refusal.Refusal.TheVariants.{DuplicateKeyword}
+use Rattle.meson_calls.specs.declared.refusal.Refusal.TheVariants.{DuplicateKeyword, HiddenKeywords}
 use Rattle.meson_calls.specs.Project.{Project, child, Placed, placed, expression_at}
 use Rattle.meson_calls.specs.Calls.{Call, call_of, Numbered, positional, keyword}
 use Rattle.meson_calls.specs.Expansion.{Slot, in_list, fixed, Item, Mark, known, opaque, empty, Expansion, nothing, and_then, expand, max_followed}
@@ -107,3 +107,8 @@ sources_of_call p c = once sources_key (keyword sources_key c.it) (answer c.plac
 -- the sources of the target at that place
 abbrev pub sources : Project Span → CallRef → Option (Result found.Sources Refusal)
 sources p c = option_map (sources_of_call p) (call_at p c)
+
+-- an edit of keyword arguments wants none that are hidden in `kwargs:`
+abbrev pub not_hidden : {X : Type 0} → List X → Result (Unit {0}) Refusal
+not_hidden [] = Ok tt
+not_hidden (x ∷ more) = Err HiddenKeywords

@@ -6,6 +6,7 @@ pub mod arriving;
 pub mod call;
 pub mod entering;
 pub mod expansion;
+pub mod finding;
 pub mod folders;
 pub mod known;
 pub mod literals;

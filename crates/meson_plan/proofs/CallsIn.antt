@@ -11,20 +11,20 @@ use Rattle.meson_syntax.specs.View.{list_view}
 use Rattle.meson_calls.specs.declared.call.CallRef.{CallRef}
 use Rattle.meson_calls.specs.declared.call.Role.{Role}
 use Rattle.meson_calls.specs.declared.refusal.Refusal.{Refusal}
-use Rattle.meson_plan.specs.declared.step.ListStep.{ListStep}
+use Rattle.meson_steps.specs.declared.step.ListStep.{ListStep}
 use Rattle.meson_calls.specs.Calls.{Call}
-use Rattle.meson_plan.specs.ListSteps as doable
+use Rattle.meson_steps.specs.ListSteps as doable
 use Rattle.meson_calls.specs.Loading.{Loaded, AreParsed, named_trees, views}
-use Rattle.meson_plan.specs.Performing.{plain_trees}
+use Rattle.meson_steps.specs.Results.{plain_trees}
 use Rattle.meson_calls.specs.Picking.{call_with}
-use Rattle.meson_plan.specs.Planning.{the_call}
-use Rattle.meson_plan.specs.Plans.{ArePlanned}
+use Rattle.meson_calls.specs.Finding.{the_call}
+use Rattle.meson_steps.specs.Plans.{ArePlanned}
 use Rattle.meson_calls.specs.Project.{Project, Placed}
-use Rattle.meson_plan.specs.Standings.{CallIn, CallThere}
-use Rattle.meson_plan.specs.Steps.{Step}
+use Rattle.meson_calls.specs.CallPlaces.{CallIn, CallThere}
+use Rattle.meson_steps.specs.Steps.{Step}
 use Rattle.meson_calls.proofs.CallsAt.{some_within}
-use Rattle.meson_plan.proofs.CallsFound.{calls_stand}
-use Rattle.meson_plan.proofs.OneCall.{placed_at, call_there}
+use Rattle.meson_calls.proofs.CallsFound.{calls_stand}
+use Rattle.meson_calls.proofs.OneCall.{placed_at, call_there}
 
 module _ (files : List File) (trees : List Parsed) (are : AreParsed files trees) (r : Role) (id : List ℕ) (place : CallRef) (found : placed_at (the_call (named_trees files (views files trees)) r id) ≡ Ok place) where
   abbrev p : Project Span

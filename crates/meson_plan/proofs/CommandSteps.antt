@@ -4,20 +4,20 @@ use Rattle.std.specs.Prelude.{Some, Result, Ok, Err, IfOk, IfErr}
 use Rattle.meson_lex.specs.declared.kinds.Span.{Span}
 use Rattle.meson_syntax.proofs.parsing.Steps.{some-injective}
 use Rattle.meson_calls.specs.declared.call.Role.{Role}
-use Rattle.meson_plan.specs.declared.command.Command.{Command}
-use Rattle.meson_plan.specs.declared.command.Command.TheVariants as command
+use Rattle.meson_steps.specs.declared.command.Command.{Command}
+use Rattle.meson_steps.specs.declared.command.Command.TheVariants as command
 use Rattle.meson_calls.specs.declared.refusal.Refusal.{Refusal}
 use Rattle.meson_calls.specs.declared.refusal.Refusal.TheVariants.{OutOfMemory}
-use Rattle.meson_plan.specs.declared.work.Work.{Work}
-use Rattle.meson_plan.specs.Changing.{request_steps}
-use Rattle.meson_plan.specs.Done.{IsOutcome, MayNotBeMade}
+use Rattle.meson_steps.specs.declared.work.Work.{Work}
+use Rattle.meson_keywords.specs.Changing.{request_steps}
+use Rattle.meson_steps.specs.Done.{IsOutcome, MayNotBeMade}
 use Rattle.meson_calls.specs.Loading.{Loaded}
-use Rattle.meson_plan.specs.Outcomes.{IsDone, MayNotBeDone, unmade}
+use Rattle.meson_steps.specs.Outcomes.{IsDone, MayNotBeDone, unmade}
 use Rattle.meson_plan.specs.Planning.{planned}
 use Rattle.meson_calls.specs.Project.{Project}
-use Rattle.meson_plan.specs.Steps.{Step}
-use Rattle.meson_plan.specs.Tasking.{Asked, requested}
-use Rattle.meson_plan.specs.Working.{so_far}
+use Rattle.meson_steps.specs.Steps.{Step}
+use Rattle.meson_keywords.specs.Tasking.{Asked, requested}
+use Rattle.meson_steps.specs.Working.{so_far}
 
 pub request_meant : (p : Project Span) (k : Command) (q : Role × List ℕ × Asked) → requested k ≡ Some q → request_steps p q ≡ planned p k
 request_meant p (command.KwargsSet r id pairs) q is = ap (request_steps p) (sym (some-injective _ _ is))

@@ -1,20 +1,21 @@
 -- What a command makes of a project, and why it is refused, from what is done of the steps that it means.
 use Rattle.std.proofs.Common.{◌≡◌, List, refl, ◌∙◌}
 use Rattle.std.specs.Prelude.{Ok}
-use Rattle.meson_plan.specs.declared.command.Command.{Command}
-use Rattle.meson_plan.specs.declared.command.Done.{Done}
+use Rattle.meson_steps.specs.declared.command.Command.{Command}
+use Rattle.meson_steps.specs.declared.command.Done.{Done}
 use Rattle.meson_calls.specs.declared.refusal.Refusal.{Refusal}
-use Rattle.meson_plan.specs.declared.work.Work.{Work}
-use Rattle.meson_plan.specs.Done.{MayNotBeMade}
-use Rattle.meson_plan.specs.Done as done
+use Rattle.meson_steps.specs.declared.work.Work.{Work}
+use Rattle.meson_steps.specs.Done.{MayNotBeMade}
+use Rattle.meson_steps.specs.Done as done
 use Rattle.meson_calls.specs.Loading.{Loaded, project}
-use Rattle.meson_plan.specs.Outcomes.{IsDone, MayNotBeDone}
-use Rattle.meson_plan.specs.Outcomes as outcome
-use Rattle.meson_plan.specs.Performing.{MayRefuse, Performs, plain_trees}
+use Rattle.meson_steps.specs.Outcomes.{IsDone, MayNotBeDone}
+use Rattle.meson_steps.specs.Outcomes as outcome
+use Rattle.meson_steps.specs.Results.{plain_trees}
+use Rattle.meson_plan.specs.Performing.{MayRefuse, Performs}
 use Rattle.meson_plan.specs.Performing as performing
 use Rattle.meson_plan.specs.Planning.{planned}
-use Rattle.meson_plan.specs.Steps.{Step}
-use Rattle.meson_plan.specs.Working.{so_far}
+use Rattle.meson_steps.specs.Steps.{Step}
+use Rattle.meson_steps.specs.Working.{so_far}
 
 module _ (old : Loaded) (k : Command) where
   unmade : (steps : List Step) → planned (project old) k ≡ Ok steps → (e : Refusal) → MayNotBeMade old steps e → MayRefuse old k e

@@ -12,16 +12,16 @@ use Rattle.meson_calls.specs.declared.call.Role.{Role}
 use Rattle.meson_calls.specs.declared.refusal.Refusal.{Refusal}
 use Rattle.meson_calls.specs.declared.refusal.Refusal.TheVariants.{DuplicateKeyword, OutOfMemory}
 use Rattle.meson_calls.specs.Calls.{Call, keyword, value_with_name}
-use Rattle.meson_plan.specs.Keys.{is_key}
+use Rattle.meson_keywords.specs.Keys.{is_key}
 use Rattle.meson_calls.specs.Picking.{call_with}
 use Rattle.meson_plan.specs.Planning.{only_once, target_told, name_in, key_told, keys_told, call_told}
-use Rattle.meson_plan.specs.SourceEdits.{extra_key}
+use Rattle.meson_sources.specs.SourceEdits.{extra_key}
 use Rattle.meson_calls.specs.Sourced.{kept_args}
 use Rattle.meson_calls.specs.Sources.{sources_key, once}
-use Rattle.meson_plan.specs.Steps.{Step}
-use Rattle.meson_plan.proofs.ArgumentValues.{list_elements}
+use Rattle.meson_steps.specs.Steps.{Step}
+use Rattle.meson_steps.proofs.ArgumentValues.{list_elements}
 use Rattle.meson_calls.proofs.Listed.{list_is}
-use Rattle.meson_plan.proofs.SourcesMeant.{once_few, once_twice}
+use Rattle.meson_sources.proofs.SourcesMeant.{once_few, once_twice}
 
 module _ (source : List ℕ) (l : rust.List) (function : List ℕ) where
   abbrev the_call : Call Span

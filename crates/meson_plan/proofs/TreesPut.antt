@@ -2,7 +2,7 @@
 use Rattle.std.proofs.Common.{◌≡◌, suc, ◌<◌, ◌≤◌, List, [], ◌∷◌, ◌++◌, length, Option, Some, None, refl, ap, arith}
 use Rattle.std.specs.Prelude.{slice_set}
 use Rattle.meson_syntax.specs.declared.tree.Parsed.{Parsed}
-use Rattle.meson_plan.specs.OtherValues.{with_some}
+use Rattle.meson_steps.specs.OtherValues.{with_some}
 
 pub as_many_put : (new : List (Option Parsed)) (trees : List Parsed) → length (with_some new trees) ≡ length trees
 as_many_put [] trees = refl

@@ -1,20 +1,16 @@
 -- How a command ends.
-use Rattle.std.specs.Prelude.{◌≡◌, ◌≤◌, ℕ, ◌-◌, ◌^◌, min, List, map, All, length, Some, Ok, Err}
+use Rattle.std.specs.Prelude.{◌≡◌, ℕ, List, Some, Ok, Err}
 use Rattle.meson_splice.specs.declared.file_set.File.{File}
 use Rattle.meson_splice.specs.declared.splice.Splice.{Splice}
-use Rattle.meson_syntax.specs.Tree.{Plain, erase}
-use Rattle.meson_syntax.specs.Grammar.{file_depth}
-use Rattle.meson_syntax.specs.Reads.{max_len, max_depth}
-use Rattle.meson_plan.specs.declared.command.Command.{Command}
-use Rattle.meson_plan.specs.declared.command.Done.{Done}
+use Rattle.meson_syntax.specs.Tree.{Plain}
+use Rattle.meson_steps.specs.declared.command.Command.{Command}
+use Rattle.meson_steps.specs.declared.command.Done.{Done}
 use Rattle.meson_calls.specs.declared.refusal.Refusal.{Refusal}
 use Rattle.meson_calls.specs.declared.refusal.Refusal.TheVariants.{TooDeep, TooLarge}
-use Rattle.meson_calls.specs.Loading.{Loaded, project, trees}
-use Rattle.meson_plan.specs.Steps.{Step, all_stepped, StepsMake}
+use Rattle.meson_calls.specs.Loading.{Loaded, project}
+use Rattle.meson_steps.specs.Steps.{Step, all_stepped, StepsMake}
 use Rattle.meson_plan.specs.Planning.{planned}
-
-abbrev pub plain_trees : Loaded → List Plain
-plain_trees l = map erase (trees l)
+use Rattle.meson_steps.specs.Results.{AreShallow, AreSmall, plain_trees, saturated}
 
 -- What a command makes of a project: the trees by its edits, the splices and files by the layouts of these.
 pub record Makes (old : Loaded) (c : Command) : Type 0 where
@@ -26,18 +22,6 @@ pub record Makes (old : Loaded) (c : Command) : Type 0 where
   pub files : List File
   pub bytes : ℕ
   pub are_done : StepsMake old.files steps splices files bytes
-
--- ---- the limits, which are asked of the result
-
-abbrev pub AreShallow : List Plain → Type 0
-AreShallow ts = All (λ t. file_depth t ≤ max_depth) ts
-
-abbrev pub AreSmall : List File → Type 0
-AreSmall files = All (λ f. length f.bytes ≤ max_len) files
-
--- the greatest number that a count reaches
-abbrev pub saturated : ℕ → ℕ
-saturated n = min n (2 ^ 64 - 1)
 
 -- ---- the answers
 

@@ -1,42 +1,24 @@
 -- The edits that a command means, or why it is refused. Meson manual, Rewriter.
-use Rattle.std.specs.Prelude.{ℕ, List, [], ◌∷◌, codes, if◌then◌else◌, Option, Some, None, Result, Ok, Err}
+use Rattle.std.specs.Prelude.{ℕ, List, [], ◌∷◌, codes, if◌then◌else◌, Option, Some, None, Result, Ok}
 use Rattle.std.specs.List.{filter_map}
 use Rattle.meson_splice.specs.Patch.{then_ok}
 use Rattle.meson_syntax.specs.Tree.{Argument, plain, named, pair}
 use Rattle.meson_edit.specs.Edits.{elements}
 use Rattle.meson_calls.specs.declared.call.Role.{Role}
 use Rattle.meson_calls.specs.declared.call.Role.TheVariants as role
-use Rattle.meson_plan.specs.declared.command.Command.{Command}
-use Rattle.meson_plan.specs.declared.command.Command.TheVariants as command
+use Rattle.meson_steps.specs.declared.command.Command.{Command}
+use Rattle.meson_steps.specs.declared.command.Command.TheVariants as command
 use Rattle.meson_calls.specs.declared.refusal.Refusal.{Refusal}
-use Rattle.meson_calls.specs.declared.refusal.Refusal.TheVariants.{NoProject, NotFound, Ambiguous}
-use Rattle.meson_calls.specs.Project.{Project, Placed}
+use Rattle.meson_calls.specs.Project.{Project}
 use Rattle.meson_calls.specs.Calls.{Call, keyword}
-use Rattle.meson_calls.specs.Roles.{found, role_calls}
+use Rattle.meson_calls.specs.Finding.{the_call}
 use Rattle.meson_calls.specs.Sources.{sources_key, once}
-use Rattle.meson_plan.specs.Keys.{is_key}
-use Rattle.meson_plan.specs.SourceEdits.{extra_key, sources_added, sources_removed, extra_added, extra_removed}
-use Rattle.meson_plan.specs.TargetEdits.{target_added, target_removed}
-use Rattle.meson_plan.specs.Tasks.{each_made, set_entry, delete_entry, add_entry, remove_entry, set_option_entry, delete_option_entry}
-use Rattle.meson_plan.specs.TaskSteps.{call_changed}
-use Rattle.meson_plan.specs.Steps.{Step}
-
--- ---- finding
-
-abbrev pub only_one : {X : Type 0} → List X → Result X Refusal
-only_one [] = Err NotFound
-only_one (x ∷ []) = Ok x
-only_one (x ∷ y ∷ more) = Err Ambiguous
-
-abbrev pub any_project : {S : Type 0} → List (Placed (Call S)) → Result (Unit {0}) Refusal
-any_project [] = Err NoProject
-any_project (c ∷ more) = Ok tt
-
--- the one call that an id names
-abbrev pub the_call : {S : Type 0} → Project S → Role → List ℕ → Result (Placed (Call S)) Refusal
-the_call p role.Target id = only_one (found p role.Target id)
-the_call p role.Dependency id = only_one (found p role.Dependency id)
-the_call p role.Project id = then_ok (any_project (role_calls p role.Project)) (λ _. only_one (found p role.Project id))
+use Rattle.meson_keywords.specs.Keys.{is_key}
+use Rattle.meson_sources.specs.SourceEdits.{extra_key, sources_added, sources_removed, extra_added, extra_removed}
+use Rattle.meson_targets.specs.TargetEdits.{target_added, target_removed}
+use Rattle.meson_keywords.specs.Tasks.{each_made, set_entry, delete_entry, add_entry, remove_entry, set_option_entry, delete_option_entry}
+use Rattle.meson_keywords.specs.TaskSteps.{call_changed}
+use Rattle.meson_steps.specs.Steps.{Step}
 
 -- ---- commands that change nothing: what they tell of may be there once only
 

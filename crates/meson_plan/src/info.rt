@@ -5,18 +5,19 @@ ghost use Rattle.meson_syntax.specs.View.{arg_view, list_view};
 ghost use Rattle.meson_calls.specs.Loading.{IsProject, named_trees, views};
 ghost use Rattle.meson_calls.specs.Notes.{note_views, notes};
 ghost use Rattle.meson_calls.specs.Picking.{Source, call_with};
-ghost use Rattle.meson_plan.specs.Planning.{call_told, key_told, name_in, target_told, the_call};
-ghost use Rattle.meson_plan.specs.Plans.{ArePlanned};
+ghost use Rattle.meson_calls.specs.Finding.{the_call};
+ghost use Rattle.meson_plan.specs.Planning.{call_told, key_told, name_in, target_told};
+ghost use Rattle.meson_steps.specs.Plans.{ArePlanned};
 ghost use Rattle.meson_splice.specs.Patch.{then_ok};
 
-use crate::editing::at_most_once;
-use crate::finding::{list_of_call, the_call};
-use crate::keys::is_key;
-use crate::step::ListStep;
+use meson_calls::finding::{list_of_call, the_call};
 use meson_calls::note::Note;
 use meson_calls::roles::text_of;
 use meson_calls::{Refusal, Role};
+use meson_keywords::keys::is_key;
+use meson_sources::editing::at_most_once;
 use meson_splice::FileSet;
+use meson_steps::step::ListStep;
 use meson_syntax::{Arg, List, Parsed};
 use std::alloc::Global;
 

@@ -1,20 +1,15 @@
 //! A project: its files, and the tree of each.
 
-ghost use Rattle.std.specs.Prelude.{◌≡◌, ◌≢◌, [], Some, Ok, Err, IfErr, IfOk, IsTrue, OnErr};
-ghost use Rattle.meson_calls.specs.Directories.{IsFileName};
+ghost use Rattle.std.specs.Prelude.{◌≡◌, ◌≢◌, Some, Ok, Err, IfErr, IfOk, IsTrue, OnErr};
 ghost use Rattle.meson_calls.specs.Loading.{IsProject, MayNotLoad, project};
-ghost use Rattle.meson_plan.specs.OtherValues.{with_some};
-ghost use Rattle.meson_plan.specs.Outcomes.{IsDone, MayNotBeDone};
+ghost use Rattle.meson_steps.specs.OtherValues.{with_some};
+ghost use Rattle.meson_steps.specs.Outcomes.{IsDone, MayNotBeDone};
 ghost use Rattle.meson_plan.specs.Performing.{MayRefuse, Performs};
 ghost use Rattle.meson_plan.specs.Planning.{planned};
 ghost use Rattle.meson_calls.specs.Roles.{targets, found, is_target, places};
 ghost use Rattle.meson_calls.specs.Sources.{sources};
 
-use crate::changing::changed;
-use crate::command::{Command, Done};
 use crate::planning::planned;
-use crate::request::request_of;
-use crate::work::{Work, done};
 use meson_calls::arriving::sources_at;
 use meson_calls::loading::{copy_trees, loaded};
 use meson_calls::looking::is_target;
@@ -23,7 +18,11 @@ use meson_calls::notes::notes_of;
 use meson_calls::picking::with_role;
 use meson_calls::variables::Variables;
 use meson_calls::{CallRef, Refusal, Role, Sources, Unloaded};
+use meson_keywords::changing::changed;
+use meson_keywords::request::request_of;
 use meson_splice::{Change, FileSet, Many};
+use meson_steps::command::{Command, Done};
+use meson_steps::work::{Work, done};
 use meson_syntax::Parsed;
 use std::alloc::Global;
 use std::marker::Model;

@@ -5,11 +5,11 @@ use Rattle.meson_splice.specs.declared.fault.SpliceFault.{SpliceFault}
 use Rattle.meson_splice.specs.declared.file_set.File.{File}
 use Rattle.meson_splice.specs.declared.splice.Splice.{Splice}
 use Rattle.meson_splice.specs.Patch.{patched, patched_in, patched_all, then_ok}
-use Rattle.meson_plan.specs.declared.command.Command.{Command}
-use Rattle.meson_plan.specs.declared.command.Done.{Done}
+use Rattle.meson_steps.specs.declared.command.Command.{Command}
+use Rattle.meson_steps.specs.declared.command.Done.{Done}
 use Rattle.meson_calls.specs.Loading.{Loaded}
 use Rattle.meson_plan.specs.Performing.{Performs}
-use Rattle.meson_plan.specs.Steps.{Step, StepsMake, none, step}
+use Rattle.meson_steps.specs.Steps.{Step, StepsMake, none, step}
 
 abbrev names : List File → List (List ℕ)
 names files = map (λ f. f.name) files

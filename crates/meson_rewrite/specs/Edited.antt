@@ -1,7 +1,7 @@
 -- What the step answers that does the command.
 use Rattle.std.specs.Prelude.{◌≡◌, ◌≢◌, length}
-use Rattle.meson_plan.specs.declared.command.Command.{Command}
-use Rattle.meson_plan.specs.declared.command.Done as plan
+use Rattle.meson_steps.specs.declared.command.Command.{Command}
+use Rattle.meson_steps.specs.declared.command.Done as plan
 use Rattle.meson_calls.specs.declared.refusal.Refusal.TheVariants as refusal
 use Rattle.meson_calls.specs.Loading.{Loaded}
 use Rattle.meson_plan.specs.Performing.{Performs, MayRefuse}

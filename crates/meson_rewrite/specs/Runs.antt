@@ -2,10 +2,10 @@
 use Rattle.std.specs.Prelude.{◌≡◌, ◌≢◌, ◌⊎◌, ⊤, ℕ, List, [], ◌∷◌, length, codes, Option, Some, None, Result, Ok, Err}
 use Rattle.std.specs.Io.KnownBytes.{Appends}
 use Rattle.meson_calls.specs.declared.call.Role.TheVariants as role
-use Rattle.meson_plan.specs.declared.command.Command.{Command}
-use Rattle.meson_plan.specs.declared.command.Command.TheVariants.{KwargsSet}
-use Rattle.meson_plan.specs.declared.command.Done as plan
-use Rattle.meson_plan.specs.declared.command.Setting.TheVariants.{Text}
+use Rattle.meson_steps.specs.declared.command.Command.{Command}
+use Rattle.meson_steps.specs.declared.command.Command.TheVariants.{KwargsSet}
+use Rattle.meson_steps.specs.declared.command.Done as plan
+use Rattle.meson_steps.specs.declared.command.Setting.TheVariants.{Text}
 use Rattle.meson_calls.specs.declared.refusal.Refusal.{Refusal}
 use Rattle.meson_calls.specs.declared.refusal.Refusal.TheVariants as refusal
 use Rattle.meson_calls.specs.Directories.{build_file}

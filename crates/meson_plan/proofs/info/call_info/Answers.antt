@@ -2,13 +2,14 @@
 use Rattle.std.proofs.Common.{sym, ap, ◌∙◌, subst, arith}
 use Rattle.meson_splice.specs.Patch.{then_ok}
 use Rattle.meson_calls.specs.Loading.{Loaded, named_trees, views}
-use Rattle.meson_plan.specs.OnePlace.{the_place}
-use Rattle.meson_plan.specs.Planning.{the_call, call_told}
+use Rattle.meson_calls.specs.OnePlace.{the_place}
+use Rattle.meson_calls.specs.Finding.{the_call}
+use Rattle.meson_plan.specs.Planning.{call_told}
 use Rattle.meson_calls.specs.Strings.{NotesGood}
 use Rattle.meson_plan.proofs.CallsIn.{call_in, within_trees, function, told_is, nothing_planned}
 use Rattle.meson_calls.proofs.GoodNotes.{project_good}
 use Rattle.meson_calls.proofs.Loads.{as_many}
-use Rattle.meson_plan.proofs.OneCall.{place_is, call_refused}
+use Rattle.meson_calls.proofs.OneCall.{place_is, call_refused}
 use Rattle.meson_plan.proofs.info.call_info.Goals as goal
 
 pub the_call-requires : goal.the_call-requires

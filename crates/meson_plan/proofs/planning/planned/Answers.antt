@@ -1,13 +1,13 @@
 -- What each command means whose steps are all known at once.
 use Rattle.std.proofs.Common.{◌≡◌, ◌≢◌, sym, ap, ◌∙◌, subst}
 use Rattle.std.specs.Prelude.{IfOk, IfErr, Err}
-use Rattle.meson_plan.specs.declared.command.Command.TheVariants as command
+use Rattle.meson_steps.specs.declared.command.Command.TheVariants as command
 use Rattle.meson_calls.specs.declared.refusal.Refusal.TheVariants.{OutOfMemory}
 use Rattle.meson_calls.specs.Loading.{Loaded, project}
 use Rattle.meson_plan.specs.Planning.{planned}
-use Rattle.meson_plan.specs.Plans.{ArePlanned}
+use Rattle.meson_steps.specs.Plans.{ArePlanned}
 use Rattle.meson_calls.proofs.Loads.{as_many}
-use Rattle.meson_plan.proofs.TargetsDoable.{addition_means, removal_means}
+use Rattle.meson_targets.proofs.TargetsDoable.{addition_means, removal_means}
 use Rattle.meson_plan.proofs.planning.planned.Goals as goal
 
 pub notes_of-requires : goal.notes_of-requires
@@ -18,13 +18,13 @@ returns-in-TargetAdd-clause-plan c =
     let old : Loaded = record { files = c.args.files.now; parsed = c.args.trees.now } in
     let k = c.in-TargetAdd in
     let is = k.is ∙ ap (command.TargetAdd k.target k.target_kind k.subdir) (sym c.get.ensures) in
-    addition_means old c.requires.whole (λ v. v.items) c.args.command.now k.target k.target_kind k.subdir c.get.result.now (ap (planned (project old)) is) c.target_added.result c.target_added.ensures.utf8 c.target_added.ensures.meant
+    addition_means old c.requires.whole (λ v. v.items) (planned (project old) c.args.command.now) k.target k.target_kind k.subdir c.get.result.now (ap (planned (project old)) is) c.target_added.result c.target_added.ensures.utf8 c.target_added.ensures.meant
 
 pub returns-in-TargetRemove-clause-plan : goal.returns-in-TargetRemove-clause-plan
 returns-in-TargetRemove-clause-plan c =
     let old : Loaded = record { files = c.args.files.now; parsed = c.args.trees.now } in
     let is = c.in-TargetRemove.is ∙ ap command.TargetRemove (sym c.get-in-TargetRemove.ensures) in
-    removal_means old c.requires.whole (λ v. v.items) c.args.command.now c.get-in-TargetRemove.result.now (ap (planned (project old)) is) c.target_removed.result c.target_removed.ensures.meant
+    removal_means old c.requires.whole (λ v. v.items) (planned (project old) c.args.command.now) c.get-in-TargetRemove.result.now (ap (planned (project old)) is) c.target_removed.result c.target_removed.ensures.meant
 
 pub returns-in-TargetRemove-clause-refused : goal.returns-in-TargetRemove-clause-refused
 returns-in-TargetRemove-clause-refused c =

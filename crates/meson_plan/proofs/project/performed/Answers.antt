@@ -3,9 +3,9 @@ use Rattle.std.proofs.Common.{◌≢◌, sym, subst}
 use Rattle.std.specs.Prelude.{IfOk, IfErr}
 use Rattle.meson_calls.specs.declared.refusal.Refusal.TheVariants.{OutOfMemory}
 use Rattle.meson_calls.specs.Loading.{Loaded, project}
-use Rattle.meson_plan.specs.Outcomes.{IsDone, MayNotBeDone, unmeant}
+use Rattle.meson_steps.specs.Outcomes.{IsDone, MayNotBeDone, unmeant}
 use Rattle.meson_plan.specs.Planning.{planned}
-use Rattle.meson_plan.specs.Tasking.{request_view}
+use Rattle.meson_keywords.specs.Tasking.{request_view}
 use Rattle.meson_plan.proofs.CommandSteps.{request_meant, steps_done, steps_refused}
 use Rattle.meson_plan.proofs.project.performed.Goals as goal
 

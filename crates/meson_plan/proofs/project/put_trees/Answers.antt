@@ -1,7 +1,7 @@
 use Rattle.std.proofs.Common.{◌≡◌, ◌+◌, ◌<◌, ◌≤◌, [], ◌∷◌, ◌++◌, length, length-append, sym, ap, ◌∙◌, append_assoc, arith}
 use Rattle.std.specs.Prelude.{slice_set}
 use Rattle.std.specs.Vec.Iter.{into_iter_items}
-use Rattle.meson_plan.specs.OtherValues.{with_some}
+use Rattle.meson_steps.specs.OtherValues.{with_some}
 use Rattle.meson_plan.proofs.TreesPut.{as_many_put, one_more, one_past, none_more}
 use Rattle.meson_plan.proofs.project.put_trees.Goals as goal
 use Rattle.meson_plan.proofs.project.put_trees.Goals.{in-Some-tree+then-i-len, in-Some-tree+else-i-len, in_default}

@@ -1,6 +1,6 @@
 use Rattle.std.proofs.Common.{◌≡◌, ◌++◌, length}
 use Rattle.std.specs.Vec.Iter.{into_iter_items}
-use Rattle.meson_plan.specs.OtherValues.{with_some}
+use Rattle.meson_steps.specs.OtherValues.{with_some}
 use Rattle.meson_plan.proofs.project.put_trees.Given as goal
 
 abbrev pub invariant-loop-tree : goal.invariant-loop-tree

@@ -1,9 +1,9 @@
 -- The project becomes what is done of a command, and stays as it is where the command is refused.
 use Rattle.std.proofs.Common.{refl, sym, ap, ◌∙◌, subst}
-use Rattle.meson_plan.specs.declared.command.Done.{Done}
+use Rattle.meson_steps.specs.declared.command.Done.{Done}
 use Rattle.meson_calls.specs.Loading.{Loaded}
 use Rattle.meson_plan.specs.Performing.{MayRefuse, Performs}
-use Rattle.meson_plan.specs.OtherValues.{with_some}
+use Rattle.meson_steps.specs.OtherValues.{with_some}
 use Rattle.meson_plan.proofs.Performed.{may_refuse, performed}
 use Rattle.meson_plan.proofs.project.Project.perform.Goals as goal
 

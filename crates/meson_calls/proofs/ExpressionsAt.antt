@@ -1,0 +1,52 @@
+-- The expression at a place of a project, and the list of an array or a call there.
+use Rattle.std.proofs.Common.{◌≡◌, ℕ, ◌+◌, List, Some, ap, ◌∙◌, arith}
+use Rattle.std.specs.Prelude.{option_and_then}
+use Rattle.meson_lex.specs.declared.kinds.Span.{Span}
+use Rattle.meson_syntax.specs.declared.operator.Assignment.{Assignment}
+use Rattle.meson_syntax.specs.Tree.{Expression, assign}
+use Rattle.meson_syntax.specs.Parts.{an_expression, a_statement, a_block, node_at, expression_any}
+use Rattle.meson_syntax.specs.Paths.{Sort, of_expression, of_statement, of_block, Node, reach, expression_of, ListAt, ListIn, list_at, list_in, list_within, list_of_node, block_of}
+use Rattle.meson_syntax.specs.Paths as paths
+use Rattle.meson_syntax.proofs.PathNodes.{expression-reached}
+use Rattle.meson_syntax.proofs.paths.Reaching.{and-then-some}
+use Rattle.meson_calls.specs.declared.call.CallRef.{CallRef}
+use Rattle.meson_calls.specs.Parts.{Part}
+use Rattle.meson_calls.specs.Parts as part
+use Rattle.meson_calls.specs.Project.{Project, BuildFile, Placed, child, nth_file, expression_at}
+use Rattle.meson_calls.specs.CallPlaces.{ListThere}
+use Rattle.meson_calls.proofs.CallsReached.{InProject}
+use Rattle.meson_calls.proofs.ListNodes.{list_of, node_below}
+use Rattle.meson_calls.proofs.Reached.{any}
+
+-- ---- places of a project
+
+pub record ListHere (p : Project Span) (c : CallRef) (l : ListIn Span) : Type 0 where
+  pub there : ListThere p c
+  pub same_list : there.list.list ≡ l.list
+  pub same_bracket : there.list.bracket ≡ l.bracket
+
+pub list_here : (p : Project Span) (c : CallRef) (e : Expression Span) (l : ListIn Span) → expression_at p c ≡ Some e → list_in e ≡ Some l → ListHere p c l
+list_here p c e l is is_list =
+    let o = and-then-some (λ (g : BuildFile Span). paths.expression_at g.tree c.path.steps) (nth_file p c.file) e is in
+    let i = list_of Span o.0.tree c.path.steps e l o.2 is_list in
+    record { there = record { file = o.0; is_file = o.1; list = i.place; is_list = i.is_place }; same_list = i.list; same_bracket = i.bracket }
+
+-- ---- parts of a project
+
+pub node_expression : (p : Project Span) (c : CallRef) (file : BuildFile Span) (e : Expression Span) → nth_file p c.file ≡ Some file → node_at (a_block (block_of file.tree)) c.path.steps ≡ Some (an_expression e) → expression_at p c ≡ Some e
+node_expression p c file e is_file is =
+    ap (option_and_then (λ (g : BuildFile Span). paths.expression_at g.tree c.path.steps)) is_file ∙ expression-reached Span file.tree c.path.steps ∙ ap (option_and_then expression_any) is
+
+part_file : (p : Project Span) (q : Placed (Part Span)) (i : InProject 0 p q) → nth_file p q.place.file ≡ Some i.file
+part_file p q i =
+    let z : 0 + i.number ≡ i.number = omega arith in
+    ap (nth_file p) (i.is_number ∙ z) ∙ i.is_file
+
+-- an expression among the parts stands at its place
+pub expression_stands : (p : Project Span) (q : Placed (Part Span)) (e : Expression Span) → InProject 0 p q → q.it ≡ part.an_expression e → expression_at p q.place ≡ Some e
+expression_stands p q e i is = node_expression p q.place i.file e (part_file p q i) (i.is_node ∙ ap (λ x. Some (any x)) is)
+
+-- the value of an assignment stands at its first child
+pub assigned_stands : (p : Project Span) (q : Placed (Part Span)) (s : Span) (x : List ℕ) (a : Assignment) (e : Expression Span) → InProject 0 p q → q.it ≡ part.a_statement (assign s x a e) → expression_at p (child q.place 0) ≡ Some e
+assigned_stands p q s x a e i is =
+    node_expression p (child q.place 0) i.file e (part_file p q i) (node_below Span (a_block (block_of i.file.tree)) q.place.path.steps (a_statement (assign s x a e)) 0 (i.is_node ∙ ap (λ y. Some (any y)) is))

@@ -1,0 +1,110 @@
+-- The array or call whose list a path names, and the nodes below it.
+use Rattle.std.proofs.Common.{◌≡◌, ℕ, false, List, [], ◌∷◌, ◌++◌, Option, Some, None, refl, sym, ap, ◌∙◌, subst}
+use Rattle.std.specs.Prelude.{option_map, option_and_then}
+use Rattle.meson_lex.specs.Significant.{Word}
+use Rattle.meson_syntax.specs.Operators.{holds_pairs}
+use Rattle.meson_syntax.specs.Tree.{Expression, array, call, Block, File}
+use Rattle.meson_syntax.specs.Parts.{Any, an_expression, a_statement, a_block, expression_parts, expression_any, parts, node_at}
+use Rattle.meson_syntax.specs.Paths.{Sort, of_expression, of_statement, of_block, Node, Hole, nth, reach, block_of, expression_of, expression_at, ListIn, list_in, ListAt, list_within, list_of_node, list_at}
+use Rattle.meson_syntax.proofs.PathNodes.{expression-reached}
+use Rattle.meson_syntax.proofs.parsing.Steps.{some-injective}
+use Rattle.meson_syntax.proofs.paths.Reaching.{map-some, and-then-some}
+
+-- an array or a call has no pairs
+no_pairs : {S : Type 0} (e : Expression S) (l : ListIn S) → list_in e ≡ Some l → holds_pairs l.bracket ≡ false
+no_pairs {S} (array l) m is = subst (λ (x : ListIn S). holds_pairs x.bracket ≡ false) (some-injective _ _ is) refl
+no_pairs {S} (call s x l) m is = subst (λ (x : ListIn S). holds_pairs x.bracket ≡ false) (some-injective _ _ is) refl
+no_pairs _ m is = absurd cc
+
+-- ---- the array or call
+
+pub record ListNode (S : Type 0) (f : File S) (path : List ℕ) (q : ListAt S) : Type 0 where
+  pub node : Expression S
+  pub is_node : expression_at f path ≡ Some node
+  pub inner : ListIn S
+  pub is_inner : list_in node ≡ Some inner
+  pub list : inner.list ≡ q.list
+  pub bracket : inner.bracket ≡ q.bracket
+
+module _ (S : Type 0) (f : File S) where
+  record Inner (sort : Sort) (x : Node sort S) (q : ListAt S) : Type 0 where
+    node : Expression S
+    is_node : expression_of S sort x ≡ Some node
+    inner : ListIn S
+    is_inner : list_in node ≡ Some inner
+    list : inner.list ≡ q.list
+    bracket : inner.bracket ≡ q.bracket
+
+  inner_of : (sort : Sort) (x : Node sort S) (before behind : List Word) (back : Node sort S → Block S) (q : ListAt S) → list_of_node S sort x f before behind back ≡ Some q → Inner sort x q
+  inner_of of_expression x before behind back q is =
+      let o = map-some (list_within f before behind back) (list_in x) q is in
+      record { node = x; is_node = refl; inner = o.0; is_inner = o.1; list = ap (λ (p : ListAt S). p.list) o.2; bracket = ap (λ (p : ListAt S). p.bracket) o.2 }
+  inner_of of_statement x before behind back q is = absurd cc
+  inner_of of_block x before behind back q is = absurd cc
+
+  pub list_node : (path : List ℕ) (q : ListAt S) → list_at f path ≡ Some q → ListNode S f path q
+  list_node path q is =
+      let o = and-then-some (λ h. list_of_node S h.sort h.inside f h.before h.behind h.back) (reach S of_block (block_of f) path) q is in
+      let h = o.0 in
+      let i = inner_of h.sort h.inside h.before h.behind h.back q o.2 in
+      record { node = i.node; is_node = ap (option_and_then (λ (g : Hole S (Block S)). expression_of S g.sort g.inside)) o.1 ∙ i.is_node; inner = i.inner; is_inner = i.is_inner; list = i.list; bracket = i.bracket }
+
+  pub record ListOf (path : List ℕ) (l : ListIn S) : Type 0 where
+    pub place : ListAt S
+    pub is_place : list_at f path ≡ Some place
+    pub list : place.list ≡ l.list
+    pub bracket : place.bracket ≡ l.bracket
+
+  record Within (sort : Sort) (x : Node sort S) (before behind : List Word) (back : Node sort S → Block S) (l : ListIn S) : Type 0 where
+    place : ListAt S
+    is_place : list_of_node S sort x f before behind back ≡ Some place
+    list : place.list ≡ l.list
+    bracket : place.bracket ≡ l.bracket
+
+  within_of : (sort : Sort) (x : Node sort S) (before behind : List Word) (back : Node sort S → Block S) (e : Expression S) (l : ListIn S) → expression_of S sort x ≡ Some e → list_in e ≡ Some l
+      → Within sort x before behind back l
+  within_of of_expression x before behind back e l is in_it =
+      let same : x ≡ e = some-injective _ _ is in
+      record { place = list_within f before behind back l; is_place = ap (option_map (list_within f before behind back)) (ap list_in same ∙ in_it); list = refl; bracket = refl }
+  within_of of_statement x before behind back e l is in_it = absurd cc
+  within_of of_block x before behind back e l is in_it = absurd cc
+
+  pub list_of : (path : List ℕ) (e : Expression S) (l : ListIn S) → expression_at f path ≡ Some e → list_in e ≡ Some l → ListOf path l
+  list_of path e l is in_it =
+      let o = and-then-some (λ h. expression_of S h.sort h.inside) (reach S of_block (block_of f) path) e is in
+      let h = o.0 in
+      let w = within_of h.sort h.inside h.before h.behind h.back e l o.2 in_it in
+      record { place = w.place; is_place = ap (option_and_then (λ (g : Hole S (Block S)). list_of_node S g.sort g.inside f g.before g.behind g.back)) o.1 ∙ w.is_place; list = w.list; bracket = w.bracket }
+
+-- the brackets of a list that a path names hold no pairs
+pub place_no_pairs : {S : Type 0} (f : File S) (path : List ℕ) (q : ListAt S) → list_at f path ≡ Some q → holds_pairs q.bracket ≡ false
+place_no_pairs {S} f path q is = let at = list_node S f path q is in subst (λ b. holds_pairs b ≡ false) at.bracket (no_pairs at.node at.inner at.is_inner)
+
+-- ---- an element of it
+
+module _ (S : Type 0) where
+  pub node_below : (r : Any S) (path : List ℕ) (x : Any S) (n : ℕ) → node_at r path ≡ Some x → node_at r (path ++ n ∷ []) ≡ nth (parts x) n
+  node_below r [] x n is = whole (nth (parts r) n) ∙ ap (λ o. option_and_then (λ y. nth (parts y) n) o) is
+    where
+      whole : (o : Option (Any S)) → option_and_then (λ y. Some y) o ≡ o
+      whole None = refl
+      whole (Some y) = refl
+  node_below r (m ∷ path) x n is = go (nth (parts r) m) is (λ y h. node_below y path x n h)
+    where
+      go : (o : Option (Any S)) → option_and_then (λ y. node_at y path) o ≡ Some x → ((y : Any S) → node_at y path ≡ Some x → node_at y (path ++ n ∷ []) ≡ nth (parts x) n)
+          → option_and_then (λ y. node_at y (path ++ n ∷ [])) o ≡ nth (parts x) n
+      go None h below = absurd cc
+      go (Some y) h below = below y h
+
+  only_expression : (x : Any S) (e : Expression S) → expression_any x ≡ Some e → x ≡ an_expression e
+  only_expression (an_expression y) e is = ap an_expression (some-injective _ _ is)
+  only_expression (a_statement s) e is = absurd cc
+  only_expression (a_block b) e is = absurd cc
+
+  pub value_below : (f : File S) (path : List ℕ) (e : Expression S) (n : ℕ) (v : Expression S) → expression_at f path ≡ Some e → nth (expression_parts e) n ≡ Some (an_expression v)
+      → expression_at f (path ++ n ∷ []) ≡ Some v
+  value_below f path e n v is part =
+      let root = a_block (block_of f) in
+      let o = and-then-some expression_any (node_at root path) e (sym (expression-reached S f path) ∙ is) in
+      let there = o.1 ∙ ap Some (only_expression o.0 e o.2) in
+      expression-reached S f (path ++ n ∷ []) ∙ ap (option_and_then expression_any) (node_below root path (an_expression e) n there ∙ part)

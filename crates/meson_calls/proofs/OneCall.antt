@@ -1,0 +1,68 @@
+-- The one call that an id names, by its place.
+use Rattle.std.proofs.Common.{◌≡◌, ◌≢◌, ℕ, List, [], ◌∷◌, length, refl, sym, ap, ◌∙◌}
+use Rattle.std.specs.Prelude.{false, ◌==◌}
+use Rattle.meson_lex.specs.declared.kinds.Span.{Span}
+use Rattle.meson_splice.specs.Patch.{then_ok}
+use Rattle.meson_calls.specs.declared.call.CallRef.{CallRef}
+use Rattle.meson_calls.specs.declared.call.Role.{Role}
+use Rattle.meson_calls.specs.declared.call.Role.TheVariants as role
+use Rattle.meson_calls.specs.Calls.{Call}
+use Rattle.meson_calls.specs.Notes.{notes}
+use Rattle.meson_calls.specs.Picking.{found_places}
+use Rattle.meson_calls.specs.Finding.{only_one, any_project, the_call}
+use Rattle.meson_calls.specs.Project.{Project, Placed}
+use Rattle.meson_calls.specs.OnePlace.{any_place, the_place}
+use Rattle.meson_calls.specs.Roles.{found, role_calls, places}
+use Rattle.meson_calls.proofs.Picked.{role_places, found_notes}
+use Rattle.std.specs.Prelude.{Result, Ok, Err, IfErr, IfOk}
+use Rattle.meson_calls.specs.declared.refusal.Refusal.{Refusal}
+use Rattle.meson_calls.specs.declared.refusal.Refusal.TheVariants.{OutOfMemory}
+
+-- a result that is known as a whole
+pub refused_as : {X : Type 0} (r wanted : Result X Refusal) → r ≡ wanted → IfErr r (λ e. e ≢ OutOfMemory → wanted ≡ Err e)
+refused_as (Ok x) wanted is = tt
+refused_as (Err e) wanted is = λ other. sym is
+
+pub done_as : {X : Type 0} (r wanted : Result X Refusal) → r ≡ wanted → IfOk r (λ x. wanted ≡ Ok x)
+done_as (Ok x) wanted is = sym is
+done_as (Err e) wanted is = tt
+
+-- where there is a project
+pub behind_project : (projects : List CallRef) (found : Result CallRef Refusal) → false ≡ (length projects == 0) → then_ok (any_place projects) (λ _. found) ≡ found
+behind_project [] found some = absurd cc
+behind_project (p ∷ projects) found some = refl
+
+pub if_refused : {X : Type 0} (r a b : Result X Refusal) → a ≡ b → IfErr r (λ e. e ≢ OutOfMemory → b ≡ Err e) → IfErr r (λ e. e ≢ OutOfMemory → a ≡ Err e)
+if_refused (Ok x) a b same h = tt
+if_refused (Err e) a b same h = λ other. same ∙ h other
+
+-- ---- a call and its place
+
+abbrev pub placed_at : Result (Placed (Call Span)) Refusal → Result CallRef Refusal
+placed_at (Ok c) = Ok c.place
+placed_at (Err e) = Err e
+
+one_of_them : (ys : List (Placed (Call Span))) → only_one (places ys) ≡ placed_at (only_one ys)
+one_of_them [] = refl
+one_of_them (y ∷ []) = refl
+one_of_them (y ∷ z ∷ ys) = refl
+
+one_of_project : (xs ys : List (Placed (Call Span))) → then_ok (any_place (places xs)) (λ _. only_one (places ys)) ≡ placed_at (then_ok (any_project xs) (λ _. only_one ys))
+one_of_project [] ys = refl
+one_of_project (x ∷ xs) ys = one_of_them ys
+
+pub place_is : (r : Role) (id : List ℕ) (p : Project Span) → the_place r id (notes p) ≡ placed_at (the_call p r id)
+place_is role.Target id p = ap only_one (found_notes role.Target id p) ∙ one_of_them (found p role.Target id)
+place_is role.Dependency id p = ap only_one (found_notes role.Dependency id p) ∙ one_of_them (found p role.Dependency id)
+place_is role.Project id p =
+    ap (λ xs. then_ok (any_place xs) (λ _. only_one (found_places role.Project id (notes p)))) (role_places role.Project p)
+    ∙ ap (λ ys. then_ok (any_place (places (role_calls p role.Project))) (λ _. only_one ys)) (found_notes role.Project id p)
+    ∙ one_of_project (role_calls p role.Project) (found p role.Project id)
+
+pub call_there : (x : Result (Placed (Call Span)) Refusal) (call : CallRef) → placed_at x ≡ Ok call → (c : Placed (Call Span)) × (x ≡ Ok c) × (c.place ≡ call)
+call_there (Ok c) call is = (c, refl, let same : c.place ≡ call = cc in same)
+call_there (Err e) call is = absurd cc
+
+pub call_refused : (x : Result (Placed (Call Span)) Refusal) (e : Refusal) → placed_at x ≡ Err e → x ≡ Err e
+call_refused (Ok c) e is = absurd cc
+call_refused (Err f) e is = let same : f ≡ e = cc in ap Err same

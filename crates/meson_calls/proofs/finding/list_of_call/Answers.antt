@@ -1,0 +1,31 @@
+-- A call that stands in trees has its list there.
+use Rattle.std.proofs.Common.{◌≡◌, ◌≤◌, length, ap, ◌∙◌, arith}
+use Rattle.std.specs.Prelude.{option_map, None, Some}
+use Rattle.meson_lex.specs.declared.kinds.Span.{Span}
+use Rattle.meson_splice.specs.Files.{bytes_at}
+use Rattle.meson_syntax.specs.Paths.{ListAt, list_at}
+use Rattle.meson_syntax.specs.View.{view}
+use Rattle.meson_syntax.proofs.parsing.Steps.{some-injective}
+use Rattle.meson_calls.proofs.CallLists.{inside, list_is}
+use Rattle.meson_calls.proofs.finding.list_of_call.Goals as goal
+
+pub unreachable-requires : goal.unreachable-requires
+unreachable-requires c =
+    let within = inside c.args.trees.now c.args.call.now c.requires in
+    let past : length c.args.trees.now ≤ c.args.call.now.file = c.if-call-trees.true in
+    absurd (omega (arith, within, past))
+
+pub unreachable-requires-in-None : goal.unreachable-requires-in-None
+unreachable-requires-in-None c =
+    let place = c.args.call.now in
+    let bytes = bytes_at place.file c.requires.files in
+    let there : None ≡ Some c.requires.call.it.arguments = c.in-None.ensures bytes ∙ ap (λ t. option_map (λ (q : ListAt Span). q.list) (list_at (view bytes t) place.path.steps)) c.index-trees-call.is
+    ∙ list_is c.args.trees.now place c.requires c.index-trees-call.result in
+    cc
+
+pub returns : goal.returns
+returns c = λ k.
+    let place = c.args.call.now in
+    let bytes = bytes_at place.file k.files in
+    some-injective _ _
+    (c.in-Some.ensures bytes ∙ ap (λ t. option_map (λ (q : ListAt Span). q.list) (list_at (view bytes t) place.path.steps)) c.index-trees-call.is ∙ list_is c.args.trees.now place k c.index-trees-call.result)

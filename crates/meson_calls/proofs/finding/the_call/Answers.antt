@@ -1,0 +1,18 @@
+use Rattle.std.proofs.Common.{◌≡◌, ap, ◌∙◌, subst, length}
+use Rattle.std.specs.Prelude.{false, ◌==◌}
+use Rattle.meson_calls.specs.Notes.{note_views}
+use Rattle.meson_calls.specs.Picking.{found_places}
+use Rattle.meson_calls.specs.Finding.{only_one}
+use Rattle.meson_calls.specs.OnePlace.{the_place}
+use Rattle.meson_calls.specs.declared.call.Role.TheVariants as role
+use Rattle.meson_calls.proofs.OneCall.{behind_project, if_refused}
+use Rattle.meson_calls.proofs.finding.the_call.Goals as goal
+
+pub returns-else-is_empty-clause-refused : goal.returns-else-is_empty-clause-refused
+returns-else-is_empty-clause-refused c =
+    let found = only_one (found_places role.Project c.args.id.now (note_views c.args.notes.now)) in
+    let some : false ≡ (length c.in_ok-projects-in-Project.projects.items == 0) = c.if-is_empty.ensures ∙ ap (λ xs. length xs == 0) c.as_slice.ensures.value in
+    let projects = c.in_ok-projects-in-Project.ensures in
+    let behind = subst (λ xs. false ≡ (length xs == 0)) projects some in
+    if_refused c.only_found.result (the_place c.args.role c.args.id.now (note_views c.args.notes.now)) found
+    (ap (λ r. the_place r c.args.id.now (note_views c.args.notes.now)) c.in-Project.is ∙ behind_project _ found behind) c.only_found.ensures.refused

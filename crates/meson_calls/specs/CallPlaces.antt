@@ -1,0 +1,37 @@
+-- The list of the array or call at a place, and that a call which is found stands at its place.
+use Rattle.std.specs.Prelude.{◌≡◌, ℕ, List, Some, Ok}
+use Rattle.meson_lex.specs.declared.kinds.Span.{Span}
+use Rattle.meson_splice.specs.declared.file_set.File.{File}
+use Rattle.meson_syntax.specs.declared.operator.Bracket.TheVariants as bracket
+use Rattle.meson_syntax.specs.declared.tree.Parsed.{Parsed}
+use Rattle.meson_syntax.specs.Paths.{ListAt, list_at}
+use Rattle.meson_calls.specs.declared.call.CallRef.{CallRef}
+use Rattle.meson_calls.specs.declared.call.Role.{Role}
+use Rattle.meson_calls.specs.Project.{Project, BuildFile, Placed, nth_file}
+use Rattle.meson_calls.specs.Calls.{Call}
+use Rattle.meson_calls.specs.Finding.{the_call}
+use Rattle.meson_calls.specs.Loading.{AreParsed, named_trees, views}
+
+-- the list of the array or call at a place
+pub record ListThere (p : Project Span) (c : CallRef) : Type 0 where
+  pub file : BuildFile Span
+  pub is_file : nth_file p c.file ≡ Some file
+  pub list : ListAt Span
+  pub is_list : list_at file.tree c.path.steps ≡ Some list
+
+-- a call with its arguments, which are in round brackets
+pub record CallThere (p : Project Span) (c : Placed (Call Span)) : Type 0 where
+  pub there : ListThere p c.place
+  pub is_list : there.list.list ≡ c.it.arguments
+  pub is_round : there.list.bracket ≡ bracket.Round
+
+-- the call at a place of trees, as they are read in files
+pub record CallIn (trees : List Parsed) (place : CallRef) : Type 0 where
+  pub files : List File
+  pub parsed : AreParsed files trees
+  pub call : Placed (Call Span)
+  pub is_place : call.place ≡ place
+  pub there : CallThere (named_trees files (views files trees)) call
+
+abbrev pub CallsStand : Type 0
+CallsStand = (p : Project Span) (r : Role) (id : List ℕ) (c : Placed (Call Span)) → the_call p r id ≡ Ok c → CallThere p c

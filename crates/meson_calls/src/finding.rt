@@ -1,0 +1,82 @@
+//! The one call that an id names, and its arguments.
+
+ghost use Rattle.std.specs.Prelude.{◌≡◌, ◌≢◌, Err, IfErr, IfOk, Ok};
+ghost use Rattle.meson_splice.specs.Files.{bytes_at};
+ghost use Rattle.meson_syntax.specs.View.{list_view};
+ghost use Rattle.meson_calls.specs.declared.refusal.Refusal.TheVariants.{OutOfMemory};
+ghost use Rattle.meson_calls.specs.Notes.{note_views};
+ghost use Rattle.meson_calls.specs.Picking.{found_places};
+ghost use Rattle.meson_calls.specs.Finding.{only_one};
+ghost use Rattle.meson_calls.specs.OnePlace.{the_place};
+ghost use Rattle.meson_calls.specs.CallPlaces.{CallIn};
+ghost use Rattle.meson_calls.specs.Strings.{NotesGood};
+
+use crate::naming::found;
+use crate::note::Note;
+use crate::picking::with_role;
+use crate::{CallRef, Refusal, Role};
+use meson_syntax::{List, Parsed};
+use std::alloc::Global;
+
+/// The only call.
+///
+/// # Errors
+/// There is none, or more than one.
+fn only_one(calls: Vec<CallRef>) -> Result<CallRef, Refusal>
+    ensures { result ≡ only_one calls.items }
+{
+    let mut left = calls;
+    if left.len() > 1 {
+        return Err(Refusal::Ambiguous);
+    }
+    match left.pop() {
+        Some(call) => Ok(call),
+        None => Err(Refusal::NotFound),
+    }
+}
+
+/// The only call of those that an id names.
+fn only_found(alloc: Global, role: Role, id: &str, notes: &[Note<'_>]) -> Result<CallRef, Refusal>
+    requires { NotesGood (note_views notes.now) }
+    ensures found { IfOk result (λ c. only_one (found_places role id.now (note_views notes.now)) ≡ Ok c) }
+    ensures refused { IfErr result (λ e. e ≢ OutOfMemory → only_one (found_places role id.now (note_views notes.now)) ≡ Err e) }
+{
+    let calls = found(alloc, role, id, notes)?;
+    only_one(calls)
+}
+
+/// The one call that an id names.
+///
+/// # Errors
+/// There is none, or more than one, or no project; or memory is refused.
+pub fn the_call(alloc: Global, role: Role, id: &str, notes: &[Note<'_>]) -> Result<CallRef, Refusal>
+    requires { NotesGood (note_views notes.now) }
+    ensures found { IfOk result (λ c. the_place role id.now (note_views notes.now) ≡ Ok c) }
+    ensures refused { IfErr result (λ e. e ≢ OutOfMemory → the_place role id.now (note_views notes.now) ≡ Err e) }
+{
+    match role {
+        Role::Project => {
+            let projects = with_role(alloc, Role::Project, notes)?;
+            if projects.as_slice().is_empty() {
+                return Err(Refusal::NoProject);
+            }
+            only_found(alloc, Role::Project, id, notes)
+        }
+        Role::Target => only_found(alloc, Role::Target, id, notes),
+        Role::Dependency => only_found(alloc, Role::Dependency, id, notes),
+    }
+}
+
+/// The arguments of a call that stands there.
+pub fn list_of_call<'t>(trees: &'t [Parsed], call: &CallRef) -> &'t List
+    requires { CallIn trees.now call.now }
+    ensures { (c : CallIn trees.entry.now call.now) → list_view (bytes_at call.now.file c.files) result.now ≡ c.call.it.arguments }
+{
+    if call.file >= trees.len() {
+        unreachable!();
+    }
+    match trees[call.file].list_at(&call.path) {
+        Some(list) => list,
+        None => unreachable!(),
+    }
+}

@@ -1,0 +1,179 @@
+-- One edit of an array that is the value of an argument of a call that stands: it may be done, and the call stands with the array so edited.
+use Rattle.std.proofs.Common.{◌≡◌, ℕ, zero, suc, ◌+◌, ◌≤◌, List, [], ◌∷◌, ◌++◌, length, length-append, map, take, drop, Some, refl, sym, ap, ap₂, ◌∙◌, subst, arith, false}
+use Rattle.std.specs.Prelude.{All, max, option_and_then, option_map}
+use Rattle.meson_syntax.specs.Tree.{Nowhere, Plain, Expression, array, Listing, listing, Argument, plain, named, pair, arguments_of}
+use Rattle.meson_syntax.specs.Grammar.{LevelArgument, LevelExpression, LevelFile, argument_depth, arguments_depth, expression_words, expression_depth, listing_depth}
+use Rattle.meson_syntax.specs.Paths.{nth, value_of}
+use Rattle.meson_syntax.proofs.parsing.Complete.{list-of-arguments}
+use Rattle.meson_edit.specs.Edits.{Written, Edit, First, After, Remove, Replace, Wrap, elements, with_elements, with_value, inserted, removed, exchanged, edited}
+use Rattle.meson_edit.specs.Places.{IsWritten, Writes}
+use Rattle.meson_edit.specs.Sequences.{MayFollow}
+use Rattle.meson_edit.proofs.sequences.Levelled.{firsts-keep-levels, insertions-keep-levels, removals-keep-levels, replacements-keep-levels}
+use Rattle.meson_calls.specs.declared.call.CallRef.{CallRef}
+use Rattle.meson_keywords.specs.Changing.{CallStands, LeavesCall}
+use Rattle.meson_keywords.specs.declared.keys.ElementKind.{ElementKind}
+use Rattle.meson_keywords.specs.KeywordEdits.{all_behind, behind_all}
+use Rattle.meson_keywords.specs.Keys.{element_bytes, element_node, written_element}
+use Rattle.meson_steps.specs.ListSteps.{MayStand}
+use Rattle.meson_steps.specs.OtherValues.{with_one}
+use Rattle.meson_calls.specs.Project.{child}
+use Rattle.meson_steps.specs.Steps.{step_in}
+use Rattle.meson_steps.specs.Steps.{Step}
+use Rattle.meson_keywords.specs.Tasking.{AreElements}
+use Rattle.std.proofs.lemmas.List.{take_all}
+use Rattle.meson_keywords.proofs.CallEdits.{CallStep, call_step, last_there, more_leaves, no_elements, none_leaves, wrap_step, depth_append, depth_drop, depth_nth, depth_of, depth_take, tree_level, value_depth, xs}
+use Rattle.meson_keywords.proofs.InnerPlaces.{InnerPlace, exchanged_at, inner_place}
+use Rattle.meson_steps.proofs.Insertable.{edited_there, elements_with, first_there}
+use Rattle.meson_keywords.proofs.WrittenElements.{element_flat, element_level, element_written}
+
+array_depth : (l : Listing Nowhere) (ys : List (Argument Nowhere)) → listing_depth (with_elements l ys) ≡ depth_of ys + 1
+array_depth (listing s trailing list) ys = omega arith
+
+list_depth : (l : Listing Nowhere) → listing_depth l ≡ depth_of (elements l) + 1
+list_depth (listing s trailing list) = omega (arith, ap arguments_depth (list-of-arguments list))
+
+old_depth : (a : Argument Nowhere) (v : Expression Nowhere) → value_of a ≡ Some v → argument_depth a ≡ expression_depth v
+old_depth (plain e) v is = ap argument_depth (ap plain (let same : e ≡ v = cc in same))
+old_depth (named s x e) v is = let same : e ≡ v = cc in ap expression_depth same
+old_depth (pair s e f) v is = absurd cc
+
+module _ (c : CallRef) (trees : List Plain) (all : All MayStand trees) (s : CallStands c trees) (n : ℕ) (a : Argument Nowhere) (l : Listing Nowhere) (there : nth (xs c trees all s) n ≡ Some a) (value : value_of a ≡ Some (array l)) where
+  abbrev outer : List (Argument Nowhere)
+  outer = xs c trees all s
+
+  -- the elements of the call where the array has these
+  abbrev pub arrayed : List (Argument Nowhere) → List (Argument Nowhere)
+  arrayed ys = exchanged_at n a outer (array (with_elements l ys))
+
+  abbrev path : List ℕ
+  path = c.path.steps ++ n ∷ []
+
+  abbrev p : InnerPlace s.tree c.path.steps s.place n a l
+  p = inner_place s.tree c.path.steps s.place s.is_place (tree_level c trees all s) n a l there value
+
+  arrayed_depth : (ys : List (Argument Nowhere)) → depth_of ys ≤ depth_of (elements l) → depth_of (arrayed ys) ≤ max (depth_of outer) 1
+  arrayed_depth ys small =
+      let new = with_value (array (with_elements l ys)) a in
+      omega (
+        arith,
+        depth_append (take n outer) (new ∷ drop (suc n) outer),
+        depth_take n outer,
+        depth_drop (suc n) outer,
+        value_depth a (array (with_elements l ys)) (array l) value,
+        array_depth l ys,
+        small,
+        list_depth l,
+        old_depth a (array l) value,
+        depth_nth outer n a there,
+      )
+
+  array_step : (e : Edit) (ys : List (Argument Nowhere)) → Writes e → edited e s.tree ≡ Some (p.place.back (with_elements p.place.list ys)) → LevelFile (p.place.back (with_elements p.place.list ys))
+      → depth_of ys ≤ depth_of (elements l) → CallStep c trees all s e (arrayed ys)
+  array_step e ys writes is level small =
+      let same : p.place.back (with_elements p.place.list ys) ≡ s.place.back (with_elements s.place.list (arrayed ys)) =
+      p.back (with_elements p.place.list ys) ∙ ap (λ m. s.place.back (with_elements s.place.list (exchanged_at n a outer (array (with_elements m ys))))) p.list in
+      call_step c trees all s e (arrayed ys) writes (is ∙ ap Some same) (subst LevelFile same level) (arrayed_depth ys small)
+
+  here : (m : ℕ) (it : Argument Nowhere) → nth (elements l) m ≡ Some it → nth (elements p.place.list) m ≡ Some it
+  here m it is = ap (λ k. nth (elements k) m) p.list ∙ is
+
+  -- an element goes
+  pub gone_step : (m : ℕ) (it : Argument Nowhere) → nth (elements l) m ≡ Some it → CallStep c trees all s (Remove path m) (arrayed (removed m (elements l) it))
+  gone_step m it is =
+      let ys = removed m (elements l) it in
+      let made = edited_there s.tree path p.place p.is_place (Remove path m) ys (ap (λ k. option_map (removed m (elements k)) (nth (elements k) m)) p.list ∙ ap (option_map (removed m (elements l))) is) in
+      array_step (Remove path m) ys tt made (removals-keep-levels path m s.tree (p.place.back (with_elements p.place.list ys)) (tree_level c trees all s) made)
+      (omega (arith, depth_append (take m (elements l)) (drop (suc m) (elements l)), depth_take m (elements l), depth_drop (suc m) (elements l)))
+
+  -- the value of an element becomes another one in which nothing nests
+  pub swap_step : (m : ℕ) (it : Argument Nowhere) (old : Expression Nowhere) (bytes : List ℕ) (e : Expression Nowhere) → nth (elements l) m ≡ Some it → value_of it ≡ Some old → IsWritten bytes (expression_words e) → LevelExpression e
+      → expression_depth e ≡ 0 → CallStep c trees all s (Replace path m (record { bytes = bytes; node = e })) (arrayed (take m (elements l) ++ with_value e it ∷ drop (suc m) (elements l)))
+  swap_step m it old bytes e is is_value writes level flat =
+      let ys = take m (elements l) ++ with_value e it ∷ drop (suc m) (elements l) in
+      let new : Written (Expression Nowhere) = record { bytes = bytes; node = e } in
+      let made = edited_there s.tree path p.place p.is_place (Replace path m new) ys
+      (ap (λ k. option_and_then (exchanged m (λ v. e) (elements k)) (nth (elements k) m)) p.list ∙ ap (option_and_then (exchanged m (λ v. e) (elements l))) is
+      ∙ ap (option_map (λ v. take m (elements l) ++ with_value e it ∷ drop (suc m) (elements l))) is_value) in
+      array_step (Replace path m new) ys writes made (replacements-keep-levels path m new level s.tree (p.place.back (with_elements p.place.list ys)) (tree_level c trees all s) made)
+      (omega (arith, depth_append (take m (elements l)) (with_value e it ∷ drop (suc m) (elements l)), depth_take m (elements l), depth_drop (suc m) (elements l), value_depth it e old is_value, flat))
+
+  -- an element in which nothing nests goes behind all others
+  module _ (bytes : List ℕ) (e : Expression Nowhere) (writes : IsWritten bytes (expression_words e)) (level : LevelExpression e) (flat : expression_depth e ≡ 0) where
+    abbrev new : Written (Argument Nowhere)
+    new = record { bytes = bytes; node = plain e }
+
+    abbrev more : List (Argument Nowhere)
+    more = elements l ++ plain e ∷ []
+
+    pub record PutStep (st : Step) : Type 0 where
+      pub edit : Edit
+      pub is : st ≡ step_in c edit
+      pub step : CallStep c trees all s edit (arrayed more)
+
+    more_depth : depth_of more ≤ depth_of (elements l)
+    more_depth = omega (arith, depth_append (elements l) (plain e ∷ []), flat)
+
+    first_put : length (elements l) ≡ 0 → CallStep c trees all s (First path new) (arrayed more)
+    first_put empty =
+        let nothing = no_elements c trees all s (elements l) empty in
+        let made = edited_there s.tree path p.place p.is_place (First path new) more
+        (first_there (plain e) (elements p.place.list) (ap elements p.list ∙ nothing) ∙ ap (λ ys. Some (ys ++ plain e ∷ [])) (sym nothing)) in
+        let low : LevelArgument (plain e) p.place.bracket false = subst (λ b. LevelArgument (plain e) b false) (sym p.square) (refl, refl, level) in
+        array_step (First path new) more writes made (firsts-keep-levels path new s.tree (p.place.back (with_elements p.place.list more)) p.place p.is_place low (tree_level c trees all s) made) more_depth
+
+    after_put : (m : ℕ) → length (elements l) ≡ suc m → CallStep c trees all s (After path m new) (arrayed more)
+    after_put m many =
+        let last = last_there c trees all s (elements l) m many in
+        let all_of : take (suc m) (elements l) ≡ elements l = take_all (suc m) (elements l) (omega (arith, many)) in
+        let whole = ap₂ (λ front back. front ++ plain e ∷ back) all_of last.2 in
+        let is = ap (λ k. option_map (inserted m (plain e) (elements k)) (nth (elements k) m)) p.list ∙ ap (option_map (inserted m (plain e) (elements l))) last.1 ∙ ap Some whole in
+        let made = edited_there s.tree path p.place p.is_place (After path m new) more is in
+        let follows : MayFollow p.place.bracket last.0 (drop (suc m) (elements p.place.list)) (plain e) = subst (λ b. MayFollow b last.0 (drop (suc m) (elements p.place.list)) (plain e)) (sym p.square) level in
+        array_step (After path m new) more writes made
+        (insertions-keep-levels path m new s.tree (p.place.back (with_elements p.place.list more)) p.place p.is_place last.0 (here m last.0 last.1) follows (tree_level c trees all s) made) more_depth
+
+    pub put_step : PutStep (behind_all (child c n) (length (elements l)) new)
+    put_step = go (length (elements l)) refl
+      where
+        go : (m : ℕ) → length (elements l) ≡ m → PutStep (behind_all (child c n) m new)
+        go zero many = record { edit = First path new; is = refl; step = first_put many }
+        go (suc m) many = record { edit = After path m new; is = refl; step = after_put m many }
+
+-- ---- one behind the other
+
+pub nth_put : {A : Type 0} (ys : List A) (n : ℕ) (it b : A) → nth ys n ≡ Some it → nth (take n ys ++ b ∷ drop (suc n) ys) n ≡ Some b
+nth_put [] n it b is = absurd cc
+nth_put (y ∷ ys) zero it b is = refl
+nth_put (y ∷ ys) (suc n) it b is = nth_put ys n it b is
+
+pub value_put : (a : Argument Nowhere) (v w : Expression Nowhere) → value_of a ≡ Some v → value_of (with_value w a) ≡ Some w
+value_put (plain e) v w is = refl
+value_put (named s x e) v w is = refl
+value_put (pair s e f) v w is = absurd cc
+
+pub puts_leave : (c : CallRef) (k : ElementKind) (ts : List (List ℕ)) → AreElements k ts → (trees : List Plain) (all : All MayStand trees) (s : CallStands c trees) (n : ℕ) (a : Argument Nowhere) (l : Listing Nowhere)
+    → nth (xs c trees all s) n ≡ Some a → value_of a ≡ Some (array l) → LeavesCall c (all_behind (child c n) (length (elements l)) (map (written_element k) ts)) trees
+puts_leave c k [] are trees all s n a l there value = none_leaves c trees all s
+puts_leave c k (t ∷ ts) are trees all s n a l there value =
+    let e = element_node k t in
+    let put = put_step c trees all s n a l there value (element_bytes k t) e (element_written k t are.0) (element_level k t) (element_flat k t) in
+    let more = elements l ++ plain e ∷ [] in
+    let now = with_elements l more in
+    let b = with_value (array now) a in
+    let st = put.step in
+    let here = ap (λ ys. nth ys n) st.are ∙ nth_put (xs c trees all s) n a b there in
+    let later = puts_leave c k ts are.1 (with_one c.file st.now trees) st.all_stand st.stands n b now here (value_put a (array l) (array now) value) in
+    let long : length (elements now) ≡ suc (length (elements l)) = omega (arith, ap length (elements_with l more), length-append (elements l) (plain e ∷ [])) in
+    let rest = map (written_element k) ts in
+    subst (λ x. LeavesCall c (x ∷ all_behind (child c n) (suc (length (elements l))) rest) trees) (sym put.is)
+    (more_leaves c trees all s put.edit _ st (all_behind (child c n) (suc (length (elements l))) rest) (subst (λ m. LeavesCall c (all_behind (child c n) m rest) (with_one c.file st.now trees)) long later))
+
+-- a lone value is wrapped, and elements go behind it
+pub wrap_leaves : (c : CallRef) (k : ElementKind) (ts : List (List ℕ)) → AreElements k ts → (trees : List Plain) (all : All MayStand trees) (s : CallStands c trees) (n : ℕ) (a : Argument Nowhere) (v : Expression Nowhere)
+    → nth (xs c trees all s) n ≡ Some a → value_of a ≡ Some v → expression_depth v ≡ 0 → LeavesCall c (step_in c (Wrap c.path.steps n) ∷ all_behind (child c n) 1 (map (written_element k) ts)) trees
+wrap_leaves c k ts are trees all s n a v there value flat =
+    let st = wrap_step c trees all s n a v there value flat in
+    let l = listing tt false (arguments_of (plain v ∷ [])) in
+    let here = ap (λ ys. nth ys n) st.are ∙ nth_put (xs c trees all s) n a (with_value (array l) a) there in
+    more_leaves c trees all s (Wrap c.path.steps n) _ st (all_behind (child c n) 1 (map (written_element k) ts))
+    (puts_leave c k ts are (with_one c.file st.now trees) st.all_stand st.stands n (with_value (array l) a) l here (value_put a v (array l) value))

@@ -1,0 +1,211 @@
+-- One edit of the list of a call that stands: it may be done, and the call stands.
+use Rattle.std.proofs.Common.{◌≡◌, ℕ, zero, suc, ◌≤◌, List, [], ◌∷◌, ◌++◌, length, take, drop, Some, refl, sym, ap, ◌∙◌, subst, arith, false}
+use Rattle.std.specs.Prelude.{All, max, option_and_then, option_map}
+use Rattle.meson_syntax.specs.declared.operator.Bracket.TheVariants as bracket
+use Rattle.meson_syntax.specs.Tree.{Nowhere, Plain, Expression, Listing, listing, Argument, plain, named, pair, arguments_of}
+use Rattle.meson_syntax.specs.Grammar.{LevelArgument, LevelExpression, LevelFile, argument_words, argument_depth, arguments_depth, expression_depth, file_depth, listing_depth}
+use Rattle.meson_syntax.specs.Paths.{list_at, nth, value_of}
+use Rattle.meson_syntax.proofs.parsing.Complete.{list-of-arguments}
+use Rattle.meson_syntax.proofs.parsing.Steps.{some-injective}
+use Rattle.meson_edit.specs.Edits.{Written, Edit, First, After, Remove, Replace, Wrap, elements, with_elements, with_value, array_of, inserted, removed, exchanged, edited}
+use Rattle.meson_edit.specs.Places.{IsWritten, Writes}
+use Rattle.meson_edit.specs.Sequences.{MayFollow}
+use Rattle.meson_edit.proofs.sequences.Levelled.{firsts-keep-levels, insertions-keep-levels, removals-keep-levels, replacements-keep-levels, wraps-keep-levels}
+use Rattle.meson_calls.specs.declared.call.CallRef.{CallRef}
+use Rattle.meson_keywords.specs.Changing.{CallStands, LeavesCall}
+use Rattle.meson_keywords.specs.Keys.{written_named}
+use Rattle.meson_keywords.specs.KeywordEdits.{behind_all}
+use Rattle.meson_steps.specs.ListSteps.{AreDoable, MayStand, none, one, wide_depth}
+use Rattle.meson_steps.specs.OtherValues.{with_one}
+use Rattle.meson_steps.specs.Steps.{step_in}
+use Rattle.meson_steps.specs.Steps.{Step, all_stepped, stepped}
+use Rattle.meson_keywords.specs.TaskSteps.{elements_in, list_elements, or_same}
+use Rattle.meson_steps.proofs.Insertable.{edited_there, elements_with, first_there, there_again}
+use Rattle.meson_steps.proofs.StepsDoable.{step_doable}
+use Rattle.meson_steps.proofs.WithOne.{all_nth, change_there, changed_there}
+use Rattle.meson_steps.proofs.WithOne.{all_with}
+
+-- ---- depth
+
+abbrev pub depth_of : List (Argument Nowhere) → ℕ
+depth_of xs = arguments_depth (arguments_of xs)
+
+pub depth_append : (xs ys : List (Argument Nowhere)) → depth_of (xs ++ ys) ≡ max (depth_of xs) (depth_of ys)
+depth_append [] ys = omega arith
+depth_append (x ∷ xs) ys = omega (arith, depth_append xs ys)
+
+pub depth_take : (n : ℕ) (xs : List (Argument Nowhere)) → depth_of (take n xs) ≤ depth_of xs
+depth_take zero xs = omega arith
+depth_take (suc n) [] = omega arith
+depth_take (suc n) (x ∷ xs) = omega (arith, depth_take n xs)
+
+pub depth_drop : (n : ℕ) (xs : List (Argument Nowhere)) → depth_of (drop n xs) ≤ depth_of xs
+depth_drop zero xs = omega arith
+depth_drop (suc n) [] = omega arith
+depth_drop (suc n) (x ∷ xs) = omega (arith, depth_drop n xs)
+
+pub depth_nth : (xs : List (Argument Nowhere)) (n : ℕ) (x : Argument Nowhere) → nth xs n ≡ Some x → argument_depth x ≤ depth_of xs
+depth_nth [] n x is = absurd cc
+depth_nth (y ∷ ys) zero x is = subst (λ z. argument_depth z ≤ depth_of (y ∷ ys)) (some-injective y x is) (omega arith)
+depth_nth (y ∷ ys) (suc n) x is = omega (arith, depth_nth ys n x is)
+
+depth_put : (n m : ℕ) (xs : List (Argument Nowhere)) (a : Argument Nowhere) → argument_depth a ≤ 1 → depth_of (take n xs ++ a ∷ drop m xs) ≤ max (depth_of xs) 1
+depth_put n m xs a small = omega (arith, depth_append (take n xs) (a ∷ drop m xs), depth_take n xs, depth_drop m xs, small)
+
+depth_gone : (n m : ℕ) (xs : List (Argument Nowhere)) → depth_of (take n xs ++ drop m xs) ≤ max (depth_of xs) 1
+depth_gone n m xs = omega (arith, depth_append (take n xs) (drop m xs), depth_take n xs, depth_drop m xs)
+
+pub value_depth : (a : Argument Nowhere) (v w : Expression Nowhere) → value_of a ≡ Some w → argument_depth (with_value v a) ≡ expression_depth v
+value_depth (plain e) v w is = refl
+value_depth (named s x e) v w is = refl
+value_depth (pair s e f) v w is = absurd cc
+
+list_fits : (l : Listing Nowhere) (xs : List (Argument Nowhere)) (limit : ℕ) → 2 ≤ limit → listing_depth l ≤ limit → depth_of xs ≤ max (depth_of (elements l)) 1 → listing_depth (with_elements l xs) ≤ limit
+list_fits (listing s trailing list) xs limit array_fits fits small = omega (arith, ap arguments_depth (list-of-arguments list), array_fits, fits, small)
+
+-- ---- one edit
+
+module _ (c : CallRef) (trees : List Plain) (all : All MayStand trees) (s : CallStands c trees) where
+  pub record CallStep (e : Edit) (ys : List (Argument Nowhere)) : Type 0 where
+    pub now : Plain
+    pub is_stepped : stepped (step_in c e) trees ≡ Some (with_one c.file now trees)
+    pub doable : (steps : List Step) → AreDoable steps (with_one c.file now trees) → AreDoable (step_in c e ∷ steps) trees
+    pub stands : CallStands c (with_one c.file now trees)
+    pub all_stand : All MayStand (with_one c.file now trees)
+    pub are : elements stands.place.list ≡ ys
+
+  abbrev pub xs : List (Argument Nowhere)
+  xs = elements s.place.list
+
+  abbrev path : List ℕ
+  path = c.path.steps
+
+  pub tree_level : LevelFile s.tree
+  tree_level = (all_nth MayStand trees c.file s.tree all s.is_tree).0
+
+  pub call_step : (e : Edit) (ys : List (Argument Nowhere)) → Writes e → edited e s.tree ≡ Some (s.place.back (with_elements s.place.list ys)) → LevelFile (s.place.back (with_elements s.place.list ys))
+      → depth_of ys ≤ max (depth_of xs) 1 → CallStep e ys
+  call_step e ys writes is level small =
+      let l = with_elements s.place.list ys in
+      let now = s.place.back l in
+      let fits = list_fits s.place.list ys s.limit s.array_fits s.call_fits small in
+      let now_stands : MayStand now = (level, s.file_fits l fits) in
+      let again = there_again s.tree path s.place s.is_place ys in
+      record {
+        now = now;
+        is_stepped = change_there (edited e) trees c.file s.tree now s.is_tree is;
+        doable = λ steps rest. step_doable (step_in c e) steps trees s.tree now s.is_tree is writes all now_stands rest;
+        stands = record {
+          tree = now;
+          is_tree = changed_there trees c.file s.tree now s.is_tree;
+          place = again.there;
+          is_place = again.is_there;
+          is_round = again.bracket ∙ s.is_round;
+          limit = s.limit;
+          array_fits = s.array_fits;
+          call_fits = subst (λ m. listing_depth m ≤ s.limit) (sym again.list) fits;
+          file_fits = λ m within. subst (λ t. file_depth t ≤ wide_depth) (sym (again.back m)) (s.file_fits m within);
+        };
+        all_stand = all_with MayStand trees c.file now all now_stands;
+        are = ap elements again.list ∙ elements_with s.place.list ys;
+      }
+
+  -- an element goes
+  pub remove_step : (n : ℕ) (it : Argument Nowhere) → nth xs n ≡ Some it → CallStep (Remove path n) (removed n xs it)
+  remove_step n it is =
+      let ys = removed n xs it in
+      let made = edited_there s.tree path s.place s.is_place (Remove path n) ys (ap (option_map (removed n xs)) is) in
+      call_step (Remove path n) ys tt made (removals-keep-levels path n s.tree (s.place.back (with_elements s.place.list ys)) tree_level made) (depth_gone n (suc n) xs)
+
+  -- the value of an element becomes another one
+  pub replace_step : (n : ℕ) (it : Argument Nowhere) (v : Expression Nowhere) (new : Written (Expression Nowhere)) → nth xs n ≡ Some it → value_of it ≡ Some v → Writes (Replace path n new) → LevelExpression new.node
+      → expression_depth new.node ≤ 1 → CallStep (Replace path n new) (take n xs ++ with_value new.node it ∷ drop (suc n) xs)
+  replace_step n it v new is is_value writes level small =
+      let ys = take n xs ++ with_value new.node it ∷ drop (suc n) xs in
+      let made = edited_there s.tree path s.place s.is_place (Replace path n new) ys
+      (ap (option_and_then (exchanged n (λ w. new.node) xs)) is ∙ ap (option_map (λ w. take n xs ++ with_value new.node it ∷ drop (suc n) xs)) is_value) in
+      call_step (Replace path n new) ys writes made (replacements-keep-levels path n new level s.tree (s.place.back (with_elements s.place.list ys)) tree_level made)
+      (depth_put n (suc n) xs (with_value new.node it) (omega (arith, value_depth it new.node v is_value, small)))
+
+  -- or the array of it, where nothing nests in it
+  pub wrap_step : (n : ℕ) (it : Argument Nowhere) (v : Expression Nowhere) → nth xs n ≡ Some it → value_of it ≡ Some v → expression_depth v ≡ 0 → CallStep (Wrap path n) (take n xs ++ with_value (array_of v) it ∷ drop (suc n) xs)
+  wrap_step n it v is is_value flat =
+      let ys = take n xs ++ with_value (array_of v) it ∷ drop (suc n) xs in
+      let made = edited_there s.tree path s.place s.is_place (Wrap path n) ys
+      (ap (option_and_then (exchanged n array_of xs)) is ∙ ap (option_map (λ w. take n xs ++ with_value (array_of w) it ∷ drop (suc n) xs)) is_value) in
+      call_step (Wrap path n) ys tt made (wraps-keep-levels path n s.tree (s.place.back (with_elements s.place.list ys)) tree_level made)
+      (depth_put n (suc n) xs (with_value (array_of v) it) (omega (arith, value_depth it (array_of v) v is_value, flat)))
+
+  -- ---- a keyword argument behind all others
+
+  pub last_there : (ys : List (Argument Nowhere)) (m : ℕ) → length ys ≡ suc m → (x : Argument Nowhere) × (nth ys m ≡ Some x) × (drop (suc m) ys ≡ [])
+  last_there [] m many = absurd (omega (arith, many))
+  last_there (x ∷ []) zero many = (x, refl, refl)
+  last_there (x ∷ y ∷ ys) zero many = absurd (omega (arith, many))
+  last_there (x ∷ ys) (suc m) many = let fewer : length ys ≡ suc m = omega (arith, many) in last_there ys m fewer
+
+  pub no_elements : (ys : List (Argument Nowhere)) → length ys ≡ 0 → ys ≡ []
+  no_elements [] empty = refl
+  no_elements (y ∷ ys) empty = absurd (omega (arith, empty))
+
+  pub record InsertStep (st : Step) : Type 0 where
+    pub edit : Edit
+    pub is : st ≡ step_in c edit
+    pub ys : List (Argument Nowhere)
+    pub step : CallStep edit ys
+
+  module _ (key : List ℕ) (new : Written (Expression Nowhere)) (writes : IsWritten (written_named key new).bytes (argument_words (written_named key new).node)) (level : LevelExpression new.node) (small : expression_depth new.node ≤ 1) where
+    abbrev it : Written (Argument Nowhere)
+    it = written_named key new
+
+    first_step : length xs ≡ 0 → CallStep (First path it) (it.node ∷ [])
+    first_step empty =
+        let ys : List (Argument Nowhere) = it.node ∷ [] in
+        let made = edited_there s.tree path s.place s.is_place (First path it) ys (first_there it.node xs (no_elements xs empty)) in
+        let low : LevelArgument it.node s.place.bracket false = subst (λ b. LevelArgument it.node b false) (sym s.is_round) (refl, level) in
+        call_step (First path it) ys writes made (firsts-keep-levels path it s.tree (s.place.back (with_elements s.place.list ys)) s.place s.is_place low tree_level made) (omega (arith, small))
+
+    after_step : (m : ℕ) (many : length xs ≡ suc m) → CallStep (After path m it) (inserted m it.node xs (last_there xs m many).0)
+    after_step m many =
+        let last = last_there xs m many in
+        let ys = inserted m it.node xs last.0 in
+        let made = edited_there s.tree path s.place s.is_place (After path m it) ys (ap (option_map (inserted m it.node xs)) last.1) in
+        let follows : MayFollow bracket.Round last.0 (drop (suc m) xs) it.node = (last.2, level) in
+        call_step (After path m it) ys writes made
+        (insertions-keep-levels path m it s.tree (s.place.back (with_elements s.place.list ys)) s.place s.is_place last.0 last.1 (subst (λ b. MayFollow b last.0 (drop (suc m) xs) it.node) (sym s.is_round) follows) tree_level made)
+        (depth_put (suc m) (suc m) xs it.node small)
+
+    pub insert_step : InsertStep (behind_all c (length xs) it)
+    insert_step = go (length xs) refl
+      where
+        go : (n : ℕ) → length xs ≡ n → InsertStep (behind_all c n it)
+        go zero many = record { edit = First path it; is = refl; ys = it.node ∷ []; step = first_step many }
+        go (suc m) many = record { edit = After path m it; is = refl; ys = inserted m it.node xs (last_there xs m many).0; step = after_step m many }
+
+  -- ---- no step, and one
+
+  pub none_leaves : LeavesCall c [] trees
+  none_leaves = record { doable = none trees; stands = s }
+
+  pub one_leaves : (e : Edit) (ys : List (Argument Nowhere)) → CallStep e ys → LeavesCall c (step_in c e ∷ []) trees
+  one_leaves e ys k =
+      let after = ap (λ o. or_same trees (option_and_then (all_stepped []) o)) k.is_stepped in
+      record { doable = k.doable [] (none (with_one c.file k.now trees)); stands = subst (CallStands c) (sym after) k.stands }
+
+  pub inserted_leaves : (st : Step) → InsertStep st → LeavesCall c (st ∷ []) trees
+  inserted_leaves st i = subst (λ x. LeavesCall c (x ∷ []) trees) (sym i.is) (one_leaves i.edit i.ys i.step)
+
+  stepped_on : (steps : List Step) (ts : List Plain) → AreDoable steps ts → (after : List Plain) × (all_stepped steps ts ≡ Some after)
+  stepped_on steps ts (none now) = (now, refl)
+  stepped_on steps ts (one st more now between writes is stand rest) =
+      let r = stepped_on more between rest in
+      (r.0, ap (option_and_then (all_stepped more)) is ∙ r.1)
+
+  pub more_leaves : (e : Edit) (ys : List (Argument Nowhere)) (k : CallStep e ys) (steps : List Step) → LeavesCall c steps (with_one c.file k.now trees) → LeavesCall c (step_in c e ∷ steps) trees
+  more_leaves e ys k steps r =
+      let there = stepped_on steps (with_one c.file k.now trees) r.doable in
+      let after = ap (λ o. or_same trees (option_and_then (all_stepped steps) o)) k.is_stepped ∙ ap (or_same trees) there.1 ∙ sym (ap (or_same (with_one c.file k.now trees)) there.1) in
+      record { doable = k.doable steps r.doable; stands = subst (CallStands c) (sym after) r.stands }
+
+  pub elements_are : elements_in c trees ≡ xs
+  elements_are = ap (λ o. list_elements (option_and_then (λ t. list_at t path) o)) s.is_tree ∙ ap list_elements s.is_place

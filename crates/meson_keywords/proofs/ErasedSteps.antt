@@ -1,0 +1,148 @@
+-- The steps of a task are the same by the elements with spans and by those without.
+use Rattle.std.proofs.Common.{◌≡◌, ℕ, suc, ◌+◌, Bool, true, false, List, [], ◌∷◌, length, map, refl, ap, ◌∙◌}
+use Rattle.std.specs.Prelude.{Option, Some, None, option_map, if◌then◌else◌, bytes_eq, is_some, ◌&&◌, Result, Ok}
+use Rattle.std.specs.List.{cons_option, filter_map}
+use Rattle.meson_lex.specs.declared.kinds.Span.{Span}
+use Rattle.meson_splice.specs.Patch.{then_ok}
+use Rattle.meson_syntax.specs.Tree.{Nowhere, Expression, identifier, string, array, Argument, plain, named, pair, arguments_of, erase_argument, erase_expression}
+use Rattle.meson_calls.specs.declared.call.CallRef.{CallRef}
+use Rattle.meson_keywords.specs.declared.keys.ElementKind.{ElementKind}
+use Rattle.meson_keywords.specs.declared.keys.ElementKind.TheVariants as element
+use Rattle.meson_calls.specs.declared.refusal.Refusal.{Refusal}
+use Rattle.meson_calls.specs.Calls.{Numbered, numbered, kept_number, value_with_name}
+use Rattle.meson_calls.specs.Calls as calls
+use Rattle.meson_keywords.specs.Keys.{written_list, written_named}
+use Rattle.meson_keywords.specs.KeywordEdits.{Shape, an_array, no_array, add_by_shape, all_behind, all_known, behind_all, element_text, keyword_in, new_elements, one_at_most, passing, remove_by_shape, remove_equal, removed_from, says, shape, text_in, the_value}
+use Rattle.meson_keywords.specs.Options.{delete_by_shape, is_entry, is_entry_element, of_list, option_text, options_key, set_by_shape, set_in_list}
+use Rattle.meson_calls.specs.Project.{child}
+use Rattle.meson_keywords.specs.Tasks.{Task, set, delete, add, remove, once, set_option, delete_option}
+use Rattle.meson_keywords.specs.TaskSteps.{task_steps}
+use Rattle.meson_steps.proofs.PlainTrees.{erased_elements}
+
+-- ---- the keyword argument in hand
+
+abbrev erase_number : Numbered (Expression Span) → Numbered (Expression Nowhere)
+erase_number v = record { number = v.number; value = erase_expression v.value }
+
+module _ (key : List ℕ) where
+  one_named : (n : ℕ) (e : Expression Span) (b : Bool) (vs : List (Numbered (Expression Nowhere))) (us : List (Numbered (Expression Span))) → vs ≡ map erase_number us
+      → cons_option (option_map (λ (y : Expression Nowhere). record { number = n; value = y }) (if b then Some (erase_expression e) else None)) vs
+      ≡ map erase_number (cons_option (option_map (λ (y : Expression Span). record { number = n; value = y }) (if b then Some e else None)) us)
+  one_named n e true vs us are = ap (λ l. record { number = n; value = erase_expression e } ∷ l) are
+  one_named n e false vs us are = are
+
+  named_erased : (n : ℕ) (xs : List (Argument Span)) → filter_map (kept_number (value_with_name key)) (numbered n (arguments_of (map erase_argument xs)))
+      ≡ map erase_number (filter_map (kept_number (value_with_name key)) (numbered n (arguments_of xs)))
+  named_erased n [] = refl
+  named_erased n (plain e ∷ xs) = named_erased (n + 1) xs
+  named_erased n (pair s e f ∷ xs) = named_erased (n + 1) xs
+  named_erased n (named s x e ∷ xs) =
+      one_named n e (bytes_eq x key) (filter_map (kept_number (value_with_name key)) (numbered (n + 1) (arguments_of (map erase_argument xs))))
+      (filter_map (kept_number (value_with_name key)) (numbered (n + 1) (arguments_of xs))) (named_erased (n + 1) xs)
+
+  -- what is made of the one value, or of none
+  by_value : {X : Type 0} (xs : List (Argument Span)) (bare : Option (Numbered (Expression Nowhere)) → Result X Refusal) (spanned : Option (Numbered (Expression Span)) → Result X Refusal) → bare None ≡ spanned None
+      → ((v : Numbered (Expression Span)) → bare (Some (erase_number v)) ≡ spanned (Some v)) → then_ok (the_value key (map erase_argument xs)) bare ≡ then_ok (the_value key xs) spanned
+  by_value xs bare spanned none some =
+      ap (λ vs. then_ok (one_at_most key vs) bare) (named_erased 0 xs) ∙ go (keyword_in key xs)
+    where
+      go : (vs : List (Numbered (Expression Span))) → then_ok (one_at_most key (map erase_number vs)) bare ≡ then_ok (one_at_most key vs) spanned
+      go [] = none
+      go (v ∷ []) = some v
+      go (v ∷ w ∷ more) = refl
+
+-- ---- elements
+
+many_erased : (xs : List (Argument Span)) → length (map erase_argument xs) ≡ length xs
+many_erased [] = refl
+many_erased (x ∷ xs) = ap suc (many_erased xs)
+
+text_erased : (k : ElementKind) (e : Expression Span) → text_in k (erase_expression e) ≡ text_in k e
+text_erased element.Text (string s q x) = refl
+text_erased element.Text _ = refl
+text_erased element.Identifier (identifier s x) = refl
+text_erased element.Identifier _ = refl
+
+element_erased : (k : ElementKind) (x : Argument Span) → element_text k (erase_argument x) ≡ element_text k x
+element_erased k (plain e) = text_erased k e
+element_erased k (named s x e) = refl
+element_erased k (pair s e f) = refl
+
+texts_erased : (k : ElementKind) (xs : List (Argument Span)) → filter_map (element_text k) (map erase_argument xs) ≡ filter_map (element_text k) xs
+texts_erased k [] = refl
+texts_erased k (x ∷ xs) =
+    ap (λ o. cons_option o (filter_map (element_text k) (map erase_argument xs))) (element_erased k x) ∙ ap (cons_option (element_text k x)) (texts_erased k xs)
+
+known_erased : (k : ElementKind) (xs : List (Argument Span)) → all_known k (map erase_argument xs) ≡ all_known k xs
+known_erased k [] = refl
+known_erased k (x ∷ xs) =
+    ap (λ o. is_some o && all_known k (map erase_argument xs)) (element_erased k x) ∙ ap (λ b. is_some (element_text k x) && b) (known_erased k xs)
+
+passing_erased : (bare : Argument Nowhere → Bool) (spanned : Argument Span → Bool) → ((x : Argument Span) → bare (erase_argument x) ≡ spanned x) → (n : ℕ) (xs : List (Argument Span))
+    → passing bare n (map erase_argument xs) ≡ passing spanned n xs
+passing_erased bare spanned same n [] = refl
+passing_erased bare spanned same n (x ∷ xs) =
+    ap (λ b. if b then n ∷ passing bare (suc n) (map erase_argument xs) else passing bare (suc n) (map erase_argument xs)) (same x)
+    ∙ ap (λ l. if spanned x then n ∷ l else l) (passing_erased bare spanned same (suc n) xs)
+
+abbrev erase_shape : Shape Span → Shape Nowhere
+erase_shape (an_array xs) = an_array (map erase_argument xs)
+erase_shape no_array = no_array
+
+shape_erased : (e : Expression Span) → shape (erase_expression e) ≡ erase_shape (shape e)
+shape_erased (array l) = ap an_array (erased_elements l)
+shape_erased _ = refl
+
+-- what is made of a value, by its text and its shape
+by_shape : {X : Type 0} (bare : Option (List ℕ) → Shape Nowhere → X) (spanned : Option (List ℕ) → Shape Span → X) → ((t : Option (List ℕ)) (s : Shape Span) → bare t (erase_shape s) ≡ spanned t s)
+    → (k : ElementKind) (e : Expression Span) → bare (text_in k (erase_expression e)) (shape (erase_expression e)) ≡ spanned (text_in k e) (shape e)
+by_shape bare spanned same k e = ap (λ t. bare t (shape (erase_expression e))) (text_erased k e) ∙ ap (bare (text_in k e)) (shape_erased e) ∙ same (text_in k e) (shape e)
+
+-- ---- values
+
+added_erased : (c : CallRef) (n : ℕ) (key : List ℕ) (k : ElementKind) (values : List (List ℕ)) (t : Option (List ℕ)) (s : Shape Span) → add_by_shape c n key k values t (erase_shape s) ≡ add_by_shape c n key k values t s
+added_erased c n key k values t no_array = refl
+added_erased c n key k values t (an_array xs) =
+    ap (λ m. Ok (all_behind (child c n) m (new_elements k (filter_map (element_text k) (map erase_argument xs)) values))) (many_erased xs)
+    ∙ ap (λ known. Ok (all_behind (child c n) (length xs) (new_elements k known values))) (texts_erased k xs)
+
+removed_erased : (c : CallRef) (n : ℕ) (key : List ℕ) (k : ElementKind) (value : List ℕ) (t : Option (List ℕ)) (s : Shape Span)
+    → remove_by_shape c n key k value t (erase_shape s) ≡ remove_by_shape c n key k value t s
+removed_erased c n key k value t no_array = refl
+removed_erased c n key k value t (an_array xs) =
+    ap (λ b. remove_equal (child c n) key b (passing (says k value) 0 (map erase_argument xs))) (known_erased k xs)
+    ∙ ap (remove_equal (child c n) key (all_known k xs)) (passing_erased (says k value) (says k value) (λ x. ap (calls.is value) (element_erased k x)) 0 xs)
+
+entry_erased : (name : List ℕ) (x : Argument Span) → is_entry_element name (erase_argument x) ≡ is_entry_element name x
+entry_erased name x = ap (is_entry name) (element_erased element.Text x)
+
+option_erased : (c : CallRef) (n : ℕ) (name entry : List ℕ) (t : Option (List ℕ)) (s : Shape Span) → set_by_shape c n name entry t (erase_shape s) ≡ set_by_shape c n name entry t s
+option_erased c n name entry t no_array = refl
+option_erased c n name entry t (an_array xs) =
+    ap (λ b. of_list b (set_in_list (child c n) (length (map erase_argument xs)) entry (passing (is_entry_element name) 0 (map erase_argument xs)))) (known_erased element.Text xs)
+    ∙ ap (λ m. of_list (all_known element.Text xs) (set_in_list (child c n) m entry (passing (is_entry_element name) 0 (map erase_argument xs)))) (many_erased xs)
+    ∙ ap (λ l. of_list (all_known element.Text xs) (set_in_list (child c n) (length xs) entry l)) (passing_erased (is_entry_element name) (is_entry_element name) (entry_erased name) 0 xs)
+
+option_gone_erased : (c : CallRef) (n : ℕ) (name : List ℕ) (t : Option (List ℕ)) (s : Shape Span) → delete_by_shape c n name t (erase_shape s) ≡ delete_by_shape c n name t s
+option_gone_erased c n name t no_array = refl
+option_gone_erased c n name t (an_array xs) =
+    ap (λ b. of_list b (removed_from (child c n) 0 (passing (is_entry_element name) 0 (map erase_argument xs)))) (known_erased element.Text xs)
+    ∙ ap (λ l. of_list (all_known element.Text xs) (removed_from (child c n) 0 l)) (passing_erased (is_entry_element name) (is_entry_element name) (entry_erased name) 0 xs)
+
+-- ---- tasks
+
+pub steps_erased : (t : Task) (c : CallRef) (xs : List (Argument Span)) → task_steps t c (map erase_argument xs) ≡ task_steps t c xs
+steps_erased (set key new) c xs = by_value key xs _ _ (ap (λ m. Ok (behind_all c m (written_named key new) ∷ [])) (many_erased xs)) (λ v. refl)
+steps_erased (delete key) c xs = by_value key xs _ _ refl (λ v. refl)
+steps_erased (add key k values) c xs =
+    by_value key xs _ _ (ap (λ m. Ok (behind_all c m (written_named key (written_list k values)) ∷ [])) (many_erased xs))
+    (λ v. by_shape (add_by_shape c v.number key k values) (add_by_shape c v.number key k values) (added_erased c v.number key k values) k v.value)
+steps_erased (remove key k value) c xs =
+    by_value key xs _ _ refl (λ v. by_shape (remove_by_shape c v.number key k value) (remove_by_shape c v.number key k value) (removed_erased c v.number key k value) k v.value)
+steps_erased (once key) c xs = by_value key xs _ _ refl (λ v. refl)
+steps_erased (set_option name value) c xs =
+    let entry = option_text name value in
+    by_value options_key xs _ _ (ap (λ m. Ok (behind_all c m (written_named options_key (written_list element.Text (entry ∷ []))) ∷ [])) (many_erased xs))
+    (λ v. by_shape (set_by_shape c v.number name entry) (set_by_shape c v.number name entry) (option_erased c v.number name entry) element.Text v.value)
+steps_erased (delete_option name) c xs =
+    by_value options_key xs _ _ refl (λ v. by_shape (delete_by_shape c v.number name) (delete_by_shape c v.number name) (option_gone_erased c v.number name) element.Text v.value)

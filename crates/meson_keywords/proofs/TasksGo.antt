@@ -1,0 +1,95 @@
+-- A task that is done on the call at a place: its steps as the code has them, and the call as they leave it.
+use Rattle.std.proofs.Common.{◌≡◌, ℕ, List, [], ◌++◌, get_or, refl, sym, ap, ◌∙◌, subst}
+use Rattle.std.specs.Prelude.{Some, None, option_map, option_and_then, Ok}
+use Rattle.meson_lex.specs.declared.kinds.Span.{Span}
+use Rattle.meson_splice.specs.Files.{bytes_at}
+use Rattle.meson_syntax.specs.declared.tree.Arg.{Arg}
+use Rattle.meson_syntax.specs.declared.tree.List as rust
+use Rattle.meson_syntax.specs.declared.tree.Parsed.{Parsed}
+use Rattle.meson_syntax.specs.Paths.{ListAt, list_at}
+use Rattle.meson_syntax.specs.Tree.{Plain}
+use Rattle.meson_syntax.specs.View.{args_view, list_view, view}
+use Rattle.meson_syntax.proofs.parsing.Steps.{some-injective}
+use Rattle.meson_edit.specs.Edits.{elements}
+use Rattle.meson_calls.specs.declared.call.CallRef.{CallRef}
+use Rattle.meson_steps.specs.declared.step.ListStep.{ListStep}
+use Rattle.meson_steps.specs.declared.work.Work.{Work}
+use Rattle.meson_keywords.specs.Changing.{Between, CallStands, LeavesCall, TaskDone, steps_of_task}
+use Rattle.meson_calls.specs.GoodLists.{GoodArgs, GoodListing}
+use Rattle.meson_steps.specs.ListSteps.{AreBare}
+use Rattle.meson_calls.specs.Loading.{Loaded}
+use Rattle.meson_steps.specs.OtherValues.{with_some}
+use Rattle.meson_steps.specs.Results.{plain_trees}
+use Rattle.meson_steps.specs.Steps.{Step, all_stepped}
+use Rattle.meson_keywords.specs.Tasking.{MayBeWritten}
+use Rattle.meson_keywords.specs.Tasks.{Task}
+use Rattle.meson_keywords.specs.TaskSteps.{or_same, task_steps, trees_after}
+use Rattle.meson_steps.specs.Working.{IsUnderWay, Reached, so_far}
+use Rattle.meson_steps.proofs.ArgumentValues.{list_elements}
+use Rattle.meson_keywords.proofs.CallKnown.{ListKnown, known_stand, list_known}
+use Rattle.meson_keywords.proofs.ErasedSteps.{steps_erased}
+use Rattle.meson_calls.proofs.Nested.{good_args}
+use Rattle.meson_steps.proofs.OneMoreStep.{all_after}
+use Rattle.meson_keywords.proofs.TaskMay.{task_may}
+
+module _ (old : Loaded) (c : CallRef) (w : Work) (before : List Step) (b : Between old c before w) where
+  -- the arguments of the call in the code
+  pub record ArgsKnown (source : List ℕ) (args : List Arg) : Type 0 where
+    pub good : GoodArgs source args
+    pub steps : (t : Task) → steps_of_task old c t w ≡ task_steps t c (args_view source args)
+
+  module _ (source : List ℕ) (parsed : Parsed) (is_source : source ≡ bytes_at c.file w.files) (is_parsed : (d : Parsed) → parsed ≡ get_or (with_some w.trees.items old.parsed) c.file d) where
+    abbrev text : List ℕ
+    text = bytes_at c.file w.files
+
+    abbrev known : ListKnown w.files w.trees.items old.parsed b.reached.known c b.stands parsed
+    known = list_known w.files w.trees.items old.parsed b.reached.known c b.stands parsed
+
+    found : list_at (view text parsed) c.path.steps ≡ Some known.place
+    found = ap (λ p. list_at (view text p) c.path.steps) (is_parsed parsed) ∙ known.is_place
+
+    pub no_list : ((bytes : List ℕ) → None ≡ option_map (λ (p : ListAt Span). p.list) (list_at (view bytes parsed) c.path.steps)) → ⊥
+    no_list none = let both = none text ∙ ap (option_map (λ (p : ListAt Span). p.list)) found in cc
+
+    pub args_known : (l : rust.List) (args : List Arg) → ((bytes : List ℕ) → Some (list_view bytes l) ≡ option_map (λ (p : ListAt Span). p.list) (list_at (view bytes parsed) c.path.steps)) → args ≡ (rust.out-List l).items
+        → ArgsKnown source args
+    args_known l args is are =
+        let same : list_view text l ≡ known.place.list = some-injective _ _ (is text ∙ ap (option_map (λ (p : ListAt Span). p.list)) found) in
+        let good = good_args text l (subst GoodListing (sym same) known.good) in
+        record {
+          good = subst (λ s. GoodArgs s args) (sym is_source) (subst (GoodArgs text) (sym are) good);
+          steps = λ t.
+              ap (task_steps t c) known.are ∙ steps_erased t c (elements known.place.list)
+              ∙ ap (task_steps t c) (ap elements (sym same) ∙ list_elements text l ∙ ap (args_view text) (sym are) ∙ ap (λ s. args_view s args) (sym is_source));
+        }
+
+  module _ (t : Task) (may : MayBeWritten t) (steps : List Step) (are : steps_of_task old c t w ≡ Ok steps) where
+    abbrev here : List Plain
+    here = plain_trees (so_far old w)
+
+    leaves : LeavesCall c steps here
+    leaves = task_may t may c here (known_stand w.files w.trees.items old.parsed b.reached.known) b.stands steps are
+
+    pub task_under_way : (code : List ListStep) → AreBare steps code → IsUnderWay old (before ++ steps) code w
+    task_under_way code bare = record {
+      before = before;
+      rest = steps;
+      joined = refl;
+      bare = bare;
+      reached = record {
+        made = b.reached.made;
+        doable = leaves.doable;
+        known = b.reached.known;
+        distinct = b.reached.distinct;
+        few = b.reached.few;
+        named = b.reached.named;
+      };
+    }
+
+    pub trees_done : (new : Work) → Reached old (before ++ steps) [] new → trees_after steps here ≡ plain_trees (so_far old new)
+    trees_done new r =
+        let on = sym (all_after before steps (plain_trees old)) ∙ r.made.are_trees in
+        ap (or_same here) (sym (ap (option_and_then (all_stepped steps)) b.reached.made.are_trees) ∙ on)
+
+    pub task_done : (new : Work) → Reached old (before ++ steps) [] new → TaskDone old c before t w new
+    task_done new r = record { steps = steps; are = are; between = record { reached = r; stands = subst (CallStands c) (trees_done new r) leaves.stands } }

@@ -1,0 +1,29 @@
+use Rattle.std.proofs.Common.{◌≡◌, ◌≢◌, map, sym, subst}
+use Rattle.std.specs.Prelude.{Err, IfErr, IfOk}
+use Rattle.meson_syntax.specs.View.{args_view}
+use Rattle.meson_calls.specs.declared.refusal.Refusal.TheVariants.{OutOfMemory}
+use Rattle.meson_keywords.specs.KeywordEdits.{add_steps}
+use Rattle.meson_steps.specs.Meanings.{AreMeant}
+use Rattle.meson_keywords.specs.Tasking.{TaskIs}
+use Rattle.meson_keywords.specs.TaskSteps.{task_steps}
+use Rattle.meson_keywords.proofs.changing.task_steps.Goals as goal
+
+pub returns-in-Set-clause-meant : goal.returns-in-Set-clause-meant
+returns-in-Set-clause-meant c = λ t is.
+    let s = c.args.subject in
+    let it = subst (λ k. TaskIs k t) c.in-Set.is is in
+    subst (λ u. IfOk c.set_steps.result (λ steps. AreMeant (task_steps u s.call.now (args_view s.source.now s.args.now)) steps.items)) (sym it.1) (c.set_steps.ensures.meant it.0)
+
+pub returns-in-Set-clause-refused : goal.returns-in-Set-clause-refused
+returns-in-Set-clause-refused c = λ t is.
+    let s = c.args.subject in
+    let it = subst (λ k. TaskIs k t) c.in-Set.is is in
+    subst (λ u. IfErr c.set_steps.result (λ e. e ≢ OutOfMemory → task_steps u s.call.now (args_view s.source.now s.args.now) ≡ Err e)) (sym it.1) (c.set_steps.ensures.refused it.0)
+
+pub returns-in-Add-clause-refused : goal.returns-in-Add-clause-refused
+returns-in-Add-clause-refused c = λ t is.
+    let s = c.args.subject in
+    let it = subst (λ k. TaskIs k t) c.in-Add.is is in
+    let xs = args_view s.source.now s.args.now in
+    subst (λ u. IfErr c.add_steps.result (λ e. e ≢ OutOfMemory → task_steps u s.call.now xs ≡ Err e)) (sym it)
+    (subst (λ vs. IfErr c.add_steps.result (λ e. e ≢ OutOfMemory → add_steps s.call.now xs c.in-Add.key.now c.in-Add.kind (map (λ x. x.now) vs) ≡ Err e)) c.as_slice.ensures.value c.add_steps.ensures.refused)

@@ -1,0 +1,73 @@
+use Rattle.std.proofs.Common.{◌∷◌, [], map, refl, sym, ap, ap₂, ◌∙◌}
+use Rattle.std.specs.Prelude.{Err, Ok, Some}
+use Rattle.meson_syntax.specs.View.{args_view, expr_view}
+use Rattle.meson_edit.specs.Edits.{Remove}
+use Rattle.meson_keywords.specs.declared.keys.ElementKind.TheVariants as element
+use Rattle.meson_calls.specs.declared.refusal.Refusal.TheVariants.{NotLiteral}
+use Rattle.meson_calls.specs.Calls.{literal}
+use Rattle.meson_keywords.specs.KeywordEdits.{all_known, passing, removed_from}
+use Rattle.meson_keywords.specs.Options.{delete_by_shape, delete_lone, is_entry, is_entry_element}
+use Rattle.meson_calls.specs.Project.{child}
+use Rattle.meson_steps.specs.Steps.{step_in}
+use Rattle.meson_keywords.proofs.StepsBehind.{behind_is, list_refused, list_taken, lone_refused, lone_taken, none_more, one_more}
+use Rattle.meson_keywords.proofs.option_steps.delete_in_value.Goals as goal
+use Rattle.meson_keywords.proofs.option_steps.delete_in_value.Goals.{in-Some+in-Ok+in_ok-entries-in-Some+in_ok-list-in-Some+in_ok-remove_all-in-Some, in-None+in_ok-is_element-in-None+else-not-branch+in_ok-is_entry-in-None+then-branch+in_ok-push_edit-in-None, in-None+in_ok-is_element-in-None+else-not-branch+in_ok-is_entry-in-None+else-branch}
+
+pub only_literals-requires : goal.only_literals-requires
+only_literals-requires c = c.in-Some.ensures.good c.args.subject.source.now c.requires
+
+pub passing-requires : goal.passing-requires
+passing-requires c = c.in-Some.ensures.good c.args.subject.source.now c.requires
+
+pub returns-in-Err-clause-refused : goal.returns-in-Err-clause-refused
+returns-in-Err-clause-refused c = λ other.
+    let source = c.args.subject.source.now in
+    let call = c.args.subject.call.now in
+    let n = c.args.found.number in
+    let xs = args_view source c.in-Some.elements.now in
+    let why = c.in-Err.ensures.refused other in
+    ap (delete_by_shape call n c.args.name.now (literal (expr_view source c.args.found.value.now))) (c.in-Some.ensures.shape source)
+    ∙ list_refused (all_known element.Text xs) (removed_from (child call n) 0 (passing (is_entry_element c.args.name.now) 0 xs)) why.1
+    ∙ ap Err (sym why.0)
+
+pub returns-then-not-branch-clause-refused : goal.returns-then-not-branch-clause-refused
+returns-then-not-branch-clause-refused c = λ other.
+    let source = c.args.subject.source.now in
+    let call = c.args.subject.call.now in
+    let n = c.args.found.number in
+    let o = literal (expr_view source c.args.found.value.now) in
+    ap (delete_by_shape call n c.args.name.now o) (c.in-None.ensures.shape source)
+    ∙ lone_refused o (delete_lone call n (is_entry c.args.name.now o)) (sym c.in_ok-is_element-in-None.ensures ∙ c.if-not-branch.true)
+    ∙ ap Err (sym (c.not_literal.ensures other ∙ ap NotLiteral c.as_bytes.ensures.value))
+
+pub returns-clause-done : goal.returns-clause-done
+returns-clause-done c =
+    let source = c.args.subject.source.now in
+    let call = c.args.subject.call.now in
+    let n = c.args.found.number in
+    let name = c.args.name.now in
+    let o = literal (expr_view source c.args.found.value.now) in
+    let old = c.args.steps.now.items in
+    let after = c.match-array_in.steps.items in
+    let gone = step_in call (Remove call.path.steps n) in
+    elim c.match-array_in.branch [
+      | in-Some+in-Ok+in_ok-entries-in-Some+in_ok-list-in-Some+in_ok-remove_all-in-Some w ↦
+          (let xs = args_view source w.in-Some.elements.now in
+          let entries = passing (is_entry_element name) 0 xs in
+          behind_is _ (removed_from w.in_ok-list-in-Some.list 0 w.as_slice.result.now) old after
+          (ap (delete_by_shape call n name o) (w.in-Some.ensures.shape source) ∙ list_taken (all_known element.Text xs) (removed_from (child call n) 0 entries) w.in-Ok.ensures.all
+          ∙ ap₂ (λ p ns. Ok (removed_from p 0 ns)) (sym w.in_ok-list-in-Some.ensures) (sym (w.as_slice.ensures.value ∙ w.in_ok-entries-in-Some.ensures)))
+          (ap (λ v. map Some v.items) w.steps-is ∙ w.in_ok-remove_all-in-Some.ensures))
+      | in-None+in_ok-is_element-in-None+else-not-branch+in_ok-is_entry-in-None+then-branch+in_ok-push_edit-in-None w ↦
+          behind_is _ (gone ∷ []) old after
+          (ap (delete_by_shape call n name o) (w.in-None.ensures.shape source)
+          ∙ lone_taken o (delete_lone call n (is_entry name o)) (sym w.in_ok-is_element-in-None.ensures ∙ w.if-not-branch.false)
+          ∙ ap (λ b. Ok (delete_lone call n b)) (sym w.in_ok-is_entry-in-None.ensures ∙ w.if-branch.true))
+          (one_more old after _ gone (ap (λ v. v.items) w.steps-is ∙ w.in_ok-push_edit-in-None.ensures) refl)
+      | in-None+in_ok-is_element-in-None+else-not-branch+in_ok-is_entry-in-None+else-branch w ↦
+          behind_is _ [] old after
+          (ap (delete_by_shape call n name o) (w.in-None.ensures.shape source)
+          ∙ lone_taken o (delete_lone call n (is_entry name o)) (sym w.in_ok-is_element-in-None.ensures ∙ w.if-not-branch.false)
+          ∙ ap (λ b. Ok (delete_lone call n b)) (sym w.in_ok-is_entry-in-None.ensures ∙ w.if-branch.false))
+          (none_more old after (ap (λ v. v.items) w.steps-is))
+    ]

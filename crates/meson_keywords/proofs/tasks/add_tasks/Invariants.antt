@@ -1,0 +1,7 @@
+use Rattle.std.proofs.Common.{drop}
+use Rattle.meson_keywords.specs.Tasks.{each_made, add_entry}
+use Rattle.meson_keywords.specs.Tasking.{TasksSoFar}
+use Rattle.meson_keywords.proofs.tasks.add_tasks.Given as goal
+
+abbrev pub invariant-loop-i : goal.invariant-loop-i
+invariant-loop-i l = TasksSoFar (each_made (add_entry l.role) l.pairs) (each_made (add_entry l.role) (drop l.i l.pairs)) l.tasks.items

@@ -1,0 +1,16 @@
+-- Each option becomes one task.
+use Rattle.std.proofs.Common.{◌+◌, drop, refl, sym, ap, ◌∙◌, subst}
+use Rattle.meson_keywords.proofs.TasksSoFar.{none_so_far, one_is, one_made, delete_option_made}
+use Rattle.meson_keywords.specs.Tasks.{each_made, delete_option_entry}
+use Rattle.meson_keywords.specs.Tasking.{TasksSoFar}
+use Rattle.meson_keywords.proofs.tasks.delete_option_tasks.Goals as goal
+
+pub loop-i-init : goal.loop-i-init
+loop-i-init c = let whole = each_made delete_option_entry c.args.names.now in subst (TasksSoFar whole whole) (sym c.new-tasks.ensures.items) (none_so_far whole)
+
+pub loop-i-preserved : goal.loop-i-preserved
+loop-i-preserved c =
+    let whole = each_made delete_option_entry c.args.names.now in
+    let here = delete_option_made c.index-names-i.result (sym c.checked_option.ensures.checked ∙ c.in-Ok.is) in
+    subst (TasksSoFar whole (each_made delete_option_entry (drop (c.loop-i.i + 1) c.args.names.now))) (sym c.in_ok-push_task.ensures)
+    (one_made delete_option_entry c.args.names.now whole c.loop-i.tasks.items c.loop-i.i c.loop-i.invariant c.index-names-i.result c.loop-i-test.true _ _ (ap delete_option_entry (sym c.index-names-i.is) ∙ here) (one_is _ _ refl tt))

@@ -1,0 +1,16 @@
+-- Each key becomes one task.
+use Rattle.std.proofs.Common.{◌+◌, drop, refl, sym, ap, ◌∙◌, subst}
+use Rattle.meson_keywords.proofs.TasksSoFar.{none_so_far, one_is, one_made, delete_made}
+use Rattle.meson_keywords.specs.Tasks.{each_made, delete_entry}
+use Rattle.meson_keywords.specs.Tasking.{TasksSoFar}
+use Rattle.meson_keywords.proofs.tasks.delete_tasks.Goals as goal
+
+pub loop-i-init : goal.loop-i-init
+loop-i-init c = let whole = each_made (delete_entry c.args.role) c.args.keys.now in subst (TasksSoFar whole whole) (sym c.new-tasks.ensures.items) (none_so_far whole)
+
+pub loop-i-preserved : goal.loop-i-preserved
+loop-i-preserved c =
+    let whole = each_made (delete_entry c.args.role) c.args.keys.now in
+    let here = delete_made c.args.role c.index-keys-i.result c.in-Ok.field-0 c.in-Ok.ensures.found in
+    subst (TasksSoFar whole (each_made (delete_entry c.args.role) (drop (c.loop-i.i + 1) c.args.keys.now))) (sym c.in_ok-push_task.ensures)
+    (one_made (delete_entry c.args.role) c.args.keys.now whole c.loop-i.tasks.items c.loop-i.i c.loop-i.invariant c.index-keys-i.result c.loop-i-test.true _ _ (ap (delete_entry c.args.role) (sym c.index-keys-i.is) ∙ here) (one_is _ _ refl tt))

@@ -1,0 +1,8 @@
+use Rattle.std.proofs.Common.{◌∷◌, map}
+use Rattle.std.specs.Prelude.{Ok, take}
+use Rattle.meson_keywords.specs.Tasks.{once, remove}
+use Rattle.meson_keywords.specs.Tasking.{AreTasksBehind}
+use Rattle.meson_keywords.proofs.tasks.remove_one.Given as goal
+
+abbrev pub invariant-loop-i : goal.invariant-loop-i
+invariant-loop-i l = AreTasksBehind (Ok (once l.key ∷ map (remove l.key l.kind) (take l.i (map (λ x. x.now) l.values.items)))) l.fn.tasks.items l.tasks.items

@@ -1,0 +1,18 @@
+-- A list that is set is that of its texts.
+use Rattle.std.proofs.Common.{◌≡◌, ◌++◌, ◌∷◌, [], List, ℕ, map, sym, subst}
+use Rattle.std.specs.Prelude.{IfOk, Ok}
+use Rattle.meson_splice.specs.Patch.{then_ok}
+use Rattle.meson_keywords.specs.Keys.{element_bytes, written_list}
+use Rattle.meson_steps.specs.WrittenValues.{IsSet}
+use Rattle.meson_steps.specs.WrittenTexts.{comma_between}
+use Rattle.meson_keywords.proofs.WrittenElements.{list_set}
+use Rattle.meson_keywords.proofs.writing.list_value.Goals as goal
+
+pub returns-in-Ok-clause-done : goal.returns-in-Ok-clause-done
+returns-in-Ok-clause-done c =
+    let e = c.args.kind in
+    let r = c.written_list.result in
+    let ts : List (List ℕ) = map (λ x. x.now) c.in-Ok.texts.items in
+    subst (λ o. IfOk r (IsSet (then_ok o (λ vs. Ok (written_list e vs))))) (sym c.in-Ok.ensures.found)
+    (list_set e ts c.in-Ok.ensures.good r
+    (subst (λ xs. IfOk r (λ b. b ≡ 91 ∷ (comma_between (map (element_bytes e) (map (λ x. x.now) xs)) ++ 93 ∷ []))) c.as_slice.ensures.value c.written_list.ensures.done))

@@ -1,0 +1,12 @@
+use Rattle.std.proofs.Common.{sym, subst}
+use Rattle.std.specs.Prelude.{IfOk}
+use Rattle.meson_keywords.specs.declared.keys.ValueKind.TheVariants as value
+use Rattle.meson_keywords.specs.Keys.{written_value}
+use Rattle.meson_steps.specs.WrittenValues.{IsSet}
+use Rattle.meson_steps.proofs.SetLiterals.{text_set}
+use Rattle.meson_keywords.proofs.writing.text_value.Goals as goal
+
+pub returns-in-Text-clause-done : goal.returns-in-Text-clause-done
+returns-in-Text-clause-done c =
+    subst (λ s. IfOk c.written_text.result (IsSet (written_value value.Text c.args.key.now s))) (sym c.in-Text.is)
+    (text_set c.in-Text.text c.written_text.result c.written_text.ensures.done c.written_text.ensures.utf8)

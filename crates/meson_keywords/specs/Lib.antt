@@ -1,0 +1,7 @@
+pub mod Changing
+pub mod Keys
+pub mod KeywordEdits
+pub mod Options
+pub mod TaskSteps
+pub mod Tasking
+pub mod Tasks

@@ -1,0 +1,151 @@
+-- The code's tasks, and the command that they come from.
+use Rattle.std.specs.Prelude.{◌≡◌, ◌≤◌, ℕ, Bool, List, [], ◌∷◌, ◌++◌, map, codes, Option, Some, None, Result, Ok}
+use Rattle.std.specs.Str.{IsUtf8}
+use Rattle.meson_lex.specs.declared.kinds.Span.{Span}
+use Rattle.meson_lex.specs.Kinds.{IsIdentifier}
+use Rattle.meson_splice.specs.Patch.{then_ok}
+use Rattle.meson_syntax.specs.Grammar.{LevelExpression, expression_depth, expression_words}
+use Rattle.meson_syntax.specs.Tree.{Nowhere, Expression, Argument}
+use Rattle.meson_syntax.specs.View.{expr_view}
+use Rattle.meson_edit.specs.Edits.{Written}
+use Rattle.meson_edit.specs.Places.{IsWritten}
+use Rattle.meson_calls.specs.declared.call.Role.{Role}
+use Rattle.meson_calls.specs.declared.call.Role.TheVariants as role
+use Rattle.meson_steps.specs.declared.command.Command.{Command}
+use Rattle.meson_steps.specs.declared.command.Command.TheVariants as command
+use Rattle.meson_steps.specs.declared.command.Setting.{Setting}
+use Rattle.meson_keywords.specs.declared.elements.Found.{Found}
+use Rattle.meson_keywords.specs.declared.elements.Test.{Test}
+use Rattle.meson_keywords.specs.declared.elements.Test.TheVariants as test
+use Rattle.meson_keywords.specs.declared.keys.ElementKind.{ElementKind}
+use Rattle.meson_keywords.specs.declared.keys.ElementKind.TheVariants as element
+use Rattle.meson_calls.specs.declared.refusal.Refusal.{Refusal}
+use Rattle.meson_keywords.specs.declared.request.Request.{Request}
+use Rattle.meson_keywords.specs.declared.request.Words.{Words}
+use Rattle.meson_keywords.specs.declared.request.Words.TheVariants as words
+use Rattle.meson_keywords.specs.declared.tasks.Task as code
+use Rattle.meson_keywords.specs.declared.tasks.Task.TheVariants as code_task
+use Rattle.meson_calls.specs.Calls.{Numbered}
+use Rattle.meson_keywords.specs.KeywordEdits.{says}
+use Rattle.meson_keywords.specs.Options.{is_entry_element, option_text}
+use Rattle.meson_steps.specs.WrittenValues.{WrittenFor, written}
+use Rattle.meson_keywords.specs.Tasks.{Task, set, delete, add, remove, once, set_option, delete_option, each_made, set_entry, delete_entry, add_entry, remove_entry, set_option_entry, delete_option_entry}
+
+-- ---- what a command asks
+
+pub data Asked : Type 0 where
+  to_set to_add to_remove : List (List ℕ × Setting) → Asked
+  to_delete : List (List ℕ) → Asked
+  to_set_options : List (List ℕ × List ℕ) → Asked
+  to_delete_options : List (List ℕ) → Asked
+
+abbrev pub asked : Words → Asked
+asked (words.Set pairs) = to_set pairs.now
+asked (words.Delete keys) = to_delete keys.now
+asked (words.Add pairs) = to_add pairs.now
+asked (words.Remove pairs) = to_remove pairs.now
+asked (words.SetOptions pairs) = to_set_options pairs.now
+asked (words.DeleteOptions names) = to_delete_options names.now
+
+abbrev pub request_view : Request → Role × List ℕ × Asked
+request_view r = (r.role, r.id.now, asked r.words)
+
+-- of which call a command on keyword arguments or default options asks what
+abbrev pub requested : Command → Option (Role × List ℕ × Asked)
+requested (command.KwargsSet r id pairs) = Some (r, id, to_set pairs)
+requested (command.KwargsDelete r id keys) = Some (r, id, to_delete keys)
+requested (command.KwargsAdd r id pairs) = Some (r, id, to_add pairs)
+requested (command.KwargsRemove r id pairs) = Some (r, id, to_remove pairs)
+requested (command.OptionsSet pairs) = Some (role.Project, codes "/", to_set_options pairs)
+requested (command.OptionsDelete names) = Some (role.Project, codes "/", to_delete_options names)
+requested (command.SourcesAdd target sources) = None
+requested (command.SourcesRemove target sources) = None
+requested (command.ExtraAdd target sources) = None
+requested (command.ExtraRemove target sources) = None
+requested (command.TargetAdd target kind subdir sources) = None
+requested (command.TargetRemove target) = None
+requested (command.TargetInfo target) = None
+requested (command.KwargsInfo r id) = None
+
+abbrev pub asked_tasks : Role → Asked → Result (List Task) Refusal
+asked_tasks r (to_set pairs) = each_made (set_entry r) pairs
+asked_tasks r (to_delete keys) = each_made (delete_entry r) keys
+asked_tasks r (to_add pairs) = each_made (add_entry r) pairs
+asked_tasks r (to_remove pairs) = each_made (remove_entry r) pairs
+asked_tasks r (to_set_options pairs) = each_made set_option_entry pairs
+asked_tasks r (to_delete_options names) = each_made delete_option_entry names
+
+abbrev pub words_tasks : Role → Words → Result (List Task) Refusal
+words_tasks r w = asked_tasks r (asked w)
+
+-- ---- what may be written
+
+-- a text may be written as an element
+abbrev pub IsElement : ElementKind → List ℕ → Type 0
+IsElement element.Text t = IsUtf8 t
+IsElement element.Identifier t = IsIdentifier t × IsUtf8 t
+
+abbrev pub AreElements : ElementKind → List (List ℕ) → Type 0
+AreElements e [] = Unit {0}
+AreElements e (t ∷ ts) = IsElement e t × AreElements e ts
+
+-- a keyword
+abbrev pub IsKey : List ℕ → Type 0
+IsKey key = IsIdentifier key × IsUtf8 key
+
+-- a value in which no construct stands in another but for the elements of an array
+abbrev pub IsValue : Written (Expression Nowhere) → Type 0
+IsValue new = IsWritten new.bytes (expression_words new.node) × LevelExpression new.node × (expression_depth new.node ≤ 1)
+
+-- What the task writes may be written.
+abbrev pub MayBeWritten : Task → Type 0
+MayBeWritten (set key new) = IsKey key × IsValue new
+MayBeWritten (delete key) = Unit {0}
+MayBeWritten (add key k values) = IsKey key × AreElements k values
+MayBeWritten (remove key k value) = Unit {0}
+MayBeWritten (once key) = Unit {0}
+MayBeWritten (set_option name value) = IsUtf8 (option_text name value)
+MayBeWritten (delete_option name) = Unit {0}
+
+-- ---- tasks of the code
+
+-- The code's task is this one.
+abbrev pub TaskIs : code.Task → Task → Type 0
+TaskIs (code_task.Set key new) t = (w : WrittenFor new) × (t ≡ set key.now (written new w))
+TaskIs (code_task.Delete key) t = t ≡ delete key.now
+TaskIs (code_task.Add key kind values) t = t ≡ add key.now kind (map (λ x. x.now) values.items)
+TaskIs (code_task.Remove key kind value) t = t ≡ remove key.now kind value.now
+TaskIs (code_task.Once key) t = t ≡ once key.now
+TaskIs (code_task.SetOption name value) t = t ≡ set_option name.now value.now
+TaskIs (code_task.DeleteOption name) t = t ≡ delete_option name.now
+
+pub data TasksAre : List code.Task → List Task → Type 0 where
+  none : TasksAre [] []
+  one : (c : code.Task) (t : Task) (cs : List code.Task) (ts : List Task) → TaskIs c t → MayBeWritten t → TasksAre cs ts → TasksAre (c ∷ cs) (t ∷ ts)
+
+-- The code's tasks are those that are meant.
+pub record AreTasks (meant : Result (List Task) Refusal) (cs : List code.Task) : Type 0 where
+  pub tasks : List Task
+  pub is : meant ≡ Ok tasks
+  pub are : TasksAre cs tasks
+
+-- They are those before, and then those that are meant.
+pub record AreTasksBehind (meant : Result (List Task) Refusal) (before after : List code.Task) : Type 0 where
+  pub more : List code.Task
+  pub joined : after ≡ before ++ more
+  pub are : AreTasks meant more
+
+-- Those that are meant are these of the code, and then the rest.
+pub record TasksSoFar (whole rest : Result (List Task) Refusal) (cs : List code.Task) : Type 0 where
+  pub so_far : List Task
+  pub are : TasksAre cs so_far
+  pub joined : whole ≡ then_ok rest (λ later. Ok (so_far ++ later))
+
+-- ---- elements
+
+abbrev pub found_view : List ℕ → Found → Numbered (Expression Span)
+found_view source f = record { number = f.number; value = expr_view source f.value.now }
+
+abbrev pub test_of : {S : Type 0} → Test → Argument S → Bool
+test_of (test.Says kind text) x = says kind text.now x
+test_of (test.IsEntry name) x = is_entry_element name.now x

@@ -1,0 +1,360 @@
+//! The steps by which the keyword arguments of a call are changed.
+
+ghost use Rattle.std.specs.Prelude.{◌≡◌, ◌≢◌, ◌++◌, ◌∷◌, [], Err, IfErr, IfOk, OnOk, Some, map};
+ghost use Rattle.meson_edit.specs.Edits.{Written};
+ghost use Rattle.meson_syntax.specs.Tree.{Argument, Nowhere};
+ghost use Rattle.meson_syntax.specs.Grammar.{expression_words};
+ghost use Rattle.meson_syntax.specs.View.{args_view, expr_view};
+ghost use Rattle.meson_calls.specs.GoodLists.{GoodArgs};
+ghost use Rattle.meson_keywords.specs.KeywordEdits.{add_by_shape, add_steps, all_behind, all_known, behind_all, delete_steps, once_steps, passing, remove_by_shape, remove_equal, remove_steps, removed_from, says, set_steps, shape, text_in};
+ghost use Rattle.meson_keywords.specs.Keys.{written_element};
+ghost use Rattle.meson_steps.specs.ListSteps.{bare};
+ghost use Rattle.meson_calls.specs.Project.{child};
+ghost use Rattle.meson_steps.specs.WrittenValues.{WrittenFor, written};
+ghost use Rattle.meson_calls.specs.Strings.{AreGood};
+ghost use Rattle.meson_steps.specs.Meanings.{AreBehind, AreMeant};
+
+use crate::elements::{
+    Found, Subject, Test, all_known, array_in, is_element, new_values, other_values, passing, says,
+    the_value,
+};
+use crate::keys::ElementKind;
+use crate::writing::{written_element, written_list, written_named};
+use meson_calls::marks::{place_of, text_of_name};
+use meson_calls::picking::copy_place;
+use meson_calls::{CallRef, Refusal};
+use meson_splice::{Bytes, Text};
+use meson_steps::step::{ListEdit, ListStep, push_step};
+use meson_syntax::Arg;
+use std::alloc::{AllocError, Global};
+
+/// The place of the value of the n-th argument of a call.
+pub(crate) fn value_place(
+    alloc: Global,
+    call: &CallRef,
+    number: usize,
+) -> Result<CallRef, AllocError>
+    ensures { IfOk result (λ place. place ≡ child call.now number) }
+{
+    let mut path = Vec::from_slice(alloc, call.path.steps.get())?;
+    path.push(number)?;
+    place_of(alloc, call.file, path.as_slice())
+}
+
+/// Adds the step of an edit of a list.
+pub(crate) fn push_edit(
+    alloc: Global,
+    list: &CallRef,
+    edit: ListEdit,
+    steps: &mut Vec<ListStep>,
+) -> Result<(), AllocError>
+    ensures { OnOk result (steps.new.items ≡ steps.old.items ++ record { list = list.now; edit = edit } ∷ []) }
+{
+    let list = copy_place(alloc, list)?;
+    push_step(steps, list, edit)
+}
+
+/// Puts an element behind all of a list with so many.
+pub(crate) fn put_behind(
+    alloc: Global,
+    list: &CallRef,
+    many: usize,
+    new: Bytes,
+    steps: &mut Vec<ListStep>,
+) -> Result<(), AllocError>
+    ensures { (w : Written (Argument Nowhere)) → w.bytes ≡ new → OnOk result (map Some steps.new.items ≡ map Some steps.old.items ++ bare (behind_all list.now many w) ∷ []) }
+{
+    let edit = if many == 0 {
+        ListEdit::First(new)
+    } else {
+        ListEdit::After(many - 1, new)
+    };
+    push_edit(alloc, list, edit, steps)
+}
+
+/// Puts elements behind all of a list with so many, one behind the other.
+fn put_all_behind(
+    alloc: Global,
+    list: &CallRef,
+    many: usize,
+    kind: ElementKind,
+    texts: &[&Text],
+    steps: &mut Vec<ListStep>,
+) -> Result<(), Refusal>
+    ensures done { OnOk result (map Some steps.new.items ≡ map Some steps.old.items ++ map bare (all_behind list.now many (map (written_element kind) (map (λ x. x.now) texts.now)))) }
+    ensures refused { IfErr result (λ e. e ≡ Refusal.OutOfMemory) }
+{
+    for i in 0..texts.len() {
+        let Some(before) = many.checked_add(i) else {
+            return Err(Refusal::OutOfMemory);
+        };
+        let new = written_element(alloc, kind, texts[i])?;
+        put_behind(alloc, list, before, new, steps)?;
+    }
+    Ok(())
+}
+
+/// Removes the elements of these numbers, the least first.
+pub(crate) fn remove_all(
+    alloc: Global,
+    list: &CallRef,
+    numbers: &[usize],
+    steps: &mut Vec<ListStep>,
+) -> Result<(), AllocError>
+    ensures { OnOk result (map Some steps.new.items ≡ map Some steps.old.items ++ map bare (removed_from list.now 0 numbers.now)) }
+{
+    for i in 0..numbers.len() {
+        let number = numbers[i].saturating_sub(i);
+        push_edit(alloc, list, ListEdit::Remove(number), steps)?;
+    }
+    Ok(())
+}
+
+/// The refusal of a value that can't be changed.
+pub(crate) fn not_literal(alloc: Global, key: &[u8]) -> Refusal
+    ensures { result ≢ Refusal.OutOfMemory → result ≡ Refusal.NotLiteral key.now }
+{
+    match text_of_name(alloc, key) {
+        Ok(key) => Refusal::NotLiteral(key),
+        Err(_) => Refusal::OutOfMemory,
+    }
+}
+
+/// The steps by which a keyword argument is set.
+///
+/// # Errors
+/// It is there twice, or memory is refused.
+pub(crate) fn set_steps(
+    alloc: Global,
+    subject: Subject<'_>,
+    key: &Text,
+    new: Bytes,
+) -> Result<Vec<ListStep>, Refusal>
+    requires { GoodArgs subject.source.now subject.args.now }
+    ensures meant { (w : WrittenFor new) → IfOk result (λ steps. AreMeant (set_steps subject.entry.call.now (args_view subject.entry.source.now subject.entry.args.now) key.now (written new w)) steps.items) }
+    ensures refused { (w : WrittenFor new) → IfErr result (λ e. e ≢ Refusal.OutOfMemory → set_steps subject.entry.call.now (args_view subject.entry.source.now subject.entry.args.now) key.now (written new w) ≡ Err e) }
+{
+    let key = key.get().as_bytes();
+    let found = match the_value(alloc, subject, key) {
+        Ok(found) => found,
+        Err(refusal) => return Err(refusal),
+    };
+    let mut steps = Vec::new(alloc);
+    match found {
+        Some(found) => {
+            let edit = ListEdit::Replace(found.number, new);
+            push_edit(alloc, subject.call, edit, &mut steps)?;
+        }
+        None => {
+            let new = written_named(alloc, key, &new)?;
+            put_behind(alloc, subject.call, subject.args.len(), new, &mut steps)?;
+        }
+    }
+    Ok(steps)
+}
+
+/// The steps by which a keyword argument is deleted.
+///
+/// # Errors
+/// It is there twice, or memory is refused.
+pub(crate) fn delete_steps(
+    alloc: Global,
+    subject: Subject<'_>,
+    key: &Text,
+) -> Result<Vec<ListStep>, Refusal>
+    requires { GoodArgs subject.source.now subject.args.now }
+    ensures meant { IfOk result (λ steps. AreMeant (delete_steps subject.entry.call.now (args_view subject.entry.source.now subject.entry.args.now) key.now) steps.items) }
+    ensures refused { IfErr result (λ e. e ≢ Refusal.OutOfMemory → delete_steps subject.entry.call.now (args_view subject.entry.source.now subject.entry.args.now) key.now ≡ Err e) }
+{
+    let found = match the_value(alloc, subject, key.get().as_bytes()) {
+        Ok(found) => found,
+        Err(refusal) => return Err(refusal),
+    };
+    let mut steps = Vec::new(alloc);
+    if let Some(found) = found {
+        let edit = ListEdit::Remove(found.number);
+        push_edit(alloc, subject.call, edit, &mut steps)?;
+    }
+    Ok(steps)
+}
+
+/// No steps; but the keyword argument may be there once only.
+///
+/// # Errors
+/// It is there twice, or memory is refused.
+pub(crate) fn once_steps(
+    alloc: Global,
+    subject: Subject<'_>,
+    key: &Text,
+) -> Result<Vec<ListStep>, Refusal>
+    requires { GoodArgs subject.source.now subject.args.now }
+    ensures meant { IfOk result (λ steps. AreMeant (once_steps (args_view subject.entry.source.now subject.entry.args.now) key.now) steps.items) }
+    ensures refused { IfErr result (λ e. e ≢ Refusal.OutOfMemory → once_steps (args_view subject.entry.source.now subject.entry.args.now) key.now ≡ Err e) }
+{
+    match the_value(alloc, subject, key.get().as_bytes()) {
+        Ok(_) => Ok(Vec::new(alloc)),
+        Err(refusal) => Err(refusal),
+    }
+}
+
+/// Adds values to the value of an argument: to an array, or to the array of a lone element.
+///
+/// # Errors
+/// It is neither, or memory is refused.
+fn add_to_value(
+    alloc: Global,
+    subject: Subject<'_>,
+    found: Found<'_>,
+    key: &[u8],
+    kind: ElementKind,
+    values: &[&Text],
+    steps: &mut Vec<ListStep>,
+) -> Result<(), Refusal>
+    requires { AreGood (expression_words (expr_view subject.source.now found.value.now)) }
+    ensures done { OnOk result (AreBehind (add_by_shape subject.entry.call.now found.entry.number key.now kind (map (λ x. x.now) values.now) (text_in kind (expr_view subject.entry.source.now found.entry.value.now)) (shape (expr_view subject.entry.source.now found.entry.value.now))) steps.old.items steps.new.items) }
+    ensures refused { IfErr result (λ e. e ≢ Refusal.OutOfMemory → add_by_shape subject.entry.call.now found.entry.number key.now kind (map (λ x. x.now) values.now) (text_in kind (expr_view subject.entry.source.now found.entry.value.now)) (shape (expr_view subject.entry.source.now found.entry.value.now)) ≡ Err e) }
+{
+    let Found { number, value } = found;
+    let list = value_place(alloc, subject.call, number)?;
+    match array_in(value) {
+        Some(elements) => {
+            let new = new_values(alloc, subject.source, kind, elements, values)?;
+            put_all_behind(alloc, &list, elements.len(), kind, new.as_slice(), steps)
+        }
+        None => {
+            if !is_element(alloc, subject.source, kind, value)? {
+                return Err(not_literal(alloc, key));
+            }
+            let new = other_values(alloc, subject.source, kind, value, values)?;
+            push_edit(alloc, subject.call, ListEdit::Wrap(number), steps)?;
+            put_all_behind(alloc, &list, 1, kind, new.as_slice(), steps)
+        }
+    }
+}
+
+/// The steps by which values are added to a keyword argument.
+///
+/// # Errors
+/// It is there twice, or its value can't be changed, or memory is refused.
+pub(crate) fn add_steps(
+    alloc: Global,
+    subject: Subject<'_>,
+    key: &Text,
+    kind: ElementKind,
+    values: &[&Text],
+) -> Result<Vec<ListStep>, Refusal>
+    requires { GoodArgs subject.source.now subject.args.now }
+    ensures meant { IfOk result (λ steps. AreMeant (add_steps subject.entry.call.now (args_view subject.entry.source.now subject.entry.args.now) key.now kind (map (λ x. x.now) values.now)) steps.items) }
+    ensures refused { IfErr result (λ e. e ≢ Refusal.OutOfMemory → add_steps subject.entry.call.now (args_view subject.entry.source.now subject.entry.args.now) key.now kind (map (λ x. x.now) values.now) ≡ Err e) }
+{
+    let key = key.get().as_bytes();
+    let found = match the_value(alloc, subject, key) {
+        Ok(found) => found,
+        Err(refusal) => return Err(refusal),
+    };
+    let mut steps = Vec::new(alloc);
+    match found {
+        Some(found) => match add_to_value(alloc, subject, found, key, kind, values, &mut steps) {
+            Ok(()) => {}
+            Err(refusal) => return Err(refusal),
+        },
+        None => {
+            let list = written_list(alloc, kind, values)?;
+            let new = written_named(alloc, key, &list)?;
+            put_behind(alloc, subject.call, subject.args.len(), new, &mut steps)?;
+        }
+    }
+    Ok(steps)
+}
+
+/// Removes the equal elements of an array.
+///
+/// # Errors
+/// None is equal, and some element is not of the kind; or memory is refused.
+fn remove_from_array(
+    alloc: Global,
+    source: &[u8],
+    list: &CallRef,
+    elements: &[Arg],
+    key: &[u8],
+    kind: ElementKind,
+    value: &Text,
+    steps: &mut Vec<ListStep>,
+) -> Result<(), Refusal>
+    requires { GoodArgs source.now elements.now }
+    ensures done { OnOk result (AreBehind (remove_equal list.now key.now (all_known kind (args_view source.now elements.now)) (passing (says kind value.now) 0 (args_view source.now elements.now))) steps.old.items steps.new.items) }
+    ensures refused { IfErr result (λ e. e ≢ Refusal.OutOfMemory → remove_equal list.now key.now (all_known kind (args_view source.now elements.now)) (passing (says kind value.now) 0 (args_view source.now elements.now)) ≡ Err e) }
+{
+    let equal = passing(alloc, source, Test::Says(kind, value), elements)?;
+    if equal.as_slice().is_empty() && !all_known(alloc, source, kind, elements)? {
+        return Err(not_literal(alloc, key));
+    }
+    remove_all(alloc, list, equal.as_slice(), steps)?;
+    Ok(())
+}
+
+/// Removes a value from the value of an argument: from an array, or the argument of a lone equal element.
+///
+/// # Errors
+/// It is neither, and may hold the value; or memory is refused.
+fn remove_from_value(
+    alloc: Global,
+    subject: Subject<'_>,
+    found: Found<'_>,
+    key: &[u8],
+    kind: ElementKind,
+    text: &Text,
+    steps: &mut Vec<ListStep>,
+) -> Result<(), Refusal>
+    requires { AreGood (expression_words (expr_view subject.source.now found.value.now)) }
+    ensures done { OnOk result (AreBehind (remove_by_shape subject.entry.call.now found.entry.number key.now kind text.now (text_in kind (expr_view subject.entry.source.now found.entry.value.now)) (shape (expr_view subject.entry.source.now found.entry.value.now))) steps.old.items steps.new.items) }
+    ensures refused { IfErr result (λ e. e ≢ Refusal.OutOfMemory → remove_by_shape subject.entry.call.now found.entry.number key.now kind text.now (text_in kind (expr_view subject.entry.source.now found.entry.value.now)) (shape (expr_view subject.entry.source.now found.entry.value.now)) ≡ Err e) }
+{
+    let Found { number, value } = found;
+    let source = subject.source;
+    match array_in(value) {
+        Some(elements) => {
+            let list = value_place(alloc, subject.call, number)?;
+            remove_from_array(alloc, source, &list, elements, key, kind, text, steps)
+        }
+        None => {
+            if !is_element(alloc, source, kind, value)? {
+                return Err(not_literal(alloc, key));
+            }
+            if says(alloc, source, kind, text, value)? {
+                push_edit(alloc, subject.call, ListEdit::Remove(number), steps)?;
+            }
+            Ok(())
+        }
+    }
+}
+
+/// The steps by which a value is removed from a keyword argument.
+///
+/// # Errors
+/// It is there twice, or its value may hold the value unseen, or memory is refused.
+pub(crate) fn remove_steps(
+    alloc: Global,
+    subject: Subject<'_>,
+    key: &Text,
+    kind: ElementKind,
+    value: &Text,
+) -> Result<Vec<ListStep>, Refusal>
+    requires { GoodArgs subject.source.now subject.args.now }
+    ensures meant { IfOk result (λ steps. AreMeant (remove_steps subject.entry.call.now (args_view subject.entry.source.now subject.entry.args.now) key.now kind value.now) steps.items) }
+    ensures refused { IfErr result (λ e. e ≢ Refusal.OutOfMemory → remove_steps subject.entry.call.now (args_view subject.entry.source.now subject.entry.args.now) key.now kind value.now ≡ Err e) }
+{
+    let key = key.get().as_bytes();
+    let found = match the_value(alloc, subject, key) {
+        Ok(found) => found,
+        Err(refusal) => return Err(refusal),
+    };
+    let mut steps = Vec::new(alloc);
+    if let Some(found) = found {
+        match remove_from_value(alloc, subject, found, key, kind, value, &mut steps) {
+            Ok(()) => {}
+            Err(refusal) => return Err(refusal),
+        }
+    }
+    Ok(steps)
+}

@@ -1,0 +1,239 @@
+//! The steps by which default options are set and deleted.
+
+ghost use Rattle.std.specs.Prelude.{◌≡◌, ◌≢◌, ◌++◌, Err, IfErr, IfOk, OnOk, Some, false, length, map, true};
+ghost use Rattle.meson_syntax.specs.Grammar.{expression_words};
+ghost use Rattle.meson_syntax.specs.View.{args_view, expr_view};
+ghost use Rattle.meson_calls.specs.Calls.{literal};
+ghost use Rattle.meson_calls.specs.GoodLists.{GoodArgs};
+ghost use Rattle.meson_keywords.specs.KeywordEdits.{all_known, passing, shape};
+ghost use Rattle.meson_steps.specs.ListSteps.{bare};
+ghost use Rattle.meson_keywords.specs.Options.{delete_by_shape, delete_option_steps, is_entry, is_entry_element, option_text, options_key, set_by_shape, set_in_list, set_in_lone, set_option_steps};
+ghost use Rattle.meson_calls.specs.Strings.{AreGood};
+ghost use Rattle.meson_steps.specs.Meanings.{AreBehind, AreMeant};
+
+use crate::elements::{
+    Found, Subject, Test, all_known, array_in, is_element, is_entry, passing, the_value,
+};
+use crate::keys::ElementKind;
+use crate::keyword_steps::{not_literal, push_edit, put_behind, remove_all, value_place};
+use crate::writing::{written_element, written_list, written_named};
+use meson_calls::{CallRef, Refusal};
+use meson_splice::Text;
+use meson_steps::step::{ListEdit, ListStep};
+use meson_syntax::Arg;
+use std::alloc::{AllocError, Global};
+
+/// The name of the argument that holds the options.
+const OPTIONS: &str = "default_options";
+
+/// `NAME=VALUE`.
+fn option_text(alloc: Global, name: &Text, value: &str) -> Result<Text, AllocError>
+    ensures { IfOk result (λ t. t ≡ option_text name.now value.now) }
+{
+    let mut text = String::new(alloc);
+    text.push_str(name.get())?;
+    text.push_str("=")?;
+    text.push_str(value)?;
+    Ok(Text::of(text))
+}
+
+/// The first entry of the option in a list becomes the new one and later ones go; without one it goes behind all others.
+fn set_in_list(
+    alloc: Global,
+    source: &[u8],
+    list: &CallRef,
+    elements: &[Arg],
+    name: &Text,
+    entry: &Text,
+    steps: &mut Vec<ListStep>,
+) -> Result<(), Refusal>
+    requires { GoodArgs source.now elements.now }
+    ensures done { OnOk result (map Some steps.new.items ≡ map Some steps.old.items ++ map bare (set_in_list list.now (length elements.now) entry.now (passing (is_entry_element name.now) 0 (args_view source.now elements.now)))) }
+    ensures refused { IfErr result (λ e. e ≡ Refusal.OutOfMemory) }
+{
+    let entries = passing(alloc, source, Test::IsEntry(name), elements)?;
+    let new = written_element(alloc, ElementKind::Text, entry)?;
+    let entries = entries.as_slice();
+    if entries.is_empty() {
+        put_behind(alloc, list, elements.len(), new, steps)?;
+        return Ok(());
+    }
+    push_edit(alloc, list, ListEdit::Replace(entries[0], new), steps)?;
+    remove_all(alloc, list, &entries[1..], steps)?;
+    Ok(())
+}
+
+/// A lone entry of the option becomes the new one; another one is first wrapped into an array.
+fn set_in_lone(
+    alloc: Global,
+    subject: Subject<'_>,
+    found: Found<'_>,
+    name: &Text,
+    entry: &Text,
+    steps: &mut Vec<ListStep>,
+) -> Result<(), Refusal>
+    requires { AreGood (expression_words (expr_view subject.source.now found.value.now)) }
+    ensures done { OnOk result (map Some steps.new.items ≡ map Some steps.old.items ++ map bare (set_in_lone subject.entry.call.now found.entry.number entry.now (is_entry name.now (literal (expr_view subject.entry.source.now found.entry.value.now))))) }
+    ensures refused { IfErr result (λ e. e ≡ Refusal.OutOfMemory) }
+{
+    let Found { number, value } = found;
+    let new = written_element(alloc, ElementKind::Text, entry)?;
+    if is_entry(alloc, subject.source, name, value)? {
+        push_edit(alloc, subject.call, ListEdit::Replace(number, new), steps)?;
+        return Ok(());
+    }
+    push_edit(alloc, subject.call, ListEdit::Wrap(number), steps)?;
+    let list = value_place(alloc, subject.call, number)?;
+    put_behind(alloc, &list, 1, new, steps)?;
+    Ok(())
+}
+
+/// Refuses a list that holds anything but literals.
+///
+/// # Errors
+/// It does, or memory is refused.
+fn only_literals(alloc: Global, source: &[u8], elements: &[Arg]) -> Result<(), Refusal>
+    requires { GoodArgs source.now elements.now }
+    ensures all { OnOk result (all_known ElementKind.Text (args_view source.now elements.now) ≡ true) }
+    ensures refused { IfErr result (λ e. e ≢ Refusal.OutOfMemory → (e ≡ Refusal.NotLiteral options_key) × (all_known ElementKind.Text (args_view source.now elements.now) ≡ false)) }
+{
+    if !all_known(alloc, source, ElementKind::Text, elements)? {
+        return Err(not_literal(alloc, OPTIONS.as_bytes()));
+    }
+    Ok(())
+}
+
+/// Sets an option in the value of `default_options:`.
+///
+/// # Errors
+/// It is neither a literal nor a list of literals, or memory is refused.
+fn set_in_value(
+    alloc: Global,
+    subject: Subject<'_>,
+    found: Found<'_>,
+    name: &Text,
+    entry: &Text,
+    steps: &mut Vec<ListStep>,
+) -> Result<(), Refusal>
+    requires { AreGood (expression_words (expr_view subject.source.now found.value.now)) }
+    ensures done { OnOk result (AreBehind (set_by_shape subject.entry.call.now found.entry.number name.now entry.now (literal (expr_view subject.entry.source.now found.entry.value.now)) (shape (expr_view subject.entry.source.now found.entry.value.now))) steps.old.items steps.new.items) }
+    ensures refused { IfErr result (λ e. e ≢ Refusal.OutOfMemory → set_by_shape subject.entry.call.now found.entry.number name.now entry.now (literal (expr_view subject.entry.source.now found.entry.value.now)) (shape (expr_view subject.entry.source.now found.entry.value.now)) ≡ Err e) }
+{
+    let source = subject.source;
+    match array_in(found.value) {
+        Some(elements) => {
+            match only_literals(alloc, source, elements) {
+                Ok(()) => {}
+                Err(refusal) => return Err(refusal),
+            }
+            let list = value_place(alloc, subject.call, found.number)?;
+            set_in_list(alloc, source, &list, elements, name, entry, steps)
+        }
+        None => {
+            if !is_element(alloc, source, ElementKind::Text, found.value)? {
+                return Err(not_literal(alloc, OPTIONS.as_bytes()));
+            }
+            set_in_lone(alloc, subject, found, name, entry, steps)
+        }
+    }
+}
+
+/// The steps by which a default option is set.
+///
+/// # Errors
+/// `default_options:` is there twice, or its value can't be changed, or memory is refused.
+pub(crate) fn set_option_steps(
+    alloc: Global,
+    subject: Subject<'_>,
+    name: &Text,
+    value: &str,
+) -> Result<Vec<ListStep>, Refusal>
+    requires { GoodArgs subject.source.now subject.args.now }
+    ensures meant { IfOk result (λ steps. AreMeant (set_option_steps subject.entry.call.now (args_view subject.entry.source.now subject.entry.args.now) name.now value.now) steps.items) }
+    ensures refused { IfErr result (λ e. e ≢ Refusal.OutOfMemory → set_option_steps subject.entry.call.now (args_view subject.entry.source.now subject.entry.args.now) name.now value.now ≡ Err e) }
+{
+    let entry = option_text(alloc, name, value)?;
+    let found = match the_value(alloc, subject, OPTIONS.as_bytes()) {
+        Ok(found) => found,
+        Err(refusal) => return Err(refusal),
+    };
+    let mut steps = Vec::new(alloc);
+    match found {
+        Some(found) => match set_in_value(alloc, subject, found, name, &entry, &mut steps) {
+            Ok(()) => {}
+            Err(refusal) => return Err(refusal),
+        },
+        None => {
+            let list = written_list(alloc, ElementKind::Text, &[&entry])?;
+            let new = written_named(alloc, OPTIONS.as_bytes(), &list)?;
+            put_behind(alloc, subject.call, subject.args.len(), new, &mut steps)?;
+        }
+    }
+    Ok(steps)
+}
+
+/// Deletes an option from the value of `default_options:`.
+///
+/// # Errors
+/// It is neither a literal nor a list of literals, or memory is refused.
+fn delete_in_value(
+    alloc: Global,
+    subject: Subject<'_>,
+    found: Found<'_>,
+    name: &Text,
+    steps: &mut Vec<ListStep>,
+) -> Result<(), Refusal>
+    requires { AreGood (expression_words (expr_view subject.source.now found.value.now)) }
+    ensures done { OnOk result (AreBehind (delete_by_shape subject.entry.call.now found.entry.number name.now (literal (expr_view subject.entry.source.now found.entry.value.now)) (shape (expr_view subject.entry.source.now found.entry.value.now))) steps.old.items steps.new.items) }
+    ensures refused { IfErr result (λ e. e ≢ Refusal.OutOfMemory → delete_by_shape subject.entry.call.now found.entry.number name.now (literal (expr_view subject.entry.source.now found.entry.value.now)) (shape (expr_view subject.entry.source.now found.entry.value.now)) ≡ Err e) }
+{
+    let Found { number, value } = found;
+    let source = subject.source;
+    match array_in(value) {
+        Some(elements) => {
+            match only_literals(alloc, source, elements) {
+                Ok(()) => {}
+                Err(refusal) => return Err(refusal),
+            }
+            let entries = passing(alloc, source, Test::IsEntry(name), elements)?;
+            let list = value_place(alloc, subject.call, number)?;
+            remove_all(alloc, &list, entries.as_slice(), steps)?;
+        }
+        None => {
+            if !is_element(alloc, source, ElementKind::Text, value)? {
+                return Err(not_literal(alloc, OPTIONS.as_bytes()));
+            }
+            if is_entry(alloc, source, name, value)? {
+                push_edit(alloc, subject.call, ListEdit::Remove(number), steps)?;
+            }
+        }
+    }
+    Ok(())
+}
+
+/// The steps by which a default option is deleted.
+///
+/// # Errors
+/// `default_options:` is there twice, or its value can't be changed, or memory is refused.
+pub(crate) fn delete_option_steps(
+    alloc: Global,
+    subject: Subject<'_>,
+    name: &Text,
+) -> Result<Vec<ListStep>, Refusal>
+    requires { GoodArgs subject.source.now subject.args.now }
+    ensures meant { IfOk result (λ steps. AreMeant (delete_option_steps subject.entry.call.now (args_view subject.entry.source.now subject.entry.args.now) name.now) steps.items) }
+    ensures refused { IfErr result (λ e. e ≢ Refusal.OutOfMemory → delete_option_steps subject.entry.call.now (args_view subject.entry.source.now subject.entry.args.now) name.now ≡ Err e) }
+{
+    let found = match the_value(alloc, subject, OPTIONS.as_bytes()) {
+        Ok(found) => found,
+        Err(refusal) => return Err(refusal),
+    };
+    let mut steps = Vec::new(alloc);
+    if let Some(found) = found {
+        match delete_in_value(alloc, subject, found, name, &mut steps) {
+            Ok(()) => {}
+            Err(refusal) => return Err(refusal),
+        }
+    }
+    Ok(steps)
+}

@@ -1,0 +1,275 @@
+//! What a command on keyword arguments or default options consists of: changes of one call, each made after the one before it.
+
+ghost use Rattle.std.specs.Prelude.{◌≡◌, ◌≢◌, ◌++◌, ◌∷◌, [], Err, IfErr, IfOk, MatchOption, None, Ok, OnOk, Some};
+ghost use Rattle.std.specs.Str.{IsUtf8};
+ghost use Rattle.meson_splice.specs.Patch.{then_ok};
+ghost use Rattle.meson_keywords.specs.Keys as keys;
+ghost use Rattle.meson_keywords.specs.Tasks.{add_entry, before_equals, checked_option, delete_entry, delete_option_entry, each_made, remove_entry, set_entry, set_option_entry};
+ghost use Rattle.meson_keywords.specs.Tasking.{AreTasks, AreTasksBehind, IsKey, words_tasks};
+
+use crate::keys::{ElementKind, kind_of, list_kind};
+use crate::request::Words;
+use crate::writing::{list_values, written_value};
+use meson_calls::{Refusal, Role};
+use meson_splice::{Bytes, Text};
+use meson_steps::command::Setting;
+use std::alloc::{AllocError, Global};
+
+/// One change of a call.
+#[derive(Drop)]
+pub(crate) enum Task<'c> {
+    /// The keyword argument gets the value that is written so.
+    Set(&'c Text, Bytes),
+    /// It goes.
+    Delete(&'c Text),
+    /// Each of these is among its elements.
+    Add(&'c Text, ElementKind, Vec<&'c Text>),
+    /// This is not among them.
+    Remove(&'c Text, ElementKind, &'c Text),
+    /// Nothing, but it may be there once only.
+    Once(&'c Text),
+    /// A default option gets this value.
+    SetOption(&'c Text, &'c str),
+    /// It goes.
+    DeleteOption(&'c Text),
+}
+
+fn push_task<'c>(tasks: &mut Vec<Task<'c>>, task: Task<'c>) -> Result<(), AllocError>
+    ensures { OnOk result (tasks.new.items ≡ tasks.old.items ++ task.entry ∷ []) }
+{
+    tasks.push(task)?;
+    Ok(())
+}
+
+/// The tasks by which keyword arguments are set.
+///
+/// # Errors
+/// A keyword argument is not changed in such a call, or can't have such a value, or memory is refused.
+fn set_tasks<'c>(
+    alloc: Global,
+    role: Role,
+    pairs: &'c [(Text, Setting)],
+) -> Result<Vec<Task<'c>>, Refusal>
+    ensures made { IfOk result (λ tasks. AreTasks (each_made (set_entry role) pairs.entry.now) tasks.items) }
+    ensures refused { IfErr result (λ e. e ≢ Refusal.OutOfMemory → each_made (set_entry role) pairs.entry.now ≡ Err e) }
+{
+    let mut tasks = Vec::new(alloc);
+    for i in 0..pairs.len() {
+        let (key, setting) = &pairs[i];
+        let kind = match kind_of(role, key) {
+            Ok(kind) => kind,
+            Err(refusal) => return Err(refusal),
+        };
+        let new = match written_value(alloc, kind, key, setting) {
+            Ok(new) => new,
+            Err(refusal) => return Err(refusal),
+        };
+        push_task(&mut tasks, Task::Set(key, new))?;
+    }
+    Ok(tasks)
+}
+
+/// The tasks by which keyword arguments are deleted.
+///
+/// # Errors
+/// A keyword argument is not changed in such a call, or memory is refused.
+fn delete_tasks<'c>(alloc: Global, role: Role, keys: &'c [Text]) -> Result<Vec<Task<'c>>, Refusal>
+    ensures made { IfOk result (λ tasks. AreTasks (each_made (delete_entry role) keys.entry.now) tasks.items) }
+    ensures refused { IfErr result (λ e. e ≢ Refusal.OutOfMemory → each_made (delete_entry role) keys.entry.now ≡ Err e) }
+{
+    let mut tasks = Vec::new(alloc);
+    for i in 0..keys.len() {
+        let key = &keys[i];
+        match kind_of(role, key) {
+            Ok(_) => {}
+            Err(refusal) => return Err(refusal),
+        }
+        push_task(&mut tasks, Task::Delete(key))?;
+    }
+    Ok(tasks)
+}
+
+/// What the elements of a keyword argument are.
+///
+/// # Errors
+/// It is not changed in such a call, or is no list, or memory is refused.
+fn element_kind(role: Role, key: &Text) -> Result<ElementKind, Refusal>
+    ensures found { IfOk result (λ e. then_ok (keys.kind_of role key.now) (keys.list_kind key.now) ≡ Ok e) }
+    ensures key { IfOk result (λ e. IsKey key.now) }
+    ensures refused { IfErr result (λ e. e ≢ Refusal.OutOfMemory → then_ok (keys.kind_of role key.now) (keys.list_kind key.now) ≡ Err e) }
+{
+    match kind_of(role, key) {
+        Ok(kind) => list_kind(key, kind),
+        Err(refusal) => Err(refusal),
+    }
+}
+
+/// The tasks by which values are added to keyword arguments.
+///
+/// # Errors
+/// A keyword argument is not changed in such a call, or is no list of such values, or memory is refused.
+fn add_tasks<'c>(
+    alloc: Global,
+    role: Role,
+    pairs: &'c [(Text, Setting)],
+) -> Result<Vec<Task<'c>>, Refusal>
+    ensures made { IfOk result (λ tasks. AreTasks (each_made (add_entry role) pairs.entry.now) tasks.items) }
+    ensures refused { IfErr result (λ e. e ≢ Refusal.OutOfMemory → each_made (add_entry role) pairs.entry.now ≡ Err e) }
+{
+    let mut tasks = Vec::new(alloc);
+    for i in 0..pairs.len() {
+        let (key, setting) = &pairs[i];
+        let kind = match element_kind(role, key) {
+            Ok(kind) => kind,
+            Err(refusal) => return Err(refusal),
+        };
+        let values = match list_values(alloc, kind, key, setting) {
+            Ok(values) => values,
+            Err(refusal) => return Err(refusal),
+        };
+        push_task(&mut tasks, Task::Add(key, kind, values))?;
+    }
+    Ok(tasks)
+}
+
+/// Adds the tasks by which the values of an entry are removed.
+///
+/// # Errors
+/// The keyword argument is not changed in such a call, or is no list of such values, or memory is refused.
+fn remove_one<'c>(
+    alloc: Global,
+    role: Role,
+    pair: &'c (Text, Setting),
+    tasks: &mut Vec<Task<'c>>,
+) -> Result<(), Refusal>
+    ensures made { OnOk result (AreTasksBehind (remove_entry role pair.entry.now) tasks.old.items tasks.new.items) }
+    ensures refused { IfErr result (λ e. e ≢ Refusal.OutOfMemory → remove_entry role pair.entry.now ≡ Err e) }
+{
+    let (key, setting) = pair;
+    let kind = match element_kind(role, key) {
+        Ok(kind) => kind,
+        Err(refusal) => return Err(refusal),
+    };
+    let values = match list_values(alloc, kind, key, setting) {
+        Ok(values) => values,
+        Err(refusal) => return Err(refusal),
+    };
+    push_task(tasks, Task::Once(key))?;
+    for i in 0..values.len() {
+        push_task(tasks, Task::Remove(key, kind, values[i]))?;
+    }
+    Ok(())
+}
+
+/// The tasks by which values are removed from keyword arguments.
+///
+/// # Errors
+/// A keyword argument is not changed in such a call, or is no list of such values, or memory is refused.
+fn remove_tasks<'c>(
+    alloc: Global,
+    role: Role,
+    pairs: &'c [(Text, Setting)],
+) -> Result<Vec<Task<'c>>, Refusal>
+    ensures made { IfOk result (λ tasks. AreTasks (each_made (remove_entry role) pairs.entry.now) tasks.items) }
+    ensures refused { IfErr result (λ e. e ≢ Refusal.OutOfMemory → each_made (remove_entry role) pairs.entry.now ≡ Err e) }
+{
+    let mut tasks = Vec::new(alloc);
+    for i in 0..pairs.len() {
+        match remove_one(alloc, role, &pairs[i], &mut tasks) {
+            Ok(()) => {}
+            Err(refusal) => return Err(refusal),
+        }
+    }
+    Ok(tasks)
+}
+
+/// What stands before the first `=`.
+pub(crate) fn before_equals(text: &[u8]) -> Option<&[u8]>
+    ensures { MatchOption result
+        (before_equals text.now ≡ None)
+        (λ front. before_equals text.now ≡ Some front.now) }
+{
+    for i in 0..text.len() {
+        if text[i] == b'=' {
+            return Some(&text[..i]);
+        }
+    }
+    None
+}
+
+/// Refuses what is no name of an option.
+///
+/// # Errors
+/// It is empty or holds `=`.
+fn checked_option(name: &Text) -> Result<(), Refusal>
+    ensures checked { result ≡ checked_option name.now }
+    ensures utf8 { IsUtf8 name.now }
+{
+    let name = name.get().as_bytes();
+    if name.is_empty() || before_equals(name).is_some() {
+        return Err(Refusal::BadName);
+    }
+    Ok(())
+}
+
+/// The tasks by which default options are set.
+///
+/// # Errors
+/// A name is none of an option, or memory is refused.
+fn set_option_tasks<'c>(alloc: Global, pairs: &'c [(Text, Text)]) -> Result<Vec<Task<'c>>, Refusal>
+    ensures made { IfOk result (λ tasks. AreTasks (each_made set_option_entry pairs.entry.now) tasks.items) }
+    ensures refused { IfErr result (λ e. e ≢ Refusal.OutOfMemory → each_made set_option_entry pairs.entry.now ≡ Err e) }
+{
+    let mut tasks = Vec::new(alloc);
+    for i in 0..pairs.len() {
+        let (name, value) = &pairs[i];
+        match checked_option(name) {
+            Ok(()) => {}
+            Err(refusal) => return Err(refusal),
+        }
+        push_task(&mut tasks, Task::SetOption(name, value.get()))?;
+    }
+    Ok(tasks)
+}
+
+/// The tasks by which default options are deleted.
+///
+/// # Errors
+/// A name is none of an option, or memory is refused.
+fn delete_option_tasks<'c>(alloc: Global, names: &'c [Text]) -> Result<Vec<Task<'c>>, Refusal>
+    ensures made { IfOk result (λ tasks. AreTasks (each_made delete_option_entry names.entry.now) tasks.items) }
+    ensures refused { IfErr result (λ e. e ≢ Refusal.OutOfMemory → each_made delete_option_entry names.entry.now ≡ Err e) }
+{
+    let mut tasks = Vec::new(alloc);
+    for i in 0..names.len() {
+        let name = &names[i];
+        match checked_option(name) {
+            Ok(()) => {}
+            Err(refusal) => return Err(refusal),
+        }
+        push_task(&mut tasks, Task::DeleteOption(name))?;
+    }
+    Ok(tasks)
+}
+
+/// The tasks of a command's words.
+///
+/// # Errors
+/// The words can't be those of such a command, or memory is refused.
+pub(crate) fn tasks_of<'c>(
+    alloc: Global,
+    role: Role,
+    words: Words<'c>,
+) -> Result<Vec<Task<'c>>, Refusal>
+    ensures made { IfOk result (λ tasks. AreTasks (words_tasks role words.entry) tasks.items) }
+    ensures refused { IfErr result (λ e. e ≢ Refusal.OutOfMemory → words_tasks role words.entry ≡ Err e) }
+{
+    match words {
+        Words::Set(pairs) => set_tasks(alloc, role, pairs),
+        Words::Delete(keys) => delete_tasks(alloc, role, keys),
+        Words::Add(pairs) => add_tasks(alloc, role, pairs),
+        Words::Remove(pairs) => remove_tasks(alloc, role, pairs),
+        Words::SetOptions(pairs) => set_option_tasks(alloc, pairs),
+        Words::DeleteOptions(names) => delete_option_tasks(alloc, names),
+    }
+}

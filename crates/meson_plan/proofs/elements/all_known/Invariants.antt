@@ -1,7 +1,0 @@
-use Rattle.std.proofs.Common.{◌≡◌, drop}
-use Rattle.meson_syntax.specs.View.{args_view}
-use Rattle.meson_plan.specs.KeywordEdits.{all_known}
-use Rattle.meson_plan.proofs.elements.all_known.Given as goal
-
-abbrev pub invariant-loop-i : goal.invariant-loop-i
-invariant-loop-i l = all_known l.kind (args_view l.source (drop l.i l.elements)) ≡ all_known l.kind (args_view l.source l.elements)

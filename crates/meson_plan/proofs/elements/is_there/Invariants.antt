@@ -1,8 +1,0 @@
-use Rattle.std.proofs.Common.{◌≡◌, drop}
-use Rattle.std.specs.List.{list_any}
-use Rattle.meson_syntax.specs.View.{args_view}
-use Rattle.meson_plan.specs.KeywordEdits.{says}
-use Rattle.meson_plan.proofs.elements.is_there.Given as goal
-
-abbrev pub invariant-loop-i : goal.invariant-loop-i
-invariant-loop-i l = list_any (says l.kind l.text) (args_view l.source (drop l.i l.elements)) ≡ list_any (says l.kind l.text) (args_view l.source l.elements)

@@ -1,8 +1,0 @@
-use Rattle.std.proofs.Common.{◌≡◌, drop}
-use Rattle.std.specs.Prelude.{All, take}
-use Rattle.std.specs.Str.{IsUtf8}
-use Rattle.meson_plan.specs.SourceEdits.{checked_names}
-use Rattle.meson_plan.proofs.inserting.checked_names.Given as goal
-
-abbrev pub invariant-loop-name : goal.invariant-loop-name
-invariant-loop-name l = record { left : checked_names (drop l.name-index l.names) ≡ checked_names l.names; texts : All IsUtf8 (take l.name-index l.names) }

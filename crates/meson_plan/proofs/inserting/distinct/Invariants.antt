@@ -1,7 +1,0 @@
-use Rattle.std.proofs.Common.{◌≡◌, ◌++◌, drop, map}
-use Rattle.std.specs.Prelude.{reverse}
-use Rattle.meson_plan.specs.SourceEdits.{distinct, distinct_by}
-use Rattle.meson_plan.proofs.inserting.distinct.Given as goal
-
-abbrev pub invariant-loop-i : goal.invariant-loop-i
-invariant-loop-i l = map (λ x. x.now) l.all.items ++ distinct_by (reverse (map (λ x. x.now) l.all.items)) (drop l.i l.names) ≡ distinct l.names

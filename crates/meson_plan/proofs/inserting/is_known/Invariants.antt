@@ -1,7 +1,0 @@
-use Rattle.std.proofs.Common.{◌≡◌, drop}
-use Rattle.std.specs.List.{list_any}
-use Rattle.meson_plan.specs.Naming.{has_value}
-use Rattle.meson_plan.proofs.inserting.is_known.Given as goal
-
-abbrev pub invariant-loop-i : goal.invariant-loop-i
-invariant-loop-i l = list_any (has_value l.name) (drop l.i l.items) ≡ list_any (has_value l.name) l.items

@@ -1,9 +1,0 @@
-use Rattle.std.proofs.Common.{◌≡◌, List, ℕ, drop}
-use Rattle.meson_syntax.specs.Parts.{otherwise_parts}
-use Rattle.meson_syntax.specs.View.{otherwise_view}
-use Rattle.meson_plan.proofs.StatementsThere.{look_block}
-use Rattle.meson_plan.proofs.statements.block_of_selection.Given as goal
-
--- what is left of the number looks in the branches that are left
-abbrev pub invariant-loop-i : goal.invariant-loop-i
-invariant-loop-i l = (source : List ℕ) → look_block source (otherwise_parts (otherwise_view source l.otherwise)) (drop l.i l.branches) l.left ≡ look_block source (otherwise_parts (otherwise_view source l.otherwise)) l.branches l.n

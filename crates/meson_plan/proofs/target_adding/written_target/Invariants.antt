@@ -1,6 +1,0 @@
-use Rattle.std.proofs.Common.{◌≡◌, take}
-use Rattle.meson_plan.proofs.NewTargets.{so_far}
-use Rattle.meson_plan.proofs.target_adding.written_target.Given as goal
-
-abbrev pub invariant-loop-i : goal.invariant-loop-i
-invariant-loop-i l = l.out.items ≡ so_far (λ x. x.now) l.kind l.name (take l.i l.sources)

@@ -1,7 +1,0 @@
-use Rattle.std.proofs.Common.{drop}
-use Rattle.meson_plan.specs.Tasks.{each_made, delete_option_entry}
-use Rattle.meson_plan.specs.Tasking.{TasksSoFar}
-use Rattle.meson_plan.proofs.tasks.delete_option_tasks.Given as goal
-
-abbrev pub invariant-loop-i : goal.invariant-loop-i
-invariant-loop-i l = TasksSoFar (each_made delete_option_entry l.names) (each_made delete_option_entry (drop l.i l.names)) l.tasks.items

@@ -1,5 +1,0 @@
-use Rattle.std.proofs.Common.{◌≡◌, ◌++◌}
-use Rattle.meson_plan.proofs.work.push_all.Given as goal
-
-abbrev pub invariant-loop-splice : goal.invariant-loop-splice
-invariant-loop-splice l = l.to.items ≡ l.fn.to.items ++ l.yielded

@@ -1,0 +1,46 @@
+-- An element stands in a tree where the nodes on the way to its list say so.
+use Rattle.std.specs.Prelude.{option_map, option_and_then}
+use Rattle.std.proofs.Common.{◌≡◌, ℕ, List, Option, Some, None, refl, sym, ap, ◌∙◌}
+use Rattle.meson_syntax.specs.Tree.{Nowhere, Plain, Listing, Argument}
+use Rattle.meson_syntax.specs.Paths.{ListIn, list_in, ListAt, list_at, nth, block_of}
+use Rattle.meson_syntax.specs.Parts.{Any, an_expression, a_statement, a_block, expression_any, node_at}
+use Rattle.meson_syntax.proofs.paths.Reaching.{and-then-some}
+use Rattle.meson_syntax.proofs.PathNodes.{expression-reached, list-reached}
+use Rattle.meson_edit.specs.Edits.{elements}
+use Rattle.meson_sources.specs.Renaming.{StandsIn}
+use Rattle.meson_sources.proofs.RenamedStrings.{element_at}
+use Rattle.meson_sources.proofs.StringsStay.{list_any}
+
+abbrev pub root : Plain → Any Nowhere
+root t = a_block (block_of t)
+
+any_list : (o : Option (Any Nowhere)) → option_and_then (λ e. option_map (λ (l : ListIn Nowhere). l.list) (list_in e)) (option_and_then expression_any o) ≡ option_and_then list_any o
+any_list None = refl
+any_list (Some (an_expression e)) = refl
+any_list (Some (a_statement s)) = refl
+any_list (Some (a_block b)) = refl
+
+lists_there : (t : Plain) (path : List ℕ) → option_map (λ (p : ListAt Nowhere). p.list) (list_at t path) ≡ option_and_then list_any (node_at (root t) path)
+lists_there t path =
+    list-reached Nowhere t path ∙ ap (option_and_then (λ e. option_map (λ (l : ListIn Nowhere). l.list) (list_in e))) (expression-reached Nowhere t path) ∙ any_list (node_at (root t) path)
+
+in_turn : {A B C : Type 0} (f : A → Option B) (g : B → Option C) (o : Option A) → option_and_then g (option_and_then f o) ≡ option_and_then (λ x. option_and_then g (f x)) o
+in_turn f g None = refl
+in_turn f g (Some x) = refl
+
+of_map : {A B C : Type 0} (f : A → B) (g : B → Option C) (o : Option A) → option_and_then g (option_map f o) ≡ option_and_then (λ x. g (f x)) o
+of_map f g None = refl
+of_map f g (Some x) = refl
+
+elements_there : (t : Plain) (path : List ℕ) (n : ℕ) → option_and_then (λ (p : ListAt Nowhere). nth (elements p.list) n) (list_at t path) ≡ element_at (root t) path n
+elements_there t path n =
+    let at : Listing Nowhere → Option (Argument Nowhere) = λ l. nth (elements l) n in
+    sym (of_map (λ (p : ListAt Nowhere). p.list) at (list_at t path)) ∙ ap (option_and_then at) (lists_there t path) ∙ in_turn list_any at (node_at (root t) path)
+
+pub stands_at : (t : Plain) (path : List ℕ) (n : ℕ) (it : Argument Nowhere) → StandsIn t path n it → element_at (root t) path n ≡ Some it
+stands_at t path n it s = sym (elements_there t path n) ∙ ap (option_and_then (λ (p : ListAt Nowhere). nth (elements p.list) n)) s.is_place ∙ s.is_element
+
+pub at_stands : (t : Plain) (path : List ℕ) (n : ℕ) (it : Argument Nowhere) → element_at (root t) path n ≡ Some it → StandsIn t path n it
+at_stands t path n it is =
+    let o = and-then-some (λ (p : ListAt Nowhere). nth (elements p.list) n) (list_at t path) it (elements_there t path n ∙ is) in
+    record { place = o.0; is_place = o.1; is_element = o.2 }

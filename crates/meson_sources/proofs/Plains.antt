@@ -1,0 +1,109 @@
+-- Elements without a name, counted; and the elements of the list at a place.
+use Rattle.std.proofs.Common.{◌≡◌, ℕ, suc, ◌+◌, ◌<◌, ◌≤◌, List, [], ◌∷◌, length, drop, get_or, refl, sym, ap, ◌∙◌}
+use Rattle.std.specs.Prelude.{true, false, Option, Some, None, is_some, option_map, option_and_then, if◌then◌else◌}
+use Rattle.std.specs.List.{filter}
+use Rattle.std.proofs.lemmas.List.{at_drop_more, at_drop_all}
+use Rattle.meson_lex.specs.declared.kinds.Span.{Span}
+use Rattle.meson_syntax.specs.declared.tree.Arg.{Arg}
+use Rattle.meson_lex.specs.Significant.{Word}
+use Rattle.meson_splice.specs.declared.file_set.File as files
+use Rattle.meson_splice.specs.Files.{bytes_at}
+use Rattle.meson_syntax.specs.declared.tree.List as rust
+use Rattle.meson_syntax.specs.declared.tree.Parsed.{Parsed}
+use Rattle.meson_syntax.specs.Tree.{Expression, Block, Argument, plain, named, pair, File, Listing}
+use Rattle.meson_syntax.specs.Paths.{Sort, of_expression, of_statement, of_block, Node, Hole, ListIn, list_in, ListAt, list_at, list_of_node, list_within, expression_of, expression_at, reach, block_of}
+use Rattle.meson_syntax.specs.View.{arg_view, args_view, list_view, view}
+use Rattle.meson_edit.specs.Edits.{elements}
+use Rattle.meson_calls.specs.declared.call.CallRef.{CallRef}
+use Rattle.meson_calls.specs.Loading.{named_trees, views}
+use Rattle.meson_calls.specs.Project.{Project, BuildFile}
+use Rattle.meson_steps.proofs.ArgumentValues.{list_elements}
+use Rattle.meson_calls.proofs.Standing.{nth_there, nth_past}
+use Rattle.meson_calls.specs.Calls.{value_without_name}
+use Rattle.meson_sources.specs.SourceEdits.{is_plain, elements_of, plain_len}
+
+pub plain_is : {S : Type 0} (a : Argument S) → is_some (value_without_name a) ≡ is_plain a
+plain_is (plain e) = refl
+plain_is (named s x e) = refl
+plain_is (pair s e f) = refl
+
+module _ (source : List ℕ) where
+  abbrev pub plains : List Arg → ℕ
+  plains args = length (filter is_plain (args_view source args))
+
+  here : (args : List Arg) (i : ℕ) (d : Arg) → i < length args
+      → plains (drop i args) ≡ length (if is_plain (arg_view source (get_or args i d)) then arg_view source (get_or args i d) ∷ filter is_plain (args_view source (drop (i + 1) args)) else filter is_plain (args_view source (drop (i + 1) args)))
+  here args i d within = at_drop_more plains args i d within
+
+  pub one_plain : (args : List Arg) (i : ℕ) (d : Arg) → i < length args → is_some (value_without_name (arg_view source (get_or args i d))) ≡ true → plains (drop i args) ≡ suc (plains (drop (i + 1) args))
+  one_plain args i d within is =
+      let a = arg_view source (get_or args i d) in
+      let rest = filter is_plain (args_view source (drop (i + 1) args)) in
+      here args i d within ∙ ap (λ b. length (if b then a ∷ rest else rest)) (sym (plain_is a) ∙ is)
+
+  pub not_plain : (args : List Arg) (i : ℕ) (d : Arg) → i < length args → is_some (value_without_name (arg_view source (get_or args i d))) ≡ false → plains (drop i args) ≡ plains (drop (i + 1) args)
+  not_plain args i d within is =
+      let a = arg_view source (get_or args i d) in
+      let rest = filter is_plain (args_view source (drop (i + 1) args)) in
+      here args i d within ∙ ap (λ b. length (if b then a ∷ rest else rest)) (sym (plain_is a) ∙ is)
+
+  pub all_counted : (args : List Arg) (i : ℕ) → length args ≤ i → plains (drop i args) ≡ 0
+  all_counted args i past = at_drop_all plains args i past
+
+-- ---- the elements of the list at a place
+
+abbrev pub elements_or_none : {S : Type 0} → Option (Listing S) → List (Argument S)
+elements_or_none None = []
+elements_or_none (Some l) = elements l
+
+by_list : {S : Type 0} (o : Option (ListIn S)) → elements_of o ≡ elements_or_none (option_map (λ l. l.list) o)
+by_list None = refl
+by_list (Some l) = refl
+
+module _ {S : Type 0} (f : File S) where
+  of_list_in : (before behind : List Word) (back : Expression S → Block S) (o : Option (ListIn S)) → option_map (λ p. p.list) (option_map (list_within f before behind back) o) ≡ option_map (λ l. l.list) o
+  of_list_in before behind back None = refl
+  of_list_in before behind back (Some l) = refl
+
+  of_node : (sort : Sort) (x : Node sort S) (before behind : List Word) (back : Node sort S → Block S)
+      → option_map (λ p. p.list) (list_of_node S sort x f before behind back) ≡ option_map (λ l. l.list) (option_and_then list_in (expression_of S sort x))
+  of_node of_expression x before behind back = of_list_in before behind back (list_in x)
+  of_node of_statement x before behind back = refl
+  of_node of_block x before behind back = refl
+
+  of_hole : (o : Option (Hole S (Block S))) → option_map (λ p. p.list) (option_and_then (λ h. list_of_node S h.sort h.inside f h.before h.behind h.back) o)
+      ≡ option_map (λ l. l.list) (option_and_then list_in (option_and_then (λ h. expression_of S h.sort h.inside) o))
+  of_hole None = refl
+  of_hole (Some h) = of_node h.sort h.inside h.before h.behind h.back
+
+  lists_alike : (path : List ℕ) → option_map (λ (p : ListAt S). p.list) (list_at f path) ≡ option_map (λ (l : ListIn S). l.list) (option_and_then list_in (expression_at f path))
+  lists_alike path = of_hole (reach S of_block (block_of f) path)
+
+  pub elements_are : (path : List ℕ) → elements_of (option_and_then list_in (expression_at f path)) ≡ elements_or_none (option_map (λ (p : ListAt S). p.list) (list_at f path))
+  elements_are path = by_list (option_and_then list_in (expression_at f path)) ∙ ap elements_or_none (sym (lists_alike path))
+
+module _ (files : List files.File) (trees : List Parsed) (c : CallRef) where
+  abbrev p : Project Span
+  p = named_trees files (views files trees)
+
+  abbrev count_of : Option (BuildFile Span) → ℕ
+  count_of f = length (filter is_plain (elements_of (option_and_then list_in (option_and_then (λ g. expression_at g.tree c.path.steps) f))))
+
+  pub no_plains : length trees ≤ c.file → 0 ≡ plain_len p c
+  no_plains past = sym (ap count_of (nth_past files trees c.file past))
+
+  module _ (d : Parsed) (many : length trees ≡ length files) (within : c.file < length trees) where
+    abbrev f : File Span
+    f = view (bytes_at c.file files) (get_or trees c.file d)
+
+    plains_of : (o : Option (Listing Span)) → o ≡ option_map (λ (q : ListAt Span). q.list) (list_at f c.path.steps) → length (filter is_plain (elements_or_none o)) ≡ plain_len p c
+    plains_of o is =
+        ap (λ l. length (filter is_plain (elements_or_none l))) is ∙ ap (λ es. length (filter is_plain es)) (sym (elements_are f c.path.steps))
+        ∙ sym (ap count_of (nth_there files trees c.file d many within))
+
+    pub plains_nowhere : None ≡ option_map (λ (q : ListAt Span). q.list) (list_at f c.path.steps) → 0 ≡ plain_len p c
+    plains_nowhere is = plains_of None is
+
+    pub plains_there : (l : rust.List) → Some (list_view (bytes_at c.file files) l) ≡ option_map (λ (q : ListAt Span). q.list) (list_at f c.path.steps)
+        → length (filter is_plain (args_view (bytes_at c.file files) (rust.out-List l).items)) ≡ plain_len p c
+    plains_there l is = ap (λ es. length (filter is_plain es)) (sym (list_elements (bytes_at c.file files) l)) ∙ plains_of (Some (list_view (bytes_at c.file files) l)) is

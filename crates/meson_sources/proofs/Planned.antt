@@ -1,0 +1,55 @@
+-- What commands mean may be done: the steps on a target, and the one value of a keyword argument that is set.
+use Rattle.std.proofs.Common.{◌≡◌, ℕ, List}
+use Rattle.std.specs.Prelude.{All, Result, Ok, Err, IfOk}
+use Rattle.std.specs.Str.{IsUtf8}
+use Rattle.meson_lex.specs.declared.kinds.Span.{Span}
+use Rattle.meson_calls.specs.declared.call.Role.TheVariants as role
+use Rattle.meson_calls.specs.declared.refusal.Refusal.{Refusal}
+use Rattle.meson_steps.specs.declared.step.ListStep.{ListStep}
+use Rattle.meson_sources.specs.declared.targeting.Change.{Change}
+use Rattle.meson_sources.specs.declared.targeting.Change.TheVariants.{SourcesAdded, SourcesRemoved, ExtraAdded, ExtraRemoved}
+use Rattle.meson_calls.specs.Calls.{Call}
+use Rattle.meson_steps.specs.ListSteps.{AreDoable}
+use Rattle.meson_calls.specs.Loading.{Loaded, IsProject, project}
+use Rattle.meson_steps.specs.Results.{plain_trees}
+use Rattle.meson_calls.specs.Finding.{the_call}
+use Rattle.meson_steps.specs.Plans.{ArePlanned}
+use Rattle.meson_calls.specs.Project.{Project, Placed}
+use Rattle.meson_sources.specs.Standings.{TargetThere}
+use Rattle.meson_steps.specs.Steps.{Step}
+use Rattle.meson_sources.specs.Targeted.{change_steps, target_steps}
+use Rattle.meson_steps.specs.Meanings.{AreMeant}
+use Rattle.meson_sources.proofs.SourcesAddable.{sources_may_be_added}
+use Rattle.meson_sources.proofs.ExtrasAddable.{extras_may_be_added}
+use Rattle.meson_sources.proofs.RemovedSources.{sources_may_be_removed, extras_may_be_removed}
+use Rattle.meson_sources.proofs.TargetMarks.{sources_stand, extras_stand}
+use Rattle.meson_sources.proofs.TargetsFound.{targets_stand}
+use Rattle.meson_steps.proofs.WentWell.{then_was}
+
+module _ (old : Loaded) (whole : IsProject old) where
+  abbrev p : Project Span
+  p = project old
+
+  changed : (change : Change) (c : Placed (Call Span)) → TargetThere p c → (names : List (List ℕ)) → All IsUtf8 names → (steps : List Step) → change_steps p change names c ≡ Ok steps
+      → AreDoable steps (plain_trees old)
+  changed SourcesAdded c there names utf8 steps is = sources_may_be_added old whole.parsed c there (sources_stand old whole.parsed c there) names utf8 steps is
+  changed SourcesRemoved c there names utf8 steps is = sources_may_be_removed old whole.parsed c there (sources_stand old whole.parsed c there) names utf8 steps is
+  changed ExtraAdded c there names utf8 steps is = extras_may_be_added old whole.parsed c there (extras_stand old whole.parsed c there) names utf8 steps is
+  changed ExtraRemoved c there names utf8 steps is = extras_may_be_removed old whole.parsed c there (extras_stand old whole.parsed c there) names utf8 steps is
+
+  -- the steps on a target
+  target_means : (target : List ℕ) (change : Change) (names : List (List ℕ)) → All IsUtf8 names → (list : List ListStep) → AreMeant (target_steps p target change names) list → ArePlanned old (target_steps p target change names) list
+  target_means target change names utf8 list meant =
+      let c = then_was (the_call p role.Target target) (change_steps p change names) meant.steps meant.is in
+      let there = targets_stand p target c.0 c.1 in
+      record {
+        steps = meant.steps;
+        are_planned = meant.is;
+        are_doable = record { bare = meant.bare; doable = changed change c.0 there names utf8 meant.steps c.2 };
+      }
+
+  module _ {V : Type 0} (list : V → List ListStep) where
+    pub all_mean : (target : List ℕ) (change : Change) (names : List (List ℕ)) (r : Result V Refusal) → IfOk r (λ v. All IsUtf8 names)
+        → IfOk r (λ v. AreMeant (target_steps p target change names) (list v)) → IfOk r (λ v. ArePlanned old (target_steps p target change names) (list v))
+    all_mean target change names (Ok v) utf8 meant = target_means target change names utf8 (list v) meant
+    all_mean target change names (Err e) utf8 meant = tt

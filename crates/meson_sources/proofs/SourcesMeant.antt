@@ -1,0 +1,93 @@
+-- The steps that commands on sources mean, by what the code finds.
+use Rattle.std.proofs.Common.{◌≡◌, ℕ, ◌<◌, ◌≤◌, List, [], ◌∷◌, length, map, refl, sym, ap, ◌∙◌, arith}
+use Rattle.std.specs.Prelude.{Some, Ok, Err}
+use Rattle.meson_lex.specs.declared.kinds.Span.{Span}
+use Rattle.meson_splice.specs.Patch.{then_ok}
+use Rattle.meson_syntax.specs.declared.tree.List as rust
+use Rattle.meson_syntax.specs.View.{list_view}
+use Rattle.meson_calls.specs.declared.call.CallRef.{CallRef}
+use Rattle.meson_calls.specs.declared.refusal.Refusal.{Refusal}
+use Rattle.meson_calls.specs.declared.refusal.Refusal.TheVariants.{DuplicateKeyword}
+use Rattle.meson_steps.specs.declared.step.ListStep.{ListStep}
+use Rattle.meson_calls.specs.Project.{Project, Placed, placed}
+use Rattle.meson_calls.specs.Calls.{Call, keyword, value_with_name}
+use Rattle.meson_calls.specs.Expansion.{Mark, max_followed}
+use Rattle.meson_steps.specs.ListSteps.{bare}
+use Rattle.meson_sources.specs.Naming.{new_among}
+use Rattle.meson_calls.specs.Picking.{call_with}
+use Rattle.meson_sources.specs.Spots.{spots_of_names}
+use Rattle.meson_calls.specs.Sources.{sources_key, source_marks, home, once, or_call, or_option, first_list}
+use Rattle.meson_calls.specs.Sourced.{kept_args, all_gathered}
+use Rattle.meson_sources.specs.SourceEdits.{new_names, inserted, plain_len, Spot, spots_named, removed, distinct_spots, sources_added, sources_removed}
+use Rattle.meson_steps.specs.Names.{checked_names, distinct}
+use Rattle.meson_calls.specs.Tallies.{Tally}
+use Rattle.meson_steps.specs.Meanings.{AreMeant}
+use Rattle.meson_calls.proofs.Answered.{keyword_is, gathered_marks}
+use Rattle.meson_sources.proofs.Marked.{Told, told, new_are, told_spots}
+
+pub once_few : {X Y : Type 0} (key : List ℕ) (xs : List X) (y : Y) → length xs ≤ 1 → once key xs y ≡ Ok y
+once_few key [] y few = refl
+once_few key (x ∷ []) y few = refl
+once_few key (x ∷ z ∷ more) y few = absurd (omega arith)
+
+pub once_twice : {X Y : Type 0} (key : List ℕ) (xs : List X) (y : Y) → 1 < length xs → once key xs y ≡ Err (DuplicateKeyword key)
+once_twice key [] y many = absurd (omega arith)
+once_twice key (x ∷ []) y many = absurd (omega arith)
+once_twice key (x ∷ z ∷ more) y many = refl
+
+module _ (p : Project Span) (c : CallRef) (source : List ℕ) (l : rust.List) (function : List ℕ) (names : List (List ℕ)) where
+  abbrev it : Placed (Call Span)
+  it = placed c (call_with function (list_view source l))
+
+  abbrev pub ms : List (Mark Span)
+  ms = source_marks p it
+
+  abbrev args : ℕ
+  args = length (kept_args source (value_with_name sources_key) 0 (rust.out-List l).items)
+
+  pub fields : (t : Tally) → t ≡ (all_gathered p max_followed c source (rust.out-List l).items).tally → Told t ms
+  fields t is = told t ms (is ∙ gathered_marks p c source l function)
+
+  few_are : {Y : Type 0} (y : Y) → args ≤ 1 → once sources_key (keyword sources_key it.it) y ≡ Ok y
+  few_are y few = ap (λ xs. once sources_key xs y) (keyword_is p c source l function sources_key) ∙ once_few sources_key (kept_args source (value_with_name sources_key) 0 (rust.out-List l).items) y few
+
+  many_are : {Y : Type 0} (y : Y) → 1 < args → once sources_key (keyword sources_key it.it) y ≡ Err (DuplicateKeyword sources_key)
+  many_are y many = ap (λ xs. once sources_key xs y) (keyword_is p c source l function sources_key) ∙ once_twice sources_key (kept_args source (value_with_name sources_key) 0 (rust.out-List l).items) y many
+
+  module _ (checked : checked_names names ≡ Ok tt) where
+    pub added_twice : 1 < args → sources_added p it names ≡ Err (DuplicateKeyword sources_key)
+    added_twice many =
+        let y = inserted (home c ms) (plain_len p (home c ms)) (new_names ms names) in
+        ap (λ r. then_ok r (λ _. once sources_key (keyword sources_key it.it) y)) checked ∙ many_are y many
+
+    pub removed_twice : 1 < args → sources_removed p it names ≡ Err (DuplicateKeyword sources_key)
+    removed_twice many =
+        let rest = λ (marks : List (Mark Span)). then_ok (spots_named marks (distinct names)) (λ spots. Ok (removed (distinct_spots spots))) in
+        ap (λ r. then_ok r (λ _. then_ok (once sources_key (keyword sources_key it.it) ms) rest)) checked ∙ ap (λ r. then_ok r rest) (many_are ms many)
+
+    module _ (few : args ≤ 1) (t : Tally) (is : t ≡ (all_gathered p max_followed c source (rust.out-List l).items).tally) where
+      pub added : (place : CallRef) → place ≡ or_call c (or_option t.list t.vacant) → (n : ℕ) → n ≡ plain_len p place → (new : List (List ℕ)) → new ≡ new_among t.items names
+          → (steps : List ListStep) → map Some steps ≡ map bare (inserted place n new) → AreMeant (sources_added p it names) steps
+      added place is_place n is_n new is_new steps are =
+          let f = fields t is in
+          let y = inserted (home c ms) (plain_len p (home c ms)) (new_names ms names) in
+          let place_is = is_place ∙ ap (λ o. or_call c (or_option o t.vacant)) f.is_list ∙ ap (λ o. or_call c (or_option (first_list ms) o)) f.is_vacant in
+          let new_is = is_new ∙ ap (λ xs. new_among xs names) f.are_items ∙ new_are ms names in
+          record {
+            steps = y;
+            is = ap (λ r. then_ok r (λ _. once sources_key (keyword sources_key it.it) y)) checked ∙ few_are y few;
+            bare = sym (are ∙ ap (λ k. map bare (inserted place k new)) is_n ∙ ap (λ h. map bare (inserted h (plain_len p h) new)) place_is ∙ ap (λ ns. map bare (inserted (home c ms) (plain_len p (home c ms)) ns)) new_is);
+          }
+
+      after_checks : sources_removed p it names ≡ then_ok (spots_of_names t.items t.numbers t.unknown (distinct names)) (λ spots. Ok (removed (distinct_spots spots)))
+      after_checks =
+          let rest = λ (marks : List (Mark Span)). then_ok (spots_named marks (distinct names)) (λ spots. Ok (removed (distinct_spots spots))) in
+          ap (λ r. then_ok r (λ _. then_ok (once sources_key (keyword sources_key it.it) ms) rest)) checked ∙ ap (λ r. then_ok r rest) (few_are ms few)
+          ∙ ap (λ r. then_ok r (λ spots. Ok (removed (distinct_spots spots)))) (sym (told_spots t ms (fields t is) (distinct names)))
+
+      pub gone : (spots : List Spot) → spots_of_names t.items t.numbers t.unknown (distinct names) ≡ Ok spots → (steps : List ListStep) → map Some steps ≡ map bare (removed (distinct_spots spots))
+          → AreMeant (sources_removed p it names) steps
+      gone spots found steps are = record { steps = removed (distinct_spots spots); is = after_checks ∙ ap (λ r. then_ok r (λ spots. Ok (removed (distinct_spots spots)))) found; bare = sym are }
+
+      pub not_gone : (e : Refusal) → spots_of_names t.items t.numbers t.unknown (distinct names) ≡ Err e → sources_removed p it names ≡ Err e
+      not_gone e found = after_checks ∙ ap (λ r. then_ok r (λ spots. Ok (removed (distinct_spots spots)))) found

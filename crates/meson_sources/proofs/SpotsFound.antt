@@ -1,0 +1,59 @@
+-- Where the items of a name stand, gathered one after another.
+use Rattle.std.proofs.Common.{◌≡◌, ℕ, ◌+◌, ◌<◌, List, [], ◌∷◌, ◌++◌, length, get_or, drop, refl, sym, ap, ◌∙◌, add-one}
+use Rattle.std.specs.Prelude.{Bool, true, false, ◌||◌, Option, Some, None, option_map, Result, Ok, Err, if◌then◌else◌}
+use Rattle.std.proofs.Math.Seq.{drop-cons}
+use Rattle.std.proofs.lemmas.List.{append_assoc}
+use Rattle.meson_splice.specs.Patch.{then_ok}
+use Rattle.meson_calls.specs.declared.call.SourceItem.{SourceItem}
+use Rattle.meson_calls.specs.declared.refusal.Refusal.{Refusal}
+use Rattle.meson_sources.specs.SourceEdits.{Spot, removable}
+use Rattle.meson_sources.specs.Naming.{has_value}
+use Rattle.meson_sources.specs.Spots.{spot_at, spots_at, all_there, spots_from, before_all, behind_all, is_some_there}
+
+module _ (name : List ℕ) (items : List SourceItem) (numbers : List (Option ℕ)) (i : ℕ) (d : SourceItem) (e : Option ℕ) (within : i < length items) (also : i < length numbers) where
+  abbrev item : SourceItem
+  item = get_or items i d
+
+  abbrev number : Option ℕ
+  number = get_or numbers i e
+
+  abbrev later : List (Option Spot)
+  later = spots_at name (drop (i + 1) items) (drop (i + 1) numbers)
+
+  both_are : spots_at name (drop i items) (drop i numbers) ≡ (if has_value name item then spot_at item.list number ∷ later else later)
+  both_are =
+      ap (λ xs. spots_at name xs (drop i numbers)) (drop-cons items i d within ∙ ap (λ k. item ∷ drop k items) (sym (add-one i)))
+      ∙ ap (λ ns. spots_at name (item ∷ drop (i + 1) items) ns) (drop-cons numbers i e also ∙ ap (λ k. number ∷ drop k numbers) (sym (add-one i)))
+
+  pub spot_here : has_value name item ≡ true → spots_at name (drop i items) (drop i numbers) ≡ spot_at item.list number ∷ later
+  spot_here is = both_are ∙ ap (λ b. if b then spot_at item.list number ∷ later else later) is
+
+  pub no_spot_here : has_value name item ≡ false → spots_at name (drop i items) (drop i numbers) ≡ later
+  no_spot_here is = both_are ∙ ap (λ b. if b then spot_at item.list number ∷ later else later) is
+
+put_before : (first : List Spot) (s : Spot) (more : Option (List Spot)) → before_all (first ++ s ∷ []) more ≡ before_all first (option_map (λ spots. s ∷ spots) more)
+put_before first s None = refl
+put_before first s (Some spots) = ap Some (append_assoc first (s ∷ []) spots)
+
+pub one_before : (first : List Spot) (s : Spot) (more : List (Option Spot)) → before_all (first ++ s ∷ []) (all_there more) ≡ before_all first (all_there (Some s ∷ more))
+one_before first s more = put_before first s (all_there more)
+
+pub some_spot : (b : Bool) (spots : List (Option Spot)) (s : Option Spot) (more : List (Option Spot)) → spots ≡ s ∷ more → (b || is_some_there spots) ≡ true
+some_spot true spots s more is = refl
+some_spot false spots s more is = ap is_some_there is
+
+-- ---- one name after another
+
+behind_more : (first here : List Spot) (rest : Result (List Spot) Refusal) → behind_all (first ++ here) rest ≡ behind_all first (then_ok rest (λ later. Ok (here ++ later)))
+behind_more first here (Ok later) = ap Ok (append_assoc first here later)
+behind_more first here (Err e) = refl
+
+by_spots : (first new : List Spot) (o : Option (List Spot)) (rest : Result (List Spot) Refusal) → before_all first o ≡ Some new
+    → behind_all new rest ≡ behind_all first (then_ok (removable o) (λ here. then_ok rest (λ later. Ok (here ++ later))))
+by_spots first new None rest is = absurd cc
+by_spots first new (Some here) rest is = let same : new ≡ first ++ here = cc in ap (λ xs. behind_all xs rest) same ∙ behind_more first here rest
+
+pub next_name : (first new : List Spot) (unknown : ℕ) (spots : List (Option Spot)) (rest : Result (List Spot) Refusal) → is_some_there spots ≡ true
+    → before_all first (all_there spots) ≡ Some new → behind_all new rest ≡ behind_all first (then_ok (spots_from unknown spots) (λ here. then_ok rest (λ later. Ok (here ++ later))))
+next_name first new unknown [] rest some is = absurd cc
+next_name first new unknown (s ∷ spots) rest some is = by_spots first new (all_there (s ∷ spots)) rest is

@@ -1,0 +1,25 @@
+-- The call of a target that an id names stands at its place, and has an argument without a name.
+use Rattle.std.proofs.Common.{◌≡◌, Option, Some, None, refl}
+use Rattle.std.specs.Prelude.{Bool, true, false, ◌&&◌, is_some}
+use Rattle.meson_lex.specs.declared.kinds.Span.{Span}
+use Rattle.meson_syntax.specs.Tree.{Expression}
+use Rattle.meson_calls.specs.declared.call.Role.TheVariants as role
+use Rattle.meson_calls.specs.Calls.{Call, first_argument}
+use Rattle.meson_calls.specs.Project.{Project, Placed}
+use Rattle.meson_calls.specs.Roles.{one_of, target_functions}
+use Rattle.meson_calls.specs.CallPlaces.{CallThere}
+use Rattle.meson_sources.specs.Standings.{TargetThere, TargetsStand}
+use Rattle.meson_calls.proofs.CallsFound.{RoleAt, role_found, calls_stand}
+
+has_first : (a : Bool) (o : Option (Expression Span)) → (a && is_some o) ≡ true → (e : Expression Span) × (o ≡ Some e)
+has_first false o h = absurd cc
+has_first true None h = absurd cc
+has_first true (Some e) h = (e, refl)
+
+target_there : (p : Project Span) (c : Placed (Call Span)) → RoleAt p role.Target c → CallThere p c → TargetThere p c
+target_there p c t h =
+    let first = has_first (one_of target_functions c.it.function) (first_argument c.it) t.is_one in
+    record { there = h.there; is_list = h.is_list; is_round = h.is_round; first = first.0; is_first = first.1 }
+
+pub targets_stand : TargetsStand
+targets_stand p id c h = target_there p c (role_found p role.Target id c h) (calls_stand p role.Target id c h)

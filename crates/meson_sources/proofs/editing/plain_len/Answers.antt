@@ -1,0 +1,33 @@
+use Rattle.std.proofs.Common.{length, ap, ◌∙◌}
+use Rattle.std.specs.List.{filter}
+use Rattle.meson_splice.specs.Files.{bytes_at}
+use Rattle.meson_syntax.specs.Paths.{ListAt, list_at}
+use Rattle.std.specs.Prelude.{option_map}
+use Rattle.meson_syntax.specs.View.{args_view, view}
+use Rattle.meson_sources.specs.SourceEdits.{is_plain}
+use Rattle.meson_calls.proofs.Loads.{as_many}
+use Rattle.meson_sources.proofs.Plains.{no_plains, plains_nowhere, plains_there}
+use Rattle.meson_lex.specs.declared.kinds.Span.{Span}
+use Rattle.meson_sources.proofs.editing.plain_len.Goals as goal
+
+pub returns-then-list-trees : goal.returns-then-list-trees
+returns-then-list-trees c = no_plains c.args.variables.now.files.now c.args.variables.now.trees.now c.args.list.now c.if-list-trees.true
+
+pub returns-in-Some : goal.returns-in-Some
+returns-in-Some c =
+    let files = c.args.variables.now.files.now in
+    let trees = c.args.variables.now.trees.now in
+    let list = c.args.list.now in
+    let bytes = bytes_at list.file files in
+    let is = c.in-Some.ensures bytes ∙ ap (λ t. option_map (λ (q : ListAt Span). q.list) (list_at (view bytes t) list.path.steps)) c.index-trees-list.is in
+    c.count_plain.ensures bytes ∙ ap (λ xs. length (filter is_plain (args_view bytes xs))) c.get.ensures
+    ∙ plains_there files trees list c.index-trees-list.result (as_many files trees c.requires) c.if-list-trees.false c.in-Some.list.now is
+
+pub returns-in-None : goal.returns-in-None
+returns-in-None c =
+    let files = c.args.variables.now.files.now in
+    let trees = c.args.variables.now.trees.now in
+    let list = c.args.list.now in
+    let bytes = bytes_at list.file files in
+    let is = c.in-None.ensures bytes ∙ ap (λ t. option_map (λ (q : ListAt Span). q.list) (list_at (view bytes t) list.path.steps)) c.index-trees-list.is in
+    plains_nowhere files trees list c.index-trees-list.result (as_many files trees c.requires) c.if-list-trees.false is

@@ -1,0 +1,42 @@
+use Rattle.std.proofs.Common.{◌≡◌, ◌<◌, ◌≤◌, ◌++◌, length, map, sym, ap, ◌∙◌, subst}
+use Rattle.std.specs.Prelude.{Some, Ok, Err}
+use Rattle.meson_calls.specs.declared.refusal.Refusal.TheVariants.{DuplicateKeyword}
+use Rattle.meson_calls.specs.Calls.{value_with_name}
+use Rattle.meson_calls.specs.Expansion.{max_followed}
+use Rattle.meson_steps.specs.ListSteps.{bare}
+use Rattle.meson_calls.specs.Named.{project_of}
+use Rattle.meson_sources.specs.Naming.{new_among}
+use Rattle.meson_calls.specs.Sourced.{kept_args, all_gathered}
+use Rattle.meson_sources.specs.SourceEdits.{inserted}
+use Rattle.meson_steps.specs.Names.{checked_names}
+use Rattle.meson_calls.specs.Tallies.{gathered}
+use Rattle.meson_sources.proofs.SourcesMeant.{added, added_twice}
+use Rattle.meson_sources.proofs.editing.sources_added.Goals as goal
+
+pub returns-in-Err-at_most_once-clause-refused : goal.returns-in-Err-at_most_once-clause-refused
+returns-in-Err-at_most_once-clause-refused c = λ function other.
+    let p = project_of c.args.variables.now in
+    let source = c.args.source.now in
+    let l = c.args.arguments.now in
+    let checked : checked_names c.args.names.now ≡ Ok tt = sym c.checked_names.ensures.checked ∙ c.in-Ok.is in
+    let twice = c.in-Err-at_most_once.ensures.twice other in
+    let many = subst (λ k. 1 < length (kept_args source (value_with_name k) 0 l.items)) c.as_slice.ensures twice.1 in
+    added_twice p c.args.call.now source l function c.args.names.now checked many ∙ ap (λ k. Err (DuplicateKeyword k)) (sym c.as_slice.ensures) ∙ ap Err (sym twice.0)
+
+pub returns-clause-meant : goal.returns-clause-meant
+returns-clause-meant c = λ function.
+    let p = project_of c.args.variables.now in
+    let source = c.args.source.now in
+    let l = c.args.arguments.now in
+    let names = c.args.names.now in
+    let checked : checked_names names ≡ Ok tt = sym c.checked_names.ensures.checked ∙ c.in-Ok.is in
+    let few = subst (λ k. length (kept_args source (value_with_name k) 0 l.items) ≤ 1) c.as_slice.ensures c.in-Ok-at_most_once.ensures.few in
+    let is = ap (λ g. g.tally) (c.in_ok-marks.ensures ∙ ap (all_gathered p max_followed c.args.call.now source) c.get.ensures) in
+    let home = c.in_ok-home.home in
+    let n = c.plain_len-from.result in
+    let new_is = c.in_ok-new.ensures ∙ ap (λ xs. new_among xs names) c.as_slice-2.ensures.value in
+    let are =
+    c.in_ok-insert.ensures.done ∙ ap (λ xs. map Some xs ++ map bare (inserted home n (map (λ x. x.now) c.as_slice-3.result.now))) c.new-steps.ensures.items
+    ∙ ap (λ ns. map bare (inserted home n (map (λ x. x.now) ns))) c.as_slice-3.ensures.value in
+    added p c.args.call.now source l function names checked few (gathered c.in_ok-marks.marks).tally is home c.in_ok-home.ensures n c.plain_len-from.ensures (map (λ x. x.now) c.in_ok-new.new.items) new_is
+    c.insert.new.steps.items are

@@ -1,0 +1,15 @@
+use Rattle.std.proofs.Common.{rules, ◌∙◌, ap, map}
+use Rattle.std.specs.Prelude.{not}
+use Rattle.std.specs.List.{filter, list_any}
+use Rattle.std.proofs.lemmas.Fn.{filter_same}
+use Rattle.meson_sources.specs.Naming.{has_value}
+use Rattle.meson_steps.proofs.Distincts.{filter_under}
+use Rattle.meson_sources.proofs.inserting.new_names.Goals as goal
+
+pub returns : goal.returns
+returns c =
+    let items = c.args.items.now in
+    let kept = filter_same _ (λ r. not (list_any (has_value r.now) items)) _ (λ x b f k. search rules) _ _ c.retain.ensures.filtered in
+    ap (λ xs. map (λ x. x.now) xs) kept
+    ∙ filter_under (λ x. x.now) (λ name. not (list_any (has_value name) items)) c.in_ok-new.new.items
+    ∙ ap (filter (λ name. not (list_any (has_value name) items))) c.in_ok-new.ensures

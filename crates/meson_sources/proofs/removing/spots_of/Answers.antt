@@ -1,0 +1,23 @@
+use Rattle.std.proofs.Common.{◌≡◌, ◌+◌, ◌∷◌, map, drop, get_or, sym, ap, ◌∙◌, add-one, rules}
+use Rattle.std.specs.Prelude.{true}
+use Rattle.std.proofs.Math.Seq.{drop-cons}
+use Rattle.meson_sources.specs.Spots.{behind_all, spot_view, spots_at, spots_of_names}
+use Rattle.meson_sources.proofs.SpotsFound.{next_name}
+use Rattle.meson_sources.proofs.removing.spots_of.Goals as goal
+
+pub loop-i-preserved : goal.loop-i-preserved
+loop-i-preserved c =
+    let items = c.args.marks.now.items.items in
+    let numbers = c.args.marks.now.numbers.items in
+    let unknown = c.args.marks.now.unknown in
+    let names = c.args.names.now in
+    let i = c.loop-i.i in
+    let x = c.index-names-i.result in
+    let old = map spot_view c.loop-i.spots.items in
+    let spots = spots_at x.now items numbers in
+    let rest = spots_of_names items numbers unknown (map (λ x. x.now) (drop (i + 1) names)) in
+    let found : c.in-Ok.found ≡ true = search rules in
+    let is = drop-cons names i x c.loop-i-test.true ∙ ap (λ k. get_or names i x ∷ drop k names) (sym (add-one i)) ∙ ap (λ y. y ∷ drop (i + 1) names) (sym c.index-names-i.is) in
+    next_name old (map spot_view c.find_spots.new.spots.items) unknown spots rest (sym c.in-Ok.ensures.some ∙ found) c.in-Ok.ensures.found
+    ∙ ap (λ xs. behind_all old (spots_of_names items numbers unknown (map (λ x. x.now) xs))) (sym is)
+    ∙ c.loop-i.invariant

@@ -1,0 +1,6 @@
+pub mod Naming
+pub mod Renaming
+pub mod SourceEdits
+pub mod Spots
+pub mod Standings
+pub mod Targeted

@@ -1,0 +1,205 @@
+-- Sources put into a target and taken out of it, and the same for its extra files. Meson manual, Rewriter: `target add`, `target rm`, `target add_extra_files`,
+-- `target rm_extra_files`.
+use Rattle.std.specs.Prelude.{ℕ, zero, suc, ◌-◌, Bool, true, false, not, ◌&&◌, nat_eq, nat_lt, List, [], ◌∷◌, ◌++◌, length, codes, if◌then◌else◌, bytes_eq, Option, Some, None, option_map, option_and_then, Result, Ok, Err}
+use Rattle.std.specs.List.{filter, list_any}
+use Rattle.meson_lex.specs.Literals.{literal}
+use Rattle.meson_splice.specs.Patch.{then_ok}
+use Rattle.meson_syntax.specs.Tree.{Nowhere, Expression, array, listing, Argument, plain, named, pair, arguments_of}
+use Rattle.meson_syntax.specs.Paths.{ListIn, list_in}
+use Rattle.meson_edit.specs.Edits.{Written, First, After, Remove, Wrap, elements}
+use Rattle.meson_calls.specs.declared.call.CallRef.{CallRef}
+use Rattle.meson_calls.specs.declared.refusal.Refusal.{Refusal}
+use Rattle.meson_calls.specs.declared.refusal.Refusal.TheVariants.{NotLiteral, SourceNotFound, Unresolved, NotRemovable}
+use Rattle.meson_calls.specs.Project.{Project, Placed, child, place, expression_at}
+use Rattle.meson_calls.specs.Calls.{Call, Numbered, keyword}
+use Rattle.meson_calls.specs.Calls as calls
+use Rattle.meson_calls.specs.Expansion.{Slot, in_list, fixed, Item, Mark}
+use Rattle.meson_calls.specs.Sources.{sources_key, kwargs_key, expand_arguments, source_marks, items, opaque_count, first_list, first_empty, or_option, home, once, not_hidden}
+use Rattle.meson_steps.specs.Names.{checked_names, distinct}
+use Rattle.meson_steps.specs.WrittenTexts.{string_of}
+use Rattle.meson_steps.specs.Steps.{Step, step_in}
+
+abbrev pub extra_key : List ℕ
+extra_key = codes "extra_files"
+
+-- ---- items of a name
+
+abbrev pub has_text : {S : Type 0} → List ℕ → Item S → Bool
+has_text name i = bytes_eq i.text name
+
+abbrev pub items_of : {S : Type 0} → List ℕ → List (Mark S) → List (Item S)
+items_of name marks = filter (has_text name) (items marks)
+
+abbrev pub is_known : {S : Type 0} → List (Mark S) → List ℕ → Bool
+is_known marks name = list_any (has_text name) (items marks)
+
+-- those that are no items yet
+abbrev pub new_names : {S : Type 0} → List (Mark S) → List (List ℕ) → List (List ℕ)
+new_names marks names = filter (λ name. not (is_known marks name)) (distinct names)
+
+-- ---- insertion
+
+abbrev pub written_source : List ℕ → Written (Argument Nowhere)
+written_source name = record { bytes = literal name; node = plain (string_of name) }
+
+-- one behind the other, into a list with so many elements without a name, behind the last of these
+abbrev pub inserted : CallRef → ℕ → List (List ℕ) → List Step
+inserted list n [] = []
+inserted list zero (name ∷ more) = step_in list (First list.path.steps (written_source name)) ∷ inserted list 1 more
+inserted list (suc n) (name ∷ more) = step_in list (After list.path.steps n (written_source name)) ∷ inserted list (suc (suc n)) more
+
+abbrev pub is_plain : {S : Type 0} → Argument S → Bool
+is_plain (plain e) = true
+is_plain (named s x e) = false
+is_plain (pair s e f) = false
+
+-- the elements of the array or call at a place
+abbrev pub elements_of : {S : Type 0} → Option (ListIn S) → List (Argument S)
+elements_of None = []
+elements_of (Some l) = elements l.list
+
+abbrev pub elements_there : {S : Type 0} → Project S → CallRef → List (Argument S)
+elements_there p at_ = elements_of (option_and_then list_in (expression_at p at_))
+
+abbrev pub plain_len : {S : Type 0} → Project S → CallRef → ℕ
+plain_len p list = length (filter is_plain (elements_there p list))
+
+abbrev pub inserted_in : {S : Type 0} → Project S → CallRef → List (List ℕ) → List Step
+inserted_in p list names = inserted list (plain_len p list) names
+
+-- ---- removal
+
+-- an element of a list, by the list's place and its number
+pub record Spot : Type 0 where
+  pub list : CallRef
+  pub number : ℕ
+
+abbrev pub spot_of : Slot → Option Spot
+spot_of (in_list p n) = Some (record { list = p; number = n })
+spot_of fixed = None
+
+-- all stand in lists
+abbrev pub spots_of : {S : Type 0} → List (Item S) → Option (List Spot)
+spots_of [] = Some []
+spots_of (i ∷ more) = option_and_then (λ spot. option_map (λ spots. spot ∷ spots) (spots_of more)) (spot_of i.slot)
+
+abbrev pub none_found : ℕ → Refusal
+none_found zero = SourceNotFound
+none_found (suc n) = Unresolved
+
+abbrev pub removable : Option (List Spot) → Result (List Spot) Refusal
+removable None = Err NotRemovable
+removable (Some spots) = Ok spots
+
+-- the places of all items of a name, of which there has to be one
+abbrev pub spots_by : {S : Type 0} → ℕ → List (Item S) → Result (List Spot) Refusal
+spots_by unknown [] = Err (none_found unknown)
+spots_by unknown (i ∷ more) = removable (spots_of (i ∷ more))
+
+abbrev pub spots_named : {S : Type 0} → List (Mark S) → List (List ℕ) → Result (List Spot) Refusal
+spots_named marks [] = Ok []
+spots_named marks (name ∷ more) = then_ok (spots_by (opaque_count marks) (items_of name marks)) (λ here. then_ok (spots_named marks more) (λ later. Ok (here ++ later)))
+
+-- a number behind another one that has gone
+abbrev pub moved_up : ℕ → ℕ → ℕ
+moved_up gone n = if nat_lt gone n then n - 1 else n
+
+-- a path after the n-th element of a list has gone
+abbrev pub path_after : List ℕ → ℕ → List ℕ → List ℕ
+path_after list gone [] = []
+path_after [] gone (n ∷ path) = moved_up gone n ∷ path
+path_after (m ∷ list) gone (n ∷ path) = if nat_eq m n then n ∷ path_after list gone path else n ∷ path
+
+abbrev pub is_path : List ℕ → List ℕ → Bool
+is_path [] [] = true
+is_path [] (n ∷ path) = false
+is_path (m ∷ list) [] = false
+is_path (m ∷ list) (n ∷ path) = nat_eq m n && is_path list path
+
+-- where an element stands after another one has gone
+abbrev pub spot_after : Spot → Spot → Spot
+spot_after gone s =
+    if nat_eq gone.list.file s.list.file
+    then record {
+      list = place s.list.file (path_after gone.list.path.steps gone.number s.list.path.steps);
+      number = if is_path gone.list.path.steps s.list.path.steps then moved_up gone.number s.number else s.number;
+    }
+    else s
+
+abbrev pub spots_after : Spot → List Spot → List Spot
+spots_after gone [] = []
+spots_after gone (s ∷ more) = spot_after gone s ∷ spots_after gone more
+
+-- one after the other, each where it stands then
+abbrev pub removed_by : ℕ → List Spot → List Step
+removed_by zero spots = []
+removed_by (suc left) [] = []
+removed_by (suc left) (s ∷ more) = step_in s.list (Remove s.list.path.steps s.number) ∷ removed_by left (spots_after s more)
+
+abbrev pub removed : List Spot → List Step
+removed spots = removed_by (length spots) spots
+
+-- each spot once
+abbrev pub same_spot : Spot → Spot → Bool
+same_spot s t = nat_eq s.list.file t.list.file && (is_path s.list.path.steps t.list.path.steps && nat_eq s.number t.number)
+
+abbrev pub distinct_spots_by : List Spot → List Spot → List Spot
+distinct_spots_by seen [] = []
+distinct_spots_by seen (s ∷ more) = if list_any (same_spot s) seen then distinct_spots_by seen more else s ∷ distinct_spots_by (s ∷ seen) more
+
+abbrev pub distinct_spots : List Spot → List Spot
+distinct_spots spots = distinct_spots_by [] spots
+
+-- ---- sources
+
+abbrev pub sources_added : {S : Type 0} → Project S → Placed (Call S) → List (List ℕ) → Result (List Step) Refusal
+sources_added p c names =
+    then_ok (checked_names names) (λ _. once sources_key (keyword sources_key c.it) (inserted_in p (home c.place (source_marks p c)) (new_names (source_marks p c) names)))
+
+abbrev pub sources_removed : {S : Type 0} → Project S → Placed (Call S) → List (List ℕ) → Result (List Step) Refusal
+sources_removed p c names =
+    then_ok (checked_names names) (λ _. then_ok (once sources_key (keyword sources_key c.it) (source_marks p c)) (λ marks. then_ok (spots_named marks (distinct names)) (λ spots. Ok (removed (distinct_spots spots)))))
+
+-- ---- extra files
+
+-- what `extra_files:` holds
+abbrev pub extra_marks : {S : Type 0} → Project S → Placed (Call S) → List (Mark S)
+extra_marks p c = (expand_arguments p c.place (λ n. fixed) (keyword extra_key c.it) []).marks
+
+abbrev pub array_with : List ℕ → Expression Nowhere
+array_with name = array (listing tt false (arguments_of (plain (string_of name) ∷ [])))
+
+-- `extra_files: ['NAME']`
+abbrev pub written_keyword : List ℕ → Written (Argument Nowhere)
+written_keyword name = record { bytes = extra_key ++ (codes ": [" ++ (literal name ++ 93 ∷ [])); node = named tt extra_key (array_with name) }
+
+-- the first into a new list, and the others behind it
+abbrev pub into_new_list : {S : Type 0} → Project S → CallRef → List (List ℕ) → List Step
+into_new_list p c [] = []
+into_new_list p c (name ∷ more) =
+    step_in c (After c.path.steps (length (elements_there p c) - 1) (written_keyword name)) ∷ inserted (child c (length (elements_there p c))) 1 more
+
+-- A lone literal is wrapped first. No other value can be changed.
+abbrev pub behind_value : CallRef → ℕ → Option (List ℕ) → List (List ℕ) → Result (List Step) Refusal
+behind_value c n None names = Err (NotLiteral extra_key)
+behind_value c n (Some text) names = Ok (step_in c (Wrap c.path.steps n) ∷ inserted (child c n) 1 names)
+
+abbrev pub without_home : {S : Type 0} → Project S → CallRef → List (Numbered (Expression S)) → List (List ℕ) → Result (List Step) Refusal
+without_home p c [] names = Ok (into_new_list p c names)
+without_home p c (v ∷ more) names = behind_value c v.number (calls.literal v.value) names
+
+-- into the list of the first item that stands in one, or the first list that holds nothing
+abbrev pub extra_inserted : {S : Type 0} → Project S → Placed (Call S) → Option CallRef → List (List ℕ) → Result (List Step) Refusal
+extra_inserted p c list [] = Ok []
+extra_inserted p c None (name ∷ more) = without_home p c.place (keyword extra_key c.it) (name ∷ more)
+extra_inserted p c (Some list) (name ∷ more) = Ok (inserted_in p list (name ∷ more))
+
+abbrev pub checked_extra : {S : Type 0} → Project S → Placed (Call S) → List (List ℕ) → Result (List (Mark S)) Refusal
+checked_extra p c names =
+    then_ok (checked_names names) (λ _. then_ok (not_hidden (keyword kwargs_key c.it)) (λ _. once extra_key (keyword extra_key c.it) (extra_marks p c)))
+
+abbrev pub extra_added : {S : Type 0} → Project S → Placed (Call S) → List (List ℕ) → Result (List Step) Refusal
+extra_added p c names = then_ok (checked_extra p c names) (λ marks. extra_inserted p c (or_option (first_list marks) (first_empty marks)) (new_names marks names))
+
+abbrev pub extra_removed : {S : Type 0} → Project S → Placed (Call S) → List (List ℕ) → Result (List Step) Refusal
+extra_removed p c names = then_ok (checked_extra p c names) (λ marks. then_ok (spots_named marks (distinct names)) (λ spots. Ok (removed (distinct_spots spots))))

@@ -1,0 +1,60 @@
+-- Spots of the code, and those of the items that it keeps.
+use Rattle.std.specs.Prelude.{ℕ, Bool, true, false, List, [], ◌∷◌, ◌++◌, if◌then◌else◌, Option, Some, None, option_map, option_and_then, Result, Ok, Err}
+use Rattle.meson_splice.specs.Patch.{then_ok}
+use Rattle.meson_calls.specs.declared.call.CallRef.{CallRef}
+use Rattle.meson_calls.specs.declared.call.SourceItem.{SourceItem}
+use Rattle.meson_calls.specs.declared.refusal.Refusal.{Refusal}
+use Rattle.meson_sources.specs.SourceEdits.{Spot, none_found, removable}
+use Rattle.meson_sources.specs.declared.removing.Spot as code
+use Rattle.meson_sources.specs.Naming.{has_value}
+use Rattle.meson_calls.specs.Project.{place}
+
+abbrev pub spot_view : code.Spot → Spot
+spot_view s = record { list = place s.file s.list.items; number = s.number }
+
+-- ---- spots of a name
+
+-- the spot of a list and a number, if both are there
+abbrev pub spot_at : Option CallRef → Option ℕ → Option Spot
+spot_at None number = None
+spot_at (Some list) None = None
+spot_at (Some list) (Some number) = Some (record { list = list; number = number })
+
+-- those of the items of a name
+abbrev pub spots_at : List ℕ → List SourceItem → List (Option ℕ) → List (Option Spot)
+spots_at name (i ∷ items) (n ∷ numbers) = if has_value name i then spot_at i.list n ∷ spots_at name items numbers else spots_at name items numbers
+spots_at name _ _ = []
+
+-- all of them, if all are there
+abbrev pub all_there : List (Option Spot) → Option (List Spot)
+all_there [] = Some []
+all_there (s ∷ more) = option_and_then (λ spot. option_map (λ spots. spot ∷ spots) (all_there more)) s
+
+-- of which there has to be one
+abbrev pub spots_from : ℕ → List (Option Spot) → Result (List Spot) Refusal
+spots_from unknown [] = Err (none_found unknown)
+spots_from unknown (s ∷ more) = removable (all_there (s ∷ more))
+
+abbrev pub spots_of_names : List SourceItem → List (Option ℕ) → ℕ → List (List ℕ) → Result (List Spot) Refusal
+spots_of_names items numbers unknown [] = Ok []
+spots_of_names items numbers unknown (name ∷ more) =
+    then_ok (spots_from unknown (spots_at name items numbers)) (λ here. then_ok (spots_of_names items numbers unknown more) (λ later. Ok (here ++ later)))
+
+-- ---- spots after others
+
+-- where a spot stands after each of these has gone, one after the other
+abbrev pub after_each : (Spot → Spot → Spot) → List Spot → Spot → Spot
+after_each after [] s = s
+after_each after (g ∷ gone) s = after_each after gone (after g s)
+
+-- ---- spots gathered behind others
+
+abbrev pub before_all : List Spot → Option (List Spot) → Option (List Spot)
+before_all first more = option_map (λ later. first ++ later) more
+
+abbrev pub behind_all : List Spot → Result (List Spot) Refusal → Result (List Spot) Refusal
+behind_all first more = then_ok more (λ later. Ok (first ++ later))
+
+abbrev pub is_some_there : List (Option Spot) → Bool
+is_some_there [] = false
+is_some_there (s ∷ more) = true

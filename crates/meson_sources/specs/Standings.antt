@@ -1,0 +1,92 @@
+-- Where what a target holds stands in the trees of its project, and that the steps of commands on it may be done.
+use Rattle.std.specs.Prelude.{◌≡◌, ℕ, List, [], All, Some, Result, Ok}
+use Rattle.std.specs.Str.{IsUtf8}
+use Rattle.meson_lex.specs.declared.kinds.Span.{Span}
+use Rattle.meson_syntax.specs.declared.operator.Bracket.TheVariants as bracket
+use Rattle.meson_syntax.specs.declared.operator.StringKind.{StringKind}
+use Rattle.meson_syntax.specs.Paths.{nth}
+use Rattle.meson_syntax.specs.Tree.{Expression, string, plain}
+use Rattle.meson_edit.specs.Edits.{elements}
+use Rattle.meson_calls.specs.declared.call.CallRef.{CallRef}
+use Rattle.meson_calls.specs.declared.call.Role.TheVariants as role
+use Rattle.meson_calls.specs.declared.refusal.Refusal.{Refusal}
+use Rattle.meson_calls.specs.Project.{Project, Placed}
+use Rattle.meson_calls.specs.Calls.{Call, first_argument}
+use Rattle.meson_calls.specs.Expansion.{Slot, in_list, fixed, Mark, known, opaque, empty}
+use Rattle.meson_calls.specs.Sources.{source_marks}
+use Rattle.meson_sources.specs.SourceEdits.{Spot, distinct_spots, removed, extra_marks, sources_added, sources_removed, extra_added, extra_removed}
+use Rattle.meson_calls.specs.Finding.{the_call}
+use Rattle.meson_calls.specs.Loading.{Loaded, AreParsed, project}
+use Rattle.meson_calls.specs.CallPlaces.{ListThere}
+use Rattle.meson_steps.specs.Results.{plain_trees}
+use Rattle.meson_steps.specs.ListSteps.{AreDoable}
+use Rattle.meson_steps.specs.Steps.{Step}
+
+-- ---- places
+
+-- its element of this number is a string
+pub record StringThere (p : Project Span) (c : CallRef) (n : ℕ) : Type 0 where
+  pub there : ListThere p c
+  pub span : Span
+  pub kind : StringKind
+  pub text : List ℕ
+  pub is_string : nth (elements there.list.list) n ≡ Some (plain (string span kind text))
+
+-- it holds nothing
+pub record NothingThere (p : Project Span) (c : CallRef) : Type 0 where
+  pub there : ListThere p c
+  pub is_empty : elements there.list.list ≡ []
+
+-- the call of a target, which has an argument without a name
+pub record TargetThere (p : Project Span) (c : Placed (Call Span)) : Type 0 where
+  pub there : ListThere p c.place
+  pub is_list : there.list.list ≡ c.it.arguments
+  pub is_round : there.list.bracket ≡ bracket.Round
+  pub first : Expression Span
+  pub is_first : first_argument c.it ≡ Some first
+
+abbrev pub SlotStands : Project Span → Slot → Type 0
+SlotStands p (in_list c n) = StringThere p c n
+SlotStands p fixed = Unit {0}
+
+abbrev pub MarkStands : Project Span → Mark Span → Type 0
+MarkStands p (known i) = SlotStands p i.slot
+MarkStands p opaque = Unit {0}
+MarkStands p (empty c) = NothingThere p c
+
+abbrev pub SpotStands : Project Span → Spot → Type 0
+SpotStands p s = StringThere p s.list s.number
+
+-- ---- what stands
+
+abbrev pub TargetsStand : Type 0
+TargetsStand = (p : Project Span) (id : List ℕ) (c : Placed (Call Span)) → the_call p role.Target id ≡ Ok c → TargetThere p c
+
+abbrev pub SourcesStand : Type 0
+SourcesStand = (old : Loaded) → AreParsed old.files old.parsed → (c : Placed (Call Span)) → TargetThere (project old) c → All (MarkStands (project old)) (source_marks (project old) c)
+
+abbrev pub ExtrasStand : Type 0
+ExtrasStand = (old : Loaded) → AreParsed old.files old.parsed → (c : Placed (Call Span)) → TargetThere (project old) c → All (MarkStands (project old)) (extra_marks (project old) c)
+
+-- ---- what may be done
+
+abbrev pub RemovalsDoable : Type 0
+RemovalsDoable = (old : Loaded) → AreParsed old.files old.parsed → (spots : List Spot) → All (SpotStands (project old)) spots → AreDoable (removed (distinct_spots spots)) (plain_trees old)
+
+-- a command whose steps may be done, by what its call holds
+abbrev pub MayBeDone : (Project Span → Placed (Call Span) → List (Mark Span)) → (Project Span → Placed (Call Span) → List (List ℕ) → Result (List Step) Refusal) → Type 0
+MayBeDone marks meant =
+    (old : Loaded) → AreParsed old.files old.parsed → (c : Placed (Call Span)) → TargetThere (project old) c → All (MarkStands (project old)) (marks (project old) c)
+    → (names : List (List ℕ)) → All IsUtf8 names → (steps : List Step) → meant (project old) c names ≡ Ok steps → AreDoable steps (plain_trees old)
+
+abbrev pub SourcesMayBeAdded : Type 0
+SourcesMayBeAdded = MayBeDone source_marks sources_added
+
+abbrev pub SourcesMayBeRemoved : Type 0
+SourcesMayBeRemoved = MayBeDone source_marks sources_removed
+
+abbrev pub ExtrasMayBeAdded : Type 0
+ExtrasMayBeAdded = MayBeDone extra_marks extra_added
+
+abbrev pub ExtrasMayBeRemoved : Type 0
+ExtrasMayBeRemoved = MayBeDone extra_marks extra_removed

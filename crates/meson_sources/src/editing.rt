@@ -1,0 +1,156 @@
+//! The steps of commands on the sources of a target.
+
+ghost use Rattle.std.specs.Prelude.{◌≡◌, ◌≢◌, ◌<◌, ◌≤◌, All, Err, IfErr, IfOk, OnOk, length};
+ghost use Rattle.std.specs.Str.{IsUtf8};
+ghost use Rattle.std.specs.List.{filter};
+ghost use Rattle.meson_syntax.specs.View.{args_view, list_view};
+ghost use Rattle.meson_calls.specs.Calls.{value_with_name};
+ghost use Rattle.meson_calls.specs.GoodLists.{GoodListing};
+ghost use Rattle.meson_calls.specs.Loading.{AreParsed};
+ghost use Rattle.meson_calls.specs.Named.{AreVariables, project_of};
+ghost use Rattle.meson_calls.specs.Picking.{Source, call_with};
+ghost use Rattle.meson_calls.specs.Project.{placed};
+ghost use Rattle.meson_sources.specs.SourceEdits.{is_plain, plain_len, sources_added, sources_removed};
+ghost use Rattle.meson_calls.specs.Sourced.{kept_args};
+ghost use Rattle.meson_steps.specs.Meanings.{AreMeant};
+
+use crate::inserting::{insert, new_names};
+use crate::removing::{removed, spots_of};
+use meson_calls::arguments::{count_named, is_plain};
+use meson_calls::marks::{Marks, text_of_name};
+use meson_calls::sourcing::{MAX_FOLLOWED, home_of, met};
+use meson_calls::variables::Variables;
+use meson_calls::{CallRef, Refusal};
+use meson_splice::Text;
+use meson_steps::names::{checked_names, distinct};
+use meson_steps::step::ListStep;
+use meson_syntax::{Arg, List, Parsed};
+use std::alloc::Global;
+
+/// How many arguments have no name.
+fn count_plain(args: &[Arg]) -> usize
+    ensures { (source : Source) → result ≡ length (filter is_plain (args_view source args.now)) }
+{
+    let mut count = 0;
+    for i in 0..args.len() {
+        if is_plain(&args[i]) {
+            count += 1;
+        }
+    }
+    count
+}
+
+/// How many elements without a name the list at a place has.
+pub(crate) fn plain_len(variables: &Variables<'_>, list: &CallRef) -> usize
+    requires { AreParsed variables.now.files.now variables.now.trees.now }
+    ensures { result ≡ plain_len (project_of variables.now) list.now }
+{
+    let trees = variables.trees;
+    if list.file >= trees.len() {
+        return 0;
+    }
+    match trees[list.file].list_at(&list.path) {
+        Some(list) => count_plain(list.items.get()),
+        None => 0,
+    }
+}
+
+/// Refuses a call that has more than one argument of this name.
+///
+/// # Errors
+/// It has, or memory is refused.
+pub fn at_most_once(
+    alloc: Global,
+    source: &[u8],
+    arguments: &List,
+    key: &[u8],
+) -> Result<(), Refusal>
+    ensures few { OnOk result (length (kept_args source.now (value_with_name key.now) 0 arguments.now.items) ≤ 1) }
+    ensures twice { IfErr result (λ e. e ≢ Refusal.OutOfMemory → (e ≡ Refusal.DuplicateKeyword key.now) × (1 < length (kept_args source.now (value_with_name key.now) 0 arguments.now.items))) }
+{
+    if count_named(source, arguments.items.get(), key) > 1 {
+        let key = text_of_name(alloc, key)?;
+        return Err(Refusal::DuplicateKeyword(key));
+    }
+    Ok(())
+}
+
+/// The steps by which sources are added: into the list of the first of its sources that stands in one.
+///
+/// # Errors
+/// A name is empty, `sources:` is there twice, or memory is refused.
+pub(crate) fn sources_added<'t>(
+    variables: &Variables<'t>,
+    call: &CallRef,
+    source: &'t [u8],
+    arguments: &'t List,
+    names: &[Text],
+) -> Result<Vec<ListStep>, Refusal>
+    requires holds { AreVariables variables.now }
+    requires parsed { AreParsed variables.now.files.now variables.now.trees.now }
+    requires good { GoodListing (list_view source.now arguments.now) }
+    ensures meant { (function : Source) → IfOk result (λ steps. AreMeant (sources_added (project_of variables.now) (placed call.now (call_with function (list_view source.entry.now arguments.entry.now))) names.now) steps.items) }
+    ensures refused { (function : Source) → IfErr result (λ e. e ≢ Refusal.OutOfMemory → sources_added (project_of variables.now) (placed call.now (call_with function (list_view source.entry.now arguments.entry.now))) names.now ≡ Err e) }
+    ensures utf8 { IfOk result (λ steps. All IsUtf8 names.now) }
+{
+    let alloc = variables.alloc;
+    match checked_names(names) {
+        Ok(()) => {}
+        Err(refusal) => return Err(refusal),
+    }
+    match at_most_once(alloc, source, arguments, b"sources".as_slice()) {
+        Ok(()) => {}
+        Err(refusal) => return Err(refusal),
+    }
+    let marks = met(variables, MAX_FOLLOWED, call, source, arguments.items.get())?;
+    let new = new_names(alloc, marks.items.as_slice(), names)?;
+    let Marks {
+        items: _,
+        numbers: _,
+        unknown: _,
+        list,
+        vacant,
+        followed: _,
+    } = marks;
+    let home = home_of(alloc, call, list, vacant)?;
+    let mut steps = Vec::new(alloc);
+    let from = plain_len(variables, &home);
+    insert(alloc, &home, from, new.as_slice(), &mut steps)?;
+    Ok(steps)
+}
+
+/// The steps by which sources are removed, wherever they stand.
+///
+/// # Errors
+/// A name is empty, `sources:` is there twice, a name is none of the sources or one that stands in no list, or memory is refused.
+pub(crate) fn sources_removed<'t>(
+    variables: &Variables<'t>,
+    call: &CallRef,
+    source: &'t [u8],
+    arguments: &'t List,
+    names: &[Text],
+) -> Result<Vec<ListStep>, Refusal>
+    requires holds { AreVariables variables.now }
+    requires good { GoodListing (list_view source.now arguments.now) }
+    ensures meant { (function : Source) → IfOk result (λ steps. AreMeant (sources_removed (project_of variables.now) (placed call.now (call_with function (list_view source.entry.now arguments.entry.now))) names.now) steps.items) }
+    ensures refused { (function : Source) → IfErr result (λ e. e ≢ Refusal.OutOfMemory → sources_removed (project_of variables.now) (placed call.now (call_with function (list_view source.entry.now arguments.entry.now))) names.now ≡ Err e) }
+    ensures utf8 { IfOk result (λ steps. All IsUtf8 names.now) }
+{
+    let alloc = variables.alloc;
+    match checked_names(names) {
+        Ok(()) => {}
+        Err(refusal) => return Err(refusal),
+    }
+    match at_most_once(alloc, source, arguments, b"sources".as_slice()) {
+        Ok(()) => {}
+        Err(refusal) => return Err(refusal),
+    }
+    let marks = met(variables, MAX_FOLLOWED, call, source, arguments.items.get())?;
+    let names = distinct(alloc, names)?;
+    let spots = match spots_of(alloc, &marks, names.as_slice()) {
+        Ok(spots) => spots,
+        Err(refusal) => return Err(refusal),
+    };
+    let steps = removed(alloc, spots.as_slice())?;
+    Ok(steps)
+}

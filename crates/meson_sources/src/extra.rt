@@ -1,0 +1,308 @@
+//! The steps of commands on the extra files of a target.
+
+ghost use Rattle.std.specs.Prelude.{◌≡◌, ◌≢◌, ◌<◌, ◌++◌, ◌∷◌, [], All, Err, IfErr, IfOk, Ok, OnOk, Some, codes, length, map};
+ghost use Rattle.std.specs.Str.{IsUtf8};
+ghost use Rattle.meson_lex.specs.Literals as lex;
+ghost use Rattle.meson_syntax.specs.Grammar.{expression_words};
+ghost use Rattle.meson_syntax.specs.View.{expr_view, list_view};
+ghost use Rattle.meson_calls.specs.Calls.{literal, value_with_name};
+ghost use Rattle.meson_calls.specs.Expansion.{max_followed};
+ghost use Rattle.meson_calls.specs.GoodLists.{GoodArgs, GoodListing};
+ghost use Rattle.meson_steps.specs.ListSteps.{bare};
+ghost use Rattle.meson_calls.specs.Loading.{AreParsed};
+ghost use Rattle.meson_calls.specs.Named.{AreVariables, project_of};
+ghost use Rattle.meson_calls.specs.Picking.{Source, call_with};
+ghost use Rattle.meson_calls.specs.Project.{child, placed};
+ghost use Rattle.meson_sources.specs.SourceEdits.{behind_value, checked_extra, elements_there, extra_added, extra_key, extra_marks, extra_removed};
+ghost use Rattle.meson_calls.specs.Sourced.{kept_args};
+ghost use Rattle.meson_calls.specs.Sources.{or_option};
+ghost use Rattle.meson_calls.specs.Strings.{AreGood};
+ghost use Rattle.meson_calls.specs.Tallies.{gathered};
+ghost use Rattle.meson_sources.specs.Targeted.{extra_gathered, lone_or_new, new_list_steps};
+ghost use Rattle.meson_steps.specs.Meanings.{AreBehind, AreMeant};
+
+use crate::editing::{at_most_once, plain_len};
+use crate::inserting::{insert, new_names};
+use crate::removing::{removed, spots_of};
+use meson_calls::arguments::{count_named, first_named};
+use meson_calls::literals::literal;
+use meson_calls::marks::{Marks, Site, place_of, text_of_name};
+use meson_calls::picking::copy_place;
+use meson_calls::sourcing::MAX_FOLLOWED;
+use meson_calls::variables::Variables;
+use meson_calls::{CallRef, Refusal};
+use meson_splice::{Bytes, Text};
+use meson_steps::literals::push_literal;
+use meson_steps::names::{checked_names, distinct};
+use meson_steps::step::{ListEdit, ListStep, push_step};
+use meson_syntax::{Arg, Expr, List};
+use std::alloc::{AllocError, Global};
+
+/// What `extra_files:` holds.
+fn extra_met<'t>(
+    variables: &Variables<'t>,
+    left: usize,
+    call: &CallRef,
+    source: &'t [u8],
+    args: &'t [Arg],
+) -> Result<Marks<'t>, AllocError>
+    requires holds { AreVariables variables.now }
+    requires good { GoodArgs source.now args.now }
+    ensures { IfOk result (λ marks. gathered marks ≡ extra_gathered (project_of variables.now) left call.now source.entry.now args.entry.now) }
+{
+    let site = Site {
+        file: call.file,
+        source,
+        variable: None,
+    };
+    let mut path = Vec::from_slice(variables.alloc, call.path.steps.get())?;
+    let mut marks = Marks::new(variables.alloc);
+    variables.expand_nameds(
+        left,
+        site,
+        args,
+        b"extra_files".as_slice(),
+        &mut path,
+        &mut marks,
+    )?;
+    Ok(marks)
+}
+
+/// What `extra_files:` holds, where it may be changed.
+///
+/// # Errors
+/// A name is empty, the call may have hidden arguments or has `extra_files:` twice, or memory is refused.
+fn checked_extra<'t>(
+    variables: &Variables<'t>,
+    call: &CallRef,
+    source: &'t [u8],
+    arguments: &'t List,
+    names: &[Text],
+) -> Result<Marks<'t>, Refusal>
+    requires holds { AreVariables variables.now }
+    requires good { GoodListing (list_view source.now arguments.now) }
+    ensures met { IfOk result (λ marks. gathered marks ≡ extra_gathered (project_of variables.now) max_followed call.now source.entry.now arguments.entry.now.items) }
+    ensures checked { (function : Source) → IfOk result (λ marks. checked_extra (project_of variables.now) (placed call.now (call_with function (list_view source.entry.now arguments.entry.now))) names.now ≡ Ok (extra_marks (project_of variables.now) (placed call.now (call_with function (list_view source.entry.now arguments.entry.now))))) }
+    ensures refused { (function : Source) → IfErr result (λ e. e ≢ Refusal.OutOfMemory → checked_extra (project_of variables.now) (placed call.now (call_with function (list_view source.entry.now arguments.entry.now))) names.now ≡ Err e) }
+    ensures utf8 { IfOk result (λ marks. All IsUtf8 names.now) }
+{
+    match checked_names(names) {
+        Ok(()) => {}
+        Err(refusal) => return Err(refusal),
+    }
+    let args = arguments.items.get();
+    if count_named(source, args, b"kwargs".as_slice()) > 0 {
+        return Err(Refusal::HiddenKeywords);
+    }
+    match at_most_once(
+        variables.alloc,
+        source,
+        arguments,
+        b"extra_files".as_slice(),
+    ) {
+        Ok(()) => {}
+        Err(refusal) => return Err(refusal),
+    }
+    let marks = extra_met(variables, MAX_FOLLOWED, call, source, args)?;
+    Ok(marks)
+}
+
+/// `extra_files: ['NAME']`.
+fn written_keyword(alloc: Global, name: &Text) -> Result<Bytes, Refusal>
+    ensures done { IfOk result (λ b. b ≡ extra_key ++ (codes ": [" ++ (lex.literal name.now ++ 93 ∷ []))) }
+    ensures refused { IfErr result (λ e. e ≡ Refusal.OutOfMemory) }
+{
+    let mut out = Vec::new(alloc);
+    out.extend_from_slice(b"extra_files")?;
+    out.extend_from_slice(b": [")?;
+    push_literal(alloc, &mut out, name.get())?;
+    out.extend_from_slice(b"]")?;
+    Ok(Bytes::of(out))
+}
+
+/// The place of the value of the n-th argument of a call.
+fn value_place(alloc: Global, call: &CallRef, number: usize) -> Result<CallRef, AllocError>
+    ensures { IfOk result (λ place. place ≡ child call.now number) }
+{
+    let mut path = Vec::from_slice(alloc, call.path.steps.get())?;
+    path.push(number)?;
+    place_of(alloc, call.file, path.as_slice())
+}
+
+/// Puts the first name into a new list, behind the last of so many arguments, and the others behind it.
+fn into_new_list(
+    alloc: Global,
+    call: &CallRef,
+    arguments: usize,
+    names: &[&Text],
+    steps: &mut Vec<ListStep>,
+) -> Result<(), Refusal>
+    requires { 0 < length names.now }
+    ensures done { OnOk result (map Some steps.new.items ≡ map Some steps.old.items ++ map bare (new_list_steps call.now arguments (map (λ x. x.now) names.now))) }
+    ensures refused { IfErr result (λ e. e ≡ Refusal.OutOfMemory) }
+{
+    let new = written_keyword(alloc, names[0])?;
+    let edit = ListEdit::After(arguments.saturating_sub(1), new);
+    let list = copy_place(alloc, call)?;
+    push_step(steps, list, edit)?;
+    let list = value_place(alloc, call, arguments)?;
+    insert(alloc, &list, 1, &names[1..], steps)
+}
+
+/// Wraps the value of an argument, which has to be a literal, and puts the names behind it.
+///
+/// # Errors
+/// It is no literal, or memory is refused.
+fn behind_value(
+    alloc: Global,
+    source: &[u8],
+    call: &CallRef,
+    number: usize,
+    value: &Expr,
+    names: &[&Text],
+    steps: &mut Vec<ListStep>,
+) -> Result<(), Refusal>
+    requires { AreGood (expression_words (expr_view source.now value.now)) }
+    ensures done { OnOk result (AreBehind (behind_value call.now number (literal (expr_view source.now value.now)) (map (λ x. x.now) names.now)) steps.old.items steps.new.items) }
+    ensures refused { IfErr result (λ e. e ≢ Refusal.OutOfMemory → behind_value call.now number (literal (expr_view source.now value.now)) (map (λ x. x.now) names.now) ≡ Err e) }
+{
+    match literal(alloc, source, value)? {
+        Some(_) => {}
+        None => {
+            let key = text_of_name(alloc, b"extra_files".as_slice())?;
+            return Err(Refusal::NotLiteral(key));
+        }
+    }
+    let list = copy_place(alloc, call)?;
+    push_step(steps, list, ListEdit::Wrap(number))?;
+    let list = value_place(alloc, call, number)?;
+    insert(alloc, &list, 1, names, steps)
+}
+
+/// Puts names into the call where no list is met.
+///
+/// # Errors
+/// `extra_files:` is no literal, or memory is refused.
+fn without_home(
+    alloc: Global,
+    source: &[u8],
+    call: &CallRef,
+    args: &[Arg],
+    names: &[&Text],
+    steps: &mut Vec<ListStep>,
+) -> Result<(), Refusal>
+    requires { GoodArgs source.now args.now }
+    ensures done { OnOk result (AreBehind (lone_or_new call.now (length args.now) (kept_args source.now (value_with_name extra_key) 0 args.now) (map (λ x. x.now) names.now)) steps.old.items steps.new.items) }
+    ensures refused { IfErr result (λ e. e ≢ Refusal.OutOfMemory → lone_or_new call.now (length args.now) (kept_args source.now (value_with_name extra_key) 0 args.now) (map (λ x. x.now) names.now) ≡ Err e) }
+{
+    if names.len() == 0 {
+        return Ok(());
+    }
+    match first_named(source, args, b"extra_files".as_slice()) {
+        Some(number) => {
+            if number >= args.len() {
+                unreachable!();
+            }
+            match &args[number] {
+                Arg::Named { value, .. } => {
+                    behind_value(alloc, source, call, number, value, names, steps)
+                }
+                Arg::Plain(_) => unreachable!(),
+                Arg::Pair { .. } => unreachable!(),
+            }
+        }
+        None => into_new_list(alloc, call, args.len(), names, steps),
+    }
+}
+
+/// The first place that is there.
+fn first_of(list: Option<CallRef>, vacant: Option<CallRef>) -> Option<CallRef>
+    ensures { result ≡ or_option list vacant }
+{
+    match list {
+        Some(place) => Some(place),
+        None => vacant,
+    }
+}
+
+/// The steps by which extra files are added.
+///
+/// # Errors
+/// A name is empty, the call may have hidden arguments, its extra files are there twice or can't be changed, or memory is refused.
+pub(crate) fn extra_added<'t>(
+    variables: &Variables<'t>,
+    call: &CallRef,
+    source: &'t [u8],
+    arguments: &'t List,
+    names: &[Text],
+) -> Result<Vec<ListStep>, Refusal>
+    requires holds { AreVariables variables.now }
+    requires parsed { AreParsed variables.now.files.now variables.now.trees.now }
+    requires good { GoodListing (list_view source.now arguments.now) }
+    requires there { length arguments.now.items ≡ length (elements_there (project_of variables.now) call.now) }
+    ensures meant { (function : Source) → IfOk result (λ steps. AreMeant (extra_added (project_of variables.now) (placed call.now (call_with function (list_view source.entry.now arguments.entry.now))) names.now) steps.items) }
+    ensures refused { (function : Source) → IfErr result (λ e. e ≢ Refusal.OutOfMemory → extra_added (project_of variables.now) (placed call.now (call_with function (list_view source.entry.now arguments.entry.now))) names.now ≡ Err e) }
+    ensures utf8 { IfOk result (λ steps. All IsUtf8 names.now) }
+{
+    let alloc = variables.alloc;
+    let marks = match checked_extra(variables, call, source, arguments, names) {
+        Ok(marks) => marks,
+        Err(refusal) => return Err(refusal),
+    };
+    let new = new_names(alloc, marks.items.as_slice(), names)?;
+    let Marks {
+        items: _,
+        numbers: _,
+        unknown: _,
+        list,
+        vacant,
+        followed: _,
+    } = marks;
+    let mut steps = Vec::new(alloc);
+    match first_of(list, vacant) {
+        Some(home) => {
+            let from = plain_len(variables, &home);
+            insert(alloc, &home, from, new.as_slice(), &mut steps)?;
+            Ok(steps)
+        }
+        None => {
+            let args = arguments.items.get();
+            match without_home(alloc, source, call, args, new.as_slice(), &mut steps) {
+                Ok(()) => Ok(steps),
+                Err(refusal) => Err(refusal),
+            }
+        }
+    }
+}
+
+/// The steps by which extra files are removed, wherever they stand.
+///
+/// # Errors
+/// A name is empty, the call may have hidden arguments or has `extra_files:` twice, a name is none of the extra files or one that stands in no list, or
+/// memory is refused.
+pub(crate) fn extra_removed<'t>(
+    variables: &Variables<'t>,
+    call: &CallRef,
+    source: &'t [u8],
+    arguments: &'t List,
+    names: &[Text],
+) -> Result<Vec<ListStep>, Refusal>
+    requires holds { AreVariables variables.now }
+    requires good { GoodListing (list_view source.now arguments.now) }
+    ensures meant { (function : Source) → IfOk result (λ steps. AreMeant (extra_removed (project_of variables.now) (placed call.now (call_with function (list_view source.entry.now arguments.entry.now))) names.now) steps.items) }
+    ensures refused { (function : Source) → IfErr result (λ e. e ≢ Refusal.OutOfMemory → extra_removed (project_of variables.now) (placed call.now (call_with function (list_view source.entry.now arguments.entry.now))) names.now ≡ Err e) }
+    ensures utf8 { IfOk result (λ steps. All IsUtf8 names.now) }
+{
+    let alloc = variables.alloc;
+    let marks = match checked_extra(variables, call, source, arguments, names) {
+        Ok(marks) => marks,
+        Err(refusal) => return Err(refusal),
+    };
+    let names = distinct(alloc, names)?;
+    let spots = match spots_of(alloc, &marks, names.as_slice()) {
+        Ok(spots) => spots,
+        Err(refusal) => return Err(refusal),
+    };
+    let steps = removed(alloc, spots.as_slice())?;
+    Ok(steps)
+}

@@ -1,0 +1,8 @@
+//! Sources and extra files put into a target and taken out of it.
+#![tactic(auto)]
+
+pub mod editing;
+mod extra;
+mod inserting;
+mod removing;
+pub mod targeting;

@@ -1,0 +1,215 @@
+//! Items taken out of their lists.
+
+ghost use Rattle.std.specs.Prelude.{◌≡◌, ◌≢◌, ◌++◌, ◌∷◌, [], Err, IfErr, IfOk, None, Ok, OnOk, Some, true, length, map, option_map};
+ghost use Rattle.std.specs.List.{list_any};
+ghost use Rattle.meson_steps.specs.ListSteps.{bare};
+ghost use Rattle.meson_sources.specs.Spots.{after_each, all_there, before_all, is_some_there, spot_at, spot_view, spots_at, spots_of_names};
+ghost use Rattle.meson_sources.specs.SourceEdits.{distinct_spots, moved_up, path_after, removed, same_spot, spot_after};
+
+use meson_calls::marks::{Marks, place_of};
+use meson_calls::{CallRef, Refusal, SourceItem};
+use meson_splice::Text;
+use meson_steps::step::{ListEdit, ListStep, push_step};
+use std::alloc::{AllocError, Global};
+
+/// An element of a list: the list's file and path, and the element's number.
+#[derive(Debug, Drop)]
+pub(crate) struct Spot {
+    pub file: usize,
+    pub list: Vec<usize>,
+    pub number: usize,
+}
+
+/// A number behind another one that has gone.
+fn moved_up(gone: usize, number: usize) -> usize
+    ensures { result ≡ moved_up gone number }
+{
+    if gone < number { number - 1 } else { number }
+}
+
+/// A path after this element of a list has gone.
+fn renumber(path: &mut [usize], list: &[usize], gone: usize)
+    ensures { path.new ≡ path_after list.now gone path.old }
+{
+    let depth = list.len();
+    if path.len() > depth && &path[..depth] == list {
+        path[depth] = moved_up(gone, path[depth]);
+    }
+}
+
+/// A spot after another element has gone.
+fn rename(gone: &Spot, spot: &mut Spot)
+    ensures { spot_view spot.new ≡ spot_after (spot_view gone.now) (spot_view spot.old) }
+{
+    if gone.file == spot.file {
+        if gone.list.as_slice() == spot.list.as_slice() {
+            spot.number = moved_up(gone.number, spot.number);
+        }
+        renumber(spot.list.as_mut_slice(), gone.list.as_slice(), gone.number);
+    }
+}
+
+/// A spot after each of these has gone, one after the other.
+fn rename_after(done: &[Spot], spot: &mut Spot)
+    ensures { spot_view spot.new ≡ after_each spot_after (map spot_view done.now) (spot_view spot.old) }
+{
+    for i in 0..done.len() {
+        rename(&done[i], spot);
+    }
+}
+
+fn copy_spot(alloc: Global, spot: &Spot) -> Result<Spot, AllocError>
+    ensures { IfOk result (λ copy. spot_view copy ≡ spot_view spot.now) }
+{
+    let list = Vec::from_slice(alloc, spot.list.as_slice())?;
+    Ok(Spot {
+        file: spot.file,
+        list,
+        number: spot.number,
+    })
+}
+
+/// Whether two spots are one.
+fn is_same(spot: &Spot, other: &Spot) -> bool
+    ensures { result ≡ same_spot (spot_view spot.now) (spot_view other.now) }
+{
+    spot.file == other.file
+        && (spot.list.as_slice() == other.list.as_slice() && spot.number == other.number)
+}
+
+/// Whether a spot is one of these.
+fn is_among(others: &[&Spot], spot: &Spot) -> bool
+    ensures { result ≡ list_any (same_spot (spot_view spot.now)) (map (λ x. spot_view x.now) others.now) }
+{
+    for i in 0..others.len() {
+        if is_same(spot, others[i]) {
+            return true;
+        }
+    }
+    false
+}
+
+/// Each spot once, where it comes first.
+fn distinct_spots<'s>(alloc: Global, found: &'s [Spot]) -> Result<Vec<&'s Spot>, AllocError>
+    ensures { IfOk result (λ all. map (λ x. spot_view x.now) all.items ≡ distinct_spots (map spot_view found.now)) }
+{
+    let mut all = Vec::new(alloc);
+    for i in 0..found.len() {
+        if !is_among(all.as_slice(), &found[i]) {
+            all.push(&found[i])?;
+        }
+    }
+    Ok(all)
+}
+
+/// The steps by which elements go one after the other, each from where it stands then.
+fn removals(alloc: Global, spots: &[&Spot]) -> Result<Vec<ListStep>, AllocError>
+    ensures { IfOk result (λ steps. map Some steps.items ≡ map bare (removed (map (λ x. spot_view x.now) spots.now))) }
+{
+    let mut done = Vec::new(alloc);
+    let mut steps = Vec::new(alloc);
+    for i in 0..spots.len() {
+        let mut spot = copy_spot(alloc, spots[i])?;
+        rename_after(done.as_slice(), &mut spot);
+        let list = place_of(alloc, spot.file, spot.list.as_slice())?;
+        let edit = ListEdit::Remove(spot.number);
+        push_step(&mut steps, list, edit)?;
+        done.push(spot)?;
+    }
+    Ok(steps)
+}
+
+/// The steps by which the elements at these spots go, each once.
+pub(crate) fn removed(alloc: Global, spots: &[Spot]) -> Result<Vec<ListStep>, AllocError>
+    ensures { IfOk result (λ steps. map Some steps.items ≡ map bare (removed (distinct_spots (map spot_view spots.now)))) }
+{
+    let all = distinct_spots(alloc, spots)?;
+    removals(alloc, all.as_slice())
+}
+
+/// Where an item stands, if it stands in a list.
+fn spot_of(
+    alloc: Global,
+    list: &Option<CallRef>,
+    number: Option<usize>,
+) -> Result<Option<Spot>, AllocError>
+    ensures { IfOk result (λ spot. option_map spot_view spot ≡ spot_at list.now number) }
+{
+    match (list, number) {
+        (Some(place), Some(number)) => {
+            let list = Vec::from_slice(alloc, place.path.steps.get())?;
+            Ok(Some(Spot {
+                file: place.file,
+                list,
+                number,
+            }))
+        }
+        _ => Ok(None),
+    }
+}
+
+fn push_spot(spots: &mut Vec<Spot>, spot: Spot) -> Result<(), AllocError>
+    ensures { OnOk result (spots.new.items ≡ spots.old.items ++ spot ∷ []) }
+{
+    spots.push(spot)?;
+    Ok(())
+}
+
+/// Adds where the items of a name stand, and tells whether there is one.
+///
+/// # Errors
+/// One of them stands in no list, or memory is refused.
+fn find_spots(
+    alloc: Global,
+    marks: &Marks<'_>,
+    name: &Text,
+    spots: &mut Vec<Spot>,
+) -> Result<bool, Refusal>
+    requires { length marks.now.numbers.items ≡ length marks.now.items.items }
+    ensures found { OnOk result (before_all (map spot_view spots.old.items) (all_there (spots_at name.now marks.now.items.items marks.now.numbers.items)) ≡ Some (map spot_view spots.new.items)) }
+    ensures some { IfOk result (λ b. b ≡ is_some_there (spots_at name.now marks.now.items.items marks.now.numbers.items)) }
+    ensures refused { IfErr result (λ e. e ≢ Refusal.OutOfMemory → (e ≡ Refusal.NotRemovable) × (all_there (spots_at name.now marks.now.items.items marks.now.numbers.items) ≡ None)) }
+    ensures there { IfErr result (λ e. e ≢ Refusal.OutOfMemory → is_some_there (spots_at name.now marks.now.items.items marks.now.numbers.items) ≡ true) }
+{
+    let mut found = false;
+    for i in 0..marks.items.len() {
+        let item = &marks.items[i];
+        if item.value == *name {
+            let Some(spot) = spot_of(alloc, &item.list, marks.numbers[i])? else {
+                return Err(Refusal::NotRemovable);
+            };
+            push_spot(spots, spot)?;
+            found = true;
+        }
+    }
+    Ok(found)
+}
+
+/// Where all items of names stand.
+///
+/// # Errors
+/// A name is none of the items, or one of them stands in no list, or memory is refused.
+pub(crate) fn spots_of(
+    alloc: Global,
+    marks: &Marks<'_>,
+    names: &[&Text],
+) -> Result<Vec<Spot>, Refusal>
+    requires { length marks.now.numbers.items ≡ length marks.now.items.items }
+    ensures found { IfOk result (λ spots. spots_of_names marks.now.items.items marks.now.numbers.items marks.now.unknown (map (λ x. x.now) names.now) ≡ Ok (map spot_view spots.items)) }
+    ensures refused { IfErr result (λ e. e ≢ Refusal.OutOfMemory → spots_of_names marks.now.items.items marks.now.numbers.items marks.now.unknown (map (λ x. x.now) names.now) ≡ Err e) }
+{
+    let mut spots = Vec::new(alloc);
+    for i in 0..names.len() {
+        let found = match find_spots(alloc, marks, names[i], &mut spots) {
+            Ok(found) => found,
+            Err(refusal) => return Err(refusal),
+        };
+        if !found {
+            if marks.unknown > 0 {
+                return Err(Refusal::Unresolved);
+            }
+            return Err(Refusal::SourceNotFound);
+        }
+    }
+    Ok(spots)
+}

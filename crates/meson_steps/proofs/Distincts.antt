@@ -1,0 +1,58 @@
+-- Names each once, gathered one after another; and a list of references that is filtered by what they point to.
+use Rattle.std.proofs.Common.{◌≡◌, ℕ, ◌+◌, ◌<◌, List, [], ◌∷◌, ◌++◌, length, get_or, drop, map, refl, sym, ap, ◌∙◌}
+use Rattle.std.specs.Prelude.{Bool, true, false, bytes_eq, reverse, if◌then◌else◌}
+use Rattle.std.specs.List.{filter, list_any}
+use Rattle.std.proofs.Math.Seq.{drop-cons}
+use Rattle.std.proofs.Common.{add-one}
+use Rattle.std.proofs.lemmas.List.{append_assoc, reverse-append}
+use Rattle.std.proofs.lemmas.List.Sorted.{list_any-IsPermutation, IsPermutation-reverse}
+use Rattle.std.proofs.Common.{IsUtf8}
+use Rattle.std.specs.Prelude.{All}
+use Rattle.std.proofs.lemmas.List.Elements.{All-head, All-tail, All-cons}
+use Rattle.meson_calls.specs.Roles.{one_of}
+use Rattle.meson_steps.specs.Names.{distinct_by}
+
+turned : (f : List ℕ → Bool) (xs : List (List ℕ)) → list_any f (reverse xs) ≡ list_any f xs
+turned f xs = sym (list_any-IsPermutation f xs (reverse xs) (IsPermutation-reverse xs))
+
+module _ (all : List (List ℕ)) (x : List ℕ) (xs : List (List ℕ)) where
+  one_more : list_any (λ y. bytes_eq y x) all ≡ false → (all ++ x ∷ []) ++ distinct_by (reverse (all ++ x ∷ [])) xs ≡ all ++ distinct_by (reverse all) (x ∷ xs)
+  one_more unseen =
+      ap (λ r. (all ++ x ∷ []) ++ distinct_by r xs) (reverse-append all (x ∷ []))
+      ∙ append_assoc all (x ∷ []) (distinct_by (x ∷ reverse all) xs)
+      ∙ ap (λ b. all ++ (if b then distinct_by (reverse all) xs else x ∷ distinct_by (x ∷ reverse all) xs)) (sym (turned (λ y. bytes_eq y x) all ∙ unseen))
+
+  no_more : list_any (λ y. bytes_eq y x) all ≡ true → all ++ distinct_by (reverse all) xs ≡ all ++ distinct_by (reverse all) (x ∷ xs)
+  no_more seen = ap (λ b. all ++ (if b then distinct_by (reverse all) xs else x ∷ distinct_by (x ∷ reverse all) xs)) (sym (turned (λ y. bytes_eq y x) all ∙ seen))
+
+module _ (names : List (List ℕ)) (i : ℕ) (d : List ℕ) (within : i < length names) (all : List (List ℕ)) where
+  abbrev here : List ℕ
+  here = get_or names i d
+
+  rest_is : drop i names ≡ here ∷ drop (i + 1) names
+  rest_is = drop-cons names i d within ∙ ap (λ k. here ∷ drop k names) (sym (add-one i))
+
+  pub distinct_more : list_any (λ y. bytes_eq y here) all ≡ false → (all ++ here ∷ []) ++ distinct_by (reverse (all ++ here ∷ [])) (drop (i + 1) names) ≡ all ++ distinct_by (reverse all) (drop i names)
+  distinct_more unseen = one_more all here (drop (i + 1) names) unseen ∙ ap (λ ys. all ++ distinct_by (reverse all) ys) (sym rest_is)
+
+  pub distinct_same : list_any (λ y. bytes_eq y here) all ≡ true → all ++ distinct_by (reverse all) (drop (i + 1) names) ≡ all ++ distinct_by (reverse all) (drop i names)
+  distinct_same seen = no_more all here (drop (i + 1) names) seen ∙ ap (λ ys. all ++ distinct_by (reverse all) ys) (sym rest_is)
+
+pub filter_under : {X Y : Type 0} (g : X → Y) (test : Y → Bool) (xs : List X) → map g (filter (λ x. test (g x)) xs) ≡ filter test (map g xs)
+filter_under g test [] = refl
+filter_under g test (x ∷ xs) = elim (test (g x)) as (λ b. map g (if b then x ∷ filter (λ y. test (g y)) xs else filter (λ y. test (g y)) xs) ≡ (if b then g x ∷ filter test (map g xs) else filter test (map g xs))) [
+  | true ↦ ap (λ ys. g x ∷ ys) (filter_under g test xs)
+  | false ↦ filter_under g test xs
+]
+
+-- ---- texts
+
+pub distinct_texts : (seen names : List (List ℕ)) → All IsUtf8 names → All IsUtf8 (distinct_by seen names)
+distinct_texts seen [] all = all
+distinct_texts seen (x ∷ xs) all =
+    let rest = All-tail IsUtf8 x xs all in
+    go (one_of seen x) (distinct_texts seen xs rest) (distinct_texts (x ∷ seen) xs rest)
+  where
+    go : (b : Bool) → All IsUtf8 (distinct_by seen xs) → All IsUtf8 (distinct_by (x ∷ seen) xs) → All IsUtf8 (if b then distinct_by seen xs else x ∷ distinct_by (x ∷ seen) xs)
+    go true without more = without
+    go false without more = All-cons IsUtf8 x (distinct_by (x ∷ seen) xs) (All-head IsUtf8 x xs all) more

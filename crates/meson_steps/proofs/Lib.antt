@@ -1,0 +1,27 @@
+mod BlockNodes
+mod StatementsThere
+pub mod ArgumentValues
+pub mod WithOne
+pub mod OtherBytes
+mod Spliced
+mod WorkTrees
+mod WithinExpressions
+mod WithinFiles
+mod PatchedFiles
+pub mod WorkKnown
+mod StepPlaces
+pub mod OneMoreStep
+mod OneStep
+pub mod StepTaken
+mod WorkLimits
+pub mod UnderWay
+mod AllReached
+pub mod ListParts
+pub mod SameRead
+pub mod Distincts
+pub mod Insertable
+pub mod PlainTrees
+pub mod SetLiterals
+pub mod StepsDoable
+pub mod WentWell
+pub mod Spellings

@@ -1,0 +1,229 @@
+-- One step of those that may be done one after another.
+use Rattle.std.proofs.Common.{◌≡◌, ℕ, ◌+◌, ◌<◌, ◌≤◌, List, [], ◌∷◌, ◌++◌, length, get_or, append-nil, refl, sym, ap, ◌∙◌, subst, arith}
+use Rattle.std.specs.Prelude.{All, None, Some, Ok}
+use Rattle.std.specs.Str.{IsUtf8}
+use Rattle.meson_lex.specs.declared.kinds.Span.{Span}
+use Rattle.meson_lex.specs.Items.{Lexeme, IsItemList}
+use Rattle.meson_layout.specs.declared.primitive.Primitive.{Primitive}
+use Rattle.meson_layout.specs.Edited.{patched_by}
+use Rattle.meson_layout.specs.Layout.{IsPlaced, IsReady, layout_of, pieces}
+use Rattle.meson_splice.specs.declared.file_set.File.{File}
+use Rattle.meson_splice.specs.declared.splice.Splice.{Splice}
+use Rattle.meson_splice.specs.Files.{IsDistinct, bytes_at, with_bytes}
+use Rattle.meson_splice.specs.Patch.{patched_all}
+use Rattle.meson_syntax.specs.declared.source.Limits.{Limits}
+use Rattle.meson_syntax.specs.declared.tree.Parsed.{Parsed}
+use Rattle.meson_syntax.specs.Grammar.{file_depth}
+use Rattle.meson_syntax.specs.Reads.{IsSpannedWithin, ReadsWithin, Spells, wide}
+use Rattle.meson_syntax.specs.Tree as tree
+use Rattle.meson_syntax.specs.Tree.{Plain, erase}
+use Rattle.meson_syntax.specs.View.{view}
+use Rattle.meson_syntax.proofs.exchange.Standing.{spelled-reads}
+use Rattle.meson_syntax.proofs.parsing.Answers.{reads-found}
+use Rattle.meson_syntax.proofs.parsing.Steps.{some-injective}
+use Rattle.meson_edit.specs.Edits.{edited}
+use Rattle.meson_edit.specs.Laws.{Makes}
+use Rattle.meson_steps.specs.declared.step.ListStep.{ListStep}
+use Rattle.meson_steps.specs.declared.work.Work.{Work}
+use Rattle.meson_steps.specs.ListSteps.{AreDoable, MayStand, bare}
+use Rattle.meson_calls.specs.Loading.{HasFileName, Loaded, max_files, name_at}
+use Rattle.meson_steps.specs.OtherValues.{with_one, with_some}
+use Rattle.meson_steps.specs.Results.{plain_trees, saturated}
+use Rattle.meson_steps.specs.Steps.{Step, StepsMake, Laid, effective, read_again}
+use Rattle.meson_steps.specs.Working.{AreKnown, IsChanged, MayChange, Reached, placed_edit, so_far}
+use Rattle.meson_steps.proofs.PatchedFiles.{OfFile, all_patched, distinct_with, effective_of_file, effective_patches, of_file}
+use Rattle.meson_steps.proofs.StepPlaces.{every_edit, next_doable, step_code, NextDoable, IsCode}
+use Rattle.meson_steps.proofs.OneMoreStep.{saturated_more, stepped_more, steps_more}
+use Rattle.meson_steps.proofs.OtherBytes.{as_many_files, as_many_plain, bytes_there, named_with, plain_at, plain_with}
+use Rattle.meson_steps.proofs.WithOne.{ChangedAt, all_at, changed_from, with_same}
+use Rattle.meson_steps.proofs.WorkKnown.{AsMany, IsKnown, as_many_known, known_at, known_with, some_with}
+
+-- a text spells one tree, however deep it nests
+one_spelled : (bytes : List ℕ) (s t : Plain) → IsUtf8 bytes → Spells bytes s → Spells bytes t → s ≡ t
+one_spelled bytes s t utf8 p q =
+    let limits : Limits = record { len = None; depth = file_depth s + file_depth t } in
+    let ps : ReadsWithin limits bytes s = spelled-reads limits bytes s p utf8 tt (omega arith) in
+    let qs : ReadsWithin limits bytes t = spelled-reads limits bytes t q utf8 tt (omega arith) in
+    let f = reads-found limits bytes p.items ps.source p.are_items s ps in
+    let g = reads-found limits bytes p.items ps.source p.are_items t qs in
+    let same : f.0 ≡ g.0 = some-injective _ _ (sym f.2 ∙ g.2) in
+    sym f.1 ∙ ap erase same ∙ g.1
+
+pub read_some : (splices : List Splice) (i : ℕ) (files : List File) → (splices ≡ [] → ⊥) → read_again splices i files ≡ length (bytes_at i files)
+read_some [] i files some = absurd (some refl)
+read_some (s ∷ splices) i files some = refl
+
+module _ (old : Loaded) (w : Work) (before rest : List Step) (s : Step) (r : Reached old before (s ∷ rest) w) where
+  abbrev pub files : List File
+  files = w.files
+
+  abbrev pub i : ℕ
+  i = s.file
+
+  abbrev pub parsed : List Parsed
+  parsed = with_some w.trees.items old.parsed
+
+  abbrev pub plain : List Plain
+  plain = plain_trees (so_far old w)
+
+  abbrev pub bytes : List ℕ
+  bytes = bytes_at i files
+
+  abbrev pub name : List ℕ
+  name = name_at i files
+
+  pub many : AsMany files w.trees.items old.parsed
+  many = as_many_known files w.trees.items old.parsed r.known
+
+  pub next : NextDoable s rest plain
+  next = next_doable s rest plain r.doable
+
+  pub changed : ChangedAt (edited s.edit) i plain next.between
+  changed = changed_from (edited s.edit) plain next.between i next.is
+
+  -- ---- the place
+
+  pub in_files : i < length files
+  in_files =
+      let within = changed.within in
+      let all = as_many_plain files parsed many.in_all in
+      let alike = many.in_all in
+      omega (arith, within, all, alike)
+
+  pub in_trees : i < length w.trees.items
+  in_trees = let inside = in_files in let alike = many.in_new in omega (arith, inside, alike)
+
+  pub in_old : i < length old.parsed
+  in_old = let inside = in_files in let alike = many.in_old in omega (arith, inside, alike)
+
+  module _ (t : Parsed) (there : t ≡ get_or parsed i t) where
+    abbrev pub f : tree.File Span
+    f = view bytes t
+
+    pub is_known : IsKnown bytes f
+    is_known = subst (λ u. IsKnown bytes (view bytes u)) (sym there) (known_at files w.trees.items old.parsed i t r.known in_files)
+
+    abbrev pub items : List Lexeme
+    items = is_known.spanned.reads.spells.items
+
+    are_items : IsItemList bytes items
+    are_items = is_known.spanned.reads.spells.are_items
+
+    in_all : i < length parsed
+    in_all = let inside = in_files in let alike = many.in_all in omega (arith, inside, alike)
+
+    plain_is : get_or plain i (erase f) ≡ erase f
+    plain_is = plain_at files parsed i t (erase f) many.in_all in_all ∙ ap (λ u. erase (view bytes u)) (sym there)
+
+    edited_is : edited s.edit (erase f) ≡ Some changed.new
+    edited_is = ap (edited s.edit) (sym plain_is) ∙ changed.is (erase f)
+
+    stands : MayStand changed.new
+    stands = all_at MayStand plain i changed.new changed.within (subst (All MayStand) changed.are next.stand)
+
+    pub made : Makes bytes f items name s.edit changed.new
+    made = every_edit s.edit is_known.limits bytes f is_known.spanned items are_items name next.writes changed.new edited_is stands.0
+
+    -- ---- the layout
+
+    module _ (step : ListStep) (is : bare s ≡ Some step) where
+      code : IsCode f s step
+      code = step_code f s step is
+
+      pub laid_is : placed_edit f step.list.path.steps step.edit ≡ Some made.primitive
+      laid_is = code.laid ∙ made.is_primitive
+
+      pub is_ready : (p : Primitive) → Some p ≡ placed_edit f step.list.path.steps step.edit → IsReady bytes p
+      is_ready p laid = record { items = items; are_items = are_items; placed = subst (λ q. IsPlaced q items) (some-injective _ _ (sym laid_is ∙ sym laid)) made.placed }
+
+      pub splices_are : (p : Primitive) → Some p ≡ placed_edit f step.list.path.steps step.edit → (splices : List Splice) → ((list : List Lexeme) → IsItemList bytes list → splices ≡ effective (layout_of name list p))
+          → splices ≡ effective (layout_of name items made.primitive)
+      splices_are p laid splices are = are items are_items ∙ ap (λ q. effective (layout_of name items q)) (some-injective _ _ (laid ∙ laid_is))
+
+    module _ (splices : List Splice) (are : splices ≡ effective (layout_of name items made.primitive)) where
+      laid : Laid files s splices
+      laid = record { file = f; limits = is_known.limits; spanned = is_known.spanned; items = items; are_items = are_items; primitive = made.primitive; is_primitive = made.is_primitive; is_layout = are }
+
+      patches : patched_by bytes splices ≡ Ok made.text
+      patches = ap (patched_by bytes) are ∙ effective_patches bytes made.text (layout_of name items made.primitive) made.patches
+
+      one_file : OfFile name splices
+      one_file = subst (OfFile name) (sym are) (effective_of_file name (layout_of name items made.primitive) (of_file name 0 (pieces made.primitive items)))
+
+      all_made : patched_all files splices ≡ Ok (with_bytes i made.text files)
+      all_made = all_patched files i made.text splices r.distinct in_files one_file patches
+
+      pub may_change : MayChange w i splices
+      may_change =
+          let reads : ReadsWithin wide made.text changed.new = spelled-reads wide made.text changed.new made.spells made.utf8 tt stands.1 in
+          record { files = with_bytes i made.text files; is = all_made; tree = changed.new; reads = subst (λ b. ReadsWithin wide b changed.new) (sym (bytes_there files i made.text in_files)) reads }
+
+      -- ---- nothing new
+
+      pub same_reached : splices ≡ [] → Reached old (before ++ s ∷ []) rest w
+      same_reached empty =
+          let text_same : made.text ≡ bytes = let h = sym patches ∙ ap (patched_by bytes) empty in cc in
+          let spells = subst (λ b. Spells b changed.new) text_same made.spells in
+          let tree_same : changed.new ≡ erase f = one_spelled bytes changed.new (erase f) is_known.spanned.reads.source.utf8 spells is_known.spanned.reads.spells in
+          let back : next.between ≡ plain = changed.are ∙ ap (λ t. with_one i t plain) (tree_same ∙ sym plain_is) ∙ with_same plain i (erase f) in
+          let none = subst (Laid files s) empty laid in
+          let count : r.made.bytes + 0 ≡ r.made.bytes = omega arith in
+          let done = steps_more old.files files files before s w.splices.items [] r.made.bytes r.made.are_done none refl in record {
+            made = record {
+              bytes = r.made.bytes;
+              are_trees = stepped_more before s (plain_trees old) plain plain r.made.are_trees (next.is ∙ ap Some back);
+              are_done = subst (λ n. StepsMake old.files (before ++ s ∷ []) w.splices.items files n) count (subst (λ ss. StepsMake old.files (before ++ s ∷ []) ss files (r.made.bytes + 0)) (simp append-nil) done);
+              is_relexed = r.made.is_relexed;
+            };
+            doable = subst (AreDoable rest) back next.doable;
+            known = r.known;
+            distinct = r.distinct;
+            few = r.few;
+            named = r.named;
+          }
+
+      -- ---- another text
+
+      module _ (some : splices ≡ [] → ⊥) (new : Work) (c : IsChanged w new i splices) where
+        files_are : new.files ≡ with_bytes i made.text files
+        files_are = let h = sym c.are_files ∙ all_made in cc
+
+        text_is : bytes_at i new.files ≡ made.text
+        text_is = ap (bytes_at i) files_are ∙ bytes_there files i made.text in_files
+
+        read : IsSpannedWithin wide made.text (view made.text c.tree)
+        read = subst (λ b. IsSpannedWithin wide b (view b c.tree)) text_is c.is_read
+
+        tree_is : changed.new ≡ erase (view made.text c.tree)
+        tree_is = one_spelled made.text changed.new (erase (view made.text c.tree)) made.utf8 made.spells read.reads.spells
+
+        parsed_are : with_some new.trees.items old.parsed ≡ with_one i c.tree parsed
+        parsed_are = ap (λ ts. with_some ts old.parsed) c.are_trees ∙ some_with w.trees.items old.parsed i c.tree (many.in_new ∙ sym many.in_old)
+
+        plain_are : next.between ≡ plain_trees (so_far old new)
+        plain_are =
+            changed.are ∙ ap (λ t. with_one i t plain) tree_is ∙ sym (plain_with files parsed i made.text c.tree many.in_all)
+            ∙ ap (λ fs. plain_trees (record { files = fs; parsed = with_one i c.tree parsed })) (sym files_are)
+            ∙ ap (λ ts. plain_trees (record { files = new.files; parsed = ts })) (sym parsed_are)
+
+        relexed_is : new.relexed ≡ saturated (r.made.bytes + read_again splices i new.files)
+        relexed_is =
+            c.is_relexed ∙ ap (λ n. saturated (n + length (bytes_at i new.files))) r.made.is_relexed ∙ saturated_more r.made.bytes (length (bytes_at i new.files))
+            ∙ ap (λ n. saturated (r.made.bytes + n)) (sym (read_some splices i new.files some))
+
+        pub new_reached : Reached old (before ++ s ∷ []) rest new
+        new_reached = record {
+          made = record {
+            bytes = r.made.bytes + read_again splices i new.files;
+            are_trees = stepped_more before s (plain_trees old) plain (plain_trees (so_far old new)) r.made.are_trees (next.is ∙ ap Some plain_are);
+            are_done = subst (λ ss. StepsMake old.files (before ++ s ∷ []) ss new.files (r.made.bytes + read_again splices i new.files)) (sym c.are_splices)
+                (steps_more old.files files new.files before s w.splices.items splices r.made.bytes r.made.are_done laid c.are_files);
+            is_relexed = relexed_is;
+          };
+          doable = subst (AreDoable rest) plain_are next.doable;
+          known = subst (λ fs. AreKnown fs new.trees.items old.parsed) (sym files_are)
+              (subst (λ ts. AreKnown (with_bytes i made.text files) ts old.parsed) (sym c.are_trees) (known_with files w.trees.items old.parsed i made.text c.tree r.known in_files read));
+          distinct = subst IsDistinct (sym files_are) (distinct_with files i made.text r.distinct);
+          few = subst (λ fs. length fs ≤ max_files) (sym files_are) (subst (λ n. n ≤ max_files) (sym (as_many_files files i made.text)) r.few);
+          named = subst (All HasFileName) (sym files_are) (named_with files i made.text r.named);
+        }

@@ -1,0 +1,55 @@
+-- Files of which one has other bytes, and their trees of which one is another one.
+use Rattle.std.proofs.Common.{◌≡◌, ℕ, zero, suc, ◌<◌, List, [], ◌∷◌, map, length, get_or, refl, ap, arith}
+use Rattle.std.specs.Prelude.{All}
+use Rattle.std.proofs.lemmas.List.Elements.{All-cons, All-head, All-tail}
+use Rattle.meson_splice.specs.declared.file_set.File.{File}
+use Rattle.meson_splice.specs.Files.{bytes_at, with_bytes}
+use Rattle.meson_syntax.specs.declared.tree.Parsed.{Parsed}
+use Rattle.meson_syntax.specs.Tree.{Plain, erase}
+use Rattle.meson_syntax.specs.View.{view}
+use Rattle.meson_calls.specs.Loading.{HasFileName, views}
+use Rattle.meson_steps.specs.OtherValues.{with_one}
+
+-- ---- files
+
+pub bytes_there : (files : List File) (i : ℕ) (text : List ℕ) → i < length files → bytes_at i (with_bytes i text files) ≡ text
+bytes_there [] i text within = absurd (omega (arith, within))
+bytes_there (f ∷ files) zero text within = refl
+bytes_there (f ∷ files) (suc i) text within = let below : i < length files = omega (arith, within) in bytes_there files i text below
+
+pub as_many_files : (files : List File) (i : ℕ) (text : List ℕ) → length (with_bytes i text files) ≡ length files
+as_many_files [] i text = refl
+as_many_files (f ∷ files) zero text = refl
+as_many_files (f ∷ files) (suc i) text = ap suc (as_many_files files i text)
+
+pub named_with : (files : List File) (i : ℕ) (text : List ℕ) → All HasFileName files → All HasFileName (with_bytes i text files)
+named_with [] i text all = all
+named_with (f ∷ files) zero text all = All-cons HasFileName (record f { bytes = text }) files (All-head HasFileName f files all) (All-tail HasFileName f files all)
+named_with (f ∷ files) (suc i) text all = All-cons HasFileName f (with_bytes i text files) (All-head HasFileName f files all) (named_with files i text (All-tail HasFileName f files all))
+
+-- ---- files with their trees
+
+pub plain_at : (files : List File) (trees : List Parsed) (i : ℕ) (d : Parsed) (p : Plain) → length trees ≡ length files → i < length trees
+    → get_or (map erase (views files trees)) i p ≡ erase (view (bytes_at i files) (get_or trees i d))
+plain_at files [] i d p many within = absurd (omega (arith, within))
+plain_at [] (t ∷ trees) i d p many within = absurd (omega (arith, many))
+plain_at (f ∷ files) (t ∷ trees) zero d p many within = refl
+plain_at (f ∷ files) (t ∷ trees) (suc i) d p many within =
+    let alike : length trees ≡ length files = omega (arith, many) in
+    let below : i < length trees = omega (arith, within) in
+    plain_at files trees i d p alike below
+
+pub as_many_plain : (files : List File) (trees : List Parsed) → length trees ≡ length files → length (map erase (views files trees)) ≡ length trees
+as_many_plain [] [] many = refl
+as_many_plain [] (t ∷ trees) many = absurd (omega (arith, many))
+as_many_plain (f ∷ files) [] many = refl
+as_many_plain (f ∷ files) (t ∷ trees) many = let alike : length trees ≡ length files = omega (arith, many) in ap suc (as_many_plain files trees alike)
+
+pub plain_with : (files : List File) (trees : List Parsed) (i : ℕ) (text : List ℕ) (tree : Parsed) → length trees ≡ length files
+    → map erase (views (with_bytes i text files) (with_one i tree trees)) ≡ with_one i (erase (view text tree)) (map erase (views files trees))
+plain_with [] [] i text tree many = refl
+plain_with [] (t ∷ trees) i text tree many = absurd (omega (arith, many))
+plain_with (f ∷ files) [] i text tree many = absurd (omega (arith, many))
+plain_with (f ∷ files) (t ∷ trees) zero text tree many = refl
+plain_with (f ∷ files) (t ∷ trees) (suc i) text tree many =
+    let alike : length trees ≡ length files = omega (arith, many) in ap (λ ts. erase (view f.bytes t) ∷ ts) (plain_with files trees i text tree alike)

@@ -1,0 +1,89 @@
+-- One step as the code takes it: by the number of its file and the tree that it reads there.
+use Rattle.std.proofs.Common.{◌≡◌, ℕ, ◌<◌, List, [], ◌∷◌, ◌++◌, length, get_or, sym, ap, ◌∙◌, subst, arith}
+use Rattle.std.specs.Prelude.{true, false, ◌==◌, OnOk, Option, Result, Some, None, Ok, Err, option_map}
+use Rattle.std.proofs.lemmas.Bool.{eqb-true}
+use Rattle.meson_lex.specs.Items.{Lexeme, IsItemList}
+use Rattle.meson_layout.specs.declared.primitive.Primitive.{Primitive}
+use Rattle.meson_layout.specs.Layout.{IsReady, layout_of}
+use Rattle.meson_splice.specs.declared.file_set.File.{File}
+use Rattle.meson_splice.specs.declared.splice.Splice.{Splice}
+use Rattle.meson_splice.specs.Files.{bytes_at}
+use Rattle.meson_syntax.specs.declared.tree.Parsed.{Parsed}
+use Rattle.meson_syntax.specs.View.{view}
+use Rattle.meson_steps.specs.declared.step.ListEdit.{ListEdit}
+use Rattle.meson_steps.specs.declared.step.ListStep.{ListStep}
+use Rattle.meson_steps.specs.declared.work.Work.{Work}
+use Rattle.meson_steps.specs.ListSteps.{bare, bare_edit, path_of}
+use Rattle.meson_calls.specs.Loading.{Loaded, name_at}
+use Rattle.meson_calls.specs.Project.{place}
+use Rattle.meson_steps.specs.Steps.{Step, effective}
+use Rattle.meson_steps.specs.Working.{IsChanged, MayChange, Reached, placed_edit}
+use Rattle.meson_steps.specs.OtherValues.{with_some}
+use Rattle.meson_calls.proofs.Loads.{nth_name}
+use Rattle.meson_steps.proofs.OneStep.{in_files, in_trees, in_old, is_ready, items, laid_is, made, may_change, new_reached, same_reached, splices_are}
+
+pub when_ok : {X E P Q : Type 0} (r : Result X E) → (P → Q) → OnOk r P → OnOk r Q
+when_ok (Ok x) then p = then p
+when_ok (Err e) then p = tt
+
+pub empty_list : (xs ys : List Splice) → xs ≡ ys → true ≡ (length xs == 0) → ys ≡ []
+empty_list [] ys is empty = sym is
+empty_list (x ∷ xs) ys is empty = let none : length (x ∷ xs) ≡ 0 = eqb-true (length (x ∷ xs)) 0 (sym empty) in absurd (omega (arith, none))
+
+pub some_list : (xs ys : List Splice) → xs ≡ ys → false ≡ (length xs == 0) → ys ≡ [] → ⊥
+some_list [] ys is some empty = cc
+some_list (x ∷ xs) ys is some empty = cc
+
+file_of : (s : Step) (code : ListStep) (o : Option ListEdit) → option_map (λ e. record { list = place s.file (path_of s.edit); edit = e }) o ≡ Some code → code.list.file ≡ s.file
+file_of s code (Some e) is = let same : code ≡ record { list = place s.file (path_of s.edit); edit = e } = cc in ap (λ (c : ListStep). c.list.file) same
+file_of s code None is = absurd cc
+
+module _ (old : Loaded) (w : Work) (step : ListStep) (before rest : List Step) (s : Step) (is : bare s ≡ Some step) (r : Reached old before (s ∷ rest) w) where
+  file_is : step.list.file ≡ s.file
+  file_is = file_of s step (bare_edit s.edit) is
+
+  pub code_in_files : step.list.file < length w.files
+  code_in_files = subst (λ i. i < length w.files) (sym file_is) (in_files old w before rest s r)
+
+  pub code_in_trees : step.list.file < length w.trees.items
+  code_in_trees = subst (λ i. i < length w.trees.items) (sym file_is) (in_trees old w before rest s r)
+
+  pub code_in_old : step.list.file < length old.parsed
+  code_in_old = subst (λ i. i < length old.parsed) (sym file_is) (in_old old w before rest s r)
+
+  module _ (t : Parsed) (there : t ≡ get_or (with_some w.trees.items old.parsed) step.list.file t) where
+    at : t ≡ get_or (with_some w.trees.items old.parsed) s.file t
+    at = there ∙ ap (λ i. get_or (with_some w.trees.items old.parsed) i t) file_is
+
+    abbrev made_here : Primitive
+    made_here = (made old w before rest s r t at).primitive
+
+    abbrev pub IsLaid : Option Primitive → Type 0
+    IsLaid o = (source : List ℕ) → o ≡ placed_edit (view source t) step.list.path.steps step.edit
+
+    pub code_laid : (o : Option Primitive) → IsLaid o → o ≡ None → ⊥
+    code_laid o laid none = let h = sym none ∙ laid (bytes_at s.file w.files) ∙ laid_is old w before rest s r t at step is in cc
+
+    module _ (p : Primitive) (laid : IsLaid (Some p)) (bs : List ℕ) (is_bytes : bs ≡ bytes_at step.list.file w.files) where
+      here : bs ≡ bytes_at s.file w.files
+      here = is_bytes ∙ ap (λ i. bytes_at i w.files) file_is
+
+      pub code_ready : IsReady bs p
+      code_ready = subst (λ b. IsReady b p) (sym here) (is_ready old w before rest s r t at step is p (laid (bytes_at s.file w.files)))
+
+      module _ (nm : List ℕ) (d : File) (is_name : nm ≡ (get_or w.files step.list.file d).name) (splices : List Splice) (done : (list : List Lexeme) → IsItemList bs list → splices ≡ effective (layout_of nm list p)) where
+        name : nm ≡ name_at s.file w.files
+        name = is_name ∙ sym (nth_name w.files step.list.file d code_in_files) ∙ ap (λ i. name_at i w.files) file_is
+
+        are : splices ≡ effective (layout_of (name_at s.file w.files) (items old w before rest s r t at) made_here)
+        are = splices_are old w before rest s r t at step is p (laid (bytes_at s.file w.files)) splices
+            (λ list of. done list (subst (λ b. IsItemList b list) (sym here) of) ∙ ap (λ n. effective (layout_of n list p)) name)
+
+        pub code_same : splices ≡ [] → Reached old (before ++ s ∷ []) rest w
+        code_same empty = same_reached old w before rest s r t at splices are empty
+
+        pub code_may : MayChange w step.list.file splices
+        code_may = subst (λ i. MayChange w i splices) (sym file_is) (may_change old w before rest s r t at splices are)
+
+        pub code_new : (splices ≡ [] → ⊥) → (new : Work) → IsChanged w new step.list.file splices → Reached old (before ++ s ∷ []) rest new
+        code_new some new c = new_reached old w before rest s r t at splices are some new (subst (λ i. IsChanged w new i splices) file_is c)

@@ -1,0 +1,15 @@
+use Rattle.std.proofs.Common.{ap, ◌∙◌, sym}
+use Rattle.std.specs.Prelude.{Some, option_map}
+use Rattle.meson_syntax.specs.Paths.{value_of}
+use Rattle.meson_syntax.specs.Places.{expression_span}
+use Rattle.meson_syntax.specs.View.{arg_view}
+use Rattle.meson_steps.proofs.ArgumentValues.{plain_span, named_span}
+use Rattle.meson_steps.proofs.spans.span_in.Goals as goal
+
+pub returns-in-Plain : goal.returns-in-Plain
+returns-in-Plain c = λ source. ap Some (c.span_of.ensures source) ∙ sym (ap (λ a. option_map expression_span (value_of (arg_view source a))) c.in-Plain.is ∙ plain_span source c.in-Plain.value)
+
+pub returns-in-Named : goal.returns-in-Named
+returns-in-Named c = λ source.
+    ap Some (c.span_of-in-Named.ensures source)
+    ∙ sym (ap (λ a. option_map expression_span (value_of (arg_view source a))) c.in-Named.is ∙ named_span source c.in-Named.span c.in-Named.name c.in-Named.value)

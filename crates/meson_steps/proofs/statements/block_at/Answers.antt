@@ -1,0 +1,38 @@
+use Rattle.std.proofs.Common.{◌∙◌, ◌+◌, ap, sym, drop, get_or}
+use Rattle.std.specs.Prelude.{option_and_then}
+use Rattle.std.proofs.lemmas.List.{at_drop_more, at_drop_all}
+use Rattle.meson_lex.specs.declared.kinds.Span.{Span}
+use Rattle.meson_syntax.specs.Parts.{a_block, node_at}
+use Rattle.meson_syntax.specs.View.{block_view, view}
+use Rattle.meson_steps.specs.Layers.{block_any, layer_view}
+use Rattle.meson_steps.proofs.BlockNodes.{block_reached, next_below}
+use Rattle.meson_steps.proofs.statements.block_at.Goals as goal
+
+pub loop-i-preserved : goal.loop-i-preserved
+loop-i-preserved c = λ source.
+    let steps = c.get-steps.result.now in
+    let left = drop (c.loop-i.i + 1) steps in
+    ap (λ o. option_and_then block_any (option_and_then (λ y. node_at y left) o)) (c.in-Some.ensures source)
+    ∙ sym (next_below (layer_view source c.loop-i.layer) (get_or steps c.loop-i.i 0) left)
+    ∙ sym (at_drop_more (λ p. option_and_then block_any (node_at (layer_view source c.loop-i.layer) p)) steps c.loop-i.i 0 c.loop-i-test.true)
+    ∙ c.loop-i.invariant source
+
+pub returns-in-None : goal.returns-in-None
+returns-in-None c = λ source.
+    let steps = c.get-steps.result.now in
+    let left = drop (c.loop-i.i + 1) steps in
+    ap (λ o. option_and_then block_any (option_and_then (λ y. node_at y left) o)) (c.in-None.ensures source)
+    ∙ sym (next_below (layer_view source c.loop-i.layer) (get_or steps c.loop-i.i 0) left)
+    ∙ sym (at_drop_more (λ p. option_and_then block_any (node_at (layer_view source c.loop-i.layer) p)) steps c.loop-i.i 0 c.loop-i-test.true)
+    ∙ c.loop-i.invariant source
+    ∙ ap (λ p. option_and_then block_any (node_at (a_block (block_view source c.args.tree.now.block)) p)) c.get-steps.ensures
+    ∙ sym (block_reached Span (view source c.args.tree.now) c.args.path.now.steps)
+
+pub returns : goal.returns
+returns c = λ source.
+    let steps = c.get-steps.result.now in
+    c.block.ensures source
+    ∙ sym (at_drop_all (λ p. option_and_then block_any (node_at (layer_view source c.loop-i.layer) p)) steps c.loop-i.i c.loop-i-test.false)
+    ∙ c.loop-i.invariant source
+    ∙ ap (λ p. option_and_then block_any (node_at (a_block (block_view source c.args.tree.now.block)) p)) c.get-steps.ensures
+    ∙ sym (block_reached Span (view source c.args.tree.now) c.args.path.now.steps)

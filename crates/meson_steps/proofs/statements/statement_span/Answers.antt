@@ -1,0 +1,10 @@
+use Rattle.std.proofs.Common.{ap, ◌∙◌}
+use Rattle.std.specs.Prelude.{Some, option_map}
+use Rattle.meson_syntax.specs.Places.{statement_span}
+use Rattle.meson_steps.proofs.statements.statement_span.Goals as goal
+
+pub returns-in-Some : goal.returns-in-Some
+returns-in-Some c = λ source. ap Some (c.span_of_stmt.ensures source) ∙ ap (option_map statement_span) (c.in-Some.ensures source)
+
+pub returns-in-None : goal.returns-in-None
+returns-in-None c = λ source. ap (option_map statement_span) (c.in-None.ensures source)

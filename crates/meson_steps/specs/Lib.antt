@@ -1,0 +1,13 @@
+pub mod Results
+pub mod Steps
+pub mod ListSteps
+pub mod OtherValues
+pub mod Plans
+pub mod Done
+pub mod Working
+pub mod Layers
+pub mod Outcomes
+pub mod WrittenValues
+pub mod Meanings
+pub mod Names
+pub mod WrittenTexts

@@ -1,0 +1,55 @@
+-- The steps of the code, and which of them may be done one after another.
+use Rattle.std.specs.Prelude.{◌≡◌, ◌≤◌, ℕ, List, [], ◌∷◌, map, All, Option, Some, option_map}
+use Rattle.meson_syntax.specs.Tree.{Plain}
+use Rattle.meson_syntax.specs.Grammar.{LevelFile, file_depth}
+use Rattle.meson_edit.specs.Edits.{Edit, First, After, Remove, Replace, Wrap, RemoveStatement, Append}
+use Rattle.meson_edit.specs.Places.{Writes}
+use Rattle.meson_steps.specs.declared.step.ListEdit.{ListEdit}
+use Rattle.meson_steps.specs.declared.step.ListEdit.TheVariants as code
+use Rattle.meson_steps.specs.declared.step.ListStep.{ListStep}
+use Rattle.meson_calls.specs.Project.{place}
+use Rattle.meson_steps.specs.Steps.{Step, stepped}
+
+-- ---- what the steps of the code stand for
+
+-- an edit without the tree that is written
+abbrev pub bare_edit : Edit → Option ListEdit
+bare_edit (First path new) = Some (code.First new.bytes)
+bare_edit (After path n new) = Some (code.After n new.bytes)
+bare_edit (Remove path n) = Some (code.Remove n)
+bare_edit (Replace path n new) = Some (code.Replace n new.bytes)
+bare_edit (Wrap path n) = Some (code.Wrap n)
+bare_edit (RemoveStatement path n) = Some (code.RemoveStatement n)
+bare_edit (Append new) = Some (code.Append new.bytes)
+
+-- the list or the block of an edit; a statement is appended to the block of the file
+abbrev pub path_of : Edit → List ℕ
+path_of (First path new) = path
+path_of (After path n new) = path
+path_of (Remove path n) = path
+path_of (Replace path n new) = path
+path_of (Wrap path n) = path
+path_of (RemoveStatement path n) = path
+path_of (Append new) = []
+
+abbrev pub bare : Step → Option ListStep
+bare s = option_map (λ e. record { list = place s.file (path_of s.edit); edit = e }) (bare_edit s.edit)
+
+-- The code's steps are these, but for the trees that are written.
+abbrev pub AreBare : List Step → List ListStep → Type 0
+AreBare steps code = map bare steps ≡ map Some code
+
+-- ---- what may be done
+
+-- so deep may a tree nest between two steps of one command
+abbrev pub wide_depth : ℕ
+wide_depth = 65
+
+abbrev pub MayStand : Plain → Type 0
+MayStand t = LevelFile t × (file_depth t ≤ wide_depth)
+
+-- Each step of the list has its edited tree, with its levels and not too deep, and writes its words.
+pub data AreDoable : List Step → List Plain → Type 0 where
+  none : (trees : List Plain) → AreDoable [] trees
+  one : (s : Step) (steps : List Step) (trees between : List Plain) → Writes s.edit → stepped s trees ≡ Some between → All MayStand between → AreDoable steps between
+      → AreDoable (s ∷ steps) trees

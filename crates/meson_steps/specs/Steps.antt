@@ -1,0 +1,73 @@
+-- Edits of a project one after another: what they make of its trees, and of its files.
+use Rattle.std.specs.Prelude.{◌≡◌, ℕ, zero, suc, ◌+◌, not, bytes_eq, List, [], ◌∷◌, ◌++◌, length, Option, Some, None, option_map, option_and_then, Ok}
+use Rattle.std.specs.List.{filter}
+use Rattle.meson_lex.specs.declared.kinds.Span.{Span}
+use Rattle.meson_lex.specs.Items.{Lexeme, IsItemList}
+use Rattle.meson_splice.specs.declared.file_set.File.{File}
+use Rattle.meson_splice.specs.declared.splice.Splice.{Splice}
+use Rattle.meson_splice.specs.Files.{bytes_at}
+use Rattle.meson_splice.specs.Patch.{patched_all}
+use Rattle.meson_layout.specs.declared.primitive.Primitive.{Primitive}
+use Rattle.meson_layout.specs.Layout.{layout_of}
+use Rattle.meson_syntax.specs.declared.source.Limits.{Limits}
+use Rattle.meson_syntax.specs.Tree.{Plain}
+use Rattle.meson_syntax.specs.Tree as tree
+use Rattle.meson_syntax.specs.Reads.{IsSpannedWithin}
+use Rattle.meson_edit.specs.Edits.{Edit, edited}
+use Rattle.meson_edit.specs.Places.{primitive_of}
+use Rattle.meson_calls.specs.declared.call.CallRef.{CallRef}
+use Rattle.meson_calls.specs.Loading.{name_at}
+
+-- an edit of one of the files
+pub record Step : Type 0 where
+  pub file : ℕ
+  pub edit : Edit
+
+-- an edit of the file of a list
+abbrev pub step_in : CallRef → Edit → Step
+step_in p e = record { file = p.file; edit = e }
+
+-- ---- trees
+
+-- the values with another one in the i-th place
+abbrev pub changed_at : {X : Type 0} → ℕ → (X → Option X) → List X → Option (List X)
+changed_at i change [] = None
+changed_at zero change (x ∷ xs) = option_map (λ y. y ∷ xs) (change x)
+changed_at (suc i) change (x ∷ xs) = option_map (λ ys. x ∷ ys) (changed_at i change xs)
+
+-- the trees after a step, and after all of them
+abbrev pub stepped : Step → List Plain → Option (List Plain)
+stepped s trees = changed_at s.file (edited s.edit) trees
+
+abbrev pub all_stepped : List Step → List Plain → Option (List Plain)
+all_stepped [] trees = Some trees
+all_stepped (s ∷ steps) trees = option_and_then (all_stepped steps) (stepped s trees)
+
+-- ---- files
+
+-- a splice that changes nothing is not made
+abbrev pub effective : List Splice → List Splice
+effective splices = filter (λ s. not (bytes_eq s.was s.now)) splices
+
+-- The splices of a step are the layout of its edit in the file as it stands.
+pub record Laid (files : List File) (s : Step) (splices : List Splice) : Type 0 where
+  pub file : tree.File Span
+  pub limits : Limits
+  pub spanned : IsSpannedWithin limits (bytes_at s.file files) file
+  pub items : List Lexeme
+  pub are_items : IsItemList (bytes_at s.file files) items
+  pub primitive : Primitive
+  pub is_primitive : primitive_of file s.edit ≡ Some primitive
+  pub is_layout : splices ≡ effective (layout_of (name_at s.file files) items primitive)
+
+-- how many bytes are read again after splices of a file: all of it
+abbrev pub read_again : List Splice → ℕ → List File → ℕ
+read_again [] i files = 0
+read_again (s ∷ splices) i files = length (bytes_at i files)
+
+-- Steps one after another make splices, and files, and have so many bytes read again.
+pub data StepsMake : List File → List Step → List Splice → List File → ℕ → Type 0 where
+  none : (files : List File) → StepsMake files [] [] files 0
+  step : (files between last : List File) (s : Step) (steps : List Step) (here later : List Splice) (bytes : ℕ)
+      → Laid files s here → patched_all files here ≡ Ok between → StepsMake between steps later last bytes
+      → StepsMake files (s ∷ steps) (here ++ later) last (read_again here s.file between + bytes)

@@ -1,0 +1,116 @@
+-- Where the work stands between two steps of a command.
+use Rattle.std.specs.Prelude.{◌≡◌, ℕ, ◌+◌, ◌<◌, ◌≤◌, List, [], ◌∷◌, ◌++◌, All, length, slice_index_or, slice_set, Option, Some, None, option_map, Ok}
+use Rattle.meson_lex.specs.declared.kinds.Span.{Span}
+use Rattle.meson_layout.specs.declared.primitive.Primitive.{Primitive}
+use Rattle.meson_layout.specs.declared.primitive.Primitive.TheVariants as layout
+use Rattle.meson_splice.specs.declared.file_set.File.{File}
+use Rattle.meson_splice.specs.declared.splice.Splice.{Splice}
+use Rattle.meson_splice.specs.Files.{IsDistinct, bytes_at}
+use Rattle.meson_splice.specs.Patch.{patched_all}
+use Rattle.meson_syntax.specs.declared.tree.Parsed.{Parsed}
+use Rattle.meson_syntax.specs.Grammar.{file_depth}
+use Rattle.meson_syntax.specs.Tree as tree
+use Rattle.meson_syntax.specs.Reads.{IsSpanned, IsSpannedWithin, ReadsWithin, wide, max_depth, max_len}
+use Rattle.meson_syntax.specs.View.{view}
+use Rattle.meson_edit.specs.Places.{bracket_offset, element_span, value_span, span_of_statement}
+use Rattle.meson_steps.specs.declared.step.ListStep.{ListStep}
+use Rattle.meson_steps.specs.declared.step.ListEdit.{ListEdit}
+use Rattle.meson_steps.specs.declared.step.ListEdit.TheVariants as code
+use Rattle.meson_steps.specs.declared.work.Work.{Work}
+use Rattle.meson_steps.specs.Done.{IsMade}
+use Rattle.meson_steps.specs.ListSteps.{AreBare, AreDoable, bare}
+use Rattle.meson_calls.specs.Loading.{Loaded, HasFileName, max_files}
+use Rattle.meson_steps.specs.OtherValues.{with_some}
+use Rattle.meson_steps.specs.Results.{plain_trees, saturated}
+use Rattle.meson_steps.specs.Plans.{Doable}
+use Rattle.meson_steps.specs.Steps.{Step}
+
+-- ---- one step
+
+-- an edit of the list or the block at a path as it is laid out
+abbrev pub placed_edit : tree.File Span → List ℕ → ListEdit → Option Primitive
+placed_edit f path (code.First new) = option_map (λ at. layout.First at new) (bracket_offset f path)
+placed_edit f path (code.After n new) = option_map (λ s. layout.After s new) (element_span f path n)
+placed_edit f path (code.Remove n) = option_map layout.Remove (element_span f path n)
+placed_edit f path (code.Replace n new) = option_map (λ s. layout.Replace s new) (value_span f path n)
+placed_edit f path (code.Wrap n) = option_map layout.Wrap (value_span f path n)
+placed_edit f path (code.RemoveStatement n) = option_map layout.RemoveStatement (span_of_statement f path n)
+placed_edit f path (code.Append new) = Some (layout.Append new)
+
+-- The splices of a file can be made, and the file then reads as a tree.
+pub record MayChange (w : Work) (file : ℕ) (splices : List Splice) : Type 0 where
+  pub files : List File
+  pub is : patched_all w.files splices ≡ Ok files
+  pub tree : tree.Plain
+  pub reads : ReadsWithin wide (bytes_at file files) tree
+
+-- What the splices of a file make of the files, and the tree that is read there.
+pub record IsChanged (old new : Work) (file : ℕ) (splices : List Splice) : Type 0 where
+  pub tree : Parsed
+  pub are_files : patched_all old.files splices ≡ Ok new.files
+  pub are_splices : new.splices.items ≡ old.splices.items ++ splices
+  pub are_trees : new.trees.items ≡ slice_set old.trees.items file (Some tree)
+  pub is_read : IsSpannedWithin wide (bytes_at file new.files) (view (bytes_at file new.files) tree)
+  pub is_relexed : new.relexed ≡ saturated (old.relexed + length (bytes_at file new.files))
+
+-- ---- between two steps
+
+-- the files and trees so far
+abbrev pub so_far : Loaded → Work → Loaded
+so_far old w = record { files = w.files; parsed = with_some w.trees.items old.parsed }
+
+-- a changed file reads as its tree within wider limits, another one as its old tree
+abbrev pub AreKnown : List File → List (Option Parsed) → List Parsed → Type 0
+AreKnown (f ∷ files) (Some t ∷ new) (u ∷ old) = IsSpannedWithin wide f.bytes (view f.bytes t) × AreKnown files new old
+AreKnown (f ∷ files) (None ∷ new) (u ∷ old) = IsSpanned f.bytes (view f.bytes u) × AreKnown files new old
+AreKnown [] [] [] = Unit {0}
+AreKnown _ _ _ = ⊥
+
+-- These steps are done, and those are left, which may be done.
+pub record Reached (old : Loaded) (before rest : List Step) (w : Work) : Type 0 where
+  pub made : IsMade old before w.splices.items (so_far old w) w.relexed
+  pub doable : AreDoable rest (plain_trees (so_far old w))
+  pub known : AreKnown w.files w.trees.items old.parsed
+  pub distinct : IsDistinct w.files
+  pub few : length w.files ≤ max_files
+  pub named : All HasFileName w.files
+
+-- The next step may be done.
+pub record IsNext (old : Loaded) (w : Work) (step : ListStep) : Type 0 where
+  pub before : List Step
+  pub next : Step
+  pub rest : List Step
+  pub is : bare next ≡ Some step
+  pub reached : Reached old before (next ∷ rest) w
+
+-- What is left of steps is this code.
+pub record IsUnderWay (old : Loaded) (steps : List Step) (code : List ListStep) (w : Work) : Type 0 where
+  pub before : List Step
+  pub rest : List Step
+  pub joined : steps ≡ before ++ rest
+  pub bare : AreBare rest code
+  pub reached : Reached old before rest w
+
+-- The code stands for steps that may be done.
+pub record HasSteps (old : Loaded) (code : List ListStep) : Type 0 where
+  pub steps : List Step
+  pub doable : Doable old steps code
+
+-- ---- limits
+
+-- the tree of a changed file nests no deeper than it may
+abbrev pub IsShallow : Option Parsed → Type 0
+IsShallow (Some t) = (source : List ℕ) → file_depth (view source t) ≤ max_depth
+IsShallow None = Unit {0}
+
+pub record HasDeep (trees : List (Option Parsed)) : Type 0 where
+  pub place : ℕ
+  pub tree : Parsed
+  pub there : place < length trees
+  pub is : slice_index_or trees place None ≡ Some tree
+  pub deep : (source : List ℕ) → max_depth < file_depth (view source tree)
+
+pub record HasLarge (files : List File) : Type 0 where
+  pub place : ℕ
+  pub there : place < length files
+  pub large : max_len < length (bytes_at place files)

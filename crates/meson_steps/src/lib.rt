@@ -1,0 +1,10 @@
+//! Commands, and edits of the files of a project, one after another: how each is laid out, what the files and trees are then, and the limits on the result.
+#![tactic(auto)]
+
+pub mod command;
+pub mod literals;
+pub mod names;
+pub mod spans;
+pub mod statements;
+pub mod step;
+pub mod work;

@@ -1,0 +1,97 @@
+//! Where the value of an argument stands.
+
+ghost use Rattle.std.specs.Prelude.{◌≡◌, option_map};
+ghost use Rattle.meson_syntax.specs.Paths.{value_of};
+ghost use Rattle.meson_syntax.specs.Places.{argument_span, expression_span};
+ghost use Rattle.meson_syntax.specs.View.{arg_view, expr_view, view};
+ghost use Rattle.meson_edit.specs.Places.{bracket_offset, element_span, value_span};
+ghost use Rattle.meson_calls.specs.Picking.{Source};
+
+use meson_lex::Span;
+use meson_syntax::{Arg, Expr, Parsed, Path};
+
+/// Where an expression stands.
+pub fn span_of(expr: &Expr) -> Span
+    ensures { (source : Source) → result ≡ expression_span (expr_view source expr.now) }
+{
+    match expr {
+        Expr::Identifier(span) => *span,
+        Expr::Boolean { span, .. } => *span,
+        Expr::Integer(span) => *span,
+        Expr::String { span, .. } => *span,
+        Expr::Paren { span, .. } => *span,
+        Expr::Array(list) => list.span,
+        Expr::Dictionary(list) => list.span,
+        Expr::Call { span, .. } => *span,
+        Expr::Unary { span, .. } => *span,
+        Expr::Row { span, .. } => *span,
+        Expr::Postfix { span, .. } => *span,
+        Expr::Conditional { span, .. } => *span,
+    }
+}
+
+/// Where the value of an element stands, if it has one.
+fn span_in(arg: &Arg) -> Option<Span>
+    ensures { (source : Source) → result ≡ option_map expression_span (value_of (arg_view source arg.now)) }
+{
+    match arg {
+        Arg::Plain(value) => Some(span_of(value)),
+        Arg::Named { value, .. } => Some(span_of(value)),
+        Arg::Pair { .. } => None,
+    }
+}
+
+/// Where the value of the n-th element of a list stands, if it is there.
+pub fn value_span(tree: &Parsed, path: &Path, n: usize) -> Option<Span>
+    ensures { (source : Source) → result ≡ value_span (view source tree.now) path.now.steps n }
+{
+    match tree.list_at(path) {
+        Some(list) => {
+            let args = list.items.get();
+            if n < args.len() {
+                span_in(&args[n])
+            } else {
+                None
+            }
+        }
+        None => None,
+    }
+}
+
+/// Where an element stands.
+fn span_of_element(arg: &Arg) -> Span
+    ensures { (source : Source) → result ≡ argument_span (arg_view source arg.now) }
+{
+    match arg {
+        Arg::Plain(value) => span_of(value),
+        Arg::Named { span, .. } => *span,
+        Arg::Pair { span, .. } => *span,
+    }
+}
+
+/// Where the n-th element of a list stands, if it is there.
+pub fn element_span(tree: &Parsed, path: &Path, n: usize) -> Option<Span>
+    ensures { (source : Source) → result ≡ element_span (view source tree.now) path.now.steps n }
+{
+    match tree.list_at(path) {
+        Some(list) => {
+            let args = list.items.get();
+            if n < args.len() {
+                Some(span_of_element(&args[n]))
+            } else {
+                None
+            }
+        }
+        None => None,
+    }
+}
+
+/// The offset of the opening bracket of a list, if it is there.
+pub fn bracket_offset(tree: &Parsed, path: &Path) -> Option<usize>
+    ensures { (source : Source) → result ≡ bracket_offset (view source tree.now) path.now.steps }
+{
+    match tree.list_at(path) {
+        Some(list) => Some(list.span.from),
+        None => None,
+    }
+}

@@ -1,0 +1,41 @@
+//! The steps of a command: edits of lists and of whole statements, one after another.
+
+ghost use Rattle.std.specs.Prelude.{◌≡◌, ◌++◌, ◌∷◌, [], OnOk};
+
+use meson_calls::CallRef;
+use meson_splice::Bytes;
+use std::alloc::AllocError;
+
+/// One edit of a list or a block, with the numbers of its elements or statements and the bytes that are written.
+#[derive(Debug, Drop)]
+pub enum ListEdit {
+    /// The first element of an empty list.
+    First(Bytes),
+    /// An element behind the one of this number.
+    After(usize, Bytes),
+    /// The element goes.
+    Remove(usize),
+    /// Its value becomes another one.
+    Replace(usize, Bytes),
+    /// Its value becomes the array of it.
+    Wrap(usize),
+    /// The statement of this number goes.
+    RemoveStatement(usize),
+    /// A statement behind all others of the file.
+    Append(Bytes),
+}
+
+/// An edit of the list of the array or call at a place, or of the block there.
+#[derive(Debug, Drop)]
+pub struct ListStep {
+    pub list: CallRef,
+    pub edit: ListEdit,
+}
+
+/// Adds a step behind the others.
+pub fn push_step(steps: &mut Vec<ListStep>, list: CallRef, edit: ListEdit) -> Result<(), AllocError>
+    ensures { OnOk result (steps.new.items ≡ steps.old.items ++ record { list = list; edit = edit } ∷ []) }
+{
+    steps.push(ListStep { list, edit })?;
+    Ok(())
+}

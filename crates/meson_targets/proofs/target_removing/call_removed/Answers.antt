@@ -1,0 +1,40 @@
+use Rattle.std.proofs.Common.{sym, ap, ◌∙◌, arith}
+use Rattle.std.specs.Prelude.{option_map}
+use Rattle.meson_splice.specs.Files.{bytes_at}
+use Rattle.meson_targets.specs.TargetViews.{place_view, held_view}
+use Rattle.meson_calls.specs.Loading.{named_trees, views}
+use Rattle.meson_targets.proofs.StatementsRemoved.{not_held, in_use, removal_meant}
+use Rattle.meson_calls.proofs.Loads.{as_many}
+use Rattle.meson_targets.proofs.target_removing.call_removed.Goals as goal
+
+pub returns-in_default-held_at-clause-refused : goal.returns-in_default-held_at-clause-refused
+returns-in_default-held_at-clause-refused c = λ k same other.
+    let files = c.args.files.now in
+    let trees = c.args.trees.now in
+    let line = place_view c.in-Some.line in
+    let is_line = ap (option_map place_view) (sym c.in-Some.is) ∙ c.in_ok-line.ensures in
+    not_held (named_trees files (views files trees)) c.args.call.now k same line is_line (c.in_default-held_at.ensures.held files (as_many files trees c.requires.parsed))
+
+pub not_in_use-requires-clause-there : goal.not_in_use-requires-clause-there
+not_in_use-requires-clause-there c =
+    let within = c.in-Some-held_at.ensures.there in
+    let many = as_many c.args.files.now c.args.trees.now c.requires.parsed in
+    omega (arith, within, many)
+
+pub returns-in-Ok-clause-meant : goal.returns-in-Ok-clause-meant
+returns-in-Ok-clause-meant c = λ k same.
+    let files = c.args.files.now in
+    let trees = c.args.trees.now in
+    let line = place_view c.in-Some.line in
+    let is_line = ap (option_map place_view) (sym c.in-Some.is) ∙ c.in_ok-line.ensures in
+    let is_held = c.in-Some-held_at.ensures.held files (as_many files trees c.requires.parsed) in
+    removal_meant (named_trees files (views files trees)) c.args.call.now k same line is_line (held_view (bytes_at line.block.file files) c.in-Some-held_at.held) is_held (λ v. v.items) c.statement_removed.result c.in-Ok.ensures.checked c.statement_removed.ensures.done
+
+pub returns-in-Err-clause-refused : goal.returns-in-Err-clause-refused
+returns-in-Err-clause-refused c = λ k same other.
+    let files = c.args.files.now in
+    let trees = c.args.trees.now in
+    let line = place_view c.in-Some.line in
+    let is_line = ap (option_map place_view) (sym c.in-Some.is) ∙ c.in_ok-line.ensures in
+    let is_held = c.in-Some-held_at.ensures.held files (as_many files trees c.requires.parsed) in
+    in_use (named_trees files (views files trees)) c.args.call.now k same line is_line (held_view (bytes_at line.block.file files) c.in-Some-held_at.held) is_held c.in-Err.refusal (c.in-Err.ensures.refused other)

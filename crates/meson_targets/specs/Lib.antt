@@ -1,0 +1,3 @@
+pub mod TargetEdits
+pub mod TargetViews
+pub mod Uses

@@ -1,0 +1,195 @@
+//! The steps by which a target is put at the end of a build file.
+
+ghost use Rattle.std.specs.Prelude.{◌≡◌, ◌≢◌, ◌∷◌, [], All, Err, IfErr, IfOk, Ok, length, map};
+ghost use Rattle.std.specs.Str.{IsUtf8};
+ghost use Rattle.meson_calls.specs.Loading.{AreParsed, named_trees, views};
+ghost use Rattle.meson_calls.specs.Notes.{note_views, notes};
+ghost use Rattle.meson_calls.specs.Project.{place};
+ghost use Rattle.meson_steps.specs.Names.{checked_names};
+ghost use Rattle.meson_targets.specs.TargetEdits.{checked_kind, is_target_kind, not_taken, number_in, target_added, targets_named, written_target};
+ghost use Rattle.meson_steps.specs.Meanings.{AreMeant};
+
+use meson_calls::entering::file_in;
+use meson_calls::naming::with_name;
+use meson_calls::note::Note;
+use meson_calls::roles::makes_target;
+use meson_calls::{CallRef, Refusal, Role};
+use meson_splice::{Bytes, FileSet, Text};
+use meson_steps::literals::push_literal;
+use meson_steps::names::{checked_names, distinct};
+use meson_steps::step::{ListEdit, ListStep, push_step};
+use meson_syntax::{Many, Parsed, Path};
+use std::alloc::Global;
+
+/// A target to be: its name, the function that makes it, its folder and its sources.
+#[derive(Clone, Copy)]
+pub struct NewTarget<'n> {
+    pub name: &'n Text,
+    pub kind: &'n Text,
+    pub folder: &'n Text,
+    pub sources: &'n [Text],
+}
+
+/// Whether a function says by its name what is built.
+fn is_target_kind(kind: &[u8]) -> bool
+    ensures { result ≡ is_target_kind kind.now }
+{
+    makes_target(kind) && kind != b"build_target".as_slice()
+}
+
+/// Refuses another function.
+///
+/// # Errors
+/// The function says not what is built, or memory is refused.
+fn checked_kind(alloc: Global, kind: &Text) -> Result<(), Refusal>
+    ensures checked { IfOk result (λ u. checked_kind kind.now ≡ Ok tt) }
+    ensures refused { IfErr result (λ e. e ≢ Refusal.OutOfMemory → checked_kind kind.now ≡ Err e) }
+{
+    if is_target_kind(kind.get().as_bytes()) {
+        return Ok(());
+    }
+    let key = String::from_str(alloc, "target_type")?;
+    Err(Refusal::WrongKind(Text::of(key)))
+}
+
+/// Refuses the name of a target that is there.
+///
+/// # Errors
+/// A target has the name, or memory is refused.
+fn not_taken(
+    alloc: Global,
+    files: &FileSet,
+    trees: &[Parsed],
+    noted: &[Note<'_>],
+    name: &str,
+) -> Result<(), Refusal>
+    requires parsed { AreParsed files.now trees.now }
+    requires taken { note_views noted.now ≡ notes (named_trees files.now (views files.now trees.now)) }
+    ensures checked { IfOk result (λ u. not_taken (targets_named (named_trees files.now (views files.now trees.now)) name.now) ≡ Ok tt) }
+    ensures refused { IfErr result (λ e. e ≢ Refusal.OutOfMemory → not_taken (targets_named (named_trees files.now (views files.now trees.now)) name.now) ≡ Err e) }
+{
+    let targets = with_name(alloc, Role::Target, name, noted)?;
+    if !targets.as_slice().is_empty() {
+        return Err(Refusal::NameTaken);
+    }
+    Ok(())
+}
+
+/// The number of the build file of a folder, which is the root file for the empty text.
+///
+/// # Errors
+/// There is no such file, or memory is refused.
+fn number_in(
+    alloc: Global,
+    files: &FileSet,
+    trees: &[Parsed],
+    folder: &str,
+) -> Result<usize, Refusal>
+    requires { length trees.now ≡ length files.now }
+    ensures found { IfOk result (λ n. number_in (named_trees files.now (views files.now trees.now)) folder.now ≡ Ok n) }
+    ensures refused { IfErr result (λ e. e ≢ Refusal.OutOfMemory → number_in (named_trees files.now (views files.now trees.now)) folder.now ≡ Err e) }
+{
+    if folder.is_empty() {
+        return match files.find("meson.build") {
+            Some(number) => Ok(number),
+            None => Err(Refusal::NoFile),
+        };
+    }
+    let Some(name) = file_in(alloc, "meson.build", folder)? else {
+        return Err(Refusal::NoFile);
+    };
+    match files.find(name.as_str()) {
+        Some(number) => Ok(number),
+        None => Err(Refusal::NoFile),
+    }
+}
+
+/// `KIND('NAME', 'SOURCE', ..)`.
+fn written_target(
+    alloc: Global,
+    kind: &Text,
+    name: &Text,
+    sources: &[&Text],
+) -> Result<Bytes, Refusal>
+    ensures done { IfOk result (λ b. b ≡ (written_target kind.now (name.now ∷ map (λ x. x.now) sources.now)).bytes) }
+    ensures refused { IfErr result (λ e. e ≡ Refusal.OutOfMemory) }
+{
+    let mut out = Vec::new(alloc);
+    out.extend_from_slice(kind.get().as_bytes())?;
+    out.extend_from_slice(b"(")?;
+    push_literal(alloc, &mut out, name.get())?;
+    for i in 0..sources.len() {
+        out.extend_from_slice(b", ")?;
+        push_literal(alloc, &mut out, sources[i].get())?;
+    }
+    out.extend_from_slice(b")")?;
+    Ok(Bytes::of(out))
+}
+
+/// Refuses an empty name, of the target or of a source.
+///
+/// # Errors
+/// A name is empty.
+fn checked_texts(name: &Text, sources: &[Text]) -> Result<(), Refusal>
+    ensures checked { result ≡ checked_names (name.now ∷ sources.now) }
+    ensures utf8 { IfOk result (λ u. All IsUtf8 (name.now ∷ sources.now)) }
+{
+    if name.get().is_empty() {
+        return Err(Refusal::BadName);
+    }
+    checked_names(sources)
+}
+
+/// The step by which a target is put at the end of its file.
+///
+/// # Errors
+/// The kind is none, a name is empty, the name is taken, the folder has no file, or memory is refused.
+pub fn target_added(
+    alloc: Global,
+    files: &FileSet,
+    trees: &[Parsed],
+    noted: &[Note<'_>],
+    new: NewTarget<'_>,
+) -> Result<Vec<ListStep>, Refusal>
+    requires parsed { AreParsed files.now trees.now }
+    requires taken { note_views noted.now ≡ notes (named_trees files.now (views files.now trees.now)) }
+    ensures meant { IfOk result (λ steps. AreMeant (target_added (named_trees files.now (views files.now trees.now)) new.entry.name.now new.entry.kind.now new.entry.folder.now new.entry.sources.now) steps.items) }
+    ensures refused { IfErr result (λ e. e ≢ Refusal.OutOfMemory → target_added (named_trees files.now (views files.now trees.now)) new.entry.name.now new.entry.kind.now new.entry.folder.now new.entry.sources.now ≡ Err e) }
+    ensures utf8 { IfOk result (λ steps. All IsUtf8 (new.entry.name.now ∷ new.entry.sources.now)) }
+{
+    match checked_kind(alloc, new.kind) {
+        Ok(()) => {}
+        Err(refusal) => return Err(refusal),
+    }
+    match checked_texts(new.name, new.sources) {
+        Ok(()) => {}
+        Err(refusal) => return Err(refusal),
+    }
+    match not_taken(alloc, files, trees, noted, new.name.get()) {
+        Ok(()) => {}
+        Err(refusal) => return Err(refusal),
+    }
+    let file = match number_in(alloc, files, trees, new.folder.get()) {
+        Ok(file) => file,
+        Err(refusal) => return Err(refusal),
+    };
+    let sources = distinct(alloc, new.sources)?;
+    let statement = written_target(alloc, new.kind, new.name, sources.as_slice())?;
+    one_step(alloc, file, statement)
+}
+
+/// The step that appends a statement to a file.
+fn one_step(alloc: Global, file: usize, statement: Bytes) -> Result<Vec<ListStep>, Refusal>
+    ensures done { IfOk result (λ steps. steps.items ≡ record { list = place file []; edit = ListEdit.Append statement } ∷ []) }
+    ensures refused { IfErr result (λ e. e ≡ Refusal.OutOfMemory) }
+{
+    let block = CallRef {
+        file,
+        path: Path {
+            steps: Many::of(Vec::new(alloc)),
+        },
+    };
+    let mut steps = Vec::new(alloc);
+    push_step(&mut steps, block, ListEdit::Append(statement))?;
+    Ok(steps)
+}

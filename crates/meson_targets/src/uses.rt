@@ -1,0 +1,157 @@
+//! Uses of a variable outside a statement.
+
+ghost use Rattle.std.specs.Prelude.{◌≡◌, ◌++◌, ◌∷◌, [], IfOk};
+ghost use Rattle.meson_syntax.specs.Grammar.{listing_words};
+ghost use Rattle.meson_syntax.specs.View.{list_view, text_at};
+ghost use Rattle.meson_syntax.specs.declared.operator.Bracket.TheVariants as bracket;
+ghost use Rattle.meson_calls.specs.Loading.{AreParsed, named_trees, views};
+ghost use Rattle.meson_calls.specs.Notes.{note_view, note_views, notes};
+ghost use Rattle.meson_calls.specs.Picking.{call_with};
+ghost use Rattle.meson_calls.specs.Roles.{one_of};
+ghost use Rattle.meson_calls.specs.Strings.{AreGood, NotesGood, note_words};
+ghost use Rattle.meson_targets.specs.TargetEdits.{call_uses, goes_through, is_used_outside, variable_functions};
+ghost use Rattle.meson_targets.specs.TargetViews.{place_view};
+ghost use Rattle.meson_targets.specs.Uses.{is_noted_outside, is_outside, is_read_outside, note_uses};
+
+use crate::identifier_statements::reads_of;
+use meson_calls::CallRef;
+use meson_calls::literals::first_literal;
+use meson_calls::note::{Note, What};
+use meson_calls::roles::text_of;
+use meson_calls::setters::one_of;
+use meson_lex::Span;
+use meson_splice::FileSet;
+use meson_syntax::{List, Parsed};
+use std::alloc::{AllocError, Global};
+
+/// A statement: the place of its block, and its number there.
+#[derive(Drop)]
+pub(crate) struct StatementPlace {
+    pub block: CallRef,
+    pub number: usize,
+}
+
+impl StatementPlace {
+    /// Whether a path in its file goes through the statement.
+    fn is_on(&self, path: &[usize]) -> bool
+        ensures { result ≡ goes_through (self.now.block.path.steps ++ self.now.number ∷ []) path.now }
+    {
+        let block = self.block.path.steps.get();
+        if path.len() <= block.len() {
+            return false;
+        }
+        for i in 0..block.len() {
+            if block[i] != path[i] {
+                return false;
+            }
+        }
+        self.number == path[block.len()]
+    }
+
+    /// Whether a place stands outside the statement.
+    fn is_outside(&self, place: &CallRef) -> bool
+        ensures { result ≡ is_outside (place_view self.now) place.now }
+    {
+        self.block.file != place.file || !self.is_on(place.path.steps.get())
+    }
+}
+
+/// Whether the first argument of a function names a variable.
+fn names_variable(function: &[u8]) -> bool
+    ensures { result ≡ one_of variable_functions function.now }
+{
+    b"get_variable".as_slice() == function
+        || b"set_variable".as_slice() == function
+        || b"is_variable".as_slice() == function
+        || b"unset_variable".as_slice() == function
+}
+
+/// Whether a call names the variable.
+fn call_uses(
+    alloc: Global,
+    source: &[u8],
+    function: Span,
+    arguments: &List,
+    name: &[u8],
+) -> Result<bool, AllocError>
+    requires { AreGood (listing_words (list_view source.now arguments.now) bracket.Round) }
+    ensures { IfOk result (λ uses. uses ≡ call_uses name.now (call_with (text_at source.now function) (list_view source.now arguments.now))) }
+{
+    if !names_variable(text_of(source, function)) {
+        return Ok(false);
+    }
+    match first_literal(alloc, source, arguments)? {
+        Some(text) => Ok(name == text.as_bytes()),
+        None => Ok(false),
+    }
+}
+
+/// Whether a call, an assignment or a loop names the variable.
+fn note_uses(alloc: Global, note: &Note<'_>, name: &[u8]) -> Result<bool, AllocError>
+    requires { AreGood (note_words (note_view note.now).it) }
+    ensures { IfOk result (λ uses. uses ≡ note_uses name.now (note_view note.now).it) }
+{
+    match note.what {
+        What::Call {
+            function,
+            arguments,
+        } => call_uses(alloc, note.source, function, arguments, name),
+        What::Assign {
+            name: variable,
+            sets: _,
+            value: _,
+        } => Ok(text_of(note.source, variable) == name),
+        What::Loop { names } => Ok(one_of(note.source, names, name)),
+    }
+}
+
+/// Whether calls, assignments or loops outside a statement name the variable.
+fn is_noted_outside(
+    alloc: Global,
+    notes: &[Note<'_>],
+    line: &StatementPlace,
+    name: &[u8],
+) -> Result<bool, AllocError>
+    requires { NotesGood (note_views notes.now) }
+    ensures { IfOk result (λ used. used ≡ is_noted_outside (place_view line.now) name.now (note_views notes.now)) }
+{
+    for i in 0..notes.len() {
+        let note = &notes[i];
+        if line.is_outside(&note.place) && note_uses(alloc, note, name)? {
+            return Ok(true);
+        }
+    }
+    Ok(false)
+}
+
+/// Whether one of some places stands outside a statement.
+fn is_read_outside(places: &[CallRef], line: &StatementPlace) -> bool
+    ensures { result ≡ is_read_outside (place_view line.now) places.now }
+{
+    for i in 0..places.len() {
+        if line.is_outside(&places[i]) {
+            return true;
+        }
+    }
+    false
+}
+
+/// Whether the variable is used outside a statement.
+pub(crate) fn is_used_outside(
+    alloc: Global,
+    files: &FileSet,
+    trees: &[Parsed],
+    noted: &[Note<'_>],
+    line: &StatementPlace,
+    name: &[u8],
+) -> Result<bool, AllocError>
+    requires parsed { AreParsed files.now trees.now }
+    requires taken { note_views noted.now ≡ notes (named_trees files.now (views files.now trees.now)) }
+    ensures { IfOk result (λ used. used ≡ is_used_outside (named_trees files.now (views files.now trees.now)) (place_view line.now) name.now) }
+{
+    if is_noted_outside(alloc, noted, line, name)? {
+        return Ok(true);
+    }
+    let places = reads_of(alloc, files, trees, name)?;
+    Ok(is_read_outside(places.as_slice(), line))
+}
