@@ -4,6 +4,12 @@
 #[cfg(test)]
 mod extra_commands;
 #[cfg(test)]
+mod keyword_entries;
+#[cfg(test)]
+mod keyword_refusals;
+#[cfg(test)]
+mod keyword_values;
+#[cfg(test)]
 mod performing;
 #[cfg(test)]
 mod plain;
