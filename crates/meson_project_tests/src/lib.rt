@@ -33,3 +33,5 @@ mod source_refusals;
 mod source_removals;
 #[cfg(test)]
 mod sourcing;
+#[cfg(test)]
+mod target_commands;
