@@ -10,6 +10,8 @@ mod keyword_refusals;
 #[cfg(test)]
 mod keyword_values;
 #[cfg(test)]
+mod option_commands;
+#[cfg(test)]
 mod performing;
 #[cfg(test)]
 mod plain;
