@@ -4,7 +4,11 @@
 #[cfg(test)]
 mod extra_commands;
 #[cfg(test)]
+mod info_commands;
+#[cfg(test)]
 mod keyword_entries;
+#[cfg(test)]
+mod keyword_layout;
 #[cfg(test)]
 mod keyword_refusals;
 #[cfg(test)]
