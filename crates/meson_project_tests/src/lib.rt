@@ -4,6 +4,18 @@
 #[cfg(test)]
 mod extra_commands;
 #[cfg(test)]
+mod info_commands;
+#[cfg(test)]
+mod keyword_entries;
+#[cfg(test)]
+mod keyword_layout;
+#[cfg(test)]
+mod keyword_refusals;
+#[cfg(test)]
+mod keyword_values;
+#[cfg(test)]
+mod option_commands;
+#[cfg(test)]
 mod performing;
 #[cfg(test)]
 mod plain;
@@ -27,3 +39,5 @@ mod source_refusals;
 mod source_removals;
 #[cfg(test)]
 mod sourcing;
+#[cfg(test)]
+mod target_commands;

@@ -122,6 +122,33 @@ pub(crate) fn assert_done(
     assert_files(rt, alloc, &project, new);
 }
 
+/// The command makes the one file from the old bytes.
+pub(crate) fn assert_becomes(
+    rt: &impl Abort,
+    alloc: Global,
+    command: &Command,
+    old: &str,
+    new: &str,
+) -> Done {
+    let mut project = project_of(rt, alloc, &[(ROOT, old)]);
+    let done = project.perform(alloc, command).expect(rt, old);
+    assert_files(rt, alloc, &project, &[(ROOT, new)]);
+    done
+}
+
+/// It does so by so many splices.
+pub(crate) fn assert_becomes_by(
+    rt: &impl Abort,
+    alloc: Global,
+    command: &Command,
+    old: &str,
+    splices: usize,
+    new: &str,
+) {
+    let done = assert_becomes(rt, alloc, command, old, new);
+    assert_eq!(rt; done.change.splices.get().len(), splices, "{old}");
+}
+
 /// The command makes the one file from the old bytes by the cuts.
 pub(crate) fn assert_makes(
     rt: &impl Abort,
@@ -131,15 +158,13 @@ pub(crate) fn assert_makes(
     cuts: &[OneCut<'_>],
     new: &str,
 ) {
-    let mut project = project_of(rt, alloc, &[(ROOT, old)]);
-    let done = project.perform(alloc, command).expect(rt, old);
+    let done = assert_becomes(rt, alloc, command, old, new);
     let splices = done.change.splices.get();
     assert_eq!(rt; splices.len(), cuts.len(), "{new}");
     for (splice, cut) in splices.iter().zip(cuts) {
         let (at, was, now) = *cut;
         assert_cut(rt, splice, (ROOT, at, was, now));
     }
-    assert_files(rt, alloc, &project, &[(ROOT, new)]);
 }
 
 /// The command is refused, and the project stays as it was.
