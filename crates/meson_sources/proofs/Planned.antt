@@ -1,4 +1,4 @@
--- What commands mean may be done: the steps on a target, and the one value of a keyword argument that is set.
+-- What commands on the sources and extra files of a target mean may be done.
 use Rattle.std.proofs.Common.{◌≡◌, ℕ, List}
 use Rattle.std.specs.Prelude.{All, Result, Ok, Err, IfOk}
 use Rattle.std.specs.Str.{IsUtf8}
