@@ -1,23 +1,22 @@
 -- Of items in UTF-8 the splices of a layout make a text in UTF-8: they cut between items, and what they put there is UTF-8.
 use Rattle.std.specs.Str.{IsUtf8, IsAscii}
-use Rattle.std.proofs.Common.{arith, ◌<◌, ◌≡◌, ℕ, zero, suc, Bool, true, false, ◌&&◌, List, [], ◌∷◌, ◌++◌, Option, Some, None, Ok, take, drop, reverse, if◌then◌else◌, refl, sym, ap, ◌∙◌, subst, append_assoc}
-use Rattle.std.specs.Prelude.{IsTrue, bytes_eq, length, ◌-◌, ◌+◌}
+use Rattle.std.proofs.Common.{arith, ◌<◌, ◌≡◌, ℕ, zero, suc, ◌&&◌, List, [], ◌∷◌, ◌++◌, Option, Some, None, Ok, take, drop, reverse, sym, ap, ◌∙◌, subst, append_assoc}
+use Rattle.std.specs.Prelude.{length, ◌-◌, ◌+◌}
 use Rattle.std.proofs.lemmas.Bool.{cond_both}
 use Rattle.std.proofs.lemmas.List.{append-nil, take-append-drop}
 use Rattle.std.proofs.lemmas.Str.{IsUtf8-nil, IsUtf8-append, IsUtf8-from_ascii}
 use Rattle.meson_lex.specs.declared.kinds.Span.{Span}
-use Rattle.meson_lex.specs.Items.{Lexeme, joined, AreItems, IsItemList}
+use Rattle.meson_lex.specs.Items.{Lexeme, joined}
 use Rattle.meson_layout.specs.declared.primitive.Primitive.{Primitive}
 use Rattle.meson_layout.specs.declared.primitive.Primitive.TheVariants.{First, After, Remove, Replace, Wrap, RemoveStatement, Append}
 use Rattle.meson_layout.specs.declared.removal.Growth.{Growth}
-use Rattle.meson_layout.specs.Looks.{is_blank, is_comma, is_line_end, begins, one, but_last, last_few, line_before, line_behind, gap_len, all_white, at_most_blank, note_len, comma_note_len, closes}
+use Rattle.meson_layout.specs.Looks.{is_blank, is_comma, is_line_end, begins, one, but_last, last_few, line_before, gap_len, all_white, at_most_blank, note_len, comma_note_len, closes}
 use Rattle.meson_layout.specs.Pieces.{Piece, Keep, Change, old_items, new_items, as_one, comma, space, line_feed, open_square, close_square}
-use Rattle.meson_layout.specs.Insertion.{first, plain, with_comma, without_comma, before_bracket, no_comma_on_line, stacked, inserted_by, inserted}
-use Rattle.meson_layout.specs.Removal.{grown, one_gone, one_range, two_gone, two_ranges_by, two_ranges, comma_len, comma_behind_by, comma_behind, comma_before, no_comma_behind, removed}
+use Rattle.meson_layout.specs.Insertion.{plain, with_comma, without_comma, before_bracket, no_comma_on_line, stacked, inserted_by, inserted}
+use Rattle.meson_layout.specs.Removal.{grown, one_gone, two_gone, two_ranges, comma_len, comma_behind, comma_before, no_comma_behind, removed}
 use Rattle.meson_layout.specs.Statements.{at_line_start, statement_gone, statement_removed, line_end_of, appended}
-use Rattle.meson_layout.specs.Layout.{before_len, Parts, parts, replaced, wrapped, first_in, pieces, layout_of}
+use Rattle.meson_layout.specs.Layout.{before_len, parts, replaced, wrapped, first_in, pieces}
 use Rattle.meson_layout.specs.Laws.{AreUtf8, WritesUtf8, CodingLaw}
-use Rattle.meson_layout.specs.Edited.{patched_by}
 use Rattle.meson_layout.proofs.Patched.{patched-pieces}
 
 abbrev IsCoded : Lexeme → Type 0

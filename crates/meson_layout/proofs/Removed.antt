@@ -9,7 +9,7 @@ use Rattle.meson_lex.specs.declared.kinds.Kind.TheVariants as k
 use Rattle.meson_lex.specs.Items.{Lexeme}
 use Rattle.meson_lex.specs.Significant.{Word}
 use Rattle.meson_layout.specs.Looks as look
-use Rattle.meson_lex.specs.Words.{spoken, speaks, IsTight}
+use Rattle.meson_lex.specs.Words.{spoken}
 use Rattle.meson_layout.specs.Words.{remarks, comma_word, IsBeforeElement, IsBehindElement}
 use Rattle.meson_layout.specs.Pieces.{Piece}
 use Rattle.meson_layout.specs.Removal.{one_range, two_ranges, comma_len, comma_behind, comma_before, no_comma_behind, removed}

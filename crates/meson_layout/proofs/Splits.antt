@@ -9,7 +9,7 @@ use Rattle.meson_lex.specs.declared.kinds.Kind.{Kind}
 use Rattle.meson_lex.specs.declared.kinds.Kind.TheVariants as k
 use Rattle.meson_lex.specs.Items.{Lexeme}
 use Rattle.meson_layout.specs.Looks as look
-use Rattle.meson_lex.specs.Words.{word, spoken}
+use Rattle.meson_lex.specs.Words.{spoken}
 use Rattle.meson_layout.specs.Words.{remarks, comma_word}
 use Rattle.meson_layout.proofs.Ends.{back-parts, last-one, last-two, AllMild, AllGap, gap-mild, mild-join, gap-join, gap-spoken, spoken-append, blank-kind, line-kind, comma-kind, comment-kind}
 

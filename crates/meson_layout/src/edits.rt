@@ -1,6 +1,6 @@
 //! The splices of an edit.
 
-ghost use Rattle.std.specs.Prelude.{◌≡◌, ◌+◌, ◌<◌, ◌≤◌, ◌^◌, ◌++◌, IfErr, IfOk, List, drop, length, take};
+ghost use Rattle.std.specs.Prelude.{◌≡◌, ◌+◌, ◌<◌, ◌≤◌, ◌^◌, ◌++◌, ◌∷◌, [], IfErr, IfOk, List, drop, length, take};
 ghost use Rattle.meson_lex.specs.Items.{IsItemList, joined};
 ghost use Rattle.meson_lex.specs.Items.{Lexeme};
 ghost use Rattle.meson_layout.specs.Layout.{FirstFits, IsReady, before_len, layout_of, parts, replaced, wrapped};
@@ -10,7 +10,7 @@ ghost use Rattle.meson_layout.specs.Places.{Fits, at_place};
 ghost use Rattle.meson_splice.specs.declared.fault.SpliceFault.TheVariants.{OutOfMemory};
 
 use crate::lexemes::{Lexeme, lexemes};
-use crate::place::{Place, one_splice, push_texts, splice, text_len};
+use crate::place::{Place, addition, push_texts, replacement, text_len};
 use crate::primitive::Primitive;
 use crate::statements::appended;
 use meson_lex::Span;
@@ -71,10 +71,19 @@ impl<'i, 'a> Place<'i, 'a> {
         push_texts(&mut was, self.own)?;
         let mut now = Vec::new(self.alloc);
         now.extend_from_slice(new)?;
-        one_splice(
-            self.alloc,
-            splice(self.alloc, self.file, text_len(self.left), was, now)?,
-        )
+        replacement(self.alloc, self.file, text_len(self.left), was, now)
+    }
+
+    /// The array of this value, as it is written.
+    fn array(self) -> Result<Vec<u8>, SpliceFault>
+        ensures done { IfOk result (λ v. v.items ≡ 91 ∷ (joined self.entry.own.now ++ 93 ∷ [])) }
+        ensures refused { IfErr result (λ e. e ≡ OutOfMemory) }
+    {
+        let mut now = Vec::new(self.alloc);
+        now.extend_from_slice(b"[")?;
+        push_texts(&mut now, self.own)?;
+        now.extend_from_slice(b"]")?;
+        Ok(now)
     }
 
     /// The value becomes the array of it.
@@ -86,14 +95,8 @@ impl<'i, 'a> Place<'i, 'a> {
     {
         let mut was = Vec::new(self.alloc);
         push_texts(&mut was, self.own)?;
-        let mut now = Vec::new(self.alloc);
-        now.extend_from_slice(b"[")?;
-        push_texts(&mut now, self.own)?;
-        now.extend_from_slice(b"]")?;
-        one_splice(
-            self.alloc,
-            splice(self.alloc, self.file, text_len(self.left), was, now)?,
-        )
+        let now = self.array()?;
+        replacement(self.alloc, self.file, text_len(self.left), was, now)
     }
 }
 
@@ -111,10 +114,7 @@ fn first(
 {
     let mut now = Vec::new(alloc);
     now.extend_from_slice(new)?;
-    one_splice(
-        alloc,
-        splice(alloc, file, text_len(left), Vec::new(alloc), now)?,
-    )
+    addition(alloc, file, text_len(left), now)
 }
 
 /// The splices of an edit of a text of these items.

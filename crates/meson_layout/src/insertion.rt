@@ -1,6 +1,6 @@
 //! Where a new element goes.
 
-ghost use Rattle.std.specs.Prelude.{◌≡◌, ◌++◌, OnOk, ◌+◌, ◌<◌, ◌≤◌, ◌^◌, IfErr, IfOk, length, zero};
+ghost use Rattle.std.specs.Prelude.{◌≡◌, ◌++◌, ◌∷◌, [], OnOk, ◌+◌, ◌<◌, ◌≤◌, ◌^◌, IfErr, IfOk, length, take, zero};
 ghost use Rattle.meson_lex.specs.Items.{joined};
 ghost use Rattle.meson_layout.specs.Insertion.{before_bracket, first, inserted, plain, with_comma, without_comma};
 ghost use Rattle.meson_layout.specs.Pieces.{as_one, splices};
@@ -9,7 +9,7 @@ ghost use Rattle.meson_splice.specs.declared.fault.SpliceFault.TheVariants.{OutO
 
 use crate::lexemes::Lexeme;
 use crate::looks::{closes, comma_note_len, line_before, note_len};
-use crate::place::{Place, one_splice, push_texts, splice, text_len, two_splices};
+use crate::place::{Place, addition, push_texts, splice, text_len, two_splices};
 use meson_splice::{Splice, SpliceFault};
 
 /// Writes a line end with its indent, and what is new on that line.
@@ -32,10 +32,7 @@ impl<'i, 'a> Place<'i, 'a> {
         let mut now = Vec::new(self.alloc);
         now.extend_from_slice(b", ")?;
         now.extend_from_slice(new)?;
-        one_splice(
-            self.alloc,
-            splice(self.alloc, self.file, self.end(), Vec::new(self.alloc), now)?,
-        )
+        addition(self.alloc, self.file, self.end(), now)
     }
 
     /// Behind the element, on a line of its own: a comma and the new line.
@@ -48,10 +45,7 @@ impl<'i, 'a> Place<'i, 'a> {
         let mut now = Vec::new(self.alloc);
         now.extend_from_slice(b",")?;
         push_line(&mut now, line, new)?;
-        one_splice(
-            self.alloc,
-            splice(self.alloc, self.file, self.end(), Vec::new(self.alloc), now)?,
-        )
+        addition(self.alloc, self.file, self.end(), now)
     }
 
     /// Behind the line of the element and its comma: the new line with a comma.
@@ -71,10 +65,7 @@ impl<'i, 'a> Place<'i, 'a> {
         push_line(&mut now, line, new)?;
         now.extend_from_slice(b",")?;
         let at = self.end() + text_len(&self.right[..n]);
-        one_splice(
-            self.alloc,
-            splice(self.alloc, self.file, at, Vec::new(self.alloc), now)?,
-        )
+        addition(self.alloc, self.file, at, now)
     }
 
     /// Behind the line of the element, which has no comma yet.
@@ -93,20 +84,46 @@ impl<'i, 'a> Place<'i, 'a> {
         if n == 0 {
             return self.before_bracket(line, new);
         }
+        let first = self.comma()?;
+        let second = self.line_after_comma(n, line, new)?;
+        two_splices(self.alloc, first, second)
+    }
+
+    /// A comma directly after the element.
+    fn comma(self) -> Result<Splice, SpliceFault>
+        requires { Fits self }
+        ensures done { IfOk result (λ s. s ≡ record { file = self.entry.file.now; at = length (joined self.entry.left.now) + length (joined self.entry.own.now); was = []; now = 44 ∷ [] }) }
+        ensures refused { IfErr result (λ e. e ≡ OutOfMemory) }
+    {
         let mut comma = Vec::new(self.alloc);
         comma.extend_from_slice(b",")?;
-        let first = splice(
+        splice(
             self.alloc,
             self.file,
             self.end(),
             Vec::new(self.alloc),
             comma,
-        )?;
+        )
+    }
+
+    /// The new line behind the line of the element, where the comma after the element is written first.
+    #[tactic(auto, using(crate::proofs::Texts::joined_take))]
+    fn line_after_comma(
+        self,
+        n: usize,
+        line: &[Lexeme<'a>],
+        new: &[u8],
+    ) -> Result<Splice, SpliceFault>
+        requires fits { Fits self }
+        requires within { n ≤ length self.right.now }
+        requires apart { 1 ≤ n }
+        ensures done { IfOk result (λ s. s ≡ record { file = self.entry.file.now; at = length (joined self.entry.left.now) + length (joined self.entry.own.now) + 1 + length (joined (take n self.entry.right.now)); was = []; now = joined line.now ++ new.now }) }
+        ensures refused { IfErr result (λ e. e ≡ OutOfMemory) }
+    {
+        let at = self.end() + 1 + text_len(&self.right[..n]);
         let mut now = Vec::new(self.alloc);
         push_line(&mut now, line, new)?;
-        let at = self.end() + 1 + text_len(&self.right[..n]);
-        let second = splice(self.alloc, self.file, at, Vec::new(self.alloc), now)?;
-        two_splices(self.alloc, first, second)
+        splice(self.alloc, self.file, at, Vec::new(self.alloc), now)
     }
 
     /// A new element behind this one.

@@ -64,6 +64,34 @@ pub(crate) fn one_splice(alloc: Global, splice: Splice) -> Result<Vec<Splice>, S
     Ok(splices)
 }
 
+/// In the file of that name, bytes come in at the offset.
+pub(crate) fn addition(
+    alloc: Global,
+    file: &str,
+    at: usize,
+    now: Vec<u8>,
+) -> Result<Vec<Splice>, SpliceFault>
+    ensures done { IfOk result (λ v. v.items ≡ record { file = file.now; at = at; was = []; now = now.items } ∷ []) }
+    ensures refused { IfErr result (λ e. e ≡ OutOfMemory) }
+{
+    replacement(alloc, file, at, Vec::new(alloc), now)
+}
+
+/// In the file of that name, bytes at the offset become other bytes, by one splice.
+pub(crate) fn replacement(
+    alloc: Global,
+    file: &str,
+    at: usize,
+    was: Vec<u8>,
+    now: Vec<u8>,
+) -> Result<Vec<Splice>, SpliceFault>
+    ensures done { IfOk result (λ v. v.items ≡ record { file = file.now; at = at; was = was.items; now = now.items } ∷ []) }
+    ensures refused { IfErr result (λ e. e ≡ OutOfMemory) }
+{
+    let splice = splice(alloc, file, at, was, now)?;
+    one_splice(alloc, splice)
+}
+
 pub(crate) fn two_splices(
     alloc: Global,
     first: Splice,

@@ -4,7 +4,7 @@ use meson_lex::Span;
 use meson_values::Bytes;
 
 /// One edit of a build file. Spans and offsets are in bytes of the file.
-#[derive(Debug, Drop)]
+#[derive(Drop)]
 pub enum Primitive {
     /// The first element of an empty list, whose opening bracket stands at this offset.
     First { bracket: usize, new: Bytes },

@@ -13,7 +13,7 @@ use crate::looks::{
     all_white, at_most_blank, begins_comma, blanks, ends_comma, gap_len, last_gap_len, line_before,
     line_behind,
 };
-use crate::place::{Place, one_splice, push_texts, splice, text_len, two_splices};
+use crate::place::{Place, push_texts, replacement, splice, text_len, two_splices};
 use meson_splice::{Splice, SpliceFault};
 
 /// How many items a removed range takes along, so that whole lines go.
@@ -69,10 +69,7 @@ impl<'i, 'a> Place<'i, 'a> {
         let growth = grown(self.left, self.right);
         let at = text_len(&self.left[..self.left.len() - growth.before]);
         let was = self.range_text(growth, more, last)?;
-        one_splice(
-            self.alloc,
-            splice(self.alloc, self.file, at, was, Vec::new(self.alloc))?,
-        )
+        replacement(self.alloc, self.file, at, was, Vec::new(self.alloc))
     }
 
     /// This goes at the offset, with what it takes along.

@@ -9,7 +9,7 @@ ghost use Rattle.meson_splice.specs.declared.fault.SpliceFault.TheVariants.{OutO
 
 use crate::lexemes::Lexeme;
 use crate::looks::{at_line_start, begins_line_end, blanks, is_line_end, last_blanks};
-use crate::place::{Place, one_splice, splice, text_len};
+use crate::place::{Place, addition, one_splice, text_len};
 use crate::removal::Growth;
 use meson_splice::{Splice, SpliceFault};
 use std::alloc::Global;
@@ -82,8 +82,5 @@ pub(crate) fn appended(
     }
     now.extend_from_slice(new)?;
     now.extend_from_slice(line)?;
-    one_splice(
-        alloc,
-        splice(alloc, file, text_len(items), Vec::new(alloc), now)?,
-    )
+    addition(alloc, file, text_len(items), now)
 }

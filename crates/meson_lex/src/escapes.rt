@@ -9,7 +9,7 @@ ghost use Rattle.meson_lex.specs.Literals.{letter_escape, numbered, octal_escape
 use crate::bytes::{begins_byte, is_hexadecimal, is_octal};
 
 /// The character that a backslash and what follows it stand for, and how many bytes behind the backslash belong to it.
-#[derive(Clone, Copy, Debug, PartialEq, Eq)]
+#[derive(Clone, Copy)]
 pub struct Escaped {
     pub character: char,
     pub taken: usize,

@@ -1,6 +1,6 @@
 //! One splice: bytes of a file that become other bytes.
 
-ghost use Rattle.std.specs.Prelude.{◌≡◌, ◌≢◌, ◌<◌, Err, IfErr, IfOk, Ok, OnErr, OnOk, length};
+ghost use Rattle.std.specs.Prelude.{◌≡◌, ◌≢◌, ◌<◌, ◌++◌, Err, IfErr, IfOk, Ok, OnErr, OnOk, length};
 ghost use Rattle.meson_splice.specs.Borrowed.{splice_of};
 ghost use Rattle.meson_splice.specs.Files.{with_bytes};
 ghost use Rattle.meson_splice.specs.Patch.{inverse_of, patched, patched_in};
@@ -9,7 +9,7 @@ ghost use Rattle.meson_splice.specs.declared.fault.SpliceFault.TheVariants.{OutO
 use crate::fault::SpliceFault;
 use crate::file_set::FileSet;
 use meson_values::{Bytes, Text};
-use std::alloc::Global;
+use std::alloc::{AllocError, Global};
 
 /// In the file of that name, the bytes `was` at offset `at` become `now`.
 #[derive(Debug, Drop)]
@@ -31,6 +31,17 @@ pub fn inverse(splice: Splice) -> Splice
         was: now,
         now: was,
     }
+}
+
+/// A front, other bytes and a rest, one behind another.
+fn replaced(alloc: Global, front: &[u8], new: &[u8], rest: &[u8]) -> Result<Bytes, AllocError>
+    ensures { IfOk result (λ b. b ≡ front.now ++ new.now ++ rest.now) }
+{
+    let mut bytes = Vec::new(alloc);
+    bytes.extend_from_slice(front)?;
+    bytes.extend_from_slice(new)?;
+    bytes.extend_from_slice(rest)?;
+    Ok(Bytes::of(bytes))
 }
 
 /// A splice that is lent, as it is or taken back.
@@ -77,11 +88,7 @@ impl<'a> Borrowed<'a> {
         if &bytes[self.at..end] != self.old {
             return Err(SpliceFault::Stale(self.file.clone()?, self.at));
         }
-        let mut patched = Vec::new(alloc);
-        patched.extend_from_slice(&bytes[..self.at])?;
-        patched.extend_from_slice(self.new)?;
-        patched.extend_from_slice(&bytes[end..])?;
-        Ok(Bytes::of(patched))
+        Ok(replaced(alloc, &bytes[..self.at], self.new, &bytes[end..])?)
     }
 
     /// The place of the splice's file, and that file's bytes after the splice.

@@ -2,7 +2,7 @@
 //!
 //! The rules are those of the Syntax page of the Meson manual.
 
-ghost use Rattle.std.specs.Prelude.{◌≡◌, ◌+◌, ◌<◌, ◌^◌, IfErr, length, suc};
+ghost use Rattle.std.specs.Prelude.{◌≡◌, ◌+◌, ◌<◌, ◌^◌, IfErr, IfOk, length, suc};
 ghost use Rattle.meson_syntax.specs.Cursor.{input};
 ghost use Rattle.meson_syntax.specs.Input.{GivesAll};
 ghost use Rattle.meson_syntax.specs.Nests.{IsGrammatical, NestsBlocks, Proceeds, Runs};
@@ -116,6 +116,20 @@ impl<'a, F: Fn(Global, &[u8], &mut Cursor<'_>, usize) -> Result<Block, ParseFaul
         (self.deeper)(self.alloc, self.source, tokens, self.depth)
     }
 
+    /// What was read before such a block, and the block.
+    pub(crate) fn with_body<T: Drop>(
+        &self,
+        tokens: &mut Cursor<'_>,
+        read: T,
+    ) -> Result<(T, Block), ParseFault>
+        requires { NestsBlocks self.now.depth (F.pre self.now.deeper) (F.post self.now.deeper) }
+        ensures read { IfOk result (λ p. p.0 ≡ read) }
+        ensures body { Proceeds spec.bodied (λ source p. block_view source p.1) self.now.source.now self.now.depth tokens.old result tokens.new }
+    {
+        let body = self.bodied(tokens)?;
+        Ok((read, body))
+    }
+
     /// The statements up to the end of their block, from the first to the last.
     #[tactic(auto, unfolding(crate::specs::ReadingFiles::blocked))]
     fn block(&self, tokens: &mut Cursor<'_>) -> Result<Block, ParseFault>
@@ -152,7 +166,7 @@ impl<'a, F: Fn(Global, &[u8], &mut Cursor<'_>, usize) -> Result<Block, ParseFaul
         ensures { Proceeds spec.line stmt_view self.now.source.now self.now.depth tokens.old result tokens.new }
     {
         let statement = self.statement(tokens)?;
-        self.expect(tokens, Kind::LineEnd)?;
+        let statement = self.closed(tokens, Kind::LineEnd, statement)?;
         Ok(statement)
     }
 }

@@ -291,8 +291,8 @@ fn copy_stmt(alloc: Global, stmt: &Stmt) -> Result<Stmt, AllocError>
         } => Ok(Stmt::Foreach {
             span: *span,
             names: copy_spans(alloc, names.get())?,
-            items: copy_expr(alloc, items)?,
             body: copy_block(alloc, body)?,
+            items: copy_expr(alloc, items)?,
         }),
         Stmt::Break(span) => Ok(Stmt::Break(*span)),
         Stmt::Continue(span) => Ok(Stmt::Continue(*span)),
@@ -325,8 +325,8 @@ fn copy_branches(alloc: Global, branches: &[Branch]) -> Result<Many<Branch>, All
 fn copy_branch(alloc: Global, branch: &Branch) -> Result<Branch, AllocError>
     ensures { IfOk result (λ b. b ≡ branch.now) }
 {
-    let condition = copy_expr(alloc, &branch.condition)?;
     let block = copy_block(alloc, &branch.block)?;
+    let condition = copy_expr(alloc, &branch.condition)?;
     Ok(Branch { condition, block })
 }
 

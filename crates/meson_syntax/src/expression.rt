@@ -46,6 +46,15 @@ impl<'a, F: Fn(Global, &[u8], &mut Cursor<'_>, usize) -> Result<Expr, ParseFault
         (self.deeper)(self.alloc, self.source, tokens, self.depth)
     }
 
+    /// An expression inside a construct that stands here, in memory of its own.
+    pub(crate) fn boxed(&self, tokens: &mut Cursor<'_>) -> Result<Boxed<Expr>, ParseFault>
+        requires { Nests self.now.depth (F.pre self.now.deeper) (F.post self.now.deeper) }
+        ensures { Runs (spec.expression self.now.depth) expr_view self.now.source.now tokens.old result tokens.new }
+    {
+        let inside = self.inner(tokens)?;
+        Ok(Boxed::new(self.alloc, inside)?)
+    }
+
     /// A conditional, or a tighter expression.
     #[tactic(auto, unfolding(crate::specs::Reading::chosen))]
     fn chosen(&self, tokens: &mut Cursor<'_>) -> Result<Expr, ParseFault>
@@ -71,19 +80,20 @@ impl<'a, F: Fn(Global, &[u8], &mut Cursor<'_>, usize) -> Result<Expr, ParseFault
         requires { Nests self.now.depth (F.pre self.now.deeper) (F.post self.now.deeper) }
         ensures { Follows (λ room inner. spec.answered room inner start (expr_view self.now.source.now condition)) expr_view self.now.source.now self.now.depth tokens.old result tokens.new }
     {
+        let condition = Boxed::new(self.alloc, condition)?;
         if self.depth == 0 {
             return Err(self.too_deep(tokens));
         }
         self.take(tokens);
-        let yes = self.inner(tokens)?;
+        let yes = self.boxed(tokens)?;
         self.expect(tokens, Kind::Colon)?;
-        let no = self.inner(tokens)?;
+        let no = self.boxed(tokens)?;
         let span = self.since(tokens, start);
         Ok(Expr::Conditional {
             span,
-            condition: Boxed::new(self.alloc, condition)?,
-            yes: Boxed::new(self.alloc, yes)?,
-            no: Boxed::new(self.alloc, no)?,
+            condition,
+            yes,
+            no,
         })
     }
 }

@@ -1,6 +1,6 @@
 //! What the rules of the grammar stand on: the tokens that are left of a source, and the steps that each rule is made of.
 
-ghost use Rattle.std.specs.Prelude.{◌≡◌, IfErr, length};
+ghost use Rattle.std.specs.Prelude.{◌≡◌, IfErr, IfOk, length};
 ghost use Rattle.meson_syntax.specs.Cursor.{Bytes, input, place_of};
 ghost use Rattle.meson_syntax.specs.Input as spec;
 ghost use Rattle.meson_syntax.specs.Input.{Gives};
@@ -203,6 +203,21 @@ impl<'a, F> Grammar<'a, F> {
         } else {
             Err(self.unexpected(tokens))
         }
+    }
+
+    /// What was read before a token of this kind, which has to come next. It takes the token.
+    pub(crate) fn closed<T: Drop>(
+        &self,
+        tokens: &mut Cursor<'_>,
+        kind: Kind,
+        read: T,
+    ) -> Result<T, ParseFault>
+        ensures read { IfOk result (λ x. x ≡ read) }
+        ensures gives { Gives (λ _. tt) (spec.expect kind (input self.now.source.now tokens.old)) result (input self.now.source.now tokens.new) }
+        ensures grammatical { IfErr result IsGrammatical }
+    {
+        self.expect(tokens, kind)?;
+        Ok(read)
     }
 
     /// The refusal that the next token can't stand there.

@@ -16,7 +16,6 @@ use crate::many::Many;
 use crate::operator::Bracket;
 use crate::tree::{Arg, Expr, List};
 use meson_lex::Kind;
-use sqlite_items::Boxed;
 use std::alloc::Global;
 
 /// The token that opens a list in these brackets.
@@ -168,12 +167,10 @@ impl<'a, F: Fn(Global, &[u8], &mut Cursor<'_>, usize) -> Result<Expr, ParseFault
         ensures { Follows spec.paired arg_view self.now.source.now self.now.depth tokens.old result tokens.new }
     {
         let start = self.from(tokens);
-        let key = self.inner(tokens)?;
+        let key = self.boxed(tokens)?;
         self.expect(tokens, Kind::Colon)?;
-        let value = self.inner(tokens)?;
+        let value = self.boxed(tokens)?;
         let span = self.since(tokens, start);
-        let key = Boxed::new(self.alloc, key)?;
-        let value = Boxed::new(self.alloc, value)?;
         Ok(Arg::Pair { span, key, value })
     }
 }

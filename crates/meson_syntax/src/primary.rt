@@ -11,7 +11,6 @@ use crate::grammar::{Cursor, Grammar};
 use crate::operator::{Bracket, StringKind};
 use crate::tree::Expr;
 use meson_lex::Kind;
-use sqlite_items::Boxed;
 use std::alloc::Global;
 
 impl<'a, F: Fn(Global, &[u8], &mut Cursor<'_>, usize) -> Result<Expr, ParseFault>> Grammar<'a, F> {
@@ -93,10 +92,9 @@ impl<'a, F: Fn(Global, &[u8], &mut Cursor<'_>, usize) -> Result<Expr, ParseFault
         }
         let start = self.from(tokens);
         self.take(tokens);
-        let inside = self.inner(tokens)?;
+        let inside = self.boxed(tokens)?;
         self.expect(tokens, Kind::CloseRound)?;
         let span = self.since(tokens, start);
-        let inside = Boxed::new(self.alloc, inside)?;
         Ok(Expr::Paren { span, inside })
     }
 }

@@ -73,7 +73,7 @@ impl<'a, F: Fn(Global, &[u8], &mut Cursor<'_>, usize) -> Result<Block, ParseFaul
     {
         self.take(tokens);
         let condition = self.inner_value(tokens)?;
-        let block = self.bodied(tokens)?;
+        let (condition, block) = self.with_body(tokens, condition)?;
         Ok(self.branch(condition, block))
     }
 

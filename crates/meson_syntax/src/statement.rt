@@ -87,8 +87,8 @@ impl<'a, F: Fn(Global, &[u8], &mut Cursor<'_>, usize) -> Result<Block, ParseFaul
         let names = self.names(tokens)?;
         self.expect(tokens, Kind::Colon)?;
         let items = self.inner_value(tokens)?;
-        let body = self.bodied(tokens)?;
-        self.expect(tokens, Kind::WordEndforeach)?;
+        let loops = self.with_body(tokens, items)?;
+        let (items, body) = self.closed(tokens, Kind::WordEndforeach, loops)?;
         let span = self.since(tokens, start);
         Ok(Stmt::Foreach {
             span,

@@ -41,9 +41,23 @@ impl<'a, F: Fn(Global, &[u8], &mut Cursor<'_>, usize) -> Result<Expr, ParseFault
     {
         let start = self.from(tokens);
         let base = self.primary(tokens)?;
-        let tails = self.tails(tokens)?;
+        let (base, tails) = self.before_tails(tokens, base)?;
         let span = self.since(tokens, start);
         Ok(self.with_tails(span, base, tails)?)
+    }
+
+    /// What was read before the method calls and indexes that come next, and those.
+    fn before_tails<T: Drop>(
+        &self,
+        tokens: &mut Cursor<'_>,
+        read: T,
+    ) -> Result<(T, Many<Tail>), ParseFault>
+        requires { Nests self.now.depth (F.pre self.now.deeper) (F.post self.now.deeper) }
+        ensures read { IfOk result (λ p. p.0 ≡ read) }
+        ensures tails { Follows spec.tails (λ source p. tails_view source p.1) self.now.source.now self.now.depth tokens.old result tokens.new }
+    {
+        let tails = self.tails(tokens)?;
+        Ok((read, tails))
     }
 
     /// The method calls and indexes that come next.
@@ -101,7 +115,7 @@ impl<'a, F: Fn(Global, &[u8], &mut Cursor<'_>, usize) -> Result<Expr, ParseFault
         let start = self.from(tokens);
         self.take(tokens);
         let index = self.inner(tokens)?;
-        self.expect(tokens, Kind::CloseSquare)?;
+        let index = self.closed(tokens, Kind::CloseSquare, index)?;
         let span = self.since(tokens, start);
         Ok(Tail::Index { span, index })
     }

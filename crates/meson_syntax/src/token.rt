@@ -3,7 +3,7 @@
 use meson_lex::{Kind, Span};
 
 /// A significant token.
-#[derive(Clone, Copy, Debug, PartialEq, Eq)]
+#[derive(Clone, Copy)]
 pub(crate) struct Token {
     pub kind: Kind,
     /// The bytes that it stands for. A line end is empty, at the end of the token before it.

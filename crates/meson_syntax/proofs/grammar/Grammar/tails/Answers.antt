@@ -1,4 +1,4 @@
-use Rattle.std.proofs.Common.{rules, arith}
+use Rattle.std.proofs.Common.{arith}
 use Rattle.std.proofs.lemmas.Grind.{common_steps}
 use Rattle.meson_syntax.specs.Reading.{tails_from, expression, room}
 use Rattle.meson_syntax.specs.Cursor.{input}
@@ -11,28 +11,28 @@ pub returns-in_err-method : goal.returns-in_err-method
 unfolding tails_from
 returns-in_err-method g c =
     let e = one_more (λ n. tails_from (room c.args.self.now.depth) (expression c.args.self.now.depth) n (tails_view c.args.self.now.source.now c.loop-turn.found) (input c.args.self.now.source.now c.loop-turn.tokens)) _ c.loop-turn._turn c.loop-turn-test.true c.loop-turn.invariant in
-    first_of (search rules, grind (arith, common_steps, tails_view-push))
+    grind (arith, common_steps, tails_view-push)
 
 pub returns-in_err-index : goal.returns-in_err-index
 unfolding tails_from
 returns-in_err-index g c =
     let e = one_more (λ n. tails_from (room c.args.self.now.depth) (expression c.args.self.now.depth) n (tails_view c.args.self.now.source.now c.loop-turn.found) (input c.args.self.now.source.now c.loop-turn.tokens)) _ c.loop-turn._turn c.loop-turn-test.true c.loop-turn.invariant in
-    first_of (search rules, grind (arith, common_steps, tails_view-push))
+    grind (arith, common_steps, tails_view-push)
 
 pub returns-else-sees-2 : goal.returns-else-sees-2
 unfolding tails_from
 returns-else-sees-2 g c =
     let e = one_more (λ n. tails_from (room c.args.self.now.depth) (expression c.args.self.now.depth) n (tails_view c.args.self.now.source.now c.loop-turn.found) (input c.args.self.now.source.now c.loop-turn.tokens)) _ c.loop-turn._turn c.loop-turn-test.true c.loop-turn.invariant in
-    first_of (search rules, grind (arith, common_steps, tails_view-push))
+    grind (arith, common_steps, tails_view-push)
 
 pub loop-turn-preserved : goal.loop-turn-preserved
 unfolding tails_from
 loop-turn-preserved g c =
     let e = one_more (λ n. tails_from (room c.args.self.now.depth) (expression c.args.self.now.depth) n (tails_view c.args.self.now.source.now c.loop-turn.found) (input c.args.self.now.source.now c.loop-turn.tokens)) _ c.loop-turn._turn c.loop-turn-test.true c.loop-turn.invariant in
-    first_of (search rules, grind (arith, common_steps, tails_view-push))
+    grind (arith, common_steps, tails_view-push)
 
 pub returns : goal.returns
 unfolding tails_from
 returns g c =
     let e = no_more (λ n. tails_from (room c.args.self.now.depth) (expression c.args.self.now.depth) n (tails_view c.args.self.now.source.now c.loop-turn.found) (input c.args.self.now.source.now c.loop-turn.tokens)) _ c.loop-turn._turn c.loop-turn-test.false c.loop-turn.invariant in
-    first_of (search rules, grind (arith, common_steps))
+    grind (arith, common_steps)
