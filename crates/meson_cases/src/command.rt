@@ -101,10 +101,12 @@ fn target_add(alloc: Global, id: &str, words: &[&str]) -> Read {
         .copied()
         .take_while(|word| !word.starts_with("--"))
         .collect(alloc)?;
+    let kind = option_or(words, "--type", "executable");
+    let subdir = option_or(words, "--subdir", "«»");
     Ok(Some(Command::TargetAdd {
         target: text(alloc, id)?,
-        target_kind: text(alloc, option_or(words, "--type", "executable"))?,
-        subdir: text(alloc, option_or(words, "--subdir", "«»"))?,
+        target_kind: text(alloc, kind)?,
+        subdir: text(alloc, subdir)?,
         sources: texts(alloc, sources.as_slice())?,
     }))
 }

@@ -14,8 +14,8 @@ fn answer(alloc: Global, bytes: &[u8], words: &[String]) -> Result<(u8, Vec<u8>)
     let mut out = Vec::new(alloc);
     let mut err = Vec::new(alloc);
     let status = rewrite(alloc, &mut store, words, &mut out, &mut err);
-    let after = Vec::from_slice(alloc, store.get(ROOT).unwrap_or(b""))?;
-    Ok((status, after))
+    let after = store.get(ROOT).unwrap_or(b"");
+    Ok((status, Vec::from_slice(alloc, after)?))
 }
 
 /// What a call does to a part of a file that it makes into the whole.

@@ -4,20 +4,22 @@ use crate::command::role_of;
 use crate::files::Files;
 use meson_calls::folders::is_file_name;
 use meson_case_files::{Transcript, text_of};
-use meson_plan::{CallRef, LoadFault, Project, Refusal, Role, subdirs};
+use meson_plan::{CallRef, LoadFault, Project, Refusal, Role, Unloaded, subdirs};
 use meson_splice::FileSet;
 use meson_syntax::{Many, Path};
 use std::alloc::{AllocError, Global};
 
-/// Writes why files are no project.
-fn put_fault(fault: LoadFault, to: &mut Transcript) {
+/// Writes why files are no project, and how many were handed back.
+fn put_unloaded(unloaded: &Unloaded, to: &mut Transcript) {
     to.put("  no project: ");
-    if let LoadFault::Parse { index, .. } = &fault {
+    if let LoadFault::Parse { index, .. } = &unloaded.fault {
         to.put("file ");
         to.show(index);
         to.put(": ");
     }
-    to.show(&fault);
+    to.show(&unloaded.fault);
+    to.put("; files back: ");
+    to.show(&unloaded.files.len());
     to.put("\n");
 }
 
@@ -27,7 +29,7 @@ pub fn loaded(files: &Files, alloc: Global, to: &mut Transcript) -> Option<Proje
     match Project::load(alloc, set) {
         Ok(project) => Some(project),
         Err(unloaded) => {
-            put_fault(unloaded.fault, to);
+            put_unloaded(&unloaded, to);
             None
         }
     }

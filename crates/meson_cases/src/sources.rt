@@ -22,7 +22,8 @@ fn put_item(files: &FileSet, item: &SourceItem, to: &mut Transcript) {
     to.put("  ");
     to.escape(item.value.get().as_bytes());
     to.put(": |");
-    to.escape(bytes_of_item(files, item).unwrap_or(b"?"));
+    let bytes = bytes_of_item(files, item).unwrap_or(b"?");
+    to.escape(bytes);
     to.put("| at ");
     to.show(&item.span.from);
     if let Some(list) = &item.list {
