@@ -1,0 +1,10 @@
+//! Files of cases: how bytes are written there, and what a case comes to beside what the file says.
+#![tactic(auto)]
+
+mod escapes;
+mod judging;
+mod transcript;
+
+pub use escapes::{bytes_of, line_of, text_of};
+pub use judging::{Case, judge};
+pub use transcript::Transcript;

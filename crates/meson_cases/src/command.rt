@@ -1,0 +1,181 @@
+//! Commands by their words, which are those of the program's command line.
+
+use meson_case_files::text_of;
+use meson_plan::{Command, Role, Setting};
+use meson_splice::{Many, Text};
+use std::alloc::{AllocError, Global};
+
+type Read = Result<Option<Command>, AllocError>;
+
+fn text(alloc: Global, word: &str) -> Result<Text, AllocError> {
+    Ok(Text::of(text_of(alloc, word)?))
+}
+
+fn texts(alloc: Global, words: &[&str]) -> Result<Many<Text>, AllocError> {
+    let mut all = Vec::new(alloc);
+    for word in words {
+        all.push(text(alloc, word)?)?;
+    }
+    Ok(Many::of(all))
+}
+
+/// The role of the calls of this function.
+pub fn role_of(function: &str) -> Option<Role> {
+    match function {
+        "target" => Some(Role::Target),
+        "dependency" => Some(Role::Dependency),
+        "project" => Some(Role::Project),
+        _ => None,
+    }
+}
+
+/// A value: `(true)` or `(false)`, a list as `[a,b]`, or a text.
+fn setting(alloc: Global, word: &str) -> Result<Setting, AllocError> {
+    match word {
+        "(true)" => return Ok(Setting::Bool(true)),
+        "(false)" => return Ok(Setting::Bool(false)),
+        "[]" => return Ok(Setting::Texts(Many::new(alloc))),
+        _ => {}
+    }
+    match word.strip_prefix("[") {
+        Some(list) => {
+            let list = list.strip_suffix("]").unwrap_or(list);
+            let words: Vec<&str> = list.split(',').collect(alloc)?;
+            Ok(Setting::Texts(texts(alloc, words.as_slice())?))
+        }
+        None => Ok(Setting::Text(text(alloc, word)?)),
+    }
+}
+
+/// Keys and their values, one behind the other.
+fn pairs(alloc: Global, words: &[&str]) -> Result<Many<(Text, Setting)>, AllocError> {
+    let mut all = Vec::new(alloc);
+    for pair in words.chunks_exact(2) {
+        if let [key, value] = pair {
+            let key = text(alloc, key)?;
+            all.push((key, setting(alloc, value)?))?;
+        }
+    }
+    Ok(Many::of(all))
+}
+
+/// Options and their values, one behind the other.
+fn options(alloc: Global, words: &[&str]) -> Result<Many<(Text, Text)>, AllocError> {
+    let mut all = Vec::new(alloc);
+    for pair in words.chunks_exact(2) {
+        if let [option, value] = pair {
+            let option = text(alloc, option)?;
+            all.push((option, text(alloc, value)?))?;
+        }
+    }
+    Ok(Many::of(all))
+}
+
+/// The first ones of pairs.
+fn keys(alloc: Global, words: &[&str]) -> Result<Many<Text>, AllocError> {
+    let mut all = Vec::new(alloc);
+    for pair in words.chunks_exact(2) {
+        if let [key, _] = pair {
+            all.push(text(alloc, key)?)?;
+        }
+    }
+    Ok(Many::of(all))
+}
+
+/// The word behind an option, or another word where the option is not there.
+fn option_or<'a>(words: &[&'a str], option: &str, other: &'a str) -> &'a str {
+    let mut is_next = false;
+    for word in words {
+        if is_next {
+            return word;
+        }
+        is_next = *word == option;
+    }
+    other
+}
+
+/// The command that puts a target into the project: its sources, then the options.
+fn target_add(alloc: Global, id: &str, words: &[&str]) -> Read {
+    let sources: Vec<&str> = words
+        .iter()
+        .copied()
+        .take_while(|word| !word.starts_with("--"))
+        .collect(alloc)?;
+    let kind = option_or(words, "--type", "executable");
+    let subdir = option_or(words, "--subdir", "«»");
+    Ok(Some(Command::TargetAdd {
+        target: text(alloc, id)?,
+        target_kind: text(alloc, kind)?,
+        subdir: text(alloc, subdir)?,
+        sources: texts(alloc, sources.as_slice())?,
+    }))
+}
+
+/// A command on the sources of a target.
+fn on_sources(alloc: Global, id: &str, operation: &str, words: &[&str]) -> Read {
+    let target = text(alloc, id)?;
+    let sources = texts(alloc, words)?;
+    match operation {
+        "add" => Ok(Some(Command::SourcesAdd { target, sources })),
+        "rm" => Ok(Some(Command::SourcesRemove { target, sources })),
+        "add_extra_files" => Ok(Some(Command::ExtraAdd { target, sources })),
+        "rm_extra_files" => Ok(Some(Command::ExtraRemove { target, sources })),
+        _ => Ok(None),
+    }
+}
+
+fn on_target(alloc: Global, id: &str, operation: &str, words: &[&str]) -> Read {
+    match operation {
+        "add_target" => target_add(alloc, id, words),
+        "rm_target" => Ok(Some(Command::TargetRemove {
+            target: text(alloc, id)?,
+        })),
+        "info" => Ok(Some(Command::TargetInfo {
+            target: text(alloc, id)?,
+        })),
+        _ => on_sources(alloc, id, operation, words),
+    }
+}
+
+fn on_keywords(alloc: Global, operation: &str, role: Role, id: &str, words: &[&str]) -> Read {
+    let id = text(alloc, id)?;
+    if operation == "info" {
+        return Ok(Some(Command::KwargsInfo { role, id }));
+    }
+    if operation == "delete" {
+        let keys = keys(alloc, words)?;
+        return Ok(Some(Command::KwargsDelete { role, id, keys }));
+    }
+    let pairs = pairs(alloc, words)?;
+    match operation {
+        "set" => Ok(Some(Command::KwargsSet { role, id, pairs })),
+        "add" => Ok(Some(Command::KwargsAdd { role, id, pairs })),
+        "remove" => Ok(Some(Command::KwargsRemove { role, id, pairs })),
+        _ => Ok(None),
+    }
+}
+
+fn on_options(alloc: Global, operation: &str, words: &[&str]) -> Read {
+    match operation {
+        "set" => Ok(Some(Command::OptionsSet {
+            pairs: options(alloc, words)?,
+        })),
+        "delete" => Ok(Some(Command::OptionsDelete {
+            names: keys(alloc, words)?,
+        })),
+        _ => Ok(None),
+    }
+}
+
+/// The command that the words name, if they name one.
+pub fn command_of(alloc: Global, words: &[&str]) -> Read {
+    match words {
+        ["target", id, operation, words @ ..] => on_target(alloc, id, operation, words),
+        ["kwargs", operation, function, id, words @ ..] => match role_of(function) {
+            Some(role) => on_keywords(alloc, operation, role, id, words),
+            None => Ok(None),
+        },
+        ["default-options", operation, words @ ..] => on_options(alloc, operation, words),
+        _ => Ok(None),
+    }
+}

@@ -1,5 +1,0 @@
-use Rattle.meson_tests.proofs.Borders.{walked-list}
-use Rattle.meson_tests.proofs.readiness.is_whole.Goals as goal
-
-pub returns : goal.returns
-returns c = walked-list c.args.source.now c.items-item-items.result c.into_iter-item-iterator.result c.loop-item.item-iterator c.items-item-items.ensures.lexed c.into_iter-item-iterator.ensures.into_iter_gives c.in-None.ensures.steps.0 c.loop-item.invariant

@@ -1,6 +1,0 @@
-use Rattle.std.proofs.Common.{◌≡◌}
-use Rattle.meson_tests.proofs.Borders.{is_clean}
-use Rattle.meson_tests.proofs.readiness.is_whole.Given as goal
-
-abbrev pub invariant-loop-item : goal.invariant-loop-item
-invariant-loop-item l = is_clean l.item-iterator ≡ is_clean l.initial.item-iterator
