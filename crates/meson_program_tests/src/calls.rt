@@ -1,6 +1,6 @@
 //! A call of the program on a store in memory, for the tests.
 
-use meson_rewrite::{Memory, rewrite};
+use meson_rewrite::{Counted, Memory, rewrite};
 use std::alloc::Global;
 use std::process::Abort;
 
@@ -19,10 +19,14 @@ pub fn run(rt: &impl Abort, alloc: Global, store: &mut Memory, line: &[&str]) ->
         let word = String::from_str(alloc, word).expect(rt, "memory");
         words.push(word).expect(rt, "memory");
     }
-    let mut out = Vec::new(alloc);
-    let mut err = Vec::new(alloc);
+    let mut out = Counted::new(Vec::new(alloc));
+    let mut err = Counted::new(Vec::new(alloc));
     let status = rewrite(alloc, store, words.as_slice(), &mut out, &mut err);
-    Answer { status, out, err }
+    Answer {
+        status,
+        out: out.take(),
+        err: err.take(),
+    }
 }
 
 /// A store that holds one file.
