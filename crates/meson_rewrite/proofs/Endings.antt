@@ -3,6 +3,11 @@ use Rattle.std.proofs.Common.{◌≡◌, ◌⊎◌, ◌≤◌, ℕ, List, [], �
 use Rattle.meson_rewrite.specs.Content.{Content}
 use Rattle.meson_rewrite.specs.Calls.{FailureCounted, Leaves, counted}
 use Rattle.meson_rewrite.specs.Commit.{Put, puts, put_all, names_of, fault_of, HaltsWith, CommitFails}
+use Rattle.meson_calls.specs.Loading.{Loaded}
+use Rattle.meson_steps.specs.declared.command.Command.{Command}
+use Rattle.meson_rewrite.specs.Edited.{IsNotEdited}
+use Rattle.meson_rewrite.specs.Gathered.{StopsAt, StoreStopsAt}
+use Rattle.meson_rewrite.specs.Gathering.{Ending}
 use Rattle.meson_rewrite.specs.Lines.{still_new, store_fault_status, status}
 use Rattle.meson_rewrite.specs.Runs.{Edits, written, Replaces, WriteFails, StoreStops, Does, CommandEnds, Ends, RunCounted}
 use Rattle.meson_rewrite.specs.Words.{Request, help, set_version}
@@ -116,6 +121,40 @@ status_keeps (Some help) before after failed failed' end h s = h.0
 status_keeps (Some (set_version folder id value)) before after failed failed' end h s = command_keeps folder id value before after failed failed' end h s
 
 -- ---- the count of replaces
+
+-- the files were replaced
+pub done_counted : (files : List Put) (splices : ℕ) (done : Done) (first old new : ℕ) → done ≡ Edited (length files) splices → old ≡ first → new ≡ counted (length files) old → RunCounted (Ok done) first new
+done_counted files splices done first old new is e h =
+    let R : Done → Type 0 = λ d. RunCounted (Ok d) first new in
+    subst R (sym is) (h ∙ ap (counted (length files)) e)
+
+-- they could not be replaced
+pub fault_counted : (fault : StoreFault) (first old new : ℕ) → old ≡ first → new ≡ counted (length (still_new fault)) old → RunCounted (Err (Store fault)) first new
+fault_counted fault first old new e h = h ∙ ap (counted (length (still_new fault))) e
+
+-- nothing was to be replaced
+store_counted : (P : Ending → Type 0) (failed failed' : ℕ) (fault : StoreFault) (old new : ℕ) → StoreStopsAt failed failed' P fault → new ≡ old → RunCounted (Err (Store fault)) old new
+store_counted P failed failed' (store.ReadFailed name) old new h e = e
+store_counted P failed failed' (store.WriteFailed name files) old new h e = absurd h
+store_counted P failed failed' (store.NoFile name) old new h e = e
+store_counted P failed failed' store.OutputFailed old new h e = e
+store_counted P failed failed' store.OutOfMemory old new h e = e
+
+pub stop_counted : (P : Ending → Type 0) (failed failed' : ℕ) (stop : Stop) (old new : ℕ) → StopsAt failed failed' P stop → new ≡ old → RunCounted (Err stop) old new
+stop_counted P failed failed' Usage old new h e = e
+stop_counted P failed failed' (Parse name fault) old new h e = e
+stop_counted P failed failed' TooManyFiles old new h e = e
+stop_counted P failed failed' (Refused why) old new h e = e
+stop_counted P failed failed' (Store fault) old new h e = store_counted P failed failed' fault old new h e
+
+pub edit_counted : (project : Loaded) (command : Command) (stop : Stop) (old new : ℕ) → IsNotEdited project command stop → new ≡ old → RunCounted (Err stop) old new
+edit_counted project command Usage old new h e = e
+edit_counted project command (Parse name fault) old new h e = e
+edit_counted project command TooManyFiles old new h e = e
+edit_counted project command (Refused why) old new h e = e
+edit_counted project command (Store fault) old new h e =
+    let R : StoreFault → Type 0 = λ f. RunCounted (Err (Store f)) old new in
+    subst R (sym h) e
 
 store_counts : (fault : StoreFault) (old new : ℕ) → new ≡ counted (length (still_new fault)) old → (store_fault_status fault ≡ 1) ⊎ (store_fault_status fault ≡ 2) → new ≡ old
 store_counts (store.ReadFailed name) old new h s = h

@@ -1,5 +1,6 @@
 -- What a commit of a project's files does to a store.
-use Rattle.std.specs.Prelude.{◌≡◌, ◌⊎◌, ℕ, List, [], ◌∷◌, ◌++◌, length, map, reverse, codes, bytes_eq, if◌then◌else◌, Option, Some, None, Result, Ok, Err}
+use Rattle.std.specs.Prelude.{◌≡◌, ◌⊎◌, ℕ, List, [], ◌∷◌, ◌++◌, length, map, reverse, codes, bytes_eq}
+use Rattle.std.specs.Prelude.{if◌then◌else◌, Option, Some, None, Result, Ok, Err}
 use Rattle.meson_splice.specs.declared.file_set.File.{File}
 use Rattle.meson_rewrite.specs.Calls.{FailureCounted, Leaves, counted}
 use Rattle.meson_rewrite.specs.Content.{Content, replaced}

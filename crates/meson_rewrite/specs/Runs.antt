@@ -123,7 +123,8 @@ Tells code out out' err err' end = ((code ≡ status end) × Says end out out' e
 
 -- ---- a whole run
 
-pub record Run (asked : Option Request) (before after : Option Content) (failed failed' replaces replaces' code : ℕ) (out out' err err' : Heard) : Type 0 where
+pub record Run (asked : Option Request) (before after : Option Content) (failed failed' replaces replaces' code : ℕ)
+    (out out' err err' : Heard) : Type 0 where
   pub end : Result Done Stop
   pub ends : Ends asked before after failed failed' end
   pub replaced : RunCounted end replaces replaces'

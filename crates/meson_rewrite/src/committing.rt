@@ -1,6 +1,7 @@
 //! Writing the files of a project that changed into a store.
 
-ghost use Rattle.std.specs.Prelude.{◌≡◌, ◌≤◌, ◌<◌, ◌+◌, ◌++◌, ◌∷◌, ℕ, List, Option, IfOk, IfErr, MatchResult, OnOk, length, map, option_map, string_bytes};
+ghost use Rattle.std.specs.Prelude.{◌≡◌, ◌≤◌, ◌<◌, ◌++◌, ◌∷◌, ℕ, List, Option, length, map, option_map};
+ghost use Rattle.std.specs.Prelude.{IfOk, IfErr, MatchResult, OnOk, string_bytes};
 ghost use Rattle.meson_rewrite.specs.Calls.{FailureCounted, changes, counted};
 ghost use Rattle.meson_rewrite.specs.Commit.{CommitFails, Halts, ReplacesCounted, fault_of, names_of, path_in, put_all, puts};
 ghost use Rattle.meson_rewrite.specs.Planned.{put_of};

@@ -41,12 +41,8 @@ fn read_file<S: Store>(
     ensures counts { S.failures store.old ≤ S.failures store.new }
     ensures no_replace { S.replaces store.new ≡ S.replaces store.old }
 {
-    let Ok(told) = text_of(alloc, name) else {
-        return Err(StoreFault::OutOfMemory);
-    };
-    let Ok(path) = path_in(alloc, folder, name) else {
-        return Err(StoreFault::OutOfMemory);
-    };
+    let told = text_of(alloc, name)?;
+    let path = path_in(alloc, folder, name)?;
     match store.read(alloc, path.as_str()) {
         Ok(bytes) => Ok(bytes),
         Err(StoreError::OutOfMemory) => Err(StoreFault::OutOfMemory),
@@ -181,7 +177,8 @@ fn look<S: Store>(
 fn root_set<S: Store>(alloc: Global, store: &mut S, folder: Option<&str>) -> Result<FileSet, Stop>
     ensures root { IfOk result (λ files. (bytes : List ℕ) × (files ≡ file_of build_file bytes ∷ [])
         × Told (S.content store.old) (λ content. held content (option_map (λ f. f.now) folder.entry) build_file ≡ Some bytes)) }
-    ensures stopped { IfErr result (StopsAt (S.failures store.old) (S.failures store.new) (Finds (S.content store.old) (option_map (λ f. f.now) folder.entry))) }
+    ensures stopped { IfErr result (StopsAt (S.failures store.old) (S.failures store.new)
+        (Finds (S.content store.old) (option_map (λ f. f.now) folder.entry))) }
     ensures kept { S.content store.new ≡ S.content store.old }
     ensures counts { S.failures store.old ≤ S.failures store.new }
     ensures no_replace { S.replaces store.new ≡ S.replaces store.old }
@@ -210,7 +207,8 @@ pub(crate) fn gather<S: Store>(
 ) -> Result<FileSet, Stop>
     ensures files { IfOk result (λ files. Finds (S.content store.old) (option_map (λ f. f.now) folder.entry) (whole files)) }
     ensures loadable { IfOk result IsLoadable }
-    ensures stopped { IfErr result (StopsAt (S.failures store.old) (S.failures store.new) (Finds (S.content store.old) (option_map (λ f. f.now) folder.entry))) }
+    ensures stopped { IfErr result (StopsAt (S.failures store.old) (S.failures store.new)
+        (Finds (S.content store.old) (option_map (λ f. f.now) folder.entry))) }
     ensures kept { S.content store.new ≡ S.content store.old }
     ensures counts { S.failures store.old ≤ S.failures store.new }
     ensures no_replace { S.replaces store.new ≡ S.replaces store.old }

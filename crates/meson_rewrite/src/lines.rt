@@ -1,7 +1,9 @@
 //! The lines that the program writes.
 
 ghost use Rattle.std.specs.Prelude.{◌≡◌, ◌++◌, [], MatchResult, codes};
-ghost use Rattle.meson_rewrite.specs.Lines.{line, error_line, lex_fault_line, parse_fault_line, refusal_words, refusal_about, refusal_line, store_fault_line, stop_line, stop_lines, left_by, left_lines, done_line};
+ghost use Rattle.meson_rewrite.specs.Lines.{line, error_line, lex_fault_line, parse_fault_line, done_line, left_lines};
+ghost use Rattle.meson_rewrite.specs.Lines.{refusal_words, refusal_about, refusal_line, store_fault_line};
+ghost use Rattle.meson_rewrite.specs.Lines.{stop_line, stop_lines, left_by};
 ghost use Rattle.meson_rewrite.specs.Output.{Gets, Fails};
 ghost use Rattle.meson_rewrite.specs.Parts.{about_text, line_text};
 

@@ -60,7 +60,8 @@ fn read_project<S: Store>(
     folder: Option<&str>,
 ) -> Result<Project, Stop>
     ensures read { IfOk result (IsRead (S.content store.old) (option_map (λ f. f.now) folder.entry)) }
-    ensures stopped { IfErr result (StopsAt (S.failures store.old) (S.failures store.new) (Finds (S.content store.old) (option_map (λ f. f.now) folder.entry))) }
+    ensures stopped { IfErr result (StopsAt (S.failures store.old) (S.failures store.new)
+        (Finds (S.content store.old) (option_map (λ f. f.now) folder.entry))) }
     ensures kept { S.content store.new ≡ S.content store.old }
     ensures counts { S.failures store.old ≤ S.failures store.new }
     ensures no_replace { S.replaces store.new ≡ S.replaces store.old }
@@ -69,10 +70,7 @@ fn read_project<S: Store>(
         Ok(files) => files,
         Err(stop) => return Err(stop),
     };
-    match load(alloc, files) {
-        Ok(project) => Ok(project),
-        Err(_) => Err(Stop::Store(StoreFault::OutOfMemory)),
-    }
+    Ok(load(alloc, files)?)
 }
 
 /// What a command left of the files before it.
@@ -106,9 +104,7 @@ fn edit_version(alloc: Global, project: &mut Project, id: &str, value: &str) -> 
     ensures edited { IfOk result (IsEdited project.old (version_command id.now value.now) project.new) }
     ensures refused { IfErr result (IsNotEdited project.old (version_command id.now value.now)) }
 {
-    let Ok(command) = version_command(alloc, id, value) else {
-        return Err(Stop::Store(StoreFault::OutOfMemory));
-    };
+    let command = version_command(alloc, id, value)?;
     perform(alloc, project, &command)
 }
 
