@@ -1,14 +1,17 @@
 -- What a commit does, from what its steps did.
 use Rattle.std.proofs.Common.{◌≡◌, ◌⊎◌, ℕ, suc, zero, ◌+◌, ◌<◌, Bool, true, false, not, cond, List, [], ◌∷◌, ◌++◌, Option, map, length, take, drop, inl, inr, refl, sym, ap, ◌∙◌, subst, arith, add-one, append_assoc}
-use Rattle.std.specs.Prelude.{bytes_eq, slice_index_or, Result, Err}
+use Rattle.std.proofs.lemmas.List.{length-reverse}
+use Rattle.std.specs.Prelude.{bytes_eq, slice_index_or, reverse, Result, Ok, Err}
 use Rattle.meson_splice.specs.Files.{bytes_at}
 use Rattle.meson_splice.specs.declared.file_set.File.{File}
+use Rattle.meson_rewrite.specs.Calls.{FailureCounted, Leaves, changes, counted, one_more}
 use Rattle.meson_rewrite.specs.Content.{Content, replaced}
+use Rattle.meson_rewrite.specs.Lines.{still_new}
 use Rattle.meson_rewrite.specs.declared.store.StoreError.{StoreError}
 use Rattle.meson_rewrite.specs.declared.store.StoreError.TheVariants as error
 use Rattle.meson_rewrite.specs.declared.committing.Planned.{Planned}
 use Rattle.meson_rewrite.specs.declared.store_fault.StoreFault.{StoreFault}
-use Rattle.meson_rewrite.specs.Commit.{Put, path_in, put_in, puts, put_all, names_of, fault_of, Leaves, ErrorCounted, Halts, HaltsWith, CommitFails}
+use Rattle.meson_rewrite.specs.Commit.{Put, path_in, put_in, puts, put_all, names_of, fault_of, Halts, HaltsWith, CommitFails, ReplacesCounted}
 use Rattle.meson_rewrite.specs.Planned.{put_of}
 
 -- the bytes that a file gets at that path
@@ -34,11 +37,16 @@ cut-at (p ∷ plan) zero file is h = (ap (λ f. put_of f ∷ map put_of plan) (s
 cut-at (p ∷ plan) (suc i) file is h = let rest = cut-at plan i file is (omega arith) in (ap (λ ps. put_of p ∷ ps) rest.0, ap (λ n. suc n) rest.1)
 
 -- what a replace that failed leaves, where the store held `middle`, which is `held`
-pub left : (why : StoreError) (failed : Put) (path : List ℕ) (held middle after : Option Content) → path ≡ failed.path → middle ≡ held →
-    (after ≡ middle) ⊎ (after ≡ replaced middle path failed.bytes) → (◌≡◌ {A = Result (Unit {0}) StoreError} (Err why) (Err error.OutOfMemory) → after ≡ middle) → Leaves why failed held after
-left error.Device failed path held middle after e m (inl h) memory = inl (h ∙ m)
-left error.Device failed path held middle after e m (inr h) memory = inr (h ∙ ap (λ c. replaced c path failed.bytes) m ∙ ap (λ p. replaced held p failed.bytes) e)
-left error.OutOfMemory failed path held middle after e m h memory = memory refl ∙ m
+pub left : (why : StoreError) (path path' bytes : List ℕ) (held middle after : Option Content) → path ≡ path' → middle ≡ held →
+    Leaves why path bytes middle after → Leaves why path' bytes held after
+left why path path' bytes held middle after e m h =
+    let P : List ℕ → Type 0 = λ p. Leaves why p bytes middle after in
+    let Q : Option Content → Type 0 = λ c. Leaves why path' bytes c after in
+    subst Q m (subst P e h)
+
+-- one more replace was counted
+pub count_one : (k n middle new : ℕ) → middle ≡ counted k n → new ≡ one_more middle → new ≡ counted (k + 1) n
+count_one k n middle new h is = rw add-one (is ∙ ap one_more h)
 
 -- one more file of the two sets was looked at
 pub puts-more : (folder : Option (List ℕ)) (before after : List File) (i : ℕ) (d : File) → i < length before → i < length after →
@@ -104,16 +112,36 @@ length-names_of (x ∷ xs) = ap (λ n. suc n) (length-names_of xs)
 
 -- a replace failed, and its fault was told
 pub fails : (all files : List Put) (before after : Option Content) (old new : ℕ) (why : StoreError) (count : ℕ) (names : List (List ℕ)) (fault : StoreFault) → all ≡ files →
-    (x : Halts all before after why) × (length x.done ≡ count) → ErrorCounted why old new → names ≡ names_of all →
+    (x : Halts all before after why) × (length x.done ≡ count) → FailureCounted why old new → names ≡ names_of all →
     ((done rest : List (List ℕ)) (name : List ℕ) → names ≡ done ++ (name ∷ rest) → length done ≡ count → fault ≡ fault_of done name why) →
     CommitFails files before after old new fault
-fails all files before after old new why count names fault e (x, n) counted are told =
+fails all files before after old new why count names fault e (x, n) failure are told =
     let F : List Put → Type 0 = λ z. CommitFails z before after old new fault in
     let split : names ≡ names_of x.done ++ (x.failed.name ∷ names_of x.rest) = are ∙ ap names_of x.all ∙ names_of-append x.done (x.failed ∷ x.rest) in
     let halts : HaltsWith all before after old new fault = record {
       why = why;
       halts = x;
-      counted = counted;
+      failure = failure;
       told = told (names_of x.done) (names_of x.rest) x.failed.name split (length-names_of x.done ∙ n);
     } in
     subst F e (inr halts)
+
+-- a fault lists one name for each file that may have changed
+listed : (done : List (List ℕ)) (name : List ℕ) (why : StoreError) (n : ℕ) → counted (length (still_new (fault_of done name why))) n ≡ counted (changes why) (counted (length done) n)
+listed done name error.Device n = ap (λ k. one_more (counted k n)) (length-reverse done)
+listed done name error.Unchanged n = ap (λ k. counted k n) (length-reverse done)
+listed [] name error.OutOfMemory n = refl
+listed (first ∷ done) name error.OutOfMemory n = ap (λ k. counted k n) (length-reverse (first ∷ done))
+
+-- what it counts when a replace fails
+pub fails_counted : (all files : List Put) (before after : Option Content) (why : StoreError) (count n : ℕ) (names : List (List ℕ)) (fault : StoreFault) (new : ℕ) →
+    (x : Halts all before after why) × (length x.done ≡ count) → names ≡ names_of all →
+    ((done rest : List (List ℕ)) (name : List ℕ) → names ≡ done ++ (name ∷ rest) → length done ≡ count → fault ≡ fault_of done name why) →
+    new ≡ counted (changes why) (counted count n) → ReplacesCounted files (Err fault) n new
+fails_counted all files before after why count n names fault new (x, e) are told is =
+    let split : names ≡ names_of x.done ++ (x.failed.name ∷ names_of x.rest) = are ∙ ap names_of x.all ∙ names_of-append x.done (x.failed ∷ x.rest) in
+    let as_many : length (names_of x.done) ≡ count = length-names_of x.done ∙ e in
+    is
+    ∙ ap (λ k. counted (changes why) (counted k n)) (sym as_many)
+    ∙ sym (listed (names_of x.done) x.failed.name why n)
+    ∙ ap (λ f. counted (length (still_new f)) n) (sym (told (names_of x.done) (names_of x.rest) x.failed.name split as_many))

@@ -1,4 +1,4 @@
-pub mod Written
+pub mod Telling
 pub mod Commits
 pub mod EnteredNames
 pub mod EnteredFiles

@@ -1,7 +1,10 @@
 -- What a commit of a project's files does to a store.
-use Rattle.std.specs.Prelude.{◌≡◌, ◌⊎◌, ℕ, List, [], ◌∷◌, ◌++◌, map, reverse, codes, bytes_eq, if◌then◌else◌, Option, Some, None}
+use Rattle.std.specs.Prelude.{◌≡◌, ◌⊎◌, ℕ, List, [], ◌∷◌, ◌++◌, length, map, reverse, codes, bytes_eq}
+use Rattle.std.specs.Prelude.{if◌then◌else◌, Option, Some, None, Result, Ok, Err}
 use Rattle.meson_splice.specs.declared.file_set.File.{File}
-use Rattle.meson_rewrite.specs.Content.{Content, replaced, Rose}
+use Rattle.meson_rewrite.specs.Calls.{FailureCounted, Leaves, counted}
+use Rattle.meson_rewrite.specs.Content.{Content, replaced}
+use Rattle.meson_rewrite.specs.Lines.{still_new}
 use Rattle.meson_rewrite.specs.declared.store.StoreError.{StoreError}
 use Rattle.meson_rewrite.specs.declared.store.StoreError.TheVariants as error
 use Rattle.meson_rewrite.specs.declared.store_fault.StoreFault.{StoreFault}
@@ -36,22 +39,13 @@ put_all (p ∷ more) content = put_all more (replaced content p.path p.bytes)
 abbrev pub names_of : List Put → List (List ℕ)
 names_of files = map (λ p. p.name) files
 
--- The fault of a replace of the file of that name, after the files `done` were replaced. Those and, after a failure of the
--- device, the file itself may have their new bytes: they are listed last to first.
+-- The fault of a replace of the file of that name, after the files `done` were replaced. Those and, where it may have its
+-- new bytes, the file itself are listed, last to first.
 abbrev pub fault_of : List (List ℕ) → List ℕ → StoreError → StoreFault
 fault_of done name error.Device = WriteFailed name (name ∷ reverse done)
+fault_of done name error.Unchanged = WriteFailed name (reverse done)
 fault_of [] name error.OutOfMemory = OutOfMemory
 fault_of (first ∷ done) name error.OutOfMemory = WriteFailed name (reverse (first ∷ done))
-
--- what the store holds after a replace failed: where its device did, its file may have the new bytes
-abbrev pub Leaves : StoreError → Put → Option Content → Option Content → Type 0
-Leaves error.Device failed done after = (after ≡ done) ⊎ (after ≡ replaced done failed.path failed.bytes)
-Leaves error.OutOfMemory failed done after = after ≡ done
-
--- a failure of the device was counted
-abbrev pub ErrorCounted : StoreError → ℕ → ℕ → Type 0
-ErrorCounted error.Device old new = Rose old new
-ErrorCounted error.OutOfMemory old new = Unit {0}
 
 -- the files `done` were replaced, and the replace of the next one failed
 pub record Halts (files : List Put) (before after : Option Content) (why : StoreError) : Type 0 where
@@ -59,15 +53,20 @@ pub record Halts (files : List Put) (before after : Option Content) (why : Store
   pub failed : Put
   pub rest : List Put
   pub all : files ≡ done ++ (failed ∷ rest)
-  pub left : Leaves why failed (put_all done before) after
+  pub left : Leaves why failed.path failed.bytes (put_all done before) after
 
 -- the same, with the fault that tells of it
 pub record HaltsWith (files : List Put) (before after : Option Content) (old new : ℕ) (fault : StoreFault) : Type 0 where
   pub why : StoreError
   pub halts : Halts files before after why
-  pub counted : ErrorCounted why old new
+  pub failure : FailureCounted why old new
   pub told : fault ≡ fault_of (names_of halts.done) halts.failed.name why
 
 -- memory was refused before any file was replaced, or a replace failed
 abbrev pub CommitFails : List Put → Option Content → Option Content → ℕ → ℕ → StoreFault → Type 0
 CommitFails files before after old new fault = ((fault ≡ OutOfMemory) × (after ≡ before)) ⊎ HaltsWith files before after old new fault
+
+-- how many replaces may have changed their file: one for each file that differs, or for each that the fault lists
+abbrev pub ReplacesCounted : List Put → Result (Unit {0}) StoreFault → ℕ → ℕ → Type 0
+ReplacesCounted files (Ok done) old new = new ≡ counted (length files) old
+ReplacesCounted files (Err fault) old new = new ≡ counted (length (still_new fault)) old

@@ -1,10 +1,13 @@
 pub mod Content
+pub mod Calls
 pub mod Commit
 pub mod Planned
 pub mod MemoryStore
 pub mod Gathering
 pub mod Gathered
 pub mod Lines
+pub mod Output
+pub mod Parts
 pub mod Words
 pub mod Asked
 pub mod Runs

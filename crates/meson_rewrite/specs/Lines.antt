@@ -24,23 +24,18 @@ error_line label about = codes "error: " ++ line label about
 -- one line for each file that may have its new bytes
 abbrev pub left_lines : List (List ℕ) → List ℕ
 left_lines [] = []
-left_lines (name ∷ names) = codes "left new: " ++ (name ++ (10 ∷ left_lines names))
+left_lines (name ∷ names) = line (codes "left new: ") name ++ left_lines names
 
--- a fault of the output has no line, since there is nowhere to write it
-abbrev pub store_fault_lines : StoreFault → List ℕ
-store_fault_lines (store.ReadFailed name) = error_line (codes "W1 cannot read ") name
-store_fault_lines (store.WriteFailed name still_new) = error_line (codes "W2 cannot write ") name ++ left_lines still_new
-store_fault_lines (store.NoFile name) = error_line (codes "W3 no file ") name
-store_fault_lines store.OutputFailed = []
-store_fault_lines store.OutOfMemory = error_line (codes "out of memory") []
-
--- what stands behind a file's name
-abbrev pub named_line : List ℕ → List ℕ → List ℕ
-named_line name text = codes "error: " ++ (name ++ text)
+abbrev pub store_fault_line : StoreFault → List ℕ
+store_fault_line (store.ReadFailed name) = error_line (codes "W1 cannot read ") name
+store_fault_line (store.WriteFailed name still_new) = error_line (codes "W2 cannot write ") name
+store_fault_line (store.NoFile name) = error_line (codes "W3 no file ") name
+store_fault_line store.OutputFailed = error_line (codes "W4 output failed") []
+store_fault_line store.OutOfMemory = error_line (codes "out of memory") []
 
 -- the line of a fault of a file
 abbrev pub file_line : List ℕ → List ℕ → List ℕ → List ℕ
-file_line name label about = named_line name (codes ": " ++ line label about)
+file_line name label about = codes "error: " ++ (name ++ line (codes ": " ++ label) about)
 
 abbrev pub lex_fault_line : List ℕ → LexFault → List ℕ
 lex_fault_line name (lex.StrayByte at) = file_line name (codes "L1 stray byte at ") (decimal at)
@@ -57,50 +52,67 @@ parse_fault_line name (parse.Unexpected at) = file_line name (codes "S5 unexpect
 parse_fault_line name (parse.TooDeep at) = file_line name (codes "S6 too deep at ") (decimal at)
 parse_fault_line name parse.OutOfMemory = error_line (codes "out of memory") []
 
--- the words of a refusal, and the name that some end with
-abbrev pub refusal_label : Refusal → List ℕ
-refusal_label refusal.NoProject = codes "command 0: C1 no project"
-refusal_label refusal.NotFound = codes "command 0: C2 not found"
-refusal_label refusal.Ambiguous = codes "command 0: C3 ambiguous"
-refusal_label (refusal.UnknownKey name) = codes "command 0: C4 unknown key"
-refusal_label (refusal.WrongKind name) = codes "command 0: C5 wrong kind"
-refusal_label refusal.BadName = codes "command 0: C6 bad name"
-refusal_label refusal.HiddenKeywords = codes "command 0: C7 hidden keywords"
-refusal_label (refusal.DuplicateKeyword name) = codes "command 0: C8 duplicate keyword: "
-refusal_label (refusal.NotLiteral name) = codes "command 0: C9 not literal: "
-refusal_label refusal.SourceNotFound = codes "command 0: C10 source not found"
-refusal_label refusal.Unresolved = codes "command 0: C11 unresolved"
-refusal_label refusal.NotRemovable = codes "command 0: C12 not removable"
-refusal_label refusal.NameTaken = codes "command 0: C13 name taken"
-refusal_label refusal.NoFile = codes "command 0: C14 no file"
-refusal_label refusal.NotStatement = codes "command 0: C15 not a statement"
-refusal_label (refusal.InUse name) = codes "command 0: C16 in use: "
-refusal_label refusal.TooDeep = codes "command 0: C17 too deep"
-refusal_label refusal.TooLarge = codes "command 0: C18 too large"
-refusal_label refusal.OutOfMemory = codes "out of memory"
+-- the code and the words of a refusal
+abbrev pub refusal_words : Refusal → List ℕ
+refusal_words refusal.NoProject = codes "C1 no project"
+refusal_words refusal.NotFound = codes "C2 not found"
+refusal_words refusal.Ambiguous = codes "C3 ambiguous"
+refusal_words (refusal.UnknownKey name) = codes "C4 unknown key"
+refusal_words (refusal.WrongKind name) = codes "C5 wrong kind"
+refusal_words refusal.BadName = codes "C6 bad name"
+refusal_words refusal.HiddenKeywords = codes "C7 hidden keywords"
+refusal_words (refusal.DuplicateKeyword name) = codes "C8 duplicate keyword: "
+refusal_words (refusal.NotLiteral name) = codes "C9 not literal: "
+refusal_words refusal.SourceNotFound = codes "C10 source not found"
+refusal_words refusal.Unresolved = codes "C11 unresolved"
+refusal_words refusal.NotRemovable = codes "C12 not removable"
+refusal_words refusal.NameTaken = codes "C13 name taken"
+refusal_words refusal.NoFile = codes "C14 no file"
+refusal_words refusal.NotStatement = codes "C15 not a statement"
+refusal_words (refusal.InUse name) = codes "C16 in use: "
+refusal_words refusal.TooDeep = codes "C17 too deep"
+refusal_words refusal.TooLarge = codes "C18 too large"
+refusal_words refusal.OutOfMemory = codes "out of memory"
 
+-- the name that some of them end with
 abbrev pub refusal_about : Refusal → List ℕ
 refusal_about (refusal.DuplicateKeyword name) = name
 refusal_about (refusal.NotLiteral name) = name
 refusal_about (refusal.InUse name) = name
 refusal_about _ = []
 
+-- the line of a refusal of the command with that number
+abbrev pub refusal_line : ℕ → Refusal → List ℕ
+refusal_line index refusal.OutOfMemory = error_line (codes "out of memory") []
+refusal_line index why = codes "error: command " ++ (decimal index ++ (codes ": " ++ line (refusal_words why) (refusal_about why)))
+
+abbrev pub stop_line : Stop → List ℕ
+stop_line Usage = error_line (codes "U1 usage") []
+stop_line (Parse name fault) = parse_fault_line name fault
+stop_line TooManyFiles = error_line (codes "M1 too many files") []
+stop_line (Refused why) = refusal_line 0 why
+stop_line (Store fault) = store_fault_line fault
+
+-- the files that may have their new bytes
+abbrev pub still_new : StoreFault → List (List ℕ)
+still_new (store.ReadFailed name) = []
+still_new (store.WriteFailed name files) = files
+still_new (store.NoFile name) = []
+still_new store.OutputFailed = []
+still_new store.OutOfMemory = []
+
+abbrev pub left_by : Stop → List (List ℕ)
+left_by (Store fault) = still_new fault
+left_by _ = []
+
 -- what a run that was stopped writes as errors
 abbrev pub stop_lines : Stop → List ℕ
-stop_lines Usage = error_line (codes "U1 usage") []
-stop_lines (Parse name fault) = parse_fault_line name fault
-stop_lines TooManyFiles = error_line (codes "M1 too many files") []
-stop_lines (Refused why) = error_line (refusal_label why) (refusal_about why)
-stop_lines (Store fault) = store_fault_lines fault
+stop_lines stop = stop_line stop ++ left_lines (left_by stop)
 
--- how many files differ, and how many splices made them
-abbrev pub counts_line : ℕ → ℕ → List ℕ
-counts_line files splices = codes "files: " ++ (decimal files ++ line (codes ", splices: ") (decimal splices))
-
--- what a run that was done writes as output
+-- what a run that was done writes as output: how many files differ, and how many splices made them
 abbrev pub done_line : Done → List ℕ
-done_line Help = codes "meson_rewrite" ++ 10 ∷ []
-done_line (Edited files splices) = counts_line files splices
+done_line Help = line (codes "meson_rewrite") []
+done_line (Edited files splices) = codes "files: " ++ (decimal files ++ line (codes ", splices: ") (decimal splices))
 
 abbrev pub store_fault_status : StoreFault → ℕ
 store_fault_status (store.ReadFailed name) = 3
@@ -115,16 +127,6 @@ stop_status (Parse name fault) = 1
 stop_status TooManyFiles = 1
 stop_status (Refused why) = 1
 stop_status (Store fault) = store_fault_status fault
-
--- ---- how a run ends
-
-abbrev pub out_lines : Result Done Stop → List ℕ
-out_lines (Ok done) = done_line done
-out_lines (Err stop) = []
-
-abbrev pub err_lines : Result Done Stop → List ℕ
-err_lines (Ok done) = []
-err_lines (Err stop) = stop_lines stop
 
 abbrev pub status : Result Done Stop → ℕ
 status (Ok done) = 0

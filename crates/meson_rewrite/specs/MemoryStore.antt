@@ -1,7 +1,8 @@
 -- What a store in memory is seen as: its files, and which of its calls fail.
-use Rattle.std.specs.Prelude.{ℕ, ◌+◌, ◌-◌, ◌^◌, min, Bool, false, ◌&&◌, nat_le, nat_lt, if◌then◌else◌, refl, List}
+use Rattle.std.specs.Prelude.{ℕ, ◌-◌, Bool, false, ◌&&◌, nat_le, nat_lt, if◌then◌else◌, refl, List}
 use Rattle.std.specs.Coded.{Coded, code_by, coded×, coded_ℕ, coded_list, coded_bool}
 use Rattle.std.specs.FinMap.{code, insert, empty}
+use Rattle.meson_rewrite.specs.Calls.{one_more}
 use Rattle.meson_rewrite.specs.Content.{Content}
 
 -- calls of one kind, counted from 1: `made` were made, and the `count` calls from call `first` on fail
@@ -17,6 +18,8 @@ pub record Held : Type 0 where
   pub replaces : Calls
   -- the next failing `replace` leaves its new bytes
   pub leaves_new : Bool
+  -- how many replaces may have changed their file
+  pub changes : ℕ
 
 abbrev calls_code : Coded Calls
 calls_code = code_by (ℕ × (ℕ × ℕ)) (coded× coded_ℕ (coded× coded_ℕ coded_ℕ))
@@ -26,15 +29,18 @@ abbrev plans_code : Coded (Calls × (Calls × Bool))
 plans_code = coded× calls_code (coded× calls_code coded_bool)
 
 abbrev pub held_code : Coded Held
-held_code = code_by ((Content × ℕ) × (Calls × (Calls × Bool)))
-    (coded× (coded× (code (coded_list coded_ℕ) (coded_list coded_ℕ)) coded_ℕ) plans_code)
-    (λ h. ((h.files, h.failures), (h.reads, (h.replaces, h.leaves_new))))
-    (λ p. record { files = p.0.0; failures = p.0.1; reads = p.1.0; replaces = p.1.1.0; leaves_new = p.1.1.1 })
+held_code = code_by ((Content × (ℕ × ℕ)) × (Calls × (Calls × Bool)))
+    (coded× (coded× (code (coded_list coded_ℕ) (coded_list coded_ℕ)) (coded× coded_ℕ coded_ℕ)) plans_code)
+    (λ h. ((h.files, (h.failures, h.changes)), (h.reads, (h.replaces, h.leaves_new))))
+    (λ p. record {
+      files = p.0.0;
+      failures = p.0.1.0;
+      reads = p.1.0;
+      replaces = p.1.1.0;
+      leaves_new = p.1.1.1;
+      changes = p.0.1.1;
+    })
     (λ _. refl)
-
--- one more; a count stops at `u64::MAX`
-abbrev pub one_more : ℕ → ℕ
-one_more n = min (n + 1) (2 ^ 64 - 1)
 
 abbrev pub counted : Calls → Calls
 counted c = record c { made = one_more c.made }
@@ -62,6 +68,7 @@ no_files = record {
   reads = record { made = 0; first = 1; count = 0 };
   replaces = record { made = 0; first = 1; count = 0 };
   leaves_new = false;
+  changes = 0;
 }
 
 -- after a `read`, whatever it answers
@@ -76,6 +83,10 @@ after_replace h = record h {
   leaves_new = if is_due h.replaces then false else h.leaves_new;
 }
 
--- the same, where the file has the new bytes
+-- the same, after a `replace` that may have changed its file
+abbrev pub after_change : Held → Held
+after_change h = record (after_replace h) { changes = one_more h.changes }
+
+-- where the file of that name has these bytes
 abbrev pub with_file : Held → List ℕ → List ℕ → Held
 with_file h name bytes = record h { files = insert h.files name bytes }

@@ -1,6 +1,5 @@
 -- How a run of the program ends: what it says, and what the store then holds.
 use Rattle.std.specs.Prelude.{◌≡◌, ◌≢◌, ◌⊎◌, ⊤, ℕ, List, [], ◌∷◌, length, codes, Option, Some, None, Result, Ok, Err}
-use Rattle.std.specs.Io.KnownBytes.{Appends}
 use Rattle.meson_calls.specs.declared.call.Role.TheVariants as role
 use Rattle.meson_steps.specs.declared.command.Command.{Command}
 use Rattle.meson_steps.specs.declared.command.Command.TheVariants.{KwargsSet}
@@ -11,10 +10,12 @@ use Rattle.meson_calls.specs.declared.refusal.Refusal.TheVariants as refusal
 use Rattle.meson_calls.specs.Directories.{build_file}
 use Rattle.meson_calls.specs.Loading.{Loaded, IsProject}
 use Rattle.meson_plan.specs.Performing.{Performs, MayRefuse}
+use Rattle.meson_rewrite.specs.Calls.{counted}
 use Rattle.meson_rewrite.specs.Commit.{Put, puts, put_all, HaltsWith}
 use Rattle.meson_rewrite.specs.Content.{Content, Rose}
 use Rattle.meson_rewrite.specs.Gathering.{whole, rootless, unparsed, unread, too_many, Finds}
-use Rattle.meson_rewrite.specs.Lines.{out_lines, err_lines, status}
+use Rattle.meson_rewrite.specs.Lines.{done_line, left_by, status, stop_lines}
+use Rattle.meson_rewrite.specs.Output.{Heard, Gets, Fails}
 use Rattle.meson_rewrite.specs.Words.{Request, help, set_version}
 use Rattle.meson_rewrite.specs.declared.stop.Done.{Done}
 use Rattle.meson_rewrite.specs.declared.stop.Done.TheVariants.{Help, Edited}
@@ -96,17 +97,37 @@ Ends None before after failed failed' end = (after ≡ before) × (end ≡ Err U
 Ends (Some help) before after failed failed' end = (after ≡ before) × (end ≡ Ok Help)
 Ends (Some (set_version folder id value)) before after failed failed' end = CommandEnds folder id value before after failed failed' end
 
+-- ---- how many replaces may have changed their file
+
+-- as many as files differ, or as the fault lists; none on any other ending
+abbrev pub RunCounted : Result Done Stop → ℕ → ℕ → Type 0
+RunCounted (Ok Help) old new = new ≡ old
+RunCounted (Ok (Edited files splices)) old new = new ≡ counted files old
+RunCounted (Err stop) old new = new ≡ counted (length (left_by stop)) old
+
 -- ---- what is written
 
--- the status and the lines of the ending, or status 3 where a line could not be written
-abbrev pub Tells : ℕ → Option (List ℕ) → Option (List ℕ) → Option (List ℕ) → Option (List ℕ) → Result Done Stop → Type 0
-Tells code out out' err err' end = ((code ≡ status end) × Appends out out' (out_lines end) × Appends err err' (err_lines end)) ⊎ (code ≡ 3)
+-- one writer got the lines of the ending, and the other nothing
+abbrev pub Says : Result Done Stop → Heard → Heard → Heard → Heard → Type 0
+Says (Ok done) out out' err err' = Gets out out' (done_line done) × (err' ≡ err)
+Says (Err stop) out out' err err' = Gets err err' (stop_lines stop) × (out' ≡ out)
+
+-- that writer failed
+abbrev pub CannotSay : Result Done Stop → Heard → Heard → Heard → Heard → Type 0
+CannotSay (Ok done) out out' err err' = Fails out out' × (err' ≡ err)
+CannotSay (Err stop) out out' err err' = Fails err err' × (out' ≡ out)
+
+-- the status and the lines of the ending, or status 3 where its writer failed
+abbrev pub Tells : ℕ → Heard → Heard → Heard → Heard → Result Done Stop → Type 0
+Tells code out out' err err' end = ((code ≡ status end) × Says end out out' err err') ⊎ ((code ≡ 3) × CannotSay end out out' err err')
 
 -- ---- a whole run
 
-pub record Run (asked : Option Request) (before after : Option Content) (failed failed' code : ℕ) (out out' err err' : Option (List ℕ)) : Type 0 where
+pub record Run (asked : Option Request) (before after : Option Content) (failed failed' replaces replaces' code : ℕ)
+    (out out' err err' : Heard) : Type 0 where
   pub end : Result Done Stop
   pub ends : Ends asked before after failed failed' end
+  pub replaced : RunCounted end replaces replaces'
   pub tells : Tells code out out' err err' end
 
 -- nothing is asked of the store

@@ -12,6 +12,11 @@ abbrev pub is_value : List ℕ → Bool
 is_value [] = true
 is_value (b ∷ bs) = not (b == 45)
 
+-- an empty word names no folder
+abbrev pub is_folder : List ℕ → Bool
+is_folder [] = false
+is_folder (b ∷ bs) = is_value (b ∷ bs)
+
 -- kwargs set project ID version VALUE
 abbrev pub setting : Option (List ℕ) → List (List ℕ) → Option Request
 setting folder (kwargs ∷ set ∷ project ∷ id ∷ version ∷ value ∷ []) =
@@ -24,7 +29,7 @@ setting folder _ = None
 abbrev pub command : List (List ℕ) → Option Request
 command (option ∷ folder ∷ words) =
     if bytes_eq option (codes "--sourcedir")
-    then (if is_value folder then setting (Some folder) words else None)
+    then (if is_folder folder then setting (Some folder) words else None)
     else setting None (option ∷ folder ∷ words)
 command _ = None
 

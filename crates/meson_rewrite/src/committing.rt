@@ -1,7 +1,9 @@
 //! Writing the files of a project that changed into a store.
 
-ghost use Rattle.std.specs.Prelude.{◌≡◌, ◌≤◌, ◌<◌, ◌++◌, ◌∷◌, ℕ, List, IfOk, IfErr, OnOk, length, map, option_map, string_bytes};
-ghost use Rattle.meson_rewrite.specs.Commit.{CommitFails, ErrorCounted, Halts, fault_of, names_of, path_in, put_all, puts};
+ghost use Rattle.std.specs.Prelude.{◌≡◌, ◌≤◌, ◌<◌, ◌++◌, ◌∷◌, ℕ, List, Option, length, map, option_map};
+ghost use Rattle.std.specs.Prelude.{IfOk, IfErr, MatchResult, OnOk, string_bytes};
+ghost use Rattle.meson_rewrite.specs.Calls.{FailureCounted, changes, counted};
+ghost use Rattle.meson_rewrite.specs.Commit.{CommitFails, Halts, ReplacesCounted, fault_of, names_of, path_in, put_all, puts};
 ghost use Rattle.meson_rewrite.specs.Planned.{put_of};
 
 use crate::{Store, StoreError, StoreFault};
@@ -76,8 +78,10 @@ fn replace_all<S: Store>(store: &mut S, plan: &[Planned<'_>]) -> Result<(), Halt
     ensures done { OnOk result (S.content store.new ≡ put_all (map put_of plan.now) (S.content store.old)) }
     ensures halted { IfErr result (λ halt. (halts : Halts (map put_of plan.now) (S.content store.old) (S.content store.new) halt.error)
         × (length halts.done ≡ halt.done)) }
-    ensures device { IfErr result (λ halt. ErrorCounted halt.error (S.failures store.old) (S.failures store.new)) }
+    ensures failed { IfErr result (λ halt. FailureCounted halt.error (S.failures store.old) (S.failures store.new)) }
     ensures counts { S.failures store.old ≤ S.failures store.new }
+    ensures counted { MatchResult result (λ _. S.replaces store.new ≡ counted (length plan.now) (S.replaces store.old))
+        (λ halt. S.replaces store.new ≡ counted (changes halt.error) (counted halt.done (S.replaces store.old))) }
 {
     for (done, file) in plan.iter().enumerate() {
         match store.replace(file.path.as_str(), file.bytes) {
@@ -97,15 +101,18 @@ fn write_fault(names: Vec<Text>, listed: Vec<Text>, halt: Halt) -> StoreFault
 {
     let mut names = names;
     let mut listed = listed;
-    let tried = match halt.error {
+    let changed = match halt.error {
         StoreError::Device => halt.done + 1,
-        StoreError::OutOfMemory => halt.done,
+        StoreError::Unchanged => halt.done,
+        StoreError::OutOfMemory => {
+            if halt.done == 0 {
+                return StoreFault::OutOfMemory;
+            }
+            halt.done
+        }
     };
-    if tried == 0 {
-        return StoreFault::OutOfMemory;
-    }
     let name = names.swap_remove(halt.done);
-    listed.truncate(tried);
+    listed.truncate(changed);
     listed.reverse();
     StoreFault::WriteFailed {
         name,
@@ -113,13 +120,13 @@ fn write_fault(names: Vec<Text>, listed: Vec<Text>, halt: Halt) -> StoreFault
     }
 }
 
-/// Replaces each file whose bytes differ between two sets of the same files, in order. A file NAME of the project is
-/// DIR/NAME in the store where a folder DIR is given, and else NAME. Nothing is written back.
+/// Replaces each file whose bytes differ between two sets of the same files, in order, and no other. A file NAME of the
+/// project is DIR/NAME in the store where a folder DIR is given, and else NAME. Nothing is written back.
 ///
 /// # Errors
 /// `WriteFailed` for the first file that could not be replaced, with the files that may have their new bytes: those that
-/// were replaced and, where the device failed, that file, last first. `OutOfMemory` where memory was refused before
-/// any file was replaced; the growths of `commit` itself all come before.
+/// were replaced and, where the store doesn't know that it is as it was, that file, last first. `OutOfMemory` where
+/// memory was refused before any file was replaced; the growths of `commit` itself all come before.
 pub fn commit<S: Store>(
     alloc: Global,
     store: &mut S,
@@ -133,19 +140,29 @@ pub fn commit<S: Store>(
     ensures failed { IfErr result (CommitFails (puts (option_map (λ f. f.now) folder.entry) before.now after.now)
         (S.content store.old) (S.content store.new) (S.failures store.old) (S.failures store.new)) }
     ensures counts { S.failures store.old ≤ S.failures store.new }
+    ensures counted { ReplacesCounted (puts (option_map (λ f. f.now) folder.entry) before.now after.now) result
+        (S.replaces store.old) (S.replaces store.new) }
 {
-    let Ok(plan) = differing(alloc, folder, before, after) else {
-        return Err(StoreFault::OutOfMemory);
-    };
+    let plan = differing(alloc, folder, before, after)?;
     let files = plan.as_slice();
-    let Ok(names) = names_of(alloc, files) else {
-        return Err(StoreFault::OutOfMemory);
-    };
-    let Ok(listed) = names_of(alloc, files) else {
-        return Err(StoreFault::OutOfMemory);
-    };
+    let names = names_of(alloc, files)?;
+    let listed = names_of(alloc, files)?;
     match replace_all(store, files) {
         Ok(()) => Ok(()),
         Err(halt) => Err(write_fault(names, listed, halt)),
     }
+}
+
+/// How many files have other bytes.
+pub(crate) fn count_differing(before: &FileSet, after: &FileSet) -> usize
+    requires { map (λ f. f.name) before.now ≡ map (λ f. f.name) after.now }
+    ensures { (folder : Option (List ℕ)) → result ≡ length (puts folder before.now after.now) }
+{
+    let mut count = 0;
+    for i in 0..after.len() {
+        if before.bytes(i) != after.bytes(i) {
+            count += 1;
+        }
+    }
+    count
 }

@@ -39,17 +39,14 @@ fn read_file<S: Store>(
     ensures failed { IfErr result (IsUnread (S.failures store.old) (S.failures store.new) name.now) }
     ensures kept { S.content store.new ≡ S.content store.old }
     ensures counts { S.failures store.old ≤ S.failures store.new }
+    ensures no_replace { S.replaces store.new ≡ S.replaces store.old }
 {
-    let Ok(told) = text_of(alloc, name) else {
-        return Err(StoreFault::OutOfMemory);
-    };
-    let Ok(path) = path_in(alloc, folder, name) else {
-        return Err(StoreFault::OutOfMemory);
-    };
+    let told = text_of(alloc, name)?;
+    let path = path_in(alloc, folder, name)?;
     match store.read(alloc, path.as_str()) {
         Ok(bytes) => Ok(bytes),
-        Err(StoreError::Device) => Err(StoreFault::ReadFailed(told)),
         Err(StoreError::OutOfMemory) => Err(StoreFault::OutOfMemory),
+        Err(StoreError::Device | StoreError::Unchanged) => Err(StoreFault::ReadFailed(told)),
     }
 }
 
@@ -90,6 +87,7 @@ fn enter<S: Store>(
         (λ end. Told (S.content store.old) (λ content. IsNotEntered content (option_map (λ f. f.now) folder.entry) (name.now ∷ []) files.old end))) }
     ensures kept { S.content store.new ≡ S.content store.old }
     ensures counts { S.failures store.old ≤ S.failures store.new }
+    ensures no_replace { S.replaces store.new ≡ S.replaces store.old }
 {
     if files.find(name).is_some() {
         return Ok(());
@@ -118,6 +116,7 @@ fn enter_all<S: Store>(
         (λ end. Told (S.content store.old) (λ content. IsNotEntered content (option_map (λ f. f.now) folder.entry) (map string_bytes names.now) files.old end))) }
     ensures kept { S.content store.new ≡ S.content store.old }
     ensures counts { S.failures store.old ≤ S.failures store.new }
+    ensures no_replace { S.replaces store.new ≡ S.replaces store.old }
 {
     for i in 0..names.len() {
         match enter(alloc, store, folder, files, names[i].as_str()) {
@@ -166,6 +165,7 @@ fn look<S: Store>(
         (λ end. Told (S.content store.old) (λ content. Gathers content (option_map (λ f. f.now) folder.entry) (take place files.old) (drop place files.old) end))) }
     ensures kept { S.content store.new ≡ S.content store.old }
     ensures counts { S.failures store.old ≤ S.failures store.new }
+    ensures no_replace { S.replaces store.new ≡ S.replaces store.old }
 {
     match names_in(alloc, files, place) {
         Ok(names) => enter_all(alloc, store, folder, files, names.as_slice()),
@@ -177,9 +177,11 @@ fn look<S: Store>(
 fn root_set<S: Store>(alloc: Global, store: &mut S, folder: Option<&str>) -> Result<FileSet, Stop>
     ensures root { IfOk result (λ files. (bytes : List ℕ) × (files ≡ file_of build_file bytes ∷ [])
         × Told (S.content store.old) (λ content. held content (option_map (λ f. f.now) folder.entry) build_file ≡ Some bytes)) }
-    ensures stopped { IfErr result (StopsAt (S.failures store.old) (S.failures store.new) (Finds (S.content store.old) (option_map (λ f. f.now) folder.entry))) }
+    ensures stopped { IfErr result (StopsAt (S.failures store.old) (S.failures store.new)
+        (Finds (S.content store.old) (option_map (λ f. f.now) folder.entry))) }
     ensures kept { S.content store.new ≡ S.content store.old }
     ensures counts { S.failures store.old ≤ S.failures store.new }
+    ensures no_replace { S.replaces store.new ≡ S.replaces store.old }
 {
     let Ok(name) = text_of(alloc, ROOT) else {
         return Err(Stop::Store(StoreFault::OutOfMemory));
@@ -205,9 +207,11 @@ pub(crate) fn gather<S: Store>(
 ) -> Result<FileSet, Stop>
     ensures files { IfOk result (λ files. Finds (S.content store.old) (option_map (λ f. f.now) folder.entry) (whole files)) }
     ensures loadable { IfOk result IsLoadable }
-    ensures stopped { IfErr result (StopsAt (S.failures store.old) (S.failures store.new) (Finds (S.content store.old) (option_map (λ f. f.now) folder.entry))) }
+    ensures stopped { IfErr result (StopsAt (S.failures store.old) (S.failures store.new)
+        (Finds (S.content store.old) (option_map (λ f. f.now) folder.entry))) }
     ensures kept { S.content store.new ≡ S.content store.old }
     ensures counts { S.failures store.old ≤ S.failures store.new }
+    ensures no_replace { S.replaces store.new ≡ S.replaces store.old }
 {
     let mut files = match root_set(alloc, store, folder) {
         Ok(files) => files,

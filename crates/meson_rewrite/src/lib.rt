@@ -2,11 +2,12 @@
 #![tactic(auto)]
 
 mod committing;
-mod counting;
 mod folder;
 mod gathering;
+mod line;
 mod lines;
 mod memory;
+mod output;
 mod program;
 mod stop;
 mod store;
@@ -16,6 +17,7 @@ mod words;
 pub use committing::commit;
 pub use folder::Folder;
 pub use memory::Memory;
+pub use output::{Counted, Output};
 pub use program::rewrite;
 pub use store::{Store, StoreError};
 pub use store_fault::StoreFault;

@@ -1,138 +1,107 @@
 //! The lines that the program writes.
 
-ghost use Rattle.std.specs.Prelude.{◌≡◌, ◌++◌, [], codes, decimal, OnOk};
-ghost use Rattle.std.specs.Io.KnownBytes.{Appends};
-ghost use Rattle.meson_rewrite.specs.Lines.{line, named_line, left_lines, store_fault_lines, lex_fault_line, parse_fault_line, refusal_label, refusal_about, stop_lines, counts_line, done_line};
+ghost use Rattle.std.specs.Prelude.{◌≡◌, ◌++◌, [], MatchResult, codes};
+ghost use Rattle.meson_rewrite.specs.Lines.{line, error_line, lex_fault_line, parse_fault_line, done_line, left_lines};
+ghost use Rattle.meson_rewrite.specs.Lines.{refusal_words, refusal_about, refusal_line, store_fault_line};
+ghost use Rattle.meson_rewrite.specs.Lines.{stop_line, stop_lines, left_by};
+ghost use Rattle.meson_rewrite.specs.Output.{Gets, Fails};
+ghost use Rattle.meson_rewrite.specs.Parts.{about_text, line_text};
 
-use crate::StoreFault;
+use crate::line::{About, Line};
 use crate::stop::{Done, Stop};
+use crate::{Output, StoreFault};
 use meson_lex::LexFault;
 use meson_plan::Refusal;
 use meson_splice::Text;
 use meson_syntax::ParseFault;
+use std::alloc::Global;
 use std::io;
-use std::io::Write;
 
-/// Writes a line: a label, and what it is about.
-#[tactic(auto, using(crate::proofs::Written::appends_thrice))]
-fn write_line<W: Write>(to: &mut W, label: &str, about: &str) -> io::Result<()>
-    ensures { OnOk result (Appends (W.contents to.old) (W.contents to.new) (line label.now about.now)) }
+/// The number of the one command.
+const COMMAND: usize = 0;
+
+/// The line of a fault that says so much.
+fn fault(words: &'static str) -> Line<'static>
+    ensures { line_text result ≡ error_line words.now [] }
 {
-    to.write_all(label.as_bytes())?;
-    to.write_all(about.as_bytes())?;
-    to.write_all(b"\n")
+    named_fault(words, "")
 }
 
-/// Writes a line about an offset, in bytes.
-#[tactic(auto, using(crate::proofs::Written::appends_thrice))]
-fn write_line_at<W: Write>(to: &mut W, label: &str, at: usize) -> io::Result<()>
-    ensures { OnOk result (Appends (W.contents to.old) (W.contents to.new) (line label.now (decimal at))) }
+/// The line of a fault about a name.
+fn named_fault<'a>(words: &'static str, name: &'a str) -> Line<'a>
+    ensures { line_text result ≡ error_line words.now name.now }
 {
-    to.write_all(label.as_bytes())?;
-    write!(to, "{at}")?;
-    to.write_all(b"\n")
+    Line {
+        label: "error: ",
+        what: About::Nothing,
+        words,
+        about: About::Name(name),
+    }
 }
 
-/// Writes a line for each file that may have its new bytes.
-fn write_left<W: Write>(to: &mut W, still_new: &[Text]) -> io::Result<()>
-    ensures { OnOk result (Appends (W.contents to.old) (W.contents to.new) (left_lines still_new.now)) }
+/// The line of a fault of a file.
+fn file_fault<'a>(name: &'a str, words: &'static str, about: About<'a>) -> Line<'a>
+    ensures { line_text result ≡ codes "error: " ++ (name.now ++ line words.now (about_text about.entry)) }
 {
-    let Some((name, names)) = still_new.split_first() else {
-        return Ok(());
-    };
-    write_line(to, "left new: ", name.get())?;
-    write_left(to, names)
+    Line {
+        label: "error: ",
+        what: About::Name(name),
+        words,
+        about,
+    }
 }
 
-fn write_store_fault<W: Write>(to: &mut W, fault: &StoreFault) -> io::Result<()>
-    ensures { OnOk result (Appends (W.contents to.old) (W.contents to.new) (store_fault_lines fault.now)) }
+fn lex_fault_line(name: &str, why: LexFault) -> Line<'_>
+    ensures { line_text result ≡ lex_fault_line name.now why }
 {
-    match fault {
-        StoreFault::ReadFailed(name) => write_line(to, "error: W1 cannot read ", name.get()),
-        StoreFault::WriteFailed { name, still_new } => {
-            write_line(to, "error: W2 cannot write ", name.get())?;
-            write_left(to, still_new.get())
+    match why {
+        LexFault::StrayByte(at) => file_fault(name, ": L1 stray byte at ", About::Number(at)),
+        LexFault::OpenString(at) => file_fault(name, ": L2 open string at ", About::Number(at)),
+        LexFault::BadNumber(at) => file_fault(name, ": L3 bad number at ", About::Number(at)),
+        LexFault::BareCarriageReturn(at) => {
+            file_fault(name, ": L4 bare carriage return at ", About::Number(at))
         }
-        StoreFault::NoFile(name) => write_line(to, "error: W3 no file ", name.get()),
-        StoreFault::OutputFailed => Ok(()),
-        StoreFault::OutOfMemory => write_line(to, "error: out of memory", ""),
     }
 }
 
-/// Writes a line about a file: its name, and a label.
-#[tactic(auto, using(crate::proofs::Written::appends_thrice))]
-fn write_file_line<W: Write>(to: &mut W, name: &str, label: &str) -> io::Result<()>
-    ensures { OnOk result (Appends (W.contents to.old) (W.contents to.new) (named_line name.now (line label.now []))) }
+fn parse_fault_line(name: &str, why: ParseFault) -> Line<'_>
+    ensures { line_text result ≡ parse_fault_line name.now why }
 {
-    to.write_all(b"error: ")?;
-    to.write_all(name.as_bytes())?;
-    write_line(to, label, "")
-}
-
-/// Writes a line about an offset in a file.
-#[tactic(auto, using(crate::proofs::Written::appends_thrice))]
-fn write_file_line_at<W: Write>(to: &mut W, name: &str, label: &str, at: usize) -> io::Result<()>
-    ensures { OnOk result (Appends (W.contents to.old) (W.contents to.new) (named_line name.now (line label.now (decimal at)))) }
-{
-    to.write_all(b"error: ")?;
-    to.write_all(name.as_bytes())?;
-    write_line_at(to, label, at)
-}
-
-fn write_lex_fault<W: Write>(to: &mut W, name: &str, fault: LexFault) -> io::Result<()>
-    ensures { OnOk result (Appends (W.contents to.old) (W.contents to.new) (lex_fault_line name.now fault)) }
-{
-    match fault {
-        LexFault::StrayByte(at) => write_file_line_at(to, name, ": L1 stray byte at ", at),
-        LexFault::OpenString(at) => write_file_line_at(to, name, ": L2 open string at ", at),
-        LexFault::BadNumber(at) => write_file_line_at(to, name, ": L3 bad number at ", at),
-        LexFault::BareCarriageReturn(at) => write_file_line_at(
-            to,
-            name,
-            ": L4 bare carriage return at ",
-            at,
-        ),
+    match why {
+        ParseFault::TooLarge => file_fault(name, ": S1 too large", About::Nothing),
+        ParseFault::NotUtf8 => file_fault(name, ": S2 not utf-8", About::Nothing),
+        ParseFault::ByteOrderMark => file_fault(name, ": S3 byte order mark", About::Nothing),
+        ParseFault::Lex(why) => lex_fault_line(name, why),
+        ParseFault::Unexpected(at) => file_fault(name, ": S5 unexpected at ", About::Number(at)),
+        ParseFault::TooDeep(at) => file_fault(name, ": S6 too deep at ", About::Number(at)),
+        ParseFault::OutOfMemory => fault("out of memory"),
     }
 }
 
-fn write_parse_fault<W: Write>(to: &mut W, name: &str, fault: ParseFault) -> io::Result<()>
-    ensures { OnOk result (Appends (W.contents to.old) (W.contents to.new) (parse_fault_line name.now fault)) }
-{
-    match fault {
-        ParseFault::TooLarge => write_file_line(to, name, ": S1 too large"),
-        ParseFault::NotUtf8 => write_file_line(to, name, ": S2 not utf-8"),
-        ParseFault::ByteOrderMark => write_file_line(to, name, ": S3 byte order mark"),
-        ParseFault::Lex(fault) => write_lex_fault(to, name, fault),
-        ParseFault::Unexpected(at) => write_file_line_at(to, name, ": S5 unexpected at ", at),
-        ParseFault::TooDeep(at) => write_file_line_at(to, name, ": S6 too deep at ", at),
-        ParseFault::OutOfMemory => write_line(to, "error: out of memory", ""),
-    }
-}
-
-/// The words of a refusal, up to what it is about.
-fn refusal_label(refusal: &Refusal) -> &'static str
-    ensures { result.now ≡ codes "error: " ++ refusal_label refusal.now }
+/// The code and the words of a refusal.
+fn refusal_words(refusal: &Refusal) -> &'static str
+    ensures { result.now ≡ codes ": " ++ refusal_words refusal.now }
 {
     match refusal {
-        Refusal::NoProject => "error: command 0: C1 no project",
-        Refusal::NotFound => "error: command 0: C2 not found",
-        Refusal::Ambiguous => "error: command 0: C3 ambiguous",
-        Refusal::UnknownKey(_) => "error: command 0: C4 unknown key",
-        Refusal::WrongKind(_) => "error: command 0: C5 wrong kind",
-        Refusal::BadName => "error: command 0: C6 bad name",
-        Refusal::HiddenKeywords => "error: command 0: C7 hidden keywords",
-        Refusal::DuplicateKeyword(_) => "error: command 0: C8 duplicate keyword: ",
-        Refusal::NotLiteral(_) => "error: command 0: C9 not literal: ",
-        Refusal::SourceNotFound => "error: command 0: C10 source not found",
-        Refusal::Unresolved => "error: command 0: C11 unresolved",
-        Refusal::NotRemovable => "error: command 0: C12 not removable",
-        Refusal::NameTaken => "error: command 0: C13 name taken",
-        Refusal::NoFile => "error: command 0: C14 no file",
-        Refusal::NotStatement => "error: command 0: C15 not a statement",
-        Refusal::InUse(_) => "error: command 0: C16 in use: ",
-        Refusal::TooDeep => "error: command 0: C17 too deep",
-        Refusal::TooLarge => "error: command 0: C18 too large",
-        Refusal::OutOfMemory => "error: out of memory",
+        Refusal::NoProject => ": C1 no project",
+        Refusal::NotFound => ": C2 not found",
+        Refusal::Ambiguous => ": C3 ambiguous",
+        Refusal::UnknownKey(_) => ": C4 unknown key",
+        Refusal::WrongKind(_) => ": C5 wrong kind",
+        Refusal::BadName => ": C6 bad name",
+        Refusal::HiddenKeywords => ": C7 hidden keywords",
+        Refusal::DuplicateKeyword(_) => ": C8 duplicate keyword: ",
+        Refusal::NotLiteral(_) => ": C9 not literal: ",
+        Refusal::SourceNotFound => ": C10 source not found",
+        Refusal::Unresolved => ": C11 unresolved",
+        Refusal::NotRemovable => ": C12 not removable",
+        Refusal::NameTaken => ": C13 name taken",
+        Refusal::NoFile => ": C14 no file",
+        Refusal::NotStatement => ": C15 not a statement",
+        Refusal::InUse(_) => ": C16 in use: ",
+        Refusal::TooDeep => ": C17 too deep",
+        Refusal::TooLarge => ": C18 too large",
+        Refusal::OutOfMemory => ": out of memory",
     }
 }
 
@@ -148,35 +117,100 @@ fn refusal_about(refusal: &Refusal) -> &str
     }
 }
 
-/// Writes why a run was stopped.
-pub(crate) fn write_stop<W: Write>(to: &mut W, stop: &Stop) -> io::Result<()>
-    ensures { OnOk result (Appends (W.contents to.old) (W.contents to.new) (stop_lines stop.now)) }
+/// The line of a refusal of the command with that number.
+fn refusal_line(index: usize, refusal: &Refusal) -> Line<'_>
+    ensures { line_text result ≡ refusal_line index refusal.now }
 {
-    match stop {
-        Stop::Usage => write_line(to, "error: U1 usage", ""),
-        Stop::Parse { name, fault } => write_parse_fault(to, name.get(), *fault),
-        Stop::TooManyFiles => write_line(to, "error: M1 too many files", ""),
-        Stop::Refused(refusal) => write_line(to, refusal_label(refusal), refusal_about(refusal)),
-        Stop::Store(fault) => write_store_fault(to, fault),
+    if matches!(refusal, Refusal::OutOfMemory) {
+        return fault("out of memory");
+    }
+    Line {
+        label: "error: command ",
+        what: About::Number(index),
+        words: refusal_words(refusal),
+        about: About::Name(refusal_about(refusal)),
     }
 }
 
-/// Writes how many files and splices there were.
-#[tactic(auto, using(crate::proofs::Written::appends_thrice))]
-fn write_counts<W: Write>(to: &mut W, files: usize, splices: usize) -> io::Result<()>
-    ensures { OnOk result (Appends (W.contents to.old) (W.contents to.new) (counts_line files splices)) }
+fn store_fault_line(why: &StoreFault) -> Line<'_>
+    ensures { line_text result ≡ store_fault_line why.now }
 {
-    to.write_all(b"files: ")?;
-    write!(to, "{files}")?;
-    write_line_at(to, ", splices: ", splices)
+    match why {
+        StoreFault::ReadFailed(name) => named_fault("W1 cannot read ", name.get()),
+        StoreFault::WriteFailed { name, .. } => named_fault("W2 cannot write ", name.get()),
+        StoreFault::NoFile(name) => named_fault("W3 no file ", name.get()),
+        StoreFault::OutputFailed => fault("W4 output failed"),
+        StoreFault::OutOfMemory => fault("out of memory"),
+    }
 }
 
-/// Writes what a run did.
-pub(crate) fn write_done<W: Write>(to: &mut W, done: Done) -> io::Result<()>
-    ensures { OnOk result (Appends (W.contents to.old) (W.contents to.new) (done_line done)) }
+/// The line that says why a run was stopped.
+fn stop_line(stop: &Stop) -> Line<'_>
+    ensures { line_text result ≡ stop_line stop.now }
+{
+    match stop {
+        Stop::Usage => fault("U1 usage"),
+        Stop::Parse { name, fault } => parse_fault_line(name.get(), *fault),
+        Stop::TooManyFiles => fault("M1 too many files"),
+        Stop::Refused(refusal) => refusal_line(COMMAND, refusal),
+        Stop::Store(why) => store_fault_line(why),
+    }
+}
+
+/// The files that may have their new bytes.
+fn left_by(stop: &Stop) -> &[Text]
+    ensures { result.now ≡ left_by stop.now }
+{
+    match stop {
+        Stop::Store(StoreFault::WriteFailed { still_new, .. }) => still_new.get(),
+        _ => &[],
+    }
+}
+
+/// Writes a line for each file that may have its new bytes.
+#[tactic(auto, using(crate::proofs::Telling::gets_nothing))]
+fn tell_left<O: Output>(alloc: Global, to: &mut O, names: &[Text]) -> io::Result<()>
+    ensures { MatchResult result (λ _. Gets (O.heard to.old) (O.heard to.new) (left_lines names.now))
+        (λ _. Fails (O.heard to.old) (O.heard to.new)) }
+{
+    let Some((name, names)) = names.split_first() else {
+        return Ok(());
+    };
+    let line = Line {
+        label: "left new: ",
+        what: About::Name(name.get()),
+        words: "",
+        about: About::Nothing,
+    };
+    line.tell(alloc, to)?;
+    tell_left(alloc, to, names)
+}
+
+/// Writes why a run was stopped.
+pub(crate) fn tell_stop<O: Output>(alloc: Global, to: &mut O, stop: &Stop) -> io::Result<()>
+    ensures { MatchResult result (λ _. Gets (O.heard to.old) (O.heard to.new) (stop_lines stop.now))
+        (λ _. Fails (O.heard to.old) (O.heard to.new)) }
+{
+    stop_line(stop).tell(alloc, to)?;
+    tell_left(alloc, to, left_by(stop))
+}
+
+/// The line that says what a run did.
+pub(crate) fn done_line(done: Done) -> Line<'static>
+    ensures { line_text result ≡ done_line done }
 {
     match done {
-        Done::Help => to.write_all(b"meson_rewrite\n"),
-        Done::Edited { files, splices } => write_counts(to, files, splices),
+        Done::Help => Line {
+            label: "meson_rewrite",
+            what: About::Nothing,
+            words: "",
+            about: About::Nothing,
+        },
+        Done::Edited { files, splices } => Line {
+            label: "files: ",
+            what: About::Number(files),
+            words: ", splices: ",
+            about: About::Number(splices),
+        },
     }
 }

@@ -1,9 +1,9 @@
 //! A store in memory, for tests.
 
-ghost use Rattle.std.specs.Prelude.{◌≡◌, ◌≤◌, ◌⊎◌, ◌↔◌, IfOk, OnOk, OnErr, Some, true, false, option_map};
+ghost use Rattle.std.specs.Prelude.{◌≡◌, ◌≢◌, ◌≤◌, ◌⊎◌, ◌↔◌, IfOk, IfErr, OnOk, OnErr, Some, true, false, option_map};
 ghost use Rattle.std.specs.FinMap.{get, insert, empty};
-ghost use Rattle.meson_rewrite.specs.Content.{replaced, Rose};
-ghost use Rattle.meson_rewrite.specs.MemoryStore.{planned, one_more, is_planned, is_due, no_files, after_read, after_replace, with_file};
+ghost use Rattle.meson_rewrite.specs.Calls.{FailureCounted, one_more};
+ghost use Rattle.meson_rewrite.specs.MemoryStore.{planned, is_planned, is_due, no_files, after_read, after_replace, after_change, with_file};
 
 use crate::{Store, StoreError};
 use std::alloc::{AllocError, Global};
@@ -53,6 +53,8 @@ pub struct Memory {
     reads: Plan,
     replaces: Plan,
     leaves_new: bool,
+    /// How many replaces may have changed their file.
+    changes: u64,
 }
 
 impl Model for Memory {
@@ -70,6 +72,7 @@ impl Model for Memory {
       reads = record { made = m.reads.made; first = m.reads.first; count = m.reads.count };
       replaces = record { made = m.replaces.made; first = m.replaces.first; count = m.replaces.count };
       leaves_new = m.leaves_new;
+      changes = m.changes;
     } };
 }
 
@@ -85,6 +88,7 @@ impl Memory {
             reads: Plan::NONE,
             replaces: Plan::NONE,
             leaves_new: false,
+            changes: 0,
         }
     }
 
@@ -139,13 +143,15 @@ impl Store for Memory {
 
     ghost failures = { λ m. m.failures };
 
+    ghost replaces = { λ m. m.changes };
+
     /// Fails only as planned, or where a growth was refused.
     fn read(&mut self, alloc: Global, name: &str) -> Result<Option<Vec<u8>>, StoreError>
         ensures value { IfOk result (λ read. option_map (λ bytes. bytes.items) read ≡ get self.old.files name.now) }
         ensures after { self.new ≡ after_read self.old }
         ensures due { (result ≡ Err StoreError.Device) ↔ (is_due self.old.reads ≡ true) }
         ensures counts { self.old.failures ≤ self.new.failures }
-        ensures device { result ≡ Err StoreError.Device → Rose self.old.failures self.new.failures }
+        ensures failed { IfErr result (λ why. FailureCounted why self.old.failures self.new.failures) }
     {
         if self.reads.next_fails() {
             self.failures = self.failures.saturating_add(1);
@@ -160,18 +166,20 @@ impl Store for Memory {
         }
     }
 
-    /// Fails only as planned, or where a growth was refused.
+    /// Fails only as planned, or where a growth was refused. It never answers `Unchanged`.
     fn replace(&mut self, name: &str, bytes: &[u8]) -> Result<(), StoreError>
-        ensures ok { OnOk result (self.new ≡ with_file (after_replace self.old) name.now bytes.now) }
+        ensures ok { OnOk result (self.new ≡ with_file (after_change self.old) name.now bytes.now) }
         ensures memory { result ≡ Err StoreError.OutOfMemory → self.new ≡ after_replace self.old }
-        ensures left { result ≡ Err StoreError.Device → (self.new ≡ after_replace self.old)
-            ⊎ ((self.old.leaves_new ≡ true) × (self.new ≡ with_file (after_replace self.old) name.now bytes.now)) }
+        ensures left { result ≡ Err StoreError.Device → (self.new ≡ after_change self.old)
+            ⊎ ((self.old.leaves_new ≡ true) × (self.new ≡ with_file (after_change self.old) name.now bytes.now)) }
         ensures due { (result ≡ Err StoreError.Device) ↔ (is_due self.old.replaces ≡ true) }
+        ensures known { result ≢ Err StoreError.Unchanged }
         ensures counts { self.old.failures ≤ self.new.failures }
-        ensures device { result ≡ Err StoreError.Device → Rose self.old.failures self.new.failures }
+        ensures failed { IfErr result (λ why. FailureCounted why self.old.failures self.new.failures) }
     {
         if self.replaces.next_fails() {
             self.failures = self.failures.saturating_add(1);
+            self.changes = self.changes.saturating_add(1);
             if self.leaves_new {
                 self.leaves_new = false;
                 let _ = self.put(name, bytes);
@@ -179,12 +187,19 @@ impl Store for Memory {
             return Err(StoreError::Device);
         }
         match self.put(name, bytes) {
-            Ok(()) => Ok(()),
+            Ok(()) => {
+                self.changes = self.changes.saturating_add(1);
+                Ok(())
+            }
             Err(AllocError) => Err(StoreError::OutOfMemory),
         }
     }
 
     fn failures(&self) -> u64 {
         self.failures
+    }
+
+    fn replaces(&self) -> u64 {
+        self.changes
     }
 }

@@ -1,28 +1,26 @@
 //! The program, over any store and any two writers.
 
-ghost use Rattle.std.specs.Prelude.{◌≡◌, ◌≤◌, ◌⊎◌, IfErr, IfOk, OnOk, length, map, option_map, string_bytes};
-ghost use Rattle.std.specs.Io.KnownBytes.{Appends};
+ghost use Rattle.std.specs.Prelude.{◌≡◌, ◌≤◌, ◌⊎◌, IfErr, IfOk, MatchResult, length, map, option_map, string_bytes};
 ghost use Rattle.meson_calls.specs.Loading.{IsProject};
+ghost use Rattle.meson_rewrite.specs.Calls.{counted};
 ghost use Rattle.meson_rewrite.specs.Commit.{CommitFails, put_all, puts};
 ghost use Rattle.meson_rewrite.specs.Edited.{IsEdited, IsNotEdited};
 ghost use Rattle.meson_rewrite.specs.Gathered.{IsLoadable, StopsAt};
 ghost use Rattle.meson_rewrite.specs.Gathering.{Finds};
-ghost use Rattle.meson_rewrite.specs.Lines.{out_lines, err_lines, status, store_fault_status};
-ghost use Rattle.meson_rewrite.specs.Runs.{CommandEnds, Ends, IsRead, NeedsNoStore, Run, version_command};
+ghost use Rattle.meson_rewrite.specs.Lines.{status, still_new, store_fault_status};
+ghost use Rattle.meson_rewrite.specs.Runs.{CannotSay, CommandEnds, Ends, IsRead, NeedsNoStore, Run, RunCounted, Says, version_command};
 ghost use Rattle.meson_rewrite.specs.Words.{requested};
 
-use crate::committing::commit;
-use crate::counting::count_differing;
+use crate::committing::{commit, count_differing};
 use crate::gathering::gather;
-use crate::lines::{write_done, write_stop};
+use crate::lines::{done_line, tell_stop};
 use crate::stop::{Done, Stop};
 use crate::words::{Asked, SetVersion, asked_by};
-use crate::{Store, StoreFault};
+use crate::{Output, Store, StoreFault};
 use meson_plan::{Command, LoadFault, Project, Refusal, Role, Setting};
 use meson_splice::{FileSet, Many, Text};
 use std::alloc::{AllocError, Global};
 use std::io;
-use std::io::Write;
 
 /// The project of files that are one.
 fn load(alloc: Global, files: FileSet) -> Result<Project, AllocError>
@@ -62,18 +60,17 @@ fn read_project<S: Store>(
     folder: Option<&str>,
 ) -> Result<Project, Stop>
     ensures read { IfOk result (IsRead (S.content store.old) (option_map (λ f. f.now) folder.entry)) }
-    ensures stopped { IfErr result (StopsAt (S.failures store.old) (S.failures store.new) (Finds (S.content store.old) (option_map (λ f. f.now) folder.entry))) }
+    ensures stopped { IfErr result (StopsAt (S.failures store.old) (S.failures store.new)
+        (Finds (S.content store.old) (option_map (λ f. f.now) folder.entry))) }
     ensures kept { S.content store.new ≡ S.content store.old }
     ensures counts { S.failures store.old ≤ S.failures store.new }
+    ensures no_replace { S.replaces store.new ≡ S.replaces store.old }
 {
     let files = match gather(alloc, store, folder) {
         Ok(files) => files,
         Err(stop) => return Err(stop),
     };
-    match load(alloc, files) {
-        Ok(project) => Ok(project),
-        Err(_) => Err(Stop::Store(StoreFault::OutOfMemory)),
-    }
+    Ok(load(alloc, files)?)
 }
 
 /// What a command left of the files before it.
@@ -107,9 +104,7 @@ fn edit_version(alloc: Global, project: &mut Project, id: &str, value: &str) -> 
     ensures edited { IfOk result (IsEdited project.old (version_command id.now value.now) project.new) }
     ensures refused { IfErr result (IsNotEdited project.old (version_command id.now value.now)) }
 {
-    let Ok(command) = version_command(alloc, id, value) else {
-        return Err(Stop::Store(StoreFault::OutOfMemory));
-    };
+    let command = version_command(alloc, id, value)?;
     perform(alloc, project, &command)
 }
 
@@ -127,6 +122,9 @@ fn write_files<S: Store>(
     ensures failed { IfErr result (CommitFails (puts (option_map (λ f. f.now) folder.entry) edit.now.before after.now)
         (S.content store.old) (S.content store.new) (S.failures store.old) (S.failures store.new)) }
     ensures counts { S.failures store.old ≤ S.failures store.new }
+    ensures counted { MatchResult result
+        (λ _. S.replaces store.new ≡ counted (length (puts (option_map (λ f. f.now) folder.entry) edit.now.before after.now)) (S.replaces store.old))
+        (λ fault. S.replaces store.new ≡ counted (length (still_new fault)) (S.replaces store.old)) }
 {
     match commit(alloc, store, folder, &edit.before, after) {
         Ok(()) => Ok(Done::Edited {
@@ -143,8 +141,9 @@ fn set_version<S: Store>(
     store: &mut S,
     command: SetVersion<'_>,
 ) -> Result<Done, Stop>
-    ensures { CommandEnds (option_map (λ f. f.now) command.entry.folder) command.entry.id.now command.entry.value.now
+    ensures ends { CommandEnds (option_map (λ f. f.now) command.entry.folder) command.entry.id.now command.entry.value.now
         (S.content store.old) (S.content store.new) (S.failures store.old) (S.failures store.new) result }
+    ensures counted { RunCounted result (S.replaces store.old) (S.replaces store.new) }
 {
     let mut project = match read_project(alloc, store, command.folder) {
         Ok(project) => project,
@@ -164,6 +163,7 @@ fn set_version<S: Store>(
 fn run<S: Store>(alloc: Global, store: &mut S, words: &[String]) -> Result<Done, Stop>
     ensures ends { Ends (requested (map string_bytes words.now)) (S.content store.old) (S.content store.new)
         (S.failures store.old) (S.failures store.new) result }
+    ensures counted { RunCounted result (S.replaces store.old) (S.replaces store.new) }
     ensures untouched { NeedsNoStore (requested (map string_bytes words.now)) → store.new ≡ store.old }
 {
     match asked_by(words) {
@@ -173,20 +173,19 @@ fn run<S: Store>(alloc: Global, store: &mut S, words: &[String]) -> Result<Done,
     }
 }
 
-/// Writes the line of the ending, and sees that no writer keeps it back.
-fn tell<O: Write, E: Write>(out: &mut O, err: &mut E, end: &Result<Done, Stop>) -> io::Result<()>
-    ensures out { OnOk result (Appends (O.contents out.old) (O.contents out.new) (out_lines end.now)) }
-    ensures err { OnOk result (Appends (E.contents err.old) (E.contents err.new) (err_lines end.now)) }
+/// Writes the lines of the ending.
+fn tell<O: Output, E: Output>(
+    alloc: Global,
+    out: &mut O,
+    err: &mut E,
+    end: &Result<Done, Stop>,
+) -> io::Result<()>
+    ensures { MatchResult result (λ _. Says end.now (O.heard out.old) (O.heard out.new) (E.heard err.old) (E.heard err.new))
+        (λ _. CannotSay end.now (O.heard out.old) (O.heard out.new) (E.heard err.old) (E.heard err.new)) }
 {
     match end {
-        Ok(done) => {
-            write_done(out, *done)?;
-            out.flush()
-        }
-        Err(stop) => {
-            write_stop(err, stop)?;
-            err.flush()
-        }
+        Ok(done) => done_line(*done).tell(alloc, out),
+        Err(stop) => tell_stop(alloc, err, stop),
     }
 }
 
@@ -217,7 +216,7 @@ fn status(end: &Result<Done, Stop>) -> u8
 ///
 /// The status is 0 where it was done, 1 where a file or the command is refused or memory ran out, 2 where the words
 /// ask for nothing, and 3 where the store or a writer failed.
-pub fn rewrite<S: Store, O: Write, E: Write>(
+pub fn rewrite<S: Store, O: Output, E: Output>(
     alloc: Global,
     store: &mut S,
     words: &[String],
@@ -225,12 +224,14 @@ pub fn rewrite<S: Store, O: Write, E: Write>(
     err: &mut E,
 ) -> u8
     ensures runs { Run (requested (map string_bytes words.now)) (S.content store.old) (S.content store.new)
-        (S.failures store.old) (S.failures store.new) result (O.contents out.old) (O.contents out.new) (E.contents err.old) (E.contents err.new) }
+        (S.failures store.old) (S.failures store.new) (S.replaces store.old) (S.replaces store.new) result
+        (O.heard out.old) (O.heard out.new) (E.heard err.old) (E.heard err.new) }
     ensures untouched { NeedsNoStore (requested (map string_bytes words.now)) → store.new ≡ store.old }
     ensures kept { (result ≡ 1) ⊎ (result ≡ 2) → S.content store.new ≡ S.content store.old }
+    ensures no_replace { (result ≡ 1) ⊎ (result ≡ 2) → S.replaces store.new ≡ S.replaces store.old }
 {
     let end = run(alloc, store, words);
-    match tell(out, err, &end) {
+    match tell(alloc, out, err, &end) {
         Ok(()) => status(&end),
         Err(_) => store_fault_status(&StoreFault::OutputFailed),
     }

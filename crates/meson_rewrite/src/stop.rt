@@ -5,7 +5,6 @@ use meson_plan::Refusal;
 use meson_splice::Text;
 use meson_syntax::ParseFault;
 use std::alloc::AllocError;
-use thiserror::Error;
 
 /// What a run did that was not stopped.
 #[derive(Clone, Copy, Debug, PartialEq, Eq)]
@@ -17,22 +16,17 @@ pub enum Done {
 }
 
 /// Why a run was stopped.
-#[derive(Debug, Drop, Error)]
+#[derive(Debug, Drop)]
 pub enum Stop {
     /// The words ask for nothing that the program does.
-    #[error("U1 usage")]
     Usage,
     /// The file of this name is no build file.
-    #[error("{name}: {fault}")]
     Parse { name: Text, fault: ParseFault },
     /// The project has more files than it may have.
-    #[error("M1 too many files")]
     TooManyFiles,
     /// The command is refused.
-    #[error("{0}")]
     Refused(Refusal),
     /// The store or a writer failed, or memory ran out.
-    #[error("{0}")]
     Store(StoreFault),
 }
 

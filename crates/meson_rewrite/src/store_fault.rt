@@ -1,24 +1,30 @@
 //! What can go wrong between the program and its store or its writers.
 
 use meson_splice::{Many, Text};
-use thiserror::Error;
+use std::alloc::AllocError;
 
 /// A fault of the store, of a writer, or want of memory.
-#[derive(Debug, Drop, Error)]
+#[derive(Debug, Drop)]
 pub enum StoreFault {
     /// The store failed to read the file.
-    #[error("W1 cannot read {0}")]
     ReadFailed(Text),
     /// The store failed to write the file; the files `still_new`, last first, may have their new bytes.
-    #[error("W2 cannot write {name}")]
     WriteFailed { name: Text, still_new: Many<Text> },
     /// The store has no file of that name.
-    #[error("W3 no file {0}")]
     NoFile(Text),
     /// What the program had to say could not be written.
-    #[error("W4 output failed")]
     OutputFailed,
     /// A growth was refused.
-    #[error("out of memory")]
     OutOfMemory,
+}
+
+impl From<AllocError> for StoreFault {
+    ghost use Rattle.std.specs.Prelude.{◌≡◌};
+    ghost use Rattle.meson_rewrite.specs.declared.store_fault.StoreFault.TheVariants.{OutOfMemory};
+
+    ghost from_gives = { λ _ fault. fault ≡ OutOfMemory };
+
+    fn from(_: AllocError) -> StoreFault {
+        StoreFault::OutOfMemory
+    }
 }

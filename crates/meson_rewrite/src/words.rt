@@ -1,7 +1,7 @@
 //! What the words of a command line ask for.
 
 ghost use Rattle.std.specs.Prelude.{◌≡◌, map, option_map, string_bytes};
-ghost use Rattle.meson_rewrite.specs.Words.{is_value, requested, command, setting};
+ghost use Rattle.meson_rewrite.specs.Words.{is_folder, is_value, requested, command, setting};
 ghost use Rattle.meson_rewrite.specs.Asked.{request_of};
 
 /// What is asked for.
@@ -24,6 +24,13 @@ fn is_value(word: &str) -> bool
     ensures { result ≡ is_value word.now }
 {
     word.as_bytes().first() != Some(&b'-')
+}
+
+/// An empty word names no folder.
+fn is_folder(word: &str) -> bool
+    ensures { result ≡ is_folder word.now }
+{
+    !word.is_empty() && is_value(word)
 }
 
 /// Reads `kwargs set project ID version VALUE`.
@@ -60,7 +67,7 @@ fn command<'a>(words: &'a [String]) -> Option<Asked<'a>>
     if option.as_str() != "--sourcedir" {
         return setting(None, words);
     }
-    if !is_value(folder.as_str()) {
+    if !is_folder(folder.as_str()) {
         return None;
     }
     setting(Some(folder.as_str()), rest)

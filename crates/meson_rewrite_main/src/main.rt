@@ -1,8 +1,8 @@
 //! The program over real files: its words, its writers and its status.
 #![tactic(auto)]
 
-use meson_rewrite::{Folder, rewrite};
-use std::io::{ErrorKind, Write};
+use meson_rewrite::{Counted, Folder, Output, rewrite};
+use std::io::ErrorKind;
 use std::process::ExitCode;
 use std::{env, io};
 
@@ -13,13 +13,13 @@ fn words(rt: &HostRuntime) -> io::Result<Vec<String>> {
 }
 
 /// Says that the words could not be read. A word that is not text is wrong usage.
-fn refuse<W: Write>(err: &mut W, kind: ErrorKind) -> u8 {
+fn refuse<E: Output>(err: &mut E, kind: ErrorKind) -> u8 {
     let (line, status) = if kind == ErrorKind::OutOfMemory {
         ("error: out of memory\n", 1)
     } else {
         ("error: U1 usage\n", 2)
     };
-    match err.write_all(line.as_bytes()) {
+    match err.tell(line.as_bytes()) {
         Ok(()) => status,
         Err(_) => 3,
     }
@@ -27,8 +27,8 @@ fn refuse<W: Write>(err: &mut W, kind: ErrorKind) -> u8 {
 
 fn main(rt: HostRuntime) -> ExitCode {
     let alloc = rt.alloc();
-    let mut out = rt.stdout();
-    let mut err = rt.stderr();
+    let mut out = Counted::new(rt.stdout());
+    let mut err = Counted::new(rt.stderr());
     let status = match words(&rt) {
         Ok(words) => {
             let mut folder = Folder::new(&rt, alloc);

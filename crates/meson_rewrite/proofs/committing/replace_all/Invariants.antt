@@ -1,4 +1,5 @@
 use Rattle.std.proofs.Common.{◌≡◌, ◌≤◌, map, take}
+use Rattle.meson_rewrite.specs.Calls.{counted}
 use Rattle.meson_rewrite.specs.Commit.{put_all}
 use Rattle.meson_rewrite.specs.Planned.{put_of}
 use Rattle.meson_rewrite.proofs.committing.replace_all.Given as goal
@@ -7,4 +8,5 @@ abbrev pub invariant-loop-done : goal.invariant-loop-done
 invariant-loop-done g l = record {
   replaced : g.S.Store.content l.store ≡ put_all (map put_of (take l.done l.plan)) (g.S.Store.content l.initial.store);
   counts : g.S.Store.failures l.initial.store ≤ g.S.Store.failures l.store;
+  counted : g.S.Store.replaces l.store ≡ counted l.done (g.S.Store.replaces l.initial.store);
 }

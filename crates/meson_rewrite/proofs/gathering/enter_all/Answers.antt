@@ -32,6 +32,7 @@ loop-i-preserved g c =
     record {
       kept = c.in-Ok.ensures.kept ∙ c.loop-i.invariant.kept;
       counts = omega (arith, c.loop-i.invariant.counts, c.enter.ensures.counts);
+      no_replace = c.enter.ensures.no_replace ∙ c.loop-i.invariant.no_replace;
       so_far = λ content is. ap (λ ns. entered content folder ns c.args.files.now) more
           ∙ entered_then content folder before (name ∷ []) c.args.files.now c.loop-i.files (Some c.enter.new.files) (c.loop-i.invariant.so_far content is) (c.in-Ok.ensures.entered content (c.loop-i.invariant.kept ∙ is));
       grows = grows_then c.args.files.now c.loop-i.files c.enter.new.files c.loop-i.invariant.grows c.in-Ok.ensures.grows;

@@ -18,6 +18,7 @@ looking-init g c =
     record {
       kept = c.in-Ok.ensures.kept;
       counts = c.in-Ok.ensures.counts;
+      no_replace = c.in-Ok.ensures.no_replace;
       few = subst (λ fs. length fs ≤ max_files) (sym root.1) one;
       named = subst (All HasFileName) (sym root.1) (All-cons HasFileName f [] (inl refl) (All-nil HasFileName));
       trees = All-nil HasTree;
@@ -46,6 +47,7 @@ looking-preserved g c =
     record {
       kept = c.in-Ok-look.ensures.kept ∙ c.looking.invariant.kept;
       counts = omega (arith, c.looking.invariant.counts, c.look.ensures.counts);
+      no_replace = c.look.ensures.no_replace ∙ c.looking.invariant.no_replace;
       few = grows.few;
       named = subst (All HasFileName) (sym grows.is_more) (All-append HasFileName old grows.more c.looking.invariant.named grows.named);
       trees = subst (λ k. All HasTree (take k new)) next (trees_more old new grows.more place within grows.is_more c.in-Ok-look.ensures.has_tree c.looking.invariant.trees);

@@ -9,6 +9,7 @@ abbrev pub invariant-looking : goal.invariant-looking
 invariant-looking g l = record {
   kept : g.S.Store.content l.store ≡ g.S.Store.content l.fn.store;
   counts : g.S.Store.failures l.fn.store ≤ g.S.Store.failures l.store;
+  no_replace : g.S.Store.replaces l.store ≡ g.S.Store.replaces l.fn.store;
   few : length l.files ≤ max_files;
   named : All HasFileName l.files;
   trees : All HasTree (take l.looked l.files);

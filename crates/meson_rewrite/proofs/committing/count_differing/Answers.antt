@@ -2,8 +2,8 @@ use Rattle.std.proofs.Common.{◌≡◌, ◌<◌, ◌≤◌, ◌+◌, ℕ, List,
 use Rattle.std.proofs.lemmas.List.{length-map}
 use Rattle.meson_rewrite.specs.Commit.{puts}
 use Rattle.meson_rewrite.proofs.Counts.{count_more, count_kept, count_ended}
-use Rattle.meson_rewrite.proofs.counting.count_differing.Goals.{then-ne, else-ne}
-use Rattle.meson_rewrite.proofs.counting.count_differing.Goals as goal
+use Rattle.meson_rewrite.proofs.committing.count_differing.Goals.{then-ne, else-ne}
+use Rattle.meson_rewrite.proofs.committing.count_differing.Goals as goal
 
 pub loop-i-init : goal.loop-i-init
 loop-i-init c = record { fits = omega arith; counted = λ folder. omega arith }

@@ -1,6 +1,6 @@
 use Rattle.std.proofs.Common.{◌≡◌, ◌+◌, ◌≤◌, ℕ, List, Option, length, drop}
 use Rattle.meson_rewrite.specs.Commit.{puts}
-use Rattle.meson_rewrite.proofs.counting.count_differing.Given as goal
+use Rattle.meson_rewrite.proofs.committing.count_differing.Given as goal
 
 -- the count so far, and what the files that are left come to
 abbrev pub invariant-loop-i : goal.invariant-loop-i
