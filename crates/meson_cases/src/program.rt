@@ -2,7 +2,7 @@
 
 use crate::files::Files;
 use meson_case_files::{Transcript, text_of};
-use meson_rewrite::{Memory, rewrite};
+use meson_rewrite::{Counted, Memory, rewrite};
 use std::alloc::{AllocError, Global};
 
 /// The file in which the program keeps what it did.
@@ -60,11 +60,11 @@ fn store_of(files: &Files, alloc: Global, failures: Failures) -> Result<Memory, 
 
 /// Runs the program on these words, and writes its output and its status.
 fn run(alloc: Global, store: &mut Memory, words: &[String], to: &mut Transcript) {
-    let mut out = Vec::new(alloc);
-    let mut err = Vec::new(alloc);
+    let mut out = Counted::new(Vec::new(alloc));
+    let mut err = Counted::new(Vec::new(alloc));
     let status = rewrite(alloc, store, words, &mut out, &mut err);
-    to.lines("  out |", out.as_slice());
-    to.lines("  err |", err.as_slice());
+    to.lines("  out |", out.take().as_slice());
+    to.lines("  err |", err.take().as_slice());
     to.put("  status ");
     to.show(&status);
     to.put("\n");
