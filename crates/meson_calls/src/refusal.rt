@@ -2,68 +2,98 @@
 
 use meson_splice::Text;
 use std::alloc::AllocError;
-use thiserror::Error;
+use std::error::Error;
+use std::fmt;
 
 /// Why a command is refused, in the order in which it is asked.
-#[derive(Debug, Drop, PartialEq, Error)]
+#[derive(Debug, Drop, PartialEq)]
 pub enum Refusal {
     /// No file has a `project` call.
-    #[error("C1 no project")]
     NoProject,
     /// The id names no call.
-    #[error("C2 not found")]
     NotFound,
     /// It names more than one.
-    #[error("C3 ambiguous")]
     Ambiguous,
     /// Keyword arguments of this name are not changed in such a call.
-    #[error("C4 unknown key")]
     UnknownKey(Text),
     /// The keyword argument of this name can't have such a value.
-    #[error("C5 wrong kind")]
     WrongKind(Text),
     /// A name is empty or can't be written.
-    #[error("C6 bad name")]
     BadName,
     /// The call has a `kwargs:` argument, which may hold any keyword.
-    #[error("C7 hidden keywords")]
     HiddenKeywords,
     /// The call has more than one argument of this name.
-    #[error("C8 duplicate keyword: {0}")]
     DuplicateKeyword(Text),
     /// The value of this name is not a literal that can be changed.
-    #[error("C9 not literal: {0}")]
     NotLiteral(Text),
     /// The source is not one of the target's.
-    #[error("C10 source not found")]
     SourceNotFound,
     /// It is not among those that are known, and some are not known.
-    #[error("C11 unresolved")]
     Unresolved,
     /// It stands in no list.
-    #[error("C12 not removable")]
     NotRemovable,
     /// A target has this name.
-    #[error("C13 name taken")]
     NameTaken,
     /// The project has no such file.
-    #[error("C14 no file")]
     NoFile,
     /// The target's call is no statement and no assigned value.
-    #[error("C15 not a statement")]
     NotStatement,
     /// The target's variable of this name is used.
-    #[error("C16 in use: {0}")]
     InUse(Text),
     /// The new file would nest too deep.
-    #[error("C17 too deep")]
     TooDeep,
     /// The new file would be too large.
-    #[error("C18 too large")]
     TooLarge,
-    #[error("out of memory")]
     OutOfMemory,
 }
+
+impl Refusal {
+    /// The code, and what it means.
+    fn label(&self) -> &'static str {
+        match self {
+            Refusal::NoProject => "C1 no project",
+            Refusal::NotFound => "C2 not found",
+            Refusal::Ambiguous => "C3 ambiguous",
+            Refusal::UnknownKey(_) => "C4 unknown key",
+            Refusal::WrongKind(_) => "C5 wrong kind",
+            Refusal::BadName => "C6 bad name",
+            Refusal::HiddenKeywords => "C7 hidden keywords",
+            Refusal::DuplicateKeyword(_) => "C8 duplicate keyword",
+            Refusal::NotLiteral(_) => "C9 not literal",
+            Refusal::SourceNotFound => "C10 source not found",
+            Refusal::Unresolved => "C11 unresolved",
+            Refusal::NotRemovable => "C12 not removable",
+            Refusal::NameTaken => "C13 name taken",
+            Refusal::NoFile => "C14 no file",
+            Refusal::NotStatement => "C15 not a statement",
+            Refusal::InUse(_) => "C16 in use",
+            Refusal::TooDeep => "C17 too deep",
+            Refusal::TooLarge => "C18 too large",
+            Refusal::OutOfMemory => "out of memory",
+        }
+    }
+
+    /// The name that the line of the refusal says.
+    fn about(&self) -> Option<&str> {
+        match self {
+            Refusal::DuplicateKeyword(name) | Refusal::NotLiteral(name) | Refusal::InUse(name) =>
+                Some(name.get()),
+            _ => None,
+        }
+    }
+}
+
+impl fmt::Display for Refusal {
+    fn fmt<W: fmt::Write>(&self, f: &mut fmt::Formatter<W>) -> fmt::Result {
+        f.write_str(self.label())?;
+        match self.about() {
+            Some(name) => write!(f, ": {name}"),
+            None => Ok(()),
+        }
+    }
+}
+
+impl Error for Refusal {}
 
 impl From<AllocError> for Refusal {
     ghost use Rattle.std.specs.Prelude.{◌≡◌};
