@@ -1,7 +1,7 @@
 -- What a commit does, from what its steps did.
-use Rattle.std.proofs.Common.{◌≡◌, ◌⊎◌, ℕ, suc, zero, ◌+◌, ◌<◌, Bool, true, false, not, cond, List, [], ◌∷◌, ◌++◌, Option, map, length, take, drop, inl, inr, refl, sym, ap, ◌∙◌, subst, arith, add-one, append_assoc}
+use Rattle.std.proofs.Common.{◌≡◌, ℕ, suc, zero, ◌+◌, ◌<◌, Bool, true, false, not, cond, List, [], ◌∷◌, ◌++◌, Option, map, length, take, drop, inr, refl, sym, ap, ◌∙◌, subst, arith, add-one, append_assoc}
 use Rattle.std.proofs.lemmas.List.{length-reverse}
-use Rattle.std.specs.Prelude.{bytes_eq, slice_index_or, reverse, Result, Ok, Err}
+use Rattle.std.specs.Prelude.{bytes_eq, slice_index_or, Err}
 use Rattle.meson_splice.specs.Files.{bytes_at}
 use Rattle.meson_splice.specs.declared.file_set.File.{File}
 use Rattle.meson_rewrite.specs.Calls.{FailureCounted, Leaves, changes, counted, one_more}

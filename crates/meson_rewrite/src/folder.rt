@@ -111,11 +111,7 @@ fn is_absent(kind: ErrorKind) -> bool {
 }
 
 /// The bytes of a file, or none where there is no such file.
-fn read_file<R: Files>(
-    rt: &R,
-    alloc: Global,
-    name: &str,
-) -> Result<Option<Vec<u8>>, StoreError> {
+fn read_file<R: Files>(rt: &R, alloc: Global, name: &str) -> Result<Option<Vec<u8>>, StoreError> {
     match open_regular(rt, name) {
         Ok(mut file) => Ok(Some(contents_of(alloc, &mut file)?)),
         Err(e) => {
@@ -185,11 +181,7 @@ fn make_beside<R: Files>(
 }
 
 /// Gives the new file the owner, where that is permitted, and the mode of the old one.
-fn keep_owner_and_mode<R: Files>(
-    rt: &R,
-    new: &NewFile<R::File>,
-    old: &Metadata,
-) -> io::Result<()> {
+fn keep_owner_and_mode<R: Files>(rt: &R, new: &NewFile<R::File>, old: &Metadata) -> io::Result<()> {
     let made = new.file.metadata()?;
     if made.uid() != old.uid() || made.gid() != old.gid() {
         let (owner, group) = (Some(old.uid()), Some(old.gid()));

@@ -1,6 +1,4 @@
-use Rattle.std.proofs.Common.{◌∙◌, length, map, ap}
-use Rattle.std.proofs.lemmas.List.{length-map}
-use Rattle.meson_rewrite.specs.Calls.{counted}
+use Rattle.std.proofs.Common.{◌∙◌, map, ap}
 use Rattle.meson_rewrite.specs.Planned.{put_of}
 use Rattle.meson_rewrite.proofs.Commits.{fails, fails_counted}
 use Rattle.meson_rewrite.proofs.committing.commit.Goals as goal

@@ -1,5 +1,6 @@
 use Rattle.std.proofs.Common.{option_map, subst}
 use Rattle.meson_calls.specs.Loading.{IsProject}
+use Rattle.meson_rewrite.specs.Gathering.{Finds}
 use Rattle.meson_rewrite.specs.Runs.{Edits, version_command}
 use Rattle.meson_rewrite.proofs.Endings.{done_counted, edit_counted, fault_counted, not_written, replaced, stop_counted}
 use Rattle.meson_rewrite.proofs.SameNames.{edit_names}
@@ -54,7 +55,9 @@ pub returns-clause-counted : goal.returns-clause-counted
 returns-clause-counted g c = fault_counted c.in-Err-write_files.fault _ _ _ c.read_project.ensures.no_replace c.in-Err-write_files.ensures.counted
 
 pub returns-in-Err-clause-counted : goal.returns-in-Err-clause-counted
-returns-in-Err-clause-counted g c = stop_counted _ _ _ c.in-Err.stop _ _ c.in-Err.ensures.stopped c.read_project.ensures.no_replace
+returns-in-Err-clause-counted g c =
+    let found = Finds (g.S.Store.content c.args.store.now) (option_map (λ f. f.now) c.args.command.folder) in
+    stop_counted found (g.S.Store.failures c.args.store.now) (g.S.Store.failures c.read_project.new.store) c.in-Err.stop _ _ c.in-Err.ensures.stopped c.read_project.ensures.no_replace
 
 pub returns-in-Err-edit_version-clause-counted : goal.returns-in-Err-edit_version-clause-counted
 returns-in-Err-edit_version-clause-counted g c = edit_counted _ _ c.in-Err-edit_version.stop _ _ c.in-Err-edit_version.ensures.refused c.read_project.ensures.no_replace
