@@ -53,7 +53,10 @@ impl TextCase {
         match word {
             "expression" => put_expression(self.alloc, text, rest, to),
             "elements" => put_elements(self.alloc, text, rest, to),
-            "within" => put_within(self.alloc, text, rest, to),
+            "within" => {
+                put_within(self.alloc, text, rest, to);
+                Ok(())
+            }
             "splices" => self.splices(rest, to),
             _ => self.edit(word, rest, to),
         }

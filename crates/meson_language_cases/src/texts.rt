@@ -67,19 +67,13 @@ pub fn put_list(alloc: Global, bracket: &str, source: &[u8], to: &mut Transcript
 }
 
 /// Whether a text reads within limits: its greatest length, if any, and its greatest depth.
-pub fn put_within(
-    alloc: Global,
-    source: &[u8],
-    limits: &str,
-    to: &mut Transcript,
-) -> Result<(), AllocError> {
+pub fn put_within(alloc: Global, source: &[u8], limits: &str, to: &mut Transcript) {
     let (len, depth) = limits.split_once(' ').unwrap_or(("", ""));
     let limits = Limits {
         len: len.parse::<usize>().ok(),
-        depth: depth.parse::<usize>().unwrap_or(0),
+        depth: depth.parse::<u16>().unwrap_or(0) as usize,
     };
     put_fault(parse_within(alloc, source, limits).err(), to);
-    Ok(())
 }
 
 /// The least depth within which a text nests.
@@ -114,16 +108,19 @@ fn is_copied(alloc: Global, source: &[u8]) -> Option<bool> {
 
 /// The text of the string that a source begins with.
 fn value_of(alloc: Global, source: &[u8]) -> Option<Option<String>> {
-    let item = items(source).next()?.ok()?;
-    let token = text(source, item.span);
-    let value = match item.kind {
-        Kind::PlainString => literal_value(alloc, token, Kind::PlainString),
-        Kind::MultilineString => literal_value(alloc, token, Kind::MultilineString),
-        Kind::FormatString => literal_value(alloc, token, Kind::FormatString),
-        Kind::FormatMultilineString => literal_value(alloc, token, Kind::FormatMultilineString),
-        _ => return None,
+    let Some(Ok(item)) = items(source).next() else {
+        return None;
     };
-    value.ok()
+    let token = text(source, item.span);
+    match item.kind {
+        Kind::PlainString => literal_value(alloc, token, Kind::PlainString).ok(),
+        Kind::MultilineString => literal_value(alloc, token, Kind::MultilineString).ok(),
+        Kind::FormatString => literal_value(alloc, token, Kind::FormatString).ok(),
+        Kind::FormatMultilineString => {
+            literal_value(alloc, token, Kind::FormatMultilineString).ok()
+        }
+        _ => None,
+    }
 }
 
 pub fn put_value(alloc: Global, source: &[u8], to: &mut Transcript) {
