@@ -82,16 +82,16 @@ fn keys(alloc: Global, words: &[&str]) -> Result<Many<Text>, AllocError> {
     Ok(Many::of(all))
 }
 
-/// The word behind an option, or another word where the option is not there.
-fn option_or<'a>(words: &[&'a str], option: &str, other: &'a str) -> &'a str {
+/// The word behind an option, or another one where the option is not there.
+fn option_or(alloc: Global, words: &[&str], option: &str, other: &str) -> Result<Text, AllocError> {
     let mut is_next = false;
     for word in words {
         if is_next {
-            return word;
+            return text(alloc, word);
         }
         is_next = *word == option;
     }
-    other
+    text(alloc, other)
 }
 
 /// The command that puts a target into the project: its sources, then the options.
@@ -101,12 +101,10 @@ fn target_add(alloc: Global, id: &str, words: &[&str]) -> Read {
         .copied()
         .take_while(|word| !word.starts_with("--"))
         .collect(alloc)?;
-    let kind = option_or(words, "--type", "executable");
-    let subdir = option_or(words, "--subdir", "«»");
     Ok(Some(Command::TargetAdd {
         target: text(alloc, id)?,
-        target_kind: text(alloc, kind)?,
-        subdir: text(alloc, subdir)?,
+        target_kind: option_or(alloc, words, "--type", "executable")?,
+        subdir: option_or(alloc, words, "--subdir", "«»")?,
         sources: texts(alloc, sources.as_slice())?,
     }))
 }
