@@ -1,7 +1,7 @@
 //! A call of the program on the root file cut at each length.
 
 use meson_case_files::Transcript;
-use meson_rewrite::{Memory, rewrite};
+use meson_rewrite::{Counted, Memory, rewrite};
 use std::alloc::{AllocError, Global};
 
 /// The name of the file that is cut.
@@ -11,8 +11,8 @@ const ROOT: &str = "meson.build";
 fn answer(alloc: Global, bytes: &[u8], words: &[String]) -> Result<(u8, Vec<u8>), AllocError> {
     let mut store = Memory::new(alloc);
     store.put(ROOT, bytes)?;
-    let mut out = Vec::new(alloc);
-    let mut err = Vec::new(alloc);
+    let mut out = Counted::new(Vec::new(alloc));
+    let mut err = Counted::new(Vec::new(alloc));
     let status = rewrite(alloc, &mut store, words, &mut out, &mut err);
     let after = store.get(ROOT).unwrap_or(b"");
     Ok((status, Vec::from_slice(alloc, after)?))
