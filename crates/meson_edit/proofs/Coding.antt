@@ -5,7 +5,7 @@ use Rattle.std.proofs.lemmas.List.{append-nil}
 use Rattle.meson_lex.specs.Items.{Lexeme, joined, AreItems, IsItemList}
 use Rattle.meson_layout.specs.declared.primitive.Primitive.{Primitive}
 use Rattle.meson_layout.specs.Layout.{layout_of}
-use Rattle.meson_layout.specs.Laws.{AreUtf8, WritesUtf8}
+use Rattle.meson_layout.specs.Laws.{AreTexts, AreUtf8, WritesUtf8}
 use Rattle.meson_layout.specs.Edited.{patched_by}
 use Rattle.meson_layout.proofs.Coding as layout
 use Rattle.meson_syntax.proofs.exchange.Cuts.{utf8-cut}
@@ -22,3 +22,6 @@ CodingLaw = (file source : List ℕ) (items : List Lexeme) → IsItemList source
 pub coding-law : CodingLaw
 coding-law file source items are utf8 primitive u text patches =
     layout.coding-law file source items are (all-coded items are.each (subst IsUtf8 (sym are.joins) utf8)) primitive u text patches
+
+pub texts-law : (file source : List ℕ) (items : List Lexeme) → IsItemList source items → IsUtf8 source → (primitive : Primitive) → WritesUtf8 primitive → AreTexts (layout_of file items primitive)
+texts-law file source items are utf8 primitive u = layout.texts-law file items (all-coded items are.each (subst IsUtf8 (sym are.joins) utf8)) primitive u

@@ -6,6 +6,7 @@ use Rattle.meson_lex.specs.Items.{Lexeme, IsItemList}
 use Rattle.meson_layout.specs.declared.primitive.Primitive.{Primitive}
 use Rattle.meson_layout.specs.Layout.{layout_of, IsPlaced}
 use Rattle.meson_layout.specs.Edited.{patched_by}
+use Rattle.meson_layout.specs.Laws.{AreTexts}
 use Rattle.meson_syntax.specs.declared.source.Limits.{Limits}
 use Rattle.meson_syntax.specs.Tree.{Nowhere, Plain, Argument, Expression, Statement, File, erase}
 use Rattle.meson_syntax.specs.Grammar.{LevelFile}
@@ -22,6 +23,7 @@ pub record Makes (bytes : List ℕ) (f : File Span) (items : List Lexeme) (name 
   pub text : List ℕ
   pub patches : patched_by bytes (layout_of name items primitive) ≡ Ok text
   pub utf8 : IsUtf8 text
+  pub texts : AreTexts (layout_of name items primitive)
   pub spells : Spells text t
 
 -- Each edit of this form does so, in each file that reads as a tree, where the edited tree has its levels.

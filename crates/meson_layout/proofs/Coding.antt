@@ -11,12 +11,12 @@ use Rattle.meson_layout.specs.declared.primitive.Primitive.{Primitive}
 use Rattle.meson_layout.specs.declared.primitive.Primitive.TheVariants.{First, After, Remove, Replace, Wrap, RemoveStatement, Append}
 use Rattle.meson_layout.specs.declared.removal.Growth.{Growth}
 use Rattle.meson_layout.specs.Looks.{is_blank, is_comma, is_line_end, begins, one, but_last, last_few, line_before, gap_len, all_white, at_most_blank, note_len, comma_note_len, closes}
-use Rattle.meson_layout.specs.Pieces.{Piece, Keep, Change, old_items, new_items, as_one, comma, space, line_feed, open_square, close_square}
+use Rattle.meson_layout.specs.Pieces.{Piece, Keep, Change, old_items, new_items, as_one, comma, space, line_feed, open_square, close_square, splices}
 use Rattle.meson_layout.specs.Insertion.{plain, with_comma, without_comma, before_bracket, no_comma_on_line, stacked, inserted_by, inserted}
 use Rattle.meson_layout.specs.Removal.{grown, one_gone, two_gone, two_ranges, comma_len, comma_behind, comma_before, no_comma_behind, removed}
 use Rattle.meson_layout.specs.Statements.{at_line_start, statement_gone, statement_removed, line_end_of, appended}
 use Rattle.meson_layout.specs.Layout.{before_len, parts, replaced, wrapped, first_in, pieces}
-use Rattle.meson_layout.specs.Laws.{AreUtf8, WritesUtf8, CodingLaw}
+use Rattle.meson_layout.specs.Laws.{AreTexts, AreUtf8, WritesUtf8, CodingLaw, TextsLaw}
 use Rattle.meson_layout.proofs.Patched.{patched-pieces}
 
 abbrev IsCoded : Lexeme → Type 0
@@ -289,3 +289,16 @@ coding-law file source items are coded primitive u text patches =
     let same : Ok text ≡ Ok (joined (new_items (pieces primitive items))) = sym patches ∙ made in
     let is : text ≡ joined (new_items (pieces primitive items)) = cc in
     subst IsUtf8 (sym is) (joined-coded (new_items (pieces primitive items)) (new-coded (pieces primitive items) (subst AreUtf8 (sym fine.old) coded) fine.news))
+
+-- ---- the splices
+
+texts-of : (file : List ℕ) (at : ℕ) (ps : List Piece) → AreUtf8 (old_items ps) → News ps → AreTexts (splices file at ps)
+texts-of file at [] a n = tt
+texts-of file at (Keep xs ∷ ps) a n = texts-of file (at + length (joined xs)) ps (rest-coded xs (old_items ps) a) n
+texts-of file at (Change was now ∷ ps) a n =
+    ((joined-coded was (front-coded was (old_items ps) a), joined-coded now n.0), texts-of file (at + length (joined now)) ps (rest-coded was (old_items ps) a) n.1)
+
+pub texts-law : TextsLaw
+texts-law file items coded primitive u =
+    let fine = pieces-fine items coded primitive u in
+    texts-of file 0 (pieces primitive items) (subst AreUtf8 (sym fine.old) coded) fine.news

@@ -6,6 +6,7 @@ use Rattle.meson_lex.specs.declared.kinds.Span.{Span}
 use Rattle.meson_lex.specs.Items.{Lexeme, joined, IsItemList}
 use Rattle.meson_lex.specs.Significant.{Word}
 use Rattle.meson_splice.specs.declared.file_set.File.{File}
+use Rattle.meson_splice.specs.declared.splice.Splice.{Splice}
 use Rattle.meson_splice.specs.Files.{found, bytes_at, with_bytes}
 use Rattle.meson_splice.specs.Patch.{patched_all}
 use Rattle.meson_layout.specs.declared.primitive.Primitive.{Primitive}
@@ -81,3 +82,12 @@ AreUtf8 (x ∷ xs) = IsUtf8 x.text × AreUtf8 xs
 abbrev pub CodingLaw : Type 0
 CodingLaw = (file source : List ℕ) (items : List Lexeme) → IsItemList source items → AreUtf8 items → (primitive : Primitive) → WritesUtf8 primitive
     → (text : List ℕ) → patched_by source (layout_of file items primitive) ≡ Ok text → IsUtf8 text
+
+-- both texts of each splice are UTF-8
+abbrev pub AreTexts : List Splice → Type 0
+AreTexts [] = Unit {0}
+AreTexts (s ∷ ss) = (IsUtf8 s.was × IsUtf8 s.now) × AreTexts ss
+
+-- Where each item is UTF-8, so is what the splices of an edit take away and put in.
+abbrev pub TextsLaw : Type 0
+TextsLaw = (file : List ℕ) (items : List Lexeme) → AreUtf8 items → (primitive : Primitive) → WritesUtf8 primitive → AreTexts (layout_of file items primitive)

@@ -1,7 +1,7 @@
 //! Laws of layout. The functions do nothing: what they ensure is the law.
 
 ghost use Rattle.meson_layout.specs.FileLaws.{AppendLaw, StatementRemovalLaw};
-ghost use Rattle.meson_layout.specs.Laws.{CodingLaw, FilesLaw, FirstLaw, InsertionLaw, RemovalLaw, ReplacementLaw, WrapKeeps, WrapLaw};
+ghost use Rattle.meson_layout.specs.Laws.{CodingLaw, FilesLaw, FirstLaw, InsertionLaw, RemovalLaw, ReplacementLaw, TextsLaw, WrapKeeps, WrapLaw};
 
 /// The first element of a list that has none.
 pub fn first_element()
@@ -46,5 +46,7 @@ pub fn sets_of_files()
 
 /// Where each item of a text is UTF-8, an edit makes a text in UTF-8.
 pub fn coding()
-    ensures { CodingLaw }
+    ensures whole { CodingLaw }
+    // So are the texts that its splices take away and put in.
+    ensures splices { TextsLaw }
 {}

@@ -25,3 +25,4 @@ pub mod SetLiterals
 pub mod StepsDoable
 pub mod WentWell
 pub mod Spellings
+pub mod OneMaking

@@ -6,6 +6,7 @@ use Rattle.meson_lex.specs.declared.kinds.Span.{Span}
 use Rattle.meson_lex.specs.Items.{Lexeme, IsItemList}
 use Rattle.meson_layout.specs.declared.primitive.Primitive.{Primitive}
 use Rattle.meson_layout.specs.Edited.{patched_by}
+use Rattle.meson_layout.specs.Laws.{AreTexts}
 use Rattle.meson_layout.specs.Layout.{IsPlaced, IsReady, layout_of, pieces}
 use Rattle.meson_splice.specs.declared.file_set.File.{File}
 use Rattle.meson_splice.specs.declared.splice.Splice.{Splice}
@@ -31,7 +32,7 @@ use Rattle.meson_steps.specs.OtherValues.{with_one, with_some}
 use Rattle.meson_steps.specs.Results.{plain_trees, saturated}
 use Rattle.meson_steps.specs.Steps.{Step, StepsMake, Laid, effective, read_again}
 use Rattle.meson_steps.specs.Working.{AreKnown, IsChanged, MayChange, Reached, placed_edit, so_far}
-use Rattle.meson_steps.proofs.PatchedFiles.{OfFile, all_patched, distinct_with, effective_of_file, effective_patches, of_file}
+use Rattle.meson_steps.proofs.PatchedFiles.{OfFile, all_patched, distinct_with, effective_of_file, effective_patches, effective_texts, of_file}
 use Rattle.meson_steps.proofs.StepPlaces.{every_edit, next_doable, step_code, NextDoable, IsCode}
 use Rattle.meson_steps.proofs.OneMoreStep.{saturated_more, stepped_more, steps_more}
 use Rattle.meson_steps.proofs.OtherBytes.{as_many_files, as_many_plain, bytes_there, named_with, plain_at, plain_with}
@@ -142,7 +143,7 @@ module _ (old : Loaded) (w : Work) (before rest : List Step) (s : Step) (r : Rea
 
     module _ (splices : List Splice) (are : splices ≡ effective (layout_of name items made.primitive)) where
       laid : Laid files s splices
-      laid = record { file = f; limits = is_known.limits; spanned = is_known.spanned; items = items; are_items = are_items; primitive = made.primitive; is_primitive = made.is_primitive; is_layout = are }
+      laid = record { file = f; limits = is_known.limits; spanned = is_known.spanned; items = items; are_items = are_items; primitive = made.primitive; is_primitive = made.is_primitive; is_layout = are; texts = subst AreTexts (sym are) (effective_texts (layout_of name items made.primitive) made.texts) }
 
       patches : patched_by bytes splices ≡ Ok made.text
       patches = ap (patched_by bytes) are ∙ effective_patches bytes made.text (layout_of name items made.primitive) made.patches

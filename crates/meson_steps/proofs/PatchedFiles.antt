@@ -2,10 +2,12 @@
 use Rattle.std.proofs.Common.{◌≡◌, ◌≢◌, ℕ, zero, suc, ◌+◌, ◌<◌, List, [], ◌∷◌, length, get_or, refl, sym, ap, ◌∙◌, subst, arith, cond}
 use Rattle.std.specs.Prelude.{Bool, true, false, not, bytes_eq, Result, Ok, Err}
 use Rattle.std.specs.List.{AllByRecursion}
+use Rattle.std.specs.Str.{IsUtf8}
 use Rattle.std.proofs.lemmas.Slice.Eq.{bytes_eq-Decides}
 use Rattle.meson_lex.specs.Items.{joined}
 use Rattle.meson_layout.specs.Pieces.{Piece, Keep, Change, splices}
 use Rattle.meson_layout.specs.Edited.{patched_by}
+use Rattle.meson_layout.specs.Laws.{AreTexts}
 use Rattle.meson_splice.specs.declared.fault.SpliceFault.{SpliceFault}
 use Rattle.meson_splice.specs.declared.fault.SpliceFault.TheVariants.{NoFile, OutOfRange, Stale, NothingToUndo, NothingToRedo, OutOfMemory}
 use Rattle.meson_splice.specs.declared.file_set.File.{File}
@@ -138,3 +140,12 @@ only_memory (OutOfRange name at) r new is refused = absurd (let err = refused (�
 only_memory (Stale name at) r new is refused = absurd (let err = refused (λ same. cc) in cc)
 only_memory NothingToUndo r new is refused = absurd (let err = refused (λ same. cc) in cc)
 only_memory NothingToRedo r new is refused = absurd (let err = refused (λ same. cc) in cc)
+
+-- what is left out loses no text
+kept_texts : (b : Bool) (s : Splice) (rest : List Splice) → IsUtf8 s.was × IsUtf8 s.now → AreTexts rest → AreTexts (cond (not b) (s ∷ rest) rest)
+kept_texts true s rest own others = others
+kept_texts false s rest own others = (own, others)
+
+pub effective_texts : (ss : List Splice) → AreTexts ss → AreTexts (effective ss)
+effective_texts [] a = tt
+effective_texts (s ∷ ss) a = kept_texts (bytes_eq s.was s.now) s (effective ss) a.0 (effective_texts ss a.1)

@@ -9,6 +9,7 @@ use Rattle.meson_splice.specs.Files.{bytes_at}
 use Rattle.meson_splice.specs.Patch.{patched_all}
 use Rattle.meson_layout.specs.declared.primitive.Primitive.{Primitive}
 use Rattle.meson_layout.specs.Layout.{layout_of}
+use Rattle.meson_layout.specs.Laws.{AreTexts}
 use Rattle.meson_syntax.specs.declared.source.Limits.{Limits}
 use Rattle.meson_syntax.specs.Tree.{Plain}
 use Rattle.meson_syntax.specs.Tree as tree
@@ -49,7 +50,7 @@ all_stepped (s ∷ steps) trees = option_and_then (all_stepped steps) (stepped s
 abbrev pub effective : List Splice → List Splice
 effective splices = filter (λ s. not (bytes_eq s.was s.now)) splices
 
--- The splices of a step are the layout of its edit in the file as it stands.
+-- The splices of a step are the layout of its edit in the file as it stands; what they take away and put in is text.
 pub record Laid (files : List File) (s : Step) (splices : List Splice) : Type 0 where
   pub file : tree.File Span
   pub limits : Limits
@@ -59,6 +60,7 @@ pub record Laid (files : List File) (s : Step) (splices : List Splice) : Type 0 
   pub primitive : Primitive
   pub is_primitive : primitive_of file s.edit ≡ Some primitive
   pub is_layout : splices ≡ effective (layout_of (name_at s.file files) items primitive)
+  pub texts : AreTexts splices
 
 -- how many bytes are read again after splices of a file: all of it
 abbrev pub read_again : List Splice → ℕ → List File → ℕ

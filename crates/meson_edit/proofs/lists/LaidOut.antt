@@ -20,7 +20,7 @@ use Rattle.meson_syntax.proofs.exchange.Lists.{lists-exchange}
 use Rattle.meson_edit.specs.Edits.{Edit, edited}
 use Rattle.meson_edit.specs.Places.{primitive_of, Writes}
 use Rattle.meson_edit.specs.Laws.{Makes, Spelled, KeepsOutside}
-use Rattle.meson_edit.proofs.Coding.{coding-law}
+use Rattle.meson_edit.proofs.Coding.{coding-law, texts-law}
 use Rattle.meson_edit.proofs.lists.Found.{Found, now_list}
 use Rattle.meson_edit.proofs.lists.Places.{list_among, cut-out}
 
@@ -74,6 +74,7 @@ makes limits bytes f s name e path t o level =
       text = front ++ (d.text ++ back);
       patches = d.patches;
       utf8 = coding-law name bytes items are s.reads.source.utf8 o.primitive o.writes (front ++ (d.text ++ back)) d.patches;
+      texts = texts-law name bytes items are s.reads.source.utf8 o.primitive o.writes;
       spells = subst (Spells (front ++ (d.text ++ back))) x.is_t spells;
     }
 

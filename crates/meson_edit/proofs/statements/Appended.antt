@@ -10,7 +10,7 @@ use Rattle.meson_syntax.proofs.parsing.Steps.{some-injective}
 use Rattle.meson_syntax.proofs.exchange.Appended.{file-last-words}
 use Rattle.meson_syntax.proofs.exchange.Standing.{file-end, statement-end}
 use Rattle.meson_edit.specs.Laws.{AppendedSpell}
-use Rattle.meson_edit.proofs.Coding.{coding-law}
+use Rattle.meson_edit.proofs.Coding.{coding-law, texts-law}
 
 pub appended-spell : AppendedSpell
 appended-spell new limits bytes f s items are name writes t is level =
@@ -29,6 +29,7 @@ appended-spell new limits bytes f s items are name writes t is level =
       text = bytes ++ a.0;
       patches = e.patches;
       utf8 = coding-law name bytes items are s.reads.source.utf8 (layout.Append new.bytes) writes.utf8 (bytes ++ a.0) e.patches;
+      texts = texts-law name bytes items are s.reads.source.utf8 (layout.Append new.bytes) writes.utf8;
       spells = record {
         items = e.items;
         are_items = e.are_items;

@@ -14,7 +14,7 @@ use Rattle.meson_syntax.specs.Lines.{LineStands}
 use Rattle.meson_syntax.specs.ExchangeStatements.{statement_in}
 use Rattle.meson_syntax.proofs.exchange.Standing.{line-stands}
 use Rattle.meson_edit.specs.Laws.{StatementRemovalsSpell}
-use Rattle.meson_edit.proofs.Coding.{coding-law}
+use Rattle.meson_edit.proofs.Coding.{coding-law, texts-law}
 use Rattle.meson_edit.proofs.statements.Erasing.{leaves}
 
 module _ (items : List Lexeme) (s : Span) (words rest : List Word) (l : LineStands items s words rest) where
@@ -62,6 +62,7 @@ removals-spell path n limits bytes f s items are name writes t is level =
       text = joined g.front ++ joined g.rest;
       patches = g.edited.patches;
       utf8 = coding-law name bytes items are s.reads.source.utf8 (layout.RemoveStatement sp) tt (joined g.front ++ joined g.rest) g.edited.patches;
+      texts = texts-law name bytes items are s.reads.source.utf8 (layout.RemoveStatement sp) tt;
       spells = record {
         items = g.edited.items;
         are_items = g.edited.are_items;
