@@ -4,3 +4,7 @@ mod Told
 mod CallsIn
 mod CommandSteps
 mod TakenNotes
+mod CallsThere
+mod EachShown
+mod GoodWords
+mod DetailsThere

@@ -1,2 +1,4 @@
 pub mod Planning
 pub mod Performing
+pub mod Called
+pub mod Details

@@ -81,7 +81,12 @@ fn key_told(
 ///
 /// # Errors
 /// It has, the first such in its order, or memory is refused.
-fn call_told(alloc: Global, source: &[u8], arguments: &List, role: Role) -> Result<(), Refusal>
+pub(crate) fn call_told(
+    alloc: Global,
+    source: &[u8],
+    arguments: &List,
+    role: Role,
+) -> Result<(), Refusal>
     ensures told { (function : Source) → IfOk result (λ u. call_told role (call_with function (list_view source.now arguments.now)) ≡ Ok []) }
     ensures refused { (function : Source) → IfErr result (λ e. e ≢ Refusal.OutOfMemory → call_told role (call_with function (list_view source.now arguments.now)) ≡ Err e) }
 {

@@ -1,10 +1,14 @@
 //! A project of many build files, and what commands do to it.
 #![tactic(auto)]
 
+mod called;
+mod details;
 mod info;
 mod planning;
 mod project;
+mod showing;
 
+pub use details::{Head, Shown};
 pub use meson_calls::{
     CallRef, LoadFault, MAX_FILES, Refusal, Role, SourceItem, Sources, Unloaded, subdirs,
 };

@@ -7,10 +7,17 @@ ghost use Rattle.meson_steps.specs.Outcomes.{IsDone, MayNotBeDone};
 ghost use Rattle.meson_plan.specs.Performing.{MayRefuse, Performs};
 ghost use Rattle.meson_plan.specs.Planning.{planned};
 ghost use Rattle.meson_calls.specs.Roles.{targets, found, is_target, places};
+ghost use Rattle.meson_calls.specs.Finding.{the_call};
 ghost use Rattle.meson_calls.specs.Sources.{sources};
+ghost use Rattle.meson_plan.specs.Details.{head, is_call, keywords, place_found};
+ghost use Rattle.meson_sources.specs.Extras.{extra_files};
 
+use crate::called::call_at;
+use crate::details::{Head, Shown};
 use crate::planning::planned;
+use crate::showing::{head_of, keywords_of};
 use meson_calls::arriving::sources_at;
+use meson_calls::finding::the_call;
 use meson_calls::loading::{copy_trees, loaded};
 use meson_calls::looking::is_target;
 use meson_calls::naming::found;
@@ -20,7 +27,8 @@ use meson_calls::variables::Variables;
 use meson_calls::{CallRef, Refusal, Role, Sources, Unloaded};
 use meson_keywords::changing::changed;
 use meson_keywords::request::request_of;
-use meson_splice::{Change, FileSet, Many};
+use meson_sources::extras::extra_files_of;
+use meson_splice::{Change, FileSet, Many, Text};
 use meson_steps::command::{Command, Done};
 use meson_steps::work::{Work, done};
 use meson_syntax::Parsed;
@@ -62,6 +70,14 @@ impl Project {
         }
     }
 
+    /// The project of files of which each has its tree. Takes no memory.
+    pub fn of(files: FileSet, trees: Vec<Parsed>) -> Project
+        requires { IsProject (record { files = files; parsed = trees.items }) }
+        ensures { result ≡ record { files = files; parsed = trees.items } }
+    {
+        Project { files, trees }
+    }
+
     /// The files.
     pub fn files(&self) -> &FileSet
         ensures { result.now ≡ self.now.files }
@@ -101,6 +117,18 @@ impl Project {
         Ok(calls)
     }
 
+    /// The one call that an id names.
+    ///
+    /// # Errors
+    /// There is no project, no such call or more than one, or memory is refused.
+    pub fn find_one(&self, alloc: Global, role: Role, id: &str) -> Result<CallRef, Refusal>
+        ensures found { IfOk result (λ c. place_found (the_call (project self.now) role id.now) ≡ Ok c) }
+        ensures refused { IfErr result (λ e. e ≢ Refusal.OutOfMemory → place_found (the_call (project self.now) role id.now) ≡ Err e) }
+    {
+        let notes = notes_of(alloc, &self.files, self.trees.as_slice())?;
+        the_call(alloc, role, id, notes.as_slice())
+    }
+
     /// Whether the place is that of a call of a target. Takes no memory.
     pub fn is_target(&self, call: &CallRef) -> bool
         ensures { result ≡ is_target (project self.now) call.now }
@@ -121,6 +149,54 @@ impl Project {
         let notes = notes_of(alloc, &self.files, trees)?;
         let variables = Variables::of(alloc, &self.files, trees, notes.as_slice())?;
         sources_at(&variables, call)
+    }
+
+    /// The extra files of a target. Where none stands in a list, and no empty list is met, a further one would go into the call.
+    ///
+    /// # Errors
+    /// `extra_files:` is there twice, or memory is refused.
+    pub fn extra_files(&self, alloc: Global, call: &CallRef) -> Result<Sources, Refusal>
+        requires { IsTrue (is_target (project self.now) call.now) }
+        ensures found { IfOk result (λ s. extra_files (project self.now) call.now ≡ Some (Ok s)) }
+        ensures refused { IfErr result (λ e. e ≢ Refusal.OutOfMemory → extra_files (project self.now) call.now ≡ Some (Err e)) }
+    {
+        let trees = self.trees.as_slice();
+        let notes = notes_of(alloc, &self.files, trees)?;
+        let variables = Variables::of(alloc, &self.files, trees, notes.as_slice())?;
+        let called = call_at(&self.files, trees, call);
+        extra_files_of(&variables, call, called.source, called.arguments)
+    }
+
+    /// What is told of a call before its arguments.
+    ///
+    /// # Errors
+    /// Memory is refused.
+    pub fn head(&self, alloc: Global, call: &CallRef) -> Result<Head, Refusal>
+        requires { IsTrue (is_call (project self.now) call.now) }
+        ensures told { IfOk result (λ h. head (project self.now) call.now ≡ Some h) }
+        ensures refused { IfErr result (λ e. e ≡ Refusal.OutOfMemory) }
+    {
+        let called = call_at(&self.files, self.trees.as_slice(), call);
+        let head = head_of(alloc, called)?;
+        Ok(head)
+    }
+
+    /// The keyword arguments of a call that commands of that role change, in the call's order, with their values.
+    ///
+    /// # Errors
+    /// One of them is there twice, the first such in the call's order, or memory is refused.
+    pub fn keywords(
+        &self,
+        alloc: Global,
+        role: Role,
+        call: &CallRef,
+    ) -> Result<Vec<(Text, Shown)>, Refusal>
+        requires { IsTrue (is_call (project self.now) call.now) }
+        ensures told { IfOk result (λ pairs. keywords self.now role call.now ≡ Some (Ok pairs.items)) }
+        ensures refused { IfErr result (λ e. e ≢ Refusal.OutOfMemory → keywords self.now role call.now ≡ Some (Err e)) }
+    {
+        let called = call_at(&self.files, self.trees.as_slice(), call);
+        keywords_of(alloc, role, called.source, called.arguments)
     }
 
     /// Does a command, or nothing.

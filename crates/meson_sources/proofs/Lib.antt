@@ -4,6 +4,7 @@ mod ElementsThere
 mod ExtrasAddable
 mod ExtrasAdded
 mod ExtrasMeant
+mod ExtrasTold
 mod Homes
 mod KeywordText
 mod Marked

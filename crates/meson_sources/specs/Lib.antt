@@ -1,6 +1,7 @@
 pub mod Naming
 pub mod Renaming
 pub mod SourceEdits
+pub mod Extras
 pub mod Spots
 pub mod Standings
 pub mod Targeted

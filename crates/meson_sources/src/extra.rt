@@ -39,7 +39,7 @@ use meson_syntax::{Arg, Expr, List};
 use std::alloc::{AllocError, Global};
 
 /// What `extra_files:` holds.
-fn extra_met<'t>(
+pub(crate) fn extra_met<'t>(
     variables: &Variables<'t>,
     left: usize,
     call: &CallRef,

@@ -3,6 +3,7 @@
 
 pub mod editing;
 mod extra;
+pub mod extras;
 mod inserting;
 mod removing;
 pub mod targeting;

@@ -1,0 +1,5 @@
+mod Names
+mod Puts
+mod Rising
+pub mod Agreeing
+mod Found

@@ -1,0 +1,37 @@
+-- What an info command lists of the call that an id names, by the files and trees of the project. Meson manual, Rewriter.
+use Rattle.std.specs.Prelude.{ℕ, List, Option, Some, None, option_map, option_and_then, Result, Ok, Err}
+use Rattle.serde_json.specs.Data.{Data}
+use Rattle.meson_splice.specs.Patch.{then_ok}
+use Rattle.meson_calls.specs.declared.call.CallRef.{CallRef}
+use Rattle.meson_calls.specs.declared.call.Role.{Role}
+use Rattle.meson_calls.specs.declared.call.Role.TheVariants as role
+use Rattle.meson_calls.specs.declared.refusal.Refusal.{Refusal}
+use Rattle.meson_calls.specs.declared.refusal.Refusal.TheVariants.{NotFound}
+use Rattle.meson_calls.specs.Finding.{the_call}
+use Rattle.meson_calls.specs.Loading.{Loaded, project}
+use Rattle.meson_calls.specs.Sources.{sources}
+use Rattle.meson_sources.specs.Extras.{extra_files}
+use Rattle.meson_plan.specs.Details.{head, keywords}
+use Rattle.meson_listing.specs.Entries.{target_data, call_data}
+
+-- of the call at a place, if one stands there
+abbrev pub target_at : Loaded → CallRef → Option (Result Data Refusal)
+target_at l c =
+    option_and_then (λ h. option_and_then (λ s. option_map (λ x. then_ok s (λ is. then_ok x (λ xs. Ok (target_data l.files c.file h is xs))))
+    (extra_files (project l) c)) (sources (project l) c)) (head (project l) c)
+
+abbrev pub call_at : Loaded → Role → CallRef → Option (Result Data Refusal)
+call_at l r c = option_and_then (λ h. option_map (λ ks. then_ok ks (λ pairs. Ok (call_data l.files c.file h pairs))) (keywords l r c)) (head (project l) c)
+
+-- one always stands where an id leads
+abbrev pub or_not_found : Option (Result Data Refusal) → Result Data Refusal
+or_not_found None = Err NotFound
+or_not_found (Some listing) = listing
+
+-- of the target that the id names
+abbrev pub target_listing : Loaded → List ℕ → Result Data Refusal
+target_listing l id = then_ok (the_call (project l) role.Target id) (λ c. or_not_found (target_at l c.place))
+
+-- of the call of this role that the id names
+abbrev pub kwargs_listing : Loaded → Role → List ℕ → Result Data Refusal
+kwargs_listing l r id = then_ok (the_call (project l) r id) (λ c. or_not_found (call_at l r c.place))

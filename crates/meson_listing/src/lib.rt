@@ -1,0 +1,9 @@
+//! Listings: what an info command tells of a target, or of the keyword arguments of a call, as JSON.
+#![tactic(auto)]
+
+mod entries;
+pub mod laws;
+mod listing;
+mod objects;
+
+pub use listing::{info_kwargs, info_target};

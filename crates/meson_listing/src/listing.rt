@@ -1,0 +1,62 @@
+//! The listing of the one call that an id names.
+
+ghost use Rattle.std.specs.Prelude.{◌≡◌, ◌≢◌, Err, IfErr, IfOk, Ok};
+ghost use Rattle.serde_json.specs.View.{view};
+ghost use Rattle.meson_listing.specs.Listing.{kwargs_listing, target_listing};
+
+use crate::objects::{call_object, target_object};
+use meson_plan::{Project, Refusal, Role};
+use serde_json::Value;
+use std::alloc::Global;
+
+/// What is told of a target: its head, its sources and its extra files.
+///
+/// # Errors
+/// There is no such target or more than one, or it has `sources:` or `extra_files:` twice, or memory is refused.
+pub fn info_target(alloc: Global, project: &Project, id: &str) -> Result<Value, Refusal>
+    ensures listed { IfOk result (λ v. target_listing project.now id.now ≡ Ok (view v)) }
+    ensures refused { IfErr result (λ e. e ≢ Refusal.OutOfMemory → target_listing project.now id.now ≡ Err e) }
+{
+    let call = match project.find_one(alloc, Role::Target, id) {
+        Ok(call) => call,
+        Err(refusal) => return Err(refusal),
+    };
+    let sources = match project.sources(alloc, &call) {
+        Ok(sources) => sources,
+        Err(refusal) => return Err(refusal),
+    };
+    let extra = match project.extra_files(alloc, &call) {
+        Ok(extra) => extra,
+        Err(refusal) => return Err(refusal),
+    };
+    let head = match project.head(alloc, &call) {
+        Ok(head) => head,
+        Err(refusal) => return Err(refusal),
+    };
+    let listing = target_object(alloc, project.files(), call.file, head, sources, extra)?;
+    Ok(listing)
+}
+
+/// What is told of a call of a role: its head, and the values of its keyword arguments that commands change.
+///
+/// # Errors
+/// There is no such call or more than one, or one of these arguments is there twice, the first such in the call's order, or memory is refused.
+pub fn info_kwargs(alloc: Global, project: &Project, role: Role, id: &str) -> Result<Value, Refusal>
+    ensures listed { IfOk result (λ v. kwargs_listing project.now role id.now ≡ Ok (view v)) }
+    ensures refused { IfErr result (λ e. e ≢ Refusal.OutOfMemory → kwargs_listing project.now role id.now ≡ Err e) }
+{
+    let call = match project.find_one(alloc, role, id) {
+        Ok(call) => call,
+        Err(refusal) => return Err(refusal),
+    };
+    let keywords = match project.keywords(alloc, role, &call) {
+        Ok(keywords) => keywords,
+        Err(refusal) => return Err(refusal),
+    };
+    let head = match project.head(alloc, &call) {
+        Ok(head) => head,
+        Err(refusal) => return Err(refusal),
+    };
+    let listing = call_object(alloc, project.files(), call.file, head, keywords)?;
+    Ok(listing)
+}

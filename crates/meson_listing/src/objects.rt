@@ -1,0 +1,123 @@
+//! Whole listings, member by member.
+
+ghost use Rattle.std.specs.Prelude.{◌≡◌, IfOk, OnOk, codes};
+ghost use Rattle.serde_json.specs.Data.{boolean, member, no_members, number, put as with_member, string, unsigned};
+ghost use Rattle.serde_json.specs.View.{members_view, view};
+ghost use Rattle.meson_calls.specs.Loading.{name_at};
+ghost use Rattle.meson_listing.specs.Entries.{call_data, items_data, target_data};
+
+use crate::entries::{file_name, items_value, keywords_value, text_or_null};
+use meson_plan::{Head, Shown, Sources};
+use meson_splice::{FileSet, Text};
+use serde_json::{Map, Value, put};
+use std::alloc::{AllocError, Global};
+
+/// What each listing begins with: where the call stands, its function, and whether arguments are hidden.
+fn head_members(
+    alloc: Global,
+    at: usize,
+    file: &str,
+    function: Text,
+    hidden: bool,
+) -> Result<Map<String, Value>, AllocError>
+    ensures { IfOk result (λ m. members_view m.entries ≡ member (codes "at") (number (unsigned at)) (member (codes "file") (string file.now)
+        (member (codes "function") (string function) (member (codes "hidden") (boolean hidden) no_members)))) }
+{
+    let mut members = Map::new(alloc);
+    put(&mut members, alloc, "at", Value::from(at))?;
+    put(
+        &mut members,
+        alloc,
+        "file",
+        Value::try_from_str(alloc, file)?,
+    )?;
+    put(
+        &mut members,
+        alloc,
+        "function",
+        Value::String(function.take()),
+    )?;
+    put(&mut members, alloc, "hidden", Value::Bool(hidden))?;
+    Ok(members)
+}
+
+/// Puts sources or extra files at a name, and at another one how many expressions are not known.
+fn put_sources(
+    alloc: Global,
+    members: &mut Map<String, Value>,
+    key: &str,
+    opaque_key: &str,
+    files: &FileSet,
+    sources: Sources,
+) -> Result<(), AllocError>
+    ensures { OnOk result (members_view members.new.entries ≡ with_member opaque_key.now (number (unsigned sources.opaque)) (with_member key.now (items_data files.now sources.items) (members_view members.old.entries))) }
+{
+    let items = items_value(alloc, files, sources.items)?;
+    put(members, alloc, key, items)?;
+    put(members, alloc, opaque_key, Value::from(sources.opaque))
+}
+
+/// The listing of a target, whose call stands in the file of this number.
+#[tactic(auto, unfolding(crate::specs::Entries::target_data))]
+pub(crate) fn target_object(
+    alloc: Global,
+    files: &FileSet,
+    file: usize,
+    head: Head,
+    sources: Sources,
+    extra: Sources,
+) -> Result<Value, AllocError>
+    ensures { IfOk result (λ v. view v ≡ target_data files.now file head sources extra) }
+{
+    let name = text_or_null(head.name);
+    let file = file_name(files, file);
+    let mut members = head_members(alloc, head.at, file, head.function, head.hidden)?;
+    put(&mut members, alloc, "name", name)?;
+    put_sources(
+        alloc,
+        &mut members,
+        "extra_files",
+        "opaque_extra_files",
+        files,
+        extra,
+    )?;
+    put_sources(
+        alloc,
+        &mut members,
+        "sources",
+        "opaque_sources",
+        files,
+        sources,
+    )?;
+    put(
+        &mut members,
+        alloc,
+        "type",
+        Value::try_from_str(alloc, "target")?,
+    )?;
+    Ok(Value::Object(members))
+}
+
+/// The listing of the keyword arguments of a call that stands in the file of this number.
+#[tactic(auto, unfolding(crate::specs::Entries::call_data))]
+pub(crate) fn call_object(
+    alloc: Global,
+    files: &FileSet,
+    file: usize,
+    head: Head,
+    keywords: Vec<(Text, Shown)>,
+) -> Result<Value, AllocError>
+    ensures { IfOk result (λ v. view v ≡ call_data files.now file head keywords.items) }
+{
+    let keywords = keywords_value(alloc, keywords)?;
+    let file = file_name(files, file);
+    let mut members = head_members(alloc, head.at, file, head.function, head.hidden)?;
+    put(&mut members, alloc, "kwargs", keywords)?;
+    put(
+        &mut members,
+        alloc,
+        "type",
+        Value::try_from_str(alloc, "kwargs")?,
+    )?;
+    Ok(Value::Object(members))
+}

@@ -1,0 +1,41 @@
+-- What is told of a call that stands at a place.
+use Rattle.std.proofs.Common.{◌≡◌, ◌≢◌, ℕ, List, Option, Some, refl, ap, ◌∙◌}
+use Rattle.std.specs.Prelude.{Result, Ok, Err, IfOk, IfErr, option_map, option_and_then}
+use Rattle.meson_lex.specs.declared.kinds.Span.{Span}
+use Rattle.meson_splice.specs.Files.{bytes_at}
+use Rattle.meson_syntax.specs.Tree.{Listing, call}
+use Rattle.meson_calls.specs.declared.call.CallRef.{CallRef}
+use Rattle.meson_calls.specs.declared.call.Role.{Role}
+use Rattle.meson_calls.specs.declared.refusal.Refusal.{Refusal}
+use Rattle.meson_calls.specs.declared.refusal.Refusal.TheVariants.{OutOfMemory}
+use Rattle.meson_calls.specs.Calls.{Call, call_of}
+use Rattle.meson_calls.specs.Loading.{Loaded, project}
+use Rattle.meson_calls.specs.Picking.{call_with}
+use Rattle.meson_calls.specs.Project.{Project, Placed, placed, expression_at}
+use Rattle.meson_sources.specs.Extras.{extra_files, extra_of_call}
+use Rattle.meson_plan.specs.Details.{keywords, keywords_of_call, place_found}
+use Rattle.meson_calls.proofs.OneCall.{placed_at}
+
+-- ---- an answer about what stands there
+
+module _ {X : Type 0} (meant : Option (Result X Refusal)) (here : Result X Refusal) (is : meant ≡ Some here) where
+  pub found_there : (r : Result X Refusal) → IfOk r (λ x. here ≡ Ok x) → IfOk r (λ x. meant ≡ Some (Ok x))
+  found_there (Ok x) h = is ∙ ap Some h
+  found_there (Err e) h = tt
+
+  pub refused_there : {Y : Type 0} (r : Result Y Refusal) → IfErr r (λ e. e ≢ OutOfMemory → here ≡ Err e) → IfErr r (λ e. e ≢ OutOfMemory → meant ≡ Some (Err e))
+  refused_there (Ok y) h = tt
+  refused_there (Err e) h = λ other. is ∙ ap Some (h other)
+
+-- ---- a call
+
+pub placed_same : (found : Result (Placed (Call Span)) Refusal) → placed_at found ≡ place_found found
+placed_same (Ok c) = refl
+placed_same (Err e) = refl
+
+module _ (c : CallRef) (s : Span) (f : List ℕ) (l : Listing Span) where
+  pub extra_there : (p : Project Span) → expression_at p c ≡ Some (call s f l) → extra_files p c ≡ Some (extra_of_call p (placed c (call_with f l)))
+  extra_there p is = ap (λ o. option_map (extra_of_call p) (option_map (placed c) (option_and_then call_of o))) is
+
+  pub keywords_there : (old : Loaded) (r : Role) → expression_at (project old) c ≡ Some (call s f l) → keywords old r c ≡ Some (keywords_of_call (bytes_at c.file old.files) r (call_with f l))
+  keywords_there old r is = ap (λ o. option_map (λ (found : Placed (Call Span)). keywords_of_call (bytes_at c.file old.files) r found.it) (option_map (placed c) (option_and_then call_of o))) is

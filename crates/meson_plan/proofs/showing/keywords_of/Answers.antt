@@ -1,0 +1,24 @@
+use Rattle.std.proofs.Common.{sym, ap, ◌∙◌}
+use Rattle.std.specs.Prelude.{Ok}
+use Rattle.std.specs.List.{filter_map}
+use Rattle.meson_splice.specs.Patch.{then_ok}
+use Rattle.meson_syntax.specs.View.{args_view, list_view}
+use Rattle.meson_edit.specs.Edits.{elements}
+use Rattle.meson_steps.proofs.ArgumentValues.{list_elements}
+use Rattle.meson_plan.specs.Details.{shown_argument}
+use Rattle.meson_plan.proofs.showing.keywords_of.Goals as goal
+
+pub returns-in-Err-clause-refused : goal.returns-in-Err-clause-refused
+returns-in-Err-clause-refused c = λ function other.
+    let source = c.args.source.now in
+    let all = filter_map (shown_argument source c.args.role) (elements (list_view source c.args.arguments.now)) in
+    ap (λ told. then_ok told (λ _. Ok all)) (c.in-Err.ensures.refused function other)
+
+pub returns-clause-shown : goal.returns-clause-shown
+returns-clause-shown c = λ function.
+    let source = c.args.source.now in
+    let l = c.args.arguments.now in
+    let all = filter_map (shown_argument source c.args.role) (elements (list_view source l)) in
+    ap (λ told. then_ok told (λ _. Ok all)) (c.in-Ok.ensures.told function)
+    ∙ ap (λ xs. Ok (filter_map (shown_argument source c.args.role) xs)) (list_elements source l ∙ ap (args_view source) (sym c.get.ensures))
+    ∙ ap Ok (sym c.in_ok-pairs.ensures)

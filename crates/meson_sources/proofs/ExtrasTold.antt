@@ -1,0 +1,53 @@
+-- What gathered marks say of the extra files of a call.
+use Rattle.std.proofs.Common.{◌≡◌, ℕ, ◌<◌, ◌≤◌, List, [], length, sym, ap, ◌∙◌}
+use Rattle.std.specs.Prelude.{Option, Ok, Err}
+use Rattle.meson_lex.specs.declared.kinds.Span.{Span}
+use Rattle.meson_syntax.specs.declared.tree.List as rust
+use Rattle.meson_syntax.specs.View.{list_view}
+use Rattle.meson_calls.specs.declared.call.CallRef.{CallRef}
+use Rattle.meson_calls.specs.declared.call.SourceItem.{SourceItem}
+use Rattle.meson_calls.specs.declared.call.Sources.{Sources}
+use Rattle.meson_calls.specs.declared.refusal.Refusal.TheVariants.{DuplicateKeyword}
+use Rattle.meson_calls.specs.Calls.{value_with_name}
+use Rattle.meson_calls.specs.Expansion.{Mark, max_followed}
+use Rattle.meson_calls.specs.Picking.{call_with}
+use Rattle.meson_calls.specs.Project.{Project, placed}
+use Rattle.meson_calls.specs.Sourced.{kept_args}
+use Rattle.meson_calls.specs.Sources.{answer, first_empty, first_list, once, opaque_count, or_call, or_option}
+use Rattle.meson_calls.specs.Tallies.{Tally}
+use Rattle.meson_sources.specs.Extras.{extra_of_call}
+use Rattle.meson_sources.specs.SourceEdits.{extra_key, extra_marks}
+use Rattle.meson_sources.specs.Targeted.{extra_gathered}
+use Rattle.meson_calls.proofs.Answered.{keyword_is}
+use Rattle.meson_sources.proofs.ExtrasMeant.{extra_fields}
+use Rattle.meson_sources.proofs.Marked.{Told}
+use Rattle.meson_sources.proofs.SourcesMeant.{once_few, once_twice}
+
+abbrev sources_with : CallRef → List SourceItem → ℕ → Option CallRef → Option CallRef → Sources
+sources_with c items unknown list vacant = record { items = items; opaque = unknown; home = or_call c (or_option list vacant) }
+
+abbrev pub sources_by : CallRef → Tally → Sources
+sources_by c t = sources_with c t.items t.unknown t.list t.vacant
+
+answered : (c : CallRef) (ms : List (Mark Span)) (t : Tally) → Told t ms → answer c ms ≡ sources_by c t
+answered c ms t told =
+    ap (λ is. sources_with c is (opaque_count ms) (first_list ms) (first_empty ms)) (sym told.are_items)
+    ∙ ap (λ n. sources_with c t.items n (first_list ms) (first_empty ms)) (sym told.is_unknown)
+    ∙ ap (λ o. sources_with c t.items t.unknown o (first_empty ms)) (sym told.is_list)
+    ∙ ap (λ o. sources_with c t.items t.unknown t.list o) (sym told.is_vacant)
+
+module _ (p : Project Span) (c : CallRef) (source : List ℕ) (l : rust.List) (function : List ℕ) where
+  abbrev values : ℕ
+  values = length (kept_args source (value_with_name extra_key) 0 (rust.out-List l).items)
+
+  abbrev marks : List (Mark Span)
+  marks = extra_marks p (placed c (call_with function (list_view source l)))
+
+  pub told_twice : 1 < values → extra_of_call p (placed c (call_with function (list_view source l))) ≡ Err (DuplicateKeyword extra_key)
+  told_twice many = ap (λ xs. once extra_key xs (answer c marks)) (keyword_is p c source l function extra_key) ∙ once_twice extra_key _ (answer c marks) many
+
+  pub told_once : values ≤ 1 → (t : Tally) → t ≡ (extra_gathered p max_followed c source (rust.out-List l).items).tally
+      → extra_of_call p (placed c (call_with function (list_view source l))) ≡ Ok (sources_by c t)
+  told_once few t is =
+      ap (λ xs. once extra_key xs (answer c marks)) (keyword_is p c source l function extra_key) ∙ once_few extra_key _ (answer c marks) few
+      ∙ ap Ok (answered c marks t (extra_fields p c source l function [] t is))

@@ -1,0 +1,34 @@
+-- The extra files of a call are those that its marks tell of, where the keyword is there once.
+use Rattle.std.proofs.Common.{◌<◌, ◌≤◌, length, sym, ap, ◌∙◌, subst}
+use Rattle.std.specs.Prelude.{Ok, Err}
+use Rattle.meson_calls.specs.declared.refusal.Refusal.TheVariants.{DuplicateKeyword}
+use Rattle.meson_calls.specs.Calls.{value_with_name}
+use Rattle.meson_calls.specs.Expansion.{max_followed}
+use Rattle.meson_calls.specs.Named.{project_of}
+use Rattle.meson_calls.specs.Sourced.{kept_args}
+use Rattle.meson_calls.specs.Sources.{or_call, or_option}
+use Rattle.meson_calls.specs.Tallies.{gathered}
+use Rattle.meson_sources.specs.Targeted.{extra_gathered}
+use Rattle.meson_sources.proofs.ExtrasTold.{told_once, told_twice}
+use Rattle.meson_sources.proofs.extras.extra_files_of.Goals as goal
+
+pub returns-in-Err-clause-refused : goal.returns-in-Err-clause-refused
+returns-in-Err-clause-refused c = λ function other.
+    let source = c.args.source.now in
+    let l = c.args.arguments.now in
+    let twice = c.in-Err.ensures.twice other in
+    let many = subst (λ k. 1 < length (kept_args source (value_with_name k) 0 l.items)) c.as_slice.ensures twice.1 in
+    told_twice (project_of c.args.variables.now) c.args.call.now source l function many ∙ ap (λ k. Err (DuplicateKeyword k)) (sym c.as_slice.ensures) ∙ ap Err (sym twice.0)
+
+pub returns-clause-found : goal.returns-clause-found
+returns-clause-found c = λ function.
+    let p = project_of c.args.variables.now in
+    let call = c.args.call.now in
+    let source = c.args.source.now in
+    let l = c.args.arguments.now in
+    let marks = c.in_ok-marks.marks in
+    let few = subst (λ k. length (kept_args source (value_with_name k) 0 l.items) ≤ 1) c.as_slice.ensures c.in-Ok.ensures.few in
+    let is = ap (λ g. g.tally) (c.in_ok-marks.ensures ∙ ap (extra_gathered p max_followed call source) c.get.ensures) in
+    told_once p call source l function few (gathered marks).tally is
+    ∙ ap (λ is. Ok (record { items = is; opaque = marks.unknown; home = or_call call (or_option marks.list marks.vacant) })) (sym c.of.ensures)
+    ∙ ap (λ h. Ok (record { items = c.of.result; opaque = marks.unknown; home = h })) (sym c.in_ok-home.ensures)

@@ -1,0 +1,55 @@
+//! The extra files of a target.
+
+ghost use Rattle.std.specs.Prelude.{◌≡◌, ◌≢◌, Err, IfErr, IfOk, Ok};
+ghost use Rattle.meson_syntax.specs.View.{list_view};
+ghost use Rattle.meson_calls.specs.GoodLists.{GoodListing};
+ghost use Rattle.meson_calls.specs.Named.{AreVariables, project_of};
+ghost use Rattle.meson_calls.specs.Picking.{Source, call_with};
+ghost use Rattle.meson_calls.specs.Project.{placed};
+ghost use Rattle.meson_sources.specs.Extras.{extra_of_call};
+
+use crate::editing::at_most_once;
+use crate::extra::extra_met;
+use meson_calls::marks::Marks;
+use meson_calls::sourcing::{MAX_FOLLOWED, home_of};
+use meson_calls::variables::Variables;
+use meson_calls::{CallRef, Refusal, Sources};
+use meson_splice::Many;
+use meson_syntax::List;
+
+/// The extra files of the call at a place.
+///
+/// # Errors
+/// `extra_files:` is there twice, or memory is refused.
+pub fn extra_files_of<'t>(
+    variables: &Variables<'t>,
+    call: &CallRef,
+    source: &'t [u8],
+    arguments: &'t List,
+) -> Result<Sources, Refusal>
+    requires holds { AreVariables variables.now }
+    requires good { GoodListing (list_view source.now arguments.now) }
+    ensures found { (function : Source) → IfOk result (λ s. extra_of_call (project_of variables.now) (placed call.now (call_with function (list_view source.entry.now arguments.entry.now))) ≡ Ok s) }
+    ensures refused { (function : Source) → IfErr result (λ e. e ≢ Refusal.OutOfMemory → extra_of_call (project_of variables.now) (placed call.now (call_with function (list_view source.entry.now arguments.entry.now))) ≡ Err e) }
+{
+    let alloc = variables.alloc;
+    match at_most_once(alloc, source, arguments, b"extra_files".as_slice()) {
+        Ok(()) => {}
+        Err(refusal) => return Err(refusal),
+    }
+    let marks = extra_met(variables, MAX_FOLLOWED, call, source, arguments.items.get())?;
+    let Marks {
+        items,
+        numbers: _,
+        unknown,
+        list,
+        vacant,
+        followed: _,
+    } = marks;
+    let home = home_of(alloc, call, list, vacant)?;
+    Ok(Sources {
+        items: Many::of(items),
+        opaque: unknown,
+        home,
+    })
+}
