@@ -1,0 +1,4 @@
+pub mod EachFacts
+pub mod LogFacts
+pub mod LogLines
+pub mod ScriptFacts

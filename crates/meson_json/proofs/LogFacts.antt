@@ -1,0 +1,52 @@
+-- Facts about the log's value.
+use Rattle.std.proofs.Common.{◌≡◌, ◌≤◌, false, List, [], ◌∷◌, map, Some, refl, arith}
+use Rattle.serde_json.specs.Data.{depth, items_depth}
+use Rattle.serde_json.specs.View.{items_of}
+use Rattle.serde_json.specs.Written.{has_float, items_have_float}
+use Rattle.meson_splice.specs.declared.change.Change.{Change}
+use Rattle.meson_splice.specs.declared.history.History.{History}
+use Rattle.meson_splice.specs.declared.splice.Splice.{Splice}
+use Rattle.meson_json.specs.Each.{each_of}
+use Rattle.meson_json.specs.Log.{splice_data, change_data, log_data, splice_of, change_of, history_of}
+
+splices-no_float : (ss : List Splice) → items_have_float (items_of (map splice_data ss)) ≡ false
+splices-no_float [] = refl
+splices-no_float (s ∷ ss) = splices-no_float ss
+
+changes-no_float : (cs : List Change) → items_have_float (items_of (map change_data cs)) ≡ false
+changes-no_float [] = refl
+changes-no_float (c ∷ cs) = rw (splices-no_float c.splices) (changes-no_float cs)
+
+pub log-no_float : (h : History) → has_float (log_data h) ≡ false
+unfolding log_data
+log-no_float h = rw (changes-no_float h.future, changes-no_float h.past) refl
+
+splices-depth : (ss : List Splice) → items_depth (items_of (map splice_data ss)) ≤ 1
+splices-depth [] = omega arith
+splices-depth (s ∷ ss) = omega (arith, splices-depth ss)
+
+changes-depth : (cs : List Change) → items_depth (items_of (map change_data cs)) ≤ 2
+changes-depth [] = omega arith
+changes-depth (c ∷ cs) = omega (arith, splices-depth c.splices, changes-depth cs)
+
+pub log-depth : (h : History) → depth (log_data h) ≤ 127
+unfolding log_data
+log-depth h = omega (arith, changes-depth h.future, changes-depth h.past)
+
+splice-back : (s : Splice) → splice_of (splice_data s) ≡ Some s
+unfolding splice_of
+splice-back s = refl
+
+splices-back : (ss : List Splice) → each_of splice_of (items_of (map splice_data ss)) ≡ Some ss
+unfolding each_of
+splices-back [] = refl
+splices-back (s ∷ ss) = rw (splice-back s, splices-back ss) refl
+
+changes-back : (cs : List Change) → each_of change_of (items_of (map change_data cs)) ≡ Some cs
+unfolding each_of
+changes-back [] = refl
+changes-back (c ∷ cs) = rw (splices-back c.splices, changes-back cs) refl
+
+pub log-back : (h : History) → history_of (log_data h) ≡ Some h
+unfolding history_of log_data
+log-back h = rw (changes-back h.future, changes-back h.past) refl

@@ -1,0 +1,6 @@
+pub mod Members
+pub mod Each
+pub mod Log
+pub mod Operations
+pub mod Settings
+pub mod Scripts

@@ -1,0 +1,131 @@
+-- The commands that a JSON value stands for, or the first fault.
+use Rattle.std.specs.Prelude.{ℕ, ◌+◌, List, [], ◌∷◌, codes, is_some, nat_lt, if◌then◌else◌, Option, Some, None, ok_or, option_and_then, Result, Ok, Err}
+use Rattle.serde_json.specs.Data.{Data, Items, no_items, item, Members, no_members}
+use Rattle.serde_json.specs.Events.{items_len}
+use Rattle.serde_json.specs.Find.{get, as_array, as_object, as_str}
+use Rattle.meson_splice.specs.Patch.{then_ok}
+use Rattle.meson_json.specs.Each.{each_of, each_member, names_of}
+use Rattle.meson_json.specs.Members.{text_at}
+use Rattle.meson_json.specs.Operations.{entry_type, target_operation, kwargs_operation, options_operation, role_of}
+use Rattle.meson_json.specs.Settings.{setting_of, option_value}
+use Rattle.meson_steps.specs.declared.command.Command.{Command}
+use Rattle.meson_steps.specs.declared.command.Command.TheVariants as command
+use Rattle.meson_calls.specs.declared.call.Role.{Role}
+use Rattle.meson_json.specs.declared.entry.TargetMembers.{TargetMembers}
+use Rattle.meson_json.specs.declared.fault.ScriptFault.{ScriptFault}
+use Rattle.meson_json.specs.declared.fault.ScriptFault.TheVariants.{NotJson, NotArray, TooMany, NotObject, UnknownType, BadField}
+use Rattle.meson_json.specs.declared.names.EntryType.{EntryType}
+use Rattle.meson_json.specs.declared.names.EntryType.TheVariants as entry
+use Rattle.meson_json.specs.declared.names.KwargsOperation.{KwargsOperation}
+use Rattle.meson_json.specs.declared.names.KwargsOperation.TheVariants as kwargs
+use Rattle.meson_json.specs.declared.names.OptionsOperation.{OptionsOperation}
+use Rattle.meson_json.specs.declared.names.OptionsOperation.TheVariants as options
+use Rattle.meson_json.specs.declared.names.TargetOperation.{TargetOperation}
+use Rattle.meson_json.specs.declared.names.TargetOperation.TheVariants as target
+
+-- ---- members
+
+-- a text that has to be there
+abbrev pub required_text : ℕ → List ℕ → Data → Result (List ℕ) ScriptFault
+required_text i name d = ok_or (text_at name d) (BadField i name)
+
+-- a text, or another one where there is no such member
+abbrev pub text_or : ℕ → List ℕ → List ℕ → Option Data → Result (List ℕ) ScriptFault
+text_or i name otherwise None = Ok otherwise
+text_or i name otherwise (Some d) = ok_or (as_str d) (BadField i name)
+
+abbrev pub texts_or_none : ℕ → List ℕ → Option Data → Result (List (List ℕ)) ScriptFault
+texts_or_none i name None = Ok []
+texts_or_none i name (Some d) = ok_or (option_and_then (each_of as_str) (as_array d)) (BadField i name)
+
+-- an object, or another one where there is no such member
+abbrev pub members_or : ℕ → List ℕ → Members → Option Data → Result Members ScriptFault
+members_or i name otherwise None = Ok otherwise
+members_or i name otherwise (Some d) = ok_or (as_object d) (BadField i name)
+
+-- ---- entries of type `target`
+
+unfoldable pub target_members : ℕ → Data → Result TargetMembers ScriptFault
+target_members i d =
+    then_ok (required_text i (codes "target") d) (λ target.
+    then_ok (texts_or_none i (codes "sources") (get (codes "sources") d)) (λ sources.
+    then_ok (text_or i (codes "subdir") [] (get (codes "subdir") d)) (λ subdir.
+    then_ok (text_or i (codes "target_type") (codes "executable") (get (codes "target_type") d)) (λ kind.
+    Ok (record { target = target; sources = sources; subdir = subdir; target_kind = kind })))))
+
+abbrev pub target_command : TargetOperation → TargetMembers → Command
+target_command target.SourcesAdd m = command.SourcesAdd m.target m.sources
+target_command target.SourcesRemove m = command.SourcesRemove m.target m.sources
+target_command target.TargetRemove m = command.TargetRemove m.target
+target_command target.TargetAdd m = command.TargetAdd m.target m.target_kind m.subdir m.sources
+target_command target.ExtraAdd m = command.ExtraAdd m.target m.sources
+target_command target.ExtraRemove m = command.ExtraRemove m.target m.sources
+target_command target.Info m = command.TargetInfo m.target
+
+unfoldable pub target_entry : ℕ → Data → Result Command ScriptFault
+target_entry i d =
+    then_ok (required_text i (codes "operation") d) (λ word.
+    then_ok (target_operation i word) (λ operation.
+    then_ok (target_members i d) (λ m. Ok (target_command operation m))))
+
+-- ---- entries of type `kwargs`
+
+abbrev pub role_at : ℕ → Data → Result Role ScriptFault
+role_at i d = ok_or (option_and_then role_of (text_at (codes "function") d)) (BadField i (codes "function"))
+
+-- `delete` and `info` take any values
+unfoldable pub kwargs_command : ℕ → KwargsOperation → Role → List ℕ → Members → Result Command ScriptFault
+kwargs_command i kwargs.Set role id ms = then_ok (ok_or (each_member setting_of ms) (BadField i (codes "kwargs"))) (λ pairs. Ok (command.KwargsSet role id pairs))
+kwargs_command i kwargs.Add role id ms = then_ok (ok_or (each_member setting_of ms) (BadField i (codes "kwargs"))) (λ pairs. Ok (command.KwargsAdd role id pairs))
+kwargs_command i kwargs.Remove role id ms = then_ok (ok_or (each_member setting_of ms) (BadField i (codes "kwargs"))) (λ pairs. Ok (command.KwargsRemove role id pairs))
+kwargs_command i kwargs.Delete role id ms = Ok (command.KwargsDelete role id (names_of ms))
+kwargs_command i kwargs.Info role id ms = Ok (command.KwargsInfo role id)
+
+unfoldable pub kwargs_entry : ℕ → Data → Result Command ScriptFault
+kwargs_entry i d =
+    then_ok (required_text i (codes "operation") d) (λ word.
+    then_ok (kwargs_operation i word) (λ operation.
+    then_ok (role_at i d) (λ role.
+    then_ok (required_text i (codes "id") d) (λ id.
+    then_ok (members_or i (codes "kwargs") no_members (get (codes "kwargs") d)) (λ ms. kwargs_command i operation role id ms)))))
+
+-- ---- entries of type `default_options`
+
+unfoldable pub options_command : ℕ → OptionsOperation → Members → Result Command ScriptFault
+options_command i options.Set ms = then_ok (ok_or (each_member option_value ms) (BadField i (codes "options"))) (λ pairs. Ok (command.OptionsSet pairs))
+options_command i options.Delete ms = Ok (command.OptionsDelete (names_of ms))
+
+unfoldable pub options_entry : ℕ → Data → Result Command ScriptFault
+options_entry i d =
+    then_ok (required_text i (codes "operation") d) (λ word.
+    then_ok (options_operation i word) (λ operation.
+    then_ok (members_or i (codes "options") no_members (get (codes "options") d)) (λ ms. options_command i operation ms)))
+
+-- ---- entries and scripts
+
+abbrev pub entry_command : ℕ → Data → EntryType → Result Command ScriptFault
+entry_command i d entry.Target = target_entry i d
+entry_command i d entry.Kwargs = kwargs_entry i d
+entry_command i d entry.DefaultOptions = options_entry i d
+
+-- the command of entry i
+unfoldable pub entry_of : ℕ → Data → Result Command ScriptFault
+entry_of i d =
+    if is_some (as_object d)
+    then then_ok (ok_or (option_and_then entry_type (text_at (codes "type") d)) (UnknownType i)) (entry_command i d)
+    else Err (NotObject i)
+
+-- the commands of the entries from number i on
+unfoldable pub entries_of : ℕ → Items → Result (List Command) ScriptFault
+entries_of i no_items = Ok []
+entries_of i (item d ds) = then_ok (entry_of i d) (λ c. then_ok (entries_of (i + 1) ds) (λ cs. Ok (c ∷ cs)))
+
+abbrev pub max_commands : ℕ
+max_commands = 4096
+
+-- the commands of what was read, if a JSON value was
+unfoldable pub script_of : Option Data → Result (List Command) ScriptFault
+script_of value =
+    then_ok (ok_or value NotJson) (λ d.
+    then_ok (ok_or (as_array d) NotArray) (λ ds.
+    if nat_lt max_commands (items_len ds) then Err TooMany else entries_of 0 ds))

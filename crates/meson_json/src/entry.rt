@@ -1,0 +1,243 @@
+//! Entries of a script: each stands for one command.
+
+ghost use Rattle.std.specs.Prelude.{◌≡◌, ◌≢◌, Err, IfErr, IfOk, Ok};
+ghost use Rattle.serde_json.specs.View.{members_view, view};
+ghost use Rattle.meson_json.specs.Scripts.{entry_of, kwargs_command, kwargs_entry, options_command, options_entry, role_at, target_command, target_entry, target_members};
+ghost use Rattle.meson_json.specs.declared.fault.ScriptFault.TheVariants.{OutOfMemory};
+
+use crate::fault::ScriptFault;
+use crate::members::{
+    bad_field, members_or, names, option_texts, required_text, settings, text_at, text_or,
+    texts_or_none,
+};
+use crate::names::{
+    EntryType, KwargsOperation, OptionsOperation, TargetOperation, find_kwargs_operation,
+    find_options_operation, find_role, find_target_operation, find_type,
+};
+use meson_calls::Role;
+use meson_splice::{Many, Text};
+use meson_steps::command::Command;
+use serde_json::{Map, Value};
+use std::alloc::Global;
+
+/// What an entry about a target names.
+#[derive(Drop)]
+pub(crate) struct TargetMembers {
+    pub target: Text,
+    pub sources: Many<Text>,
+    pub subdir: Text,
+    pub target_kind: Text,
+}
+
+#[tactic(auto, unfolding(crate::specs::Scripts::target_members))]
+fn target_members(alloc: Global, index: usize, entry: &Value) -> Result<TargetMembers, ScriptFault>
+    ensures ok { IfOk result (λ m. target_members index (view entry.now) ≡ Ok m) }
+    ensures refused { IfErr result (λ e. e ≢ OutOfMemory → target_members index (view entry.now) ≡ Err e) }
+{
+    let target = match required_text(alloc, index, entry, "target") {
+        Ok(target) => target,
+        Err(fault) => return Err(fault),
+    };
+    let sources = match texts_or_none(alloc, index, entry, "sources") {
+        Ok(sources) => sources,
+        Err(fault) => return Err(fault),
+    };
+    let subdir = match text_or(alloc, index, entry, "subdir", "") {
+        Ok(subdir) => subdir,
+        Err(fault) => return Err(fault),
+    };
+    let target_kind = match text_or(alloc, index, entry, "target_type", "executable") {
+        Ok(target_kind) => target_kind,
+        Err(fault) => return Err(fault),
+    };
+    Ok(TargetMembers {
+        target,
+        sources,
+        subdir,
+        target_kind,
+    })
+}
+
+fn target_command(operation: TargetOperation, members: TargetMembers) -> Command
+    ensures { result ≡ target_command operation members }
+{
+    let TargetMembers {
+        target,
+        sources,
+        subdir,
+        target_kind,
+    } = members;
+    match operation {
+        TargetOperation::SourcesAdd => Command::SourcesAdd { target, sources },
+        TargetOperation::SourcesRemove => Command::SourcesRemove { target, sources },
+        TargetOperation::TargetRemove => Command::TargetRemove { target },
+        TargetOperation::TargetAdd => Command::TargetAdd {
+            target,
+            target_kind,
+            subdir,
+            sources,
+        },
+        TargetOperation::ExtraAdd => Command::ExtraAdd { target, sources },
+        TargetOperation::ExtraRemove => Command::ExtraRemove { target, sources },
+        TargetOperation::Info => Command::TargetInfo { target },
+    }
+}
+
+#[tactic(auto, unfolding(crate::specs::Scripts::target_entry))]
+fn target_entry(alloc: Global, index: usize, entry: &Value) -> Result<Command, ScriptFault>
+    ensures ok { IfOk result (λ c. target_entry index (view entry.now) ≡ Ok c) }
+    ensures refused { IfErr result (λ e. e ≢ OutOfMemory → target_entry index (view entry.now) ≡ Err e) }
+{
+    let word = match required_text(alloc, index, entry, "operation") {
+        Ok(word) => word,
+        Err(fault) => return Err(fault),
+    };
+    let operation = match find_target_operation(index, word.get()) {
+        Ok(operation) => operation,
+        Err(fault) => return Err(fault),
+    };
+    match target_members(alloc, index, entry) {
+        Ok(members) => Ok(target_command(operation, members)),
+        Err(fault) => Err(fault),
+    }
+}
+
+/// The function whose calls are meant.
+fn role_at(alloc: Global, index: usize, entry: &Value) -> Result<Role, ScriptFault>
+    ensures ok { IfOk result (λ r. role_at index (view entry.now) ≡ Ok r) }
+    ensures refused { IfErr result (λ e. e ≢ OutOfMemory → role_at index (view entry.now) ≡ Err e) }
+{
+    let Some(name) = text_at(entry, "function") else {
+        return Err(bad_field(alloc, index, "function"));
+    };
+    match find_role(name) {
+        Some(role) => Ok(role),
+        None => Err(bad_field(alloc, index, "function")),
+    }
+}
+
+#[tactic(auto, unfolding(crate::specs::Scripts::kwargs_command))]
+fn kwargs_command(
+    alloc: Global,
+    index: usize,
+    operation: KwargsOperation,
+    role: Role,
+    id: Text,
+    members: &Map<String, Value>,
+) -> Result<Command, ScriptFault>
+    ensures ok { IfOk result (λ c. kwargs_command index operation role id (members_view members.now.entries) ≡ Ok c) }
+    ensures refused { IfErr result (λ e. e ≢ OutOfMemory → kwargs_command index operation role id (members_view members.now.entries) ≡ Err e) }
+{
+    if let KwargsOperation::Info = operation {
+        return Ok(Command::KwargsInfo { role, id });
+    }
+    if let KwargsOperation::Delete = operation {
+        let keys = names(alloc, members)?;
+        return Ok(Command::KwargsDelete { role, id, keys });
+    }
+    let Some(pairs) = settings(alloc, members)? else {
+        return Err(bad_field(alloc, index, "kwargs"));
+    };
+    match operation {
+        KwargsOperation::Set => Ok(Command::KwargsSet { role, id, pairs }),
+        KwargsOperation::Add => Ok(Command::KwargsAdd { role, id, pairs }),
+        KwargsOperation::Remove => Ok(Command::KwargsRemove { role, id, pairs }),
+        KwargsOperation::Delete | KwargsOperation::Info => unreachable!(),
+    }
+}
+
+#[tactic(auto, unfolding(crate::specs::Scripts::kwargs_entry))]
+fn kwargs_entry(alloc: Global, index: usize, entry: &Value) -> Result<Command, ScriptFault>
+    ensures ok { IfOk result (λ c. kwargs_entry index (view entry.now) ≡ Ok c) }
+    ensures refused { IfErr result (λ e. e ≢ OutOfMemory → kwargs_entry index (view entry.now) ≡ Err e) }
+{
+    let word = match required_text(alloc, index, entry, "operation") {
+        Ok(word) => word,
+        Err(fault) => return Err(fault),
+    };
+    let operation = match find_kwargs_operation(index, word.get()) {
+        Ok(operation) => operation,
+        Err(fault) => return Err(fault),
+    };
+    let role = match role_at(alloc, index, entry) {
+        Ok(role) => role,
+        Err(fault) => return Err(fault),
+    };
+    let id = match required_text(alloc, index, entry, "id") {
+        Ok(id) => id,
+        Err(fault) => return Err(fault),
+    };
+    let none = Map::new(alloc);
+    match members_or(alloc, index, entry, "kwargs", &none) {
+        Ok(members) => match kwargs_command(alloc, index, operation, role, id, members) {
+            Ok(command) => Ok(command),
+            Err(fault) => Err(fault),
+        },
+        Err(fault) => Err(fault),
+    }
+}
+
+#[tactic(auto, unfolding(crate::specs::Scripts::options_command))]
+fn options_command(
+    alloc: Global,
+    index: usize,
+    operation: OptionsOperation,
+    members: &Map<String, Value>,
+) -> Result<Command, ScriptFault>
+    ensures ok { IfOk result (λ c. options_command index operation (members_view members.now.entries) ≡ Ok c) }
+    ensures refused { IfErr result (λ e. e ≢ OutOfMemory → options_command index operation (members_view members.now.entries) ≡ Err e) }
+{
+    match operation {
+        OptionsOperation::Set => match option_texts(alloc, members)? {
+            Some(pairs) => Ok(Command::OptionsSet { pairs }),
+            None => Err(bad_field(alloc, index, "options")),
+        },
+        OptionsOperation::Delete => Ok(Command::OptionsDelete {
+            names: names(alloc, members)?,
+        }),
+    }
+}
+
+#[tactic(auto, unfolding(crate::specs::Scripts::options_entry))]
+fn options_entry(alloc: Global, index: usize, entry: &Value) -> Result<Command, ScriptFault>
+    ensures ok { IfOk result (λ c. options_entry index (view entry.now) ≡ Ok c) }
+    ensures refused { IfErr result (λ e. e ≢ OutOfMemory → options_entry index (view entry.now) ≡ Err e) }
+{
+    let word = match required_text(alloc, index, entry, "operation") {
+        Ok(word) => word,
+        Err(fault) => return Err(fault),
+    };
+    let operation = match find_options_operation(index, word.get()) {
+        Ok(operation) => operation,
+        Err(fault) => return Err(fault),
+    };
+    let none = Map::new(alloc);
+    match members_or(alloc, index, entry, "options", &none) {
+        Ok(members) => match options_command(alloc, index, operation, members) {
+            Ok(command) => Ok(command),
+            Err(fault) => Err(fault),
+        },
+        Err(fault) => Err(fault),
+    }
+}
+
+/// The command of an entry.
+#[tactic(auto, unfolding(crate::specs::Scripts::entry_of))]
+pub(crate) fn entry_command(
+    alloc: Global,
+    index: usize,
+    entry: &Value,
+) -> Result<Command, ScriptFault>
+    ensures ok { IfOk result (λ c. entry_of index (view entry.now) ≡ Ok c) }
+    ensures refused { IfErr result (λ e. e ≢ OutOfMemory → entry_of index (view entry.now) ≡ Err e) }
+{
+    if !entry.is_object() {
+        return Err(ScriptFault::NotObject(index));
+    }
+    match text_at(entry, "type").and_then(find_type) {
+        Some(EntryType::Target) => target_entry(alloc, index, entry),
+        Some(EntryType::Kwargs) => kwargs_entry(alloc, index, entry),
+        Some(EntryType::DefaultOptions) => options_entry(alloc, index, entry),
+        None => Err(ScriptFault::UnknownType(index)),
+    }
+}

@@ -1,0 +1,13 @@
+//! Scripts and the undo log as JSON.
+#![tactic(auto)]
+
+mod entry;
+mod fault;
+mod log;
+mod members;
+mod names;
+pub mod script;
+
+pub use fault::ScriptFault;
+pub use log::{empty_log, history_text, read_log};
+pub use script::Script;

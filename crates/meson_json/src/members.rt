@@ -1,0 +1,199 @@
+//! The members of an entry of a script.
+
+ghost use Rattle.std.specs.Prelude.{◌≡◌, ◌≢◌, Err, IfErr, IfOk, Ok, option_map};
+ghost use Rattle.serde_json.specs.Find.{as_str, get};
+ghost use Rattle.serde_json.specs.View.{items_view, members_view, view};
+ghost use Rattle.meson_json.specs.Each.{each_member, each_of, names_of};
+ghost use Rattle.meson_json.specs.Members.{text_at};
+ghost use Rattle.meson_json.specs.Scripts.{members_or, required_text, text_or, texts_or_none};
+ghost use Rattle.meson_json.specs.Settings.{option_value, setting_of};
+ghost use Rattle.meson_json.specs.declared.fault.ScriptFault.TheVariants.{BadField, OutOfMemory};
+
+use crate::fault::ScriptFault;
+use meson_splice::{Many, Text};
+use meson_steps::command::Setting;
+use serde_json::{Map, Value};
+use std::alloc::{AllocError, Global};
+
+pub(crate) fn text_at<'a>(value: &'a Value, name: &str) -> Option<&'a str>
+    ensures { option_map (λ s. s.now) result ≡ text_at name.now (view value.now) }
+{
+    value.get(name).and_then(Value::as_str)
+}
+
+fn owned(alloc: Global, text: &str) -> Result<Text, AllocError>
+    ensures { IfOk result (λ t. t ≡ text.now) }
+{
+    Ok(Text::of(String::from_str(alloc, text)?))
+}
+
+/// That the member of this name is missing or of another kind.
+pub(crate) fn bad_field(alloc: Global, index: usize, name: &str) -> ScriptFault
+    ensures { result ≢ OutOfMemory → result ≡ BadField index name.now }
+{
+    match owned(alloc, name) {
+        Ok(name) => ScriptFault::BadField(index, name),
+        Err(_) => ScriptFault::OutOfMemory,
+    }
+}
+
+pub(crate) fn required_text(
+    alloc: Global,
+    index: usize,
+    entry: &Value,
+    name: &str,
+) -> Result<Text, ScriptFault>
+    ensures ok { IfOk result (λ t. required_text index name.now (view entry.now) ≡ Ok t) }
+    ensures refused { IfErr result (λ e. e ≢ OutOfMemory → required_text index name.now (view entry.now) ≡ Err e) }
+{
+    match text_at(entry, name) {
+        Some(text) => Ok(owned(alloc, text)?),
+        None => Err(bad_field(alloc, index, name)),
+    }
+}
+
+pub(crate) fn text_or(
+    alloc: Global,
+    index: usize,
+    entry: &Value,
+    name: &str,
+    otherwise: &str,
+) -> Result<Text, ScriptFault>
+    ensures ok { IfOk result (λ t. text_or index name.now otherwise.now (get name.now (view entry.now)) ≡ Ok t) }
+    ensures refused { IfErr result (λ e. e ≢ OutOfMemory → text_or index name.now otherwise.now (get name.now (view entry.now)) ≡ Err e) }
+{
+    let Some(member) = entry.get(name) else {
+        return Ok(owned(alloc, otherwise)?);
+    };
+    match member.as_str() {
+        Some(text) => Ok(owned(alloc, text)?),
+        None => Err(bad_field(alloc, index, name)),
+    }
+}
+
+/// The texts of an array that has nothing else.
+pub(crate) fn texts(alloc: Global, list: &[Value]) -> Result<Option<Many<Text>>, AllocError>
+    ensures { IfOk result (λ o. o ≡ each_of as_str (items_view list.now)) }
+{
+    let mut all = Vec::new(alloc);
+    for value in list {
+        let Some(text) = value.as_str() else {
+            return Ok(None);
+        };
+        all.push(owned(alloc, text)?)?;
+    }
+    Ok(Some(Many::of(all)))
+}
+
+pub(crate) fn texts_or_none(
+    alloc: Global,
+    index: usize,
+    entry: &Value,
+    name: &str,
+) -> Result<Many<Text>, ScriptFault>
+    ensures ok { IfOk result (λ ts. texts_or_none index name.now (get name.now (view entry.now)) ≡ Ok ts) }
+    ensures refused { IfErr result (λ e. e ≢ OutOfMemory → texts_or_none index name.now (get name.now (view entry.now)) ≡ Err e) }
+{
+    let Some(member) = entry.get(name) else {
+        return Ok(Many::new(alloc));
+    };
+    let Some(list) = member.as_array() else {
+        return Err(bad_field(alloc, index, name));
+    };
+    match texts(alloc, list)? {
+        Some(all) => Ok(all),
+        None => Err(bad_field(alloc, index, name)),
+    }
+}
+
+/// The object of this name, or another one where the entry has no such member.
+pub(crate) fn members_or<'a>(
+    alloc: Global,
+    index: usize,
+    entry: &'a Value,
+    name: &str,
+    otherwise: &'a Map<String, Value>,
+) -> Result<&'a Map<String, Value>, ScriptFault>
+    ensures ok { IfOk result (λ m. members_or index name.now (members_view otherwise.now.entries) (get name.now (view entry.now)) ≡ Ok (members_view m.now.entries)) }
+    ensures refused { IfErr result (λ e. e ≢ OutOfMemory → members_or index name.now (members_view otherwise.now.entries) (get name.now (view entry.now)) ≡ Err e) }
+{
+    let Some(member) = entry.get(name) else {
+        return Ok(otherwise);
+    };
+    match member.as_object() {
+        Some(members) => Ok(members),
+        None => Err(bad_field(alloc, index, name)),
+    }
+}
+
+/// The value of a keyword argument, if it is a text, `true`, `false` or an array of texts.
+fn setting(alloc: Global, value: &Value) -> Result<Option<Setting>, AllocError>
+    ensures { IfOk result (λ o. o ≡ setting_of (view value.now)) }
+{
+    match value {
+        Value::String(text) => Ok(Some(Setting::Text(owned(alloc, text.as_str())?))),
+        Value::Bool(flag) => Ok(Some(Setting::Bool(*flag))),
+        Value::Array(list) => Ok(texts(alloc, list)?.map(Setting::Texts)),
+        Value::Null | Value::Number(_) | Value::Object(_) => Ok(None),
+    }
+}
+
+/// The value of an option, if it is a text, `true`, `false` or a whole number of 64 bits with sign.
+fn option_text(alloc: Global, value: &Value) -> Result<Option<Text>, AllocError>
+    ensures { IfOk result (λ o. o ≡ option_value (view value.now)) }
+{
+    match value {
+        Value::String(text) => Ok(Some(owned(alloc, text.as_str())?)),
+        Value::Bool(true) => Ok(Some(owned(alloc, "true")?)),
+        Value::Bool(false) => Ok(Some(owned(alloc, "false")?)),
+        Value::Number(number) => match number.as_i64() {
+            Some(whole) => Ok(Some(Text::of(format!(in alloc; "{whole}")?))),
+            None => Ok(None),
+        },
+        Value::Null | Value::Array(_) | Value::Object(_) => Ok(None),
+    }
+}
+
+/// Each name with its value as that of a keyword argument, if all are such values.
+pub(crate) fn settings(
+    alloc: Global,
+    members: &Map<String, Value>,
+) -> Result<Option<Many<(Text, Setting)>>, AllocError>
+    ensures { IfOk result (λ o. o ≡ each_member setting_of (members_view members.now.entries)) }
+{
+    let mut pairs = Vec::new(alloc);
+    for (name, value) in members.iter() {
+        let Some(setting) = setting(alloc, value)? else {
+            return Ok(None);
+        };
+        pairs.push((owned(alloc, name.as_str())?, setting))?;
+    }
+    Ok(Some(Many::of(pairs)))
+}
+
+/// Each name with its value as that of an option, if all are such values.
+pub(crate) fn option_texts(
+    alloc: Global,
+    members: &Map<String, Value>,
+) -> Result<Option<Many<(Text, Text)>>, AllocError>
+    ensures { IfOk result (λ o. o ≡ each_member option_value (members_view members.now.entries)) }
+{
+    let mut pairs = Vec::new(alloc);
+    for (name, value) in members.iter() {
+        let Some(text) = option_text(alloc, value)? else {
+            return Ok(None);
+        };
+        pairs.push((owned(alloc, name.as_str())?, text))?;
+    }
+    Ok(Some(Many::of(pairs)))
+}
+
+pub(crate) fn names(alloc: Global, members: &Map<String, Value>) -> Result<Many<Text>, AllocError>
+    ensures { IfOk result (λ names. names ≡ names_of (members_view members.now.entries)) }
+{
+    let mut names = Vec::new(alloc);
+    for (name, _) in members.iter() {
+        names.push(owned(alloc, name.as_str())?)?;
+    }
+    Ok(Many::of(names))
+}

@@ -1,0 +1,89 @@
+//! Scripts: commands that are done one after another, all or none.
+
+ghost use Rattle.std.specs.Prelude.{◌≡◌, ◌≢◌, ◌∷◌, [], Err, IfErr, IfOk, Ok, Some};
+ghost use Rattle.serde_json.specs.Read.{read};
+ghost use Rattle.serde_json.specs.View.{items_view, view};
+ghost use Rattle.meson_json.specs.Scripts.{entries_of, script_of};
+ghost use Rattle.meson_json.specs.declared.fault.ScriptFault.TheVariants.{OutOfMemory};
+
+use crate::entry::entry_command;
+use crate::fault::ScriptFault;
+use meson_splice::Many;
+use meson_steps::command::Command;
+use serde_json::Value;
+use std::alloc::Global;
+
+/// How many entries a script may have.
+pub const MAX_COMMANDS: usize = 4096;
+
+/// Commands in order.
+#[derive(Debug, Drop, PartialEq)]
+pub struct Script {
+    pub commands: Many<Command>,
+}
+
+impl Script {
+    /// The script that a text of JSON is: an array with an object for each command.
+    ///
+    /// # Errors
+    /// The first fault of the text, of the array, and then entry by entry; or want of memory.
+    pub fn from_json(alloc: Global, text: &str) -> Result<Script, ScriptFault>
+        ensures ok { IfOk result (λ s. script_of (read text.now) ≡ Ok s.commands) }
+        ensures refused { IfErr result (λ e. e ≢ OutOfMemory → script_of (read text.now) ≡ Err e) }
+    {
+        match Value::from_str(alloc, text) {
+            Ok(value) => script_from(alloc, &value),
+            Err(error) => {
+                if error.is_memory() {
+                    Err(ScriptFault::OutOfMemory)
+                } else {
+                    Err(ScriptFault::NotJson)
+                }
+            }
+        }
+    }
+
+    /// The script of one command. Drops the command where memory is refused.
+    pub fn of(alloc: Global, command: Command) -> Result<Script, ScriptFault>
+        ensures ok { IfOk result (λ s. s.commands ≡ command ∷ []) }
+        ensures refused { IfErr result (λ e. e ≡ OutOfMemory) }
+    {
+        let mut commands = Vec::new(alloc);
+        commands.push(command)?;
+        Ok(Script {
+            commands: Many::of(commands),
+        })
+    }
+}
+
+#[tactic(auto, unfolding(crate::specs::Scripts::script_of))]
+fn script_from(alloc: Global, value: &Value) -> Result<Script, ScriptFault>
+    ensures ok { IfOk result (λ s. script_of (Some (view value.now)) ≡ Ok s.commands) }
+    ensures refused { IfErr result (λ e. e ≢ OutOfMemory → script_of (Some (view value.now)) ≡ Err e) }
+{
+    let Some(list) = value.as_array() else {
+        return Err(ScriptFault::NotArray);
+    };
+    let entries = list.as_slice();
+    if entries.len() > MAX_COMMANDS {
+        return Err(ScriptFault::TooMany);
+    }
+    match entry_commands(alloc, entries) {
+        Ok(commands) => Ok(Script { commands }),
+        Err(fault) => Err(fault),
+    }
+}
+
+fn entry_commands(alloc: Global, list: &[Value]) -> Result<Many<Command>, ScriptFault>
+    ensures ok { IfOk result (λ cs. entries_of 0 (items_view list.now) ≡ Ok cs) }
+    ensures refused { IfErr result (λ e. e ≢ OutOfMemory → entries_of 0 (items_view list.now) ≡ Err e) }
+{
+    let mut commands = Vec::new(alloc);
+    for (index, entry) in list.iter().enumerate() {
+        match entry_command(alloc, index, entry) {
+            Ok(command) => commands.push(command)?,
+            Err(fault) => return Err(fault),
+        }
+    }
+    Ok(Many::of(commands))
+}
