@@ -1,0 +1,7 @@
+pub mod StackFacts
+pub mod Loading
+pub mod RunFacts
+pub mod TextFacts
+pub mod StepFacts
+pub mod Counts
+pub mod Outcomes

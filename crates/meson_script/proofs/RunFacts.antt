@@ -1,0 +1,163 @@
+-- The files and names after commands.
+use Rattle.std.proofs.Common.{◌≡◌, ℕ, suc, ◌+◌, ◌<◌, subst, length-take, take, drop, length, get_or, arith, List, [], ◌∷◌, ◌++◌, Bool, true, false, map, Result, Ok, Err, refl, sym, ap, ◌∙◌}
+use Rattle.std.specs.Prelude.{bytes_eq, if◌then◌else◌}
+use Rattle.std.proofs.lemmas.List.{map-append, take_more}
+use Rattle.std.proofs.Math.Seq.{split_at}
+use Rattle.serde_json.specs.Data.{Data}
+use Rattle.serde_json.specs.View.{view}
+use Rattle.serde_json.specs.declared.value.Value.{Value}
+use Rattle.meson_splice.specs.declared.fault.SpliceFault.{SpliceFault}
+use Rattle.meson_splice.specs.declared.file_set.File.{File}
+use Rattle.meson_splice.specs.declared.splice.Splice.{Splice}
+use Rattle.meson_splice.specs.Patch.{patched, patched_in, patched_all, then_ok}
+use Rattle.meson_splice.proofs.Inverses.{patched_all-append}
+use Rattle.meson_layout.specs.Laws.{AreTexts}
+use Rattle.meson_calls.specs.Loading.{Loaded}
+use Rattle.meson_steps.specs.declared.command.Command.{Command}
+use Rattle.meson_steps.specs.declared.command.Command.TheVariants as command
+use Rattle.meson_steps.specs.declared.command.Done.{Done}
+use Rattle.meson_steps.specs.Steps.{Step, StepsMake, none, step}
+use Rattle.meson_steps.specs.Results.{saturated}
+use Rattle.meson_calls.specs.declared.refusal.Refusal.{Refusal}
+use Rattle.meson_plan.specs.Performing.{MayRefuse, Performs, unplanned}
+use Rattle.meson_listing.specs.Laws.{no_steps}
+use Rattle.meson_listing.specs.Listing.{kwargs_listing, target_listing}
+use Rattle.meson_listing.proofs.Agreeing.{calls_agree, targets_agree}
+use Rattle.meson_script.specs.Running.{MayStop, Runs, nothing_ran, ran_more, told}
+use Rattle.meson_script.specs.Laws.{RunsPatch, RunsText}
+
+-- splices one after another
+joined : (files between last : List File) (here later : List Splice) → patched_all files here ≡ Ok between → patched_all between later ≡ Ok last → patched_all files (here ++ later) ≡ Ok last
+joined files between last here later first second = patched_all-append files here later ∙ ap (λ r. then_ok r (λ gs. patched_all gs later)) first ∙ second
+
+steps-patch : (files : List File) (steps : List Step) (splices : List Splice) (after : List File) (bytes : ℕ) → StepsMake files steps splices after bytes → patched_all files splices ≡ Ok after
+steps-patch files steps splices after bytes (none fs) = refl
+steps-patch files steps splices after bytes (step fs between last s more here later read laid done rest) = joined fs between last here later done (steps-patch between more later last read rest)
+
+performs-patch : (old : Loaded) (c : Command) (done : Done) (new : Loaded) → Performs old c done new → patched_all old.files done.change.splices ≡ Ok new.files
+performs-patch old c done new p = ap (patched_all old.files) p.is_change ∙ steps-patch old.files p.made.steps p.made.splices p.made.files p.made.bytes p.made.are_done ∙ ap Ok (sym p.are_files)
+
+pub runs-patch : RunsPatch
+runs-patch old new commands splices relexed listings (nothing_ran) = refl
+runs-patch old new commands splices relexed listings (ran_more before here read lists between rest c done more after tells performs) =
+    joined old.files between.files new.files here done.change.splices (runs-patch old between before here read lists rest) (performs-patch between c done new performs)
+
+-- ---- splices are text
+
+texts-append : (here later : List Splice) → AreTexts here → AreTexts later → AreTexts (here ++ later)
+texts-append [] later a b = b
+texts-append (s ∷ here) later a b = (a.0, texts-append here later a.1 b)
+
+steps-text : (files : List File) (steps : List Step) (splices : List Splice) (after : List File) (bytes : ℕ) → StepsMake files steps splices after bytes → AreTexts splices
+steps-text files steps splices after bytes (none fs) = tt
+steps-text files steps splices after bytes (step fs between last s more here later read laid done rest) = texts-append here later laid.texts (steps-text between more later last read rest)
+
+performs-text : (old : Loaded) (c : Command) (done : Done) (new : Loaded) → Performs old c done new → AreTexts done.change.splices
+performs-text old c done new p = subst AreTexts (sym p.is_change) (steps-text old.files p.made.steps p.made.splices p.made.files p.made.bytes p.made.are_done)
+
+pub runs-text : RunsText
+runs-text old new commands splices relexed listings (nothing_ran) = tt
+runs-text old new commands splices relexed listings (ran_more before here read lists between rest c done more after tells performs) =
+    texts-append here done.change.splices (runs-text old between before here read lists rest) (performs-text between c done new performs)
+
+-- ---- names stay
+
+abbrev pub names : List File → List (List ℕ)
+names files = map (λ f. f.name) files
+
+abbrev Patched : Type 0
+Patched = Result (List File) SpliceFault
+
+same_ok : (x y : List File) → ◌≡◌ {A = Patched} (Ok x) (Ok y) → x ≡ y
+same_ok x y e = cc
+
+no_ok : (fault : SpliceFault) (y : List File) → ◌≡◌ {A = Patched} (Err fault) (Ok y) → ⊥
+no_ok fault y e = cc
+
+splice-names : (files : List File) (s : Splice) (after : List File) → patched_in files s ≡ Ok after → names files ≡ names after
+splice-names [] s after e = absurd (no_ok _ after e)
+splice-names (f ∷ files) s after e = go (splice-names files s) (bytes_eq f.name s.file) e
+  where
+    here : (r : Result (List ℕ) SpliceFault) → then_ok r (λ b. let p : Patched = Ok (record f { bytes = b } ∷ files) in p) ≡ Ok after → names (f ∷ files) ≡ names after
+    here (Ok b) is = ap names (same_ok (record f { bytes = b } ∷ files) after is)
+    here (Err fault) is = absurd (no_ok fault after is)
+
+    later : (rest : (more : List File) → patched_in files s ≡ Ok more → names files ≡ names more) (r : Patched) → patched_in files s ≡ r → then_ok r (λ more. let p : Patched = Ok (f ∷ more) in p) ≡ Ok after → names (f ∷ files) ≡ names after
+    later rest (Ok more) so is = ap (λ ns. f.name ∷ ns) (rest more so) ∙ ap names (same_ok (f ∷ more) after is)
+    later rest (Err fault) so is = absurd (no_ok fault after is)
+
+    go : ((more : List File) → patched_in files s ≡ Ok more → names files ≡ names more) → (b : Bool) → (if b then then_ok (patched f.bytes s) (λ c. let p : Patched = Ok (record f { bytes = c } ∷ files) in p) else then_ok (patched_in files s) (λ more. let p : Patched = Ok (f ∷ more) in p)) ≡ Ok after →
+        names (f ∷ files) ≡ names after
+    go rest true is = here (patched f.bytes s) is
+    go rest false is = later rest (patched_in files s) refl is
+
+pub change-names : (files : List File) (splices : List Splice) (after : List File) → patched_all files splices ≡ Ok after → names files ≡ names after
+change-names files [] after e = ap names (same_ok files after e)
+change-names files (s ∷ splices) after e = go (λ more. change-names more splices after) (patched_in files s) refl e
+  where
+    go : ((more : List File) → patched_all more splices ≡ Ok after → names more ≡ names after) → (r : Patched) → patched_in files s ≡ r → then_ok r (λ more. patched_all more splices) ≡ Ok after →
+        names files ≡ names after
+    go rest (Ok more) so is = splice-names files s more so ∙ rest more is
+    go rest (Err fault) so is = absurd (no_ok fault after is)
+
+-- ---- one command after another
+
+pub nothing-run : (old : Loaded) (splices : List Splice) (listings : List Value) → splices ≡ [] → listings ≡ [] → Runs old [] splices 0 (map view listings) old
+nothing-run old splices listings is untold_all = subst (λ ls. Runs old [] splices 0 (map view ls) old) (sym untold_all) (subst (λ ss. Runs old [] ss 0 [] old) (sym is) nothing_ran)
+
+pub one-more : (old between new : Loaded) (commands : List Command) (i : ℕ) (here splices : List Splice) (read relexed : ℕ) (lists listings more : List Value) (c : Command) (done : Done)
+    → Runs old (take i commands) here read (map view lists) between → i < length commands → c ≡ get_or commands i c → told between c ≡ Ok (map view more) → Performs between c done new
+    → splices ≡ here ++ done.change.splices → relexed ≡ saturated (read + done.relexed) → listings ≡ lists ++ more
+    → Runs old (take (i + 1) commands) splices relexed (map view listings) new
+one-more old between new commands i here splices read relexed lists listings more c done ran within is tells performs are counted listed =
+    let further : take i commands ++ c ∷ [] ≡ take (i + 1) commands = ap (λ x. take i commands ++ x ∷ []) is ∙ sym (take_more commands i c within) in
+    let all = ran_more (take i commands) here read (map view lists) between ran c done (map view more) new tells performs in
+    let told_all : map view lists ++ map view more ≡ map view listings = sym (map-append view lists more) ∙ ap (map view) (sym listed) in
+    let taken = subst (λ cs. Runs old cs (here ++ done.change.splices) (saturated (read + done.relexed)) (map view lists ++ map view more) new) further all in
+    let spliced = subst (λ ss. Runs old (take (i + 1) commands) ss (saturated (read + done.relexed)) (map view lists ++ map view more) new) (sym are) taken in
+    let read_all = subst (λ n. Runs old (take (i + 1) commands) splices n (map view lists ++ map view more) new) (sym counted) spliced in
+    subst (λ ds. Runs old (take (i + 1) commands) splices relexed ds new) told_all read_all
+
+taken_len : {A : Type 0} (xs : List A) (i : ℕ) → i < length xs → i ≡ length (take i xs)
+taken_len xs i within = grind (arith, length-take)
+
+pub stops-there : (old between : Loaded) (commands : List Command) (i : ℕ) (here : List Splice) (read : ℕ) (lists : List Data) (c : Command) (e : Refusal)
+    → Runs old (take i commands) here read lists between → i < length commands → c ≡ get_or commands i c → MayRefuse between c e → MayStop old commands i e
+stops-there old between commands i here read lists c e ran within is refuses = record {
+  before = take i commands;
+  command = c;
+  after = drop (suc i) commands;
+  are = split_at commands i c within ∙ ap (λ x. take i commands ++ x ∷ drop (suc i) commands) (sym is);
+  is_index = taken_len commands i within;
+  splices = here;
+  relexed = read;
+  listings = lists;
+  between = between;
+  runs = ran;
+  refuses = refuses;
+}
+
+-- ---- what is told is refused as the command is
+
+no_more : (listing : Result Data Refusal) (e : Refusal) → then_ok listing (λ d. Ok (d ∷ [])) ≡ Err e → no_steps listing ≡ Err e
+no_more (Ok d) e is = let bad : ⊥ = cc in absurd bad
+no_more (Err f) e is = cc
+
+untold : (more : List Data) (e : Refusal) → ◌≡◌ {A = Result (List Data) Refusal} (Ok more) (Err e) → ⊥
+untold more e is = cc
+
+pub told-refused : (l : Loaded) (c : Command) (e : Refusal) → told l c ≡ Err e → MayRefuse l c e
+told-refused l (command.TargetInfo target) e is = unplanned e (sym (targets_agree l target) ∙ no_more (target_listing l target) e is)
+told-refused l (command.KwargsInfo role id) e is = unplanned e (sym (calls_agree l role id) ∙ no_more (kwargs_listing l role id) e is)
+told-refused l (command.SourcesAdd target sources) e is = absurd (untold [] e is)
+told-refused l (command.SourcesRemove target sources) e is = absurd (untold [] e is)
+told-refused l (command.ExtraAdd target sources) e is = absurd (untold [] e is)
+told-refused l (command.ExtraRemove target sources) e is = absurd (untold [] e is)
+told-refused l (command.TargetAdd target kind subdir sources) e is = absurd (untold [] e is)
+told-refused l (command.TargetRemove target) e is = absurd (untold [] e is)
+told-refused l (command.KwargsSet role id pairs) e is = absurd (untold [] e is)
+told-refused l (command.KwargsAdd role id pairs) e is = absurd (untold [] e is)
+told-refused l (command.KwargsRemove role id pairs) e is = absurd (untold [] e is)
+told-refused l (command.KwargsDelete role id keys) e is = absurd (untold [] e is)
+told-refused l (command.OptionsSet pairs) e is = absurd (untold [] e is)
+told-refused l (command.OptionsDelete names) e is = absurd (untold [] e is)

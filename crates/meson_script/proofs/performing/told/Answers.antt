@@ -1,0 +1,18 @@
+use Rattle.std.proofs.Common.{◌≡◌, [], ◌∷◌, Ok, Err, Result, sym, ap, ◌∙◌}
+use Rattle.serde_json.specs.Data.{Data}
+use Rattle.meson_calls.specs.declared.refusal.Refusal.{Refusal}
+use Rattle.meson_splice.specs.Patch.{then_ok}
+use Rattle.meson_listing.specs.Listing.{target_listing}
+use Rattle.meson_script.proofs.performing.told.Goals as goal
+
+listed : (r : Result Data Refusal) (d : Data) → r ≡ Ok d → then_ok r (λ x. Ok (x ∷ [])) ≡ Ok (d ∷ [])
+listed r d is = ap (λ x. then_ok x (λ y. Ok (y ∷ []))) is
+
+unlisted : (r : Result Data Refusal) (e : Refusal) → r ≡ Err e → then_ok r (λ x. Ok (x ∷ [])) ≡ Err e
+unlisted r e is = ap (λ x. then_ok x (λ y. Ok (y ∷ []))) is
+
+pub returns-in-Ok-clause-told : goal.returns-in-Ok-clause-told
+returns-in-Ok-clause-told c = rw c.in-TargetInfo.is (listed _ _ (ap (target_listing c.args.project.now) (sym c.get.ensures) ∙ c.in-Ok.ensures.listed))
+
+pub returns-in-Err-clause-refused : goal.returns-in-Err-clause-refused
+returns-in-Err-clause-refused c = λ other. rw c.in-TargetInfo.is (unlisted _ _ (ap (target_listing c.args.project.now) (sym c.get.ensures) ∙ c.in-Err.ensures.refused other))

@@ -1,0 +1,6 @@
+pub mod Reports
+pub mod Running
+pub mod Stack
+pub mod Undoing
+pub mod Laws
+pub mod Outcomes

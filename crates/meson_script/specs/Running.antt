@@ -1,0 +1,66 @@
+-- The commands of a script, one after another.
+use Rattle.std.specs.Prelude.{◌≡◌, ℕ, ◌+◌, List, [], ◌∷◌, ◌++◌, length, Result, Ok}
+use Rattle.serde_json.specs.Data.{Data, array}
+use Rattle.serde_json.specs.View.{items_of, view}
+use Rattle.meson_splice.specs.declared.splice.Splice.{Splice}
+use Rattle.meson_splice.specs.Patch.{then_ok}
+use Rattle.meson_calls.specs.declared.refusal.Refusal.{Refusal}
+use Rattle.meson_calls.specs.Loading.{Loaded}
+use Rattle.meson_script.specs.declared.session.Report.{Report}
+use Rattle.meson_script.specs.declared.session.Session.{Session}
+use Rattle.meson_script.specs.Reports.{differing}
+use Rattle.meson_steps.specs.declared.command.Command.{Command}
+use Rattle.meson_steps.specs.declared.command.Command.TheVariants as command
+use Rattle.meson_steps.specs.declared.command.Done.{Done}
+use Rattle.meson_steps.specs.Results.{saturated}
+use Rattle.meson_plan.specs.Performing.{MayRefuse, Performs}
+use Rattle.meson_listing.specs.Listing.{kwargs_listing, target_listing}
+
+-- what a command tells of the files and trees as they stand: an info command its listing, the others nothing
+abbrev pub told : Loaded → Command → Result (List Data) Refusal
+told l (command.TargetInfo target) = then_ok (target_listing l target) (λ d. Ok (d ∷ []))
+told l (command.KwargsInfo role id) = then_ok (kwargs_listing l role id) (λ d. Ok (d ∷ []))
+told l (command.SourcesAdd target sources) = Ok []
+told l (command.SourcesRemove target sources) = Ok []
+told l (command.ExtraAdd target sources) = Ok []
+told l (command.ExtraRemove target sources) = Ok []
+told l (command.TargetAdd target kind subdir sources) = Ok []
+told l (command.TargetRemove target) = Ok []
+told l (command.KwargsSet role id pairs) = Ok []
+told l (command.KwargsAdd role id pairs) = Ok []
+told l (command.KwargsRemove role id pairs) = Ok []
+told l (command.KwargsDelete role id keys) = Ok []
+told l (command.OptionsSet pairs) = Ok []
+told l (command.OptionsDelete names) = Ok []
+
+-- Each command is performed on what the ones before it left, and tells of that; the splices and listings are those of all, in order.
+pub data Runs (old : Loaded) : List Command → List Splice → ℕ → List Data → Loaded → Type 0 where
+  nothing_ran : Runs old [] [] 0 [] old
+  ran_more : (commands : List Command) (splices : List Splice) (relexed : ℕ) (listings : List Data) (between : Loaded)
+      → Runs old commands splices relexed listings between
+      → (c : Command) (done : Done) (more : List Data) (new : Loaded) → told between c ≡ Ok more → Performs between c done new
+      → Runs old (commands ++ c ∷ []) (splices ++ done.change.splices) (saturated (relexed + done.relexed)) (listings ++ more) new
+
+-- The command of this number may be refused so, and those before it are performed.
+pub record MayStop (old : Loaded) (commands : List Command) (index : ℕ) (refusal : Refusal) : Type 0 where
+  pub before : List Command
+  pub command : Command
+  pub after : List Command
+  pub are : commands ≡ before ++ command ∷ after
+  pub is_index : index ≡ length before
+  pub splices : List Splice
+  pub relexed : ℕ
+  pub listings : List Data
+  pub between : Loaded
+  pub runs : Runs old before splices relexed listings between
+  pub refuses : MayRefuse between command refusal
+
+-- An accepted script: its commands run, and their splices are kept as one change, also where there are none. It tells the listings.
+pub record Keeps (old : Session) (commands : List Command) (report : Report) (new : Session) : Type 0 where
+  pub splices : List Splice
+  pub listings : List Data
+  pub runs : Runs old.project commands splices report.relexed listings new.project
+  pub kept : new.history ≡ record { past = old.history.past ++ record { splices = splices } ∷ []; future = [] }
+  pub files : report.files ≡ differing old.project.files new.project.files
+  pub count : report.splices ≡ length splices
+  pub info : view report.info ≡ array (items_of listings)

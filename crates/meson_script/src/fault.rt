@@ -1,0 +1,46 @@
+//! Why a session does not start, and why a script, an undo or a redo is refused.
+
+use meson_plan::{LoadFault, Refusal};
+use meson_splice::{FileSet, History, SpliceFault};
+use std::alloc::AllocError;
+use thiserror::Error;
+
+/// Files and a history of which no session was made, with the reason.
+#[derive(Debug, Drop)]
+pub struct Unstarted {
+    pub files: FileSet,
+    pub history: History,
+    pub fault: LoadFault,
+}
+
+/// Why a script is refused. Nothing was changed then.
+#[derive(Debug, Drop, PartialEq, Error)]
+#[error("command {index}: {refusal}")]
+pub struct RunFault {
+    /// The command that is refused, counted from 0, or the number of commands where memory was refused behind the last one.
+    pub index: usize,
+    pub refusal: Refusal,
+}
+
+/// Why a change is not undone or redone. Nothing was changed then.
+#[derive(Debug, Drop, PartialEq, Error)]
+pub enum UndoFault {
+    /// There is no such change, or the files are not as it left them.
+    #[error("{0}")]
+    Splice(SpliceFault),
+    /// The files would be no project then.
+    #[error("{0}")]
+    Load(LoadFault),
+}
+
+impl From<AllocError> for UndoFault {
+    ghost use Rattle.std.specs.Prelude.{◌≡◌};
+    ghost use Rattle.meson_splice.specs.declared.fault.SpliceFault.TheVariants.{OutOfMemory};
+    ghost use Rattle.meson_script.specs.declared.fault.UndoFault.TheVariants.{Splice};
+
+    ghost from_gives = { λ _ e. e ≡ Splice OutOfMemory };
+
+    fn from(refused: AllocError) -> UndoFault {
+        UndoFault::Splice(SpliceFault::from(refused))
+    }
+}

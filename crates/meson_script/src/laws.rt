@@ -1,0 +1,53 @@
+//! Laws of runs, undos and redos. The functions do nothing: what they ensure is the law.
+
+ghost use Rattle.meson_script.specs.Laws.{BeginsAStack, LoadsOrWantsMemory, NothingIsRedone, NothingIsUndone, RedoIsAStep, RunIsAStep, RunsPatch, RunsText, RunsThenUndosRestore, UndoIsAStep};
+ghost use Rattle.meson_script.specs.Outcomes.{NotRefused, OneOutcome, OneRefusal};
+
+/// From every state, runs and then as many undos give the files before them.
+pub fn runs_then_undos_restore()
+    ensures { RunsThenUndosRestore }
+{}
+
+/// A project without history stands for a stack without past and future.
+pub fn begins_a_stack()
+    ensures { BeginsAStack }
+{}
+
+/// A change that was done and kept is a run of the stack, if the files then load.
+pub fn run_is_a_step()
+    ensures { RunIsAStep }
+{}
+
+/// Undoing a history that fits is an undo of the stack, and nothing is refused where the stack has a past.
+pub fn undo_is_a_step()
+    ensures step { UndoIsAStep }
+    ensures none { NothingIsUndone }
+{}
+
+/// Redoing a history that fits is a redo of the stack, and nothing is refused where the stack has a future.
+pub fn redo_is_a_step()
+    ensures step { RedoIsAStep }
+    ensures none { NothingIsRedone }
+{}
+
+/// The files after commands are those before them with the splices done.
+pub fn runs_patch()
+    ensures { RunsPatch }
+{}
+
+/// What the splices of commands take away and put in is text.
+pub fn runs_text()
+    ensures { RunsText }
+{}
+
+/// Files that load get no fault but want of memory.
+pub fn loads_or_wants_memory()
+    ensures { LoadsOrWantsMemory }
+{}
+
+/// A command has one outcome: it is performed in one way, or refused for one reason.
+pub fn one_outcome()
+    ensures performed { OneOutcome }
+    ensures apart { NotRefused }
+    ensures refused { OneRefusal }
+{}

@@ -1,0 +1,15 @@
+//! Scripts done on a project, undone and redone.
+#![tactic(auto)]
+
+mod counting;
+mod fault;
+pub mod laws;
+mod logging;
+mod performing;
+mod session;
+mod stepping;
+
+pub use fault::{RunFault, UndoFault, Unstarted};
+pub use logging::log_text;
+pub use meson_json::{Script, ScriptFault, empty_log, read_log};
+pub use session::{Report, Session};

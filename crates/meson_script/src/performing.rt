@@ -1,0 +1,97 @@
+//! The commands of a script, one after another.
+
+ghost use Rattle.std.specs.Prelude.{◌≡◌, ◌≢◌, ◌+◌, ◌++◌, ◌<◌, Err, IfErr, IfOk, Ok, OnOk, length, map, option_to_list};
+ghost use Rattle.serde_json.specs.View.{view};
+ghost use Rattle.meson_steps.specs.Results.{saturated};
+ghost use Rattle.meson_calls.specs.declared.refusal.Refusal.TheVariants.{OutOfMemory};
+ghost use Rattle.meson_script.specs.Running.{MayStop, Runs, told};
+
+use crate::fault::RunFault;
+use meson_listing::{info_kwargs, info_target};
+use meson_plan::{Command, Done, Project, Refusal};
+use meson_splice::{Change, Splice};
+use serde_json::Value;
+use std::alloc::{AllocError, Global};
+
+/// What commands did.
+#[derive(Debug, Drop)]
+pub(crate) struct Ran {
+    pub splices: Vec<Splice>,
+    /// How many bytes were lexed again. The count stops at the greatest number.
+    pub relexed: u64,
+    /// What the info commands told, in order.
+    pub listings: Vec<Value>,
+}
+
+impl Ran {
+    /// Puts what one more command did and told behind it.
+    fn add(&mut self, done: Done, listing: Option<Value>) -> Result<(), AllocError>
+        ensures splices { OnOk result (self.new.splices.items ≡ self.old.splices.items ++ done.change.splices) }
+        ensures relexed { OnOk result (self.new.relexed ≡ saturated (self.old.relexed + done.relexed)) }
+        ensures listings { OnOk result (self.new.listings.items ≡ self.old.listings.items ++ option_to_list listing) }
+    {
+        if let Some(listing) = listing {
+            self.listings.push(listing)?;
+        }
+        let Done { change, relexed } = done;
+        let Change { splices } = change;
+        self.splices.append(&mut splices.take())?;
+        self.relexed = self.relexed.saturating_add(relexed);
+        Ok(())
+    }
+}
+
+/// What a command tells of the project as it stands.
+fn told(alloc: Global, project: &Project, command: &Command) -> Result<Option<Value>, Refusal>
+    ensures told { IfOk result (λ v. told project.now command.now ≡ Ok (map view (option_to_list v))) }
+    ensures refused { IfErr result (λ e. e ≢ OutOfMemory → told project.now command.now ≡ Err e) }
+{
+    match command {
+        Command::TargetInfo { target } => match info_target(alloc, project, target.get()) {
+            Ok(listing) => Ok(Some(listing)),
+            Err(refusal) => Err(refusal),
+        },
+        Command::KwargsInfo { role, id } => match info_kwargs(alloc, project, *role, id.get()) {
+            Ok(listing) => Ok(Some(listing)),
+            Err(refusal) => Err(refusal),
+        },
+        _ => Ok(None),
+    }
+}
+
+/// Does the commands in order. Where one is refused, those before it are done.
+///
+/// # Errors
+/// The first refusal, with the number of its command, or want of memory.
+pub(crate) fn perform_all(
+    alloc: Global,
+    project: &mut Project,
+    commands: &[Command],
+) -> Result<Ran, RunFault>
+    ensures done { IfOk result (λ ran. Runs project.old commands.now ran.splices.items ran.relexed (map view ran.listings.items) project.new) }
+    ensures refused { IfErr result (λ f. f.refusal ≢ OutOfMemory → MayStop project.old commands.now f.index f.refusal) }
+    ensures index { IfErr result (λ f. f.index < length commands.now) }
+{
+    let mut ran = Ran {
+        splices: Vec::new(alloc),
+        relexed: 0,
+        listings: Vec::new(alloc),
+    };
+    for (index, command) in commands.iter().enumerate() {
+        let listing = match told(alloc, project, command) {
+            Ok(listing) => listing,
+            Err(refusal) => return Err(RunFault { index, refusal }),
+        };
+        let done = match project.perform(alloc, command) {
+            Ok(done) => done,
+            Err(refusal) => return Err(RunFault { index, refusal }),
+        };
+        if let Err(refused) = ran.add(done, listing) {
+            return Err(RunFault {
+                index,
+                refusal: Refusal::from(refused),
+            });
+        }
+    }
+    Ok(ran)
+}

@@ -1,0 +1,204 @@
+//! A project with the history of what was done to it.
+
+ghost use Rattle.std.specs.Prelude.{◌≡◌, ◌≢◌, ◌≤◌, IfErr, IfOk, OnErr, OnOk, Some, length, true};
+ghost use Rattle.meson_calls.specs.Loading.{IsProject, MayNotLoad};
+ghost use Rattle.meson_calls.specs.declared.refusal.Refusal.TheVariants.{OutOfMemory};
+ghost use Rattle.meson_json.specs.Log.{has_text};
+ghost use Rattle.meson_script.specs.Running.{Keeps, MayStop};
+ghost use Rattle.meson_script.specs.Stack.{RefusesRedo, RefusesUndo, Stack, Stands, ran, redo, undo};
+ghost use Rattle.meson_script.specs.Undoing.{MayNotStep, Steps};
+ghost use Rattle.meson_splice.specs.Past.{redone, undone};
+
+use crate::counting::count_differing;
+use crate::fault::{RunFault, UndoFault, Unstarted};
+use crate::performing::perform_all;
+use crate::stepping::{done_again, taken_back};
+use meson_json::Script;
+use meson_plan::{Project, Refusal};
+use meson_splice::{Change, FileSet, History, Many, SpliceFault};
+use serde_json::Value;
+use std::alloc::Global;
+
+/// A project, and the changes that were done to it and undone.
+#[derive(Debug, Drop)]
+pub struct Session {
+    pub project: Project,
+    pub history: History,
+}
+
+/// What was done.
+#[derive(Debug, Drop)]
+pub struct Report {
+    /// How many files have other bytes than before.
+    pub files: usize,
+    /// How many splices were done.
+    pub splices: usize,
+    /// How many bytes were lexed again. The count stops at the greatest number.
+    pub relexed: u64,
+    /// An array of the listings of the info commands, in order.
+    pub info: Value,
+}
+
+impl Session {
+    /// A session on these files, or both handed back where the files are no project.
+    pub fn start(alloc: Global, files: FileSet, history: History) -> Result<Session, Unstarted>
+        ensures started { IfOk result (λ s. (s.project.files ≡ files) × (s.history ≡ history)) }
+        ensures refused { IfErr result (λ u. MayNotLoad files u.fault) }
+        ensures handed_back { IfErr result (λ u. (u.files ≡ files) × (u.history ≡ history)) }
+    {
+        match Project::load(alloc, files) {
+            Ok(project) => Ok(Session { project, history }),
+            Err(unloaded) => Err(Unstarted {
+                files: unloaded.files,
+                history,
+                fault: unloaded.fault,
+            }),
+        }
+    }
+
+    /// A session on a project that is loaded. Takes no memory.
+    pub fn of(project: Project, history: History) -> Session
+        ensures { result ≡ record { project = project; history = history } }
+    {
+        Session { project, history }
+    }
+
+    /// The files as they stand.
+    pub fn files(&self) -> &FileSet
+        ensures { result.now ≡ self.now.project.files }
+    {
+        self.project.files()
+    }
+
+    /// The project as it stands.
+    pub fn project(&self) -> &Project
+        ensures { result.now ≡ self.now.project }
+    {
+        &self.project
+    }
+
+    /// How many changes can be undone and redone.
+    pub fn depths(&self) -> (usize, usize)
+        ensures { result ≡ (length self.now.history.past, length self.now.history.future) }
+    {
+        self.history.depths()
+    }
+
+    /// Does the commands of a script in order, or nothing. What they did is kept as one change, an empty one too.
+    ///
+    /// # Errors
+    /// The first refusal with the number of its command, or want of memory.
+    pub fn run(&mut self, alloc: Global, script: &Script) -> Result<Report, RunFault>
+        ensures done { IfOk result (λ r. Keeps self.old script.now.commands r self.new) }
+        ensures refused { IfErr result (λ f. f.refusal ≢ OutOfMemory → MayStop self.old.project script.now.commands f.index f.refusal) }
+        ensures index { IfErr result (λ f. f.index ≤ length script.now.commands) }
+        ensures kept { OnErr result (self.new ≡ self.old) }
+        // Of a history that fits, this is a step of the stack.
+        ensures step { OnOk result ((s : Stack) → Stands self.old.history self.old.project.files s
+            → Stands self.new.history self.new.project.files (ran s self.new.project.files)) }
+        // A history that has a log has one then.
+        ensures text { OnOk result (has_text self.old.history ≡ true → has_text self.new.history ≡ true) }
+        // The new files read as the new trees.
+        ensures project { OnOk result (IsProject self.new.project) }
+    {
+        let commands = script.commands.get();
+        let mut project = match self.project.copy(alloc) {
+            Ok(project) => project,
+            Err(refusal) => return Err(RunFault { index: 0, refusal }),
+        };
+        let performed = match perform_all(alloc, &mut project, commands) {
+            Ok(performed) => performed,
+            Err(fault) => return Err(fault),
+        };
+        let report = Report {
+            files: count_differing(self.project.files(), project.files()),
+            splices: performed.splices.len(),
+            relexed: performed.relexed,
+            info: Value::Array(performed.listings),
+        };
+        let change = Change {
+            splices: Many::of(performed.splices),
+        };
+        match self.history.keep(change) {
+            Ok(()) => {}
+            Err(_) => {
+                return Err(RunFault {
+                    index: commands.len(),
+                    refusal: Refusal::OutOfMemory,
+                });
+            }
+        }
+        self.project = project;
+        Ok(report)
+    }
+
+    /// Takes the newest change back.
+    ///
+    /// # Errors
+    /// There is none, the files are not as it left them, they would be no project then, or want of memory.
+    pub fn undo(&mut self, alloc: Global) -> Result<Report, UndoFault>
+        ensures done { IfOk result (λ r. Steps self.old self.old.history.past (undone self.old.history self.old.project.files) r self.new) }
+        ensures refused { IfErr result (λ f. MayNotStep (undone self.old.history self.old.project.files) f) }
+        ensures kept { OnErr result (self.new ≡ self.old) }
+        // Of a history that fits, this is a step of the stack, and only an empty past is refused.
+        ensures step { OnOk result ((s : Stack) → Stands self.old.history self.old.project.files s
+            → (t : Stack) × (undo s ≡ Some t) × Stands self.new.history self.new.project.files t) }
+        ensures fits { IfErr result (λ f. (s : Stack) → Stands self.old.history self.old.project.files s → RefusesUndo s f) }
+        ensures text { OnOk result (has_text self.old.history ≡ true → has_text self.new.history ≡ true) }
+        // The new files read as the new trees.
+        ensures project { OnOk result (IsProject self.new.project) }
+    {
+        let Some(change) = self.history.past.last() else {
+            return Err(UndoFault::Splice(SpliceFault::NothingToUndo));
+        };
+        let splices = change.splices.get().len();
+        let project = match taken_back(alloc, &self.project, change) {
+            Ok(project) => project,
+            Err(fault) => return Err(fault),
+        };
+        self.history.past.move_last(&mut self.history.future)?;
+        let files = count_differing(self.project.files(), project.files());
+        self.project = project;
+        Ok(Report {
+            files,
+            splices,
+            relexed: 0,
+            info: Value::Array(Vec::new(alloc)),
+        })
+    }
+
+    /// Does the change that was undone last again.
+    ///
+    /// # Errors
+    /// There is none, the files are not as they were before it, they would be no project then, or want of memory.
+    pub fn redo(&mut self, alloc: Global) -> Result<Report, UndoFault>
+        ensures done { IfOk result (λ r. Steps self.old self.old.history.future (redone self.old.history self.old.project.files) r self.new) }
+        ensures refused { IfErr result (λ f. MayNotStep (redone self.old.history self.old.project.files) f) }
+        ensures kept { OnErr result (self.new ≡ self.old) }
+        // Of a history that fits, this is a step of the stack, and only an empty future is refused.
+        ensures step { OnOk result ((s : Stack) → Stands self.old.history self.old.project.files s
+            → (t : Stack) × (redo s ≡ Some t) × Stands self.new.history self.new.project.files t) }
+        ensures fits { IfErr result (λ f. (s : Stack) → Stands self.old.history self.old.project.files s → RefusesRedo s f) }
+        ensures text { OnOk result (has_text self.old.history ≡ true → has_text self.new.history ≡ true) }
+        // The new files read as the new trees.
+        ensures project { OnOk result (IsProject self.new.project) }
+    {
+        let Some(change) = self.history.future.last() else {
+            return Err(UndoFault::Splice(SpliceFault::NothingToRedo));
+        };
+        let splices = change.splices.get().len();
+        let project = match done_again(alloc, &self.project, change) {
+            Ok(project) => project,
+            Err(fault) => return Err(fault),
+        };
+        self.history.future.move_last(&mut self.history.past)?;
+        let files = count_differing(self.project.files(), project.files());
+        self.project = project;
+        Ok(Report {
+            files,
+            splices,
+            relexed: 0,
+            info: Value::Array(Vec::new(alloc)),
+        })
+    }
+}
