@@ -1,0 +1,6 @@
+pub mod Reading
+pub mod NoHelp
+pub mod HelpAlone
+pub mod Taken
+pub mod WordsInPairs
+pub mod Usages

@@ -1,0 +1,124 @@
+-- No subcommand asks for help.
+use Rattle.std.proofs.Common.{◌≡◌, Bool, true, false, List, Option, Result, Ok, Err, codes, refl, ap, subst}
+use Rattle.std.specs.Prelude.{IfOk, bytes_eq, if◌then◌else◌, ok_or}
+use Rattle.clap.specs.Words.{Row, Text, first_of}
+use Rattle.meson_calls.specs.declared.call.Role.{Role}
+use Rattle.meson_splice.specs.Patch.{then_ok}
+use Rattle.meson_command.specs.Actions.{action_of, kwargs_action, kwargs_by, options_action, options_by, is_json, script_action, target_action, target_by, target_words, word_at, words_at}
+use Rattle.meson_command.specs.Asking.{asked_from, names_no_folder, without_help_text, without_text}
+use Rattle.meson_command.specs.declared.asked.Action.{Action}
+use Rattle.meson_command.specs.declared.asked.Action.TheVariants.{Run, Info, ScriptText, ScriptFile, Undo, Redo, Help}
+use Rattle.meson_command.specs.declared.asked.Asked.{Asked}
+use Rattle.meson_command.specs.Operations.{kwargs_operation, options_operation, role_of}
+use Rattle.meson_command.specs.Pairs.{pairs_of}
+use Rattle.meson_command.specs.declared.fault.UsageFault.TheVariants.{Usage}
+use Rattle.meson_command.specs.declared.operations.KwargsOperation.{KwargsOperation}
+use Rattle.meson_command.specs.declared.operations.KwargsOperation.TheVariants as kwargs
+use Rattle.meson_command.specs.declared.operations.OptionsOperation.{OptionsOperation}
+use Rattle.meson_command.specs.declared.operations.OptionsOperation.TheVariants as options
+use Rattle.meson_command.specs.declared.operations.TargetOperation.{TargetOperation}
+use Rattle.meson_command.specs.declared.operations.TargetOperation.TheVariants as target
+use Rattle.meson_command.specs.declared.target.TargetWords.{TargetWords}
+
+abbrev pub IsPlain : Action → Type 0
+IsPlain (Help text) = ⊥
+IsPlain _ = Unit {0}
+
+-- what it answers, if it answers, is so
+record Answers {A E : Type 0} (P : A → Type 0) (r : Result A E) : Type 0 where
+  so : IfOk r P
+
+after : {A B E : Type 0} {P : B → Type 0} (r : Result A E) (f : A → Result B E) → ((x : A) → Answers P (f x)) → Answers P (then_ok r f)
+after (Ok x) f h = h x
+after (Err e) f h = record { so = tt }
+
+after_some : {A B E : Type 0} (Q : A → Type 0) {P : B → Type 0} (r : Result A E) (f : A → Result B E) → Answers Q r → ((x : A) → Q x → Answers P (f x)) → Answers P (then_ok r f)
+after_some Q (Ok x) f q h = h x q.so
+after_some Q (Err e) f q h = record { so = tt }
+
+either : {A E : Type 0} {P : A → Type 0} (b : Bool) (x y : Result A E) → Answers P x → Answers P y → Answers P (if b then x else y)
+either true x y h k = h
+either false x y h k = k
+
+ok : {A E : Type 0} {P : A → Type 0} (x : A) → P x → Answers {E = E} P (Ok x)
+ok x h = record { so = h }
+
+err : {A E : Type 0} {P : A → Type 0} (e : E) → Answers P (Err e)
+err e = record { so = tt }
+
+target-plain : (o : TargetOperation) (w : TargetWords) → IsPlain (target_by o w)
+target-plain target.SourcesAdd w = tt
+target-plain target.SourcesRemove w = tt
+target-plain target.TargetAdd w = tt
+target-plain target.TargetRemove w = tt
+target-plain target.ExtraAdd w = tt
+target-plain target.ExtraRemove w = tt
+target-plain target.Info w = tt
+
+kwargs-plain : (o : KwargsOperation) (r : Role) (id : Text) (words : List Text) → Answers IsPlain (kwargs_by o r id words)
+unfolding kwargs_by
+kwargs-plain kwargs.Set r id words = after (pairs_of words) _ (λ _. ok _ tt)
+kwargs-plain kwargs.Delete r id words = after (pairs_of words) _ (λ _. ok _ tt)
+kwargs-plain kwargs.Add r id words = after (pairs_of words) _ (λ _. ok _ tt)
+kwargs-plain kwargs.Remove r id words = after (pairs_of words) _ (λ _. ok _ tt)
+kwargs-plain kwargs.RemoveRegex r id words = after (pairs_of words) _ (λ _. err _)
+kwargs-plain kwargs.Info r id words = ok _ tt
+
+options-plain : (o : OptionsOperation) (pairs : List (Text × Text)) → IsPlain (options_by o pairs)
+options-plain options.Set pairs = tt
+options-plain options.Delete pairs = tt
+
+script-plain : (b : Bool) (word : Text) → IsPlain (if b then ScriptText word else ScriptFile word)
+script-plain true word = tt
+script-plain false word = tt
+
+target_action-plain : (rows : List Row) → Answers IsPlain (target_action rows)
+unfolding target_action
+target_action-plain rows = after _ _ (λ o. ok _ (target-plain o (target_words rows)))
+
+kwargs_action-plain : (rows : List Row) → Answers IsPlain (kwargs_action rows)
+unfolding kwargs_action
+kwargs_action-plain rows =
+    after (ok_or (kwargs_operation (word_at (codes "OPERATION") rows)) Usage) _ (λ o.
+    after (ok_or (role_of (word_at (codes "FUNCTION") rows)) Usage) _ (λ r.
+    kwargs-plain o r (word_at (codes "ID") rows) (words_at (codes "KEY VALUE") rows)))
+
+options_action-plain : (rows : List Row) → Answers IsPlain (options_action rows)
+unfolding options_action
+options_action-plain rows =
+    after (ok_or (options_operation (word_at (codes "OPERATION") rows)) Usage) _ (λ o.
+    after (pairs_of (words_at (codes "OPTION VALUE") rows)) _ (λ pairs. ok _ (options-plain o pairs)))
+
+script_action-plain : (rows : List Row) → IsPlain (script_action rows)
+unfolding script_action
+script_action-plain rows = script-plain (is_json (word_at (codes "JSON") rows)) (word_at (codes "JSON") rows)
+
+action-plain : (name : Text) (rows : List Row) → Answers IsPlain (action_of name rows)
+unfolding action_of
+action-plain name rows =
+    either (bytes_eq name (codes "target")) _ _ (target_action-plain rows)
+    (either (bytes_eq name (codes "kwargs")) _ _ (kwargs_action-plain rows)
+    (either (bytes_eq name (codes "default-options")) _ _ (options_action-plain rows)
+    (either (bytes_eq name (codes "command")) _ _ (ok (script_action rows) (script_action-plain rows))
+    (either (bytes_eq name (codes "undo")) _ _ (ok Undo tt)
+    (either (bytes_eq name (codes "redo")) _ _ (ok Redo tt) (err Usage))))))
+
+asked : (rows : List Row) (subcommand : Option (Text × List Row)) → Answers (λ a. IsPlain a.action) (asked_from rows subcommand)
+unfolding asked_from
+asked rows subcommand = after (ok_or subcommand Usage) _ (λ s. either (names_no_folder (first_of (codes "DIR") rows)) _ _ (err _)
+    (after_some IsPlain (action_of s.0 s.1) _ (action-plain s.0 s.1) (λ a plain. ok _ plain)))
+
+pub not_help : (rows : List Row) (subcommand : Option (Text × List Row)) (a : Asked) → asked_from rows subcommand ≡ Ok a → IsPlain a.action
+not_help rows subcommand a is = subst (λ r. IfOk r (λ x. IsPlain x.action)) is (asked rows subcommand).so
+
+same : (a : Action) → IsPlain a → without_help_text a ≡ a
+same (Run script) h = refl
+same (Info command) h = refl
+same (ScriptText text) h = refl
+same (ScriptFile name) h = refl
+same Undo h = refl
+same Redo h = refl
+same (Help text) h = absurd h
+
+pub no_help : (rows : List Row) (subcommand : Option (Text × List Row)) (a : Asked) → asked_from rows subcommand ≡ Ok a → without_text a ≡ a
+no_help rows subcommand a is = ap (λ (x : Action). record a { action = x }) (same a.action (not_help rows subcommand a is))

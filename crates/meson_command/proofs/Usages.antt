@@ -1,0 +1,208 @@
+-- Where help is answered, and where the usage is wrong though clap takes the words.
+use Rattle.std.proofs.Common.{◌≡◌, ◌∙◌, ◌∷◌, ◌||◌, ◌&&◌, ◌⊎◌, inl, inr, Bool, true, false, not, List, [], Option, Some, None, Result, Ok, Err, is_some, bytes_eq, codes, refl, sym, ap}
+use Rattle.std.specs.Prelude.{find, option_map, unwrap_or, if◌then◌else◌, ok_or}
+use Rattle.std.specs.List.{list_any}
+use Rattle.std.proofs.lemmas.Slice.Eq.{bytes_eq-Decides}
+use Rattle.clap.specs.Facts.{explicit_source}
+use Rattle.clap.specs.Faults.{check_fault, defaults_fault, entered_fault, level_fault, settle_fault, walk_fault}
+use Rattle.clap.specs.Kinds.{Kinds, check_kinds, or_else}
+use Rattle.clap.specs.Simple.{App, Shape, argument_words, built, entered, label_of, names_of, rows_at}
+use Rattle.clap.specs.Takes.{is_given}
+use Rattle.clap.specs.Walk.{Held, Names, answers_to, finished, nothing_held, settled, walk, walk_from}
+use Rattle.clap.specs.Words.{Row, Text, fault_of, first_of, matches_of, subcommand_of}
+use Rattle.clap.specs.declared.error.kind.ErrorKind.TheVariants.{DisplayHelp}
+use Rattle.meson_calls.specs.declared.call.Role.{Role}
+use Rattle.meson_splice.specs.Patch.{then_ok}
+use Rattle.meson_command.specs.Actions.{action_of, kwargs_action, kwargs_by, options_action, target_action, word_at, words_at}
+use Rattle.meson_command.specs.Asking.{answer, asked_from, asked_of, help, is_help, names_no_folder}
+use Rattle.meson_command.specs.Laws.{HelpWhereAsked, IsUnknown, UsageMeansUnknown}
+use Rattle.meson_command.specs.Operations.{kwargs_operation, options_operation, role_of, target_operation}
+use Rattle.meson_command.specs.Pairs.{in_pairs, names, pairs_of, repeats}
+use Rattle.meson_command.specs.Program.{command, default_options, kwargs, program, redo, target, undo}
+use Rattle.meson_command.specs.declared.asked.Action.{Action}
+use Rattle.meson_command.specs.declared.asked.Asked.{Asked}
+use Rattle.meson_command.specs.declared.fault.UsageFault.{UsageFault}
+use Rattle.meson_command.specs.declared.fault.UsageFault.TheVariants.{Usage, OddWords, RepeatedKey}
+use Rattle.meson_command.specs.declared.operations.KwargsOperation.{KwargsOperation}
+use Rattle.meson_command.specs.declared.operations.KwargsOperation.TheVariants as of_kwargs
+use Rattle.meson_command.proofs.HelpAlone.{Clean}
+use Rattle.meson_command.proofs.NoHelp.{not_help}
+use Rattle.meson_command.proofs.Taken.{as_taken, help_alone, help_is}
+
+-- ---- help
+
+is_first : (b : Bool) → (if b then Ok help else Err Usage) ≡ Ok help → b ≡ true
+is_first true e = refl
+is_first false e = cc
+
+shown_by : (ks : Kinds) (words : List Text) → Clean ks → answer ks (asked_of words) ≡ Ok help → ks ≡ DisplayHelp ∷ []
+shown_by [] words c e = absurd (not_help _ _ _ e)
+shown_by (k ∷ ks) words c e = c.alone (inl (sym (help_is k (is_first (is_help k) e))))
+
+pub help-law : HelpWhereAsked
+help-law words = (λ e. shown_by (fault_of program words) words (help_alone words) e, λ e. ap (λ ks. answer ks (asked_of words)) e)
+
+-- ---- a command whose subcommand has to be there has one where nothing is wrong
+
+second : (a b : Kinds) → or_else a b ≡ [] → b ≡ []
+second [] b e = e
+second (k ∷ ks) b e = cc
+
+never : (a b c : Bool) → b ≡ true → check_kinds a b c ≡ [] → ⊥
+never true b c h e = cc
+never false true c h e = cc
+never false false c h e = cc
+
+wanted : (s : Shape) (rows : List Row) (has : Bool) → s.subcommand_required ≡ true → check_fault s rows has ≡ [] → has ≡ true
+wanted s rows true needs e = refl
+wanted s rows false needs e = absurd (never (s.arg_required_else_help && not (list_any (λ r. explicit_source r.source) rows)) s.subcommand_required
+    (not (s.subcommand_negates_reqs && false) && list_any (λ a. a.required && not (is_given a.id rows)) s.rules) needs e)
+
+level-some : (s : Shape) (names : Names) (h : Held) (words : List Text) (has : Bool) (below : Kinds) → s.subcommand_required ≡ true → level_fault s names h words has below ≡ [] → has ≡ true
+level-some s names h words has below needs e =
+    let end = (walk s.rules names h words).held in
+    let checks = check_fault s (finished s.rules end) has in
+    let defaults = or_else (defaults_fault (settled s.rules end).rows s.rules) checks in
+    let settles = or_else (settle_fault s.rules s.args_override_self end) defaults in
+    let first = second (walk_fault s names (walk_from h) words) (or_else below settles) e in
+    let next = second below settles first in
+    let last = second (settle_fault s.rules s.args_override_self end) defaults next in
+    wanted s (finished s.rules end) has needs (second (defaults_fault (settled s.rules end).rows s.rules) checks last)
+
+-- where clap takes the words, there is a subcommand
+entered_one : (words : List Text) → fault_of program words ≡ [] → is_some (subcommand_of program words) ≡ true
+unfolding program target kwargs default_options command undo redo
+entered_one words e =
+    let stop = (walk (built program).top.rules (names_of (built program)) nothing_held (argument_words program words)).stopped in
+    level-some (built program).top (names_of (built program)) nothing_held (argument_words program words) (is_some (entered (built program) stop)) (entered_fault (built program) stop) refl e
+
+-- ---- it is one of the six
+
+or_true : (b : Bool) → (b || true) ≡ true
+or_true true = refl
+or_true false = refl
+
+one-name : (b : Bool) (s : Shape) (o : Option Shape) (words : List Text) (name : Text) (rows : List Row) (rest : Bool)
+    → option_map (λ x. rows_at x words) (if b then Some s else o) ≡ Some (name, rows) → (option_map (λ x. rows_at x words) o ≡ Some (name, rows) → rest ≡ true) → (bytes_eq name s.name || rest) ≡ true
+one-name true s o words name rows rest e h =
+    let at : s.name ≡ name = ap (λ (x : Option (Text × List Row)). unwrap_or (option_map (λ p. p.0) x) []) e in
+    ap (λ b. b || rest) ((bytes_eq-Decides name s.name).1 (sym at))
+one-name false s o words name rows rest e h = ap (λ b. bytes_eq name s.name || b) (h e) ∙ or_true (bytes_eq name s.name)
+
+found-name : (p : Shape → Bool) (subs : List Shape) (words : List Text) (name : Text) (rows : List Row) → option_map (λ s. rows_at s words) (find p subs) ≡ Some (name, rows)
+    → list_any (λ s. bytes_eq name s.name) subs ≡ true
+found-name p [] words name rows e = cc
+found-name p (s ∷ subs) words name rows e = one-name (p s) s (find p subs) words name rows _ e (found-name p subs words name rows)
+
+entered-name : (a : App) (stop : Option (Text × List Text)) (name : Text) (rows : List Row) → entered a stop ≡ Some (name, rows) → list_any (λ s. bytes_eq name s.name) a.subs ≡ true
+entered-name a None name rows e = cc
+entered-name a (Some p) name rows e = found-name (λ s. answers_to p.0 (label_of s)) a.subs p.1 name rows e
+
+abbrev is_known : Text → Bool
+is_known name = bytes_eq name (codes "target") || (bytes_eq name (codes "kwargs") || (bytes_eq name (codes "default-options")
+    || (bytes_eq name (codes "command") || (bytes_eq name (codes "undo") || (bytes_eq name (codes "redo") || false)))))
+
+known : (words : List Text) (name : Text) (rows : List Row) → subcommand_of program words ≡ Some (name, rows) → is_known name ≡ true
+unfolding program target kwargs default_options command undo redo
+known words name rows e =
+    entered-name (built program) (walk (built program).top.rules (names_of (built program)) nothing_held (argument_words program words)).stopped name rows e
+
+-- ---- which of its words is unknown
+
+abbrev verdict : Bool → List (Text × Text) → Result (List (Text × Text)) UsageFault
+verdict b ps = if b then Err RepeatedKey else Ok ps
+
+no_verdict : (b : Bool) (ps : List (Text × Text)) → verdict b ps ≡ Err Usage → ⊥
+no_verdict true ps e = cc
+no_verdict false ps e = cc
+
+no_pairs : (o : Option (List (Text × Text))) → then_ok (ok_or o OddWords) (λ pairs. verdict (repeats (names pairs)) pairs) ≡ Err Usage → ⊥
+no_pairs None e = cc
+no_pairs (Some pairs) e = no_verdict (repeats (names pairs)) pairs e
+
+after_pairs : (r : Result (List (Text × Text)) UsageFault) (f : List (Text × Text) → Result Action UsageFault) → (r ≡ Err Usage → ⊥) → ((ps : List (Text × Text)) → f ps ≡ Err Usage → ⊥) → then_ok r f ≡ Err Usage → ⊥
+after_pairs (Ok ps) f n h e = h ps e
+after_pairs (Err fault) f n h e = n (let at : fault ≡ Usage = cc in ap (λ (u : UsageFault). Err u) at)
+
+pairs-not : (words : List Text) → pairs_of words ≡ Err Usage → ⊥
+unfolding pairs_of
+pairs-not words e = no_pairs (in_pairs words) e
+
+kwargs-not : (o : KwargsOperation) (role : Role) (id : Text) (words : List Text) → kwargs_by o role id words ≡ Err Usage → ⊥
+unfolding kwargs_by
+kwargs-not of_kwargs.Set role id words e = after_pairs (pairs_of words) _ (pairs-not words) (λ ps x. cc) e
+kwargs-not of_kwargs.Delete role id words e = after_pairs (pairs_of words) _ (pairs-not words) (λ ps x. cc) e
+kwargs-not of_kwargs.Add role id words e = after_pairs (pairs_of words) _ (pairs-not words) (λ ps x. cc) e
+kwargs-not of_kwargs.Remove role id words e = after_pairs (pairs_of words) _ (pairs-not words) (λ ps x. cc) e
+kwargs-not of_kwargs.RemoveRegex role id words e = after_pairs (pairs_of words) _ (pairs-not words) (λ ps x. cc) e
+kwargs-not of_kwargs.Info role id words e = cc
+
+missing : {A B : Type 0} (o : Option A) (f : A → Result B UsageFault) → ((x : A) → f x ≡ Err Usage → ⊥) → then_ok (ok_or o Usage) f ≡ Err Usage → o ≡ None
+missing None f h e = refl
+missing (Some x) f h e = absurd (h x e)
+
+one_missing : {A B C : Type 0} (o : Option A) (r : Option B) (f : A → B → Result C UsageFault) → ((x : A) (y : B) → f x y ≡ Err Usage → ⊥)
+    → then_ok (ok_or o Usage) (λ x. then_ok (ok_or r Usage) (f x)) ≡ Err Usage → (o ≡ None) ⊎ (r ≡ None)
+one_missing None r f h e = inl refl
+one_missing (Some x) None f h e = inr refl
+one_missing (Some x) (Some y) f h e = absurd (h x y e)
+
+target-unknown : (rows : List Row) → target_action rows ≡ Err Usage → target_operation (word_at (codes "OPERATION") rows) ≡ None
+unfolding target_action
+target-unknown rows e = missing (target_operation (word_at (codes "OPERATION") rows)) _ (λ o x. cc) e
+
+kwargs-unknown : (rows : List Row) → kwargs_action rows ≡ Err Usage → (kwargs_operation (word_at (codes "OPERATION") rows) ≡ None) ⊎ (role_of (word_at (codes "FUNCTION") rows) ≡ None)
+unfolding kwargs_action
+kwargs-unknown rows e = one_missing (kwargs_operation (word_at (codes "OPERATION") rows)) (role_of (word_at (codes "FUNCTION") rows)) _ (λ o role. kwargs-not o role _ _) e
+
+options-unknown : (rows : List Row) → options_action rows ≡ Err Usage → options_operation (word_at (codes "OPERATION") rows) ≡ None
+unfolding options_action
+options-unknown rows e = missing (options_operation (word_at (codes "OPERATION") rows)) _ (λ o. after_pairs (pairs_of (words_at (codes "OPTION VALUE") rows)) _ (pairs-not _) (λ ps x. cc)) e
+
+by_name : {P : Type 0} (b : Bool) (x y : Result Action UsageFault) (rest : Bool) → (if b then x else y) ≡ Err Usage → (b || rest) ≡ true
+    → (b ≡ true → x ≡ Err Usage → P) → (y ≡ Err Usage → rest ≡ true → P) → P
+by_name true x y rest e k h n = h refl e
+by_name false x y rest e k h n = n e k
+
+named : (name x : Text) → bytes_eq name x ≡ true → name ≡ x
+named name x e = (bytes_eq-Decides name x).0 e
+
+unknown : (name : Text) (rows : List Row) → is_known name ≡ true → action_of name rows ≡ Err Usage → IsUnknown name rows
+unfolding action_of
+unknown name rows k e =
+    by_name (bytes_eq name (codes "target")) _ _ _ e k (λ b x. inl (named _ _ b, target-unknown rows x)) (λ e k.
+    by_name (bytes_eq name (codes "kwargs")) _ _ _ e k (λ b x. inr (inl (named _ _ b, kwargs-unknown rows x))) (λ e k.
+    by_name (bytes_eq name (codes "default-options")) _ _ _ e k (λ b x. inr (inr (named _ _ b, options-unknown rows x))) (λ e k.
+    by_name (bytes_eq name (codes "command")) _ _ _ e k (λ b x. cc) (λ e k.
+    by_name (bytes_eq name (codes "undo")) _ _ _ e k (λ b x. cc) (λ e k.
+    by_name (bytes_eq name (codes "redo")) _ _ _ e k (λ b x. cc) (λ e k. cc))))))
+
+-- ---- wrong usage
+
+abbrev Wrong : List Row → Option (Text × List Row) → Type 0
+Wrong rows sub = (names_no_folder (first_of (codes "DIR") rows) ≡ true) ⊎ ((name : Text) × (inner : List Row) × (sub ≡ Some (name, inner)) × (action_of name inner ≡ Err Usage))
+
+abbrev wrong : Result Asked UsageFault
+wrong = Err Usage
+
+not_done : (dir : Option Text) (r : Result Action UsageFault) → then_ok r (λ action. Ok (record { dir = dir; action = action })) ≡ wrong → r ≡ Err Usage
+not_done dir (Ok a) e = cc
+not_done dir (Err fault) e = let at : fault ≡ Usage = cc in ap (λ (u : UsageFault). Err u) at
+
+by_folder : (rows : List Row) (s : Text × List Row) (b : Bool) → names_no_folder (first_of (codes "DIR") rows) ≡ b
+    → (if b then Err Usage else then_ok (action_of s.0 s.1) (λ action. Ok (record { dir = first_of (codes "DIR") rows; action = action }))) ≡ wrong → Wrong rows (Some s)
+by_folder rows s true is e = inl is
+by_folder rows s false is e = inr (s.0, s.1, refl, not_done (first_of (codes "DIR") rows) (action_of s.0 s.1) e)
+
+split : (rows : List Row) (sub : Option (Text × List Row)) → is_some sub ≡ true → asked_from rows sub ≡ Err Usage → Wrong rows sub
+unfolding asked_from
+split rows None has e = cc
+split rows (Some s) has e = by_folder rows s (names_no_folder (first_of (codes "DIR") rows)) refl e
+
+pub usage-law : UsageMeansUnknown
+usage-law words none e =
+    let asked : asked_of words ≡ Err Usage = sym (as_taken (fault_of program words) (asked_of words) none) ∙ e in
+    elim (split (matches_of program words) (subcommand_of program words) (entered_one words none) asked) [
+      | inl folder ↦ inl folder
+      | inr u ↦ inr (u.0, u.1, u.2, unknown u.0 u.1 (known words u.0 u.1 u.2) u.3)
+    ]

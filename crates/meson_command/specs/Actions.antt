@@ -1,0 +1,120 @@
+-- What the words of a subcommand ask for.
+use Rattle.std.specs.Prelude.{ℕ, Bool, false, ◌||◌, ◌==◌, not, List, [], ◌∷◌, codes, bytes_eq, find, map, if◌then◌else◌, ok_or, unwrap_or, Result, Ok, Err}
+use Rattle.std.specs.Option.{option_map_or}
+use Rattle.clap.specs.Words.{Row, Text, all_of, first_of}
+use Rattle.meson_calls.specs.declared.call.Role.{Role}
+use Rattle.meson_splice.specs.Patch.{then_ok}
+use Rattle.meson_steps.specs.declared.command.Command.{Command}
+use Rattle.meson_steps.specs.declared.command.Command.TheVariants as command
+use Rattle.meson_steps.specs.declared.command.Setting.{Setting}
+use Rattle.meson_steps.specs.declared.command.Setting.TheVariants as setting
+use Rattle.meson_command.specs.Operations.{kwargs_operation, options_operation, role_of, target_operation}
+use Rattle.meson_command.specs.Pairs.{names, pairs_of}
+use Rattle.meson_command.specs.declared.asked.Action.{Action}
+use Rattle.meson_command.specs.declared.asked.Action.TheVariants.{Run, Info, ScriptText, ScriptFile, Undo, Redo}
+use Rattle.meson_command.specs.declared.fault.UsageFault.{UsageFault}
+use Rattle.meson_command.specs.declared.fault.UsageFault.TheVariants.{Usage, Unsupported}
+use Rattle.meson_command.specs.declared.operations.KwargsOperation.{KwargsOperation}
+use Rattle.meson_command.specs.declared.operations.KwargsOperation.TheVariants as kwargs
+use Rattle.meson_command.specs.declared.operations.OptionsOperation.{OptionsOperation}
+use Rattle.meson_command.specs.declared.operations.OptionsOperation.TheVariants as options
+use Rattle.meson_command.specs.declared.operations.TargetOperation.{TargetOperation}
+use Rattle.meson_command.specs.declared.operations.TargetOperation.TheVariants as target
+use Rattle.meson_command.specs.declared.target.TargetWords.{TargetWords}
+
+-- ---- the words that clap found, by what help calls them
+
+-- the word, or another one where it was left out
+abbrev pub word_or : Text → Text → List Row → Text
+word_or otherwise name rows = unwrap_or (first_of name rows) otherwise
+
+abbrev pub word_at : Text → List Row → Text
+word_at name rows = word_or [] name rows
+
+abbrev pub words_at : Text → List Row → List Text
+words_at name rows = unwrap_or (all_of name rows) []
+
+-- the script of one command
+abbrev pub run : Command → Action
+run command = Run (record { commands = command ∷ [] })
+
+-- ---- target ID OPERATION [SOURCE]... [--subdir SUBDIR] [--type KIND]
+
+abbrev pub target_words : List Row → TargetWords
+target_words rows = record {
+  target = word_at (codes "ID") rows;
+  sources = words_at (codes "SOURCE") rows;
+  subdir = word_at (codes "SUBDIR") rows;
+  target_kind = word_or (codes "executable") (codes "KIND") rows;
+}
+
+abbrev pub target_by : TargetOperation → TargetWords → Action
+target_by target.SourcesAdd w = run (command.SourcesAdd w.target w.sources)
+target_by target.SourcesRemove w = run (command.SourcesRemove w.target w.sources)
+target_by target.TargetAdd w = run (command.TargetAdd w.target w.target_kind w.subdir w.sources)
+target_by target.TargetRemove w = run (command.TargetRemove w.target)
+target_by target.ExtraAdd w = run (command.ExtraAdd w.target w.sources)
+target_by target.ExtraRemove w = run (command.ExtraRemove w.target w.sources)
+target_by target.Info w = Info (command.TargetInfo w.target)
+
+unfoldable pub target_action : List Row → Result Action UsageFault
+target_action rows =
+    then_ok (ok_or (target_operation (word_at (codes "OPERATION") rows)) Usage) (λ operation.
+    Ok (target_by operation (target_words rows)))
+
+-- ---- kwargs OPERATION FUNCTION ID [KEY VALUE]...
+
+abbrev pub settings : List (Text × Text) → List (Text × Setting)
+settings pairs = map (λ p. (p.0, setting.Text p.1)) pairs
+
+-- `info` looks at no pairs
+unfoldable pub kwargs_by : KwargsOperation → Role → Text → List Text → Result Action UsageFault
+kwargs_by kwargs.Set role id words = then_ok (pairs_of words) (λ pairs. Ok (run (command.KwargsSet role id (settings pairs))))
+kwargs_by kwargs.Delete role id words = then_ok (pairs_of words) (λ pairs. Ok (run (command.KwargsDelete role id (names pairs))))
+kwargs_by kwargs.Add role id words = then_ok (pairs_of words) (λ pairs. Ok (run (command.KwargsAdd role id (settings pairs))))
+kwargs_by kwargs.Remove role id words = then_ok (pairs_of words) (λ pairs. Ok (run (command.KwargsRemove role id (settings pairs))))
+kwargs_by kwargs.RemoveRegex role id words = then_ok (pairs_of words) (λ pairs. Err Unsupported)
+kwargs_by kwargs.Info role id words = Ok (Info (command.KwargsInfo role id))
+
+unfoldable pub kwargs_action : List Row → Result Action UsageFault
+kwargs_action rows =
+    then_ok (ok_or (kwargs_operation (word_at (codes "OPERATION") rows)) Usage) (λ operation.
+    then_ok (ok_or (role_of (word_at (codes "FUNCTION") rows)) Usage) (λ role.
+    kwargs_by operation role (word_at (codes "ID") rows) (words_at (codes "KEY VALUE") rows)))
+
+-- ---- default-options OPERATION [OPTION VALUE]...
+
+abbrev pub options_by : OptionsOperation → List (Text × Text) → Action
+options_by options.Set pairs = run (command.OptionsSet pairs)
+options_by options.Delete pairs = run (command.OptionsDelete (names pairs))
+
+unfoldable pub options_action : List Row → Result Action UsageFault
+options_action rows =
+    then_ok (ok_or (options_operation (word_at (codes "OPERATION") rows)) Usage) (λ operation.
+    then_ok (pairs_of (words_at (codes "OPTION VALUE") rows)) (λ pairs.
+    Ok (options_by operation pairs)))
+
+-- ---- command JSON
+
+-- a space (32) or a tab (9)
+abbrev pub is_blank : ℕ → Bool
+is_blank b = b == 32 || b == 9
+
+-- the first byte that is no blank is `[` (91) or `{` (123)
+abbrev pub is_json : Text → Bool
+is_json word = option_map_or (λ b. b == 91 || b == 123) (find (λ b. not (is_blank b)) word) false
+
+unfoldable pub script_action : List Row → Action
+script_action rows = let word = word_at (codes "JSON") rows in if is_json word then ScriptText word else ScriptFile word
+
+-- ---- any subcommand
+
+unfoldable pub action_of : Text → List Row → Result Action UsageFault
+action_of subcommand rows =
+    if bytes_eq subcommand (codes "target") then target_action rows
+    else (if bytes_eq subcommand (codes "kwargs") then kwargs_action rows
+    else (if bytes_eq subcommand (codes "default-options") then options_action rows
+    else (if bytes_eq subcommand (codes "command") then Ok (script_action rows)
+    else (if bytes_eq subcommand (codes "undo") then Ok Undo
+    else (if bytes_eq subcommand (codes "redo") then Ok Redo
+    else Err Usage)))))

@@ -1,0 +1,43 @@
+-- What holds of any command line.
+use Rattle.std.specs.Prelude.{◌≡◌, ◌≢◌, ◌↔◌, ◌⊎◌, ◌%◌, List, [], ◌∷◌, length, codes, true, Some, None, Ok, Err}
+use Rattle.std.specs.List.{AllPairs}
+use Rattle.clap.specs.Words.{Row, Text, fault_of, first_of, matches_of, subcommand_of}
+use Rattle.clap.specs.declared.error.kind.ErrorKind.TheVariants.{DisplayHelp}
+use Rattle.meson_command.specs.Actions.{word_at}
+use Rattle.meson_command.specs.Asking.{asked_by, help, names_no_folder}
+use Rattle.meson_command.specs.Operations.{kwargs_operation, options_operation, role_of, target_operation}
+use Rattle.meson_command.specs.Pairs.{names, pairs_of}
+use Rattle.meson_command.specs.Program.{program}
+use Rattle.meson_command.specs.declared.fault.UsageFault.TheVariants.{Usage, OddWords}
+
+-- ---- words in pairs
+
+abbrev pub words_of : List (Text × Text) → List Text
+words_of [] = []
+words_of (p ∷ pairs) = p.0 ∷ p.1 ∷ words_of pairs
+
+-- the pairs are the words two by two, and no name is there twice
+abbrev pub PairsAreTheWords : Type 0
+PairsAreTheWords = (words : List Text) (pairs : List (Text × Text)) → (pairs_of words ≡ Ok pairs) ↔ ((words_of pairs ≡ words) × AllPairs (λ x y. x ≢ y) (names pairs))
+
+abbrev pub OddWordsAreOdd : Type 0
+OddWordsAreOdd = (words : List Text) → (pairs_of words ≡ Err OddWords) ↔ (length words % 2 ≡ 1)
+
+-- ---- help and wrong usage
+
+-- help is answered exactly where it is the first fault that clap finds, so never where clap takes the words
+abbrev pub HelpWhereAsked : Type 0
+HelpWhereAsked = (words : List Text) → (asked_by words ≡ Ok help) ↔ (fault_of program words ≡ DisplayHelp ∷ [])
+
+-- the subcommand's operation or function is no such word
+abbrev pub IsUnknown : Text → List Row → Type 0
+IsUnknown subcommand rows =
+    ((subcommand ≡ codes "target") × (target_operation (word_at (codes "OPERATION") rows) ≡ None))
+    ⊎ (((subcommand ≡ codes "kwargs") × ((kwargs_operation (word_at (codes "OPERATION") rows) ≡ None) ⊎ (role_of (word_at (codes "FUNCTION") rows) ≡ None)))
+    ⊎ ((subcommand ≡ codes "default-options") × (options_operation (word_at (codes "OPERATION") rows) ≡ None)))
+
+-- where clap takes the words and the usage is wrong, the folder is empty or a word is unknown
+abbrev pub UsageMeansUnknown : Type 0
+UsageMeansUnknown = (words : List Text) → fault_of program words ≡ [] → asked_by words ≡ Err Usage
+    → (names_no_folder (first_of (codes "DIR") (matches_of program words)) ≡ true)
+    ⊎ ((name : Text) × (rows : List Row) × (subcommand_of program words ≡ Some (name, rows)) × IsUnknown name rows)

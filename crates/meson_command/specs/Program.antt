@@ -1,0 +1,65 @@
+-- The words that the program takes, as clap is told of them.
+use Rattle.std.specs.Prelude.{◌≡◌, ◌∷◌, [], List, true, false, Some, codes, fold}
+use Rattle.clap.specs.Words.{App, Rule, Text, app_of, new_app, new_rule, with_rule, with_subcommand}
+use Rattle.clap.specs.declared.builder.ArgAction.TheVariants as action
+use Rattle.clap.specs.declared.builder.command.Command.{Command}
+use Rattle.clap.specs.declared.builder.command.Command.TheViews.{out-Command}
+
+-- a word that has to be there
+abbrev pub one : Text → Rule
+one id = record (new_rule id) { required = true; action = Some action.Set }
+
+-- any number of words
+abbrev pub many : Text → Rule
+many id = record (new_rule id) { action = Some action.Append }
+
+-- an option with one value
+abbrev pub option : Text → Text → Rule
+option id long = record (new_rule id) { long = Some long; action = Some action.Set }
+
+-- `--help`, and no short form of it
+abbrev pub help : Rule
+help = record (new_rule (codes "help")) { long = Some (codes "help"); action = Some action.Help }
+
+abbrev pub of_words : Text → List Rule → App
+of_words name rules = fold with_rule (new_app name) rules
+
+-- target ID OPERATION [SOURCE]... [--subdir SUBDIR] [--type KIND]
+unfoldable pub target : App
+target = of_words (codes "target") (one (codes "ID") ∷ one (codes "OPERATION") ∷ many (codes "SOURCE")
+    ∷ option (codes "SUBDIR") (codes "subdir") ∷ option (codes "KIND") (codes "type") ∷ help ∷ [])
+
+-- kwargs OPERATION FUNCTION ID [KEY VALUE]...
+unfoldable pub kwargs : App
+kwargs = of_words (codes "kwargs") (one (codes "OPERATION") ∷ one (codes "FUNCTION") ∷ one (codes "ID")
+    ∷ many (codes "KEY VALUE") ∷ help ∷ [])
+
+-- default-options OPERATION [OPTION VALUE]...
+unfoldable pub default_options : App
+default_options = of_words (codes "default-options") (one (codes "OPERATION") ∷ many (codes "OPTION VALUE") ∷ help ∷ [])
+
+-- command JSON
+unfoldable pub command : App
+command = of_words (codes "command") (one (codes "JSON") ∷ help ∷ [])
+
+unfoldable pub undo : App
+undo = of_words (codes "undo") (help ∷ [])
+
+unfoldable pub redo : App
+redo = of_words (codes "redo") (help ∷ [])
+
+-- a subcommand has to be there; clap adds no `help` subcommand and no help flag of its own
+abbrev pub bare : Text → App
+bare name = record (new_app name) {
+  top = record (new_app name).top { subcommand_required = true; disable_help_flag = true; disable_help_subcommand = true };
+}
+
+-- meson_rewrite [--sourcedir DIR] SUBCOMMAND
+unfoldable pub program : App
+program = fold (λ a s. with_subcommand a s.top)
+    (with_rule (with_rule (bare (codes "meson_rewrite")) (option (codes "DIR") (codes "sourcedir"))) help)
+    (target ∷ kwargs ∷ default_options ∷ command ∷ undo ∷ redo ∷ [])
+
+-- clap is told this, and no word counts for all subcommands at once
+abbrev pub IsTold : App → Command → Type 0
+IsTold a c = (app_of c ≡ a) × ((out-Command c).has_globals ≡ false)

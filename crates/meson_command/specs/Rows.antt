@@ -1,0 +1,83 @@
+-- Command lines, each with what it asks for.
+use Rattle.std.specs.Prelude.{◌≡◌, ℕ, ◌==◌, List, [], ◌∷◌, codes, if◌then◌else◌, Some, None, Result, Ok, Err}
+use Rattle.meson_calls.specs.declared.call.Role.TheVariants as role
+use Rattle.meson_steps.specs.declared.command.Command.TheVariants as command
+use Rattle.meson_steps.specs.declared.command.Setting.TheVariants as setting
+use Rattle.meson_command.specs.Actions.{run}
+use Rattle.meson_command.specs.Asking.{asked_by, help}
+use Rattle.meson_command.specs.declared.asked.Action.{Action}
+use Rattle.meson_command.specs.declared.asked.Action.TheVariants.{Info, ScriptText, ScriptFile, Undo, Redo}
+use Rattle.meson_command.specs.declared.asked.Asked.{Asked}
+use Rattle.meson_command.specs.declared.fault.UsageFault.{UsageFault}
+use Rattle.meson_command.specs.declared.fault.UsageFault.TheVariants.{Usage, OddWords, RepeatedKey, Unsupported}
+
+-- a byte before the first of some words
+abbrev onto : ℕ → List (List ℕ) → List (List ℕ)
+onto b [] = (b ∷ []) ∷ []
+onto b (word ∷ words) = (b ∷ word) ∷ words
+
+-- the words between single spaces (32)
+abbrev words_in : List ℕ → List (List ℕ)
+words_in [] = [] ∷ []
+words_in (b ∷ bytes) = if b == 32 then [] ∷ words_in bytes else onto b (words_in bytes)
+
+abbrev here : Action → Result Asked UsageFault
+here action = Ok (record { dir = None; action = action })
+
+abbrev there : List ℕ → Action → Result Asked UsageFault
+there dir action = Ok (record { dir = Some dir; action = action })
+
+-- a line after the program's name asks for this
+abbrev asks : List ℕ → Result Asked UsageFault → Type 0
+asks line asked = asked_by (codes "T" ∷ words_in line) ≡ asked
+
+-- what is to be done
+abbrev pub Done : Type 0
+Done =
+    asks (codes "target e add a.c b.c") (here (run (command.SourcesAdd (codes "e") (codes "a.c" ∷ codes "b.c" ∷ []))))
+    × asks (codes "target e rm a.c") (here (run (command.SourcesRemove (codes "e") (codes "a.c" ∷ []))))
+    × asks (codes "target e add_extra_files x.h") (here (run (command.ExtraAdd (codes "e") (codes "x.h" ∷ []))))
+    × asks (codes "target e rm_extra_files x.h") (here (run (command.ExtraRemove (codes "e") (codes "x.h" ∷ []))))
+    × asks (codes "target l add_target a.c --subdir sub --type jar") (here (run (command.TargetAdd (codes "l") (codes "jar") (codes "sub") (codes "a.c" ∷ []))))
+    × asks (codes "target l add_target") (here (run (command.TargetAdd (codes "l") (codes "executable") [] [])))
+    × asks (codes "target l rm_target a.c") (here (run (command.TargetRemove (codes "l"))))
+    × asks (codes "kwargs set project / version 1.0.0") (here (run (command.KwargsSet role.Project (codes "/") ((codes "version", setting.Text (codes "1.0.0")) ∷ []))))
+    × asks (codes "kwargs add dependency zlib version <2") (here (run (command.KwargsAdd role.Dependency (codes "zlib") ((codes "version", setting.Text (codes "<2")) ∷ []))))
+    × asks (codes "kwargs remove target e link_with l") (here (run (command.KwargsRemove role.Target (codes "e") ((codes "link_with", setting.Text (codes "l")) ∷ []))))
+    × asks (codes "kwargs delete target e install true") (here (run (command.KwargsDelete role.Target (codes "e") (codes "install" ∷ []))))
+    × asks (codes "default-options set cpp_std c++20") (here (run (command.OptionsSet ((codes "cpp_std", codes "c++20") ∷ []))))
+    × asks (codes "default-options delete cpp_std c++20") (here (run (command.OptionsDelete (codes "cpp_std" ∷ []))))
+    × asks (codes "--sourcedir d undo") (there (codes "d") Undo)
+    × asks (codes "redo") (here Redo)
+
+-- what is listed, which scripts are meant, and help
+abbrev pub Other : Type 0
+Other =
+    asks (codes "target e info a.c") (here (Info (command.TargetInfo (codes "e"))))
+    × asks (codes "kwargs info project / version") (here (Info (command.KwargsInfo role.Project (codes "/"))))
+    × asks (codes "command [1]") (here (ScriptText (codes "[1]")))
+    × (asked_by (codes "T" ∷ codes "command" ∷ codes " \t{" ∷ []) ≡ here (ScriptText (codes " \t{")))
+    × asks (codes "command changes.json") (here (ScriptFile (codes "changes.json")))
+    × asks (codes "--help") (Ok help)
+    × asks (codes "target e add --help") (Ok help)
+
+-- what is refused, and by which fault
+abbrev pub Refused : Type 0
+Refused =
+    (asked_by [] ≡ Err Usage)
+    × (asked_by (codes "T" ∷ []) ≡ Err Usage)
+    × asks (codes "target e") (Err Usage)
+    × asks (codes "target e grow") (Err Usage)
+    × asks (codes "kwargs set variable x a 1") (Err Usage)
+    × asks (codes "undo now") (Err Usage)
+    × asks (codes "help") (Err Usage)
+    × asks (codes "-h") (Err Usage)
+    × asks (codes "target e add -x") (Err Usage)
+    × asks (codes "--sourcedir a --sourcedir b undo") (Err Usage)
+    × (asked_by (codes "T" ∷ codes "--sourcedir" ∷ [] ∷ codes "undo" ∷ []) ≡ Err Usage)
+    × asks (codes "undo --sourcedir d") (Err Usage)
+    × asks (codes "kwargs set project / version") (Err OddWords)
+    × asks (codes "default-options set a 1 a 2") (Err RepeatedKey)
+    × asks (codes "kwargs remove_regex target e") (Err Unsupported)
+    × asks (codes "kwargs remove_regex target e a") (Err OddWords)
+    × asks (codes "kwargs grow target e a") (Err Usage)

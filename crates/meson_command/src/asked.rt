@@ -1,0 +1,133 @@
+//! What a command line asks for.
+
+ghost use Rattle.std.specs.Prelude.{◌≡◌, ◌≢◌, Err, IfErr, IfOk, Ok, false, true, map, option_map, string_bytes};
+ghost use Rattle.clap.specs.Words.{Row, Text as Word, found_of, rows_of, subcommand_rows_of, takes};
+ghost use Rattle.meson_command.specs.Actions.{action_of};
+ghost use Rattle.meson_command.specs.Asking.{asked_by, asked_from, asked_of, names_no_folder, without_text};
+ghost use Rattle.meson_command.specs.Program.{program};
+ghost use Rattle.meson_command.specs.declared.fault.UsageFault.TheVariants.{OutOfMemory, Usage};
+
+use crate::fault::UsageFault;
+use crate::kwargs::kwargs_action;
+use crate::options::options_action;
+use crate::program::named_program;
+use crate::script::script_action;
+use crate::target::target_action;
+use crate::words::owned;
+use clap::ArgMatches;
+use clap::error::ErrorKind;
+use meson_json::Script;
+use meson_splice::Text;
+use meson_steps::command::Command;
+use std::alloc::Global;
+
+/// What is to be done.
+#[derive(Drop)]
+pub enum Action {
+    /// Do these commands.
+    Run(Script),
+    /// List what this command tells of, and change nothing.
+    Info(Command),
+    /// Do the commands of this text of JSON.
+    ScriptText(Text),
+    /// Do the commands in the file of this name.
+    ScriptFile(Text),
+    /// Take back the newest change.
+    Undo,
+    /// Do the change again that was taken back last.
+    Redo,
+    /// Print this text.
+    Help(Text),
+}
+
+/// What a command line asks for.
+#[derive(Drop)]
+pub struct Asked {
+    /// The folder of the root file, where one is named.
+    pub dir: Option<Text>,
+    pub action: Action,
+}
+
+/// What the words of a subcommand ask for.
+#[tactic(auto, unfolding(crate::specs::Actions::action_of))]
+fn action_of(
+    alloc: Global,
+    subcommand: &str,
+    matches: &ArgMatches<'_>,
+) -> Result<Action, UsageFault>
+    ensures ok { IfOk result (λ a. action_of subcommand.now (rows_of (found_of matches.now)) ≡ Ok a) }
+    ensures refused { IfErr result (λ e. e ≢ OutOfMemory → action_of subcommand.now (rows_of (found_of matches.now)) ≡ Err e) }
+{
+    if subcommand == "target" {
+        target_action(alloc, matches)
+    } else if subcommand == "kwargs" {
+        kwargs_action(alloc, matches)
+    } else if subcommand == "default-options" {
+        options_action(alloc, matches)
+    } else if subcommand == "command" {
+        Ok(script_action(alloc, matches)?)
+    } else if subcommand == "undo" {
+        Ok(Action::Undo)
+    } else if subcommand == "redo" {
+        Ok(Action::Redo)
+    } else {
+        Err(UsageFault::Usage)
+    }
+}
+
+/// The folder that is named, if any.
+fn folder(alloc: Global, dir: Option<&str>) -> Result<Option<Text>, UsageFault>
+    ensures ok { IfOk result (λ d. (names_no_folder (option_map (λ w. w.now) dir.entry) ≡ false) × (d ≡ option_map (λ w. w.now) dir.entry)) }
+    ensures refused { IfErr result (λ e. e ≢ OutOfMemory → (e ≡ Usage) × (names_no_folder (option_map (λ w. w.now) dir.entry) ≡ true)) }
+{
+    match dir {
+        Some("") => Err(UsageFault::Usage),
+        Some(word) => Ok(Some(owned(alloc, word)?)),
+        None => Ok(None),
+    }
+}
+
+/// What words that clap took ask for.
+#[tactic(auto, unfolding(crate::specs::Asking::asked_from))]
+fn asked_from(alloc: Global, matches: &ArgMatches<'_>) -> Result<Asked, UsageFault>
+    ensures ok { IfOk result (λ a. asked_from (rows_of (found_of matches.now)) (subcommand_rows_of matches.now) ≡ Ok a) }
+    ensures refused { IfErr result (λ e. e ≢ OutOfMemory → asked_from (rows_of (found_of matches.now)) (subcommand_rows_of matches.now) ≡ Err e) }
+{
+    let Some((subcommand, words)) = matches.subcommand() else {
+        return Err(UsageFault::Usage);
+    };
+    let dir = match folder(alloc, matches.get_str("DIR")) {
+        Ok(dir) => dir,
+        Err(fault) => return Err(fault),
+    };
+    match action_of(alloc, subcommand, words) {
+        Ok(action) => Ok(Asked { dir, action }),
+        Err(fault) => Err(fault),
+    }
+}
+
+/// What the words of a command line ask for, of which the first is the program's name. They are those of the Rewriter page of
+/// the Meson manual; `undo`, `redo`, `--subdir` and `--type` are this program's own. Values, ids and names go through as given.
+///
+/// # Errors
+/// In this order: a word is missing, unknown or one too many, or the folder is empty; in words that are names with values, the
+/// last name has no value; a name comes twice; the operation is not done here. And want of memory, at any time.
+pub fn command_of(alloc: Global, words: &[String]) -> Result<Asked, UsageFault>
+    ensures ok { IfOk result (λ a. asked_by (map string_bytes words.now) ≡ Ok (without_text a)) }
+    ensures refused { IfErr result (λ e. e ≢ OutOfMemory → asked_by (map string_bytes words.now) ≡ Err e) }
+    ensures taken { takes program (map string_bytes words.now) ≡ true → IfOk result (λ a. asked_of (map string_bytes words.now) ≡ Ok a) }
+    ensures taken_refused { takes program (map string_bytes words.now) ≡ true → IfErr result (λ e. e ≢ OutOfMemory → asked_of (map string_bytes words.now) ≡ Err e) }
+{
+    let command = named_program(alloc)?;
+    match command.try_get_matches_from(words) {
+        Ok(matches) => asked_from(alloc, &matches),
+        Err(error) => match error.kind() {
+            ErrorKind::OutOfMemory => Err(UsageFault::OutOfMemory),
+            ErrorKind::DisplayHelp => Ok(Asked {
+                dir: None,
+                action: Action::Help(Text::of(error.to_string(alloc)?)),
+            }),
+            _ => Err(UsageFault::Usage),
+        },
+    }
+}

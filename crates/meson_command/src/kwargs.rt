@@ -1,0 +1,93 @@
+//! `kwargs OPERATION FUNCTION ID [KEY VALUE]...`.
+
+ghost use Rattle.std.specs.Prelude.{◌≡◌, ◌≢◌, Err, IfErr, IfOk, Ok, codes};
+ghost use Rattle.clap.specs.Words.{found_of, rows_of};
+ghost use Rattle.meson_command.specs.Actions.{kwargs_action, kwargs_by, settings, words_at};
+ghost use Rattle.meson_command.specs.declared.fault.UsageFault.TheVariants.{OutOfMemory};
+
+use crate::asked::Action;
+use crate::fault::UsageFault;
+use crate::operations::{KwargsOperation, find_kwargs_operation, find_role};
+use crate::pairs::{names, pairs_at};
+use crate::words::{owned, run, word_or};
+use clap::ArgMatches;
+use meson_calls::Role;
+use meson_splice::{Many, Text};
+use meson_steps::command::{Command, Setting};
+use std::alloc::{AllocError, Global};
+
+/// Each name with its value as that of a keyword argument.
+fn settings(alloc: Global, pairs: Vec<(Text, Text)>) -> Result<Many<(Text, Setting)>, AllocError>
+    ensures { IfOk result (λ ss. ss ≡ settings pairs.items) }
+{
+    let mut all = Vec::new(alloc);
+    for (name, value) in pairs {
+        all.push((name, Setting::Text(value)))?;
+    }
+    Ok(Many::of(all))
+}
+
+/// What the operation makes of the words; `info` looks at no pairs.
+#[tactic(auto, unfolding(crate::specs::Actions::kwargs_by))]
+fn kwargs_by(
+    alloc: Global,
+    operation: KwargsOperation,
+    role: Role,
+    id: Text,
+    matches: &ArgMatches<'_>,
+) -> Result<Action, UsageFault>
+    ensures ok { IfOk result (λ a. kwargs_by operation role id (words_at (codes "KEY VALUE") (rows_of (found_of matches.now))) ≡ Ok a) }
+    ensures refused { IfErr result (λ e. e ≢ OutOfMemory → kwargs_by operation role id (words_at (codes "KEY VALUE") (rows_of (found_of matches.now))) ≡ Err e) }
+{
+    if let KwargsOperation::Info = operation {
+        return Ok(Action::Info(Command::KwargsInfo { role, id }));
+    }
+    let pairs = match pairs_at(alloc, matches, "KEY VALUE") {
+        Ok(pairs) => pairs,
+        Err(fault) => return Err(fault),
+    };
+    let command = match operation {
+        KwargsOperation::Set => Command::KwargsSet {
+            role,
+            id,
+            pairs: settings(alloc, pairs)?,
+        },
+        KwargsOperation::Delete => Command::KwargsDelete {
+            role,
+            id,
+            keys: names(alloc, pairs)?,
+        },
+        KwargsOperation::Add => Command::KwargsAdd {
+            role,
+            id,
+            pairs: settings(alloc, pairs)?,
+        },
+        KwargsOperation::Remove => Command::KwargsRemove {
+            role,
+            id,
+            pairs: settings(alloc, pairs)?,
+        },
+        KwargsOperation::RemoveRegex => return Err(UsageFault::Unsupported),
+        KwargsOperation::Info => Command::KwargsInfo { role, id },
+    };
+    run(alloc, command)
+}
+
+/// What the words of `kwargs` ask for.
+///
+/// # Errors
+/// The operation or the function is unknown; the last key has no value; a key is repeated; the operation is not done here.
+#[tactic(auto, unfolding(crate::specs::Actions::kwargs_action))]
+pub(crate) fn kwargs_action(alloc: Global, matches: &ArgMatches<'_>) -> Result<Action, UsageFault>
+    ensures ok { IfOk result (λ a. kwargs_action (rows_of (found_of matches.now)) ≡ Ok a) }
+    ensures refused { IfErr result (λ e. e ≢ OutOfMemory → kwargs_action (rows_of (found_of matches.now)) ≡ Err e) }
+{
+    let Some(operation) = find_kwargs_operation(word_or(matches, "OPERATION", "")) else {
+        return Err(UsageFault::Usage);
+    };
+    let Some(role) = find_role(word_or(matches, "FUNCTION", "")) else {
+        return Err(UsageFault::Usage);
+    };
+    let id = owned(alloc, word_or(matches, "ID", ""))?;
+    kwargs_by(alloc, operation, role, id, matches)
+}

@@ -1,0 +1,18 @@
+//! The command line: which words the program takes, and what they ask for.
+#![tactic(auto)]
+
+mod asked;
+mod fault;
+mod help;
+mod kwargs;
+pub mod laws;
+mod operations;
+mod options;
+mod pairs;
+mod program;
+mod script;
+mod target;
+mod words;
+
+pub use asked::{Action, Asked, command_of};
+pub use fault::UsageFault;

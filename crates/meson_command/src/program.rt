@@ -1,0 +1,178 @@
+//! The words that the program takes, as clap is told of them.
+
+ghost use Rattle.std.specs.Prelude.{◌≡◌, IfOk, false};
+ghost use Rattle.clap.specs.Words.{app_of, new_app, rule_of, with_rule};
+ghost use Rattle.clap.specs.declared.builder.command.Command.TheViews.{out-Command};
+ghost use Rattle.meson_command.specs.Program.{IsTold, command, default_options, help, kwargs, many, one, option, program, redo, target, undo};
+
+use crate::help;
+use clap::{Arg, ArgAction, Command};
+use std::alloc::{AllocError, Global};
+
+/// A command, with what help says of it and below its words.
+fn described<'h>(alloc: Global, name: &'h str, about: &'h str, below: &'h str) -> Command<'h>
+    ensures { IsTold (new_app name.entry.now) result }
+{
+    Command::new(alloc, name).about(about).after_help(below)
+}
+
+fn with_arg<'h>(command: Command<'h>, arg: Arg<'h>) -> Result<Command<'h>, AllocError>
+    requires command { (out-Command command).has_globals ≡ false }
+    requires arg { arg.global ≡ false }
+    ensures { IfOk result (IsTold (with_rule (app_of command.entry) (rule_of arg.entry))) }
+{
+    command.arg(arg)
+}
+
+/// With a word that has to be there.
+fn with_one<'h>(
+    alloc: Global,
+    command: Command<'h>,
+    name: &'h str,
+    about: &'h str,
+) -> Result<Command<'h>, AllocError>
+    requires { (out-Command command).has_globals ≡ false }
+    ensures { IfOk result (IsTold (with_rule (app_of command.entry) (one name.entry.now))) }
+{
+    let arg = Arg::new(alloc, name).required(true).action(ArgAction::Set);
+    with_arg(command, arg.help(about))
+}
+
+/// With any number of words.
+fn with_many<'h>(
+    alloc: Global,
+    command: Command<'h>,
+    name: &'h str,
+    about: &'h str,
+) -> Result<Command<'h>, AllocError>
+    requires { (out-Command command).has_globals ≡ false }
+    ensures { IfOk result (IsTold (with_rule (app_of command.entry) (many name.entry.now))) }
+{
+    let arg = Arg::new(alloc, name).action(ArgAction::Append).help(about);
+    with_arg(command, arg)
+}
+
+/// With an option that has one value.
+fn with_option<'h>(
+    alloc: Global,
+    command: Command<'h>,
+    name: &'h str,
+    long: &'h str,
+    about: &'h str,
+) -> Result<Command<'h>, AllocError>
+    requires { (out-Command command).has_globals ≡ false }
+    ensures { IfOk result (IsTold (with_rule (app_of command.entry) (option name.entry.now long.entry.now))) }
+{
+    let arg = Arg::new(alloc, name).long(long).action(ArgAction::Set);
+    with_arg(command, arg.help(about))
+}
+
+/// With `--help`.
+fn with_help<'h>(alloc: Global, command: Command<'h>) -> Result<Command<'h>, AllocError>
+    requires { (out-Command command).has_globals ≡ false }
+    ensures { IfOk result (IsTold (with_rule (app_of command.entry) help)) }
+{
+    let arg = Arg::new(alloc, "help").long("help").action(ArgAction::Help);
+    with_arg(command, arg.help("Print this"))
+}
+
+#[tactic(auto, unfolding(crate::specs::Program::target))]
+fn target<'h>(alloc: Global) -> Result<Command<'h>, AllocError>
+    ensures { IfOk result (IsTold target) }
+{
+    let command = described(alloc, "target", help::TARGET, help::BELOW_TARGET);
+    let command = with_one(alloc, command, "ID", "Name of the target, or its variable")?;
+    let command = with_one(alloc, command, "OPERATION", "What is done, see below")?;
+    let command = with_many(alloc, command, "SOURCE", "Names of sources or extra files")?;
+    let command = with_option(alloc, command, "SUBDIR", "subdir", help::SUBDIR)?;
+    let command = with_option(alloc, command, "KIND", "type", help::KIND)?;
+    with_help(alloc, command)
+}
+
+#[tactic(auto, unfolding(crate::specs::Program::kwargs))]
+fn kwargs<'h>(alloc: Global) -> Result<Command<'h>, AllocError>
+    ensures { IfOk result (IsTold kwargs) }
+{
+    let command = described(alloc, "kwargs", help::KWARGS, help::BELOW_KWARGS);
+    let command = with_one(alloc, command, "OPERATION", "What is done, see below")?;
+    let command = with_one(
+        alloc,
+        command,
+        "FUNCTION",
+        "One of project, target, dependency",
+    )?;
+    let command = with_one(
+        alloc,
+        command,
+        "ID",
+        "Name of the target or dependency, or /",
+    )?;
+    let command = with_many(alloc, command, "KEY VALUE", "Keys, each with its value")?;
+    with_help(alloc, command)
+}
+
+#[tactic(auto, unfolding(crate::specs::Program::default_options))]
+fn default_options<'h>(alloc: Global) -> Result<Command<'h>, AllocError>
+    ensures { IfOk result (IsTold default_options) }
+{
+    let command = described(alloc, "default-options", help::OPTIONS, help::BELOW_OPTIONS);
+    let command = with_one(alloc, command, "OPERATION", "What is done, see below")?;
+    let command = with_many(
+        alloc,
+        command,
+        "OPTION VALUE",
+        "Options, each with its value",
+    )?;
+    with_help(alloc, command)
+}
+
+#[tactic(auto, unfolding(crate::specs::Program::command))]
+fn command<'h>(alloc: Global) -> Result<Command<'h>, AllocError>
+    ensures { IfOk result (IsTold command) }
+{
+    let command = described(alloc, "command", help::COMMAND, help::BELOW_COMMAND);
+    let command = with_one(alloc, command, "JSON", "Script, or name of its file")?;
+    with_help(alloc, command)
+}
+
+#[tactic(auto, unfolding(crate::specs::Program::undo))]
+fn undo<'h>(alloc: Global) -> Result<Command<'h>, AllocError>
+    ensures { IfOk result (IsTold undo) }
+{
+    let command = described(alloc, "undo", help::UNDO, help::BELOW_UNDO);
+    with_help(alloc, command)
+}
+
+#[tactic(auto, unfolding(crate::specs::Program::redo))]
+fn redo<'h>(alloc: Global) -> Result<Command<'h>, AllocError>
+    ensures { IfOk result (IsTold redo) }
+{
+    let command = described(alloc, "redo", help::REDO, help::BELOW_REDO);
+    with_help(alloc, command)
+}
+
+/// The program's command line.
+#[tactic(auto, unfolding(crate::specs::Program::program))]
+fn program<'h>(alloc: Global) -> Result<Command<'h>, AllocError>
+    ensures { IfOk result (λ c. app_of c ≡ program) }
+{
+    let program = described(alloc, "meson_rewrite", help::PROGRAM, help::BELOW_PROGRAM)
+        .subcommand_required(true)
+        .disable_help_flag(true)
+        .disable_help_subcommand(true);
+    let program = with_option(alloc, program, "DIR", "sourcedir", help::DIR)?;
+    with_help(alloc, program)?
+        .subcommand(target(alloc)?)?
+        .subcommand(kwargs(alloc)?)?
+        .subcommand(default_options(alloc)?)?
+        .subcommand(command(alloc)?)?
+        .subcommand(undo(alloc)?)?
+        .subcommand(redo(alloc)?)
+}
+
+/// The same, by its own name in help, whatever it was called by.
+pub(crate) fn named_program<'h>(alloc: Global) -> Result<Command<'h>, AllocError>
+    ensures { IfOk result (λ c. app_of c ≡ program) }
+{
+    program(alloc)?.bin_name("meson_rewrite")
+}

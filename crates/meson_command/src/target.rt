@@ -1,0 +1,84 @@
+//! `target ID OPERATION [SOURCE]... [--subdir SUBDIR] [--type KIND]`.
+
+ghost use Rattle.std.specs.Prelude.{◌≡◌, ◌≢◌, Err, IfErr, IfOk, Ok};
+ghost use Rattle.clap.specs.Words.{found_of, rows_of};
+ghost use Rattle.meson_command.specs.Actions.{target_action, target_by, target_words};
+ghost use Rattle.meson_command.specs.declared.fault.UsageFault.TheVariants.{OutOfMemory};
+
+use crate::asked::Action;
+use crate::fault::UsageFault;
+use crate::operations::{TargetOperation, find_target_operation};
+use crate::words::{owned, run, word_or, words_at};
+use clap::ArgMatches;
+use meson_splice::{Many, Text};
+use meson_steps::command::Command;
+use std::alloc::{AllocError, Global};
+
+/// The words behind the operation.
+#[derive(Drop)]
+struct TargetWords {
+    target: Text,
+    sources: Many<Text>,
+    subdir: Text,
+    target_kind: Text,
+}
+
+fn target_words(alloc: Global, matches: &ArgMatches<'_>) -> Result<TargetWords, AllocError>
+    ensures { IfOk result (λ w. w ≡ target_words (rows_of (found_of matches.now))) }
+{
+    Ok(TargetWords {
+        target: owned(alloc, word_or(matches, "ID", ""))?,
+        sources: words_at(alloc, matches, "SOURCE")?,
+        subdir: owned(alloc, word_or(matches, "SUBDIR", ""))?,
+        target_kind: owned(alloc, word_or(matches, "KIND", "executable"))?,
+    })
+}
+
+/// What the operation makes of the words; `rm_target` and `info` look at the target alone.
+fn target_by(
+    alloc: Global,
+    operation: TargetOperation,
+    words: TargetWords,
+) -> Result<Action, UsageFault>
+    ensures ok { IfOk result (λ a. a ≡ target_by operation words) }
+    ensures refused { IfErr result (λ e. e ≡ OutOfMemory) }
+{
+    let TargetWords {
+        target,
+        sources,
+        subdir,
+        target_kind,
+    } = words;
+    match operation {
+        TargetOperation::SourcesAdd => run(alloc, Command::SourcesAdd { target, sources }),
+        TargetOperation::SourcesRemove => run(alloc, Command::SourcesRemove { target, sources }),
+        TargetOperation::TargetAdd => run(
+            alloc,
+            Command::TargetAdd {
+                target,
+                target_kind,
+                subdir,
+                sources,
+            },
+        ),
+        TargetOperation::TargetRemove => run(alloc, Command::TargetRemove { target }),
+        TargetOperation::ExtraAdd => run(alloc, Command::ExtraAdd { target, sources }),
+        TargetOperation::ExtraRemove => run(alloc, Command::ExtraRemove { target, sources }),
+        TargetOperation::Info => Ok(Action::Info(Command::TargetInfo { target })),
+    }
+}
+
+/// What the words of `target` ask for.
+///
+/// # Errors
+/// The operation is unknown.
+#[tactic(auto, unfolding(crate::specs::Actions::target_action))]
+pub(crate) fn target_action(alloc: Global, matches: &ArgMatches<'_>) -> Result<Action, UsageFault>
+    ensures ok { IfOk result (λ a. target_action (rows_of (found_of matches.now)) ≡ Ok a) }
+    ensures refused { IfErr result (λ e. e ≢ OutOfMemory → target_action (rows_of (found_of matches.now)) ≡ Err e) }
+{
+    let Some(operation) = find_target_operation(word_or(matches, "OPERATION", "")) else {
+        return Err(UsageFault::Usage);
+    };
+    target_by(alloc, operation, target_words(alloc, matches)?)
+}
