@@ -1,0 +1,37 @@
+-- What a call of a store did, by its answer.
+use Rattle.std.specs.Prelude.{◌≡◌, ℕ, suc, zero, ◌+◌, ◌-◌, ◌^◌, min, ◌⊎◌, List, Option, Result, Ok, Err}
+use Rattle.meson_store.specs.Content.{Content, replaced, Rose}
+use Rattle.meson_store.specs.declared.store.StoreError.{StoreError}
+use Rattle.meson_store.specs.declared.store.StoreError.TheVariants as error
+
+-- one more; a count stops at `u64::MAX`
+abbrev pub one_more : ℕ → ℕ
+one_more n = min (n + 1) (2 ^ 64 - 1)
+
+-- so many more
+abbrev pub counted : ℕ → ℕ → ℕ
+counted zero n = n
+counted (suc k) n = one_more (counted k n)
+
+-- a failure of the device was counted
+abbrev pub FailureCounted : StoreError → ℕ → ℕ → Type 0
+FailureCounted error.Device old new = Rose old new
+FailureCounted error.Unchanged old new = Rose old new
+FailureCounted error.OutOfMemory old new = Unit {0}
+
+-- what the store holds after a replace failed
+abbrev pub Leaves : StoreError → List ℕ → List ℕ → Option Content → Option Content → Type 0
+Leaves error.Device name bytes before after = (after ≡ before) ⊎ (after ≡ replaced before name bytes)
+Leaves error.Unchanged name bytes before after = after ≡ before
+Leaves error.OutOfMemory name bytes before after = after ≡ before
+
+-- how many files a replace that failed may have changed
+abbrev pub changes : StoreError → ℕ
+changes error.Device = 1
+changes error.Unchanged = 0
+changes error.OutOfMemory = 0
+
+-- the count of the replaces that may have changed their file, after one more call
+abbrev pub replaces_after : Result (Unit {0}) StoreError → ℕ → ℕ
+replaces_after (Ok done) n = one_more n
+replaces_after (Err why) n = counted (changes why) n

@@ -1,0 +1,17 @@
+-- What a store holds: a finite map from names to bytes, both as lists of bytes.
+use Rattle.std.specs.Prelude.{◌≡◌, ℕ, ◌<◌, ◌^◌, ◌-◌, ◌⊎◌, List, Option}
+use Rattle.std.specs.Ordering.{nat_cmp}
+use Rattle.std.specs.Cmp.Lexicographic.{slice_cmp}
+use Rattle.std.specs.FinMap.{FinMap, insert}
+use Rattle.std.specs.Option.{option_map}
+
+abbrev pub Content : Type 0
+Content = FinMap (slice_cmp nat_cmp) (List ℕ)
+
+-- the content after the file of that name got these bytes; a store that tells none tells none afterwards
+abbrev pub replaced : Option Content → List ℕ → List ℕ → Option Content
+replaced content name bytes = option_map (λ files. insert files name bytes) content
+
+-- a failure of the device was counted, unless the count had come to its end
+abbrev pub Rose : ℕ → ℕ → Type 0
+Rose old new = (old < new) ⊎ (old ≡ 2 ^ 64 - 1)

@@ -1,0 +1,6 @@
+pub mod Content
+pub mod Calls
+pub mod Commit
+pub mod Planned
+pub mod MemoryStore
+pub mod Output

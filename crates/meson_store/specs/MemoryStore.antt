@@ -1,0 +1,92 @@
+-- What a store in memory is seen as: its files, and which of its calls fail.
+use Rattle.std.specs.Prelude.{ℕ, ◌-◌, Bool, false, ◌&&◌, nat_le, nat_lt, if◌then◌else◌, refl, List}
+use Rattle.std.specs.Coded.{Coded, code_by, coded×, coded_ℕ, coded_list, coded_bool}
+use Rattle.std.specs.FinMap.{code, insert, empty}
+use Rattle.meson_store.specs.Calls.{one_more}
+use Rattle.meson_store.specs.Content.{Content}
+
+-- calls of one kind, counted from 1: `made` were made, and the `count` calls from call `first` on fail
+pub record Calls : Type 0 where
+  pub made : ℕ
+  pub first : ℕ
+  pub count : ℕ
+
+pub record Held : Type 0 where
+  pub files : Content
+  pub failures : ℕ
+  pub reads : Calls
+  pub replaces : Calls
+  -- the next failing `replace` leaves its new bytes
+  pub leaves_new : Bool
+  -- how many replaces may have changed their file
+  pub changes : ℕ
+
+abbrev calls_code : Coded Calls
+calls_code = code_by (ℕ × (ℕ × ℕ)) (coded× coded_ℕ (coded× coded_ℕ coded_ℕ))
+    (λ c. (c.made, (c.first, c.count))) (λ p. record { made = p.0; first = p.1.0; count = p.1.1 }) (λ _. refl)
+
+abbrev plans_code : Coded (Calls × (Calls × Bool))
+plans_code = coded× calls_code (coded× calls_code coded_bool)
+
+abbrev pub held_code : Coded Held
+held_code = code_by ((Content × (ℕ × ℕ)) × (Calls × (Calls × Bool)))
+    (coded× (coded× (code (coded_list coded_ℕ) (coded_list coded_ℕ)) (coded× coded_ℕ coded_ℕ)) plans_code)
+    (λ h. ((h.files, (h.failures, h.changes)), (h.reads, (h.replaces, h.leaves_new))))
+    (λ p. record {
+      files = p.0.0;
+      failures = p.0.1.0;
+      reads = p.1.0;
+      replaces = p.1.1.0;
+      leaves_new = p.1.1.1;
+      changes = p.0.1.1;
+    })
+    (λ _. refl)
+
+abbrev pub counted : Calls → Calls
+counted c = record c { made = one_more c.made }
+
+-- the call of that number is one of the `count` calls from call `first` on
+abbrev pub is_planned : ℕ → ℕ → ℕ → Bool
+is_planned first count call = nat_le first call && nat_lt (call - first) count
+
+-- the next call fails
+abbrev pub is_due : Calls → Bool
+is_due c = is_planned c.first c.count (one_more c.made)
+
+abbrev pub planned : Calls → ℕ → ℕ → Calls
+planned c first count = record c { first = first; count = count }
+
+-- a failing call was counted as a failure
+abbrev pub failures_after : Calls → ℕ → ℕ
+failures_after c failures = if is_due c then one_more failures else failures
+
+-- a new store
+abbrev pub no_files : Held
+no_files = record {
+  files = empty;
+  failures = 0;
+  reads = record { made = 0; first = 1; count = 0 };
+  replaces = record { made = 0; first = 1; count = 0 };
+  leaves_new = false;
+  changes = 0;
+}
+
+-- after a `read`, whatever it answers
+abbrev pub after_read : Held → Held
+after_read h = record h { reads = counted h.reads; failures = failures_after h.reads h.failures }
+
+-- after a `replace` that left every file as it was
+abbrev pub after_replace : Held → Held
+after_replace h = record h {
+  replaces = counted h.replaces;
+  failures = failures_after h.replaces h.failures;
+  leaves_new = if is_due h.replaces then false else h.leaves_new;
+}
+
+-- the same, after a `replace` that may have changed its file
+abbrev pub after_change : Held → Held
+after_change h = record (after_replace h) { changes = one_more h.changes }
+
+-- where the file of that name has these bytes
+abbrev pub with_file : Held → List ℕ → List ℕ → Held
+with_file h name bytes = record h { files = insert h.files name bytes }

@@ -1,0 +1,7 @@
+-- What a planned replace stands for.
+use Rattle.std.specs.Prelude.{string_bytes}
+use Rattle.meson_store.specs.Commit.{Put}
+use Rattle.meson_store.specs.declared.committing.Planned.{Planned}
+
+abbrev pub put_of : Planned → Put
+put_of p = record { path = string_bytes p.path; name = p.name.now; bytes = p.bytes.now }

@@ -1,0 +1,16 @@
+//! Stores of named files and writers that count their failures; and the commit of a project's files to a store.
+#![tactic(auto)]
+
+mod committing;
+mod folder;
+mod memory;
+mod output;
+mod store;
+mod store_fault;
+
+pub use committing::{commit, path_in};
+pub use folder::Folder;
+pub use memory::Memory;
+pub use output::{Counted, Output};
+pub use store::{Store, StoreError};
+pub use store_fault::StoreFault;
