@@ -1,20 +1,21 @@
 //! The files that a file enters.
 
 ghost use Rattle.std.specs.Prelude.{◌≡◌, IfErr, IfOk, map, option_map, string_bytes};
-ghost use Rattle.meson_syntax.specs.Reads.{IsUnreadable, MayRefuse, Refuses};
+ghost use Rattle.meson_syntax.specs.Reads.{IsSpanned, IsUnreadable, MayRefuse, Refuses};
+ghost use Rattle.meson_syntax.specs.View.{view};
 ghost use Rattle.meson_syntax.specs.declared.fault.ParseFault.{ParseFault};
 ghost use Rattle.meson_calls.specs.Directories.{IsFileName, folder_of, file_in};
 ghost use Rattle.meson_calls.specs.Notes.{note_view, note_views};
 ghost use Rattle.meson_calls.specs.Picking.{note_enters, entered_names};
 ghost use Rattle.meson_calls.specs.Strings.{AreGood, NotesGood, note_words};
-ghost use Rattle.meson_calls.specs.Subdirs.{Enters};
+ghost use Rattle.meson_calls.specs.Subdirs.{Enters, subdirs};
 
 use crate::folders::is_plain_folder;
 use crate::literals::first_literal;
 use crate::note::{Note, What};
 use crate::notes::note_file;
 use crate::roles::text_of;
-use meson_syntax::{ParseFault, parse};
+use meson_syntax::{ParseFault, Parsed, parse};
 use std::alloc::{AllocError, Global};
 
 /// The folder of a build file, with the slash behind it.
@@ -90,6 +91,26 @@ fn all_entered(alloc: Global, name: &str, notes: &[Note<'_>]) -> Result<Vec<Stri
     Ok(names)
 }
 
+/// The names of the files that the `subdir` calls of a tree with a plain literal mean, in order.
+///
+/// # Errors
+/// Memory is refused.
+pub fn entered_by(
+    alloc: Global,
+    name: &str,
+    bytes: &[u8],
+    tree: &Parsed,
+) -> Result<Vec<String>, AllocError>
+    requires file { IsFileName name.now }
+    requires reads { IsSpanned bytes.now (view bytes.now tree.now) }
+    ensures { IfOk result (λ names. map string_bytes names.items ≡ subdirs name.now (view bytes.now tree.now)) }
+{
+    let mut notes = Vec::new(alloc);
+    note_file(alloc, 0, bytes, tree, &mut notes)?;
+    let names = all_entered(alloc, name, notes.as_slice())?;
+    Ok(names)
+}
+
 /// The names of the files that the `subdir` calls with a plain literal mean, in order.
 ///
 /// # Errors
@@ -104,12 +125,7 @@ pub fn subdirs(alloc: Global, name: &str, bytes: &[u8]) -> Result<Vec<String>, P
         Ok(tree) => tree,
         Err(fault) => return Err(fault),
     };
-    let mut notes = Vec::new(alloc);
-    match note_file(alloc, 0, bytes, &tree, &mut notes) {
-        Ok(()) => {}
-        Err(_) => return Err(ParseFault::OutOfMemory),
-    }
-    match all_entered(alloc, name, notes.as_slice()) {
+    match entered_by(alloc, name, bytes, &tree) {
         Ok(names) => Ok(names),
         Err(_) => Err(ParseFault::OutOfMemory),
     }

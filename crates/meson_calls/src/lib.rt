@@ -29,7 +29,7 @@ pub mod walk;
 pub mod walk_statements;
 
 pub use call::{CallRef, Role, SourceItem, Sources};
-pub use entering::subdirs;
+pub use entering::{entered_by, subdirs};
 pub use load_fault::{LoadFault, Unloaded};
 pub use loading::MAX_FILES;
 pub use refusal::Refusal;

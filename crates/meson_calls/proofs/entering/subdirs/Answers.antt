@@ -1,24 +1,5 @@
-use Rattle.std.proofs.Common.{◌++◌, ◌∙◌, sym, ap, subst}
 use Rattle.meson_syntax.specs.View.{view}
-use Rattle.meson_calls.specs.Parts.{file_parts}
-use Rattle.meson_calls.specs.Notes.{noted, note_views}
-use Rattle.meson_calls.specs.Picking.{entered_names}
-use Rattle.meson_calls.specs.Strings.{NotesGood}
-use Rattle.meson_calls.proofs.Entered.{entered_subdirs}
-use Rattle.meson_calls.proofs.GoodNotes.{tree_good}
 use Rattle.meson_calls.proofs.entering.subdirs.Goals as goal
 
-pub all_entered-requires-clause-good : goal.all_entered-requires-clause-good
-all_entered-requires-clause-good c =
-    let bytes = c.args.bytes.now in
-    let tree = c.in-Ok.tree in
-    let noted = ap note_views c.as_slice.ensures.value ∙ c.in-Ok-note_file.ensures ∙ ap (λ ns. note_views ns ++ noted (file_parts 0 (view bytes tree))) c.new-notes.ensures.items in
-    subst NotesGood (sym noted) (tree_good bytes tree c.in-Ok.ensures.reads)
-
-pub returns-in-Ok-all_entered-clause-all : goal.returns-in-Ok-all_entered-clause-all
-returns-in-Ok-all_entered-clause-all c =
-    let name = c.args.name.now in
-    let bytes = c.args.bytes.now in
-    let tree = c.in-Ok.tree in
-    let noted = ap note_views c.as_slice.ensures.value ∙ c.in-Ok-note_file.ensures ∙ ap (λ ns. note_views ns ++ noted (file_parts 0 (view bytes tree))) c.new-notes.ensures.items in
-    (view bytes tree, c.in-Ok.ensures.reads, c.in-Ok-all_entered.ensures ∙ ap (entered_names name) noted ∙ entered_subdirs name (view bytes tree))
+pub returns-in-Ok-entered_by-clause-all : goal.returns-in-Ok-entered_by-clause-all
+returns-in-Ok-entered_by-clause-all c = (view c.args.bytes.now c.in-Ok.tree, c.in-Ok.ensures.reads, c.in-Ok-entered_by.ensures)

@@ -1,0 +1,125 @@
+-- The files that a build file enters have names of build files.
+use Rattle.std.proofs.Common.{◌≡◌, ℕ, List, [], ◌∷◌, ◌++◌, refl, sym, ap, ◌∙◌, subst, inl, inr}
+use Rattle.std.specs.Prelude.{Bool, true, false, not, ◌&&◌, ◌||◌, ◌==◌, if◌then◌else◌, Option, Some, None, ⊤, option_and_then, codes, All}
+use Rattle.std.specs.List.{filter_map, cons_option, list_any}
+use Rattle.std.proofs.lemmas.Bool.Decides.{eqb_tells}
+use Rattle.std.proofs.lemmas.List.{append_assoc}
+use Rattle.std.proofs.lemmas.List.Elements.{All-cons, All-nil}
+use Rattle.std.proofs.lemmas.List.Folds.{list_any-append}
+use Rattle.meson_lex.specs.declared.kinds.Span.{Span}
+use Rattle.meson_calls.specs.Project.{Placed}
+use Rattle.meson_calls.specs.Calls.{Call, calls, first_literal}
+use Rattle.meson_calls.specs.Directories.{parts_after, slash_parts, is_control, goes_nowhere, is_plain_folder, in_folder, IsFileName, folder_parts, folder_of, file_in}
+use Rattle.meson_calls.specs.Variables.{calls_function}
+use Rattle.meson_calls.specs.Subdirs.{entered, Enters}
+
+-- ---- the parts of a folder in a folder
+
+parts_join : (read cs more : List ℕ) → parts_after read (cs ++ (47 ∷ more)) ≡ parts_after read cs ++ parts_after [] more
+parts_join read [] more = refl
+parts_join read (c ∷ cs) more = go (c == 47) (parts_join [] cs more) (parts_join (read ++ c ∷ []) cs more)
+  where
+    go : (b : Bool) → parts_after [] (cs ++ (47 ∷ more)) ≡ parts_after [] cs ++ parts_after [] more →
+        parts_after (read ++ c ∷ []) (cs ++ (47 ∷ more)) ≡ parts_after (read ++ c ∷ []) cs ++ parts_after [] more →
+        (if b then read ∷ parts_after [] (cs ++ (47 ∷ more)) else parts_after (read ++ c ∷ []) (cs ++ (47 ∷ more)))
+        ≡ (if b then read ∷ parts_after [] cs else parts_after (read ++ c ∷ []) cs) ++ parts_after [] more
+    go true h k = ap (λ ps. read ∷ ps) h
+    go false h k = k
+
+neither : (a b c d : Bool) → (not a && not c) ≡ true → (not b && not d) ≡ true → (not (a || b) && not (c || d)) ≡ true
+neither true b c d h k = cc
+neither false true c d h k = cc
+neither false false true d h k = cc
+neither false false false true h k = cc
+neither false false false false h k = refl
+
+plain_join : (outer inner : List ℕ) → is_plain_folder outer ≡ true → is_plain_folder inner ≡ true → is_plain_folder (outer ++ (47 ∷ inner)) ≡ true
+plain_join outer inner h k =
+    ap (λ b. not b && not (list_any goes_nowhere (slash_parts (outer ++ (47 ∷ inner))))) (list_any-append is_control outer (47 ∷ inner))
+    ∙ ap (λ ps. not (list_any is_control outer || list_any is_control inner) && not (list_any goes_nowhere ps)) (parts_join [] outer inner)
+    ∙ ap (λ b. not (list_any is_control outer || list_any is_control inner) && not b) (list_any-append goes_nowhere (slash_parts outer) (slash_parts inner))
+    ∙ neither (list_any is_control outer) (list_any is_control inner) (list_any goes_nowhere (slash_parts outer)) (list_any goes_nowhere (slash_parts inner)) h k
+
+-- ---- the folder of a name in a folder
+
+-- the parts, each with the slash behind it
+slashed : List (List ℕ) → List ℕ
+slashed [] = []
+slashed (x ∷ xs) = x ++ (47 ∷ slashed xs)
+
+but_last : (xs : List (List ℕ)) (y : List ℕ) → folder_parts (xs ++ y ∷ []) ≡ slashed xs
+unfolding slashed
+but_last [] y = refl
+but_last (x ∷ []) y = refl
+but_last (x ∷ z ∷ xs) y = ap (λ t. x ++ (47 ∷ t)) (but_last (z ∷ xs) y)
+
+module _ (read cs : List ℕ) (c : ℕ) where
+  at_slash : c ≡ 47 → (c == 47) ≡ true → slashed (parts_after [] cs) ≡ cs ++ 47 ∷ [] → slashed (parts_after read (c ∷ cs)) ≡ read ++ (c ∷ (cs ++ 47 ∷ []))
+  unfolding slashed
+  at_slash is test more =
+      ap (λ b. slashed (if b then read ∷ parts_after [] cs else parts_after (read ++ c ∷ []) cs)) test
+      ∙ ap (λ t. read ++ (47 ∷ t)) more
+      ∙ ap (λ k. read ++ (k ∷ (cs ++ 47 ∷ []))) (sym is)
+
+  at_other : (c == 47) ≡ false → slashed (parts_after (read ++ c ∷ []) cs) ≡ (read ++ c ∷ []) ++ (cs ++ 47 ∷ []) → slashed (parts_after read (c ∷ cs)) ≡ read ++ (c ∷ (cs ++ 47 ∷ []))
+  at_other test more = ap (λ b. slashed (if b then read ∷ parts_after [] cs else parts_after (read ++ c ∷ []) cs)) test ∙ more ∙ append_assoc read (c ∷ []) (cs ++ 47 ∷ [])
+
+slashed_parts : (read cs : List ℕ) → slashed (parts_after read cs) ≡ read ++ (cs ++ 47 ∷ [])
+unfolding slashed
+slashed_parts read [] = refl
+slashed_parts read (c ∷ cs) =
+    elim (eqb_tells c 47) [
+      | inl is ↦ at_slash read cs c is.1 is.0 (slashed_parts [] cs)
+      | inr other ↦ at_other read cs c other.0 (slashed_parts (read ++ c ∷ []) cs)
+    ]
+
+folder_in : (folder : List ℕ) → folder_of (in_folder folder) ≡ folder ++ 47 ∷ []
+folder_in folder = ap folder_parts (parts_join [] folder (codes "meson.build")) ∙ but_last (slash_parts folder) (codes "meson.build") ∙ slashed_parts [] folder
+
+-- ---- the names that a file enters
+
+module _ (name : List ℕ) (is_name : IsFileName name) where
+  below : (folder : List ℕ) → is_plain_folder folder ≡ true → IsFileName name → IsFileName (folder_of name ++ in_folder folder)
+  below folder plain (inl e) = inr (folder, ap (λ n. folder_of n ++ in_folder folder) e, plain)
+  below folder plain (inr (outer, e, so)) =
+      inr (
+        outer ++ (47 ∷ folder),
+        ap (λ n. folder_of n ++ in_folder folder) e
+            ∙ ap (λ t. t ++ in_folder folder) (folder_in outer)
+            ∙ append_assoc outer (47 ∷ []) (in_folder folder)
+            ∙ sym (append_assoc outer (47 ∷ folder) (codes "/meson.build")),
+        plain_join outer folder so plain,
+      )
+
+  IsNamed : Option (List ℕ) → Type 0
+  IsNamed None = ⊤
+  IsNamed (Some n) = IsFileName n
+
+  file_named : (folder : List ℕ) → IsNamed (file_in name folder)
+  unfolding IsNamed
+  file_named folder = go (is_plain_folder folder) refl
+    where
+      go : (b : Bool) → is_plain_folder folder ≡ b → IsNamed (if b then Some (folder_of name ++ in_folder folder) else None)
+      go true plain = below folder plain is_name
+      go false plain = tt
+
+  call_named : (c : Call Span) → IsNamed (entered name c)
+  unfolding IsNamed
+  call_named c = go (calls_function (codes "subdir") c) (first_literal c)
+    where
+      go : (b : Bool) (o : Option (List ℕ)) → IsNamed (if b then option_and_then (file_in name) o else None)
+      go true None = tt
+      go true (Some folder) = file_named folder
+      go false o = tt
+
+  cons_named : (o : Option (List ℕ)) (names : List (List ℕ)) → IsNamed o → All IsFileName names → All IsFileName (cons_option o names)
+  unfolding IsNamed
+  cons_named None names h all = all
+  cons_named (Some n) names h all = All-cons IsFileName n names h all
+
+  calls_named : (cs : List (Placed (Call Span))) → All IsFileName (filter_map (λ c. entered name c.it) cs)
+  calls_named [] = All-nil IsFileName
+  calls_named (c ∷ cs) = cons_named (entered name c.it) (filter_map (λ d. entered name d.it) cs) (call_named c.it) (calls_named cs)
+
+  pub names_named : (bytes : List ℕ) (names : List (List ℕ)) → Enters name bytes names → All IsFileName names
+  names_named bytes names (t, spanned, are) = subst (All IsFileName) (sym are) (calls_named (calls (record { name = name; tree = t } ∷ [])))

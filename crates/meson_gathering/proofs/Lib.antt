@@ -1,0 +1,6 @@
+pub mod EnteredNames
+pub mod EnteredFiles
+pub mod Stopping
+pub mod Places
+pub mod FileNames
+pub mod Parsed

@@ -1,0 +1,39 @@
+use Rattle.std.proofs.Common.{◌+◌, ◌∷◌, [], ◌∙◌, Some, ap, map, take, drop, option_map, string_bytes, arith}
+use Rattle.meson_gathering.specs.Gathering.{Told, Ending, entered}
+use Rattle.meson_gathering.specs.Gathered.{IsNotEntered}
+use Rattle.meson_gathering.proofs.EnteredFiles.{name_in, names_cut, names_more, stop_within, entered_then, grows_then}
+use Rattle.meson_gathering.proofs.Stopping.{stops_within}
+use Rattle.meson_gathering.proofs.gathering.enter_all.Goals as goal
+
+pub enter-requires-clause-named : goal.enter-requires-clause-named
+enter-requires-clause-named g c =
+    name_in string_bytes c.args.names.now c.loop-i.i c.index-names-i.result c.as_str.result.now c.index-names-i.is c.loop-i-test.true c.as_str.ensures.value c.requires.named
+
+pub returns-in-Err-clause-stopped : goal.returns-in-Err-clause-stopped
+returns-in-Err-clause-stopped g c =
+    let folder = option_map (λ f. f.now) c.args.folder in
+    let names = map string_bytes c.args.names.now in
+    let name = c.as_str.result.now in
+    let held = g.S.Store.content c.args.store.now in
+    let P : Ending → Type 0 = λ end. Told (g.S.Store.content c.loop-i.store) (λ content. IsNotEntered content folder (name ∷ []) c.loop-i.files end) in
+    let Q : Ending → Type 0 = λ end. Told held (λ content. IsNotEntered content folder names c.args.files.now end) in
+    let cut = names_cut string_bytes c.args.names.now c.loop-i.i c.index-names-i.result name c.index-names-i.is c.loop-i-test.true c.as_str.ensures.value in
+    let before = map string_bytes (take c.loop-i.i c.args.names.now) in
+    let after = map string_bytes (drop (c.loop-i.i + 1) c.args.names.now) in
+    stops_within P Q (λ end p content is. stop_within content folder before after names name c.args.files.now c.loop-i.files end cut (c.loop-i.invariant.so_far content is) (p content (c.loop-i.invariant.kept ∙ is)))
+    (g.S.Store.failures c.args.store.now) (g.S.Store.failures c.loop-i.store) (g.S.Store.failures c.enter.new.store) c.loop-i.invariant.counts c.enter.ensures.counts c.in-Err.fault c.in-Err.ensures.stopped
+
+pub loop-i-preserved : goal.loop-i-preserved
+loop-i-preserved g c =
+    let folder = option_map (λ f. f.now) c.args.folder in
+    let name = c.as_str.result.now in
+    let before = map string_bytes (take c.loop-i.i c.args.names.now) in
+    let more = names_more string_bytes c.args.names.now c.loop-i.i c.index-names-i.result name c.index-names-i.is c.loop-i-test.true c.as_str.ensures.value in
+    record {
+      kept = c.in-Ok.ensures.kept ∙ c.loop-i.invariant.kept;
+      counts = omega (arith, c.loop-i.invariant.counts, c.enter.ensures.counts);
+      no_replace = c.enter.ensures.no_replace ∙ c.loop-i.invariant.no_replace;
+      so_far = λ content is. ap (λ ns. entered content folder ns c.args.files.now) more
+          ∙ entered_then content folder before (name ∷ []) c.args.files.now c.loop-i.files (Some c.enter.new.files) (c.loop-i.invariant.so_far content is) (c.in-Ok.ensures.entered content (c.loop-i.invariant.kept ∙ is));
+      grows = grows_then c.args.files.now c.loop-i.files c.enter.new.files c.loop-i.invariant.grows c.in-Ok.ensures.grows;
+    }

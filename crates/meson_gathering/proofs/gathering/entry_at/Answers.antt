@@ -1,0 +1,41 @@
+use Rattle.std.proofs.Common.{[], ◌∙◌, subst, sym, map, string_bytes}
+use Rattle.meson_splice.specs.declared.file_set.File.{File}
+use Rattle.meson_splice.specs.Files.{bytes_at}
+use Rattle.meson_syntax.specs.Reads.{IsSpanned, MayRefuse}
+use Rattle.meson_syntax.specs.View.{view}
+use Rattle.meson_calls.specs.Directories.{IsFileName}
+use Rattle.meson_calls.specs.Subdirs.{Enters}
+use Rattle.meson_gathering.specs.Gathered.{StopsLooking}
+use Rattle.meson_gathering.proofs.EnteredNames.{names_named}
+use Rattle.meson_gathering.proofs.FileNames.{name_of, named_at}
+use Rattle.meson_gathering.proofs.gathering.entry_at.Goals as goal
+
+nobody : File
+nobody = record { name = []; bytes = [] }
+
+pub entered_by-requires-clause-file : goal.entered_by-requires-clause-file
+entered_by-requires-clause-file c =
+    let is = c.name-name.ensures nobody ∙ name_of c.args.files.now c.args.place nobody c.requires.within in
+    subst IsFileName (sym is) (named_at c.args.files.now c.args.place c.requires.within c.requires.named)
+
+pub returns-clause-reads : goal.returns-clause-reads
+returns-clause-reads c = subst (λ b. IsSpanned b (view b c.in-Ok.tree)) c.bytes-bytes.ensures c.in-Ok.ensures.reads
+
+pub returns-clause-names : goal.returns-clause-names
+returns-clause-names c =
+    let is = c.name-name.ensures nobody ∙ name_of c.args.files.now c.args.place nobody c.requires.within in
+    let names = map string_bytes c.in_ok-names.names.items in
+    subst (λ n. Enters n (bytes_at c.args.place c.args.files.now) names) is
+    (subst (λ b. Enters c.name-name.result.now b names) c.bytes-bytes.ensures (view c.bytes-bytes.result.now c.in-Ok.tree, c.in-Ok.ensures.reads, c.in_ok-names.ensures))
+
+pub returns-clause-named : goal.returns-clause-named
+returns-clause-named c =
+    let is = c.name-name.ensures nobody ∙ name_of c.args.files.now c.args.place nobody c.requires.within in
+    names_named c.name-name.result.now (subst IsFileName (sym is) (named_at c.args.files.now c.args.place c.requires.within c.requires.named)) c.bytes-bytes.result.now (map string_bytes c.in_ok-names.names.items)
+    (view c.bytes-bytes.result.now c.in-Ok.tree, c.in-Ok.ensures.reads, c.in_ok-names.ensures)
+
+pub returns-in-Err-clause-stopped : goal.returns-in-Err-clause-stopped
+returns-in-Err-clause-stopped c =
+    let is = c.name-name.ensures nobody ∙ name_of c.args.files.now c.args.place nobody c.requires.within in
+    subst (λ n. StopsLooking n (bytes_at c.args.place c.args.files.now) c.unparsed.result) is
+    (c.unparsed.ensures (bytes_at c.args.place c.args.files.now) (subst (λ b. MayRefuse b c.in-Err.fault) c.bytes-bytes.ensures c.in-Err.ensures.refused))

@@ -1,0 +1,75 @@
+use Rattle.std.proofs.Common.{◌≡◌, ◌<◌, ◌≤◌, ◌+◌, [], ◌∷◌, suc, ◌∙◌, refl, sym, ap, subst, inl, length, take, drop, option_map, arith}
+use Rattle.std.specs.Prelude.{All}
+use Rattle.std.proofs.lemmas.List.{length-append}
+use Rattle.std.proofs.lemmas.List.Elements.{All-cons, All-nil, All-append}
+use Rattle.meson_calls.specs.Directories.{build_file}
+use Rattle.meson_calls.specs.Loading.{max_files, HasFileName, AreParsed}
+use Rattle.meson_gathering.specs.Gathering.{Told, Finds, Collects, Ending, Gathers, file_of, from_root, whole}
+use Rattle.meson_gathering.proofs.Places.{looks, ended_all}
+use Rattle.meson_gathering.proofs.Parsed.{parsed_more, all_parsed}
+use Rattle.meson_gathering.proofs.Stopping.{stops_within}
+use Rattle.meson_gathering.proofs.gathering.gather.Goals as goal
+
+pub looking-init : goal.looking-init
+looking-init g c =
+    let folder = option_map (λ f. f.now) c.args.folder in
+    let root = c.in-Ok.ensures.root in
+    let f = file_of build_file root.0 in
+    let one : length (f ∷ []) ≤ max_files = omega arith in
+    record {
+      kept = c.in-Ok.ensures.kept;
+      counts = c.in-Ok.ensures.counts;
+      no_replace = c.in-Ok.ensures.no_replace;
+      few = subst (λ fs. length fs ≤ max_files) (sym root.1) one;
+      named = subst (All HasFileName) (sym root.1) (All-cons HasFileName f [] (inl refl) (All-nil HasFileName));
+      many = ap length c.new-trees.ensures.items;
+      parsed = subst (AreParsed []) (sym c.new-trees.ensures.items) tt;
+      ends = λ content is end gathers. from_root root.0 end (root.2 content is) (subst (λ fs. Gathers content folder [] fs end) root.1 gathers);
+    }
+
+pub returns-in-Err-look-clause-stopped : goal.returns-in-Err-look-clause-stopped
+returns-in-Err-look-clause-stopped g c =
+    let folder = option_map (λ f. f.now) c.args.folder in
+    let files = c.looking.files in
+    let place = c.looking.looked in
+    let P : Ending → Type 0 = λ end. Told (g.S.Store.content c.looking.store) (λ content. Gathers content folder (take place files) (drop place files) end) in
+    let Q : Ending → Type 0 = Finds (g.S.Store.content c.args.store.now) folder in
+    stops_within P Q (λ end p content is. c.looking.invariant.ends content is end (p content (c.looking.invariant.kept ∙ is)))
+    (g.S.Store.failures c.args.store.now) (g.S.Store.failures c.looking.store) (g.S.Store.failures c.look.new.store) c.looking.invariant.counts c.look.ensures.counts c.in-Err-look.fault c.in-Err-look.ensures.stopped
+
+pub looking-preserved : goal.looking-preserved
+looking-preserved g c =
+    let folder = option_map (λ f. f.now) c.args.folder in
+    let old = c.looking.files in
+    let new = c.look.new.files in
+    let place = c.looking.looked in
+    let within : place < length old = omega arith in
+    let next : suc place ≡ place + 1 = omega arith in
+    let trees = c.looking.trees.items in
+    let grows = c.in-Ok-look.ensures.grows in
+    record {
+      kept = c.in-Ok-look.ensures.kept ∙ c.looking.invariant.kept;
+      counts = omega (arith, c.looking.invariant.counts, c.look.ensures.counts);
+      no_replace = c.look.ensures.no_replace ∙ c.looking.invariant.no_replace;
+      few = grows.few;
+      named = subst (All HasFileName) (sym grows.is_more) (All-append HasFileName old grows.more c.looking.invariant.named grows.named);
+      many = ap length c.in_ok-push-in-Ok-look.ensures.items ∙ length-append trees _ ∙ ap (λ n. n + 1) c.looking.invariant.many;
+      parsed = subst (λ k. AreParsed (take k new) c.push.new.self.items) next
+          (parsed_more old grows.more new trees c.push.new.self.items c.in-Ok-look.tree place c.looking.invariant.many grows.is_more c.in_ok-push-in-Ok-look.ensures.items within c.in-Ok-look.ensures.reads c.looking.invariant.parsed);
+      ends = λ content is end gathers.
+          c.looking.invariant.ends content is end
+          (looks content folder old place within new grows.more grows.is_more (c.in-Ok-look.ensures.looked content (c.looking.invariant.kept ∙ is)) end
+          (subst (λ k. Gathers content folder (take k new) (drop k new) end) (sym next) gathers));
+    }
+
+pub returns-clause-files : goal.returns-clause-files
+returns-clause-files g c =
+    let past : length c.looking.files ≤ c.looking.looked = omega arith in
+    let folder = option_map (λ f. f.now) c.args.folder in
+    λ content is. subst (λ p. Collects content folder (whole p.files)) (sym c.of.ensures)
+    (c.looking.invariant.ends content is (whole c.looking.files) (ended_all content folder c.looking.files c.looking.looked past))
+
+pub of-requires : goal.of-requires
+of-requires g c =
+    let past : length c.looking.files ≤ c.looking.looked = omega arith in
+    record { few = c.looking.invariant.few; named = c.looking.invariant.named; parsed = all_parsed c.looking.files c.looking.trees.items c.looking.looked past c.looking.invariant.parsed }

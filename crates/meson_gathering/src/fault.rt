@@ -1,0 +1,41 @@
+//! Why the files of a project are not gathered.
+
+use meson_splice::Text;
+use meson_store::StoreFault;
+use meson_syntax::ParseFault;
+use std::alloc::{AllocError, AllocFailed};
+
+/// Why a store's files are no project.
+#[derive(Debug, Drop)]
+pub enum GatherFault {
+    /// The file of this name is no build file.
+    Parse { name: Text, fault: ParseFault },
+    /// The project has more files than it may have.
+    TooManyFiles,
+    /// The store failed or has no root file, or memory ran out.
+    Store(StoreFault),
+}
+
+impl From<AllocError> for GatherFault {
+    ghost use Rattle.std.specs.Prelude.{◌≡◌};
+    ghost use Rattle.meson_gathering.specs.declared.fault.GatherFault.TheVariants.{Store};
+    ghost use Rattle.meson_store.specs.declared.store_fault.StoreFault.TheVariants.{OutOfMemory};
+
+    ghost from_gives = { λ _ fault. fault ≡ Store OutOfMemory };
+
+    fn from(_: AllocError) -> GatherFault {
+        GatherFault::Store(StoreFault::OutOfMemory)
+    }
+}
+
+impl<T: Drop> From<AllocFailed<T>> for GatherFault {
+    ghost use Rattle.std.specs.Prelude.{◌≡◌};
+    ghost use Rattle.meson_gathering.specs.declared.fault.GatherFault.TheVariants.{Store};
+    ghost use Rattle.meson_store.specs.declared.store_fault.StoreFault.TheVariants.{OutOfMemory};
+
+    ghost from_gives = { λ _ fault. fault ≡ Store OutOfMemory };
+
+    fn from(_: AllocFailed<T>) -> GatherFault {
+        GatherFault::Store(StoreFault::OutOfMemory)
+    }
+}

@@ -1,0 +1,266 @@
+//! Reading the files of a project from a store.
+
+ghost use Rattle.std.specs.Prelude.{◌≡◌, ◌≤◌, ◌<◌, ◌∷◌, [], ℕ, List, Some, None, Option, All, IfOk, IfErr, OnOk, length, map, option_map, string_bytes, take, drop};
+ghost use Rattle.meson_splice.specs.Files.{bytes_at};
+ghost use Rattle.meson_syntax.specs.Reads.{IsSpanned, MayRefuse};
+ghost use Rattle.meson_syntax.specs.View.{view};
+ghost use Rattle.meson_calls.specs.Directories.{IsFileName, build_file};
+ghost use Rattle.meson_calls.specs.Loading.{HasFileName, IsProject, max_files, name_at};
+ghost use Rattle.meson_calls.specs.Subdirs.{Enters};
+ghost use Rattle.meson_gathering.specs.Gathering.{Collects, Finds, Gathers, Told, entered, file_of, held, whole, with_more};
+ghost use Rattle.meson_gathering.specs.Gathered.{Grows, IsNotAdded, IsNotEntered, IsUnread, LooksAt, StopsAt, StopsLooking};
+
+use crate::fault::GatherFault;
+use meson_calls::{MAX_FILES, entered_by};
+use meson_plan::Project;
+use meson_splice::{FileSet, Text};
+use meson_store::{Store, StoreError, StoreFault, path_in};
+use meson_syntax::{ParseFault, Parsed, parse};
+use std::alloc::{AllocError, Global};
+
+/// The root build file's name.
+const ROOT: &str = "meson.build";
+
+/// A copy of a file's name.
+fn text_of(alloc: Global, name: &str) -> Result<Text, AllocError>
+    ensures { IfOk result (λ text. text ≡ name.now) }
+{
+    let name = String::from_str(alloc, name)?;
+    Ok(Text::of(name))
+}
+
+/// The bytes of a file NAME of the folder's project, or none where the store has no such file.
+///
+/// # Errors
+/// The store failed to read it, or want of memory.
+pub fn read_file<S: Store>(
+    alloc: Global,
+    store: &mut S,
+    folder: Option<&str>,
+    name: &str,
+) -> Result<Option<Vec<u8>>, StoreFault>
+    ensures read { IfOk result (λ bytes. Told (S.content store.old)
+        (λ content. option_map (λ b. b.items) bytes ≡ held content (option_map (λ f. f.now) folder.entry) name.now)) }
+    ensures failed { IfErr result (IsUnread (S.failures store.old) (S.failures store.new) name.now) }
+    ensures kept { S.content store.new ≡ S.content store.old }
+    ensures counts { S.failures store.old ≤ S.failures store.new }
+    ensures no_replace { S.replaces store.new ≡ S.replaces store.old }
+{
+    let told = text_of(alloc, name)?;
+    let path = path_in(alloc, folder, name)?;
+    match store.read(alloc, path.as_str()) {
+        Ok(bytes) => Ok(bytes),
+        Err(StoreError::OutOfMemory) => Err(StoreFault::OutOfMemory),
+        Err(StoreError::Device | StoreError::Unchanged) => Err(StoreFault::ReadFailed(told)),
+    }
+}
+
+/// Puts a file behind the others, of which none has its name.
+fn add(alloc: Global, files: &mut FileSet, name: &str, bytes: Vec<u8>) -> Result<(), GatherFault>
+    requires named { IsFileName name.now }
+    requires few { length files.old ≤ max_files }
+    ensures added { OnOk result (with_more files.old (file_of name.now bytes.items) ≡ Some files.new) }
+    ensures grows { OnOk result (Grows files.old files.new) }
+    ensures stopped { IfErr result (IsNotAdded files.old (file_of name.now bytes.items)) }
+{
+    if files.len() >= MAX_FILES {
+        return Err(GatherFault::TooManyFiles);
+    }
+    let Ok(name) = String::from_str(alloc, name) else {
+        return Err(GatherFault::Store(StoreFault::OutOfMemory));
+    };
+    match files.push(name, bytes) {
+        Ok(()) => Ok(()),
+        Err(_) => Err(GatherFault::Store(StoreFault::OutOfMemory)),
+    }
+}
+
+/// Reads the file of a name that is entered, where it is not there yet and the store has it.
+fn enter<S: Store>(
+    alloc: Global,
+    store: &mut S,
+    folder: Option<&str>,
+    files: &mut FileSet,
+    name: &str,
+) -> Result<(), GatherFault>
+    requires named { IsFileName name.now }
+    requires few { length files.old ≤ max_files }
+    ensures entered { OnOk result (Told (S.content store.old)
+        (λ content. entered content (option_map (λ f. f.now) folder.entry) (name.now ∷ []) files.old ≡ Some files.new)) }
+    ensures grows { OnOk result (Grows files.old files.new) }
+    ensures stopped { IfErr result (StopsAt (S.failures store.old) (S.failures store.new)
+        (λ end. Told (S.content store.old) (λ content. IsNotEntered content (option_map (λ f. f.now) folder.entry) (name.now ∷ []) files.old end))) }
+    ensures kept { S.content store.new ≡ S.content store.old }
+    ensures counts { S.failures store.old ≤ S.failures store.new }
+    ensures no_replace { S.replaces store.new ≡ S.replaces store.old }
+{
+    if files.find(name).is_some() {
+        return Ok(());
+    }
+    match read_file(alloc, store, folder, name) {
+        Ok(Some(bytes)) => add(alloc, files, name, bytes),
+        Ok(None) => Ok(()),
+        Err(fault) => Err(GatherFault::Store(fault)),
+    }
+}
+
+/// Reads the files of names that are entered, in order.
+fn enter_all<S: Store>(
+    alloc: Global,
+    store: &mut S,
+    folder: Option<&str>,
+    files: &mut FileSet,
+    names: &[String],
+) -> Result<(), GatherFault>
+    requires named { All IsFileName (map string_bytes names.now) }
+    requires few { length files.old ≤ max_files }
+    ensures entered { OnOk result (Told (S.content store.old)
+        (λ content. entered content (option_map (λ f. f.now) folder.entry) (map string_bytes names.now) files.old ≡ Some files.new)) }
+    ensures grows { OnOk result (Grows files.old files.new) }
+    ensures stopped { IfErr result (StopsAt (S.failures store.old) (S.failures store.new)
+        (λ end. Told (S.content store.old) (λ content. IsNotEntered content (option_map (λ f. f.now) folder.entry) (map string_bytes names.now) files.old end))) }
+    ensures kept { S.content store.new ≡ S.content store.old }
+    ensures counts { S.failures store.old ≤ S.failures store.new }
+    ensures no_replace { S.replaces store.new ≡ S.replaces store.old }
+{
+    for i in 0..names.len() {
+        match enter(alloc, store, folder, files, names[i].as_str()) {
+            Ok(()) => {}
+            Err(fault) => return Err(fault),
+        }
+    }
+    Ok(())
+}
+
+/// What a file says.
+#[derive(Drop)]
+struct Entry {
+    tree: Parsed,
+    /// The files that it enters.
+    names: Vec<String>,
+}
+
+/// A file that is none, by its name.
+fn unparsed(alloc: Global, name: &str, fault: ParseFault) -> GatherFault
+    ensures { (bytes : List ℕ) → MayRefuse bytes fault → StopsLooking name.now bytes result }
+{
+    if matches!(fault, ParseFault::OutOfMemory) {
+        return GatherFault::Store(StoreFault::OutOfMemory);
+    }
+    match text_of(alloc, name) {
+        Ok(name) => GatherFault::Parse { name, fault },
+        Err(refused) => GatherFault::from(refused),
+    }
+}
+
+/// The tree of one of the files, and the names that it enters.
+fn entry_at(alloc: Global, files: &FileSet, place: usize) -> Result<Entry, GatherFault>
+    requires within { place < length files.now }
+    requires named { All HasFileName files.now }
+    ensures reads { IfOk result (λ entry. IsSpanned (bytes_at place files.now) (view (bytes_at place files.now) entry.tree)) }
+    ensures names { IfOk result (λ entry. Enters (name_at place files.now) (bytes_at place files.now) (map string_bytes entry.names.items)) }
+    ensures named { IfOk result (λ entry. All IsFileName (map string_bytes entry.names.items)) }
+    ensures stopped { IfErr result (StopsLooking (name_at place files.now) (bytes_at place files.now)) }
+{
+    let name = files.name(place);
+    let bytes = files.bytes(place);
+    let tree = match parse(alloc, bytes) {
+        Ok(tree) => tree,
+        Err(fault) => return Err(unparsed(alloc, name, fault)),
+    };
+    let names = entered_by(alloc, name, bytes, &tree)?;
+    Ok(Entry { tree, names })
+}
+
+/// Reads the files that one of the files enters, and answers its tree.
+fn look<S: Store>(
+    alloc: Global,
+    store: &mut S,
+    folder: Option<&str>,
+    files: &mut FileSet,
+    place: usize,
+) -> Result<Parsed, GatherFault>
+    requires within { place < length files.old }
+    requires named { All HasFileName files.old }
+    requires few { length files.old ≤ max_files }
+    ensures looked { OnOk result (Told (S.content store.old)
+        (λ content. LooksAt content (option_map (λ f. f.now) folder.entry) place files.old files.new)) }
+    ensures reads { IfOk result (λ tree. IsSpanned (bytes_at place files.old) (view (bytes_at place files.old) tree)) }
+    ensures grows { OnOk result (Grows files.old files.new) }
+    ensures stopped { IfErr result (StopsAt (S.failures store.old) (S.failures store.new)
+        (λ end. Told (S.content store.old) (λ content. Gathers content (option_map (λ f. f.now) folder.entry) (take place files.old) (drop place files.old) end))) }
+    ensures kept { S.content store.new ≡ S.content store.old }
+    ensures counts { S.failures store.old ≤ S.failures store.new }
+    ensures no_replace { S.replaces store.new ≡ S.replaces store.old }
+{
+    let Entry { tree, names } = match entry_at(alloc, files, place) {
+        Ok(entry) => entry,
+        Err(fault) => return Err(fault),
+    };
+    match enter_all(alloc, store, folder, files, names.as_slice()) {
+        Ok(()) => Ok(tree),
+        Err(fault) => Err(fault),
+    }
+}
+
+/// The root file alone.
+fn root_set<S: Store>(
+    alloc: Global,
+    store: &mut S,
+    folder: Option<&str>,
+) -> Result<FileSet, GatherFault>
+    ensures root { IfOk result (λ files. (bytes : List ℕ) × (files ≡ file_of build_file bytes ∷ [])
+        × Told (S.content store.old) (λ content. held content (option_map (λ f. f.now) folder.entry) build_file ≡ Some bytes)) }
+    ensures stopped { IfErr result (StopsAt (S.failures store.old) (S.failures store.new)
+        (Finds (S.content store.old) (option_map (λ f. f.now) folder.entry))) }
+    ensures kept { S.content store.new ≡ S.content store.old }
+    ensures counts { S.failures store.old ≤ S.failures store.new }
+    ensures no_replace { S.replaces store.new ≡ S.replaces store.old }
+{
+    let Ok(name) = text_of(alloc, ROOT) else {
+        return Err(GatherFault::Store(StoreFault::OutOfMemory));
+    };
+    let bytes = match read_file(alloc, store, folder, ROOT) {
+        Ok(Some(bytes)) => bytes,
+        Ok(None) => return Err(GatherFault::Store(StoreFault::NoFile(name))),
+        Err(fault) => return Err(GatherFault::Store(fault)),
+    };
+    let mut files = FileSet::new(alloc);
+    match files.push(name.take(), bytes) {
+        Ok(()) => Ok(files),
+        Err(_) => Err(GatherFault::Store(StoreFault::OutOfMemory)),
+    }
+}
+
+/// Reads the project in this folder: the root file, and then for each file in order those that it enters.
+/// A file that is entered need not be there. Each file is parsed once.
+///
+/// # Errors
+/// The store has no root file, a file can't be read or is none, there are too many, or want of memory.
+pub fn gather<S: Store>(
+    alloc: Global,
+    store: &mut S,
+    folder: Option<&str>,
+) -> Result<Project, GatherFault>
+    ensures files { IfOk result (λ project. Finds (S.content store.old) (option_map (λ f. f.now) folder.entry) (whole project.files)) }
+    ensures stopped { IfErr result (StopsAt (S.failures store.old) (S.failures store.new)
+        (Finds (S.content store.old) (option_map (λ f. f.now) folder.entry))) }
+    ensures kept { S.content store.new ≡ S.content store.old }
+    ensures counts { S.failures store.old ≤ S.failures store.new }
+    ensures no_replace { S.replaces store.new ≡ S.replaces store.old }
+{
+    let mut files = match root_set(alloc, store, folder) {
+        Ok(files) => files,
+        Err(fault) => return Err(fault),
+    };
+    let mut trees = Vec::new(alloc);
+    let mut looked = 0;
+    'looking: while looked < files.len() {
+        match look(alloc, store, folder, &mut files, looked) {
+            Ok(tree) => trees.push(tree)?,
+            Err(fault) => return Err(fault),
+        }
+        looked += 1;
+    }
+    Ok(Project::of(files, trees))
+}
