@@ -1,9 +1,10 @@
 //! A case on files: a project of them, or the program in their folder.
 
 use crate::cutting::put_cut;
+use crate::failures::{Failing, Failures};
 use crate::files::Files;
 use crate::performing::{make, perform};
-use crate::program::{Failing, Failures, call, words_of};
+use crate::program::{call, words_of};
 use crate::project::{put_entered, put_is_target, put_loaded, put_named, put_targets};
 use crate::sources::put_sources;
 use crate::undoing::Undoing;
@@ -30,9 +31,12 @@ impl ProjectCase {
             "with" => self.files.set_root(rest)?,
             "absent" => self.files.set(rest, None)?,
             "many-files" => self.files.begin_many(rest)?,
+            "nested-files" => self.files.begin_nested(rest)?,
             "splice" => self.undoing.add(rest)?,
             "fail-read" => self.failures.reads = Failing::of(rest),
             "fail-replace" => self.failures.replaces = Failing::of(rest),
+            "fail-out" => self.failures.out = Failing::of(rest),
+            "fail-err" => self.failures.err = Failing::of(rest),
             "leave-new" => self.failures.leaves_new = true,
             _ => return Ok(false),
         }
@@ -58,12 +62,14 @@ impl ProjectCase {
         &mut self,
         first: Option<&str>,
         rest: &str,
+        is_brief: bool,
         to: &mut Transcript,
     ) -> Result<(), AllocError> {
         let words = words_of(self.alloc, first, rest)?;
         let failures = self.failures;
         self.failures = Failures::NONE;
-        call(self.alloc, &mut self.files, failures, words.as_slice(), to)
+        let files = &mut self.files;
+        call(self.alloc, files, failures, words.as_slice(), is_brief, to)
     }
 
     /// Calls the program on the root file cut at each length.
@@ -81,12 +87,13 @@ impl ProjectCase {
             "count" => perform(self.alloc, &mut self.files, rest, true, to),
             "make" => make(self.alloc, &self.files, rest, false, to),
             "make-by" => make(self.alloc, &self.files, rest, true, to),
-            "run" => self.call(Some(PROGRAM), rest, to),
+            "run" => self.call(Some(PROGRAM), rest, false, to),
+            "brief" => self.call(Some(PROGRAM), rest, true, to),
             "cut" => self.cut(rest, to),
             "apply" | "revert" | "keep" | "undo" | "redo" => {
                 self.undoing.answer(word, &mut self.files, to)
             }
-            "call" => self.call(None, rest, to),
+            "call" => self.call(None, rest, false, to),
             _ => self.ask(word, rest, to),
         }
     }

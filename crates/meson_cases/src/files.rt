@@ -4,6 +4,9 @@ use meson_case_files::{Transcript, bytes_of, text_of};
 use meson_splice::FileSet;
 use std::alloc::{AllocError, Global};
 
+/// The file in which the program keeps what it did.
+pub const LOG: &str = "meson.rewrite-log";
+
 /// A file, or one that is not there but may come.
 #[derive(Drop)]
 pub struct File {
@@ -55,6 +58,14 @@ impl Files {
         Ok(())
     }
 
+    /// Counts with a file of this name, if there is none.
+    pub fn expect(&mut self, name: &str) -> Result<(), AllocError> {
+        if self.bytes(name).is_none() {
+            self.set(name, None)?;
+        }
+        Ok(())
+    }
+
     /// Begins a file of this name.
     pub fn begin(&mut self, name: &str) -> Result<(), AllocError> {
         let name = text_of(self.alloc, name)?;
@@ -84,6 +95,20 @@ impl Files {
         for _ in 0..count.parse::<u32>().unwrap_or(0) {
             name.push_str("a")?;
             self.set(name.as_str(), Some(Vec::new(self.alloc)))?;
+        }
+        Ok(())
+    }
+
+    /// Begins so many build files, of which each but the first stands in a folder `a` of the one before, and which all enter
+    /// such a folder.
+    pub fn begin_nested(&mut self, count: &str) -> Result<(), AllocError> {
+        let mut folder = String::new(self.alloc);
+        for _ in 0..count.parse::<u32>().unwrap_or(0) {
+            let mut name = folder.clone()?;
+            name.push_str("meson.build")?;
+            let text = Vec::from_slice(self.alloc, b"subdir('a')\n")?;
+            self.set(name.as_str(), Some(text))?;
+            folder.push_str("a/")?;
         }
         Ok(())
     }
@@ -119,10 +144,14 @@ impl Files {
         if self.bytes(name) == Some(bytes) {
             return Ok(());
         }
-        to.put("  file ");
-        to.put(name);
-        to.put("\n");
-        to.text(bytes);
+        if name == LOG {
+            to.lines("  log |", bytes);
+        } else {
+            to.put("  file ");
+            to.put(name);
+            to.put("\n");
+            to.text(bytes);
+        }
         self.set(name, Some(Vec::from_slice(self.alloc, bytes)?))
     }
 }

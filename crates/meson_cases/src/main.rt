@@ -4,6 +4,7 @@
 mod case;
 mod command;
 mod cutting;
+mod failures;
 mod files;
 mod performing;
 mod program;

@@ -1,48 +1,10 @@
 //! Calls of the whole program on a store in memory.
 
-use crate::files::Files;
+use crate::failures::{FailingWriter, Failures};
+use crate::files::{Files, LOG};
 use meson_case_files::{Transcript, text_of};
 use meson_rewrite::{Counted, Memory, rewrite};
 use std::alloc::{AllocError, Global};
-
-/// The file in which the program keeps what it did.
-const LOG: &str = "meson.rewrite-log";
-
-/// Calls of the store that fail: the first one, and how many.
-#[derive(Clone, Copy)]
-pub struct Failing {
-    pub first: u64,
-    pub count: u64,
-}
-
-/// What the store fails to do in the next call.
-#[derive(Clone, Copy)]
-pub struct Failures {
-    pub reads: Failing,
-    pub replaces: Failing,
-    pub leaves_new: bool,
-}
-
-impl Failing {
-    const NONE: Failing = Failing { first: 1, count: 0 };
-
-    /// The numbers that two words are.
-    pub fn of(words: &str) -> Self {
-        let (first, count) = words.split_once(' ').unwrap_or((words, "1"));
-        Failing {
-            first: first.parse::<u64>().unwrap_or(1),
-            count: count.parse::<u64>().unwrap_or(1),
-        }
-    }
-}
-
-impl Failures {
-    pub const NONE: Failures = Failures {
-        reads: Failing::NONE,
-        replaces: Failing::NONE,
-        leaves_new: false,
-    };
-}
 
 /// A store of the files that are there.
 fn store_of(files: &Files, alloc: Global, failures: Failures) -> Result<Memory, AllocError> {
@@ -58,13 +20,34 @@ fn store_of(files: &Files, alloc: Global, failures: Failures) -> Result<Memory, 
     Ok(store)
 }
 
+/// Says whether an output got something.
+fn put_brief(name: &str, bytes: &[u8], to: &mut Transcript) {
+    if !bytes.is_empty() {
+        to.put("  ");
+        to.put(name);
+        to.put(" got text\n");
+    }
+}
+
 /// Runs the program on these words, and writes its output and its status.
-fn run(alloc: Global, store: &mut Memory, words: &[String], to: &mut Transcript) {
-    let mut out = Counted::new(Vec::new(alloc));
-    let mut err = Counted::new(Vec::new(alloc));
+fn run(
+    alloc: Global,
+    store: &mut Memory,
+    failures: Failures,
+    words: &[String],
+    is_brief: bool,
+    to: &mut Transcript,
+) {
+    let mut out = Counted::new(FailingWriter::new(Vec::new(alloc), failures.out));
+    let mut err = Counted::new(FailingWriter::new(Vec::new(alloc), failures.err));
     let status = rewrite(alloc, store, words, &mut out, &mut err);
-    to.lines("  out |", out.take().as_slice());
-    to.lines("  err |", err.take().as_slice());
+    if is_brief {
+        put_brief("out", out.take().bytes.as_slice(), to);
+        put_brief("err", err.take().bytes.as_slice(), to);
+    } else {
+        to.lines("  out |", out.take().bytes.as_slice());
+        to.lines("  err |", err.take().bytes.as_slice());
+    }
     to.put("  status ");
     to.show(&status);
     to.put("\n");
@@ -83,19 +66,32 @@ fn put_stored(store: &Memory, files: &mut Files, to: &mut Transcript) -> Result<
     Ok(())
 }
 
-/// Runs the program on these words, of which the first is its name.
+/// Counts with an undo log in each folder that has a build file, so that it is shown where it comes.
+fn expect_logs(alloc: Global, files: &mut Files) -> Result<(), AllocError> {
+    for i in 0..files.get().len() {
+        if let Some(file) = files.get().get(i)
+            && let Some(folder) = file.name.as_str().strip_suffix("meson.build")
+        {
+            let mut log = String::from_str(alloc, folder)?;
+            log.push_str(LOG)?;
+            files.expect(log.as_str())?;
+        }
+    }
+    files.expect(LOG)
+}
+
+/// Runs the program on these words, of which the first is its name. Of a brief call the texts of the outputs are left out.
 pub fn call(
     alloc: Global,
     files: &mut Files,
     failures: Failures,
     words: &[String],
+    is_brief: bool,
     to: &mut Transcript,
 ) -> Result<(), AllocError> {
-    if files.bytes(LOG).is_none() {
-        files.set(LOG, None)?;
-    }
+    expect_logs(alloc, files)?;
     let mut store = store_of(files, alloc, failures)?;
-    run(alloc, &mut store, words, to);
+    run(alloc, &mut store, failures, words, is_brief, to);
     put_stored(&store, files, to)
 }
 

@@ -1,175 +1,247 @@
 -- How a run ends, from what its steps did.
-use Rattle.std.proofs.Common.{◌≡◌, ◌⊎◌, ◌≤◌, ℕ, List, [], ◌∷◌, Option, None, Some, Result, Ok, Err, inl, inr, refl, sym, ap, ◌∙◌, subst, length, arith}
-use Rattle.meson_rewrite.specs.Content.{Content}
-use Rattle.meson_rewrite.specs.Calls.{FailureCounted, Leaves, counted}
-use Rattle.meson_rewrite.specs.Commit.{Put, puts, put_all, names_of, fault_of, HaltsWith, CommitFails}
-use Rattle.meson_calls.specs.Loading.{Loaded}
-use Rattle.meson_steps.specs.declared.command.Command.{Command}
-use Rattle.meson_rewrite.specs.Edited.{IsNotEdited}
-use Rattle.meson_rewrite.specs.Gathered.{StopsAt, StoreStopsAt}
-use Rattle.meson_rewrite.specs.Gathering.{Ending}
-use Rattle.meson_rewrite.specs.Lines.{still_new, store_fault_status, status}
-use Rattle.meson_rewrite.specs.Runs.{Edits, written, Replaces, WriteFails, StoreStops, Does, CommandEnds, Ends, RunCounted}
-use Rattle.meson_rewrite.specs.Words.{Request, help, set_version}
-use Rattle.meson_splice.specs.declared.file_set.File.{File}
-use Rattle.meson_rewrite.specs.declared.stop.Done.{Done}
-use Rattle.meson_rewrite.specs.declared.stop.Done.TheVariants.{Edited}
+use Rattle.std.proofs.Common.{◌≡◌, ◌⊎◌, ◌≤◌, true, ℕ, List, [], ◌∷◌, length, Option, None, Result, Ok, Err, inl, inr, refl, sym, ap, ◌∙◌, subst, arith}
+use Rattle.std.specs.Prelude.{IsTrue}
+use Rattle.meson_command.specs.Asking.{without_text}
+use Rattle.meson_command.specs.declared.asked.Action.{Action}
+use Rattle.meson_command.specs.declared.asked.Action.TheVariants as action
+use Rattle.meson_command.specs.declared.asked.Asked.{Asked}
+use Rattle.meson_command.specs.declared.fault.UsageFault.{UsageFault}
+use Rattle.meson_script.specs.declared.session.Session.{Session}
+use Rattle.meson_store.specs.Calls.{FailureCounted, Leaves, counted}
+use Rattle.meson_store.specs.Commit.{CommitFails, HaltsWith, Put, fault_of, names_of, puts, put_all, still_new}
+use Rattle.meson_store.specs.Content.{Content}
+use Rattle.meson_store.specs.declared.store.StoreError.{StoreError}
+use Rattle.meson_store.specs.declared.store.StoreError.TheVariants as error
+use Rattle.meson_store.specs.declared.store_fault.StoreFault.{StoreFault}
+use Rattle.meson_store.specs.declared.store_fault.StoreFault.TheVariants as store
+use Rattle.meson_gathering.proofs.Stopping.{rose_before, stops_within}
+use Rattle.meson_gathering.specs.Gathering.{Finds}
+use Rattle.meson_rewrite.specs.Edited.{IsEdited, IsTold}
+use Rattle.meson_rewrite.specs.Lines.{status, store_fault_status}
+use Rattle.meson_rewrite.specs.Logs.{with_log}
+use Rattle.meson_rewrite.specs.Opening.{IsNoLog, Opens, OpensNone, log_unread, bad_log, no_log, no_project}
+use Rattle.meson_rewrite.specs.Requests.{AsksFor, AsksForNone, shows_help}
+use Rattle.meson_rewrite.specs.Runs.{Edits, Ends, StepEnds, Seen, Untouched, done, memory_ran_out, misused, helped, asks_for_none, no_memory, not_opened, refused, steps, told, unwritten, written}
+use Rattle.meson_rewrite.specs.Steps.{MayRefuse, only_tells}
+use Rattle.meson_rewrite.specs.Stops.{WantsMemory}
+use Rattle.meson_rewrite.specs.declared.editing.Edit.{Edit}
+use Rattle.meson_rewrite.specs.declared.request.Request.TheVariants as request
+use Rattle.meson_rewrite.specs.declared.request.Step.{Step}
+use Rattle.meson_rewrite.specs.declared.said.Said.{Said}
 use Rattle.meson_rewrite.specs.declared.stop.Stop.{Stop}
-use Rattle.meson_rewrite.specs.declared.stop.Stop.TheVariants.{Usage, Parse, TooManyFiles, Refused, Store}
-use Rattle.meson_rewrite.specs.declared.store.StoreError.{StoreError}
-use Rattle.meson_rewrite.specs.declared.store.StoreError.TheVariants as error
-use Rattle.meson_rewrite.specs.declared.store_fault.StoreFault.{StoreFault}
-use Rattle.meson_rewrite.specs.declared.store_fault.StoreFault.TheVariants as store
-use Rattle.meson_rewrite.proofs.Stopping.{rose_before}
+use Rattle.meson_rewrite.specs.declared.stop.Stop.TheVariants.{Usage, Store}
 
-module _ (folder : Option (List ℕ)) (id value : List ℕ) (before after : Option Content) (failed failed' : ℕ) where
-  -- ---- the files could not be replaced
+-- ---- what was read before a step, by the same program
 
-  no_fault : (done : List (List ℕ)) (name : List ℕ) (why : StoreError) → store.OutOfMemory ≡ fault_of done name why → (done ≡ []) × (why ≡ error.OutOfMemory)
-  no_fault [] name error.Device e = absurd (let no : ⊥ = cc in no)
-  no_fault [] name error.OutOfMemory e = (refl, refl)
-  no_fault (d ∷ done) name error.Device e = absurd (let no : ⊥ = cc in no)
-  no_fault [] name error.Unchanged e = absurd (let no : ⊥ = cc in no)
-  no_fault (d ∷ done) name error.Unchanged e = absurd (let no : ⊥ = cc in no)
-  no_fault (d ∷ done) name error.OutOfMemory e = absurd (let no : ⊥ = cc in no)
+pub untouched-then : (a b c : Seen) → Untouched a b → Untouched b c → Untouched a c
+untouched-then a b c h k = record {
+  kept = k.kept ∙ h.kept;
+  counts = let x = h.counts in let y = k.counts in omega (arith, x, y);
+  no_replace = k.no_replace ∙ h.no_replace;
+}
 
-  none_done : (done : List Put) (failed_ : Put) (why : StoreError) → (names_of done ≡ []) × (why ≡ error.OutOfMemory) → Leaves why failed_.path failed_.bytes (put_all done before) after → after ≡ before
-  none_done [] failed_ error.Device (e, w) left = absurd (let no : ⊥ = cc in no)
-  none_done [] failed_ error.Unchanged (e, w) left = absurd (let no : ⊥ = cc in no)
-  none_done [] failed_ error.OutOfMemory (e, w) left = left
-  none_done (d ∷ done) failed_ why (e, w) left = absurd (let no : ⊥ = cc in no)
+module _ (dir : Option (List ℕ)) (before : Option Content) (first old new : ℕ) (h : first ≤ old) (k : old ≤ new) where
+  counted-before : (why : StoreError) → FailureCounted why old new → FailureCounted why first new
+  counted-before error.Device c = rose_before first old new h k c
+  counted-before error.Unchanged c = rose_before first old new h k c
+  counted-before error.OutOfMemory c = c
 
-  other_fault : (done : List (List ℕ)) (name : List ℕ) (why : StoreError) (fault : StoreFault) → fault ≡ fault_of done name why → (fault ≡ store.OutOfMemory) ⊎ ((n : List ℕ) × (still_new : List (List ℕ)) × (fault ≡ store.WriteFailed n still_new))
-  other_fault [] name error.Device fault e = inr (name, _, e)
-  other_fault [] name error.Unchanged fault e = inr (name, _, e)
-  other_fault [] name error.OutOfMemory fault e = inl e
-  other_fault (d ∷ done) name error.Device fault e = inr (name, _, e)
-  other_fault (d ∷ done) name error.Unchanged fault e = inr (name, _, e)
-  other_fault (d ∷ done) name error.OutOfMemory fault e = inr (name, _, e)
+  pub no-log-before : (stop : Stop) → IsNoLog before dir old new stop → IsNoLog before dir first new stop
+  no-log-before _ (log_unread rose) = log_unread (rose_before first old new h k rose)
+  no-log-before _ (bad_log bad) = bad_log bad
 
-  counted_before : (old : ℕ) (why : StoreError) → failed ≤ old → old ≤ failed' → FailureCounted why old failed' → FailureCounted why failed failed'
-  counted_before old error.Device h k c = rose_before failed old failed' h k c
-  counted_before old error.Unchanged h k c = rose_before failed old failed' h k c
-  counted_before old error.OutOfMemory h k c = c
+  pub none-before : (stop : Stop) → OpensNone before dir old new stop → OpensNone before dir first new stop
+  none-before _ (no_project fault stops) = no_project fault (stops_within (Finds before dir) (Finds before dir) (λ end p. p) first old new h k fault stops)
+  none-before _ (no_log files why found lacks) = no_log files why found (no-log-before why lacks)
 
-  told_stops : (edits : Edits before folder id value) (fault : StoreFault) (h : HaltsWith (written edits) before after failed failed' fault) →
-      (fault ≡ store.OutOfMemory) ⊎ ((n : List ℕ) × (still_new : List (List ℕ)) × (fault ≡ store.WriteFailed n still_new)) → StoreStops folder id value before after failed failed' fault
-  told_stops edits fault h (inl e) =
-      let S : StoreFault → Type 0 = λ f. StoreStops folder id value before after failed failed' f in
-      let none = no_fault (names_of h.halts.done) h.halts.failed.name h.why (sym e ∙ h.told) in
-      subst S (sym e) (none_done h.halts.done h.halts.failed h.why none h.halts.left)
-  told_stops edits fault h (inr (n, still_new, e)) =
-      let S : StoreFault → Type 0 = λ f. StoreStops folder id value before after failed failed' f in
-      let W : StoreFault → Type 0 = λ f. HaltsWith (written edits) before after failed failed' f in
-      let fails : WriteFails folder id value before after failed failed' (store.WriteFailed n still_new) = record { edits = edits; halts = subst W e h } in
-      subst S (sym e) fails
+  pub halts-before : (files : List Put) (after : Option Content) (fault : StoreFault) → HaltsWith files before after old new fault → HaltsWith files before after first new fault
+  halts-before files after fault w = record { why = w.why; halts = w.halts; failure = counted-before w.why w.failure; told = w.told }
 
-  not_replaced : (edits : Edits before folder id value) (old : ℕ) (fault : StoreFault) → failed ≤ old → old ≤ failed' → CommitFails (written edits) before after old failed' fault →
-      StoreStops folder id value before after failed failed' fault
-  not_replaced edits old fault h k (inl (e, kept)) = let S : StoreFault → Type 0 = λ f. StoreStops folder id value before after failed failed' f in subst S (sym e) kept
-  not_replaced edits old fault h k (inr halts) =
-      let since : HaltsWith (written edits) before after failed failed' fault =
-      record { why = halts.why; halts = halts.halts; failure = counted_before old halts.why h k halts.failure; told = halts.told } in
-      told_stops edits fault since (other_fault (names_of halts.halts.done) halts.halts.failed.name halts.why fault halts.told)
+-- ---- a step
 
-  -- ---- the files that were written are those of the command
+module _ (dir : Option (List ℕ)) (step : Step) where
+  abbrev edits-before : (before middle : Option Content) → middle ≡ before → Edits middle dir step → Edits before dir step
+  edits-before before middle same e = record {
+    old = e.old;
+    log = e.log;
+    opens = subst (λ m. Opens m dir e.old e.log) same e.opens;
+    new = e.new;
+    is_project = e.is_project;
+    report = e.report;
+    does = e.does;
+    new_log = e.new_log;
+    is_log = e.is_log;
+  }
 
-  module _ (edits : Edits before folder id value) (b a : List File) (middle : Option Content) (is_before : b ≡ edits.old.files) (is_after : a ≡ edits.new.files) (kept : middle ≡ before) where
-    are_written : puts folder b a ≡ written edits
-    are_written = ap (λ fs. puts folder fs a) is_before ∙ ap (puts folder edits.old.files) is_after
+  -- the store was read before, for a script
+  pub step-before : (a b c : Seen) (end : Result Said Stop) → Untouched a b → b.failures ≤ c.failures → StepEnds dir step b c end → StepEnds dir step a c end
+  step-before a b c _ u k (not_opened stop v opens) =
+      not_opened stop (untouched-then a b c u v) (none-before dir a.content a.failures b.failures c.failures u.counts k stop (subst (λ m. OpensNone m dir b.failures c.failures stop) u.kept opens))
+  step-before a b c _ u k (refused old log stop v opens may) = refused old log stop (untouched-then a b c u v) (subst (λ m. Opens m dir old log) u.kept opens) may
+  step-before a b c _ u k (told old new log report v opens does only) = told old new log report (untouched-then a b c u v) (subst (λ m. Opens m dir old log) u.kept opens) does only
+  step-before a b c _ u k (done e put counts) =
+      done (edits-before a.content b.content u.kept e) (put ∙ ap (put_all (written e)) u.kept) (counts ∙ ap (counted (length (written e))) u.no_replace)
+  step-before a b c _ u k (unwritten e fault halts counts) =
+      unwritten (edits-before a.content b.content u.kept e) fault
+      (halts-before dir a.content a.failures b.failures c.failures u.counts k (written e) c.content fault (subst (λ m. HaltsWith (written e) m c.content b.failures c.failures fault) u.kept halts))
+      (counts ∙ ap (counted (length (still_new fault))) u.no_replace)
+  step-before a b c _ u k (no_memory stop v wants) = no_memory stop (untouched-then a b c u v) wants
 
-    pub replaced : (splices : ℕ) (done : Done) → splices ≡ length edits.done.change.splices → (after ≡ put_all (puts folder b a) middle) × (done ≡ Edited (length (puts folder b a)) splices) →
-        Does folder id value before after failed failed' done
-    replaced splices done count (put, is_done) =
-        let ends : Replaces folder id value before after failed failed' (length (puts folder b a)) splices = record {
-          edits = edits;
-          is_after = put ∙ ap (put_all (puts folder b a)) kept ∙ ap (λ files. put_all files before) are_written;
-          are_files = ap length are_written;
-          are_splices = count;
-        } in
-        subst (Does folder id value before after failed failed') (sym is_done) ends
+  -- ---- by what stopped it, or by what is written
 
-    pub not_written : (old : ℕ) (fault : StoreFault) → failed ≤ old → old ≤ failed' → CommitFails (puts folder b a) middle after old failed' fault → StoreStops folder id value before after failed failed' fault
-    not_written old fault h k fails =
-        not_replaced edits old fault h k
-        (subst (λ files. CommitFails files before after old failed' fault) are_written (subst (λ c. CommitFails (puts folder b a) c after old failed' fault) kept fails))
+  module _ (b a : Seen) (u : Untouched b a) where
+    pub stopped-opening : (stop : Stop) → WantsMemory stop ⊎ OpensNone b.content dir b.failures a.failures stop → StepEnds dir step b a (Err stop)
+    stopped-opening stop (inl m) = no_memory stop u m
+    stopped-opening stop (inr none) = not_opened stop u none
 
-  -- ---- the status
+    module _ (old : Session) (log : List ℕ) (opens : Opens b.content dir old log) where
+      pub stopped-acting : (stop : Stop) → WantsMemory stop ⊎ MayRefuse step old stop → StepEnds dir step b a (Err stop)
+      stopped-acting stop (inl m) = no_memory stop u m
+      stopped-acting stop (inr may) = refused old log stop u opens may
 
-  store_keeps : (fault : StoreFault) → StoreStops folder id value before after failed failed' fault → (store_fault_status fault ≡ 1) ⊎ (store_fault_status fault ≡ 2) → after ≡ before
-  store_keeps (store.ReadFailed name) h s = h.0
-  store_keeps (store.WriteFailed name still_new) h (inl e) = absurd (omega (arith, e))
-  store_keeps (store.WriteFailed name still_new) h (inr e) = absurd (omega (arith, e))
-  store_keeps (store.NoFile name) h s = h.0
-  store_keeps store.OutputFailed h s = absurd h
-  store_keeps store.OutOfMemory h s = h
+      pub told-ends : only_tells step ≡ true → (said : Said) → IsTold old step said → StepEnds dir step b a (Ok said)
+      told-ends only said t = subst (λ s. StepEnds dir step b a (Ok s)) (sym t.is_said) (told old t.new log t.report u opens t.does only)
 
-  command_keeps : (end : Result Done Stop) → CommandEnds folder id value before after failed failed' end → (status end ≡ 1) ⊎ (status end ≡ 2) → after ≡ before
-  command_keeps (Ok done) h (inl e) = absurd (omega (arith, e))
-  command_keeps (Ok done) h (inr e) = absurd (omega (arith, e))
-  command_keeps (Err Usage) h s = absurd h
-  command_keeps (Err (Parse name fault)) h s = h.0
-  command_keeps (Err TooManyFiles) h s = h.0
-  command_keeps (Err (Refused why)) h s = h.0
-  command_keeps (Err (Store fault)) h s = store_keeps fault h s
+  module _ (b m a : Seen) (u : Untouched b m) (old : Session) (log : List ℕ) (opens : Opens b.content dir old log) (edit : Edit) (e : IsEdited old log step edit) where
+    abbrev edits : Edits b.content dir step
+    edits = record {
+      old = old;
+      log = log;
+      opens = opens;
+      new = e.new;
+      is_project = e.is_project;
+      report = e.report;
+      does = e.does;
+      new_log = e.new_log;
+      is_log = e.is_log;
+    }
 
--- with these statuses the store holds what it held
-pub status_keeps : (asked : Option Request) (before after : Option Content) (failed failed' : ℕ) (end : Result Done Stop) → Ends asked before after failed failed' end →
-    (status end ≡ 1) ⊎ (status end ≡ 2) → after ≡ before
-status_keeps None before after failed failed' end h s = h.0
-status_keeps (Some help) before after failed failed' end h s = h.0
-status_keeps (Some (set_version folder id value)) before after failed failed' end h s = command_keeps folder id value before after failed failed' end h s
+    are-written : puts dir edit.before edit.after ≡ written edits
+    are-written = ap (λ fs. puts dir fs edit.after) e.before ∙ ap (puts dir (with_log old.project.files log)) e.after
 
--- ---- the count of replaces
+    pub done-ends : a.content ≡ put_all (puts dir edit.before edit.after) m.content → a.replaces ≡ counted (length (puts dir edit.before edit.after)) m.replaces
+        → StepEnds dir step b a (Ok edit.said)
+    done-ends put counts =
+        subst (λ s. StepEnds dir step b a (Ok s)) (sym e.said)
+        (done edits (put ∙ ap (λ fs. put_all fs m.content) are-written ∙ ap (put_all (written edits)) u.kept)
+        (counts ∙ ap (λ fs. counted (length fs) m.replaces) are-written ∙ ap (counted (length (written edits))) u.no_replace))
 
--- the files were replaced
-pub done_counted : (files : List Put) (splices : ℕ) (done : Done) (first old new : ℕ) → done ≡ Edited (length files) splices → old ≡ first → new ≡ counted (length files) old → RunCounted (Ok done) first new
-done_counted files splices done first old new is e h =
-    let R : Done → Type 0 = λ d. RunCounted (Ok d) first new in
-    subst R (sym is) (h ∙ ap (counted (length files)) e)
+    pub failed-ends : m.failures ≤ a.failures → (fault : StoreFault) → CommitFails (puts dir edit.before edit.after) m.content a.content m.failures a.failures fault
+        → a.replaces ≡ counted (length (still_new fault)) m.replaces → StepEnds dir step b a (Err (Store fault))
+    failed-ends k fault (inl (is, kept)) counts =
+        no_memory (Store fault) (record {
+          kept = kept ∙ u.kept;
+          counts = let x = u.counts in omega (arith, x, k);
+          no_replace = counts ∙ ap (λ f. counted (length (still_new f)) m.replaces) is ∙ u.no_replace;
+        }) is
+    failed-ends k fault (inr halts) counts =
+        unwritten edits fault
+        (halts-before dir b.content b.failures m.failures a.failures u.counts k (written edits) a.content fault
+        (subst (λ c. HaltsWith (written edits) c a.content m.failures a.failures fault) u.kept (subst (λ fs. HaltsWith fs m.content a.content m.failures a.failures fault) are-written halts)))
+        (counts ∙ ap (counted (length (still_new fault))) u.no_replace)
 
--- they could not be replaced
-pub fault_counted : (fault : StoreFault) (first old new : ℕ) → old ≡ first → new ≡ counted (length (still_new fault)) old → RunCounted (Err (Store fault)) first new
-fault_counted fault first old new e h = h ∙ ap (counted (length (still_new fault))) e
+-- ---- with these statuses the store holds what it held
 
--- nothing was to be replaced
-store_counted : (P : Ending → Type 0) (failed failed' : ℕ) (fault : StoreFault) (old new : ℕ) → StoreStopsAt failed failed' P fault → new ≡ old → RunCounted (Err (Store fault)) old new
-store_counted P failed failed' (store.ReadFailed name) old new h e = e
-store_counted P failed failed' (store.WriteFailed name files) old new h e = absurd h
-store_counted P failed failed' (store.NoFile name) old new h e = e
-store_counted P failed failed' store.OutputFailed old new h e = e
-store_counted P failed failed' store.OutOfMemory old new h e = e
+abbrev Refusing : ℕ → Type 0
+Refusing code = (code ≡ 1) ⊎ (code ≡ 2)
 
-pub stop_counted : (P : Ending → Type 0) (failed failed' : ℕ) (stop : Stop) (old new : ℕ) → StopsAt failed failed' P stop → new ≡ old → RunCounted (Err stop) old new
-stop_counted P failed failed' Usage old new h e = e
-stop_counted P failed failed' (Parse name fault) old new h e = e
-stop_counted P failed failed' TooManyFiles old new h e = e
-stop_counted P failed failed' (Refused why) old new h e = e
-stop_counted P failed failed' (Store fault) old new h e = store_counted P failed failed' fault old new h e
+no-fault : (made : List (List ℕ)) (name : List ℕ) (why : StoreError) → store.OutOfMemory ≡ fault_of made name why → (made ≡ []) × (why ≡ error.OutOfMemory)
+no-fault [] name error.Device e = absurd (let no : ⊥ = cc in no)
+no-fault [] name error.OutOfMemory e = (refl, refl)
+no-fault (d ∷ made) name error.Device e = absurd (let no : ⊥ = cc in no)
+no-fault [] name error.Unchanged e = absurd (let no : ⊥ = cc in no)
+no-fault (d ∷ made) name error.Unchanged e = absurd (let no : ⊥ = cc in no)
+no-fault (d ∷ made) name error.OutOfMemory e = absurd (let no : ⊥ = cc in no)
 
-pub edit_counted : (project : Loaded) (command : Command) (stop : Stop) (old new : ℕ) → IsNotEdited project command stop → new ≡ old → RunCounted (Err stop) old new
-edit_counted project command Usage old new h e = e
-edit_counted project command (Parse name fault) old new h e = e
-edit_counted project command TooManyFiles old new h e = e
-edit_counted project command (Refused why) old new h e = e
-edit_counted project command (Store fault) old new h e =
-    let R : StoreFault → Type 0 = λ f. RunCounted (Err (Store f)) old new in
-    subst R (sym h) e
+none-done : (before after : Option Content) (made : List Put) (failed : Put) (why : StoreError) → (names_of made ≡ []) × (why ≡ error.OutOfMemory)
+    → Leaves why failed.path failed.bytes (put_all made before) after → after ≡ before
+none-done before after [] failed error.Device (e, w) left = absurd (let no : ⊥ = cc in no)
+none-done before after [] failed error.Unchanged (e, w) left = absurd (let no : ⊥ = cc in no)
+none-done before after [] failed error.OutOfMemory (e, w) left = left
+none-done before after (d ∷ made) failed why (e, w) left = absurd (let no : ⊥ = cc in no)
 
-store_counts : (fault : StoreFault) (old new : ℕ) → new ≡ counted (length (still_new fault)) old → (store_fault_status fault ≡ 1) ⊎ (store_fault_status fault ≡ 2) → new ≡ old
-store_counts (store.ReadFailed name) old new h s = h
-store_counts (store.WriteFailed name files) old new h (inl e) = absurd (omega (arith, e))
-store_counts (store.WriteFailed name files) old new h (inr e) = absurd (omega (arith, e))
-store_counts (store.NoFile name) old new h s = h
-store_counts store.OutputFailed old new h s = h
-store_counts store.OutOfMemory old new h s = h
+unwritten-keeps : (files : List Put) (before after : Option Content) (old new : ℕ) (fault : StoreFault) → HaltsWith files before after old new fault → Refusing (store_fault_status fault) → after ≡ before
+unwritten-keeps files before after old new (store.ReadFailed name) h (inl e) = absurd (omega (arith, e))
+unwritten-keeps files before after old new (store.ReadFailed name) h (inr e) = absurd (omega (arith, e))
+unwritten-keeps files before after old new (store.WriteFailed name still) h (inl e) = absurd (omega (arith, e))
+unwritten-keeps files before after old new (store.WriteFailed name still) h (inr e) = absurd (omega (arith, e))
+unwritten-keeps files before after old new (store.NoFile name) h (inl e) = absurd (omega (arith, e))
+unwritten-keeps files before after old new (store.NoFile name) h (inr e) = absurd (omega (arith, e))
+unwritten-keeps files before after old new store.OutputFailed h (inl e) = absurd (omega (arith, e))
+unwritten-keeps files before after old new store.OutputFailed h (inr e) = absurd (omega (arith, e))
+unwritten-keeps files before after old new store.OutOfMemory h s =
+    none-done before after h.halts.done h.halts.failed h.why (no-fault (names_of h.halts.done) h.halts.failed.name h.why h.told) h.halts.left
 
--- with these statuses no file was replaced
-pub status_counts : (end : Result Done Stop) (old new : ℕ) → RunCounted end old new → (status end ≡ 1) ⊎ (status end ≡ 2) → new ≡ old
-status_counts (Ok done) old new h (inl e) = absurd (omega (arith, e))
-status_counts (Ok done) old new h (inr e) = absurd (omega (arith, e))
-status_counts (Err Usage) old new h s = h
-status_counts (Err (Parse name fault)) old new h s = h
-status_counts (Err TooManyFiles) old new h s = h
-status_counts (Err (Refused why)) old new h s = h
-status_counts (Err (Store fault)) old new h s = store_counts fault old new h s
+unwritten-counts : (fault : StoreFault) (old new : ℕ) → new ≡ counted (length (still_new fault)) old → Refusing (store_fault_status fault) → new ≡ old
+unwritten-counts (store.ReadFailed name) old new h s = h
+unwritten-counts (store.WriteFailed name files) old new h (inl e) = absurd (omega (arith, e))
+unwritten-counts (store.WriteFailed name files) old new h (inr e) = absurd (omega (arith, e))
+unwritten-counts (store.NoFile name) old new h s = h
+unwritten-counts store.OutputFailed old new h s = h
+unwritten-counts store.OutOfMemory old new h s = h
+
+abbrev Same : Seen → Seen → Type 0
+Same before after = (after.content ≡ before.content) × (after.replaces ≡ before.replaces)
+
+untouched-same : (before after : Seen) → Untouched before after → Same before after
+untouched-same before after u = (u.kept, u.no_replace)
+
+not-done : (before after : Seen) → Refusing 0 → Same before after
+not-done before after (inl e) = absurd (omega (arith, e))
+not-done before after (inr e) = absurd (omega (arith, e))
+
+step-keeps : (dir : Option (List ℕ)) (step : Step) (before after : Seen) (end : Result Said Stop) → StepEnds dir step before after end → Refusing (status end) → Same before after
+step-keeps dir step before after _ (not_opened stop u opens) s = untouched-same before after u
+step-keeps dir step before after _ (refused old log stop u opens may) s = untouched-same before after u
+step-keeps dir step before after _ (told old new log report u opens does only) s = untouched-same before after u
+step-keeps dir step before after _ (done e put counts) s = not-done before after s
+step-keeps dir step before after _ (unwritten e fault halts counts) s =
+    (unwritten-keeps (written e) before.content after.content before.failures after.failures fault halts s, unwritten-counts fault before.replaces after.replaces counts s)
+step-keeps dir step before after _ (no_memory stop u wants) s = untouched-same before after u
+
+pub status-keeps : (asked : Result Asked UsageFault) (before after : Seen) (end : Result Said Stop) → Ends asked before after end → Refusing (status end) → Same before after
+status-keeps asked before after _ (misused fault u is) s = untouched-same before after u
+status-keeps asked before after _ (helped a text u is shows) s = untouched-same before after u
+status-keeps asked before after _ (asks_for_none a stop u is none) s = untouched-same before after u
+status-keeps asked before after _ (steps a step end is asks ends) s = step-keeps a.dir step before after end ends s
+status-keeps asked before after _ (memory_ran_out stop u wants) s = untouched-same before after u
+
+-- ---- what was asked for
+
+pub asks-help : (a : Action) (held : Option Content) (text : List ℕ) → AsksFor a held (request.Help text) → a ≡ action.Help text
+asks-help (action.Run s) held text is = absurd (let no : ⊥ = cc in no)
+asks-help (action.Info c) held text is = absurd (let no : ⊥ = cc in no)
+asks-help (action.ScriptText t) held text (cs, of, is) = absurd (let no : ⊥ = cc in no)
+asks-help (action.ScriptFile n) held text (cs, of, is) = absurd (let no : ⊥ = cc in no)
+asks-help action.Undo held text is = absurd (let no : ⊥ = cc in no)
+asks-help action.Redo held text is = absurd (let no : ⊥ = cc in no)
+asks-help (action.Help t) held text is = let same : t ≡ text = cc in ap action.Help same
+
+pub asks-no-step : (a : Action) (held : Option Content) (step : Step) → AsksFor a held (request.Step step) → IsTrue (shows_help a) → ⊥
+asks-no-step (action.Run s) held step is t = let no : ⊥ = cc in no
+asks-no-step (action.Info c) held step is t = let no : ⊥ = cc in no
+asks-no-step (action.ScriptText text) held step is t = let no : ⊥ = cc in no
+asks-no-step (action.ScriptFile n) held step is t = let no : ⊥ = cc in no
+asks-no-step action.Undo held step is t = let no : ⊥ = cc in no
+asks-no-step action.Redo held step is t = let no : ⊥ = cc in no
+asks-no-step (action.Help text) held step is t = let no : ⊥ = cc in no
+
+pub not-asked : (a : Asked) (b c : Seen) → Untouched b c → (stop : Stop) → WantsMemory stop ⊎ AsksForNone a.action b.content b.failures c.failures stop → Ends (Ok (without_text a)) b c (Err stop)
+not-asked a b c u stop (inl m) = memory_ran_out stop u m
+not-asked a b c u stop (inr none) = asks_for_none a stop u refl none
+
+pub not-used : (asked : Result Asked UsageFault) (b c : Seen) → Untouched b c → (fault : UsageFault) → WantsMemory (Usage fault) ⊎ (asked ≡ Err fault) → Ends asked b c (Err (Usage fault))
+not-used asked b c u fault (inl m) = memory_ran_out (Usage fault) u m
+not-used asked b c u fault (inr is) = misused fault u is
+
+pub shows-same : (a : Asked) → IsTrue (shows_help (without_text a).action) → IsTrue (shows_help a.action)
+shows-same a t = go a.action t
+  where
+    go : (x : Action) → IsTrue (shows_help (without_text (record { dir = None; action = x })).action) → IsTrue (shows_help x)
+    go (action.Run s) t = t
+    go (action.Info c) t = t
+    go (action.ScriptText text) t = t
+    go (action.ScriptFile n) t = t
+    go action.Undo t = t
+    go action.Redo t = t
+    go (action.Help text) t = t

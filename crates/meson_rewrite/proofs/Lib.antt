@@ -1,10 +1,7 @@
 pub mod Telling
-pub mod Commits
-pub mod EnteredNames
-pub mod EnteredFiles
-pub mod Stopping
-pub mod Places
-pub mod Loadable
-pub mod SameNames
-pub mod Counts
+pub mod Wants
+pub mod Names
+pub mod Listings
+pub mod Scripts
 pub mod Endings
+pub mod Opened

@@ -2,7 +2,7 @@
 use Rattle.std.proofs.Common.{List, [], ℕ, Option, Some, None, sym, refl}
 use Rattle.std.proofs.lemmas.List.{append-nil}
 use Rattle.std.specs.Io.KnownBytes.{Appends}
-use Rattle.meson_rewrite.specs.Output.{Heard, Gets}
+use Rattle.meson_store.specs.Output.{Heard, Gets}
 
 appends_nothing : (c : Option (List ℕ)) → Appends c c []
 appends_nothing None = tt

@@ -1,26 +1,38 @@
--- What the step answers that does the command.
-use Rattle.std.specs.Prelude.{◌≡◌, ◌≢◌, length}
-use Rattle.meson_steps.specs.declared.command.Command.{Command}
-use Rattle.meson_steps.specs.declared.command.Done as plan
-use Rattle.meson_calls.specs.declared.refusal.Refusal.TheVariants as refusal
-use Rattle.meson_calls.specs.Loading.{Loaded}
-use Rattle.meson_plan.specs.Performing.{Performs, MayRefuse}
-use Rattle.meson_rewrite.specs.declared.program.Edit.{Edit}
-use Rattle.meson_rewrite.specs.declared.stop.Stop.{Stop}
-use Rattle.meson_rewrite.specs.declared.stop.Stop.TheVariants.{Usage, Parse, TooManyFiles, Refused, Store}
-use Rattle.meson_rewrite.specs.declared.store_fault.StoreFault.TheVariants.{OutOfMemory}
+-- What is to be written of a session after a step.
+use Rattle.std.specs.Prelude.{◌≡◌, ◌<◌, ⊤, ℕ, List, Ok}
+use Rattle.meson_calls.specs.Loading.{IsProject}
+use Rattle.meson_json.specs.Log.{log_of}
+use Rattle.meson_calls.specs.declared.load_fault.LoadFault.TheVariants as load
+use Rattle.meson_script.specs.declared.fault.UndoFault.{UndoFault}
+use Rattle.meson_script.specs.declared.fault.UndoFault.TheVariants as undo
+use Rattle.meson_script.specs.declared.session.Report.{Report}
+use Rattle.meson_script.specs.declared.session.Session.{Session}
+use Rattle.meson_rewrite.specs.Logs.{with_log}
+use Rattle.meson_rewrite.specs.Steps.{Does, says}
+use Rattle.meson_rewrite.specs.declared.editing.Edit.{Edit}
+use Rattle.meson_rewrite.specs.declared.request.Step.{Step}
+use Rattle.meson_rewrite.specs.declared.said.Said.{Said}
 
--- the files as they were, and how many splices there were
-pub record IsEdited (old : Loaded) (command : Command) (new : Loaded) (edit : Edit) : Type 0 where
-  pub done : plan.Done
-  pub performs : Performs old command done new
-  pub before : edit.before ≡ old.files
-  pub splices : edit.splices ≡ length done.change.splices
+-- the files with the log before and after a step, and what is said of it
+pub record IsEdited (old : Session) (log : List ℕ) (step : Step) (edit : Edit) : Type 0 where
+  pub new : Session
+  pub is_project : IsProject new.project
+  pub report : Report
+  pub does : Does step old report new
+  pub new_log : List ℕ
+  pub is_log : log_of new.history ≡ Ok new_log
+  pub before : edit.before ≡ with_log old.project.files log
+  pub after : edit.after ≡ with_log new.project.files new_log
+  pub said : edit.said ≡ says step report
 
--- why the command is not done
-abbrev pub IsNotEdited : Loaded → Command → Stop → Type 0
-IsNotEdited project command Usage = ⊥
-IsNotEdited project command (Parse name fault) = ⊥
-IsNotEdited project command TooManyFiles = ⊥
-IsNotEdited project command (Refused why) = (why ≢ refusal.OutOfMemory) × MayRefuse project command why
-IsNotEdited project command (Store fault) = fault ≡ OutOfMemory
+-- a step that only tells
+pub record IsTold (old : Session) (step : Step) (said : Said) : Type 0 where
+  pub new : Session
+  pub report : Report
+  pub does : Does step old report new
+  pub is_said : said ≡ says step report
+
+-- the number of a file that would be none is that of one of so many files
+abbrev pub IsWithin : UndoFault → ℕ → Type 0
+IsWithin (undo.Load (load.Parse place fault)) many = place < many
+IsWithin _ many = ⊤

@@ -1,137 +1,115 @@
 -- How a run of the program ends: what it says, and what the store then holds.
-use Rattle.std.specs.Prelude.{◌≡◌, ◌≢◌, ◌⊎◌, ⊤, ℕ, List, [], ◌∷◌, length, codes, Option, Some, None, Result, Ok, Err}
-use Rattle.meson_calls.specs.declared.call.Role.TheVariants as role
-use Rattle.meson_steps.specs.declared.command.Command.{Command}
-use Rattle.meson_steps.specs.declared.command.Command.TheVariants.{KwargsSet}
-use Rattle.meson_steps.specs.declared.command.Done as plan
-use Rattle.meson_steps.specs.declared.command.Setting.TheVariants.{Text}
-use Rattle.meson_calls.specs.declared.refusal.Refusal.{Refusal}
-use Rattle.meson_calls.specs.declared.refusal.Refusal.TheVariants as refusal
-use Rattle.meson_calls.specs.Directories.{build_file}
-use Rattle.meson_calls.specs.Loading.{Loaded, IsProject}
-use Rattle.meson_plan.specs.Performing.{Performs, MayRefuse}
-use Rattle.meson_rewrite.specs.Calls.{counted}
-use Rattle.meson_rewrite.specs.Commit.{Put, puts, put_all, HaltsWith}
-use Rattle.meson_rewrite.specs.Content.{Content, Rose}
-use Rattle.meson_rewrite.specs.Gathering.{whole, rootless, unparsed, unread, too_many, Finds}
-use Rattle.meson_rewrite.specs.Lines.{done_line, left_by, status, stop_lines}
-use Rattle.meson_rewrite.specs.Output.{Heard, Gets, Fails}
-use Rattle.meson_rewrite.specs.Words.{Request, help, set_version}
-use Rattle.meson_rewrite.specs.declared.stop.Done.{Done}
-use Rattle.meson_rewrite.specs.declared.stop.Done.TheVariants.{Help, Edited}
+use Rattle.std.specs.Prelude.{◌≡◌, ◌≤◌, ◌⊎◌, ⊤, IsTrue, true, ℕ, List, [], length, Option, Result, Ok, Err}
+use Rattle.meson_calls.specs.Loading.{IsProject}
+use Rattle.meson_json.specs.Log.{log_of}
+use Rattle.meson_script.specs.declared.session.Report.{Report}
+use Rattle.meson_script.specs.declared.session.Session.{Session}
+use Rattle.meson_command.specs.Asking.{without_text}
+use Rattle.meson_command.specs.declared.asked.Action.TheVariants.{Help}
+use Rattle.meson_command.specs.declared.asked.Asked.{Asked}
+use Rattle.meson_command.specs.declared.fault.UsageFault.{UsageFault}
+use Rattle.meson_store.specs.Calls.{counted}
+use Rattle.meson_store.specs.Commit.{Put, HaltsWith, puts, put_all, still_new}
+use Rattle.meson_store.specs.Content.{Content}
+use Rattle.meson_store.specs.Output.{Heard, Gets, Fails}
+use Rattle.meson_store.specs.declared.store_fault.StoreFault.{StoreFault}
+use Rattle.meson_rewrite.specs.Lines.{stop_lines, status}
+use Rattle.meson_rewrite.specs.Logs.{with_log}
+use Rattle.meson_rewrite.specs.Opening.{Opens, OpensNone}
+use Rattle.meson_rewrite.specs.Requests.{AsksFor, AsksForNone, shows_help}
+use Rattle.meson_rewrite.specs.Steps.{Does, MayRefuse, only_tells, says}
+use Rattle.meson_rewrite.specs.Stops.{WantsMemory}
+use Rattle.meson_rewrite.specs.declared.request.Request.TheVariants as request
+use Rattle.meson_rewrite.specs.declared.request.Step.{Step}
+use Rattle.meson_rewrite.specs.declared.said.Said.{Said}
 use Rattle.meson_rewrite.specs.declared.stop.Stop.{Stop}
-use Rattle.meson_rewrite.specs.declared.stop.Stop.TheVariants.{Usage, Parse, TooManyFiles, Refused, Store}
-use Rattle.meson_rewrite.specs.declared.store_fault.StoreFault.{StoreFault}
-use Rattle.meson_rewrite.specs.declared.store_fault.StoreFault.TheVariants as store
+use Rattle.meson_rewrite.specs.declared.stop.Stop.TheVariants.{Usage, Store}
 
--- ---- the project and the command
+-- what is known of a store: what it holds, if it tells it, how many calls failed, and how many replaces may have changed a file
+pub record Seen : Type 0 where
+  pub content : Option Content
+  pub failures : ℕ
+  pub replaces : ℕ
 
--- the keyword argument `version` of the project with that id gets the value
-abbrev pub version_command : List ℕ → List ℕ → Command
-version_command id value = KwargsSet role.Project id ((codes "version", Text value) ∷ [])
+abbrev pub seen : Option Content → ℕ → ℕ → Seen
+seen content failures replaces = record { content = content; failures = failures; replaces = replaces }
 
--- the project of the files of that folder, in a store that told `before`
-pub record IsRead (before : Option Content) (folder : Option (List ℕ)) (project : Loaded) : Type 0 where
-  pub found : Finds before folder (whole project.files)
-  pub is_project : IsProject project
+-- it was read at most
+pub record Untouched (before after : Seen) : Type 0 where
+  pub kept : after.content ≡ before.content
+  pub counts : before.failures ≤ after.failures
+  pub no_replace : after.replaces ≡ before.replaces
 
--- the command makes another project of the one that was read
-pub record Edits (before : Option Content) (folder : Option (List ℕ)) (id value : List ℕ) : Type 0 where
-  pub old : Loaded
-  pub is_read : IsRead before folder old
+-- ---- a step on the project of a folder
+
+-- the session that the store has becomes another one, whose log is the last of the files
+pub record Edits (before : Option Content) (dir : Option (List ℕ)) (step : Step) : Type 0 where
+  pub old : Session
+  pub log : List ℕ
+  pub opens : Opens before dir old log
+  pub new : Session
   -- its files read as its trees
-  pub new : Loaded
-  pub is_project : IsProject new
-  pub done : plan.Done
-  pub performs : Performs old (version_command id value) done new
+  pub is_project : IsProject new.project
+  pub report : Report
+  pub does : Does step old report new
+  pub new_log : List ℕ
+  pub is_log : log_of new.history ≡ Ok new_log
 
--- the files that get other bytes, each with them
-abbrev pub written : {before : Option Content} {folder : Option (List ℕ)} {id value : List ℕ} → Edits before folder id value → List Put
-written {folder = folder} e = puts folder e.old.files e.new.files
+-- the files that get other bytes, each with them, and the log behind them
+abbrev pub written : {before : Option Content} {dir : Option (List ℕ)} {step : Step} → Edits before dir step → List Put
+written {dir = dir} e = puts dir (with_log e.old.project.files e.log) (with_log e.new.project.files e.new_log)
 
--- ---- how the command ends, on a store that told `before` and tells `after`, with the counts of its device's failures
+module _ (dir : Option (List ℕ)) (step : Step) (before after : Seen) where
+  pub data StepEnds : Result Said Stop → Type 0 where
+    -- there is no session
+    not_opened : (stop : Stop) → Untouched before after → OpensNone before.content dir before.failures after.failures stop → StepEnds (Err stop)
+    -- the step is refused on it
+    refused : (old : Session) (log : List ℕ) (stop : Stop) → Untouched before after → Opens before.content dir old log → MayRefuse step old stop → StepEnds (Err stop)
+    -- its listings are told, and nothing is written
+    told : (old new : Session) (log : List ℕ) (report : Report) → Untouched before after → Opens before.content dir old log → Does step old report new → only_tells step ≡ true
+        → StepEnds (Ok (says step report))
+    -- each file that differs was replaced, then the log, and no other
+    done : (edits : Edits before.content dir step) → after.content ≡ put_all (written edits) before.content
+        → after.replaces ≡ counted (length (written edits)) before.replaces → StepEnds (Ok (says step edits.report))
+    -- some of these may have been replaced, and the fault tells which
+    unwritten : (edits : Edits before.content dir step) (fault : StoreFault) → HaltsWith (written edits) before.content after.content before.failures after.failures fault
+        → after.replaces ≡ counted (length (still_new fault)) before.replaces → StepEnds (Err (Store fault))
+    no_memory : (stop : Stop) → Untouched before after → WantsMemory stop → StepEnds (Err stop)
 
-module _ (folder : Option (List ℕ)) (id value : List ℕ) (before after : Option Content) (failed failed' : ℕ) where
-  -- each file that differs was replaced, and no other
-  pub record Replaces (files splices : ℕ) : Type 0 where
-    pub edits : Edits before folder id value
-    pub is_after : after ≡ put_all (written edits) before
-    pub are_files : files ≡ length (written edits)
-    pub are_splices : splices ≡ length edits.done.change.splices
+-- ---- a whole run, by what the words ask for
 
-  -- some of these files may have been replaced, and the fault tells which
-  pub record WriteFails (fault : StoreFault) : Type 0 where
-    pub edits : Edits before folder id value
-    pub halts : HaltsWith (written edits) before after failed failed' fault
+pub data Ends (asked : Result Asked UsageFault) (before after : Seen) : Result Said Stop → Type 0 where
+  misused : (fault : UsageFault) → Untouched before after → asked ≡ Err fault → Ends asked before after (Err (Usage fault))
+  helped : (a : Asked) (text : List ℕ) → Untouched before after → asked ≡ Ok (without_text a) → a.action ≡ Help text → Ends asked before after (Ok (record { out = text; err = [] }))
+  -- the words ask for a script that is none
+  asks_for_none : (a : Asked) (stop : Stop) → Untouched before after → asked ≡ Ok (without_text a)
+      → AsksForNone a.action before.content before.failures after.failures stop → Ends asked before after (Err stop)
+  steps : (a : Asked) (step : Step) (end : Result Said Stop) → asked ≡ Ok (without_text a) → AsksFor a.action before.content (request.Step step)
+      → StepEnds a.dir step before after end → Ends asked before after end
+  memory_ran_out : (stop : Stop) → Untouched before after → WantsMemory stop → Ends asked before after (Err stop)
 
-  pub record Refuses (why : Refusal) : Type 0 where
-    pub old : Loaded
-    pub is_read : IsRead before folder old
-    pub may : MayRefuse old (version_command id value) why
-
-  abbrev pub StoreStops : StoreFault → Type 0
-  StoreStops (store.ReadFailed name) = (after ≡ before) × Rose failed failed' × Finds before folder (unread name)
-  StoreStops (store.WriteFailed name still_new) = WriteFails (store.WriteFailed name still_new)
-  StoreStops (store.NoFile name) = (after ≡ before) × (name ≡ build_file) × Finds before folder rootless
-  StoreStops store.OutputFailed = ⊥
-  StoreStops store.OutOfMemory = after ≡ before
-
-  abbrev pub Stops : Stop → Type 0
-  Stops Usage = ⊥
-  Stops (Parse name fault) = (after ≡ before) × Finds before folder (unparsed name fault)
-  Stops TooManyFiles = (after ≡ before) × Finds before folder too_many
-  Stops (Refused why) = (after ≡ before) × (why ≢ refusal.OutOfMemory) × Refuses why
-  Stops (Store fault) = StoreStops fault
-
-  abbrev pub Does : Done → Type 0
-  Does Help = ⊥
-  Does (Edited files splices) = Replaces files splices
-
-  abbrev pub CommandEnds : Result Done Stop → Type 0
-  CommandEnds (Ok done) = Does done
-  CommandEnds (Err stop) = Stops stop
-
--- how a run ends that was asked for this
-abbrev pub Ends : Option Request → Option Content → Option Content → ℕ → ℕ → Result Done Stop → Type 0
-Ends None before after failed failed' end = (after ≡ before) × (end ≡ Err Usage)
-Ends (Some help) before after failed failed' end = (after ≡ before) × (end ≡ Ok Help)
-Ends (Some (set_version folder id value)) before after failed failed' end = CommandEnds folder id value before after failed failed' end
-
--- ---- how many replaces may have changed their file
-
--- as many as files differ, or as the fault lists; none on any other ending
-abbrev pub RunCounted : Result Done Stop → ℕ → ℕ → Type 0
-RunCounted (Ok Help) old new = new ≡ old
-RunCounted (Ok (Edited files splices)) old new = new ≡ counted files old
-RunCounted (Err stop) old new = new ≡ counted (length (left_by stop)) old
+-- nothing is asked of the store
+abbrev pub NeedsNoStore : Result Asked UsageFault → Type 0
+NeedsNoStore (Err fault) = ⊤
+NeedsNoStore (Ok a) = IsTrue (shows_help a.action)
 
 -- ---- what is written
 
--- one writer got the lines of the ending, and the other nothing
-abbrev pub Says : Result Done Stop → Heard → Heard → Heard → Heard → Type 0
-Says (Ok done) out out' err err' = Gets out out' (done_line done) × (err' ≡ err)
+-- what a run says goes to the writer of errors and to that of output; the lines that tell why it was stopped, to that of errors alone
+abbrev pub Says : Result Said Stop → Heard → Heard → Heard → Heard → Type 0
+Says (Ok said) out out' err err' = Gets out out' said.out × Gets err err' said.err
 Says (Err stop) out out' err err' = Gets err err' (stop_lines stop) × (out' ≡ out)
 
--- that writer failed
-abbrev pub CannotSay : Result Done Stop → Heard → Heard → Heard → Heard → Type 0
-CannotSay (Ok done) out out' err err' = Fails out out' × (err' ≡ err)
+-- one of these writers failed
+abbrev pub CannotSay : Result Said Stop → Heard → Heard → Heard → Heard → Type 0
+CannotSay (Ok said) out out' err err' = (Fails err err' × (out' ≡ out)) ⊎ (Gets err err' said.err × Fails out out')
 CannotSay (Err stop) out out' err err' = Fails err err' × (out' ≡ out)
 
--- the status and the lines of the ending, or status 3 where its writer failed
-abbrev pub Tells : ℕ → Heard → Heard → Heard → Heard → Result Done Stop → Type 0
+-- the status and the lines of the ending, or status 3 where a writer failed
+abbrev pub Tells : ℕ → Heard → Heard → Heard → Heard → Result Said Stop → Type 0
 Tells code out out' err err' end = ((code ≡ status end) × Says end out out' err err') ⊎ ((code ≡ 3) × CannotSay end out out' err err')
 
--- ---- a whole run
-
-pub record Run (asked : Option Request) (before after : Option Content) (failed failed' replaces replaces' code : ℕ)
-    (out out' err err' : Heard) : Type 0 where
-  pub end : Result Done Stop
-  pub ends : Ends asked before after failed failed' end
-  pub replaced : RunCounted end replaces replaces'
+pub record Run (asked : Result Asked UsageFault) (before after : Seen) (code : ℕ) (out out' err err' : Heard) : Type 0 where
+  pub end : Result Said Stop
+  pub ends : Ends asked before after end
   pub tells : Tells code out out' err err' end
-
--- nothing is asked of the store
-abbrev pub NeedsNoStore : Option Request → Type 0
-NeedsNoStore None = ⊤
-NeedsNoStore (Some help) = ⊤
-NeedsNoStore (Some (set_version folder id value)) = ⊥

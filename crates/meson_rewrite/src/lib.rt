@@ -1,23 +1,14 @@
-//! Edits `meson.build` files in place: stores of named files, and the program over any of them.
+//! Edits `meson.build` files in place: the program over any store of named files and any two writers.
 #![tactic(auto)]
 
-mod committing;
-mod folder;
-mod gathering;
+mod editing;
 mod line;
 mod lines;
-mod memory;
-mod output;
+mod opening;
 mod program;
+mod request;
+mod said;
 mod stop;
-mod store;
-mod store_fault;
-mod words;
 
-pub use committing::commit;
-pub use folder::Folder;
-pub use memory::Memory;
-pub use output::{Counted, Output};
+pub use meson_store::{Counted, Folder, Memory, Output, Store, StoreError, StoreFault, commit};
 pub use program::rewrite;
-pub use store::{Store, StoreError};
-pub use store_fault::StoreFault;

@@ -2,11 +2,11 @@
 
 ghost use Rattle.std.specs.Prelude.{◌≡◌, ◌∷◌, [], IfOk, MatchResult, map};
 ghost use Rattle.std.specs.List.{concat};
-ghost use Rattle.meson_rewrite.specs.Output.{Gets, Fails};
+ghost use Rattle.meson_store.specs.Output.{Gets, Fails};
 ghost use Rattle.meson_rewrite.specs.Parts.{about_text, line_text};
 
-use crate::Output;
 use itoa::Buffer;
+use meson_store::Output;
 use std::alloc::{AllocError, Global};
 use std::io;
 
@@ -88,6 +88,17 @@ fn tell_parts<O: Output>(alloc: Global, to: &mut O, parts: &[&str]) -> io::Resul
 }
 
 impl Line<'_> {
+    /// The line as one text.
+    pub(crate) fn text(&self, alloc: Global) -> Result<Vec<u8>, AllocError>
+        ensures { IfOk result (λ text. text.items ≡ line_text self.now) }
+    {
+        let mut first = Buffer::new();
+        let mut second = Buffer::new();
+        let what = self.what.text(&mut first);
+        let about = self.about.text(&mut second);
+        joined(alloc, &parts(self.label, what, self.words, about, "\n"))
+    }
+
     /// Writes the line, by one write where there is memory to join its parts.
     pub(crate) fn tell<O: Output>(&self, alloc: Global, to: &mut O) -> io::Result<()>
         ensures { MatchResult result (λ _. Gets (O.heard to.old) (O.heard to.new) (line_text self.now))

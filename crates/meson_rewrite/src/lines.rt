@@ -1,24 +1,23 @@
 //! The lines that the program writes.
 
-ghost use Rattle.std.specs.Prelude.{◌≡◌, ◌++◌, [], MatchResult, codes};
+ghost use Rattle.std.specs.Prelude.{◌≡◌, ◌++◌, [], IfOk, MatchResult, codes, decimal};
 ghost use Rattle.meson_rewrite.specs.Lines.{line, error_line, lex_fault_line, parse_fault_line, done_line, left_lines};
 ghost use Rattle.meson_rewrite.specs.Lines.{refusal_words, refusal_about, refusal_line, store_fault_line};
-ghost use Rattle.meson_rewrite.specs.Lines.{stop_line, stop_lines, left_by};
-ghost use Rattle.meson_rewrite.specs.Output.{Gets, Fails};
+ghost use Rattle.meson_rewrite.specs.Lines.{script_fault_line, splice_fault_line, stop_line, stop_lines, left_by, usage_line};
+ghost use Rattle.meson_store.specs.Output.{Gets, Fails};
 ghost use Rattle.meson_rewrite.specs.Parts.{about_text, line_text};
 
 use crate::line::{About, Line};
-use crate::stop::{Done, Stop};
-use crate::{Output, StoreFault};
+use crate::stop::Stop;
+use meson_command::UsageFault;
+use meson_json::ScriptFault;
 use meson_lex::LexFault;
 use meson_plan::Refusal;
-use meson_splice::Text;
+use meson_splice::{SpliceFault, Text};
+use meson_store::{Output, StoreFault};
 use meson_syntax::ParseFault;
-use std::alloc::Global;
+use std::alloc::{AllocError, Global};
 use std::io;
-
-/// The number of the one command.
-const COMMAND: usize = 0;
 
 /// The line of a fault that says so much.
 fn fault(words: &'static str) -> Line<'static>
@@ -144,15 +143,98 @@ fn store_fault_line(why: &StoreFault) -> Line<'_>
     }
 }
 
+fn usage_line(why: &UsageFault) -> Line<'static>
+    ensures { line_text result ≡ usage_line why.now }
+{
+    match why {
+        UsageFault::Usage => fault("U1 usage"),
+        UsageFault::OddWords => fault("U2 odd words"),
+        UsageFault::RepeatedKey => fault("U3 repeated key"),
+        UsageFault::Unsupported => fault("U4 unsupported"),
+        UsageFault::OutOfMemory => fault("out of memory"),
+    }
+}
+
+/// The line of a fault of the entry with that number.
+fn entry_fault<'a>(index: usize, words: &'static str, name: &'a str) -> Line<'a>
+    ensures { line_text result ≡ codes "error: entry " ++ (decimal index ++ line words.now name.now) }
+{
+    Line {
+        label: "error: entry ",
+        what: About::Number(index),
+        words,
+        about: About::Name(name),
+    }
+}
+
+fn script_fault_line(why: &ScriptFault) -> Line<'_>
+    ensures { line_text result ≡ script_fault_line why.now }
+{
+    match why {
+        ScriptFault::NotJson => fault("J1 not json"),
+        ScriptFault::NotArray => fault("J2 not an array"),
+        ScriptFault::TooMany => fault("J3 too many"),
+        ScriptFault::NotObject(i) => entry_fault(*i, ": J4 not an object", ""),
+        ScriptFault::UnknownType(i) => entry_fault(*i, ": J5 unknown type", ""),
+        ScriptFault::BadField(i, name) => entry_fault(*i, ": J6 bad field ", name.get()),
+        ScriptFault::UnknownOperation(i) => entry_fault(*i, ": J7 unknown operation", ""),
+        ScriptFault::Unsupported(i) => entry_fault(*i, ": J8 unsupported", ""),
+        ScriptFault::BadLog => fault("J9 bad log"),
+        ScriptFault::OutOfMemory => fault("out of memory"),
+    }
+}
+
+/// The line of a fault of a splice at that place of a file.
+fn place_fault<'a>(words: &'static str, file: &'a str, at: usize) -> Line<'a>
+    ensures { line_text result ≡ words.now ++ (file.now ++ line (codes " at ") (decimal at)) }
+{
+    Line {
+        label: words,
+        what: About::Name(file),
+        words: " at ",
+        about: About::Number(at),
+    }
+}
+
+fn splice_fault_line(why: &SpliceFault) -> Line<'_>
+    ensures { line_text result ≡ splice_fault_line why.now }
+{
+    match why {
+        SpliceFault::NoFile(file) => named_fault("P1 no file ", file.get()),
+        SpliceFault::OutOfRange(file, at) => {
+            place_fault("error: P2 out of range in ", file.get(), *at)
+        }
+        SpliceFault::Stale(file, at) => place_fault("error: P3 stale ", file.get(), *at),
+        SpliceFault::NothingToUndo => fault("P4 nothing to undo"),
+        SpliceFault::NothingToRedo => fault("P5 nothing to redo"),
+        SpliceFault::OutOfMemory => fault("out of memory"),
+    }
+}
+
+/// The line of a file that would not have the name of a build file.
+fn bad_name_line(place: usize) -> Line<'static>
+    ensures { line_text result ≡ error_line (codes "M2 bad file name ") (decimal place) }
+{
+    Line {
+        label: "error: M2 bad file name ",
+        what: About::Number(place),
+        words: "",
+        about: About::Nothing,
+    }
+}
+
 /// The line that says why a run was stopped.
 fn stop_line(stop: &Stop) -> Line<'_>
     ensures { line_text result ≡ stop_line stop.now }
 {
     match stop {
-        Stop::Usage => fault("U1 usage"),
+        Stop::Usage(why) => usage_line(why),
+        Stop::Script(why) => script_fault_line(why),
         Stop::Parse { name, fault } => parse_fault_line(name.get(), *fault),
         Stop::TooManyFiles => fault("M1 too many files"),
-        Stop::Refused(refusal) => refusal_line(COMMAND, refusal),
+        Stop::BadFileName(place) => bad_name_line(*place),
+        Stop::Refused(why) => refusal_line(why.index, &why.refusal),
+        Stop::Splice(why) => splice_fault_line(why),
         Stop::Store(why) => store_fault_line(why),
     }
 }
@@ -196,21 +278,14 @@ pub(crate) fn tell_stop<O: Output>(alloc: Global, to: &mut O, stop: &Stop) -> io
 }
 
 /// The line that says what a run did.
-pub(crate) fn done_line(done: Done) -> Line<'static>
-    ensures { line_text result ≡ done_line done }
+pub(crate) fn done_text(alloc: Global, files: usize, splices: usize) -> Result<Vec<u8>, AllocError>
+    ensures { IfOk result (λ text. text.items ≡ done_line files splices) }
 {
-    match done {
-        Done::Help => Line {
-            label: "meson_rewrite",
-            what: About::Nothing,
-            words: "",
-            about: About::Nothing,
-        },
-        Done::Edited { files, splices } => Line {
-            label: "files: ",
-            what: About::Number(files),
-            words: ", splices: ",
-            about: About::Number(splices),
-        },
-    }
+    let line = Line {
+        label: "files: ",
+        what: About::Number(files),
+        words: ", splices: ",
+        about: About::Number(splices),
+    };
+    line.text(alloc)
 }

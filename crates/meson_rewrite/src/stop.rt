@@ -1,43 +1,69 @@
-//! How a run of the program ends.
+//! Why a run of the program is stopped.
 
-use crate::StoreFault;
-use meson_plan::Refusal;
-use meson_splice::Text;
+use meson_command::UsageFault;
+use meson_gathering::GatherFault;
+use meson_json::ScriptFault;
+use meson_script::RunFault;
+use meson_splice::{SpliceFault, Text};
+use meson_store::StoreFault;
 use meson_syntax::ParseFault;
 use std::alloc::AllocError;
 
-/// What a run did that was not stopped.
-#[derive(Clone, Copy, Debug, PartialEq, Eq)]
-pub enum Done {
-    /// It has help to show.
-    Help,
-    /// Its command is done. So many files differ, after so many splices.
-    Edited { files: usize, splices: usize },
-}
-
 /// Why a run was stopped.
-#[derive(Debug, Drop)]
-pub enum Stop {
+#[derive(Drop)]
+pub(crate) enum Stop {
     /// The words ask for nothing that the program does.
-    Usage,
-    /// The file of this name is no build file.
+    Usage(UsageFault),
+    /// The script or the log is none.
+    Script(ScriptFault),
+    /// The file of this name is no build file, or would be none.
     Parse { name: Text, fault: ParseFault },
     /// The project has more files than it may have.
     TooManyFiles,
-    /// The command is refused.
-    Refused(Refusal),
-    /// The store or a writer failed, or memory ran out.
+    /// The file of this number would not have the name of a build file.
+    BadFileName(usize),
+    /// A command of the script is refused.
+    Refused(RunFault),
+    /// The change is not taken back, or not done again.
+    Splice(SpliceFault),
+    /// The store failed, or memory ran out.
     Store(StoreFault),
 }
 
 impl From<AllocError> for Stop {
     ghost use Rattle.std.specs.Prelude.{◌≡◌};
     ghost use Rattle.meson_rewrite.specs.declared.stop.Stop.TheVariants.{Store};
-    ghost use Rattle.meson_rewrite.specs.declared.store_fault.StoreFault.TheVariants.{OutOfMemory};
+    ghost use Rattle.meson_store.specs.declared.store_fault.StoreFault.TheVariants.{OutOfMemory};
 
     ghost from_gives = { λ _ stop. stop ≡ Store OutOfMemory };
 
     fn from(_: AllocError) -> Stop {
         Stop::Store(StoreFault::OutOfMemory)
+    }
+}
+
+impl From<StoreFault> for Stop {
+    ghost use Rattle.std.specs.Prelude.{◌≡◌};
+    ghost use Rattle.meson_rewrite.specs.declared.stop.Stop.TheVariants.{Store};
+
+    ghost from_gives = { λ fault stop. stop ≡ Store fault };
+
+    fn from(fault: StoreFault) -> Stop {
+        Stop::Store(fault)
+    }
+}
+
+impl From<GatherFault> for Stop {
+    ghost use Rattle.std.specs.Prelude.{◌≡◌};
+    ghost use Rattle.meson_rewrite.specs.Stops.{gathering_stop};
+
+    ghost from_gives = { λ fault stop. stop ≡ gathering_stop fault };
+
+    fn from(fault: GatherFault) -> Stop {
+        match fault {
+            GatherFault::Parse { name, fault } => Stop::Parse { name, fault },
+            GatherFault::TooManyFiles => Stop::TooManyFiles,
+            GatherFault::Store(fault) => Stop::Store(fault),
+        }
     }
 }

@@ -1,7 +1,9 @@
-//! Tests of what no case in a file says: sets of files by themselves, and commits of several files. Expected values are written out
-//! by hand.
+//! Tests of what no case in a file says: sets of files by themselves, commits of several files, and the texts of the command line.
+//! Expected values are written out by hand.
 #![tactic(auto)]
 
+#[cfg(test)]
+mod command_line;
 #[cfg(test)]
 mod committing;
 #[cfg(test)]

@@ -1,0 +1,99 @@
+-- A step keeps the names of a project's files.
+use Rattle.std.proofs.Common.{◌≡◌, ℕ, List, [], ◌∷◌, ◌++◌, length, Result, Ok, Err, ◌⊎◌, inl, inr, refl, sym, ap, ◌∙◌, arith}
+use Rattle.std.specs.Prelude.{reverse}
+use Rattle.std.proofs.lemmas.List.{length-map, map-append}
+use Rattle.meson_splice.specs.declared.change.Change.{Change}
+use Rattle.meson_splice.specs.declared.fault.SpliceFault.{SpliceFault}
+use Rattle.meson_splice.specs.declared.fault.SpliceFault.TheVariants.{NothingToUndo, NothingToRedo, OutOfMemory}
+use Rattle.meson_splice.specs.declared.file_set.File.{File}
+use Rattle.meson_splice.specs.declared.history.History.{History}
+use Rattle.meson_splice.specs.declared.splice.Splice.{Splice}
+use Rattle.meson_splice.specs.Past.{redone, redone_from, undone, undone_from}
+use Rattle.meson_calls.specs.declared.load_fault.LoadFault.TheVariants as load
+use Rattle.meson_script.specs.Undoing.{MayNotStep}
+use Rattle.meson_script.specs.declared.fault.UndoFault.{UndoFault}
+use Rattle.meson_script.specs.declared.fault.UndoFault.TheVariants as undo
+use Rattle.meson_splice.specs.Patch.{inverses_of, patched_all, then_ok}
+use Rattle.meson_script.proofs.RunFacts.{change-names, names, runs-patch}
+use Rattle.meson_script.specs.declared.session.Report.{Report}
+use Rattle.meson_script.specs.declared.session.Session.{Session}
+use Rattle.meson_gathering.specs.Gathering.{file_of}
+use Rattle.meson_rewrite.specs.Logs.{log_name, with_log}
+use Rattle.meson_rewrite.specs.Edited.{IsWithin}
+use Rattle.meson_rewrite.specs.Steps.{Does, StopsStep}
+use Rattle.meson_rewrite.specs.Stops.{undo_stop}
+use Rattle.meson_rewrite.specs.declared.stop.Stop.{Stop}
+use Rattle.meson_rewrite.specs.declared.stop.Stop.TheVariants as stop
+use Rattle.meson_rewrite.specs.declared.request.Step.{Step}
+use Rattle.meson_rewrite.specs.declared.request.Step.TheVariants.{Run, Tell, Undo, Redo}
+
+abbrev Patched : Type 0
+Patched = Result (List File) SpliceFault
+
+abbrev Stepped : Type 0
+Stepped = Result (History × List File) SpliceFault
+
+abbrev files-of : Stepped → List File
+files-of (Ok p) = p.1
+files-of (Err e) = []
+
+refused-not : (e : SpliceFault) (p : History × List File) → ◌≡◌ {A = Stepped} (Err e) (Ok p) → ⊥
+refused-not e p is = cc
+
+-- a change of the files that gives a history too
+moved : (files : List File) (splices : List Splice) (k : List File → History) (h : History) (after : List File) (r : Patched) → patched_all files splices ≡ r
+    → then_ok r (λ fs. let s : Stepped = Ok (k fs, fs) in s) ≡ Ok (h, after) → names files ≡ names after
+moved files splices k h after (Ok more) so is = change-names files splices more so ∙ ap names (ap files-of is)
+moved files splices k h after (Err e) so is = absurd (refused-not e (h, after) is)
+
+pub undone-names : (changes future : List Change) (files : List File) (h : History) (after : List File) → undone_from changes future files ≡ Ok (h, after) → names files ≡ names after
+undone-names [] future files h after is = absurd (refused-not NothingToUndo (h, after) is)
+undone-names (c ∷ older) future files h after is =
+    moved files (inverses_of c.splices) (λ _. record { past = reverse older; future = future ++ c ∷ [] }) h after (patched_all files (inverses_of c.splices)) refl is
+
+pub redone-names : (changes past : List Change) (files : List File) (h : History) (after : List File) → redone_from changes past files ≡ Ok (h, after) → names files ≡ names after
+redone-names [] past files h after is = absurd (refused-not NothingToRedo (h, after) is)
+redone-names (c ∷ later) past files h after is =
+    moved files c.splices (λ _. record { past = past ++ c ∷ []; future = reverse later }) h after (patched_all files c.splices) refl is
+
+pub step-names : (step : Step) (old new : Session) (report : Report) → Does step old report new → names old.project.files ≡ names new.project.files
+step-names (Run script) old new report k =
+    change-names old.project.files k.splices new.project.files (runs-patch old.project new.project script.commands k.splices report.relexed k.listings k.runs)
+step-names (Tell script) old new report k =
+    change-names old.project.files k.splices new.project.files (runs-patch old.project new.project script.commands k.splices report.relexed k.listings k.runs)
+step-names Undo old new report s = undone-names (reverse old.history.past) old.history.future old.project.files new.history new.project.files s.is_step
+step-names Redo old new report s = redone-names (reverse old.history.future) old.history.past old.project.files new.history new.project.files s.is_step
+
+-- with the log behind them too
+pub logged-names : (files after : List File) (log new_log : List ℕ) → names files ≡ names after → names (with_log files log) ≡ names (with_log after new_log)
+logged-names files after log new_log same =
+    map-append (λ f. f.name) files (file_of log_name log ∷ []) ∙ ap (λ ns. ns ++ log_name ∷ []) same ∙ sym (map-append (λ f. f.name) after (file_of log_name new_log ∷ []))
+
+pub as-many : (files after : List File) → names files ≡ names after → length after ≡ length files
+as-many files after same = sym (length-map after (λ f. f.name)) ∙ ap length (sym same) ∙ length-map files (λ f. f.name)
+
+-- ---- a file that would be none
+
+abbrev KeepsNames : List File → Stepped → Type 0
+KeepsNames files step = (h : History) (after : List File) → step ≡ Ok (h, after) → names files ≡ names after
+
+pub place-within : (step : Stepped) (files : List File) → KeepsNames files step → (fault : UndoFault) → MayNotStep step fault → IsWithin fault (length files)
+place-within step files same (undo.Splice e) may = tt
+place-within step files same (undo.Load load.TooManyFiles) may = tt
+place-within step files same (undo.Load (load.BadFileName place)) may = tt
+place-within step files same (undo.Load (load.Parse place why)) (h, after, is, unloaded) =
+    let within = unloaded.2.below in
+    let many = as-many files after (same h after is) in
+    omega (arith, within, many)
+place-within step files same (undo.Load load.OutOfMemory) may = tt
+
+pub undo-within : (h : History) (files : List File) (fault : UndoFault) → MayNotStep (undone h files) fault → IsWithin fault (length files)
+undo-within h files = place-within (undone h files) files (λ k after is. undone-names (reverse h.past) h.future files k after is)
+
+pub redo-within : (h : History) (files : List File) (fault : UndoFault) → MayNotStep (redone h files) fault → IsWithin fault (length files)
+redo-within h files = place-within (redone h files) files (λ k after is. redone-names (reverse h.future) h.past files k after is)
+
+pub stops-step : (old : Session) (step : Stepped) (files : List File) → files ≡ old.project.files → (fault : UndoFault) (why : Stop) → MayNotStep step fault
+    → (why ≡ undo_stop files fault) ⊎ (why ≡ stop.Splice OutOfMemory) → StopsStep old step why
+stops-step old step files same fault why may (inl e) = (fault, may, e ∙ ap (λ fs. undo_stop fs fault) same)
+stops-step old step files same fault why may (inr e) = (undo.Splice OutOfMemory, (λ n. absurd (n refl)), e)

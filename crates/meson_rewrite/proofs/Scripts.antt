@@ -1,0 +1,57 @@
+-- What a script file's bytes are.
+use Rattle.std.proofs.Common.{◌≡◌, ℕ, List, Bool, true, false, Option, Some, Result, Err, refl, sym, ap, ◌∙◌, cond, inl, inr, ◌⊎◌, subst, option_map}
+use Rattle.std.specs.FinMap.{get}
+use Rattle.std.specs.Str.{IsUtf8, is_utf8}
+use Rattle.std.proofs.lemmas.Str.{IsUtf8-from_is_utf8, is_utf8-from_IsUtf8}
+use Rattle.serde_json.specs.Read.{read}
+use Rattle.meson_json.specs.Scripts.{script_of}
+use Rattle.meson_json.specs.declared.fault.ScriptFault.{ScriptFault}
+use Rattle.meson_json.specs.declared.fault.ScriptFault.TheVariants.{NotJson}
+use Rattle.meson_steps.specs.declared.command.Command.{Command}
+use Rattle.meson_store.specs.Content.{Content}
+use Rattle.meson_store.specs.declared.store_fault.StoreFault.{StoreFault}
+use Rattle.meson_store.specs.declared.store_fault.StoreFault.TheVariants as store
+use Rattle.meson_gathering.specs.Gathered.{IsUnread}
+use Rattle.meson_gathering.specs.Gathering.{Told}
+use Rattle.meson_rewrite.specs.Requests.{IsBad, IsNoScript, bad, script_in, unread}
+use Rattle.meson_rewrite.specs.Stops.{WantsMemory}
+use Rattle.meson_rewrite.specs.declared.stop.Stop.{Stop}
+use Rattle.meson_rewrite.specs.declared.stop.Stop.TheVariants.{Store}
+
+abbrev Read : Type 0
+Read = Result (List Command) ScriptFault
+
+by-test : (b : Bool) (x y : Read) → b ≡ true → cond b x y ≡ x
+by-test true x y e = refl
+by-test false x y e = absurd (let no : ⊥ = cc in no)
+
+by-test-not : (b : Bool) (x y : Read) → b ≡ false → cond b x y ≡ y
+by-test-not false x y e = refl
+by-test-not true x y e = absurd (let no : ⊥ = cc in no)
+
+not-text : (b : Bool) (bytes : List ℕ) → is_utf8 bytes ≡ b → (IsUtf8 bytes → ⊥) → b ≡ false
+not-text true bytes is other = absurd (other (IsUtf8-from_is_utf8 bytes is))
+not-text false bytes is other = refl
+
+pub of-text : (bytes text : List ℕ) → text ≡ bytes → IsUtf8 bytes → script_in bytes ≡ script_of (read text)
+of-text bytes text same is = by-test (is_utf8 bytes) _ _ (is_utf8-from_IsUtf8 bytes is) ∙ ap (λ t. script_of (read t)) (sym same)
+
+pub of-no-text : (bytes : List ℕ) → (IsUtf8 bytes → ⊥) → script_in bytes ≡ Err NotJson
+of-no-text bytes other = by-test-not (is_utf8 bytes) _ _ (not-text (is_utf8 bytes) bytes refl other)
+
+-- a fault of the bytes is one of the file
+pub bad-file : (held : Option Content) (failed failed' : ℕ) (name bytes : List ℕ) (why : Stop) → Told held (λ content. get content name ≡ Some bytes)
+    → WantsMemory why ⊎ IsBad (script_in bytes) why → WantsMemory why ⊎ IsNoScript held failed failed' name why
+bad-file held failed failed' name bytes why told (inl m) = inl m
+bad-file held failed failed' name bytes why told (inr b) =
+    inr (subst (IsNoScript held failed failed' name) (sym b.2) (bad b.0 (λ content is. ap (option_map script_in) (told content is) ∙ ap Some b.1)))
+
+-- a file that is not read
+pub unread-file : (held : Option Content) (failed failed' : ℕ) (name : List ℕ) (fault : StoreFault) → IsUnread failed failed' name fault
+    → WantsMemory (Store fault) ⊎ IsNoScript held failed failed' name (Store fault)
+unread-file held failed failed' name (store.ReadFailed n) (e, rose) =
+    inr (subst (λ m. IsNoScript held failed failed' name (Store (store.ReadFailed m))) (sym e) (unread rose))
+unread-file held failed failed' name (store.WriteFailed n still_new) h = absurd h
+unread-file held failed failed' name (store.NoFile n) h = absurd h
+unread-file held failed failed' name store.OutputFailed h = absurd h
+unread-file held failed failed' name store.OutOfMemory h = inl refl

@@ -1,7 +1,0 @@
-use Rattle.std.proofs.Common.{◌≡◌, ◌++◌, map, drop}
-use Rattle.meson_rewrite.specs.Commit.{names_of}
-use Rattle.meson_rewrite.specs.Planned.{put_of}
-use Rattle.meson_rewrite.proofs.committing.names_of.Given as goal
-
-abbrev pub invariant-loop-file : goal.invariant-loop-file
-invariant-loop-file l = l.names.items ++ names_of (map put_of (drop l.file-index l.plan)) ≡ names_of (map put_of l.plan)

@@ -1,0 +1,28 @@
+use Rattle.std.proofs.Common.{◌∙◌, ap, length, subst, sym}
+use Rattle.meson_splice.specs.Past.{redone, undone}
+use Rattle.meson_rewrite.proofs.Names.{redo-within, stops-step, undo-within}
+use Rattle.meson_rewrite.specs.Edited.{IsWithin}
+use Rattle.meson_rewrite.specs.Steps.{MayRefuse}
+use Rattle.meson_rewrite.proofs.editing.act.Goals as goal
+
+pub undo_stop-requires : goal.undo_stop-requires
+undo_stop-requires c =
+    let old = c.args.session.now in
+    subst (λ files. IsWithin c.in-Err.fault (length files)) (sym (c.files.ensures ∙ ap (λ s. s.project.files) c.in-Err.ensures.kept)) (undo-within old.history old.project.files c.in-Err.fault c.in-Err.ensures.refused)
+
+pub returns-in-Err-clause-refused : goal.returns-in-Err-clause-refused
+returns-in-Err-clause-refused c =
+    let old = c.args.session.now in
+    subst (λ s. MayRefuse s old c.undo_stop.result) (sym c.in-Undo.is)
+    (stops-step old (undone old.history old.project.files) c.files.result.now (c.files.ensures ∙ ap (λ s. s.project.files) c.in-Err.ensures.kept) c.in-Err.fault c.undo_stop.result c.in-Err.ensures.refused c.undo_stop.ensures)
+
+pub undo_stop-requires-in-Err-redo : goal.undo_stop-requires-in-Err-redo
+undo_stop-requires-in-Err-redo c =
+    let old = c.args.session.now in
+    subst (λ files. IsWithin c.in-Err-redo.fault (length files)) (sym (c.files-in-Err-redo.ensures ∙ ap (λ s. s.project.files) c.in-Err-redo.ensures.kept)) (redo-within old.history old.project.files c.in-Err-redo.fault c.in-Err-redo.ensures.refused)
+
+pub returns-in-Err-redo-clause-refused : goal.returns-in-Err-redo-clause-refused
+returns-in-Err-redo-clause-refused c =
+    let old = c.args.session.now in
+    subst (λ s. MayRefuse s old c.undo_stop-in-Err-redo.result) (sym c.in-Redo.is)
+    (stops-step old (redone old.history old.project.files) c.files-in-Err-redo.result.now (c.files-in-Err-redo.ensures ∙ ap (λ s. s.project.files) c.in-Err-redo.ensures.kept) c.in-Err-redo.fault c.undo_stop-in-Err-redo.result c.in-Err-redo.ensures.refused c.undo_stop-in-Err-redo.ensures)

@@ -1,0 +1,30 @@
+use Rattle.std.proofs.Common.{◌∙◌, ap, sym}
+use Rattle.meson_script.proofs.RunFacts.{names}
+use Rattle.meson_rewrite.proofs.Listings.{does-plain}
+use Rattle.meson_rewrite.proofs.Names.{logged-names, step-names}
+use Rattle.meson_rewrite.specs.Logs.{with_log}
+use Rattle.meson_rewrite.proofs.editing.edited.Goals as goal
+
+pub returns-clause-same_names : goal.returns-clause-same_names
+returns-clause-same_names c =
+    let old = c.args.opened.session in
+    let new = c.act.new.session in
+    ap names c.in_ok-before.ensures
+    ∙ logged-names _ _ _ _ (ap names c.files.ensures ∙ step-names c.args.step.now old new c.in-Ok.report c.in-Ok.ensures.does ∙ ap names (sym c.files-2.ensures))
+    ∙ ap names (sym c.in_ok-after.ensures)
+
+pub of-requires : goal.of-requires
+of-requires c = does-plain c.args.step.now c.args.opened.session c.act.new.session c.in-Ok.report c.in-Ok.ensures.does
+
+pub returns-clause-edited : goal.returns-clause-edited
+returns-clause-edited c = record {
+  new = c.act.new.session;
+  is_project = c.in-Ok.ensures.project;
+  report = c.in-Ok.report;
+  does = c.in-Ok.ensures.does;
+  new_log = c.in-Ok-new_log.text.items;
+  is_log = c.in-Ok-new_log.ensures.log;
+  before = c.in_ok-before.ensures ∙ ap (λ files. with_log files c.args.opened.log.items) c.files.ensures;
+  after = c.in_ok-after.ensures ∙ ap (λ files. with_log files c.in-Ok-new_log.text.items) c.files-2.ensures;
+  said = c.in_ok-said.ensures;
+}

@@ -1,0 +1,60 @@
+use Rattle.std.proofs.Common.{◌∙◌, option_map, sym}
+use Rattle.meson_rewrite.proofs.Endings.{done-ends, failed-ends, stopped-acting, stopped-opening, told-ends}
+use Rattle.meson_rewrite.specs.Runs.{Untouched, seen}
+use Rattle.meson_rewrite.proofs.program.do_step.Goals as goal
+
+pub returns-in-Err-clause-ends : goal.returns-in-Err-clause-ends
+returns-in-Err-clause-ends g c =
+    let S = g.S.Store in
+    let dir = option_map (λ d. d.now) c.args.dir in
+    let b = seen (S.content c.args.store.now) (S.failures c.args.store.now) (S.replaces c.args.store.now) in
+    let a = seen (S.content c.open.new.store) (S.failures c.open.new.store) (S.replaces c.open.new.store) in
+    let u : Untouched b a = record { kept = c.open.ensures.kept; counts = c.open.ensures.counts; no_replace = c.open.ensures.no_replace } in
+    stopped-opening dir c.args.step.now b a u c.in-Err.stop c.in-Err.ensures.none
+
+pub returns-in-Ok-told-clause-ends : goal.returns-in-Ok-told-clause-ends
+returns-in-Ok-told-clause-ends g c =
+    let S = g.S.Store in
+    let dir = option_map (λ d. d.now) c.args.dir in
+    let b = seen (S.content c.args.store.now) (S.failures c.args.store.now) (S.replaces c.args.store.now) in
+    let a = seen (S.content c.open.new.store) (S.failures c.open.new.store) (S.replaces c.open.new.store) in
+    let u : Untouched b a = record { kept = c.open.ensures.kept; counts = c.open.ensures.counts; no_replace = c.open.ensures.no_replace } in
+    told-ends dir c.args.step.now b a u c.in-Ok.opened.session c.in-Ok.opened.log.items c.in-Ok.ensures.opens (sym c.only_tells.ensures ∙ c.if-only_tells.true) c.in-Ok-told.said c.in-Ok-told.ensures.told
+
+pub returns-in-Err-told-clause-ends : goal.returns-in-Err-told-clause-ends
+returns-in-Err-told-clause-ends g c =
+    let S = g.S.Store in
+    let dir = option_map (λ d. d.now) c.args.dir in
+    let b = seen (S.content c.args.store.now) (S.failures c.args.store.now) (S.replaces c.args.store.now) in
+    let a = seen (S.content c.open.new.store) (S.failures c.open.new.store) (S.replaces c.open.new.store) in
+    let u : Untouched b a = record { kept = c.open.ensures.kept; counts = c.open.ensures.counts; no_replace = c.open.ensures.no_replace } in
+    stopped-acting dir c.args.step.now b a u c.in-Ok.opened.session c.in-Ok.opened.log.items c.in-Ok.ensures.opens c.in-Err-told.stop c.in-Err-told.ensures.refused
+
+pub returns-in-Err-edited-clause-ends : goal.returns-in-Err-edited-clause-ends
+returns-in-Err-edited-clause-ends g c =
+    let S = g.S.Store in
+    let dir = option_map (λ d. d.now) c.args.dir in
+    let b = seen (S.content c.args.store.now) (S.failures c.args.store.now) (S.replaces c.args.store.now) in
+    let a = seen (S.content c.open.new.store) (S.failures c.open.new.store) (S.replaces c.open.new.store) in
+    let u : Untouched b a = record { kept = c.open.ensures.kept; counts = c.open.ensures.counts; no_replace = c.open.ensures.no_replace } in
+    stopped-acting dir c.args.step.now b a u c.in-Ok.opened.session c.in-Ok.opened.log.items c.in-Ok.ensures.opens c.in-Err-edited.stop c.in-Err-edited.ensures.refused
+
+pub returns-in-Ok-commit-clause-ends : goal.returns-in-Ok-commit-clause-ends
+returns-in-Ok-commit-clause-ends g c =
+    let S = g.S.Store in
+    let dir = option_map (λ d. d.now) c.args.dir in
+    let b = seen (S.content c.args.store.now) (S.failures c.args.store.now) (S.replaces c.args.store.now) in
+    let m = seen (S.content c.open.new.store) (S.failures c.open.new.store) (S.replaces c.open.new.store) in
+    let a = seen (S.content c.commit.new.store) (S.failures c.commit.new.store) (S.replaces c.commit.new.store) in
+    let u : Untouched b m = record { kept = c.open.ensures.kept; counts = c.open.ensures.counts; no_replace = c.open.ensures.no_replace } in
+    done-ends dir c.args.step.now b m a u c.in-Ok.opened.session c.in-Ok.opened.log.items c.in-Ok.ensures.opens c.in-Ok-edited.edit c.in-Ok-edited.ensures.edited c.in-Ok-commit.ensures.done c.in-Ok-commit.ensures.counted
+
+pub returns-in-Err-commit-clause-ends : goal.returns-in-Err-commit-clause-ends
+returns-in-Err-commit-clause-ends g c =
+    let S = g.S.Store in
+    let dir = option_map (λ d. d.now) c.args.dir in
+    let b = seen (S.content c.args.store.now) (S.failures c.args.store.now) (S.replaces c.args.store.now) in
+    let m = seen (S.content c.open.new.store) (S.failures c.open.new.store) (S.replaces c.open.new.store) in
+    let a = seen (S.content c.commit.new.store) (S.failures c.commit.new.store) (S.replaces c.commit.new.store) in
+    let u : Untouched b m = record { kept = c.open.ensures.kept; counts = c.open.ensures.counts; no_replace = c.open.ensures.no_replace } in
+    failed-ends dir c.args.step.now b m a u c.in-Ok.opened.session c.in-Ok.opened.log.items c.in-Ok.ensures.opens c.in-Ok-edited.edit c.in-Ok-edited.ensures.edited c.commit.ensures.counts c.in-Err-commit.fault c.in-Err-commit.ensures.failed c.in-Err-commit.ensures.counted

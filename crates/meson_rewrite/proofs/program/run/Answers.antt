@@ -1,0 +1,16 @@
+use Rattle.std.proofs.Common.{◌≡◌, ◌≤◌, Err, arith, map, refl, string_bytes}
+use Rattle.meson_command.specs.Asking.{asked_by}
+use Rattle.meson_rewrite.proofs.Endings.{not-used}
+use Rattle.meson_rewrite.proofs.Wants.{usage-or-memory}
+use Rattle.meson_rewrite.specs.Runs.{Untouched, seen}
+use Rattle.meson_rewrite.proofs.program.run.Goals as goal
+
+pub returns-in-Err-clause-ends : goal.returns-in-Err-clause-ends
+returns-in-Err-clause-ends g c =
+    let S = g.S.Store in
+    let asked = asked_by (map string_bytes c.args.words.now) in
+    let failures = S.failures c.args.store.now in
+    let b = seen (S.content c.args.store.now) failures (S.replaces c.args.store.now) in
+    let same : failures ≤ failures = omega arith in
+    let u : Untouched b b = record { kept = refl; counts = same; no_replace = refl } in
+    not-used asked b b u c.in-Err.fault (usage-or-memory (λ f. asked ≡ Err f) c.in-Err.fault c.in-Err.ensures.refused)

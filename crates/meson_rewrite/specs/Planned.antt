@@ -1,7 +1,0 @@
--- What a planned replace stands for.
-use Rattle.std.specs.Prelude.{string_bytes}
-use Rattle.meson_rewrite.specs.Commit.{Put}
-use Rattle.meson_rewrite.specs.declared.committing.Planned.{Planned}
-
-abbrev pub put_of : Planned → Put
-put_of p = record { path = string_bytes p.path; name = p.name.now; bytes = p.bytes.now }

@@ -1,0 +1,65 @@
+-- What the words and the script file ask for.
+use Rattle.std.specs.Prelude.{◌≡◌, Bool, true, false, ℕ, List, [], ◌∷◌, if◌then◌else◌, Option, Some, None, option_map, Result, Ok, Err}
+use Rattle.std.specs.FinMap.{get}
+use Rattle.std.specs.Str.{is_utf8}
+use Rattle.serde_json.specs.Read.{read}
+use Rattle.meson_steps.specs.declared.command.Command.{Command}
+use Rattle.meson_json.specs.declared.fault.ScriptFault.{ScriptFault}
+use Rattle.meson_json.specs.declared.fault.ScriptFault.TheVariants.{NotJson}
+use Rattle.meson_json.specs.declared.script.Script.{Script}
+use Rattle.meson_json.specs.Scripts.{script_of}
+use Rattle.meson_command.specs.declared.asked.Action.{Action}
+use Rattle.meson_command.specs.declared.asked.Action.TheVariants as action
+use Rattle.meson_store.specs.Content.{Content, Rose}
+use Rattle.meson_store.specs.declared.store_fault.StoreFault.TheVariants as store
+use Rattle.meson_gathering.specs.Gathering.{Told}
+use Rattle.meson_rewrite.specs.declared.request.Request.{Request}
+use Rattle.meson_rewrite.specs.declared.request.Request.TheVariants as request
+use Rattle.meson_rewrite.specs.declared.request.Step.TheVariants.{Run, Tell, Undo, Redo}
+use Rattle.meson_rewrite.specs.declared.stop.Stop.{Stop}
+use Rattle.meson_rewrite.specs.declared.stop.Stop.TheVariants as stop
+
+abbrev pub script : List Command → Script
+script commands = record { commands = commands }
+
+-- the commands of a script file; one that is no text is not JSON
+abbrev pub script_in : List ℕ → Result (List Command) ScriptFault
+script_in bytes = if is_utf8 bytes then script_of (read bytes) else Err NotJson
+
+-- in a store that told this content
+abbrev pub IsScriptOf : Option Content → List ℕ → List Command → Type 0
+IsScriptOf held name commands = Told held (λ content. option_map script_in (get content name) ≡ Some (Ok commands))
+
+-- nothing is asked of the store
+abbrev pub shows_help : Action → Bool
+shows_help (action.Help text) = true
+shows_help _ = false
+
+-- ---- the step that an action asks for, and that it is one
+
+abbrev pub AsksFor : Action → Option Content → Request → Type 0
+AsksFor (action.Run s) held r = r ≡ request.Step (Run s)
+AsksFor (action.Info c) held r = r ≡ request.Step (Tell (script (c ∷ [])))
+AsksFor (action.ScriptText text) held r = (commands : List Command) × (script_of (read text) ≡ Ok commands) × (r ≡ request.Step (Run (script commands)))
+AsksFor (action.ScriptFile name) held r = (commands : List Command) × IsScriptOf held name commands × (r ≡ request.Step (Run (script commands)))
+AsksFor action.Undo held r = r ≡ request.Step Undo
+AsksFor action.Redo held r = r ≡ request.Step Redo
+AsksFor (action.Help text) held r = r ≡ request.Help text
+
+-- ---- why there is none, want of memory aside
+
+-- the file of that name is not read, or is no script
+pub data IsNoScript (held : Option Content) (failed failed' : ℕ) (name : List ℕ) : Stop → Type 0 where
+  unread : Rose failed failed' → IsNoScript held failed failed' name (stop.Store (store.ReadFailed name))
+  absent : Told held (λ content. get content name ≡ None) → IsNoScript held failed failed' name (stop.Store (store.NoFile name))
+  bad : (fault : ScriptFault) → Told held (λ content. option_map script_in (get content name) ≡ Some (Err fault))
+      → IsNoScript held failed failed' name (stop.Script fault)
+
+-- it is the fault of what is no script
+abbrev pub IsBad : Result (List Command) ScriptFault → Stop → Type 0
+IsBad script why = (fault : ScriptFault) × (script ≡ Err fault) × (why ≡ stop.Script fault)
+
+abbrev pub AsksForNone : Action → Option Content → ℕ → ℕ → Stop → Type 0
+AsksForNone (action.ScriptText text) held failed failed' why = IsBad (script_of (read text)) why
+AsksForNone (action.ScriptFile name) held failed failed' why = IsNoScript held failed failed' name why
+AsksForNone _ held failed failed' why = ⊥

@@ -1,0 +1,68 @@
+-- What a step does to a session, and what it then says.
+use Rattle.std.specs.Prelude.{◌≡◌, ◌≢◌, Bool, true, false, ℕ, List, [], ◌∷◌, ◌++◌, if◌then◌else◌, Option, Some, None, Result}
+use Rattle.serde_json.specs.Data.{Data, Items, no_items, item}
+use Rattle.serde_json.specs.Find.{as_array}
+use Rattle.serde_json.specs.View.{view}
+use Rattle.serde_json.specs.Written.{compact_text}
+use Rattle.meson_calls.specs.declared.refusal.Refusal.TheVariants.{OutOfMemory}
+use Rattle.meson_splice.specs.Past.{redone, undone}
+use Rattle.meson_splice.specs.declared.fault.SpliceFault.{SpliceFault}
+use Rattle.meson_splice.specs.declared.file_set.File.{File}
+use Rattle.meson_splice.specs.declared.history.History.{History}
+use Rattle.meson_steps.specs.declared.command.Command.{Command}
+use Rattle.meson_script.specs.declared.fault.UndoFault.{UndoFault}
+use Rattle.meson_script.specs.declared.session.Report.{Report}
+use Rattle.meson_script.specs.declared.session.Session.{Session}
+use Rattle.meson_script.specs.Running.{Keeps, MayStop}
+use Rattle.meson_script.specs.Undoing.{MayNotStep, Steps}
+use Rattle.meson_rewrite.specs.Lines.{done_line}
+use Rattle.meson_rewrite.specs.Stops.{undo_stop}
+use Rattle.meson_rewrite.specs.declared.request.Step.{Step}
+use Rattle.meson_rewrite.specs.declared.request.Step.TheVariants.{Run, Tell, Undo, Redo}
+use Rattle.meson_rewrite.specs.declared.said.Said.{Said}
+use Rattle.meson_rewrite.specs.declared.stop.Stop.{Stop}
+use Rattle.meson_rewrite.specs.declared.stop.Stop.TheVariants.{Refused}
+
+-- ---- what is done
+
+abbrev pub Does : Step → Session → Report → Session → Type 0
+Does (Run script) old report new = Keeps old script.commands report new
+Does (Tell script) old report new = Keeps old script.commands report new
+Does Undo old report new = Steps old old.history.past (undone old.history old.project.files) report new
+Does Redo old report new = Steps old old.history.future (redone old.history old.project.files) report new
+
+-- a script is refused at a command
+abbrev pub StopsRun : Session → List Command → Stop → Type 0
+StopsRun old commands (Refused fault) = fault.refusal ≢ OutOfMemory → MayStop old.project commands fault.index fault.refusal
+StopsRun old commands _ = ⊥
+
+-- a change is not taken back or done again
+abbrev pub StopsStep : Session → Result (History × List File) SpliceFault → Stop → Type 0
+StopsStep old step why = (fault : UndoFault) × MayNotStep step fault × (why ≡ undo_stop old.project.files fault)
+
+abbrev pub MayRefuse : Step → Session → Stop → Type 0
+MayRefuse (Run script) old why = StopsRun old script.commands why
+MayRefuse (Tell script) old why = StopsRun old script.commands why
+MayRefuse Undo old why = StopsStep old (undone old.history old.project.files) why
+MayRefuse Redo old why = StopsStep old (redone old.history old.project.files) why
+
+-- it tells what its commands list, and changes nothing
+abbrev pub only_tells : Step → Bool
+only_tells (Tell script) = true
+only_tells _ = false
+
+-- ---- what is said
+
+-- an array without elements
+abbrev pub is_empty_array : Option Items → Bool
+is_empty_array None = false
+is_empty_array (Some no_items) = true
+is_empty_array (Some (item d ds)) = false
+
+-- the listings of info commands as compact JSON, where there are any
+abbrev pub listing_line : Data → List ℕ
+listing_line listings = if is_empty_array (as_array listings) then [] else (compact_text listings ++ 10 ∷ [])
+
+abbrev pub says : Step → Report → Said
+says (Tell script) report = record { out = []; err = listing_line (view report.info) }
+says _ report = record { out = done_line report.files report.splices; err = listing_line (view report.info) }

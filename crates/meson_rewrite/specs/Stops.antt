@@ -1,0 +1,41 @@
+-- Why a run is stopped: the fault of the step that stopped it.
+use Rattle.std.specs.Prelude.{◌≡◌, List}
+use Rattle.meson_splice.specs.declared.fault.SpliceFault.TheVariants as splice
+use Rattle.meson_splice.specs.declared.file_set.File.{File}
+use Rattle.meson_calls.specs.declared.load_fault.LoadFault.TheVariants as load
+use Rattle.meson_calls.specs.declared.refusal.Refusal.TheVariants as refusal
+use Rattle.meson_calls.specs.Loading.{name_at}
+use Rattle.meson_json.specs.declared.fault.ScriptFault.TheVariants as script
+use Rattle.meson_script.specs.declared.fault.UndoFault.{UndoFault}
+use Rattle.meson_script.specs.declared.fault.UndoFault.TheVariants as undo
+use Rattle.meson_command.specs.declared.fault.UsageFault.TheVariants as usage
+use Rattle.meson_store.specs.declared.store_fault.StoreFault.TheVariants as store
+use Rattle.meson_gathering.specs.declared.fault.GatherFault.{GatherFault}
+use Rattle.meson_gathering.specs.declared.fault.GatherFault.TheVariants as gather
+use Rattle.meson_rewrite.specs.declared.stop.Stop.{Stop}
+use Rattle.meson_rewrite.specs.declared.stop.Stop.TheVariants.{Usage, Script, Parse, TooManyFiles, BadFileName, Refused, Splice, Store}
+
+-- of the files of a store
+abbrev pub gathering_stop : GatherFault → Stop
+gathering_stop (gather.Parse name fault) = Parse name fault
+gathering_stop gather.TooManyFiles = TooManyFiles
+gathering_stop (gather.Store fault) = Store fault
+
+-- of an undo or a redo on files with these names
+abbrev pub undo_stop : List File → UndoFault → Stop
+undo_stop files (undo.Splice fault) = Splice fault
+undo_stop files (undo.Load load.TooManyFiles) = TooManyFiles
+undo_stop files (undo.Load (load.BadFileName place)) = BadFileName place
+undo_stop files (undo.Load (load.Parse place fault)) = Parse (name_at place files) fault
+undo_stop files (undo.Load load.OutOfMemory) = Store store.OutOfMemory
+
+-- memory was refused, whichever step asked for it
+abbrev pub WantsMemory : Stop → Type 0
+WantsMemory (Usage fault) = fault ≡ usage.OutOfMemory
+WantsMemory (Script fault) = fault ≡ script.OutOfMemory
+WantsMemory (Refused fault) = fault.refusal ≡ refusal.OutOfMemory
+WantsMemory (Splice fault) = fault ≡ splice.OutOfMemory
+WantsMemory (Store fault) = fault ≡ store.OutOfMemory
+WantsMemory (Parse name fault) = ⊥
+WantsMemory TooManyFiles = ⊥
+WantsMemory (BadFileName place) = ⊥

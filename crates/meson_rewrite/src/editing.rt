@@ -1,0 +1,147 @@
+//! A step on a session, and the files that are to be written then.
+
+ghost use Rattle.std.specs.Prelude.{◌≡◌, ◌<◌, ◌⊎◌, IfOk, IfErr, Ok, OnOk, length, map, true};
+ghost use Rattle.meson_calls.specs.Loading.{IsProject, name_at};
+ghost use Rattle.meson_json.specs.Log.{has_text, log_of};
+ghost use Rattle.meson_rewrite.specs.Edited.{IsEdited, IsTold, IsWithin};
+ghost use Rattle.meson_rewrite.specs.Logs.{with_log};
+ghost use Rattle.meson_rewrite.specs.Steps.{Does, MayRefuse};
+ghost use Rattle.meson_rewrite.specs.Stops.{WantsMemory, undo_stop};
+
+use crate::opening::{LOG, Opened};
+use crate::request::Step;
+use crate::said::Said;
+use crate::stop::Stop;
+use meson_plan::LoadFault;
+use meson_script::{Report, Session, UndoFault, log_text};
+use meson_splice::{FileSet, SpliceFault, Text};
+use meson_store::StoreFault;
+use meson_syntax::ParseFault;
+use std::alloc::{AllocError, Global};
+
+/// The file of this number would be none.
+fn unparsed(alloc: Global, files: &FileSet, place: usize, fault: ParseFault) -> Stop
+    requires { place < length files.now }
+    ensures { (result ≡ Stop.Parse (name_at place files.now) fault) ⊎ (result ≡ Stop.Splice SpliceFault.OutOfMemory) }
+{
+    match String::from_str(alloc, files.name(place)) {
+        Ok(name) => Stop::Parse {
+            name: Text::of(name),
+            fault,
+        },
+        Err(_) => Stop::Splice(SpliceFault::OutOfMemory),
+    }
+}
+
+/// Why an undo or a redo is refused on these files.
+fn undo_stop(alloc: Global, files: &FileSet, fault: UndoFault) -> Stop
+    requires { IsWithin fault (length files.now) }
+    ensures { (result ≡ undo_stop files.now fault) ⊎ (result ≡ Stop.Splice SpliceFault.OutOfMemory) }
+{
+    match fault {
+        UndoFault::Splice(fault) => Stop::Splice(fault),
+        UndoFault::Load(LoadFault::TooManyFiles) => Stop::TooManyFiles,
+        UndoFault::Load(LoadFault::BadFileName(place)) => Stop::BadFileName(place),
+        UndoFault::Load(LoadFault::Parse { index, fault }) => unparsed(alloc, files, index, fault),
+        UndoFault::Load(LoadFault::OutOfMemory) => Stop::Store(StoreFault::OutOfMemory),
+    }
+}
+
+/// Does a step on a session, or nothing.
+fn act(alloc: Global, session: &mut Session, step: &Step) -> Result<Report, Stop>
+    ensures does { IfOk result (λ report. Does step.now session.old report session.new) }
+    ensures refused { IfErr result (MayRefuse step.now session.old) }
+    ensures text { OnOk result (has_text session.old.history ≡ true → has_text session.new.history ≡ true) }
+    ensures project { OnOk result (IsProject session.new.project) }
+{
+    match step {
+        Step::Run(script) | Step::Tell(script) => match session.run(alloc, script) {
+            Ok(report) => Ok(report),
+            Err(fault) => Err(Stop::Refused(fault)),
+        },
+        Step::Undo => match session.undo(alloc) {
+            Ok(report) => Ok(report),
+            Err(fault) => Err(undo_stop(alloc, session.files(), fault)),
+        },
+        Step::Redo => match session.redo(alloc) {
+            Ok(report) => Ok(report),
+            Err(fault) => Err(undo_stop(alloc, session.files(), fault)),
+        },
+    }
+}
+
+/// The log of a session whose history is text.
+fn new_log(alloc: Global, session: &Session) -> Result<Vec<u8>, Stop>
+    requires { has_text session.now.history ≡ true }
+    ensures log { IfOk result (λ text. log_of session.now.history ≡ Ok text.items) }
+    ensures none { IfErr result WantsMemory }
+{
+    match log_text(alloc, session) {
+        Ok(text) => Ok(text),
+        Err(fault) => Err(Stop::Script(fault)),
+    }
+}
+
+/// The files, and the log behind them.
+fn with_log(alloc: Global, files: &FileSet, text: Vec<u8>) -> Result<FileSet, AllocError>
+    ensures { IfOk result (λ all. all ≡ with_log files.now text.items) }
+{
+    let Ok(mut all) = files.copy(alloc) else {
+        return Err(AllocError);
+    };
+    let name = String::from_str(alloc, LOG)?;
+    match all.push(name, text) {
+        Ok(()) => Ok(all),
+        Err(_) => Err(AllocError),
+    }
+}
+
+/// What is to be written, and what is then to be said.
+#[derive(Drop)]
+pub(crate) struct Edit {
+    /// The files and the log as they were.
+    pub before: FileSet,
+    pub after: FileSet,
+    pub said: Said,
+}
+
+/// What a step makes of a session whose history is text.
+pub(crate) fn edited(alloc: Global, opened: Opened, step: &Step) -> Result<Edit, Stop>
+    requires { has_text opened.session.history ≡ true }
+    ensures edited { IfOk result (IsEdited opened.session opened.log.items step.now) }
+    ensures same_names { IfOk result (λ edit. map (λ f. f.name) edit.before ≡ map (λ f. f.name) edit.after) }
+    ensures refused { IfErr result (λ why. WantsMemory why ⊎ MayRefuse step.now opened.session why) }
+{
+    let Opened { mut session, log } = opened;
+    let before = with_log(alloc, session.files(), log)?;
+    let report = match act(alloc, &mut session, step) {
+        Ok(report) => report,
+        Err(stop) => return Err(stop),
+    };
+    let said = Said::of(alloc, step, &report)?;
+    let text = match new_log(alloc, &session) {
+        Ok(text) => text,
+        Err(stop) => return Err(stop),
+    };
+    let after = with_log(alloc, session.files(), text)?;
+    Ok(Edit {
+        before,
+        after,
+        said,
+    })
+}
+
+/// What is to be told of a step on a session.
+pub(crate) fn told(alloc: Global, opened: Opened, step: &Step) -> Result<Said, Stop>
+    ensures told { IfOk result (IsTold opened.session step.now) }
+    ensures refused { IfErr result (λ why. WantsMemory why ⊎ MayRefuse step.now opened.session why) }
+{
+    let Opened {
+        mut session,
+        log: _,
+    } = opened;
+    match act(alloc, &mut session, step) {
+        Ok(report) => Ok(Said::of(alloc, step, &report)?),
+        Err(stop) => Err(stop),
+    }
+}

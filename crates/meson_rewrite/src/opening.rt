@@ -1,0 +1,112 @@
+//! The session of a project in a store.
+
+ghost use Rattle.std.specs.Prelude.{◌≡◌, ◌≤◌, ◌⊎◌, IfOk, IfErr, None, Some, option_map, true};
+ghost use Rattle.meson_json.specs.Log.{has_text, logged};
+ghost use Rattle.meson_json.specs.declared.fault.ScriptFault.TheVariants.{BadLog};
+ghost use Rattle.meson_rewrite.specs.declared.stop.Stop.TheVariants.{Script};
+ghost use Rattle.meson_gathering.specs.Gathering.{Told, held};
+ghost use Rattle.meson_rewrite.specs.Logs.{IsLog, log_name};
+ghost use Rattle.meson_rewrite.specs.Opening.{IsNoLog, Opens, OpensNone};
+ghost use Rattle.meson_rewrite.specs.Stops.{WantsMemory};
+
+use crate::stop::Stop;
+use meson_gathering::{gather, read_file};
+use meson_json::{empty_log, read_log};
+use meson_script::Session;
+use meson_splice::History;
+use meson_store::Store;
+use std::alloc::Global;
+
+/// The undo log of a project, beside its root file.
+pub(crate) const LOG: &str = "meson.rewrite-log";
+
+/// A log, and the history that it is of.
+#[derive(Drop)]
+struct Log {
+    text: Vec<u8>,
+    history: History,
+}
+
+/// The log of a text.
+fn log_in(alloc: Global, text: Vec<u8>) -> Result<Log, Stop>
+    ensures log { IfOk result (λ log. (log.text ≡ text) × (logged text.items ≡ Some log.history)) }
+    ensures text { IfOk result (λ log. has_text log.history ≡ true) }
+    ensures none { IfErr result (λ why. WantsMemory why ⊎ ((why ≡ Script BadLog) × (logged text.items ≡ None))) }
+{
+    match read_log(alloc, text.as_slice()) {
+        Ok(history) => Ok(Log { text, history }),
+        Err(fault) => Err(Stop::Script(fault)),
+    }
+}
+
+/// The log of the project in this folder; that of no changes where there is none.
+fn read_history<S: Store>(alloc: Global, store: &mut S, dir: Option<&str>) -> Result<Log, Stop>
+    ensures read { IfOk result (λ log. Told (S.content store.old)
+        (λ content. IsLog (held content (option_map (λ d. d.now) dir.entry) log_name) log.text.items log.history)) }
+    ensures text { IfOk result (λ log. has_text log.history ≡ true) }
+    ensures none { IfErr result (λ why. WantsMemory why ⊎ IsNoLog (S.content store.old) (option_map (λ d. d.now) dir.entry) (S.failures store.old) (S.failures store.new) why) }
+    ensures kept { S.content store.new ≡ S.content store.old }
+    ensures counts { S.failures store.old ≤ S.failures store.new }
+    ensures no_replace { S.replaces store.new ≡ S.replaces store.old }
+{
+    match read_file(alloc, store, dir, LOG) {
+        Ok(Some(text)) => match log_in(alloc, text) {
+            Ok(log) => Ok(log),
+            Err(stop) => Err(stop),
+        },
+        Ok(None) => match no_changes(alloc) {
+            Ok(log) => Ok(log),
+            Err(stop) => Err(stop),
+        },
+        Err(fault) => Err(Stop::Store(fault)),
+    }
+}
+
+/// The log of no changes.
+fn no_changes(alloc: Global) -> Result<Log, Stop>
+    ensures log { IfOk result (λ log. IsLog None log.text.items log.history) }
+    ensures text { IfOk result (λ log. has_text log.history ≡ true) }
+    ensures none { IfErr result WantsMemory }
+{
+    match empty_log(alloc) {
+        Ok(text) => Ok(Log {
+            text,
+            history: History::new(alloc),
+        }),
+        Err(fault) => Err(Stop::Script(fault)),
+    }
+}
+
+/// A session as a store has it.
+#[derive(Drop)]
+pub(crate) struct Opened {
+    pub session: Session,
+    /// The text of its log.
+    pub log: Vec<u8>,
+}
+
+/// The session of the project in this folder: its files, each parsed once, and then the history that its log holds.
+pub(crate) fn open<S: Store>(
+    alloc: Global,
+    store: &mut S,
+    dir: Option<&str>,
+) -> Result<Opened, Stop>
+    ensures opens { IfOk result (λ o. Opens (S.content store.old) (option_map (λ d. d.now) dir.entry) o.session o.log.items) }
+    ensures none { IfErr result (λ why. WantsMemory why ⊎ OpensNone (S.content store.old) (option_map (λ d. d.now) dir.entry) (S.failures store.old) (S.failures store.new) why) }
+    ensures kept { S.content store.new ≡ S.content store.old }
+    ensures counts { S.failures store.old ≤ S.failures store.new }
+    ensures no_replace { S.replaces store.new ≡ S.replaces store.old }
+{
+    let project = match gather(alloc, store, dir) {
+        Ok(project) => project,
+        Err(fault) => return Err(Stop::from(fault)),
+    };
+    let log = match read_history(alloc, store, dir) {
+        Ok(log) => log,
+        Err(stop) => return Err(stop),
+    };
+    Ok(Opened {
+        session: Session::of(project, log.history),
+        log: log.text,
+    })
+}

@@ -1,0 +1,123 @@
+//! What is asked of a project, by the words and the script file that they name.
+
+ghost use Rattle.std.specs.Prelude.{◌≡◌, ◌≤◌, ◌⊎◌, ◌∷◌, [], IfOk, IfErr, IsTrue, Ok};
+ghost use Rattle.serde_json.specs.Read.{read};
+ghost use Rattle.meson_json.specs.Scripts.{script_of};
+ghost use Rattle.meson_rewrite.specs.Requests.{AsksFor, AsksForNone, IsBad, IsNoScript, IsScriptOf, script, script_in, shows_help};
+ghost use Rattle.meson_rewrite.specs.Stops.{WantsMemory};
+
+use crate::stop::Stop;
+use meson_command::Action;
+use meson_gathering::read_file;
+use meson_json::{Script, ScriptFault};
+use meson_splice::Text;
+use meson_steps::command::Command;
+use meson_store::{Store, StoreFault};
+use std::alloc::Global;
+use std::str::from_utf8;
+
+/// What is asked for.
+#[derive(Drop)]
+pub(crate) enum Request {
+    /// To show this text.
+    Help(Text),
+    /// To do a step on the session of a project.
+    Step(Step),
+}
+
+/// A step on a session.
+#[derive(Drop)]
+pub(crate) enum Step {
+    /// Do the commands, and keep what they did.
+    Run(Script),
+    /// Tell what the commands list, and write nothing.
+    Tell(Script),
+    /// Take back the newest change.
+    Undo,
+    /// Do the change again that was taken back last.
+    Redo,
+}
+
+/// The script of a text of JSON.
+fn script_from(alloc: Global, text: &str) -> Result<Script, Stop>
+    ensures ok { IfOk result (λ s. script_of (read text.now) ≡ Ok s.commands) }
+    ensures none { IfErr result (λ why. WantsMemory why ⊎ IsBad (script_of (read text.now)) why) }
+{
+    match Script::from_json(alloc, text) {
+        Ok(script) => Ok(script),
+        Err(fault) => Err(Stop::Script(fault)),
+    }
+}
+
+/// The script of a file's bytes.
+fn script_in(alloc: Global, bytes: &[u8]) -> Result<Script, Stop>
+    ensures ok { IfOk result (λ s. script_in bytes.now ≡ Ok s.commands) }
+    ensures none { IfErr result (λ why. WantsMemory why ⊎ IsBad (script_in bytes.now) why) }
+{
+    match from_utf8(bytes) {
+        Ok(text) => script_from(alloc, text),
+        Err(_) => Err(Stop::Script(ScriptFault::NotJson)),
+    }
+}
+
+/// The script in the file of this name.
+fn read_script<S: Store>(alloc: Global, store: &mut S, name: Text) -> Result<Script, Stop>
+    ensures read { IfOk result (λ s. IsScriptOf (S.content store.old) name s.commands) }
+    ensures none { IfErr result (λ why. WantsMemory why ⊎ IsNoScript (S.content store.old) (S.failures store.old) (S.failures store.new) name why) }
+    ensures kept { S.content store.new ≡ S.content store.old }
+    ensures counts { S.failures store.old ≤ S.failures store.new }
+    ensures no_replace { S.replaces store.new ≡ S.replaces store.old }
+{
+    match read_file(alloc, store, None, name.get()) {
+        Ok(Some(bytes)) => match script_in(alloc, bytes.as_slice()) {
+            Ok(script) => Ok(script),
+            Err(stop) => Err(stop),
+        },
+        Ok(None) => Err(Stop::Store(StoreFault::NoFile(name))),
+        Err(fault) => Err(Stop::Store(fault)),
+    }
+}
+
+/// The script of one command.
+fn script_of_one(alloc: Global, command: Command) -> Result<Script, Stop>
+    ensures ok { IfOk result (λ s. s ≡ script (command ∷ [])) }
+    ensures none { IfErr result WantsMemory }
+{
+    match Script::of(alloc, command) {
+        Ok(script) => Ok(script),
+        Err(fault) => Err(Stop::Script(fault)),
+    }
+}
+
+/// What an action asks for.
+pub(crate) fn request_of<S: Store>(
+    alloc: Global,
+    store: &mut S,
+    action: Action,
+) -> Result<Request, Stop>
+    ensures asks { IfOk result (λ r. AsksFor action (S.content store.old) r) }
+    ensures none { IfErr result (λ why. WantsMemory why ⊎ AsksForNone action (S.content store.old) (S.failures store.old) (S.failures store.new) why) }
+    ensures kept { S.content store.new ≡ S.content store.old }
+    ensures counts { S.failures store.old ≤ S.failures store.new }
+    ensures no_replace { S.replaces store.new ≡ S.replaces store.old }
+    ensures untouched { IsTrue (shows_help action) → store.new ≡ store.old }
+{
+    match action {
+        Action::Help(text) => Ok(Request::Help(text)),
+        Action::Run(script) => Ok(Request::Step(Step::Run(script))),
+        Action::Info(command) => match script_of_one(alloc, command) {
+            Ok(script) => Ok(Request::Step(Step::Tell(script))),
+            Err(stop) => Err(stop),
+        },
+        Action::ScriptText(text) => match script_from(alloc, text.get()) {
+            Ok(script) => Ok(Request::Step(Step::Run(script))),
+            Err(stop) => Err(stop),
+        },
+        Action::ScriptFile(name) => match read_script(alloc, store, name) {
+            Ok(script) => Ok(Request::Step(Step::Run(script))),
+            Err(stop) => Err(stop),
+        },
+        Action::Undo => Ok(Request::Step(Step::Undo)),
+        Action::Redo => Ok(Request::Step(Step::Redo)),
+    }
+}

@@ -1,0 +1,98 @@
+//! What a run says that was done.
+
+ghost use Rattle.std.specs.Prelude.{◌≡◌, ◌⊎◌, [], IfOk, MatchResult, false};
+ghost use Rattle.serde_json.specs.Find.{as_array};
+ghost use Rattle.serde_json.specs.View.{view};
+ghost use Rattle.serde_json.specs.Written.{has_float};
+ghost use Rattle.meson_rewrite.specs.Steps.{is_empty_array, listing_line, says};
+ghost use Rattle.meson_store.specs.Output.{Fails, Gets};
+
+use crate::lines::done_text;
+use crate::request::Step;
+use meson_script::Report;
+use meson_splice::{Bytes, Text};
+use meson_store::Output;
+use serde_json::Value;
+use std::alloc::{AllocError, Global};
+use std::io;
+
+/// What a run that was done has for its two writers.
+#[derive(Drop)]
+pub(crate) struct Said {
+    pub out: Bytes,
+    pub err: Bytes,
+}
+
+/// Whether no command listed anything.
+fn is_empty_array(listings: &Value) -> bool
+    ensures { result ≡ is_empty_array (as_array (view listings.now)) }
+{
+    match listings.as_array() {
+        Some(list) => list.as_slice().is_empty(),
+        None => false,
+    }
+}
+
+/// The listings as a line of compact JSON; nothing where there are none.
+fn listing_text(alloc: Global, listings: &Value) -> Result<Vec<u8>, AllocError>
+    requires { has_float (view listings.now) ≡ false }
+    ensures { IfOk result (λ text. text.items ≡ listing_line (view listings.now)) }
+{
+    if is_empty_array(listings) {
+        return Ok(Vec::new(alloc));
+    }
+    let mut text = listings.to_vec(alloc)?;
+    text.push(b'\n')?;
+    Ok(text)
+}
+
+impl Said {
+    /// The text of help.
+    pub(crate) fn help(alloc: Global, text: Text) -> Said
+        ensures { result ≡ record { out = text; err = [] } }
+    {
+        Said {
+            out: Bytes::of(text.take().into_bytes()),
+            err: Bytes::of(Vec::new(alloc)),
+        }
+    }
+
+    /// What is said of a step.
+    pub(crate) fn of(alloc: Global, step: &Step, report: &Report) -> Result<Said, AllocError>
+        requires { has_float (view report.now.info) ≡ false }
+        ensures { IfOk result (λ said. said ≡ says step.now report.now) }
+    {
+        let err = listing_text(alloc, &report.info)?;
+        let out = match step {
+            Step::Tell(_) => Vec::new(alloc),
+            _ => done_text(alloc, report.files, report.splices)?,
+        };
+        Ok(Said {
+            out: Bytes::of(out),
+            err: Bytes::of(err),
+        })
+    }
+
+    /// Writes what is for errors, then what is for output, each by one write.
+    pub(crate) fn tell<O: Output, E: Output>(&self, out: &mut O, err: &mut E) -> io::Result<()>
+        ensures { MatchResult result
+            (λ _. Gets (O.heard out.old) (O.heard out.new) self.now.out × Gets (E.heard err.old) (E.heard err.new) self.now.err)
+            (λ _. (Fails (E.heard err.old) (E.heard err.new) × (O.heard out.new ≡ O.heard out.old))
+            ⊎ (Gets (E.heard err.old) (E.heard err.new) self.now.err × Fails (O.heard out.old) (O.heard out.new))) }
+    {
+        tell_bytes(err, self.err.get())?;
+        tell_bytes(out, self.out.get())
+    }
+}
+
+/// Writes the bytes by one write, if there are any.
+#[tactic(auto, using(crate::proofs::Telling::gets_nothing))]
+fn tell_bytes<O: Output>(to: &mut O, bytes: &[u8]) -> io::Result<()>
+    ensures { MatchResult result (λ _. Gets (O.heard to.old) (O.heard to.new) bytes.now)
+        (λ _. Fails (O.heard to.old) (O.heard to.new)) }
+{
+    if bytes.is_empty() {
+        return Ok(());
+    }
+    to.tell(bytes)
+}
