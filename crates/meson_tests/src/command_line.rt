@@ -19,22 +19,22 @@ fn asked(rt: &impl Abort, alloc: Global, line: &str) -> Result<Action, UsageFaul
 fn help_tells_words_and_an_example(rt: HostRuntime) {
     let alloc = rt.alloc();
     let lines = [
-        ("/bin/T --help", "Usage: T [OPTIONS] <COMMAND>"),
+        ("/bin/T --help", "Usage: meson_rewrite [OPTIONS] <COMMAND>"),
         (
             "T target --help",
-            "Usage: T target [OPTIONS] <ID> <OPERATION> [SOURCE]...",
+            "Usage: meson_rewrite target [OPTIONS] <ID> <OPERATION> [SOURCE]...",
         ),
         (
             "T kwargs --help",
-            "Usage: T kwargs <OPERATION> <FUNCTION> <ID> [KEY VALUE]...",
+            "Usage: meson_rewrite kwargs <OPERATION> <FUNCTION> <ID> [KEY VALUE]...",
         ),
         (
             "T default-options --help",
-            "Usage: T default-options <OPERATION> [OPTION VALUE]...",
+            "Usage: meson_rewrite default-options <OPERATION> [OPTION VALUE]...",
         ),
-        ("T command --help", "Usage: T command <JSON>"),
-        ("T undo --help", "Usage: T undo"),
-        ("T redo --help", "Usage: T redo"),
+        ("T command --help", "Usage: meson_rewrite command <JSON>"),
+        ("T undo --help", "Usage: meson_rewrite undo"),
+        ("T redo --help", "Usage: meson_rewrite redo"),
     ];
     for (line, usage) in lines {
         let Ok(Action::Help(text)) = asked(&rt, alloc, line) else {
