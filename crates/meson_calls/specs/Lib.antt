@@ -24,3 +24,4 @@ pub mod Keywords
 pub mod Finding
 pub mod OnePlace
 pub mod CallPlaces
+pub mod Messages

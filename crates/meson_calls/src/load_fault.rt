@@ -2,23 +2,38 @@
 
 use meson_splice::FileSet;
 use meson_syntax::ParseFault;
-use thiserror::Error;
+use std::error::Error;
+use std::fmt;
 
 /// Why files are no project, in the order in which it is asked.
-#[derive(Clone, Copy, Debug, PartialEq, Eq, Error)]
+#[derive(Clone, Copy, Debug, PartialEq, Eq)]
 pub enum LoadFault {
     /// More than `MAX_FILES` files.
-    #[error("M1 too many files")]
     TooManyFiles,
     /// The name of this file, counted from 0, is not that of a build file.
-    #[error("M2 bad file name {0}")]
     BadFileName(usize),
     /// This file, counted from 0, is the first that has no tree.
-    #[error("{fault}")]
     Parse { index: usize, fault: ParseFault },
-    #[error("out of memory")]
     OutOfMemory,
 }
+
+impl fmt::Display for LoadFault {
+    ghost use Rattle.std.specs.Prelude.{Some};
+    ghost use Rattle.meson_calls.specs.Messages.{load_fault_text};
+
+    ghost output = { λ fault. Some (load_fault_text fault) };
+
+    fn fmt<W: fmt::Write>(&self, f: &mut fmt::Formatter<W>) -> fmt::Result {
+        match self {
+            LoadFault::TooManyFiles => f.write_str("M1 too many files"),
+            LoadFault::BadFileName(index) => write!(f, "M2 bad file name {index}"),
+            LoadFault::Parse { fault, .. } => write!(f, "{fault}"),
+            LoadFault::OutOfMemory => f.write_str("out of memory"),
+        }
+    }
+}
+
+impl Error for LoadFault {}
 
 /// Files that were not loaded, with the reason.
 #[derive(Debug, Drop)]

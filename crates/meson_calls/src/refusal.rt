@@ -48,8 +48,13 @@ pub enum Refusal {
 }
 
 impl Refusal {
+    ghost use Rattle.std.specs.Prelude.{◌≡◌};
+    ghost use Rattle.meson_calls.specs.Messages.{refusal_name, refusal_words};
+
     /// The code, and what it means.
-    fn label(&self) -> &'static str {
+    fn words(&self) -> &'static str
+        ensures { result.now ≡ refusal_words self.now }
+    {
         match self {
             Refusal::NoProject => "C1 no project",
             Refusal::NotFound => "C2 not found",
@@ -58,38 +63,43 @@ impl Refusal {
             Refusal::WrongKind(_) => "C5 wrong kind",
             Refusal::BadName => "C6 bad name",
             Refusal::HiddenKeywords => "C7 hidden keywords",
-            Refusal::DuplicateKeyword(_) => "C8 duplicate keyword",
-            Refusal::NotLiteral(_) => "C9 not literal",
+            Refusal::DuplicateKeyword(_) => "C8 duplicate keyword: ",
+            Refusal::NotLiteral(_) => "C9 not literal: ",
             Refusal::SourceNotFound => "C10 source not found",
             Refusal::Unresolved => "C11 unresolved",
             Refusal::NotRemovable => "C12 not removable",
             Refusal::NameTaken => "C13 name taken",
             Refusal::NoFile => "C14 no file",
             Refusal::NotStatement => "C15 not a statement",
-            Refusal::InUse(_) => "C16 in use",
+            Refusal::InUse(_) => "C16 in use: ",
             Refusal::TooDeep => "C17 too deep",
             Refusal::TooLarge => "C18 too large",
             Refusal::OutOfMemory => "out of memory",
         }
     }
 
-    /// The name that the line of the refusal says.
-    fn about(&self) -> Option<&str> {
+    /// The name that is told behind the words, or nothing.
+    fn name(&self) -> &str
+        ensures { result.now ≡ refusal_name self.now }
+    {
         match self {
-            Refusal::DuplicateKeyword(name) | Refusal::NotLiteral(name) | Refusal::InUse(name) =>
-                Some(name.get()),
-            _ => None,
+            Refusal::DuplicateKeyword(name) | Refusal::NotLiteral(name) | Refusal::InUse(name) => {
+                name.get()
+            }
+            _ => "",
         }
     }
 }
 
 impl fmt::Display for Refusal {
+    ghost use Rattle.std.specs.Prelude.{Some};
+    ghost use Rattle.meson_calls.specs.Messages.{refusal_text};
+
+    ghost output = { λ refusal. Some (refusal_text refusal) };
+
     fn fmt<W: fmt::Write>(&self, f: &mut fmt::Formatter<W>) -> fmt::Result {
-        f.write_str(self.label())?;
-        match self.about() {
-            Some(name) => write!(f, ": {name}"),
-            None => Ok(()),
-        }
+        f.write_str(self.words())?;
+        f.write_str(self.name())
     }
 }
 

@@ -4,4 +4,5 @@ pub mod Pairs
 pub mod Actions
 pub mod Asking
 pub mod Rows
+pub mod Messages
 pub mod Laws

@@ -1,26 +1,41 @@
 //! Why words are refused.
 
 use std::alloc::AllocError;
-use thiserror::Error;
+use std::error::Error;
+use std::fmt;
 
 /// Why the words of a command line are refused.
-#[derive(Debug, Drop, Error)]
+#[derive(Debug, Drop)]
 pub enum UsageFault {
     /// A word is missing, one too many or unknown, or the folder is empty.
-    #[error("U1 usage")]
     Usage,
     /// The last name has no value.
-    #[error("U2 odd words")]
     OddWords,
     /// Two names are the same.
-    #[error("U3 repeated key")]
     RepeatedKey,
     /// The operation is known, but not done here.
-    #[error("U4 unsupported")]
     Unsupported,
-    #[error("out of memory")]
     OutOfMemory,
 }
+
+impl fmt::Display for UsageFault {
+    ghost use Rattle.std.specs.Prelude.{Some};
+    ghost use Rattle.meson_command.specs.Messages.{usage_fault_text};
+
+    ghost output = { λ fault. Some (usage_fault_text fault) };
+
+    fn fmt<W: fmt::Write>(&self, f: &mut fmt::Formatter<W>) -> fmt::Result {
+        match self {
+            UsageFault::Usage => f.write_str("U1 usage"),
+            UsageFault::OddWords => f.write_str("U2 odd words"),
+            UsageFault::RepeatedKey => f.write_str("U3 repeated key"),
+            UsageFault::Unsupported => f.write_str("U4 unsupported"),
+            UsageFault::OutOfMemory => f.write_str("out of memory"),
+        }
+    }
+}
+
+impl Error for UsageFault {}
 
 impl From<AllocError> for UsageFault {
     ghost use Rattle.std.specs.Prelude.{◌≡◌};

@@ -4,3 +4,4 @@ pub mod Log
 pub mod Operations
 pub mod Settings
 pub mod Scripts
+pub mod Messages

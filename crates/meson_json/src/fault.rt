@@ -24,53 +24,28 @@ pub enum ScriptFault {
     OutOfMemory,
 }
 
-impl ScriptFault {
-    /// The code, and what it means.
-    fn label(&self) -> &'static str {
-        match self {
-            ScriptFault::NotJson => "J1 not json",
-            ScriptFault::NotArray => "J2 not an array",
-            ScriptFault::TooMany => "J3 too many",
-            ScriptFault::NotObject(_) => "J4 not an object",
-            ScriptFault::UnknownType(_) => "J5 unknown type",
-            ScriptFault::BadField(_, _) => "J6 bad field",
-            ScriptFault::UnknownOperation(_) => "J7 unknown operation",
-            ScriptFault::Unsupported(_) => "J8 unsupported",
-            ScriptFault::BadLog => "J9 bad log",
-            ScriptFault::OutOfMemory => "out of memory",
-        }
-    }
-
-    /// The number of the entry that it is about.
-    fn entry(&self) -> Option<usize> {
-        match self {
-            ScriptFault::NotObject(index)
-            | ScriptFault::UnknownType(index)
-            | ScriptFault::BadField(index, _)
-            | ScriptFault::UnknownOperation(index)
-            | ScriptFault::Unsupported(index) => Some(*index),
-            _ => None,
-        }
-    }
-
-    /// The name of the member that it is about.
-    fn member(&self) -> Option<&str> {
-        match self {
-            ScriptFault::BadField(_, name) => Some(name.get()),
-            _ => None,
-        }
-    }
-}
-
 impl fmt::Display for ScriptFault {
+    ghost use Rattle.std.specs.Prelude.{Some};
+    ghost use Rattle.meson_json.specs.Messages.{script_fault_text};
+
+    ghost output = { λ fault. Some (script_fault_text fault) };
+
     fn fmt<W: fmt::Write>(&self, f: &mut fmt::Formatter<W>) -> fmt::Result {
-        if let Some(index) = self.entry() {
-            write!(f, "entry {index}: ")?;
-        }
-        f.write_str(self.label())?;
-        match self.member() {
-            Some(name) => write!(f, " {name}"),
-            None => Ok(()),
+        match self {
+            ScriptFault::NotJson => f.write_str("J1 not json"),
+            ScriptFault::NotArray => f.write_str("J2 not an array"),
+            ScriptFault::TooMany => f.write_str("J3 too many"),
+            ScriptFault::NotObject(index) => write!(f, "entry {index}: J4 not an object"),
+            ScriptFault::UnknownType(index) => write!(f, "entry {index}: J5 unknown type"),
+            ScriptFault::BadField(index, member) => {
+                write!(f, "entry {index}: J6 bad field {member}")
+            }
+            ScriptFault::UnknownOperation(index) => {
+                write!(f, "entry {index}: J7 unknown operation")
+            }
+            ScriptFault::Unsupported(index) => write!(f, "entry {index}: J8 unsupported"),
+            ScriptFault::BadLog => f.write_str("J9 bad log"),
+            ScriptFault::OutOfMemory => f.write_str("out of memory"),
         }
     }
 }

@@ -4,6 +4,7 @@ pub mod Kinds
 pub mod Neighbours
 pub mod Items
 pub mod Faults
+pub mod Messages
 pub mod Lexed
 pub mod Literals
 pub mod Scan

@@ -1,22 +1,37 @@
 // What the calls of this crate answer where they have no result.
+use std::fmt;
 use thiserror::Error;
 
 /// Why no item can be read, with the offset of the byte in the source.
-#[derive(Clone, Copy, Debug, PartialEq, Eq, Error)]
+#[derive(Clone, Copy, Debug, PartialEq, Eq)]
 pub enum LexFault {
     /// No item begins with this byte.
-    #[error("L1 stray byte at {0}")]
     StrayByte(usize),
     /// The string that begins here has no end.
-    #[error("L2 open string at {0}")]
     OpenString(usize),
     /// No integer begins with this digit: a letter, a digit or `_` follows, or there is no digit behind `0x`, `0o` or `0b`.
-    #[error("L3 bad number at {0}")]
     BadNumber(usize),
     /// A CR stands here, and no LF after it.
-    #[error("L4 bare carriage return at {0}")]
     BareCarriageReturn(usize),
 }
+
+impl fmt::Display for LexFault {
+    ghost use Rattle.std.specs.Prelude.{Some};
+    ghost use Rattle.meson_lex.specs.Messages.{lex_fault_text};
+
+    ghost output = { λ fault. Some (lex_fault_text fault) };
+
+    fn fmt<W: fmt::Write>(&self, f: &mut fmt::Formatter<W>) -> fmt::Result {
+        match self {
+            LexFault::StrayByte(at) => write!(f, "L1 stray byte at {at}"),
+            LexFault::OpenString(at) => write!(f, "L2 open string at {at}"),
+            LexFault::BadNumber(at) => write!(f, "L3 bad number at {at}"),
+            LexFault::BareCarriageReturn(at) => write!(f, "L4 bare carriage return at {at}"),
+        }
+    }
+}
+
+impl std::error::Error for LexFault {}
 
 /// Why no literal could be read or written.
 #[derive(Clone, Copy, Debug, PartialEq, Eq, Error)]

@@ -1,4 +1,5 @@
 mod Performed
+pub mod SplicesDone
 mod TreesPut
 mod Told
 mod CallsIn

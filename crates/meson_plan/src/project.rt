@@ -1,6 +1,8 @@
 //! A project: its files, and the tree of each.
 
 ghost use Rattle.std.specs.Prelude.{◌≡◌, ◌≢◌, Some, Ok, Err, IfErr, IfOk, IsTrue, OnErr};
+ghost use Rattle.meson_splice.specs.Patch.{patched_all};
+ghost use Rattle.meson_layout.specs.Laws.{AreTexts};
 ghost use Rattle.meson_calls.specs.Loading.{IsProject, MayNotLoad, project};
 ghost use Rattle.meson_steps.specs.OtherValues.{with_some};
 ghost use Rattle.meson_steps.specs.Outcomes.{IsDone, MayNotBeDone};
@@ -205,6 +207,8 @@ impl Project {
     /// The first refusal that holds, or want of memory.
     pub fn perform(&mut self, alloc: Global, command: &Command) -> Result<Done, Refusal>
         ensures done { IfOk result (λ done. Performs self.old command.now done self.new) }
+        ensures patched { IfOk result (λ done. patched_all self.old.files done.change.splices ≡ Ok self.new.files) }
+        ensures texts { IfOk result (λ done. AreTexts done.change.splices) }
         ensures refused { IfErr result (λ e. e ≢ Refusal.OutOfMemory → MayRefuse self.old command.now e) }
         ensures kept { OnErr result (self.new ≡ self.old) }
     {

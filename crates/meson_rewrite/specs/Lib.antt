@@ -1,6 +1,5 @@
 pub mod Logs
 pub mod Stops
-pub mod Parts
 pub mod Lines
 pub mod Requests
 pub mod Opening

@@ -2,7 +2,6 @@
 #![tactic(auto)]
 
 mod editing;
-mod line;
 mod lines;
 mod opening;
 mod program;

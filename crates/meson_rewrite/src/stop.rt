@@ -3,11 +3,13 @@
 use meson_command::UsageFault;
 use meson_gathering::GatherFault;
 use meson_json::ScriptFault;
+use meson_plan::LoadFault;
 use meson_script::RunFault;
 use meson_splice::{SpliceFault, Text};
 use meson_store::StoreFault;
 use meson_syntax::ParseFault;
 use std::alloc::AllocError;
+use std::fmt;
 
 /// Why a run was stopped.
 #[derive(Drop)]
@@ -28,6 +30,29 @@ pub(crate) enum Stop {
     Splice(SpliceFault),
     /// The store failed, or memory ran out.
     Store(StoreFault),
+}
+
+impl fmt::Display for Stop {
+    ghost use Rattle.std.specs.Prelude.{Some};
+    ghost use Rattle.meson_rewrite.specs.Lines.{stop_text};
+
+    ghost output = { λ stop. Some (stop_text stop) };
+
+    fn fmt<W: fmt::Write>(&self, f: &mut fmt::Formatter<W>) -> fmt::Result {
+        match self {
+            Stop::Usage(fault) => write!(f, "{fault}"),
+            Stop::Script(fault) => write!(f, "{fault}"),
+            Stop::Parse { name, fault } => match fault {
+                ParseFault::OutOfMemory => write!(f, "{fault}"),
+                _ => write!(f, "{name}: {fault}"),
+            },
+            Stop::TooManyFiles => write!(f, "{}", LoadFault::TooManyFiles),
+            Stop::BadFileName(index) => write!(f, "{}", LoadFault::BadFileName(*index)),
+            Stop::Refused(fault) => write!(f, "{fault}"),
+            Stop::Splice(fault) => write!(f, "{fault}"),
+            Stop::Store(fault) => write!(f, "{fault}"),
+        }
+    }
 }
 
 impl From<AllocError> for Stop {

@@ -10,50 +10,24 @@ use Rattle.meson_splice.specs.declared.fault.SpliceFault.{SpliceFault}
 use Rattle.meson_splice.specs.declared.file_set.File.{File}
 use Rattle.meson_splice.specs.declared.splice.Splice.{Splice}
 use Rattle.meson_splice.specs.Patch.{patched, patched_in, patched_all, then_ok}
-use Rattle.meson_splice.proofs.Inverses.{patched_all-append}
-use Rattle.meson_layout.specs.Laws.{AreTexts}
 use Rattle.meson_calls.specs.Loading.{Loaded}
 use Rattle.meson_steps.specs.declared.command.Command.{Command}
 use Rattle.meson_steps.specs.declared.command.Command.TheVariants as command
 use Rattle.meson_steps.specs.declared.command.Done.{Done}
-use Rattle.meson_steps.specs.Steps.{Step, StepsMake, none, step}
 use Rattle.meson_steps.specs.Results.{saturated}
 use Rattle.meson_calls.specs.declared.refusal.Refusal.{Refusal}
 use Rattle.meson_plan.specs.Performing.{MayRefuse, Performs, unplanned}
+use Rattle.meson_plan.proofs.SplicesDone.{joined, performs-patch, performs-text, texts-append}
 use Rattle.meson_listing.specs.Laws.{no_steps}
 use Rattle.meson_listing.specs.Listing.{kwargs_listing, target_listing}
 use Rattle.meson_listing.proofs.Agreeing.{calls_agree, targets_agree}
 use Rattle.meson_script.specs.Running.{MayStop, Runs, nothing_ran, ran_more, told}
 use Rattle.meson_script.specs.Laws.{RunsPatch, RunsText}
 
--- splices one after another
-joined : (files between last : List File) (here later : List Splice) → patched_all files here ≡ Ok between → patched_all between later ≡ Ok last → patched_all files (here ++ later) ≡ Ok last
-joined files between last here later first second = patched_all-append files here later ∙ ap (λ r. then_ok r (λ gs. patched_all gs later)) first ∙ second
-
-steps-patch : (files : List File) (steps : List Step) (splices : List Splice) (after : List File) (bytes : ℕ) → StepsMake files steps splices after bytes → patched_all files splices ≡ Ok after
-steps-patch files steps splices after bytes (none fs) = refl
-steps-patch files steps splices after bytes (step fs between last s more here later read laid done rest) = joined fs between last here later done (steps-patch between more later last read rest)
-
-performs-patch : (old : Loaded) (c : Command) (done : Done) (new : Loaded) → Performs old c done new → patched_all old.files done.change.splices ≡ Ok new.files
-performs-patch old c done new p = ap (patched_all old.files) p.is_change ∙ steps-patch old.files p.made.steps p.made.splices p.made.files p.made.bytes p.made.are_done ∙ ap Ok (sym p.are_files)
-
 pub runs-patch : RunsPatch
 runs-patch old new commands splices relexed listings (nothing_ran) = refl
 runs-patch old new commands splices relexed listings (ran_more before here read lists between rest c done more after tells performs) =
     joined old.files between.files new.files here done.change.splices (runs-patch old between before here read lists rest) (performs-patch between c done new performs)
-
--- ---- splices are text
-
-texts-append : (here later : List Splice) → AreTexts here → AreTexts later → AreTexts (here ++ later)
-texts-append [] later a b = b
-texts-append (s ∷ here) later a b = (a.0, texts-append here later a.1 b)
-
-steps-text : (files : List File) (steps : List Step) (splices : List Splice) (after : List File) (bytes : ℕ) → StepsMake files steps splices after bytes → AreTexts splices
-steps-text files steps splices after bytes (none fs) = tt
-steps-text files steps splices after bytes (step fs between last s more here later read laid done rest) = texts-append here later laid.texts (steps-text between more later last read rest)
-
-performs-text : (old : Loaded) (c : Command) (done : Done) (new : Loaded) → Performs old c done new → AreTexts done.change.splices
-performs-text old c done new p = subst AreTexts (sym p.is_change) (steps-text old.files p.made.steps p.made.splices p.made.files p.made.bytes p.made.are_done)
 
 pub runs-text : RunsText
 runs-text old new commands splices relexed listings (nothing_ran) = tt

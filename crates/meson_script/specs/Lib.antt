@@ -2,5 +2,6 @@ pub mod Reports
 pub mod Running
 pub mod Stack
 pub mod Undoing
+pub mod Messages
 pub mod Laws
 pub mod Outcomes

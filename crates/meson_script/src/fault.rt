@@ -3,6 +3,7 @@
 use meson_plan::{LoadFault, Refusal};
 use meson_splice::{FileSet, History, SpliceFault};
 use std::alloc::AllocError;
+use std::fmt;
 use thiserror::Error;
 
 /// Files and a history of which no session was made, with the reason.
@@ -14,13 +15,28 @@ pub struct Unstarted {
 }
 
 /// Why a script is refused. Nothing was changed then.
-#[derive(Debug, Drop, PartialEq, Error)]
-#[error("command {index}: {refusal}")]
+#[derive(Debug, Drop, PartialEq)]
 pub struct RunFault {
     /// The command that is refused, counted from 0, or the number of commands where memory was refused behind the last one.
     pub index: usize,
     pub refusal: Refusal,
 }
+
+impl fmt::Display for RunFault {
+    ghost use Rattle.std.specs.Prelude.{Some};
+    ghost use Rattle.meson_script.specs.Messages.{run_fault_text};
+
+    ghost output = { λ fault. Some (run_fault_text fault) };
+
+    fn fmt<W: fmt::Write>(&self, f: &mut fmt::Formatter<W>) -> fmt::Result {
+        match self {
+            RunFault { refusal: Refusal::OutOfMemory, .. } => write!(f, "{}", Refusal::OutOfMemory),
+            RunFault { index, refusal } => write!(f, "command {index}: {refusal}"),
+        }
+    }
+}
+
+impl std::error::Error for RunFault {}
 
 /// Why a change is not undone or redone. Nothing was changed then.
 #[derive(Debug, Drop, PartialEq, Error)]

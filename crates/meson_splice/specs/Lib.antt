@@ -3,4 +3,5 @@ pub mod Patch
 pub mod Borrowed
 pub mod Saved
 pub mod Past
+pub mod Messages
 pub mod Laws

@@ -5,27 +5,42 @@ ghost use Rattle.meson_splice.specs.declared.fault.SpliceFault.TheVariants.{OutO
 
 use meson_values::Text;
 use std::alloc::AllocError;
-use thiserror::Error;
+use std::error::Error;
+use std::fmt;
 
 /// Why files can't be changed so. Offsets are in bytes.
-#[derive(Debug, Drop, PartialEq, Error)]
+#[derive(Debug, Drop, PartialEq)]
 pub enum SpliceFault {
     /// The set has no file of this name.
-    #[error("P1 no file {0}")]
     NoFile(Text),
     /// The replaced range, from this offset on, runs past the end of the file.
-    #[error("P2 out of range in {0} at {1}")]
     OutOfRange(Text, usize),
     /// Other bytes than the replaced ones stand at this offset.
-    #[error("P3 stale {0} at {1}")]
     Stale(Text, usize),
-    #[error("P4 nothing to undo")]
     NothingToUndo,
-    #[error("P5 nothing to redo")]
     NothingToRedo,
-    #[error("out of memory")]
     OutOfMemory,
 }
+
+impl fmt::Display for SpliceFault {
+    ghost use Rattle.std.specs.Prelude.{Some};
+    ghost use Rattle.meson_splice.specs.Messages.{splice_fault_text};
+
+    ghost output = { λ fault. Some (splice_fault_text fault) };
+
+    fn fmt<W: fmt::Write>(&self, f: &mut fmt::Formatter<W>) -> fmt::Result {
+        match self {
+            SpliceFault::NoFile(file) => write!(f, "P1 no file {file}"),
+            SpliceFault::OutOfRange(file, at) => write!(f, "P2 out of range in {file} at {at}"),
+            SpliceFault::Stale(file, at) => write!(f, "P3 stale {file} at {at}"),
+            SpliceFault::NothingToUndo => f.write_str("P4 nothing to undo"),
+            SpliceFault::NothingToRedo => f.write_str("P5 nothing to redo"),
+            SpliceFault::OutOfMemory => f.write_str("out of memory"),
+        }
+    }
+}
+
+impl Error for SpliceFault {}
 
 impl From<AllocError> for SpliceFault {
     ghost from_gives = { λ _ e. e ≡ OutOfMemory };

@@ -4,3 +4,4 @@ pub mod Commit
 pub mod Planned
 pub mod MemoryStore
 pub mod Output
+pub mod Messages

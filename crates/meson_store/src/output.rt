@@ -1,9 +1,12 @@
 //! What a writer offers.
 
-ghost use Rattle.std.specs.Prelude.{◌≡◌, MatchResult, OnOk};
+ghost use Rattle.std.specs.Prelude.{◌≡◌, ◌∷◌, ◌++◌, [], IfSome, MatchResult, OnOk};
 ghost use Rattle.std.specs.Io.KnownBytes.{Appends};
+ghost use Rattle.meson_store.specs.Content.{Rose};
 ghost use Rattle.meson_store.specs.Output.{Heard, Gets, Fails};
 
+use std::alloc::{AllocError, Global};
+use std::fmt::Display;
 use std::io;
 use std::io::Write;
 
@@ -17,6 +20,14 @@ pub trait Output {
     /// Where a write failed, and then it is counted. The writer may have some of the bytes.
     fn tell(&mut self, bytes: &[u8]) -> io::Result<()>
         ensures { MatchResult result (λ _. Gets (heard self.old) (heard self.new) bytes.now)
+            (λ _. Fails (heard self.old) (heard self.new)) };
+
+    /// Writes a text and a line end: by one write where there is memory to build the line, else part after part.
+    ///
+    /// # Errors
+    /// As those of `tell`.
+    fn tell_line<D: Display>(&mut self, alloc: Global, text: &D) -> io::Result<()>
+        ensures { MatchResult result (λ _. IfSome (D.output text.now) (λ bytes. Gets (heard self.old) (heard self.new) (bytes ++ 10 ∷ [])))
             (λ _. Fails (heard self.old) (heard self.new)) };
 }
 
@@ -45,6 +56,18 @@ impl<W: Write + Drop> Counted<W> {
         self.failures
     }
 
+    /// Counts how a write ended.
+    fn counted(&mut self, told: io::Result<()>) -> io::Result<()>
+        ensures told { result ≡ told }
+        ensures writer { self.new.writer ≡ self.old.writer }
+        ensures failures { MatchResult result (λ _. self.new.failures ≡ self.old.failures) (λ _. Rose self.old.failures self.new.failures) }
+    {
+        if told.is_err() {
+            self.failures = self.failures.saturating_add(1);
+        }
+        told
+    }
+
     /// The writer.
     pub fn take(self) -> W
         ensures { W.contents result ≡ (⟦<Counted<W> as Output>⟧.heard self).contents }
@@ -62,14 +85,29 @@ fn write_out<W: Write>(to: &mut W, bytes: &[u8]) -> io::Result<()>
     to.flush()
 }
 
+/// Writes a text and a line end, part after part, and then what is kept back of them.
+fn write_line<W: Write, D: Display>(to: &mut W, text: &D) -> io::Result<()>
+    ensures { OnOk result (IfSome (D.output text.now) (λ bytes. Appends (W.contents to.old) (W.contents to.new) (bytes ++ 10 ∷ []))) }
+{
+    to.writeln(text)?;
+    to.flush()
+}
+
 impl<W: Write + Drop> Output for Counted<W> {
     ghost heard = { λ c. record { contents = W.contents c.writer; failures = c.failures } };
 
     fn tell(&mut self, bytes: &[u8]) -> io::Result<()> {
         let told = write_out(&mut self.writer, bytes);
-        if told.is_err() {
-            self.failures = self.failures.saturating_add(1);
+        self.counted(told)
+    }
+
+    fn tell_line<D: Display>(&mut self, alloc: Global, text: &D) -> io::Result<()> {
+        match format!(in alloc; "{text}\n") {
+            Ok(line) => self.tell(line.as_bytes()),
+            Err(AllocError) => {
+                let told = write_line(&mut self.writer, text);
+                self.counted(told)
+            }
         }
-        told
     }
 }

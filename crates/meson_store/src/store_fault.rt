@@ -2,6 +2,8 @@
 
 use meson_splice::{Many, Text};
 use std::alloc::AllocError;
+use std::error::Error;
+use std::fmt;
 
 /// A fault of the store, of a writer, or want of memory.
 #[derive(Debug, Drop)]
@@ -17,6 +19,25 @@ pub enum StoreFault {
     /// A growth was refused.
     OutOfMemory,
 }
+
+impl fmt::Display for StoreFault {
+    ghost use Rattle.std.specs.Prelude.{Some};
+    ghost use Rattle.meson_store.specs.Messages.{store_fault_text};
+
+    ghost output = { λ fault. Some (store_fault_text fault) };
+
+    fn fmt<W: fmt::Write>(&self, f: &mut fmt::Formatter<W>) -> fmt::Result {
+        match self {
+            StoreFault::ReadFailed(name) => write!(f, "W1 cannot read {name}"),
+            StoreFault::WriteFailed { name, .. } => write!(f, "W2 cannot write {name}"),
+            StoreFault::NoFile(name) => write!(f, "W3 no file {name}"),
+            StoreFault::OutputFailed => f.write_str("W4 output failed"),
+            StoreFault::OutOfMemory => f.write_str("out of memory"),
+        }
+    }
+}
+
+impl Error for StoreFault {}
 
 impl From<AllocError> for StoreFault {
     ghost use Rattle.std.specs.Prelude.{◌≡◌};

@@ -20,5 +20,6 @@ pub mod Exchange
 pub mod ExchangeStatements
 pub mod Lines
 pub mod ReadsList
+pub mod Messages
 pub mod Laws
 pub mod formers

@@ -2,31 +2,46 @@
 
 use meson_lex::LexFault;
 use std::alloc::AllocError;
-use thiserror::Error;
+use std::error::Error;
+use std::fmt;
 
 /// Why a text has no tree. Offsets are in bytes.
-#[derive(Debug, Clone, Copy, PartialEq, Eq, Error)]
+#[derive(Debug, Clone, Copy, PartialEq, Eq)]
 pub enum ParseFault {
     /// More than `MAX_LEN` bytes.
-    #[error("S1 too large")]
     TooLarge,
-    #[error("S2 not utf-8")]
     NotUtf8,
     /// The text begins with a byte order mark.
-    #[error("S3 byte order mark")]
     ByteOrderMark,
     /// The first place where no item can be read.
-    #[error("{0}")]
     Lex(LexFault),
     /// The first token that can't stand where it does begins here; at the end of the text, its length.
-    #[error("S5 unexpected at {0}")]
     Unexpected(usize),
     /// The bracket, `if`, `foreach` or question mark that stands here opens a construct inside as many as may stand inside one another.
-    #[error("S6 too deep at {0}")]
     TooDeep(usize),
-    #[error("out of memory")]
     OutOfMemory,
 }
+
+impl fmt::Display for ParseFault {
+    ghost use Rattle.std.specs.Prelude.{Some};
+    ghost use Rattle.meson_syntax.specs.Messages.{parse_fault_text};
+
+    ghost output = { λ fault. Some (parse_fault_text fault) };
+
+    fn fmt<W: fmt::Write>(&self, f: &mut fmt::Formatter<W>) -> fmt::Result {
+        match self {
+            ParseFault::TooLarge => f.write_str("S1 too large"),
+            ParseFault::NotUtf8 => f.write_str("S2 not utf-8"),
+            ParseFault::ByteOrderMark => f.write_str("S3 byte order mark"),
+            ParseFault::Lex(fault) => write!(f, "{fault}"),
+            ParseFault::Unexpected(at) => write!(f, "S5 unexpected at {at}"),
+            ParseFault::TooDeep(at) => write!(f, "S6 too deep at {at}"),
+            ParseFault::OutOfMemory => f.write_str("out of memory"),
+        }
+    }
+}
+
+impl Error for ParseFault {}
 
 impl From<AllocError> for ParseFault {
     ghost use Rattle.std.specs.Prelude.{◌≡◌};
