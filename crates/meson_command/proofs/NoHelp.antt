@@ -9,16 +9,16 @@ use Rattle.meson_command.specs.Asking.{asked_from, names_no_folder, without_help
 use Rattle.meson_command.specs.declared.asked.Action.{Action}
 use Rattle.meson_command.specs.declared.asked.Action.TheVariants.{Run, Info, ScriptText, ScriptFile, Undo, Redo, Help}
 use Rattle.meson_command.specs.declared.asked.Asked.{Asked}
-use Rattle.meson_command.specs.Operations.{kwargs_operation, options_operation, role_of}
+use Rattle.meson_json.specs.Operations.{kwargs_operation, options_operation, role_of}
 use Rattle.meson_command.specs.Pairs.{pairs_of}
 use Rattle.meson_command.specs.declared.fault.UsageFault.TheVariants.{Usage}
-use Rattle.meson_command.specs.declared.operations.KwargsOperation.{KwargsOperation}
-use Rattle.meson_command.specs.declared.operations.KwargsOperation.TheVariants as kwargs
-use Rattle.meson_command.specs.declared.operations.OptionsOperation.{OptionsOperation}
-use Rattle.meson_command.specs.declared.operations.OptionsOperation.TheVariants as options
-use Rattle.meson_command.specs.declared.operations.TargetOperation.{TargetOperation}
-use Rattle.meson_command.specs.declared.operations.TargetOperation.TheVariants as target
-use Rattle.meson_command.specs.declared.target.TargetWords.{TargetWords}
+use Rattle.meson_json.specs.declared.names.KwargsOperation.{KwargsOperation}
+use Rattle.meson_json.specs.declared.names.KwargsOperation.TheVariants as kwargs
+use Rattle.meson_json.specs.declared.names.OptionsOperation.{OptionsOperation}
+use Rattle.meson_json.specs.declared.names.OptionsOperation.TheVariants as options
+use Rattle.meson_json.specs.declared.target.TargetOperation.{TargetOperation}
+use Rattle.meson_json.specs.declared.target.TargetOperation.TheVariants as target
+use Rattle.meson_json.specs.declared.target.TargetMembers.{TargetMembers}
 
 abbrev pub IsPlain : Action → Type 0
 IsPlain (Help text) = ⊥
@@ -46,7 +46,7 @@ ok x h = record { so = h }
 err : {A E : Type 0} {P : A → Type 0} (e : E) → Answers P (Err e)
 err e = record { so = tt }
 
-target-plain : (o : TargetOperation) (w : TargetWords) → IsPlain (target_by o w)
+target-plain : (o : TargetOperation) (w : TargetMembers) → IsPlain (target_by o w)
 target-plain target.SourcesAdd w = tt
 target-plain target.SourcesRemove w = tt
 target-plain target.TargetAdd w = tt

@@ -16,15 +16,16 @@ use Rattle.meson_splice.specs.Patch.{then_ok}
 use Rattle.meson_command.specs.Actions.{action_of, kwargs_action, kwargs_by, options_action, target_action, word_at, words_at}
 use Rattle.meson_command.specs.Asking.{answer, asked_from, asked_of, help, is_help, names_no_folder}
 use Rattle.meson_command.specs.Laws.{HelpWhereAsked, IsUnknown, UsageMeansUnknown}
-use Rattle.meson_command.specs.Operations.{kwargs_operation, options_operation, role_of, target_operation}
+use Rattle.meson_json.specs.Operations.{kwargs_operation, options_operation, role_of}
+use Rattle.meson_command.specs.Operations.{target_operation}
 use Rattle.meson_command.specs.Pairs.{in_pairs, names, pairs_of, repeats}
 use Rattle.meson_command.specs.Program.{command, default_options, kwargs, program, redo, target, undo}
 use Rattle.meson_command.specs.declared.asked.Action.{Action}
 use Rattle.meson_command.specs.declared.asked.Asked.{Asked}
 use Rattle.meson_command.specs.declared.fault.UsageFault.{UsageFault}
 use Rattle.meson_command.specs.declared.fault.UsageFault.TheVariants.{Usage, OddWords, RepeatedKey}
-use Rattle.meson_command.specs.declared.operations.KwargsOperation.{KwargsOperation}
-use Rattle.meson_command.specs.declared.operations.KwargsOperation.TheVariants as of_kwargs
+use Rattle.meson_json.specs.declared.names.KwargsOperation.{KwargsOperation}
+use Rattle.meson_json.specs.declared.names.KwargsOperation.TheVariants as of_kwargs
 use Rattle.meson_command.proofs.HelpAlone.{Clean}
 use Rattle.meson_command.proofs.NoHelp.{not_help}
 use Rattle.meson_command.proofs.Taken.{as_taken, help_alone, help_is}

@@ -8,19 +8,21 @@ use Rattle.meson_steps.specs.declared.command.Command.{Command}
 use Rattle.meson_steps.specs.declared.command.Command.TheVariants as command
 use Rattle.meson_steps.specs.declared.command.Setting.{Setting}
 use Rattle.meson_steps.specs.declared.command.Setting.TheVariants as setting
-use Rattle.meson_command.specs.Operations.{kwargs_operation, options_operation, role_of, target_operation}
+use Rattle.meson_json.specs.Operations.{kwargs_operation, options_operation, role_of}
+use Rattle.meson_json.specs.Targets.{target_command}
+use Rattle.meson_command.specs.Operations.{target_operation}
 use Rattle.meson_command.specs.Pairs.{names, pairs_of}
 use Rattle.meson_command.specs.declared.asked.Action.{Action}
 use Rattle.meson_command.specs.declared.asked.Action.TheVariants.{Run, Info, ScriptText, ScriptFile, Undo, Redo}
 use Rattle.meson_command.specs.declared.fault.UsageFault.{UsageFault}
 use Rattle.meson_command.specs.declared.fault.UsageFault.TheVariants.{Usage, Unsupported}
-use Rattle.meson_command.specs.declared.operations.KwargsOperation.{KwargsOperation}
-use Rattle.meson_command.specs.declared.operations.KwargsOperation.TheVariants as kwargs
-use Rattle.meson_command.specs.declared.operations.OptionsOperation.{OptionsOperation}
-use Rattle.meson_command.specs.declared.operations.OptionsOperation.TheVariants as options
-use Rattle.meson_command.specs.declared.operations.TargetOperation.{TargetOperation}
-use Rattle.meson_command.specs.declared.operations.TargetOperation.TheVariants as target
-use Rattle.meson_command.specs.declared.target.TargetWords.{TargetWords}
+use Rattle.meson_json.specs.declared.names.KwargsOperation.{KwargsOperation}
+use Rattle.meson_json.specs.declared.names.KwargsOperation.TheVariants as kwargs
+use Rattle.meson_json.specs.declared.names.OptionsOperation.{OptionsOperation}
+use Rattle.meson_json.specs.declared.names.OptionsOperation.TheVariants as options
+use Rattle.meson_json.specs.declared.target.TargetMembers.{TargetMembers}
+use Rattle.meson_json.specs.declared.target.TargetOperation.{TargetOperation}
+use Rattle.meson_json.specs.declared.target.TargetOperation.TheVariants as target
 
 -- ---- the words that clap found, by what help calls them
 
@@ -40,7 +42,7 @@ run command = Run (record { commands = command ∷ [] })
 
 -- ---- target ID OPERATION [SOURCE]... [--subdir SUBDIR] [--type KIND]
 
-abbrev pub target_words : List Row → TargetWords
+abbrev pub target_words : List Row → TargetMembers
 target_words rows = record {
   target = word_at (codes "ID") rows;
   sources = words_at (codes "SOURCE") rows;
@@ -48,14 +50,9 @@ target_words rows = record {
   target_kind = word_or (codes "executable") (codes "KIND") rows;
 }
 
-abbrev pub target_by : TargetOperation → TargetWords → Action
-target_by target.SourcesAdd w = run (command.SourcesAdd w.target w.sources)
-target_by target.SourcesRemove w = run (command.SourcesRemove w.target w.sources)
-target_by target.TargetAdd w = run (command.TargetAdd w.target w.target_kind w.subdir w.sources)
-target_by target.TargetRemove w = run (command.TargetRemove w.target)
-target_by target.ExtraAdd w = run (command.ExtraAdd w.target w.sources)
-target_by target.ExtraRemove w = run (command.ExtraRemove w.target w.sources)
-target_by target.Info w = Info (command.TargetInfo w.target)
+abbrev pub target_by : TargetOperation → TargetMembers → Action
+target_by target.Info members = Info (target_command target.Info members)
+target_by operation members = run (target_command operation members)
 
 unfoldable pub target_action : List Row → Result Action UsageFault
 target_action rows =

@@ -5,7 +5,8 @@ use Rattle.clap.specs.Words.{Row, Text, fault_of, first_of, matches_of, subcomma
 use Rattle.clap.specs.declared.error.kind.ErrorKind.TheVariants.{DisplayHelp}
 use Rattle.meson_command.specs.Actions.{word_at}
 use Rattle.meson_command.specs.Asking.{asked_by, help, names_no_folder}
-use Rattle.meson_command.specs.Operations.{kwargs_operation, options_operation, role_of, target_operation}
+use Rattle.meson_json.specs.Operations.{kwargs_operation, options_operation, role_of}
+use Rattle.meson_command.specs.Operations.{target_operation}
 use Rattle.meson_command.specs.Pairs.{names, pairs_of}
 use Rattle.meson_command.specs.Program.{program}
 use Rattle.meson_command.specs.declared.fault.UsageFault.TheVariants.{Usage, OddWords}

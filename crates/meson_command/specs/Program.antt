@@ -54,11 +54,16 @@ bare name = record (new_app name) {
   top = record (new_app name).top { subcommand_required = true; disable_help_flag = true; disable_help_subcommand = true };
 }
 
+-- meson_rewrite [--sourcedir DIR]
+abbrev pub own_words : App
+own_words = with_rule (with_rule (bare (codes "meson_rewrite")) (option (codes "DIR") (codes "sourcedir"))) help
+
+abbrev pub with_subcommands : App → List App → App
+with_subcommands a subcommands = fold (λ b s. with_subcommand b s.top) a subcommands
+
 -- meson_rewrite [--sourcedir DIR] SUBCOMMAND
 unfoldable pub program : App
-program = fold (λ a s. with_subcommand a s.top)
-    (with_rule (with_rule (bare (codes "meson_rewrite")) (option (codes "DIR") (codes "sourcedir"))) help)
-    (target ∷ kwargs ∷ default_options ∷ command ∷ undo ∷ redo ∷ [])
+program = with_subcommands own_words (target ∷ kwargs ∷ default_options ∷ command ∷ undo ∷ redo ∷ [])
 
 -- clap is told this, and no word counts for all subcommands at once
 abbrev pub IsTold : App → Command → Type 0

@@ -7,10 +7,10 @@ ghost use Rattle.meson_command.specs.declared.fault.UsageFault.TheVariants.{OutO
 
 use crate::asked::Action;
 use crate::fault::UsageFault;
-use crate::operations::{OptionsOperation, find_options_operation};
 use crate::pairs::{names, pairs_at};
 use crate::words::{run, word_or};
 use clap::ArgMatches;
+use meson_json::names::{OptionsOperation, find_options_operation};
 use meson_splice::Many;
 use meson_steps::command::Command;
 use std::alloc::Global;

@@ -1,9 +1,9 @@
 //! The words that the program takes, as clap is told of them.
 
-ghost use Rattle.std.specs.Prelude.{◌≡◌, IfOk, false};
+ghost use Rattle.std.specs.Prelude.{◌≡◌, ◌∷◌, [], IfOk, false};
 ghost use Rattle.clap.specs.Words.{app_of, new_app, rule_of, with_rule};
 ghost use Rattle.clap.specs.declared.builder.command.Command.TheViews.{out-Command};
-ghost use Rattle.meson_command.specs.Program.{IsTold, command, default_options, help, kwargs, many, one, option, program, redo, target, undo};
+ghost use Rattle.meson_command.specs.Program.{IsTold, command, default_options, help, kwargs, many, one, option, own_words, program, redo, target, undo, with_subcommands};
 
 use crate::help;
 use clap::{Arg, ArgAction, Command};
@@ -151,20 +151,34 @@ fn redo<'h>(alloc: Global) -> Result<Command<'h>, AllocError>
     with_help(alloc, command)
 }
 
-/// The program's command line.
-#[tactic(auto, unfolding(crate::specs::Program::program))]
-fn program<'h>(alloc: Global) -> Result<Command<'h>, AllocError>
-    ensures { IfOk result (λ c. app_of c ≡ program) }
+/// The program without its subcommands.
+fn own_words<'h>(alloc: Global) -> Result<Command<'h>, AllocError>
+    ensures { IfOk result (λ c. app_of c ≡ own_words) }
 {
     let program = described(alloc, "meson_rewrite", help::PROGRAM, help::BELOW_PROGRAM)
         .subcommand_required(true)
         .disable_help_flag(true)
         .disable_help_subcommand(true);
     let program = with_option(alloc, program, "DIR", "sourcedir", help::DIR)?;
-    with_help(alloc, program)?
+    with_help(alloc, program)
+}
+
+/// With the subcommands for single commands.
+fn with_edits<'h>(alloc: Global, program: Command<'h>) -> Result<Command<'h>, AllocError>
+    ensures { IfOk result (λ c. app_of c ≡ with_subcommands (app_of program.entry) (target ∷ kwargs ∷ default_options ∷ [])) }
+{
+    program
         .subcommand(target(alloc)?)?
         .subcommand(kwargs(alloc)?)?
-        .subcommand(default_options(alloc)?)?
+        .subcommand(default_options(alloc)?)
+}
+
+/// The program's command line.
+#[tactic(auto, unfolding(crate::specs::Program::program))]
+fn program<'h>(alloc: Global) -> Result<Command<'h>, AllocError>
+    ensures { IfOk result (λ c. app_of c ≡ program) }
+{
+    with_edits(alloc, own_words(alloc)?)?
         .subcommand(command(alloc)?)?
         .subcommand(undo(alloc)?)?
         .subcommand(redo(alloc)?)

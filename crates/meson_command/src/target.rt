@@ -7,26 +7,17 @@ ghost use Rattle.meson_command.specs.declared.fault.UsageFault.TheVariants.{OutO
 
 use crate::asked::Action;
 use crate::fault::UsageFault;
-use crate::operations::{TargetOperation, find_target_operation};
+use crate::operations::find_target_operation;
 use crate::words::{owned, run, word_or, words_at};
 use clap::ArgMatches;
-use meson_splice::{Many, Text};
-use meson_steps::command::Command;
+use meson_json::target::{TargetMembers, TargetOperation, target_command};
 use std::alloc::{AllocError, Global};
 
 /// The words behind the operation.
-#[derive(Drop)]
-struct TargetWords {
-    target: Text,
-    sources: Many<Text>,
-    subdir: Text,
-    target_kind: Text,
-}
-
-fn target_words(alloc: Global, matches: &ArgMatches<'_>) -> Result<TargetWords, AllocError>
+fn target_words(alloc: Global, matches: &ArgMatches<'_>) -> Result<TargetMembers, AllocError>
     ensures { IfOk result (λ w. w ≡ target_words (rows_of (found_of matches.now))) }
 {
-    Ok(TargetWords {
+    Ok(TargetMembers {
         target: owned(alloc, word_or(matches, "ID", ""))?,
         sources: words_at(alloc, matches, "SOURCE")?,
         subdir: owned(alloc, word_or(matches, "SUBDIR", ""))?,
@@ -34,37 +25,19 @@ fn target_words(alloc: Global, matches: &ArgMatches<'_>) -> Result<TargetWords, 
     })
 }
 
-/// What the operation makes of the words; `rm_target` and `info` look at the target alone.
+/// What the operation makes of the words.
 fn target_by(
     alloc: Global,
     operation: TargetOperation,
-    words: TargetWords,
+    words: TargetMembers,
 ) -> Result<Action, UsageFault>
     ensures ok { IfOk result (λ a. a ≡ target_by operation words) }
     ensures refused { IfErr result (λ e. e ≡ OutOfMemory) }
 {
-    let TargetWords {
-        target,
-        sources,
-        subdir,
-        target_kind,
-    } = words;
+    let command = target_command(operation, words);
     match operation {
-        TargetOperation::SourcesAdd => run(alloc, Command::SourcesAdd { target, sources }),
-        TargetOperation::SourcesRemove => run(alloc, Command::SourcesRemove { target, sources }),
-        TargetOperation::TargetAdd => run(
-            alloc,
-            Command::TargetAdd {
-                target,
-                target_kind,
-                subdir,
-                sources,
-            },
-        ),
-        TargetOperation::TargetRemove => run(alloc, Command::TargetRemove { target }),
-        TargetOperation::ExtraAdd => run(alloc, Command::ExtraAdd { target, sources }),
-        TargetOperation::ExtraRemove => run(alloc, Command::ExtraRemove { target, sources }),
-        TargetOperation::Info => Ok(Action::Info(Command::TargetInfo { target })),
+        TargetOperation::Info => Ok(Action::Info(command)),
+        _ => run(alloc, command),
     }
 }
 

@@ -8,20 +8,19 @@ use Rattle.meson_json.specs.Each.{each_of, each_member, names_of}
 use Rattle.meson_json.specs.Members.{text_at}
 use Rattle.meson_json.specs.Operations.{entry_type, target_operation, kwargs_operation, options_operation, role_of}
 use Rattle.meson_json.specs.Settings.{setting_of, option_value}
+use Rattle.meson_json.specs.Targets.{target_command}
 use Rattle.meson_steps.specs.declared.command.Command.{Command}
 use Rattle.meson_steps.specs.declared.command.Command.TheVariants as command
 use Rattle.meson_calls.specs.declared.call.Role.{Role}
-use Rattle.meson_json.specs.declared.entry.TargetMembers.{TargetMembers}
+use Rattle.meson_json.specs.declared.target.TargetMembers.{TargetMembers}
 use Rattle.meson_json.specs.declared.fault.ScriptFault.{ScriptFault}
-use Rattle.meson_json.specs.declared.fault.ScriptFault.TheVariants.{NotJson, NotArray, TooMany, NotObject, UnknownType, BadField}
+use Rattle.meson_json.specs.declared.fault.ScriptFault.TheVariants.{NotJson, NotArray, TooMany, NotObject, UnknownType, BadField, UnknownOperation, Unsupported}
 use Rattle.meson_json.specs.declared.names.EntryType.{EntryType}
 use Rattle.meson_json.specs.declared.names.EntryType.TheVariants as entry
 use Rattle.meson_json.specs.declared.names.KwargsOperation.{KwargsOperation}
 use Rattle.meson_json.specs.declared.names.KwargsOperation.TheVariants as kwargs
 use Rattle.meson_json.specs.declared.names.OptionsOperation.{OptionsOperation}
 use Rattle.meson_json.specs.declared.names.OptionsOperation.TheVariants as options
-use Rattle.meson_json.specs.declared.names.TargetOperation.{TargetOperation}
-use Rattle.meson_json.specs.declared.names.TargetOperation.TheVariants as target
 
 -- ---- members
 
@@ -53,19 +52,10 @@ target_members i d =
     then_ok (text_or i (codes "target_type") (codes "executable") (get (codes "target_type") d)) (λ kind.
     Ok (record { target = target; sources = sources; subdir = subdir; target_kind = kind })))))
 
-abbrev pub target_command : TargetOperation → TargetMembers → Command
-target_command target.SourcesAdd m = command.SourcesAdd m.target m.sources
-target_command target.SourcesRemove m = command.SourcesRemove m.target m.sources
-target_command target.TargetRemove m = command.TargetRemove m.target
-target_command target.TargetAdd m = command.TargetAdd m.target m.target_kind m.subdir m.sources
-target_command target.ExtraAdd m = command.ExtraAdd m.target m.sources
-target_command target.ExtraRemove m = command.ExtraRemove m.target m.sources
-target_command target.Info m = command.TargetInfo m.target
-
 unfoldable pub target_entry : ℕ → Data → Result Command ScriptFault
 target_entry i d =
     then_ok (required_text i (codes "operation") d) (λ word.
-    then_ok (target_operation i word) (λ operation.
+    then_ok (ok_or (target_operation word) (UnknownOperation i)) (λ operation.
     then_ok (target_members i d) (λ m. Ok (target_command operation m))))
 
 -- ---- entries of type `kwargs`
@@ -73,18 +63,25 @@ target_entry i d =
 abbrev pub role_at : ℕ → Data → Result Role ScriptFault
 role_at i d = ok_or (option_and_then role_of (text_at (codes "function") d)) (BadField i (codes "function"))
 
+-- an operation that is done here
+abbrev pub kwargs_asked : ℕ → Option KwargsOperation → Result KwargsOperation ScriptFault
+kwargs_asked i None = Err (UnknownOperation i)
+kwargs_asked i (Some kwargs.RemoveRegex) = Err (Unsupported i)
+kwargs_asked i (Some operation) = Ok operation
+
 -- `delete` and `info` take any values
 unfoldable pub kwargs_command : ℕ → KwargsOperation → Role → List ℕ → Members → Result Command ScriptFault
 kwargs_command i kwargs.Set role id ms = then_ok (ok_or (each_member setting_of ms) (BadField i (codes "kwargs"))) (λ pairs. Ok (command.KwargsSet role id pairs))
 kwargs_command i kwargs.Add role id ms = then_ok (ok_or (each_member setting_of ms) (BadField i (codes "kwargs"))) (λ pairs. Ok (command.KwargsAdd role id pairs))
 kwargs_command i kwargs.Remove role id ms = then_ok (ok_or (each_member setting_of ms) (BadField i (codes "kwargs"))) (λ pairs. Ok (command.KwargsRemove role id pairs))
+kwargs_command i kwargs.RemoveRegex role id ms = Err (Unsupported i)
 kwargs_command i kwargs.Delete role id ms = Ok (command.KwargsDelete role id (names_of ms))
 kwargs_command i kwargs.Info role id ms = Ok (command.KwargsInfo role id)
 
 unfoldable pub kwargs_entry : ℕ → Data → Result Command ScriptFault
 kwargs_entry i d =
     then_ok (required_text i (codes "operation") d) (λ word.
-    then_ok (kwargs_operation i word) (λ operation.
+    then_ok (kwargs_asked i (kwargs_operation word)) (λ operation.
     then_ok (role_at i d) (λ role.
     then_ok (required_text i (codes "id") d) (λ id.
     then_ok (members_or i (codes "kwargs") no_members (get (codes "kwargs") d)) (λ ms. kwargs_command i operation role id ms)))))
@@ -98,7 +95,7 @@ options_command i options.Delete ms = Ok (command.OptionsDelete (names_of ms))
 unfoldable pub options_entry : ℕ → Data → Result Command ScriptFault
 options_entry i d =
     then_ok (required_text i (codes "operation") d) (λ word.
-    then_ok (options_operation i word) (λ operation.
+    then_ok (ok_or (options_operation word) (UnknownOperation i)) (λ operation.
     then_ok (members_or i (codes "options") no_members (get (codes "options") d)) (λ ms. options_command i operation ms)))
 
 -- ---- entries and scripts

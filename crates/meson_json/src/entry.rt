@@ -2,7 +2,8 @@
 
 ghost use Rattle.std.specs.Prelude.{◌≡◌, ◌≢◌, Err, IfErr, IfOk, Ok};
 ghost use Rattle.serde_json.specs.View.{members_view, view};
-ghost use Rattle.meson_json.specs.Scripts.{entry_of, kwargs_command, kwargs_entry, options_command, options_entry, role_at, target_command, target_entry, target_members};
+ghost use Rattle.meson_json.specs.Operations.{kwargs_operation};
+ghost use Rattle.meson_json.specs.Scripts.{entry_of, kwargs_asked, kwargs_command, kwargs_entry, options_command, options_entry, role_at, target_entry, target_members};
 ghost use Rattle.meson_json.specs.declared.fault.ScriptFault.TheVariants.{OutOfMemory};
 
 use crate::fault::ScriptFault;
@@ -11,76 +12,27 @@ use crate::members::{
     texts_or_none,
 };
 use crate::names::{
-    EntryType, KwargsOperation, OptionsOperation, TargetOperation, find_kwargs_operation,
-    find_options_operation, find_role, find_target_operation, find_type,
+    EntryType, KwargsOperation, OptionsOperation, find_kwargs_operation, find_options_operation,
+    find_role, find_target_operation, find_type,
 };
+use crate::target::{TargetMembers, target_command};
 use meson_calls::Role;
-use meson_splice::{Many, Text};
+use meson_splice::Text;
 use meson_steps::command::Command;
 use serde_json::{Map, Value};
 use std::alloc::Global;
-
-/// What an entry about a target names.
-#[derive(Drop)]
-pub(crate) struct TargetMembers {
-    pub target: Text,
-    pub sources: Many<Text>,
-    pub subdir: Text,
-    pub target_kind: Text,
-}
 
 #[tactic(auto, unfolding(crate::specs::Scripts::target_members))]
 fn target_members(alloc: Global, index: usize, entry: &Value) -> Result<TargetMembers, ScriptFault>
     ensures ok { IfOk result (λ m. target_members index (view entry.now) ≡ Ok m) }
     ensures refused { IfErr result (λ e. e ≢ OutOfMemory → target_members index (view entry.now) ≡ Err e) }
 {
-    let target = match required_text(alloc, index, entry, "target") {
-        Ok(target) => target,
-        Err(fault) => return Err(fault),
-    };
-    let sources = match texts_or_none(alloc, index, entry, "sources") {
-        Ok(sources) => sources,
-        Err(fault) => return Err(fault),
-    };
-    let subdir = match text_or(alloc, index, entry, "subdir", "") {
-        Ok(subdir) => subdir,
-        Err(fault) => return Err(fault),
-    };
-    let target_kind = match text_or(alloc, index, entry, "target_type", "executable") {
-        Ok(target_kind) => target_kind,
-        Err(fault) => return Err(fault),
-    };
     Ok(TargetMembers {
-        target,
-        sources,
-        subdir,
-        target_kind,
+        target: required_text(alloc, index, entry, "target")?,
+        sources: texts_or_none(alloc, index, entry, "sources")?,
+        subdir: text_or(alloc, index, entry, "subdir", "")?,
+        target_kind: text_or(alloc, index, entry, "target_type", "executable")?,
     })
-}
-
-fn target_command(operation: TargetOperation, members: TargetMembers) -> Command
-    ensures { result ≡ target_command operation members }
-{
-    let TargetMembers {
-        target,
-        sources,
-        subdir,
-        target_kind,
-    } = members;
-    match operation {
-        TargetOperation::SourcesAdd => Command::SourcesAdd { target, sources },
-        TargetOperation::SourcesRemove => Command::SourcesRemove { target, sources },
-        TargetOperation::TargetRemove => Command::TargetRemove { target },
-        TargetOperation::TargetAdd => Command::TargetAdd {
-            target,
-            target_kind,
-            subdir,
-            sources,
-        },
-        TargetOperation::ExtraAdd => Command::ExtraAdd { target, sources },
-        TargetOperation::ExtraRemove => Command::ExtraRemove { target, sources },
-        TargetOperation::Info => Command::TargetInfo { target },
-    }
 }
 
 #[tactic(auto, unfolding(crate::specs::Scripts::target_entry))]
@@ -88,18 +40,12 @@ fn target_entry(alloc: Global, index: usize, entry: &Value) -> Result<Command, S
     ensures ok { IfOk result (λ c. target_entry index (view entry.now) ≡ Ok c) }
     ensures refused { IfErr result (λ e. e ≢ OutOfMemory → target_entry index (view entry.now) ≡ Err e) }
 {
-    let word = match required_text(alloc, index, entry, "operation") {
-        Ok(word) => word,
-        Err(fault) => return Err(fault),
+    let word = required_text(alloc, index, entry, "operation")?;
+    let Some(operation) = find_target_operation(word.get()) else {
+        return Err(ScriptFault::UnknownOperation(index));
     };
-    let operation = match find_target_operation(index, word.get()) {
-        Ok(operation) => operation,
-        Err(fault) => return Err(fault),
-    };
-    match target_members(alloc, index, entry) {
-        Ok(members) => Ok(target_command(operation, members)),
-        Err(fault) => Err(fault),
-    }
+    let members = target_members(alloc, index, entry)?;
+    Ok(target_command(operation, members))
 }
 
 /// The function whose calls are meant.
@@ -113,6 +59,17 @@ fn role_at(alloc: Global, index: usize, entry: &Value) -> Result<Role, ScriptFau
     match find_role(name) {
         Some(role) => Ok(role),
         None => Err(bad_field(alloc, index, "function")),
+    }
+}
+
+/// An operation that is done here.
+fn kwargs_asked(index: usize, word: &str) -> Result<KwargsOperation, ScriptFault>
+    ensures { result ≡ kwargs_asked index (kwargs_operation word.now) }
+{
+    match find_kwargs_operation(word) {
+        Some(KwargsOperation::RemoveRegex) => Err(ScriptFault::Unsupported(index)),
+        Some(operation) => Ok(operation),
+        None => Err(ScriptFault::UnknownOperation(index)),
     }
 }
 
@@ -131,6 +88,9 @@ fn kwargs_command(
     if let KwargsOperation::Info = operation {
         return Ok(Command::KwargsInfo { role, id });
     }
+    if let KwargsOperation::RemoveRegex = operation {
+        return Err(ScriptFault::Unsupported(index));
+    }
     if let KwargsOperation::Delete = operation {
         let keys = names(alloc, members)?;
         return Ok(Command::KwargsDelete { role, id, keys });
@@ -142,7 +102,7 @@ fn kwargs_command(
         KwargsOperation::Set => Ok(Command::KwargsSet { role, id, pairs }),
         KwargsOperation::Add => Ok(Command::KwargsAdd { role, id, pairs }),
         KwargsOperation::Remove => Ok(Command::KwargsRemove { role, id, pairs }),
-        KwargsOperation::Delete | KwargsOperation::Info => unreachable!(),
+        _ => unreachable!(),
     }
 }
 
@@ -151,28 +111,17 @@ fn kwargs_entry(alloc: Global, index: usize, entry: &Value) -> Result<Command, S
     ensures ok { IfOk result (λ c. kwargs_entry index (view entry.now) ≡ Ok c) }
     ensures refused { IfErr result (λ e. e ≢ OutOfMemory → kwargs_entry index (view entry.now) ≡ Err e) }
 {
-    let word = match required_text(alloc, index, entry, "operation") {
-        Ok(word) => word,
-        Err(fault) => return Err(fault),
-    };
-    let operation = match find_kwargs_operation(index, word.get()) {
-        Ok(operation) => operation,
-        Err(fault) => return Err(fault),
-    };
-    let role = match role_at(alloc, index, entry) {
-        Ok(role) => role,
-        Err(fault) => return Err(fault),
-    };
+    let word = required_text(alloc, index, entry, "operation")?;
+    let operation = kwargs_asked(index, word.get())?;
+    let role = role_at(alloc, index, entry)?;
     let id = match required_text(alloc, index, entry, "id") {
         Ok(id) => id,
         Err(fault) => return Err(fault),
     };
     let none = Map::new(alloc);
-    match members_or(alloc, index, entry, "kwargs", &none) {
-        Ok(members) => match kwargs_command(alloc, index, operation, role, id, members) {
-            Ok(command) => Ok(command),
-            Err(fault) => Err(fault),
-        },
+    let members = members_or(alloc, index, entry, "kwargs", &none)?;
+    match kwargs_command(alloc, index, operation, role, id, members) {
+        Ok(command) => Ok(command),
         Err(fault) => Err(fault),
     }
 }
@@ -203,20 +152,14 @@ fn options_entry(alloc: Global, index: usize, entry: &Value) -> Result<Command, 
     ensures ok { IfOk result (λ c. options_entry index (view entry.now) ≡ Ok c) }
     ensures refused { IfErr result (λ e. e ≢ OutOfMemory → options_entry index (view entry.now) ≡ Err e) }
 {
-    let word = match required_text(alloc, index, entry, "operation") {
-        Ok(word) => word,
-        Err(fault) => return Err(fault),
-    };
-    let operation = match find_options_operation(index, word.get()) {
-        Ok(operation) => operation,
-        Err(fault) => return Err(fault),
+    let word = required_text(alloc, index, entry, "operation")?;
+    let Some(operation) = find_options_operation(word.get()) else {
+        return Err(ScriptFault::UnknownOperation(index));
     };
     let none = Map::new(alloc);
-    match members_or(alloc, index, entry, "options", &none) {
-        Ok(members) => match options_command(alloc, index, operation, members) {
-            Ok(command) => Ok(command),
-            Err(fault) => Err(fault),
-        },
+    let members = members_or(alloc, index, entry, "options", &none)?;
+    match options_command(alloc, index, operation, members) {
+        Ok(command) => Ok(command),
         Err(fault) => Err(fault),
     }
 }

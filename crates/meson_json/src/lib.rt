@@ -5,8 +5,9 @@ mod entry;
 mod fault;
 mod log;
 mod members;
-mod names;
+pub mod names;
 pub mod script;
+pub mod target;
 
 pub use fault::ScriptFault;
 pub use log::{empty_log, history_text, read_log};

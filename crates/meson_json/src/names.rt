@@ -1,9 +1,9 @@
-//! The words of a script: types of entries, operations and functions.
+//! The words for operations and functions. The command line has them too, but for those of targets.
 
 ghost use Rattle.std.specs.Prelude.{◌≡◌};
 ghost use Rattle.meson_json.specs.Operations.{entry_type, kwargs_operation, options_operation, role_of, target_operation};
 
-use crate::fault::ScriptFault;
+use crate::target::TargetOperation;
 use meson_calls::Role;
 
 /// What an entry of a script is about.
@@ -14,31 +14,21 @@ pub(crate) enum EntryType {
     DefaultOptions,
 }
 
-/// What an entry about a target asks.
+/// What is done to the keyword arguments of a call.
 #[derive(Clone, Copy)]
-pub(crate) enum TargetOperation {
-    SourcesAdd,
-    SourcesRemove,
-    TargetRemove,
-    TargetAdd,
-    ExtraAdd,
-    ExtraRemove,
-    Info,
-}
-
-/// What an entry about keyword arguments asks.
-#[derive(Clone, Copy)]
-pub(crate) enum KwargsOperation {
+pub enum KwargsOperation {
     Set,
     Delete,
     Add,
     Remove,
+    /// Known of other rewriters, and not done here.
+    RemoveRegex,
     Info,
 }
 
-/// What an entry about default options asks.
+/// What is done to the default options of the project.
 #[derive(Clone, Copy)]
-pub(crate) enum OptionsOperation {
+pub enum OptionsOperation {
     Set,
     Delete,
 }
@@ -57,71 +47,65 @@ pub(crate) fn find_type(name: &str) -> Option<EntryType>
     }
 }
 
-pub(crate) fn find_target_operation(
-    index: usize,
-    name: &str,
-) -> Result<TargetOperation, ScriptFault>
-    ensures { result ≡ target_operation index name.now }
+/// What a script calls an operation on a target.
+pub(crate) fn find_target_operation(name: &str) -> Option<TargetOperation>
+    ensures { result ≡ target_operation name.now }
 {
     if name == "src_add" {
-        Ok(TargetOperation::SourcesAdd)
+        Some(TargetOperation::SourcesAdd)
     } else if name == "src_rm" {
-        Ok(TargetOperation::SourcesRemove)
+        Some(TargetOperation::SourcesRemove)
     } else if name == "target_rm" {
-        Ok(TargetOperation::TargetRemove)
+        Some(TargetOperation::TargetRemove)
     } else if name == "target_add" {
-        Ok(TargetOperation::TargetAdd)
+        Some(TargetOperation::TargetAdd)
     } else if name == "extra_files_add" {
-        Ok(TargetOperation::ExtraAdd)
+        Some(TargetOperation::ExtraAdd)
     } else if name == "extra_files_rm" {
-        Ok(TargetOperation::ExtraRemove)
+        Some(TargetOperation::ExtraRemove)
     } else if name == "info" {
-        Ok(TargetOperation::Info)
+        Some(TargetOperation::Info)
     } else {
-        Err(ScriptFault::UnknownOperation(index))
+        None
     }
 }
 
-/// `remove_regex` is a word that is known, and not done.
-pub(crate) fn find_kwargs_operation(
-    index: usize,
-    name: &str,
-) -> Result<KwargsOperation, ScriptFault>
-    ensures { result ≡ kwargs_operation index name.now }
+/// The operation on keyword arguments that a word names, if it names one (Meson manual, Rewriter: `kwargs`).
+pub fn find_kwargs_operation(name: &str) -> Option<KwargsOperation>
+    ensures { result ≡ kwargs_operation name.now }
 {
     if name == "set" {
-        Ok(KwargsOperation::Set)
+        Some(KwargsOperation::Set)
     } else if name == "delete" {
-        Ok(KwargsOperation::Delete)
+        Some(KwargsOperation::Delete)
     } else if name == "add" {
-        Ok(KwargsOperation::Add)
+        Some(KwargsOperation::Add)
     } else if name == "remove" {
-        Ok(KwargsOperation::Remove)
+        Some(KwargsOperation::Remove)
     } else if name == "remove_regex" {
-        Err(ScriptFault::Unsupported(index))
+        Some(KwargsOperation::RemoveRegex)
     } else if name == "info" {
-        Ok(KwargsOperation::Info)
+        Some(KwargsOperation::Info)
     } else {
-        Err(ScriptFault::UnknownOperation(index))
+        None
     }
 }
 
-pub(crate) fn find_options_operation(
-    index: usize,
-    name: &str,
-) -> Result<OptionsOperation, ScriptFault>
-    ensures { result ≡ options_operation index name.now }
+/// The operation on default options that a word names, if it names one (Meson manual, Rewriter: `default_options`).
+pub fn find_options_operation(name: &str) -> Option<OptionsOperation>
+    ensures { result ≡ options_operation name.now }
 {
     if name == "set" {
-        Ok(OptionsOperation::Set)
+        Some(OptionsOperation::Set)
     } else if name == "delete" {
-        Ok(OptionsOperation::Delete)
+        Some(OptionsOperation::Delete)
     } else {
-        Err(ScriptFault::UnknownOperation(index))
+        None
     }
 }
 
-pub(crate) fn find_role(name: &str) -> Option<Role>
+/// The role of the calls that a function's name means, if it means any (Meson manual, Rewriter: `function`).
+pub fn find_role(name: &str) -> Option<Role>
     ensures { result ≡ role_of name.now }
 {
     if name == "dependency" {
