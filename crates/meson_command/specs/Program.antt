@@ -58,12 +58,9 @@ bare name = record (new_app name) {
 abbrev pub own_words : App
 own_words = with_rule (with_rule (bare (codes "meson_rewrite")) (option (codes "DIR") (codes "sourcedir"))) help
 
-abbrev pub with_subcommands : App → List App → App
-with_subcommands a subcommands = fold (λ b s. with_subcommand b s.top) a subcommands
-
 -- meson_rewrite [--sourcedir DIR] SUBCOMMAND
 unfoldable pub program : App
-program = with_subcommands own_words (target ∷ kwargs ∷ default_options ∷ command ∷ undo ∷ redo ∷ [])
+program = fold (λ a s. with_subcommand a s.top) own_words (target ∷ kwargs ∷ default_options ∷ command ∷ undo ∷ redo ∷ [])
 
 -- clap is told this, and no word counts for all subcommands at once
 abbrev pub IsTold : App → Command → Type 0

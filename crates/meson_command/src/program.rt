@@ -1,9 +1,9 @@
 //! The words that the program takes, as clap is told of them.
 
-ghost use Rattle.std.specs.Prelude.{◌≡◌, ◌∷◌, [], IfOk, false};
-ghost use Rattle.clap.specs.Words.{app_of, new_app, rule_of, with_rule};
+ghost use Rattle.std.specs.Prelude.{◌≡◌, IfOk, false};
+ghost use Rattle.clap.specs.Words.{App, app_of, new_app, rule_of, with_rule, with_subcommand};
 ghost use Rattle.clap.specs.declared.builder.command.Command.TheViews.{out-Command};
-ghost use Rattle.meson_command.specs.Program.{IsTold, command, default_options, help, kwargs, many, one, option, own_words, program, redo, target, undo, with_subcommands};
+ghost use Rattle.meson_command.specs.Program.{IsTold, command, default_options, help, kwargs, many, one, option, own_words, program, redo, target, undo};
 
 use crate::help;
 use clap::{Arg, ArgAction, Command};
@@ -163,14 +163,17 @@ fn own_words<'h>(alloc: Global) -> Result<Command<'h>, AllocError>
     with_help(alloc, program)
 }
 
-/// With the subcommands for single commands.
-fn with_edits<'h>(alloc: Global, program: Command<'h>) -> Result<Command<'h>, AllocError>
-    ensures { IfOk result (λ c. app_of c ≡ with_subcommands (app_of program.entry) (target ∷ kwargs ∷ default_options ∷ [])) }
+/// With a subcommand, if that was made.
+fn with_subcommand<'h>(
+    command: Command<'h>,
+    subcommand: Result<Command<'h>, AllocError>,
+) -> Result<Command<'h>, AllocError>
+    ensures { (a : App) → IfOk subcommand.entry (IsTold a) → IfOk result (λ c. app_of c ≡ with_subcommand (app_of command.entry) a.top) }
 {
-    program
-        .subcommand(target(alloc)?)?
-        .subcommand(kwargs(alloc)?)?
-        .subcommand(default_options(alloc)?)
+    match subcommand {
+        Ok(subcommand) => command.subcommand(subcommand),
+        Err(refused) => Err(refused),
+    }
 }
 
 /// The program's command line.
@@ -178,10 +181,13 @@ fn with_edits<'h>(alloc: Global, program: Command<'h>) -> Result<Command<'h>, Al
 fn program<'h>(alloc: Global) -> Result<Command<'h>, AllocError>
     ensures { IfOk result (λ c. app_of c ≡ program) }
 {
-    with_edits(alloc, own_words(alloc)?)?
-        .subcommand(command(alloc)?)?
-        .subcommand(undo(alloc)?)?
-        .subcommand(redo(alloc)?)
+    let program = own_words(alloc)?;
+    let program = with_subcommand(program, target(alloc))?;
+    let program = with_subcommand(program, kwargs(alloc))?;
+    let program = with_subcommand(program, default_options(alloc))?;
+    let program = with_subcommand(program, command(alloc))?;
+    let program = with_subcommand(program, undo(alloc))?;
+    with_subcommand(program, redo(alloc))
 }
 
 /// The same, by its own name in help, whatever it was called by.

@@ -1,0 +1,12 @@
+use Rattle.std.proofs.Common.{◌≡◌, ◌∙◌, ap, subst}
+use Rattle.std.specs.Prelude.{IfOk}
+use Rattle.std.proofs.lemmas.Result.{IfOk-weaker}
+use Rattle.clap.specs.Words.{App, app_of, with_subcommand}
+use Rattle.meson_command.specs.Program.{IsTold}
+use Rattle.meson_command.proofs.program.with_subcommand.Goals as goal
+
+pub returns-in-Ok : goal.returns-in-Ok
+returns-in-Ok c = λ a told.
+    let is : IsTold a c.in-Ok.subcommand = subst (λ r. IfOk r (IsTold a)) c.in-Ok.is told in
+    let top : App → _ = λ (b : App). b.top in
+    IfOk-weaker c.subcommand.result _ _ (λ r h. h.shape is.1 ∙ ap (with_subcommand (app_of c.args.command)) (ap top is.0)) c.subcommand.ensures
