@@ -42,10 +42,7 @@ fn kwargs_by(
     if let KwargsOperation::Info = operation {
         return Ok(Action::Info(Command::KwargsInfo { role, id }));
     }
-    let pairs = match pairs_at(alloc, matches, "KEY VALUE") {
-        Ok(pairs) => pairs,
-        Err(fault) => return Err(fault),
-    };
+    let pairs = pairs_at(alloc, matches, "KEY VALUE")?;
     let command = match operation {
         KwargsOperation::Set => Command::KwargsSet {
             role,

@@ -27,10 +27,7 @@ pub(crate) fn options_action(alloc: Global, matches: &ArgMatches<'_>) -> Result<
     let Some(operation) = find_options_operation(word_or(matches, "OPERATION", "")) else {
         return Err(UsageFault::Usage);
     };
-    let pairs = match pairs_at(alloc, matches, "OPTION VALUE") {
-        Ok(pairs) => pairs,
-        Err(fault) => return Err(fault),
-    };
+    let pairs = pairs_at(alloc, matches, "OPTION VALUE")?;
     match operation {
         OptionsOperation::Set => run(
             alloc,

@@ -55,10 +55,7 @@ fn change_value(alloc: Global, change: &Change) -> Result<Value, ScriptFault>
 {
     let mut list = Vec::new(alloc);
     for splice in change.splices.get() {
-        match splice_value(alloc, splice) {
-            Ok(value) => list.push(value)?,
-            Err(fault) => return Err(fault),
-        }
+        list.push(splice_value(alloc, splice)?)?;
     }
     Ok(Value::Array(list))
 }
@@ -71,10 +68,7 @@ fn changes_value(alloc: Global, changes: &[Change]) -> Result<Value, ScriptFault
 {
     let mut list = Vec::new(alloc);
     for change in changes {
-        match change_value(alloc, change) {
-            Ok(value) => list.push(value)?,
-            Err(fault) => return Err(fault),
-        }
+        list.push(change_value(alloc, change)?)?;
     }
     Ok(Value::Array(list))
 }
@@ -94,14 +88,8 @@ fn log_value(alloc: Global, history: &History) -> Result<Value, ScriptFault>
     ensures placed { OnOk result ((are_placed history.now.future ≡ true) × (are_placed history.now.past ≡ true)) }
     ensures refused { IfErr result (λ e. e ≢ OutOfMemory → (e ≡ BadLog) × (has_text history.now ≡ false)) }
 {
-    let future = match changes_value(alloc, history.future.get()) {
-        Ok(future) => future,
-        Err(fault) => return Err(fault),
-    };
-    let past = match changes_value(alloc, history.past.get()) {
-        Ok(past) => past,
-        Err(fault) => return Err(fault),
-    };
+    let future = changes_value(alloc, history.future.get())?;
+    let past = changes_value(alloc, history.past.get())?;
     Ok(log_object(alloc, future, past)?)
 }
 

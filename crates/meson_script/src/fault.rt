@@ -29,9 +29,10 @@ impl fmt::Display for RunFault {
     ghost output = { λ fault. Some (run_fault_text fault) };
 
     fn fmt<W: fmt::Write>(&self, f: &mut fmt::Formatter<W>) -> fmt::Result {
-        match self {
-            RunFault { refusal: Refusal::OutOfMemory, .. } => write!(f, "{}", Refusal::OutOfMemory),
-            RunFault { index, refusal } => write!(f, "command {index}: {refusal}"),
+        let RunFault { index, refusal } = self;
+        match refusal {
+            Refusal::OutOfMemory => write!(f, "{refusal}"),
+            _ => write!(f, "command {index}: {refusal}"),
         }
     }
 }
