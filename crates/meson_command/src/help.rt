@@ -1,4 +1,6 @@
 //! The texts of help: of each command what it does, and what stands below its words.
+//!
+//! `tests/examples` runs each example on a copy of `examples/harbor`, and compares the words with those of the manual page.
 
 pub(crate) const PROGRAM: &str = "Edit the meson.build files of a project in place";
 
@@ -7,9 +9,14 @@ Files change only where the command says: order, comments and layout stay.
 Each run that is accepted is kept in the file meson.rewrite-log, so undo can take it back.
 
 Status: 0 done, 1 refused, 2 wrong words, 3 a file or the output failed.
-docs/COMMANDS.md says what each command does, and explains each refusal.
+SUBCOMMAND --help lists the operations; man meson_rewrite explains each refusal.
 
-Example: meson_rewrite --sourcedir app target main add util.c";
+Examples:
+  meson_rewrite target tide add moon.c
+  meson_rewrite kwargs set project / version 1.4.0
+  meson_rewrite default-options set c_std c17
+  meson_rewrite command changes.json
+  meson_rewrite --sourcedir harbor undo";
 
 pub(crate) const DIR: &str = "Folder of the root file [default: the working folder]";
 
@@ -23,7 +30,14 @@ Operations:
   rm_target                        remove the target
   info                             list the target as JSON on standard error
 
-Example: meson_rewrite target main add util.c";
+Examples:
+  meson_rewrite target tide add moon.c sun.c
+  meson_rewrite target tide rm tide.c
+  meson_rewrite target harbor add_extra_files harbor.h
+  meson_rewrite target make_tables rm_extra_files tables.txt
+  meson_rewrite target moon add_target moon.c --subdir src --type executable
+  meson_rewrite target make_tables rm_target
+  meson_rewrite target harbor info";
 
 pub(crate) const SUBDIR: &str =
     "Folder of a new target's build file [default: that of the root file]";
@@ -42,7 +56,13 @@ Operations:
 
 The id of the project is / or //. No key may be given twice.
 
-Example: meson_rewrite kwargs set project / version 1.0.0";
+Examples:
+  meson_rewrite kwargs set project / version 1.4.0 license Apache-2.0
+  meson_rewrite kwargs set target harbor install false
+  meson_rewrite kwargs add dependency zlib version '!=1.2.9'
+  meson_rewrite kwargs remove dependency zlib version '<2'
+  meson_rewrite kwargs delete target harbor install x
+  meson_rewrite kwargs info dependency zlib";
 
 pub(crate) const OPTIONS: &str = "Edit the default options of the project";
 
@@ -53,7 +73,9 @@ Operations:
 
 No option may be given twice.
 
-Example: meson_rewrite default-options set cpp_std c++20";
+Examples:
+  meson_rewrite default-options set c_std c17 werror true
+  meson_rewrite default-options delete warning_level x";
 
 pub(crate) const COMMAND: &str = "Do the commands of a script";
 
@@ -61,12 +83,24 @@ pub(crate) const BELOW_COMMAND: &str = "\
 A word that begins with [ or { is the script, any other word the name of its file.
 A script is an array of objects, one for each command. All are done, or none.
 
-Example: meson_rewrite command changes.json";
+Examples:
+  meson_rewrite command changes.json
+  meson_rewrite command '[{\"type\":\"target\",\"operation\":\"src_add\",\"target\":\"tide\",\"sources\":[\"moon.c\"]}]'";
 
 pub(crate) const UNDO: &str = "Take back the newest run that was kept";
 
-pub(crate) const BELOW_UNDO: &str = "Example: meson_rewrite --sourcedir app undo";
+pub(crate) const BELOW_UNDO: &str = "\
+Hand edits since then stay, unless the bytes that the run wrote moved or changed: then nothing is undone.
+
+Examples:
+  meson_rewrite undo
+  meson_rewrite --sourcedir harbor undo";
 
 pub(crate) const REDO: &str = "Do again what the last undo took back";
 
-pub(crate) const BELOW_REDO: &str = "Example: meson_rewrite --sourcedir app redo";
+pub(crate) const BELOW_REDO: &str = "\
+A new run drops what could be done again.
+
+Examples:
+  meson_rewrite redo
+  meson_rewrite --sourcedir harbor redo";
