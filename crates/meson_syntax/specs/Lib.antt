@@ -12,6 +12,7 @@ pub mod Tokens
 pub mod Cursor
 pub mod Nests
 pub mod Rows
+pub mod Alone
 pub mod Gathering
 pub mod Paths
 pub mod Parts

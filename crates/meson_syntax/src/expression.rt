@@ -55,9 +55,21 @@ impl<'a, F: Fn(Global, &[u8], &mut Cursor<'_>, usize) -> Result<Expr, ParseFault
         Ok(Boxed::new(self.alloc, inside)?)
     }
 
-    /// A conditional, or a tighter expression.
-    #[tactic(auto, unfolding(crate::specs::Reading::chosen))]
+    /// A conditional, or a tighter expression. Most are one token, and read at once.
     fn chosen(&self, tokens: &mut Cursor<'_>) -> Result<Expr, ParseFault>
+        requires { Nests self.now.depth (F.pre self.now.deeper) (F.post self.now.deeper) }
+        ensures { Follows spec.chosen expr_view self.now.source.now self.now.depth tokens.old result tokens.new }
+    {
+        if self.is_alone(tokens) {
+            return self.primary(tokens);
+        }
+        self.joined(tokens)
+    }
+
+    /// A conditional, or a tighter expression, of any length.
+    #[inline(never)]
+    #[tactic(auto, unfolding(crate::specs::Reading::chosen))]
+    fn joined(&self, tokens: &mut Cursor<'_>) -> Result<Expr, ParseFault>
         requires { Nests self.now.depth (F.pre self.now.deeper) (F.post self.now.deeper) }
         ensures { Follows spec.chosen expr_view self.now.source.now self.now.depth tokens.old result tokens.new }
     {

@@ -1,6 +1,7 @@
 //! What the rules of the grammar stand on: the tokens that are left of a source, and the steps that each rule is made of.
 
 ghost use Rattle.std.specs.Prelude.{◌≡◌, IfErr, IfOk, length};
+ghost use Rattle.meson_syntax.specs.Alone as alone;
 ghost use Rattle.meson_syntax.specs.Cursor.{Bytes, input, place_of};
 ghost use Rattle.meson_syntax.specs.Input as spec;
 ghost use Rattle.meson_syntax.specs.Input.{Gives};
@@ -89,6 +90,34 @@ fn begins_with(tokens: &[Token], kind: Kind) -> bool
     }
 }
 
+/// Whether a token of this kind is an expression, where no bracket follows.
+fn is_single(kind: Kind) -> bool
+    ensures { result ≡ alone.is_single kind }
+{
+    matches!(
+        kind,
+        Kind::Identifier | Kind::WordTrue | Kind::WordFalse | Kind::Integer | Kind::PlainString
+    )
+}
+
+/// Whether the tokens begin with one that no expression goes on with.
+fn begins_end(tokens: &[Token]) -> bool
+    ensures { (source : Bytes) → result ≡ alone.begins_end (tokens_of source tokens.now) }
+{
+    match tokens {
+        [] => false,
+        [first, ..] => matches!(
+            first.kind,
+            Kind::LineEnd
+                | Kind::CloseRound
+                | Kind::CloseSquare
+                | Kind::CloseCurly
+                | Kind::Comma
+                | Kind::Colon
+        ),
+    }
+}
+
 impl<'a, F> Grammar<'a, F> {
     /// The kind of the next token.
     #[tactic(auto, unfolding(crate::specs::Input::kind, crate::specs::Cursor::input))]
@@ -155,6 +184,17 @@ impl<'a, F> Grammar<'a, F> {
         match tokens.rest {
             [] => false,
             [first, rest @ ..] => { same_kind(first.kind, kind) && begins_with(rest, second) }
+        }
+    }
+
+    /// Whether the next token is an expression by itself, and none goes on with the one behind it.
+    #[tactic(auto, unfolding(crate::specs::Alone::is_alone, crate::specs::Cursor::input))]
+    pub(crate) fn is_alone(&self, tokens: &Cursor<'_>) -> bool
+        ensures { result ≡ alone.is_alone (input self.now.source.now tokens.now) }
+    {
+        match tokens.rest {
+            [] => false,
+            [first, rest @ ..] => { is_single(first.kind) && begins_end(rest) }
         }
     }
 

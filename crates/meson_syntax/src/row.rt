@@ -54,6 +54,10 @@ impl<'a, F: Fn(Global, &[u8], &mut Cursor<'_>, usize) -> Result<Expr, ParseFault
     {
         let start = self.from(tokens);
         let first = self.unaried(tokens)?;
+        // Most operands stand alone, whatever the level.
+        if row_of(self.peek(tokens)) == 0 {
+            return Ok(first);
+        }
         self.row_with(tokens, level, start, first)
     }
 

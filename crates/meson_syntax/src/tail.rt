@@ -3,6 +3,7 @@
 //! The rules are those of the Syntax page of the Meson manual.
 
 ghost use Rattle.std.specs.Prelude.{◌≡◌, IfOk};
+ghost use Rattle.meson_syntax.specs.Alone as alone;
 ghost use Rattle.meson_syntax.specs.Nests.{Follows, Nests};
 ghost use Rattle.meson_syntax.specs.Reading as spec;
 ghost use Rattle.meson_syntax.specs.View.{expr_view, tail_view, tails_view};
@@ -34,13 +35,26 @@ impl<'a, F> Grammar<'a, F> {
 
 impl<'a, F: Fn(Global, &[u8], &mut Cursor<'_>, usize) -> Result<Expr, ParseFault>> Grammar<'a, F> {
     /// An expression with the method calls and indexes behind it.
-    #[tactic(auto, unfolding(crate::specs::Reading::postfixed))]
+    #[tactic(auto, unfolding(crate::specs::Reading::postfixed, crate::specs::Alone::tailed))]
     pub(crate) fn postfixed(&self, tokens: &mut Cursor<'_>) -> Result<Expr, ParseFault>
         requires { Nests self.now.depth (F.pre self.now.deeper) (F.post self.now.deeper) }
         ensures { Follows spec.postfixed expr_view self.now.source.now self.now.depth tokens.old result tokens.new }
     {
         let start = self.from(tokens);
         let base = self.primary(tokens)?;
+        if !self.sees(tokens, Kind::Dot) && !self.sees(tokens, Kind::OpenSquare) {
+            return Ok(base);
+        }
+        self.tailed(tokens, start, base)
+    }
+
+    /// The expression that is read and began at `start`, with the method calls and indexes that come next.
+    #[inline(never)]
+    #[tactic(auto, unfolding(crate::specs::Alone::tailed))]
+    fn tailed(&self, tokens: &mut Cursor<'_>, start: usize, base: Expr) -> Result<Expr, ParseFault>
+        requires { Nests self.now.depth (F.pre self.now.deeper) (F.post self.now.deeper) }
+        ensures { Follows (λ room inner. alone.tailed room inner start (expr_view self.now.source.now base)) expr_view self.now.source.now self.now.depth tokens.old result tokens.new }
+    {
         let (base, tails) = self.before_tails(tokens, base)?;
         let span = self.since(tokens, start);
         Ok(self.with_tails(span, base, tails)?)

@@ -59,3 +59,9 @@ pub row_with-returns-then-row_of-eq0 : goal.row_with-returns-then-row_of-eq0
 row_with-returns-then-row_of-eq0 g t c =
     let e = row_with-none (room c.args.self.now.depth) (expression c.args.self.now.depth) c.args.level c.args.start (expr_view c.args.self.now.source.now c.args.first) (input c.args.self.now.source.now c.args.tokens.now) in
     grind (arith, common_steps)
+
+pub row-returns-then-row_of-eq0 : goal.row-returns-then-row_of-eq0
+row-returns-then-row_of-eq0 g t c =
+    let e = row_at-with (room c.args.self.now.depth) (expression c.args.self.now.depth) c.args.level (input c.args.self.now.source.now c.args.tokens.now) in
+    let f = row_with-none (room c.args.self.now.depth) (expression c.args.self.now.depth) c.args.level c.from-start.result (expr_view c.args.self.now.source.now c.in_ok-first.first) (input c.args.self.now.source.now c.unaried.new.tokens) in
+    grind (arith, common_steps)
