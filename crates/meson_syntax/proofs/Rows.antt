@@ -38,13 +38,15 @@ module _ (room : Bool) (inner : Parser (Expression Span)) where
       ∙ ap (λ o. and_then o (behind n (from i))) (row_at-with n i)
       ∙ and_then-and_then (unaried room inner i) (λ e. row_with room inner n (from i) e) (behind n (from i))
 
-  -- no operator of any row follows
-  operands_from-none : (n turns : ℕ) (tighter : Parser (Expression Span)) (i : Input) → row_of (kind i) ≡ 0 → operands_from room inner (suc n) tighter turns [] i ≡ Some ([], i)
+  -- no operator of this row follows
+  operands_from-other : (level turns : ℕ) (tighter : Parser (Expression Span)) (i : Input) → (row_of (kind i) == level) ≡ false → operands_from room inner level tighter turns [] i ≡ Some ([], i)
   unfolding operands_from
-  operands_from-none n zero tighter i none = refl
-  operands_from-none n (suc turns) tighter i none =
-      let other : (row_of (kind i) == suc n) ≡ false = grind (arith, common_steps) in
-      simp other
+  operands_from-other level zero tighter i other = refl
+  operands_from-other level (suc turns) tighter i other = simp other
+
+  pub operands-other : (level : ℕ) (i : Input) → (row_of (kind i) == level) ≡ false → operands room inner level i ≡ Some ([], i)
+  unfolding operands
+  operands-other level i other = operands_from-other level (left i) (row_at room inner (level - 1)) i other
 
   pub row_with-none : (n start : ℕ) (e : Expression Span) (i : Input) → row_of (kind i) ≡ 0 → row_with room inner n start e i ≡ Some (e, i)
   unfolding row_with operands with_operands
@@ -52,4 +54,4 @@ module _ (room : Bool) (inner : Parser (Expression Span)) where
   row_with-none (suc n) start e i none =
       row_with-suc n start e i
       ∙ ap (λ o. and_then o (behind n start)) (row_with-none n start e i none)
-      ∙ ap (λ o. and_then o (λ os k. Some (with_operands (span_from start k) e os, k))) (operands_from-none n (left i) (row_at room inner (suc n - 1)) i none)
+      ∙ ap (λ o. and_then o (λ os k. Some (with_operands (span_from start k) e os, k))) (operands-other (suc n) i (let other : (row_of (kind i) == suc n) ≡ false = grind (arith, common_steps) in other))

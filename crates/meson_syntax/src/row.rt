@@ -83,6 +83,9 @@ impl<'a, F: Fn(Global, &[u8], &mut Cursor<'_>, usize) -> Result<Expr, ParseFault
             return Ok(first);
         }
         let first = self.row_with(tokens, level - 1, start, first)?;
+        if row_of(self.peek(tokens)) != level {
+            return Ok(first);
+        }
         let rest = self.operands(tokens, level)?;
         let span = self.since(tokens, start);
         Ok(self.with_operands(span, first, rest)?)

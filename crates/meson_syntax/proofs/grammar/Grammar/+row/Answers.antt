@@ -1,10 +1,10 @@
-use Rattle.std.proofs.Common.{arith, ◌-◌}
+use Rattle.std.proofs.Common.{arith, suc, ◌-◌}
 use Rattle.std.proofs.lemmas.Grind.{common_steps}
 use Rattle.meson_syntax.specs.Cursor.{input}
-use Rattle.meson_syntax.specs.Reading.{operands_from, row_at, expression, room}
+use Rattle.meson_syntax.specs.Reading.{operands_from, row_at, expression, room, with_operands}
 use Rattle.meson_syntax.specs.Rows.{operands, row_with}
 use Rattle.meson_syntax.specs.View.{expr_view, operands_view}
-use Rattle.meson_syntax.proofs.Rows.{row_at-with, row_with-none}
+use Rattle.meson_syntax.proofs.Rows.{operands-other, row_at-with, row_with-none}
 use Rattle.meson_syntax.proofs.Turns.{one_more, deeper}
 use Rattle.meson_syntax.proofs.Views.{operands_view-push}
 use Rattle.meson_syntax.proofs.grammar.Grammar.+row.Goals as goal
@@ -64,4 +64,11 @@ pub row-returns-then-row_of-eq0 : goal.row-returns-then-row_of-eq0
 row-returns-then-row_of-eq0 g t c =
     let e = row_at-with (room c.args.self.now.depth) (expression c.args.self.now.depth) c.args.level (input c.args.self.now.source.now c.args.tokens.now) in
     let f = row_with-none (room c.args.self.now.depth) (expression c.args.self.now.depth) c.args.level c.from-start.result (expr_view c.args.self.now.source.now c.in_ok-first.first) (input c.args.self.now.source.now c.unaried.new.tokens) in
+    grind (arith, common_steps)
+
+pub row_with-returns-then-row_of-level : goal.row_with-returns-then-row_of-level
+unfolding row_with with_operands
+row_with-returns-then-row_of-level g t c =
+    let e = deeper (λ n. row_with (room c.args.self.now.depth) (expression c.args.self.now.depth) n c.args.start (expr_view c.args.self.now.source.now c.args.first) (input c.args.self.now.source.now c.args.tokens.now)) c.args.level (omega arith) in
+    let f = operands-other (room c.args.self.now.depth) (expression c.args.self.now.depth) (suc (c.args.level - 1)) (input c.args.self.now.source.now c.row_with.new.tokens) in
     grind (arith, common_steps)
