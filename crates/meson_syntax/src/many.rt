@@ -59,7 +59,13 @@ impl<T: Drop> Many<T> {
         ensures ok { OnOk result (self.new ≡ self.old ++ item ∷ []) }
         ensures err { OnErr result (self.new ≡ self.old) }
     {
-        self.vec.push(item)?;
+        // Most lists are short: their memory is doubled from one element on.
+        let len = self.vec.len();
+        if len == self.vec.capacity() {
+            self.vec.reserve_exact(len.max(1))?;
+        }
+        self.vec.reserve(1)?;
+        self.vec.push_reserved(item);
         Ok(())
     }
 }

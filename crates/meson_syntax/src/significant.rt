@@ -11,6 +11,9 @@ use meson_lex::{Item, Kind, Span, items};
 use std::alloc::{AllocError, Global};
 use std::marker::Model;
 
+/// Few sources have fewer bytes for each token.
+const BYTES_PER_TOKEN: usize = 4;
+
 /// The tokens of the items so far.
 #[derive(Drop)]
 struct Gathered<'a> {
@@ -40,16 +43,17 @@ impl<'a> Model for Gathered<'a> {
 }
 
 impl<'a> Gathered<'a> {
-    fn new(alloc: Global, source: &'a [u8]) -> Self
-        ensures { result ≡ nothing source.now }
+    /// No tokens, with memory for as many as most sources of this length have.
+    fn new(alloc: Global, source: &'a [u8]) -> Result<Self, AllocError>
+        ensures { IfOk result (λ g. g ≡ nothing source.now) }
     {
-        Gathered {
+        Ok(Gathered {
             source,
-            tokens: Vec::new(alloc),
+            tokens: Vec::with_capacity(alloc, source.len() / BYTES_PER_TOKEN)?,
             depth: 0,
             fresh: true,
             end: 0,
-        }
+        })
     }
 
     /// Takes the item that comes next.
@@ -133,7 +137,7 @@ pub(crate) fn tokens(alloc: Global, source: &[u8]) -> Result<Vec<Token>, ParseFa
     ensures whole { IfOk result (λ ts. AreTokens source.now (tokens_of source.now ts.items)) }
     ensures faulty { IfErr result (λ e. e ≢ ParseFault.OutOfMemory → (f : LexFault) × (e ≡ ParseFault.Lex f) × IsFaulty source.now f) }
 {
-    let mut gathered = Gathered::new(alloc, source);
+    let mut gathered = Gathered::new(alloc, source)?;
     for item in items(source) {
         match item {
             Ok(item) => gathered.take(item)?,

@@ -24,8 +24,8 @@ pub returns-in-Err-clause-faulty : goal.returns-in-Err-clause-faulty
 returns-in-Err-clause-faulty c = λ some.
     let results = c.items-item-items.result in
     let all : gathered (nothing c.args.source.now) results ≡ Err c.in-Err.fault =
-    ap (λ g. gathered g results) (sym c.new-gathered.ensures)
-    ∙ ap (gathered c.new-gathered.result) (sym c.into_iter-item-iterator.ensures.into_iter_gives)
+    ap (λ g. gathered g results) (sym c.in_ok-gathered.ensures)
+    ∙ ap (gathered c.in_ok-gathered.gathered) (sym c.into_iter-item-iterator.ensures.into_iter_gives)
     ∙ c.loop-item.invariant.folded
     ∙ ap (gathered c.loop-item.gathered) (given c) in
     (c.in-Err.fault, refl, faulty_from c.args.source.now results c.in-Err.fault c.items-item-items.ensures.lexed all)
@@ -35,8 +35,8 @@ returns-clause-whole c =
     let results = c.items-item-items.result in
     let ts = tokens_of c.args.source.now c.in_ok-close.field-0.items in
     let all : gathered (nothing c.args.source.now) results ≡ Ok ts =
-    ap (λ g. gathered g results) (sym c.new-gathered.ensures)
-    ∙ ap (gathered c.new-gathered.result) (sym c.into_iter-item-iterator.ensures.into_iter_gives)
+    ap (λ g. gathered g results) (sym c.in_ok-gathered.ensures)
+    ∙ ap (gathered c.in_ok-gathered.gathered) (sym c.into_iter-item-iterator.ensures.into_iter_gives)
     ∙ c.loop-item.invariant.folded
     ∙ ap (gathered c.loop-item.gathered) c.in-None.ensures.steps.0
     ∙ ap Ok (sym c.in_ok-close.ensures)
