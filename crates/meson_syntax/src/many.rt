@@ -59,10 +59,10 @@ impl<T: Drop> Many<T> {
         ensures ok { OnOk result (self.new ≡ self.old ++ item ∷ []) }
         ensures err { OnErr result (self.new ≡ self.old) }
     {
-        // Most lists are short: their memory is doubled from one element on.
+        // Most lists have one element or two: their memory is doubled from there on.
         let len = self.vec.len();
         if len == self.vec.capacity() {
-            self.vec.reserve_exact(len.max(1))?;
+            self.vec.reserve_exact(len.max(2))?;
         }
         self.vec.reserve(1)?;
         self.vec.push_reserved(item);
