@@ -74,35 +74,38 @@ impl<R: Files + Drop> Folder<R> {
     }
 }
 
-/// Opens a regular file. Nothing else is opened: a pipe would have to wait for its writer.
-fn open_regular<R: Files>(rt: &R, name: &str) -> io::Result<R::File> {
-    if !fs::metadata(rt, name)?.is_file() {
-        return Err(io::Error::from(ErrorKind::InvalidInput));
-    }
-    fs::open(rt, name)
+/// A regular file that is open, and how many bytes it had then.
+#[derive(Drop)]
+struct Opened<F: Drop> {
+    file: F,
+    len: u64,
 }
 
-/// Reads to the end of the file in a bounded number of turns.
-fn contents_of<F: Read>(alloc: Global, file: &mut F) -> Result<Vec<u8>, StoreError> {
-    let mut bytes = Vec::new(alloc);
-    let mut part = [0u8; 4096];
-    for _ in 0..MOST_BYTES + 2 {
-        match file.read(&mut part) {
-            Ok(0) => return Ok(bytes),
-            Ok(n) => {
-                if bytes.len() > MOST_BYTES - n {
-                    return Err(StoreError::Unchanged);
-                }
-                bytes.extend_from_slice(&part[..n])?;
-            }
-            Err(e) => {
-                if e.kind() != ErrorKind::Interrupted {
-                    return Err(StoreError::from(e));
-                }
-            }
-        }
+/// Opens a regular file. Nothing else is opened: a pipe would have to wait for its writer.
+fn open_regular<R: Files>(rt: &R, name: &str) -> io::Result<Opened<R::File>> {
+    let known = fs::metadata(rt, name)?;
+    if !known.is_file() {
+        return Err(io::Error::from(ErrorKind::InvalidInput));
     }
-    Err(StoreError::Unchanged)
+    let file = fs::open(rt, name)?;
+    Ok(Opened {
+        file,
+        len: known.len(),
+    })
+}
+
+/// Reads to the end of the file, into memory that is taken once where the file is as long as it was.
+fn contents_of<F: Read + Drop>(alloc: Global, opened: Opened<F>) -> Result<Vec<u8>, StoreError> {
+    let Opened { file, len } = opened;
+    // One byte more than the most that a file may have, so that a longer one shows.
+    let limit = MOST_BYTES + 1;
+    let room = usize::try_from(len).map_or(limit, |len| len.min(MOST_BYTES) + 1);
+    let mut bytes = Vec::with_capacity(alloc, room)?;
+    file.take(limit as u64).read_to_end(&mut bytes)?;
+    if bytes.len() > MOST_BYTES {
+        return Err(StoreError::Unchanged);
+    }
+    Ok(bytes)
 }
 
 /// There is no file of that name.
@@ -113,7 +116,7 @@ fn is_absent(kind: ErrorKind) -> bool {
 /// The bytes of a file, or none where there is no such file.
 fn read_file<R: Files>(rt: &R, alloc: Global, name: &str) -> Result<Option<Vec<u8>>, StoreError> {
     match open_regular(rt, name) {
-        Ok(mut file) => Ok(Some(contents_of(alloc, &mut file)?)),
+        Ok(opened) => Ok(Some(contents_of(alloc, opened)?)),
         Err(e) => {
             if is_absent(e.kind()) {
                 Ok(None)
