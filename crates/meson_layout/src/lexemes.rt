@@ -25,12 +25,15 @@ impl<'a> Model for Lexeme<'a> {
     ghost view = { λ x. record { kind = x.kind; text = x.text.now } };
 }
 
+/// Few sources have fewer bytes for each item.
+const BYTES_PER_ITEM: usize = 3;
+
 /// The items of a source, or those before its fault.
 pub(crate) fn lexemes<'a>(alloc: Global, src: &'a [u8]) -> Result<Vec<Lexeme<'a>>, SpliceFault>
     ensures done { IfOk result (λ v. (xs : List Lexeme) → IsItemList src.now xs → v.items ≡ xs) }
     ensures refused { IfErr result (λ e. e ≡ OutOfMemory) }
 {
-    let mut all = Vec::new(alloc);
+    let mut all = Vec::with_capacity(alloc, src.len() / BYTES_PER_ITEM)?;
     for item in items(src) {
         if let Ok(item) = item {
             all.reserve(1)?;
