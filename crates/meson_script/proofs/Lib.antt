@@ -3,5 +3,6 @@ pub mod Loading
 pub mod RunFacts
 pub mod TextFacts
 pub mod StepFacts
+pub mod Keeping
 pub mod Counts
 pub mod Outcomes

@@ -111,6 +111,29 @@ stops-there old between commands i here read lists c e ran within is refuses = r
   refuses = refuses;
 }
 
+-- ---- one command alone
+
+pub one-run : (old new : Loaded) (c : Command) (done : Done) (more : List Data) → told old c ≡ Ok more → Performs old c done new → Runs old (c ∷ []) done.change.splices done.relexed more new
+one-run old new c done more tells performs =
+    let counted = performs.is_relexed in
+    let same : saturated (0 + done.relexed) ≡ done.relexed = omega arith in
+    subst (λ n. Runs old (c ∷ []) done.change.splices n more new) same (ran_more [] [] 0 [] old nothing_ran c done more new tells performs)
+
+pub one-stops : (old : Loaded) (c : Command) (e : Refusal) → MayRefuse old c e → MayStop old (c ∷ []) 0 e
+one-stops old c e refuses = record {
+  before = [];
+  command = c;
+  after = [];
+  are = refl;
+  is_index = refl;
+  splices = [];
+  relexed = 0;
+  listings = [];
+  between = old;
+  runs = nothing_ran;
+  refuses = refuses;
+}
+
 -- ---- what is told is refused as the command is
 
 no_more : (listing : Result Data Refusal) (e : Refusal) → then_ok listing (λ d. Ok (d ∷ [])) ≡ Err e → no_steps listing ≡ Err e

@@ -59,6 +59,27 @@ fn told(alloc: Global, project: &Project, command: &Command) -> Result<Option<Va
     }
 }
 
+/// What a command tells of the project as it stands, as a list of one or none.
+pub(crate) fn listed(
+    alloc: Global,
+    project: &Project,
+    command: &Command,
+) -> Result<Vec<Value>, Refusal>
+    ensures told { IfOk result (λ v. told project.now command.now ≡ Ok (map view v.items)) }
+    ensures refused { IfErr result (λ e. e ≢ OutOfMemory → told project.now command.now ≡ Err e) }
+{
+    let mut listings = Vec::new(alloc);
+    match told(alloc, project, command) {
+        Ok(Some(listing)) => {
+            listings.reserve(1)?;
+            listings.push_reserved(listing);
+        }
+        Ok(None) => {}
+        Err(refusal) => return Err(refusal),
+    }
+    Ok(listings)
+}
+
 /// Does the commands in order. Where one is refused, those before it are done.
 ///
 /// # Errors

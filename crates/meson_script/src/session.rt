@@ -1,6 +1,6 @@
 //! A project with the history of what was done to it.
 
-ghost use Rattle.std.specs.Prelude.{◌≡◌, ◌≢◌, ◌≤◌, IfErr, IfOk, OnErr, OnOk, Some, length, true};
+ghost use Rattle.std.specs.Prelude.{◌≡◌, ◌≢◌, ◌≤◌, ◌∷◌, [], IfErr, IfOk, OnErr, OnOk, Some, length, true};
 ghost use Rattle.meson_calls.specs.Loading.{IsProject, MayNotLoad};
 ghost use Rattle.meson_calls.specs.declared.refusal.Refusal.TheVariants.{OutOfMemory};
 ghost use Rattle.meson_json.specs.Log.{has_text};
@@ -11,13 +11,14 @@ ghost use Rattle.meson_splice.specs.Past.{redone, undone};
 
 use crate::counting::count_differing;
 use crate::fault::{RunFault, UndoFault, Unstarted};
-use crate::performing::perform_all;
+use crate::performing::{listed, perform_all};
 use crate::stepping::{done_again, taken_back};
 use meson_json::Script;
-use meson_plan::{Project, Refusal};
+use meson_plan::{Command, Project, Refusal};
 use meson_splice::{Change, FileSet, History, Many, SpliceFault};
 use serde_json::Value;
 use std::alloc::Global;
+use std::mem;
 
 /// A project, and the changes that were done to it and undone.
 #[derive(Debug, Drop)]
@@ -37,6 +38,16 @@ pub struct Report {
     pub relexed: u64,
     /// An array of the listings of the info commands, in order.
     pub info: Value,
+}
+
+/// Want of memory before any command was done.
+fn unmade() -> RunFault
+    ensures { result ≡ record { index = 0; refusal = OutOfMemory } }
+{
+    RunFault {
+        index: 0,
+        refusal: Refusal::OutOfMemory,
+    }
 }
 
 impl Session {
@@ -101,7 +112,68 @@ impl Session {
         // The new files read as the new trees.
         ensures project { OnOk result (IsProject self.new.project) }
     {
-        let commands = script.commands.get();
+        match script.commands.get() {
+            [command] => match self.run_one(alloc, command) {
+                Ok(report) => Ok(report),
+                Err(fault) => Err(fault),
+            },
+            commands => match self.run_all(alloc, commands) {
+                Ok(report) => Ok(report),
+                Err(fault) => Err(fault),
+            },
+        }
+    }
+
+    /// Does a command and keeps what it did. A refused command changes nothing, so it needs no copy of the project.
+    fn run_one(&mut self, alloc: Global, command: &Command) -> Result<Report, RunFault>
+        ensures done { IfOk result (λ r. Keeps self.old (command.now ∷ []) r self.new) }
+        ensures refused { IfErr result (λ f. f.refusal ≢ OutOfMemory → MayStop self.old.project (command.now ∷ []) f.index f.refusal) }
+        ensures index { IfErr result (λ f. f.index ≡ 0) }
+        ensures kept { OnErr result (self.new ≡ self.old) }
+        ensures project { OnOk result (IsProject self.new.project) }
+    {
+        let before = match self.project.files().copy(alloc) {
+            Ok(files) => files,
+            Err(_) => return Err(unmade()),
+        };
+        let listings = match listed(alloc, &self.project, command) {
+            Ok(listings) => listings,
+            Err(refusal) => return Err(RunFault { index: 0, refusal }),
+        };
+        let mut past = mem::replace(&mut self.history.past, Many::new(alloc)).take();
+        if past.reserve(1).is_err() {
+            self.history.past = Many::of(past);
+            return Err(unmade());
+        }
+        match self.project.perform(alloc, command) {
+            Ok(done) => {
+                self.project.reads();
+                let report = Report {
+                    files: count_differing(&before, self.project.files()),
+                    splices: done.change.splices.get().len(),
+                    relexed: done.relexed,
+                    info: Value::Array(listings),
+                };
+                past.push_reserved(done.change);
+                self.history.past = Many::of(past);
+                self.history.future.clear();
+                Ok(report)
+            }
+            Err(refusal) => {
+                self.history.past = Many::of(past);
+                Err(RunFault { index: 0, refusal })
+            }
+        }
+    }
+
+    /// Does commands on a copy of the project, which takes its place when all are done and kept.
+    fn run_all(&mut self, alloc: Global, commands: &[Command]) -> Result<Report, RunFault>
+        ensures done { IfOk result (λ r. Keeps self.old commands.now r self.new) }
+        ensures refused { IfErr result (λ f. f.refusal ≢ OutOfMemory → MayStop self.old.project commands.now f.index f.refusal) }
+        ensures index { IfErr result (λ f. f.index ≤ length commands.now) }
+        ensures kept { OnErr result (self.new ≡ self.old) }
+        ensures project { OnOk result (IsProject self.new.project) }
+    {
         let mut project = match self.project.copy(alloc) {
             Ok(project) => project,
             Err(refusal) => return Err(RunFault { index: 0, refusal }),

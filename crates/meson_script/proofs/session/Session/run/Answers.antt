@@ -1,32 +1,15 @@
-use Rattle.std.proofs.Common.{map, sym, ap, ◌∙◌, subst}
-use Rattle.serde_json.specs.View.{view}
-use Rattle.meson_layout.specs.Laws.{AreTexts}
-use Rattle.meson_calls.specs.Loading.{IsProject}
-use Rattle.meson_json.specs.Log.{has_text}
-use Rattle.meson_script.proofs.RunFacts.{change-names, names, runs-patch, runs-text}
-use Rattle.meson_script.proofs.TextFacts.{kept-text}
-use Rattle.meson_script.proofs.StepFacts.{run-stands}
+use Rattle.std.proofs.Common.{◌≡◌, ◌∷◌, [], sym}
+use Rattle.meson_script.proofs.Keeping.{keeps-stands, keeps-text}
 use Rattle.meson_script.proofs.session.Session.run.Goals as goal
 
-pub count_differing-requires : goal.count_differing-requires
-count_differing-requires c =
-    let new = c.perform_all.new.project in
-    let ran = c.in-Ok-perform_all.ensures.done in
-    ap names c.files.ensures
-    ∙ ap (λ p. names p.files) (sym c.in-Ok.ensures.copied)
-    ∙ change-names c.in-Ok.project.files c.in-Ok-perform_all.performed.splices.items new.files (runs-patch c.in-Ok.project new c.get-commands.result.now c.in-Ok-perform_all.performed.splices.items c.in-Ok-perform_all.performed.relexed (map view c.in-Ok-perform_all.performed.listings.items) ran)
-    ∙ ap names (sym c.files-2.ensures)
+pub returns-in-Ok-clause-step : goal.returns-in-Ok-clause-step
+returns-in-Ok-clause-step c = keeps-stands c.args.self.now c.run_one.new.self _ c.in-Ok.report c.in-Ok.ensures.done c.in-Ok.ensures.project
 
-pub returns-clause-step : goal.returns-clause-step
-returns-clause-step c = λ s stands.
-    run-stands c.args.self.now.project c.perform_all.new.project c.in-Ok.project c.args.self.now.history c.keep.new.self c.get-commands.result.now c.in-Ok-perform_all.performed.splices.items c.of.result c.in-Ok-perform_all.performed.relexed (map view c.in-Ok-perform_all.performed.listings.items)
-    c.in-Ok.ensures.copied c.in-Ok-perform_all.ensures.done (subst IsProject c.project.view_is c.project.invariant) c.of.ensures c.in-Ok-keep.ensures.ok s stands
+pub returns-in-Ok-clause-text : goal.returns-in-Ok-clause-text
+returns-in-Ok-clause-text c = keeps-text c.args.self.now c.run_one.new.self _ c.in-Ok.report c.in-Ok.ensures.done
 
-pub returns-clause-text : goal.returns-clause-text
-returns-clause-text c = λ before.
-    let splices = c.in-Ok-perform_all.performed.splices.items in
-    let texts = runs-text c.in-Ok.project c.perform_all.new.project c.get-commands.result.now splices c.in-Ok-perform_all.performed.relexed (map view c.in-Ok-perform_all.performed.listings.items) c.in-Ok-perform_all.ensures.done in
-    ap has_text c.in-Ok-keep.ensures.ok ∙ kept-text c.args.self.now.history c.of.result before (subst AreTexts (sym c.of.ensures) texts)
+pub returns-in-Ok-run_all-clause-step : goal.returns-in-Ok-run_all-clause-step
+returns-in-Ok-run_all-clause-step c = keeps-stands c.args.self.now c.run_all.new.self _ c.in-Ok-run_all.report c.in-Ok-run_all.ensures.done c.in-Ok-run_all.ensures.project
 
-pub returns-clause-project : goal.returns-clause-project
-returns-clause-project c = subst IsProject c.project.view_is c.project.invariant
+pub returns-in-Ok-run_all-clause-text : goal.returns-in-Ok-run_all-clause-text
+returns-in-Ok-run_all-clause-text c = keeps-text c.args.self.now c.run_all.new.self _ c.in-Ok-run_all.report c.in-Ok-run_all.ensures.done

@@ -1,0 +1,21 @@
+use Rattle.std.proofs.Common.{map, sym, ap, ◌∙◌, subst}
+use Rattle.serde_json.specs.View.{view}
+use Rattle.meson_layout.specs.Laws.{AreTexts}
+use Rattle.meson_calls.specs.Loading.{IsProject}
+use Rattle.meson_json.specs.Log.{has_text}
+use Rattle.meson_script.proofs.RunFacts.{change-names, names, runs-patch, runs-text}
+use Rattle.meson_script.proofs.TextFacts.{kept-text}
+use Rattle.meson_script.proofs.StepFacts.{run-stands}
+use Rattle.meson_script.proofs.session.Session.run_all.Goals as goal
+
+pub count_differing-requires : goal.count_differing-requires
+count_differing-requires c =
+    let new = c.perform_all.new.project in
+    let ran = c.in-Ok-perform_all.ensures.done in
+    ap names c.files.ensures
+    ∙ ap (λ p. names p.files) (sym c.in-Ok.ensures.copied)
+    ∙ change-names c.in-Ok.project.files c.in-Ok-perform_all.performed.splices.items new.files (runs-patch c.in-Ok.project new c.args.commands.now c.in-Ok-perform_all.performed.splices.items c.in-Ok-perform_all.performed.relexed (map view c.in-Ok-perform_all.performed.listings.items) ran)
+    ∙ ap names (sym c.files-2.ensures)
+
+pub returns-clause-project : goal.returns-clause-project
+returns-clause-project c = subst IsProject c.project.view_is c.project.invariant

@@ -1,0 +1,38 @@
+use Rattle.std.proofs.Common.{◌≡◌, [], ◌∷◌, ◌++◌, map, length, refl, sym, ap, ap₂, ◌∙◌}
+use Rattle.serde_json.specs.View.{view}
+use Rattle.serde_json.proofs.Views.{view-Array}
+use Rattle.meson_splice.specs.declared.change.Change.{Change}
+use Rattle.meson_splice.specs.declared.history.History.{History}
+use Rattle.meson_script.specs.Reports.{differing}
+use Rattle.meson_script.proofs.RunFacts.{change-names, names, one-run, one-stops, performs-patch, told-refused}
+use Rattle.meson_script.proofs.session.Session.run_one.Goals as goal
+
+pub returns-in-Err-listed-clause-refused : goal.returns-in-Err-listed-clause-refused
+returns-in-Err-listed-clause-refused c = λ other.
+    one-stops c.args.self.now.project c.args.command.now c.in-Err-listed.refusal (told-refused c.args.self.now.project c.args.command.now c.in-Err-listed.refusal (c.in-Err-listed.ensures.refused other))
+
+pub count_differing-requires : goal.count_differing-requires
+count_differing-requires c =
+    let old = c.args.self.now.project in
+    ap names (c.in-Ok.ensures.copied ∙ c.files.ensures)
+    ∙ change-names old.files c.in-Ok-perform.done.change.splices c.perform.new.self.files (performs-patch old c.args.command.now c.in-Ok-perform.done c.perform.new.self c.in-Ok-perform.ensures.done)
+    ∙ ap names (sym c.files-in-Ok-perform.ensures)
+
+pub returns-in-Ok-perform-clause-done : goal.returns-in-Ok-perform-clause-done
+returns-in-Ok-perform-clause-done c =
+    let old = c.args.self.now in
+    let done = c.in-Ok-perform.done in
+    let past : c.of-in-Ok-perform.result ≡ old.history.past ++ done.change ∷ [] =
+    c.of-in-Ok-perform.ensures ∙ c.push_reserved.ensures.items ∙ ap (λ cs. cs ++ done.change ∷ []) (c.reserve.ensures.items ∙ c.take-past.ensures ∙ c.replace.ensures.value) in
+    record {
+      splices = done.change.splices;
+      listings = map view c.in-Ok-listed.listings.items;
+      runs = one-run old.project c.perform.new.self c.args.command.now done (map view c.in-Ok-listed.listings.items) c.in-Ok-listed.ensures.told c.in-Ok-perform.ensures.done;
+      kept = ap₂ (λ before behind. let h : History = record { past = before; future = behind } in h) past c.clear.ensures;
+      files = c.count_differing.ensures ∙ ap₂ differing (c.in-Ok.ensures.copied ∙ c.files.ensures) c.files-in-Ok-perform.ensures;
+      count = ap length c.get.ensures;
+      info = view-Array c.in-Ok-listed.listings;
+    }
+
+pub returns-clause-refused : goal.returns-clause-refused
+returns-clause-refused c = λ other. one-stops c.args.self.now.project c.args.command.now c.in-Err-perform.refusal (c.in-Err-perform.ensures.refused other)
