@@ -14,6 +14,7 @@ pub mod Splits
 pub mod Inserted
 pub mod InsertedPieces
 pub mod Parts
+pub mod Fronts
 pub mod SameTexts
 pub mod Sites
 pub mod InsertionLaws

@@ -58,6 +58,13 @@ pieces (Append new) items = appended items (as_one new)
 abbrev pub layout_of : List ℕ → List Lexeme → Primitive → List Splice
 layout_of file items primitive = splices file 0 (pieces primitive items)
 
+-- The layout looks at no item that begins at this offset or behind it.
+abbrev pub end_of : Primitive → ℕ
+end_of (First bracket new) = bracket + 1
+end_of (Replace value new) = value.to
+end_of (Wrap value) = value.to
+end_of _ = 2 ^ 64 - 1
+
 -- ---- conditions
 
 -- the span begins and ends at borders of the items, and is not empty

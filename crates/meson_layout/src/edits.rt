@@ -3,7 +3,7 @@
 ghost use Rattle.std.specs.Prelude.{◌≡◌, ◌+◌, ◌<◌, ◌≤◌, ◌^◌, ◌++◌, ◌∷◌, [], IfErr, IfOk, List, drop, length, take};
 ghost use Rattle.meson_lex.specs.Items.{IsItemList, joined};
 ghost use Rattle.meson_lex.specs.Items.{Lexeme};
-ghost use Rattle.meson_layout.specs.Layout.{FirstFits, IsReady, before_len, layout_of, parts, replaced, wrapped};
+ghost use Rattle.meson_layout.specs.Layout.{FirstFits, IsReady, before_len, end_of, layout_of, parts, replaced, wrapped};
 ghost use Rattle.meson_layout.specs.Insertion.{first};
 ghost use Rattle.meson_layout.specs.Pieces.{as_one, splices};
 ghost use Rattle.meson_layout.specs.Places.{Fits, at_place};
@@ -150,6 +150,19 @@ fn layout_items(
     }
 }
 
+/// The offset before which all items begin that the layout of an edit looks at.
+fn end_of(primitive: &Primitive) -> usize
+    requires { FirstFits primitive.now }
+    ensures { result ≡ end_of primitive.now }
+{
+    match primitive {
+        Primitive::First { bracket, .. } => *bracket + 1,
+        Primitive::Replace { value, .. } => value.to,
+        Primitive::Wrap { value } => value.to,
+        _ => usize::MAX,
+    }
+}
+
 /// The splices of an edit, from left to right: the offset of each counts in the bytes that the ones before it left.
 pub fn layout(
     alloc: Global,
@@ -161,6 +174,9 @@ pub fn layout(
     ensures done { IfOk result (λ v. (items : List Lexeme) → IsItemList src.now items → v.items ≡ layout_of file.now items primitive.now) }
     ensures refused { IfErr result (λ e. e ≡ OutOfMemory) }
 {
-    let items = lexemes(alloc, src)?;
-    layout_items(alloc, file, items.as_slice(), primitive)
+    let items = lexemes(alloc, src, end_of(primitive))?;
+    match layout_items(alloc, file, items.as_slice(), primitive) {
+        Ok(splices) => Ok(splices),
+        Err(fault) => Err(fault),
+    }
 }

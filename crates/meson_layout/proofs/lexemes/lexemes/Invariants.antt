@@ -1,11 +1,6 @@
-use Rattle.std.proofs.Common.{◌≡◌, ℕ, ◌++◌, length}
-use Rattle.meson_lex.specs.Lexed.{Tiles}
+use Rattle.meson_layout.proofs.Fronts.{IsReading, up_to}
 use Rattle.meson_layout.proofs.ReadItems.{read}
 use Rattle.meson_layout.proofs.lexemes.lexemes.Given as goal
 
--- the items so far and those that the lexer still gives are those of the source
 abbrev pub invariant-loop-item : goal.invariant-loop-item
-invariant-loop-item l = record {
-  all : l.all.items ++ read l.src l.item-iterator ≡ read l.src l.initial.item-iterator;
-  within : (at : ℕ) × Tiles at (length l.src) l.item-iterator;
-}
+invariant-loop-item l = IsReading l.src l.end (up_to l.end (read l.src l.initial.item-iterator)) l.all.items l.item-iterator
