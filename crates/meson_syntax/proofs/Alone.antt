@@ -1,14 +1,14 @@
 -- What stands alone is what its rule reads.
-use Rattle.std.proofs.Common.{◌≡◌, ℕ, zero, suc, Bool, true, false, if◌then◌else◌, List, [], ◌∷◌, Option, Some, None, refl, sym, ap, ◌∙◌}
+use Rattle.std.proofs.Common.{◌≡◌, ℕ, zero, suc, Bool, true, false, if◌then◌else◌, List, [], ◌∷◌, Some, None, refl, sym, ap, ◌∙◌}
 use Rattle.meson_lex.specs.declared.kinds.Kind.{Kind}
 use Rattle.meson_lex.specs.declared.kinds.Kind.TheVariants as k
 use Rattle.meson_lex.specs.declared.kinds.Span.{Span}
 use Rattle.meson_lex.specs.Located.{Token}
 use Rattle.meson_syntax.specs.declared.operator.StringKind.TheVariants as quotes
-use Rattle.meson_syntax.specs.Input.{Input, Parser, and_then, from, kind, kind_of, left, next, same_kind, sees, span_from, spelling}
-use Rattle.meson_syntax.specs.Reading.{answered, chosen, identified, number, postfixed, primary, primary_by, quoted, row_at, row_of, tails, tails_from, truth, unaried, unary_by, unary_of, with_tails}
+use Rattle.meson_syntax.specs.Input.{Input, Parser, and_then, from, kind, left, next, sees, span_from, spelling}
+use Rattle.meson_syntax.specs.Reading.{answered, chosen, identified, number, postfixed, primary, quoted, row_at, row_of, tails, tails_from, truth, unaried, unary_by, unary_of, with_tails}
 use Rattle.meson_syntax.specs.Rows.{row_with}
-use Rattle.meson_syntax.specs.Alone.{begins_alone, begins_end, ends_expression, is_alone, is_single, tailed}
+use Rattle.meson_syntax.specs.Alone.{begins_alone, ends_expression, is_alone, is_single, tailed}
 use Rattle.meson_syntax.specs.Tree.{Expression, boolean, identifier, integer, string}
 use Rattle.meson_syntax.proofs.Rows.{row_at-with, row_with-none}
 use Rattle.meson_syntax.proofs.parsing.Splits.{bind-is, not-sees}

@@ -1,5 +1,5 @@
 -- The children of nodes without the words around them, and the node that a path names. No public contract names it.
-use Rattle.std.specs.Prelude.{ℕ, zero, suc, List, [], ◌∷◌, ◌++◌, map, Option, Some, None, option_and_then}
+use Rattle.std.specs.Prelude.{ℕ, zero, suc, List, [], ◌∷◌, ◌++◌, Option, Some, None, option_and_then}
 use Rattle.meson_lex.specs.declared.kinds.Span.{Span}
 use Rattle.meson_syntax.specs.declared.path.Node as rust_node
 use Rattle.meson_syntax.specs.declared.path.Node.TheVariants as rust
@@ -11,7 +11,7 @@ use Rattle.meson_syntax.specs.declared.tree.Operand as rust_operand
 use Rattle.meson_syntax.specs.declared.tree.Branch.{Branch}
 use Rattle.meson_syntax.specs.declared.tree.Stmt.{Stmt}
 use Rattle.meson_syntax.specs.declared.operator.Operator.{Operator}
-use Rattle.meson_syntax.specs.Tree.{Expression, identifier, boolean, integer, string, paren, array, dictionary, call, unary, row, postfix, conditional, Operands, no_operands, operand, Tail, method, index, Tails, no_tails, tail, Listing, listing, Argument, plain, named, pair, Arguments, no_arguments, argument, Statement, evaluate, assign, selection, iteration, breaks, continues, Branches, no_branches, branch, Otherwise, nothing_else, otherwise, Statements, no_statements, statement, Block, block, arguments_of, operands_of, tails_of, branches_of, statements_of}
+use Rattle.meson_syntax.specs.Tree.{Expression, paren, array, dictionary, call, unary, row, postfix, conditional, Operands, no_operands, operand, Tail, method, index, Tails, no_tails, tail, Listing, listing, Argument, plain, named, pair, Arguments, no_arguments, argument, Statement, evaluate, assign, selection, iteration, breaks, continues, Branches, no_branches, branch, Otherwise, nothing_else, otherwise, Statements, no_statements, statement, Block, block, arguments_of, operands_of, tails_of, branches_of, statements_of}
 use Rattle.meson_syntax.specs.Paths.{Sort, of_expression, of_statement, of_block, Node, nth}
 use Rattle.meson_syntax.specs.View.{expr_view, args_view, operands_view, tails_view, stmt_view, stmts_view, branches_view, block_view}
 

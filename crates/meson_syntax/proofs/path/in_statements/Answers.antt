@@ -1,4 +1,4 @@
-use Rattle.std.proofs.Common.{◌∙◌, ap, sym, Some, None, arith, rules}
+use Rattle.std.proofs.Common.{◌∙◌, ap, sym, Some, rules}
 use Rattle.meson_syntax.specs.Paths.{nth}
 use Rattle.meson_syntax.proofs.Looks.{nth-here, nth-past}
 use Rattle.meson_syntax.proofs.PartsOf.{stmt_part, stmts-parts}
