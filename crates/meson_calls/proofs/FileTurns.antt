@@ -1,6 +1,7 @@
--- Notes of files, one after another.
+-- The parts of files, one after another.
 use Rattle.std.proofs.Common.{◌≡◌, ℕ, ◌+◌, ◌<◌, ◌≤◌, List, [], ◌∷◌, ◌++◌, length, drop, get_or, sym, ap, ◌∙◌}
-use Rattle.std.proofs.lemmas.List.{append_assoc, append-nil, at_drop_more, at_drop_all}
+use Rattle.std.proofs.lemmas.List.{at_drop_more, at_drop_all}
+use Rattle.std.proofs.lemmas.List.Sums.{fold-append}
 use Rattle.meson_lex.specs.declared.kinds.Span.{Span}
 use Rattle.meson_splice.specs.declared.file_set.File.{File}
 use Rattle.meson_splice.specs.Files.{bytes_at}
@@ -9,8 +10,7 @@ use Rattle.meson_syntax.specs.View.{view}
 use Rattle.meson_calls.specs.Project.{Placed}
 use Rattle.meson_calls.specs.Parts.{Part, parts_from, file_parts}
 use Rattle.meson_calls.specs.Loading.{named_trees, views}
-use Rattle.meson_calls.specs.Notes.{Note, noted}
-use Rattle.meson_calls.proofs.Turns.{noted_append}
+use Rattle.meson_calls.specs.Walks.{Kept, with_part, with_parts}
 use Rattle.meson_calls.proofs.Loads.{nth_bytes}
 
 -- the parts of files with trees, of which the first has the number n
@@ -24,18 +24,16 @@ one_file files trees i d e within inside =
     ∙ at_drop_more (λ ts. left i (get_or files i d ∷ drop (i + 1) files) ts) trees i e inside
     ∙ ap (λ bytes. file_parts i (view bytes (get_or trees i e)) ++ left (i + 1) (drop (i + 1) files) (drop (i + 1) trees)) (sym (nth_bytes files i d within))
 
-pub file_turn : (files : List File) (trees : List Parsed) (i : ℕ) (e : Parsed) (before after whole : List (Placed (Note Span))) → i < length files → i < length trees →
-    after ≡ before ++ noted (file_parts i (view (bytes_at i files) (get_or trees i e))) →
-    before ++ noted (left i (drop i files) (drop i trees)) ≡ whole → after ++ noted (left (i + 1) (drop (i + 1) files) (drop (i + 1) trees)) ≡ whole
+pub file_turn : (files : List File) (trees : List Parsed) (i : ℕ) (e : Parsed) (before after whole : Kept) → i < length files → i < length trees →
+    after ≡ with_parts before (file_parts i (view (bytes_at i files) (get_or trees i e))) →
+    with_parts before (left i (drop i files) (drop i trees)) ≡ whole → with_parts after (left (i + 1) (drop (i + 1) files) (drop (i + 1) trees)) ≡ whole
 file_turn files trees i e before after whole within inside joins so_far =
     let here = file_parts i (view (bytes_at i files) (get_or trees i e)) in
     let more = left (i + 1) (drop (i + 1) files) (drop (i + 1) trees) in
-    ap (λ a. a ++ noted more) joins
-    ∙ append_assoc before (noted here) (noted more)
-    ∙ ap (λ t. before ++ t) (sym (ap noted (one_file files trees i (record { name = []; bytes = [] }) e within inside) ∙ noted_append here more))
+    ap (λ a. with_parts a more) joins
+    ∙ sym (fold-append with_part before here more)
+    ∙ ap (with_parts before) (sym (one_file files trees i (record { name = []; bytes = [] }) e within inside))
     ∙ so_far
 
-pub files_ended : (files : List File) (trees : List Parsed) (i : ℕ) (found whole : List (Placed (Note Span))) → length files ≤ i →
-    found ++ noted (left i (drop i files) (drop i trees)) ≡ whole → found ≡ whole
-files_ended files trees i found whole past so_far =
-    sym (append-nil found) ∙ ap (λ t. found ++ t) (sym (at_drop_all (λ fs. noted (left i fs (drop i trees))) files i past)) ∙ so_far
+pub files_ended : (files : List File) (trees : List Parsed) (i : ℕ) (kept whole : Kept) → length files ≤ i → with_parts kept (left i (drop i files) (drop i trees)) ≡ whole → kept ≡ whole
+files_ended files trees i kept whole past so_far = ap (with_parts kept) (sym (at_drop_all (λ fs. left i fs (drop i trees)) files i past)) ∙ so_far

@@ -1,7 +1,7 @@
 pub mod SlashParts
 pub mod FileNames
 pub mod Loads
-pub mod Turns
+pub mod Visits
 pub mod ListTurns
 pub mod Parted
 pub mod StatementParts

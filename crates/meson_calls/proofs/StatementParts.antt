@@ -1,5 +1,5 @@
--- The notes of a statement are those of its parts; statements and branches over a source.
-use Rattle.std.proofs.Common.{rules, ◌≡◌, ℕ, ◌+◌, List, [], ◌∷◌, ◌++◌, ap, ◌∙◌}
+-- The parts of a statement over a source; statements and branches.
+use Rattle.std.proofs.Common.{rules, ◌≡◌, ℕ, List, ◌∷◌, refl}
 use Rattle.std.specs.Prelude.{Option, Some, None}
 use Rattle.meson_lex.specs.declared.kinds.Span.{Span}
 use Rattle.meson_syntax.specs.declared.tree.Expr.{Expr}
@@ -8,14 +8,12 @@ use Rattle.meson_syntax.specs.declared.tree.Branch.{Branch}
 use Rattle.meson_syntax.specs.declared.tree.Stmt.{Stmt}
 use Rattle.meson_syntax.specs.declared.tree.Stmt.TheVariants as stmt
 use Rattle.meson_syntax.specs.declared.tree.Stmt.TheFolds.{the_lemmas}
-use Rattle.meson_syntax.specs.Tree.{selection, iteration, branches_of, statements_of}
+use Rattle.meson_syntax.specs.Tree.{Statement, evaluate, assign, selection, iteration, breaks, continues, branches_of, statements_of}
 use Rattle.meson_syntax.specs.View.{texts_at, expr_view, stmt_view, stmts_view, block_view, branch_view, branches_view}
 use Rattle.meson_calls.specs.declared.call.CallRef.{CallRef}
 use Rattle.meson_calls.specs.Project.{Placed, placed, child}
-use Rattle.meson_calls.specs.Parts.{Part, expression_parts, statement_parts, statements_parts, block_parts, branches_parts, otherwise_parts, branches_children}
-use Rattle.meson_calls.specs.Notes.{a_loop, noted}
-use Rattle.meson_calls.specs.Walks.{else_view, branch_parts}
-use Rattle.meson_calls.proofs.Turns.{noted_append}
+use Rattle.meson_calls.specs.Parts.{Part, a_statement, statement_parts, statements_parts, branches_parts, branches_children}
+use Rattle.meson_calls.specs.Walks.{else_view, branch_parts, parts_inside}
 
 module _ (source : List ℕ) where
   pub if_view : (s : Span) (bs : List Branch) (o : Option rust_block.Block) → stmt_view source (stmt.If s bs o) ≡ selection s (branches_of (branches_view source bs)) (else_view source o)
@@ -48,20 +46,11 @@ module _ (source : List ℕ) where
     abbrev pub conditions_part : ℕ → Branch → List (Placed (Part Span))
     conditions_part n b = branch_parts p n (branch_view source b)
 
-    pub branch_noted : (n : ℕ) (b : Branch) →
-        noted (conditions_part n b) ≡ noted (expression_parts (child p n) (expr_view source b.condition)) ++ noted (block_parts (child p (n + 1)) (block_view source b.block))
-    branch_noted n b =
-        noted_append (expression_parts (child p n) (branch_view source b).0) (block_parts (child p (n + 1)) (branch_view source b).1)
-        ∙ ap (λ e. noted (expression_parts (child p n) e) ++ noted (block_parts (child p (n + 1)) (branch_view source b).1)) (branch_condition b)
-        ∙ ap (λ k. noted (expression_parts (child p n) (expr_view source b.condition)) ++ noted (block_parts (child p (n + 1)) k)) (branch_block b)
-
-    pub if_noted : (s : Span) (bs : List Branch) (o : Option rust_block.Block) →
-        noted (statement_parts p (stmt_view source (stmt.If s bs o))) ≡ noted (conditions_parts 0 bs) ++ noted (otherwise_parts p (branches_count bs) (else_view source o))
-    if_noted s bs o = ap (λ x. noted (statement_parts p x)) (if_view s bs o) ∙ noted_append (conditions_parts 0 bs) (otherwise_parts p (branches_count bs) (else_view source o))
-
-    pub foreach_noted : (s : Span) (names : List Span) (items : Expr) (body : rust_block.Block) →
-        noted (statement_parts p (stmt_view source (stmt.Foreach s names items body)))
-        ≡ (placed p (a_loop (texts_at source names)) ∷ []) ++ (noted (expression_parts (child p 0) (expr_view source items)) ++ noted (block_parts (child p 1) (block_view source body)))
-    foreach_noted s names items body =
-        ap (λ x. noted (statement_parts p x)) (foreach_view s names items body)
-        ∙ ap (λ ns. placed p (a_loop (texts_at source names)) ∷ ns) (noted_append (expression_parts (child p 0) (expr_view source items)) (block_parts (child p 1) (block_view source body)))
+-- a statement stands before the parts within it
+pub statement_whole : (p : CallRef) (s : Statement Span) → placed p (a_statement s) ∷ parts_inside p s ≡ statement_parts p s
+statement_whole p (evaluate e) = refl
+statement_whole p (assign s x a e) = refl
+statement_whole p (selection s bs o) = refl
+statement_whole p (iteration s xs e b) = refl
+statement_whole p (breaks s) = refl
+statement_whole p (continues s) = refl

@@ -1,12 +1,86 @@
--- Parts of statements as the code goes through them.
-use Rattle.std.specs.Prelude.{ℕ, ◌+◌, List, ◌++◌, Option, Some, None}
+-- Walks through trees: what is kept of the parts that are visited, one after another.
+use Rattle.std.specs.Prelude.{◌≡◌, ℕ, ◌+◌, Bool, false, List, [], ◌∷◌, ◌++◌, if◌then◌else◌, bytes_eq, Option, Some, None}
+use Rattle.std.specs.List.{fold, filter_map}
 use Rattle.meson_lex.specs.declared.kinds.Span.{Span}
 use Rattle.meson_syntax.specs.declared.tree.Block as rust_block
-use Rattle.meson_syntax.specs.Tree.{Expression, Block, Otherwise, nothing_else, otherwise}
-use Rattle.meson_syntax.specs.View.{block_view}
+use Rattle.meson_syntax.specs.Tree.{Expression, identifier, Statement, Block, Otherwise, nothing_else, otherwise}
+use Rattle.meson_syntax.specs.View.{expr_view, stmt_view, block_view}
 use Rattle.meson_calls.specs.declared.call.CallRef.{CallRef}
-use Rattle.meson_calls.specs.Project.{Placed, child}
-use Rattle.meson_calls.specs.Parts.{Part, expression_parts, block_parts}
+use Rattle.meson_calls.specs.declared.keeper.Keeper.{Keeper}
+use Rattle.meson_calls.specs.declared.keeper.Keeper.TheVariants as keeper
+use Rattle.meson_calls.specs.declared.part.Part as rust_part
+use Rattle.meson_calls.specs.declared.part.Part.TheVariants as rust
+use Rattle.meson_calls.specs.declared.part.Walk.{Walk}
+use Rattle.meson_calls.specs.Project.{Placed, placed, place, child}
+use Rattle.meson_calls.specs.Parts.{Part, an_expression, a_statement, expression_parts, statement_parts, block_parts}
+use Rattle.meson_calls.specs.Notes.{Note, noted, note_views}
+
+-- ---- where a variable is read
+
+abbrev pub expression_reads : {S : Type 0} → List ℕ → Expression S → Bool
+expression_reads x (identifier s y) = bytes_eq y x
+expression_reads x _ = false
+
+abbrev pub part_reads : {S : Type 0} → List ℕ → Part S → Bool
+part_reads x (an_expression e) = expression_reads x e
+part_reads x (a_statement s) = false
+
+abbrev pub read_at : {S : Type 0} → List ℕ → Placed (Part S) → Option CallRef
+read_at x q = if part_reads x q.it then Some q.place else None
+
+-- the places of identifiers that are the variable
+abbrev pub read_in : {S : Type 0} → List ℕ → List (Placed (Part S)) → List CallRef
+read_in x ps = filter_map (read_at x) ps
+
+-- ---- what is kept: the notes, or the places where a variable is read
+
+pub data Kept : Type 0 where
+  notes_kept : List (Placed (Note Span)) → Kept
+  reads_kept : List ℕ → List CallRef → Kept
+
+abbrev pub keeper_view : Keeper → Kept
+keeper_view (keeper.Notes found) = notes_kept (note_views found.items)
+keeper_view (keeper.Reads name found) = reads_kept name.now found.items
+
+abbrev pub with_part : Kept → Placed (Part Span) → Kept
+with_part (notes_kept ns) q = notes_kept (ns ++ noted (q ∷ []))
+with_part (reads_kept x cs) q = reads_kept x (cs ++ read_in x (q ∷ []))
+
+abbrev pub with_parts : Kept → List (Placed (Part Span)) → Kept
+with_parts kept ps = fold with_part kept ps
+
+abbrev pub notes_of_kept : Kept → Option (List (Placed (Note Span)))
+notes_of_kept (notes_kept ns) = Some ns
+notes_of_kept (reads_kept x cs) = None
+
+abbrev pub reads_of_kept : Kept → Option (List CallRef)
+reads_of_kept (notes_kept ns) = None
+reads_of_kept (reads_kept x cs) = Some cs
+
+-- the parts come to what a keeper has
+abbrev pub Keeps : Keeper → List (Placed (Part Span)) → Keeper → Type 0
+Keeps before ps after = keeper_view after ≡ with_parts (keeper_view before) ps
+
+-- ---- parts as the code comes to them
+
+abbrev pub part_view : List ℕ → rust_part.Part → Part Span
+part_view source (rust.Expression e) = an_expression (expr_view source e.now)
+part_view source (rust.Statement s) = a_statement (stmt_view source s.now)
+
+-- what stands at a path of a file
+abbrev pub part_at : Walk → List ℕ → rust_part.Part → Placed (Part Span)
+part_at walk path part = placed (place walk.file path) (part_view walk.source.now part)
+
+-- the parts within an expression or a statement that stands at a place
+abbrev pub behind_first : {X : Type 0} → List X → List X
+behind_first [] = []
+behind_first (x ∷ xs) = xs
+
+abbrev pub parts_within : {S : Type 0} → CallRef → Expression S → List (Placed (Part S))
+parts_within p e = behind_first (expression_parts p e)
+
+abbrev pub parts_inside : {S : Type 0} → CallRef → Statement S → List (Placed (Part S))
+parts_inside p s = behind_first (statement_parts p s)
 
 -- the block behind `else`, if there is one
 abbrev pub else_view : List ℕ → Option rust_block.Block → Otherwise Span

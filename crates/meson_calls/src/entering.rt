@@ -13,7 +13,7 @@ ghost use Rattle.meson_calls.specs.Subdirs.{Enters, subdirs};
 use crate::folders::is_plain_folder;
 use crate::literals::first_literal;
 use crate::note::{Note, What};
-use crate::notes::note_file;
+use crate::notes::notes_in;
 use crate::roles::text_of;
 use meson_syntax::{ParseFault, Parsed, parse};
 use std::alloc::{AllocError, Global};
@@ -105,8 +105,7 @@ pub fn entered_by(
     requires reads { IsSpanned bytes.now (view bytes.now tree.now) }
     ensures { IfOk result (λ names. map string_bytes names.items ≡ subdirs name.now (view bytes.now tree.now)) }
 {
-    let mut notes = Vec::new(alloc);
-    note_file(alloc, 0, bytes, tree, &mut notes)?;
+    let notes = notes_in(alloc, 0, bytes, tree)?;
     let names = all_entered(alloc, name, notes.as_slice())?;
     Ok(names)
 }

@@ -1,38 +1,42 @@
 //! The notes of a project.
 
-ghost use Rattle.std.specs.Prelude.{◌≡◌, ◌++◌, IfOk, OnOk, length};
+ghost use Rattle.std.specs.Prelude.{◌≡◌, IfOk, length};
 ghost use Rattle.meson_syntax.specs.View.{view};
 ghost use Rattle.meson_calls.specs.Parts.{file_parts};
 ghost use Rattle.meson_calls.specs.Loading.{named_trees, views};
 ghost use Rattle.meson_calls.specs.Notes.{noted, notes, note_views};
 
+use crate::keeper::Keeper;
 use crate::note::Note;
-use crate::walk::Walk;
+use crate::walk_statements::{walk_file, walk_files};
 use meson_splice::FileSet;
 use meson_syntax::Parsed;
 use std::alloc::{AllocError, Global};
 
-/// Adds what commands look at in the file of this number.
-pub fn note_file<'t>(
+/// What commands look at in a file, by the number of the file.
+///
+/// # Errors
+/// Memory was refused.
+pub fn notes_in<'t>(
     alloc: Global,
     file: usize,
     source: &'t [u8],
     parsed: &'t Parsed,
-    found: &mut Vec<Note<'t>>,
-) -> Result<(), AllocError>
-    ensures { OnOk result (note_views found.new.items ≡ note_views found.old.items ++ noted (file_parts file (view source.now parsed.now))) }
+) -> Result<Vec<Note<'t>>, AllocError>
+    ensures { IfOk result (λ found. note_views found.items ≡ noted (file_parts file (view source.entry.now parsed.entry.now))) }
 {
-    let walk = Walk {
-        alloc,
-        file,
-        source,
-    };
-    let mut path = Vec::new(alloc);
-    walk.in_stmts(parsed.block.statements.get(), &mut path, found)?;
-    Ok(())
+    let mut keeper = Keeper::Notes(Vec::new(alloc));
+    walk_file(alloc, file, source, parsed, &mut keeper)?;
+    match keeper.notes() {
+        Some(found) => Ok(found),
+        None => unreachable!(),
+    }
 }
 
 /// What commands look at, in file order and source order.
+///
+/// # Errors
+/// Memory was refused.
 pub fn notes_of<'t>(
     alloc: Global,
     files: &'t FileSet,
@@ -41,9 +45,10 @@ pub fn notes_of<'t>(
     requires { length trees.now ≡ length files.now }
     ensures { IfOk result (λ found. note_views found.items ≡ notes (named_trees files.now (views files.now trees.now))) }
 {
-    let mut found = Vec::new(alloc);
-    for i in 0..trees.len() {
-        note_file(alloc, i, files.bytes(i), &trees[i], &mut found)?;
+    let mut keeper = Keeper::Notes(Vec::new(alloc));
+    walk_files(alloc, files, trees, &mut keeper)?;
+    match keeper.notes() {
+        Some(found) => Ok(found),
+        None => unreachable!(),
     }
-    Ok(found)
 }

@@ -1,6 +1,4 @@
 mod NewTargets
-mod ReadParts
-mod ReadTurns
 mod StatementsDoable
 mod StatementsRemoved
 mod TargetText

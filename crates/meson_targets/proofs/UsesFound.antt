@@ -10,7 +10,8 @@ use Rattle.meson_calls.specs.Parts.{Part, an_expression, a_statement, parts}
 use Rattle.meson_calls.specs.Notes.{Note, note_of, noted, notes}
 use Rattle.meson_calls.specs.Roles.{one_of}
 use Rattle.meson_targets.specs.TargetEdits.{StatementPlace, call_uses, part_uses, is_used_outside}
-use Rattle.meson_targets.specs.Uses.{part_reads, read_in, is_outside, is_noted_outside, is_read_outside}
+use Rattle.meson_calls.specs.Walks.{part_reads, read_in}
+use Rattle.meson_targets.specs.Uses.{is_outside, is_noted_outside, is_read_outside}
 
 -- ---- tests joined
 

@@ -1,8 +1,6 @@
 //! Whole targets put at the end of a build file and taken out of the project.
 #![tactic(auto)]
 
-mod identifier_statements;
-mod identifiers;
 pub mod target_adding;
 pub mod target_removing;
 mod uses;

@@ -1,24 +1,27 @@
 //! Uses of a variable outside a statement.
 
-ghost use Rattle.std.specs.Prelude.{◌≡◌, ◌++◌, ◌∷◌, [], IfOk};
+ghost use Rattle.std.specs.Prelude.{◌≡◌, ◌++◌, ◌∷◌, [], IfOk, length};
 ghost use Rattle.meson_syntax.specs.Grammar.{listing_words};
 ghost use Rattle.meson_syntax.specs.View.{list_view, text_at};
 ghost use Rattle.meson_syntax.specs.declared.operator.Bracket.TheVariants as bracket;
 ghost use Rattle.meson_calls.specs.Loading.{AreParsed, named_trees, views};
 ghost use Rattle.meson_calls.specs.Notes.{note_view, note_views, notes};
+ghost use Rattle.meson_calls.specs.Parts.{parts};
 ghost use Rattle.meson_calls.specs.Picking.{call_with};
 ghost use Rattle.meson_calls.specs.Roles.{one_of};
 ghost use Rattle.meson_calls.specs.Strings.{AreGood, NotesGood, note_words};
+ghost use Rattle.meson_calls.specs.Walks.{read_in};
 ghost use Rattle.meson_targets.specs.TargetEdits.{call_uses, goes_through, is_used_outside, variable_functions};
 ghost use Rattle.meson_targets.specs.TargetViews.{place_view};
 ghost use Rattle.meson_targets.specs.Uses.{is_noted_outside, is_outside, is_read_outside, note_uses};
 
-use crate::identifier_statements::reads_of;
 use meson_calls::CallRef;
+use meson_calls::keeper::Keeper;
 use meson_calls::literals::first_literal;
 use meson_calls::note::{Note, What};
 use meson_calls::roles::text_of;
 use meson_calls::setters::one_of;
+use meson_calls::walk_statements::walk_files;
 use meson_lex::Span;
 use meson_splice::FileSet;
 use meson_syntax::{List, Parsed};
@@ -134,6 +137,27 @@ fn is_read_outside(places: &[CallRef], line: &StatementPlace) -> bool
         }
     }
     false
+}
+
+/// The places of a project where a variable is read, in file order and source order.
+fn reads_of<'t>(
+    alloc: Global,
+    files: &'t FileSet,
+    trees: &'t [Parsed],
+    name: &'t [u8],
+) -> Result<Vec<CallRef>, AllocError>
+    requires { length trees.now ≡ length files.now }
+    ensures { IfOk result (λ found. found.items ≡ read_in name.entry.now (parts (named_trees files.now (views files.now trees.now)))) }
+{
+    let mut keeper = Keeper::Reads {
+        name,
+        found: Vec::new(alloc),
+    };
+    walk_files(alloc, files, trees, &mut keeper)?;
+    match keeper.reads() {
+        Some(found) => Ok(found),
+        None => unreachable!(),
+    }
 }
 
 /// Whether the variable is used outside a statement.

@@ -1,17 +1,22 @@
-use Rattle.std.proofs.Common.{◌<◌, ◌++◌, length, ◌∙◌, ap, arith}
-use Rattle.meson_splice.specs.Files.{bytes_at}
-use Rattle.meson_syntax.specs.View.{view}
-use Rattle.meson_calls.specs.Parts.{file_parts}
+use Rattle.std.proofs.Common.{◌≡◌, None, Some, ◌∙◌, ap}
+use Rattle.meson_syntax.proofs.parsing.Steps.{some-injective}
+use Rattle.meson_calls.specs.Loading.{named_trees, views}
+use Rattle.meson_calls.specs.Parts.{parts}
 use Rattle.meson_calls.specs.Notes.{noted, note_views}
-use Rattle.meson_calls.proofs.FileTurns.{file_turn}
+use Rattle.meson_calls.specs.Walks.{notes_kept, keeper_view, with_parts}
+use Rattle.meson_calls.proofs.Visits.{all_noted}
 use Rattle.meson_calls.proofs.notes.notes_of.Goals as goal
 
-pub loop-i-preserved : goal.loop-i-preserved
-loop-i-preserved c =
-    let within : c.loop-i.i < length c.args.files.now = omega arith in
-    let before = note_views c.loop-i.found.items in
-    file_turn c.args.files.now c.args.trees.now c.loop-i.i c.index-trees-i.result before _ _ within c.loop-i-test.true
-    (c.in_ok-note_file.ensures
-    ∙ ap (λ bytes. before ++ noted (file_parts c.loop-i.i (view bytes c.index-trees-i.result))) c.bytes.ensures
-    ∙ ap (λ t. before ++ noted (file_parts c.loop-i.i (view (bytes_at c.loop-i.i c.args.files.now) t))) c.index-trees-i.is)
-    c.loop-i.invariant
+pub unreachable-requires : goal.unreachable-requires
+unreachable-requires c =
+    let ps = parts (named_trees c.args.files.now (views c.args.files.now c.args.trees.now)) in
+    let none : None ≡ Some (noted ps) =
+    all_noted None (keeper_view c.walk_files.new.keeper) ps c.in-None.ensures (c.in_ok-walk_files.ensures ∙ ap (λ ns. with_parts (notes_kept (note_views ns)) ps) c.new.ensures.items) in
+    absurd cc
+
+pub returns : goal.returns
+returns c =
+    let ps = parts (named_trees c.args.files.now (views c.args.files.now c.args.trees.now)) in
+    some-injective _ _
+    (all_noted (Some (note_views c.in-Some.found.items)) (keeper_view c.walk_files.new.keeper) ps c.in-Some.ensures
+    (c.in_ok-walk_files.ensures ∙ ap (λ ns. with_parts (notes_kept (note_views ns)) ps) c.new.ensures.items))

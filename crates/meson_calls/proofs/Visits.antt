@@ -1,0 +1,70 @@
+-- Parts that are visited one after another.
+use Rattle.std.proofs.Common.{◌≡◌, ℕ, ◌+◌, ◌<◌, ◌≤◌, List, [], ◌∷◌, ◌++◌, length, drop, get_or, Option, Some, sym, ap, ◌∙◌, arith}
+use Rattle.std.proofs.lemmas.List.{append_assoc, append-nil, at_drop_more, at_drop_all}
+use Rattle.std.proofs.lemmas.List.Elements.{filter_map-append}
+use Rattle.std.proofs.lemmas.List.Sums.{fold-append}
+use Rattle.meson_lex.specs.declared.kinds.Span.{Span}
+use Rattle.meson_calls.specs.Parts.{Part}
+use Rattle.meson_calls.specs.Project.{Placed}
+use Rattle.meson_calls.specs.declared.call.CallRef.{CallRef}
+use Rattle.meson_calls.specs.Calls.{chosen}
+use Rattle.meson_calls.specs.Notes.{Note, note_of, noted}
+use Rattle.meson_calls.specs.Walks.{Kept, notes_kept, reads_kept, with_part, with_parts, notes_of_kept, reads_of_kept, read_at, read_in}
+
+pub two_parts : (before middle after : Kept) (a b : List (Placed (Part Span))) → middle ≡ with_parts before a → after ≡ with_parts middle b → after ≡ with_parts before (a ++ b)
+two_parts before middle after a b first last = last ∙ ap (λ m. with_parts m b) first ∙ sym (fold-append with_part before a b)
+
+pub three_parts : (before middle later after : Kept) (a b c : List (Placed (Part Span))) →
+    middle ≡ with_parts before a → later ≡ with_parts middle b → after ≡ with_parts later c → after ≡ with_parts before (a ++ (b ++ c))
+three_parts before middle later after a b c first second last = two_parts before middle after a (b ++ c) first (two_parts middle later after b c second last)
+
+-- The parts of a list from its n-th child on are those of its first element, which has so many children, and then those of the others.
+module _ {X : Type 0} (parts : ℕ → List X → List (Placed (Part Span))) (part : ℕ → X → List (Placed (Part Span))) (size : X → ℕ)
+    (more : (n : ℕ) (x : X) (xs : List X) → parts n (x ∷ xs) ≡ part n x ++ parts (n + size x) xs) where
+  pub turn : (xs : List X) (i : ℕ) (d : X) (n k : ℕ) (before after whole : Kept) (here : List (Placed (Part Span))) → i < length xs →
+      after ≡ with_parts before here → here ≡ part n (get_or xs i d) → k ≡ n + size (get_or xs i d) →
+      with_parts before (parts n (drop i xs)) ≡ whole → with_parts after (parts k (drop (i + 1) xs)) ≡ whole
+  turn xs i d n k before after whole here within first is_here next so_far =
+      let others : ℕ → List (Placed (Part Span)) = λ m. parts m (drop (i + 1) xs) in
+      let x = get_or xs i d in
+      ap (λ a. with_parts a (others k)) first
+      ∙ ap (λ h. with_parts (with_parts before h) (others k)) is_here
+      ∙ ap (λ m. with_parts (with_parts before (part n x)) (others m)) next
+      ∙ sym (fold-append with_part before (part n x) (others (n + size x)))
+      ∙ ap (with_parts before) (sym (at_drop_more (parts n) xs i d within ∙ more n x (drop (i + 1) xs)))
+      ∙ so_far
+
+  pub ended : (xs : List X) (i n : ℕ) (kept whole : Kept) → parts n [] ≡ [] → length xs ≤ i → with_parts kept (parts n (drop i xs)) ≡ whole → kept ≡ whole
+  ended xs i n kept whole none past so_far = ap (with_parts kept) (sym (at_drop_all (parts n) xs i past ∙ none)) ∙ so_far
+
+-- so do their children count
+module _ {X : Type 0} (count : List X → ℕ) (size : X → ℕ) (more : (x : X) (xs : List X) → count (x ∷ xs) ≡ size x + count xs) where
+  pub count_turn : (xs : List X) (i : ℕ) (d : X) (n k whole : ℕ) → i < length xs → k ≡ n + size (get_or xs i d) → n + count (drop i xs) ≡ whole → k + count (drop (i + 1) xs) ≡ whole
+  count_turn xs i d n k whole within next so_far =
+      let one = at_drop_more count xs i d within ∙ more (get_or xs i d) (drop (i + 1) xs) in
+      omega (arith, one, next, so_far)
+
+  pub count_ended : (xs : List X) (i n whole : ℕ) → count [] ≡ 0 → length xs ≤ i → n + count (drop i xs) ≡ whole → n ≡ whole
+  count_ended xs i n whole none past so_far =
+      let left = at_drop_all count xs i past ∙ none in
+      omega (arith, left, so_far)
+
+-- ---- what is kept in the end
+
+notes_come : (ns : List (Placed (Note Span))) (ps : List (Placed (Part Span))) → with_parts (notes_kept ns) ps ≡ notes_kept (ns ++ noted ps)
+notes_come ns [] = ap notes_kept (sym (append-nil ns))
+notes_come ns (q ∷ ps) =
+    notes_come (ns ++ noted (q ∷ [])) ps
+    ∙ ap notes_kept (append_assoc ns (noted (q ∷ [])) (noted ps) ∙ ap (λ l. ns ++ l) (sym (filter_map-append (chosen note_of) (q ∷ []) ps)))
+
+reads_come : (x : List ℕ) (cs : List CallRef) (ps : List (Placed (Part Span))) → with_parts (reads_kept x cs) ps ≡ reads_kept x (cs ++ read_in x ps)
+reads_come x cs [] = ap (reads_kept x) (sym (append-nil cs))
+reads_come x cs (q ∷ ps) =
+    reads_come x (cs ++ read_in x (q ∷ [])) ps
+    ∙ ap (reads_kept x) (append_assoc cs (read_in x (q ∷ [])) (read_in x ps) ∙ ap (λ l. cs ++ l) (sym (filter_map-append (read_at x) (q ∷ []) ps)))
+
+pub all_noted : (found : Option (List (Placed (Note Span)))) (kept : Kept) (ps : List (Placed (Part Span))) → found ≡ notes_of_kept kept → kept ≡ with_parts (notes_kept []) ps → found ≡ Some (noted ps)
+all_noted found kept ps is comes = is ∙ ap notes_of_kept (comes ∙ notes_come [] ps)
+
+pub all_read : (x : List ℕ) (found : Option (List CallRef)) (kept : Kept) (ps : List (Placed (Part Span))) → found ≡ reads_of_kept kept → kept ≡ with_parts (reads_kept x []) ps → found ≡ Some (read_in x ps)
+all_read x found kept ps is comes = is ∙ ap reads_of_kept (comes ∙ reads_come x [] ps)

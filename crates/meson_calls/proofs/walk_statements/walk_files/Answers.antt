@@ -1,0 +1,22 @@
+use Rattle.std.proofs.Common.{◌<◌, ◌≤◌, length, ◌∙◌, ap, arith}
+use Rattle.meson_splice.specs.Files.{bytes_at}
+use Rattle.meson_syntax.specs.View.{view}
+use Rattle.meson_calls.specs.Parts.{file_parts}
+use Rattle.meson_calls.specs.Walks.{keeper_view, with_parts}
+use Rattle.meson_calls.proofs.FileTurns.{file_turn, files_ended}
+use Rattle.meson_calls.proofs.walk_statements.walk_files.Goals as goal
+
+pub loop-i-preserved : goal.loop-i-preserved
+loop-i-preserved c =
+    let within : c.loop-i.i < length c.args.files.now = omega arith in
+    let before = keeper_view c.loop-i.keeper in
+    file_turn c.args.files.now c.args.trees.now c.loop-i.i c.index-trees-i.result before _ _ within c.loop-i-test.true
+    (c.in_ok-walk_file.ensures
+    ∙ ap (λ bytes. with_parts before (file_parts c.loop-i.i (view bytes c.index-trees-i.result))) c.bytes.ensures
+    ∙ ap (λ t. with_parts before (file_parts c.loop-i.i (view (bytes_at c.loop-i.i c.args.files.now) t))) c.index-trees-i.is)
+    c.loop-i.invariant
+
+pub returns : goal.returns
+returns c =
+    let past : length c.args.files.now ≤ c.loop-i.i = omega arith in
+    files_ended c.args.files.now c.args.trees.now c.loop-i.i _ _ past c.loop-i.invariant

@@ -1,0 +1,164 @@
+//! What a walk does with each part that it visits.
+
+ghost use Rattle.std.specs.Prelude.{◌≡◌, ◌∷◌, [], ◌++◌, OnOk, option_map};
+ghost use Rattle.meson_calls.specs.Notes.{note_of, noted, note_views, what_view};
+ghost use Rattle.meson_calls.specs.Picking.{Source};
+ghost use Rattle.meson_calls.specs.Variables.{is_set};
+ghost use Rattle.meson_calls.specs.Walks.{Keeps, keeper_view, notes_of_kept, part_at, part_reads, part_view, read_in, reads_of_kept};
+
+use crate::call::CallRef;
+use crate::keeper::Keeper;
+use crate::marks::place_of;
+use crate::note::{Note, What};
+use crate::part::{Part, Walk};
+use crate::roles::text_of;
+use meson_syntax::{Assignment, Expr, Stmt};
+use std::alloc::AllocError;
+
+/// Whether a variable gets the value, and is not added to.
+fn sets(assignment: Assignment) -> bool
+    ensures { result ≡ is_set assignment }
+{
+    match assignment {
+        Assignment::Set => true,
+        Assignment::Add => false,
+    }
+}
+
+/// What is noted of an expression: a call.
+fn call_in(expr: &Expr) -> Option<What<'_>>
+    ensures { (source : Source) → option_map (what_view source) result ≡ note_of (part_view source (Part.Expression expr.entry)) }
+{
+    match expr {
+        Expr::Call {
+            name,
+            arguments,
+            ..
+        } => Some(What::Call {
+            function: *name,
+            arguments,
+        }),
+        _ => None,
+    }
+}
+
+/// What is noted of a statement: an assignment or a loop.
+fn note_in(stmt: &Stmt) -> Option<What<'_>>
+    ensures { (source : Source) → option_map (what_view source) result ≡ note_of (part_view source (Part.Statement stmt.entry)) }
+{
+    match stmt {
+        Stmt::Assign {
+            name,
+            assignment,
+            value,
+            ..
+        } => Some(What::Assign {
+            name: *name,
+            sets: sets(*assignment),
+            value,
+        }),
+        Stmt::Foreach { names, .. } => Some(What::Loop { names: names.get() }),
+        _ => None,
+    }
+}
+
+impl<'t> Keeper<'t> {
+    /// The notes, if notes are kept.
+    pub fn notes(self) -> Option<Vec<Note<'t>>>
+        ensures { option_map (λ found. note_views found.items) result ≡ notes_of_kept (keeper_view self.entry) }
+    {
+        match self {
+            Keeper::Notes(found) => Some(found),
+            Keeper::Reads { name: _, found: _ } => None,
+        }
+    }
+
+    /// The places where the variable is read, if these are kept.
+    pub fn reads(self) -> Option<Vec<CallRef>>
+        ensures { option_map (λ found. found.items) result ≡ reads_of_kept (keeper_view self.entry) }
+    {
+        match self {
+            Keeper::Notes(_) => None,
+            Keeper::Reads { name: _, found } => Some(found),
+        }
+    }
+}
+
+impl<'t> Part<'t> {
+    /// What is noted of the part.
+    fn note(self) -> Option<What<'t>>
+        ensures { (source : Source) → option_map (what_view source) result ≡ note_of (part_view source self.entry) }
+    {
+        match self {
+            Part::Expression(expr) => call_in(expr),
+            Part::Statement(stmt) => note_in(stmt),
+        }
+    }
+
+    /// Whether it is an identifier that is the variable.
+    fn reads(self, source: &[u8], name: &[u8]) -> bool
+        ensures { result ≡ part_reads name.now (part_view source.now self.entry) }
+    {
+        match self {
+            Part::Expression(expr) => match expr {
+                Expr::Identifier(span) => text_of(source, *span) == name,
+                _ => false,
+            },
+            Part::Statement(_) => false,
+        }
+    }
+}
+
+impl<'t> Walk<'t> {
+    /// Keeps a note of the part at the path, if it is one of which there is a note.
+    fn keep_note(
+        &self,
+        path: &[usize],
+        part: Part<'t>,
+        found: &mut Vec<Note<'t>>,
+    ) -> Result<(), AllocError>
+        ensures { OnOk result (note_views found.new.items ≡ note_views found.old.items ++ noted (part_at self.now path.now part.entry ∷ [])) }
+    {
+        if let Some(what) = part.note() {
+            let place = place_of(self.alloc, self.file, path)?;
+            found.push(Note {
+                place,
+                source: self.source,
+                what,
+            })?;
+        }
+        Ok(())
+    }
+
+    /// Keeps the place of the part at the path, if it is the variable.
+    fn keep_read(
+        &self,
+        path: &[usize],
+        part: Part<'t>,
+        name: &[u8],
+        found: &mut Vec<CallRef>,
+    ) -> Result<(), AllocError>
+        ensures { OnOk result (found.new.items ≡ found.old.items ++ read_in name.now (part_at self.now path.now part.entry ∷ [])) }
+    {
+        if part.reads(self.source, name) {
+            let place = place_of(self.alloc, self.file, path)?;
+            found.push(place)?;
+        }
+        Ok(())
+    }
+
+    /// Keeps what is to be kept of the part at the path.
+    pub fn visit(
+        &self,
+        path: &[usize],
+        part: Part<'t>,
+        keeper: &mut Keeper<'t>,
+    ) -> Result<(), AllocError>
+        ensures { OnOk result (Keeps keeper.old (part_at self.now path.now part.entry ∷ []) keeper.new) }
+    {
+        match keeper {
+            Keeper::Notes(found) => self.keep_note(path, part, found),
+            Keeper::Reads { name, found } => self.keep_read(path, part, name, found),
+        }
+    }
+}
