@@ -26,17 +26,8 @@ fn has_name(source: &[u8], arg: &Arg, key: &[u8]) -> bool
     ensures { result ≡ is_some (value_with_name key.now (arg_view source.now arg.now)) }
 {
     match arg {
-        Arg::Named {
-            span: _,
-            name,
-            value: _,
-        } => text_of(source, *name) == key,
-        Arg::Plain(_) => false,
-        Arg::Pair {
-            span: _,
-            key: _,
-            value: _,
-        } => false,
+        Arg::Named { name, .. } => text_of(source, *name) == key,
+        _ => false,
     }
 }
 
@@ -73,16 +64,7 @@ pub fn is_plain(arg: &Arg) -> bool
 {
     match arg {
         Arg::Plain(_) => true,
-        Arg::Named {
-            span: _,
-            name: _,
-            value: _,
-        } => false,
-        Arg::Pair {
-            span: _,
-            key: _,
-            value: _,
-        } => false,
+        _ => false,
     }
 }
 
@@ -117,16 +99,7 @@ impl<'t> Variables<'t> {
     {
         match arg {
             Arg::Plain(value) => self.expand(left, site, Some(number), value, path, marks),
-            Arg::Named {
-                span: _,
-                name: _,
-                value: _,
-            } => Ok(()),
-            Arg::Pair {
-                span: _,
-                key: _,
-                value: _,
-            } => Ok(()),
+            _ => Ok(()),
         }
     }
 
@@ -148,11 +121,7 @@ impl<'t> Variables<'t> {
         ensures all { OnOk result (gathered marks.new ≡ expanded (gathered marks.old) (step_by (project_of self.now) left (place site.entry.file path.old.items) (λ n. fixed) (kept_arg site.entry.source.now (value_with_name key.now) number arg.now))) }
     {
         match arg {
-            Arg::Named {
-                span: _,
-                name,
-                value,
-            } => {
+            Arg::Named { name, value, .. } => {
                 if text_of(site.source, *name) == key {
                     path.push(number)?;
                     self.expand(left, site, None, value, path, marks)?;
@@ -160,12 +129,7 @@ impl<'t> Variables<'t> {
                 }
                 Ok(())
             }
-            Arg::Plain(_) => Ok(()),
-            Arg::Pair {
-                span: _,
-                key: _,
-                value: _,
-            } => Ok(()),
+            _ => Ok(()),
         }
     }
 

@@ -20,39 +20,8 @@ pub fn arguments_of(expr: &Expr) -> Option<&List>
     ensures { (source : Source) → option_map (λ l. list_view source l.now) result ≡ option_map (λ c. c.arguments) (call_of (expr_view source expr.now)) }
 {
     match expr {
-        Expr::Call {
-            span: _,
-            name: _,
-            arguments,
-        } => Some(arguments),
-        Expr::Identifier(_) => None,
-        Expr::Boolean { span: _, value: _ } => None,
-        Expr::Integer(_) => None,
-        Expr::String { span: _, kind: _ } => None,
-        Expr::Paren { span: _, inside: _ } => None,
-        Expr::Array(_) => None,
-        Expr::Dictionary(_) => None,
-        Expr::Unary {
-            span: _,
-            operator: _,
-            operand: _,
-        } => None,
-        Expr::Row {
-            span: _,
-            first: _,
-            rest: _,
-        } => None,
-        Expr::Postfix {
-            span: _,
-            base: _,
-            tails: _,
-        } => None,
-        Expr::Conditional {
-            span: _,
-            condition: _,
-            yes: _,
-            no: _,
-        } => None,
+        Expr::Call { arguments, .. } => Some(arguments),
+        _ => None,
     }
 }
 

@@ -66,12 +66,7 @@ fn entered(alloc: Global, name: &str, note: &Note<'_>) -> Result<Option<String>,
                 Ok(None)
             }
         }
-        What::Assign {
-            name: _,
-            sets: _,
-            value: _,
-        } => Ok(None),
-        What::Loop { names: _ } => Ok(None),
+        _ => Ok(None),
     }
 }
 

@@ -36,14 +36,14 @@ impl<'t> Variables<'t> {
         ensures all { OnOk result (gathered marks.new ≡ expanded (gathered marks.old) (expand_by (follow_of (project_of self.now) left) (expr_view site.entry.source.now expr.now) (stand_at site.entry path.old.items slot))) }
     {
         match expr {
-            Expr::String { span, kind: _ } => {
+            Expr::String { span, .. } => {
                 meet_string(self.alloc, site, slot, *span, expr, path.as_slice(), marks)
             }
             Expr::Array(list) => self.expand_list(left, site, slot, list, path, marks),
             Expr::Call {
-                span: _,
                 name,
                 arguments,
+                ..
             } => {
                 if text_of(site.source, *name) == b"files".as_slice() && !are_named(arguments) {
                     self.expand_list(left, site, slot, arguments, path, marks)
@@ -52,31 +52,7 @@ impl<'t> Variables<'t> {
                 }
             }
             Expr::Identifier(name) => self.follow(left, text_of(site.source, *name), marks),
-            Expr::Boolean { span: _, value: _ } => marks.miss(),
-            Expr::Integer(_) => marks.miss(),
-            Expr::Paren { span: _, inside: _ } => marks.miss(),
-            Expr::Dictionary(_) => marks.miss(),
-            Expr::Unary {
-                span: _,
-                operator: _,
-                operand: _,
-            } => marks.miss(),
-            Expr::Row {
-                span: _,
-                first: _,
-                rest: _,
-            } => marks.miss(),
-            Expr::Postfix {
-                span: _,
-                base: _,
-                tails: _,
-            } => marks.miss(),
-            Expr::Conditional {
-                span: _,
-                condition: _,
-                yes: _,
-                no: _,
-            } => marks.miss(),
+            _ => marks.miss(),
         }
     }
 
@@ -169,16 +145,7 @@ impl<'t> Variables<'t> {
     {
         match arg {
             Arg::Plain(value) => self.expand(left, site, Some(number), value, path, marks),
-            Arg::Named {
-                span: _,
-                name: _,
-                value: _,
-            } => marks.miss(),
-            Arg::Pair {
-                span: _,
-                key: _,
-                value: _,
-            } => marks.miss(),
+            _ => marks.miss(),
         }
     }
 

@@ -108,12 +108,7 @@ fn is_unknown(alloc: Global, files: &FileSet, note: &Note<'_>) -> Result<bool, A
             )?;
             Ok(unknown)
         }
-        What::Assign {
-            name: _,
-            sets: _,
-            value: _,
-        } => Ok(false),
-        What::Loop { names: _ } => Ok(false),
+        _ => Ok(false),
     }
 }
 

@@ -36,38 +36,7 @@ pub fn literal(alloc: Global, source: &[u8], expr: &Expr) -> Result<Option<Strin
                 Err(_) => Err(AllocError),
             }
         }
-        Expr::Identifier(_) => Ok(None),
-        Expr::Boolean { span: _, value: _ } => Ok(None),
-        Expr::Integer(_) => Ok(None),
-        Expr::Paren { span: _, inside: _ } => Ok(None),
-        Expr::Array(_) => Ok(None),
-        Expr::Dictionary(_) => Ok(None),
-        Expr::Call {
-            span: _,
-            name: _,
-            arguments: _,
-        } => Ok(None),
-        Expr::Unary {
-            span: _,
-            operator: _,
-            operand: _,
-        } => Ok(None),
-        Expr::Row {
-            span: _,
-            first: _,
-            rest: _,
-        } => Ok(None),
-        Expr::Postfix {
-            span: _,
-            base: _,
-            tails: _,
-        } => Ok(None),
-        Expr::Conditional {
-            span: _,
-            condition: _,
-            yes: _,
-            no: _,
-        } => Ok(None),
+        _ => Ok(None),
     }
 }
 

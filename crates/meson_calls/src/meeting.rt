@@ -25,16 +25,8 @@ pub fn is_named(arg: &Arg) -> bool
 {
     match arg {
         Arg::Plain(_) => false,
-        Arg::Named {
-            span: _,
-            name: _,
-            value: _,
-        } => true,
-        Arg::Pair {
-            span: _,
-            key: _,
-            value: _,
-        } => false,
+        Arg::Named { .. } => true,
+        Arg::Pair { .. } => false,
     }
 }
 

@@ -34,12 +34,7 @@ fn has_name(alloc: Global, role: Role, id: &str, note: &Note<'_>) -> Result<bool
                 Ok(false)
             }
         }
-        What::Assign {
-            name: _,
-            sets: _,
-            value: _,
-        } => Ok(false),
-        What::Loop { names: _ } => Ok(false),
+        _ => Ok(false),
     }
 }
 
@@ -49,38 +44,11 @@ pub fn is_role_call(role: Role, source: &[u8], expr: &Expr) -> bool
 {
     match expr {
         Expr::Call {
-            span: _,
             name,
             arguments,
+            ..
         } => has_role(role, text_of(source, *name), arguments),
-        Expr::Identifier(_) => false,
-        Expr::Boolean { span: _, value: _ } => false,
-        Expr::Integer(_) => false,
-        Expr::String { span: _, kind: _ } => false,
-        Expr::Paren { span: _, inside: _ } => false,
-        Expr::Array(_) => false,
-        Expr::Dictionary(_) => false,
-        Expr::Unary {
-            span: _,
-            operator: _,
-            operand: _,
-        } => false,
-        Expr::Row {
-            span: _,
-            first: _,
-            rest: _,
-        } => false,
-        Expr::Postfix {
-            span: _,
-            base: _,
-            tails: _,
-        } => false,
-        Expr::Conditional {
-            span: _,
-            condition: _,
-            yes: _,
-            no: _,
-        } => false,
+        _ => false,
     }
 }
 
@@ -93,11 +61,7 @@ fn sets_call(role: Role, id: &str, note: &Note<'_>) -> bool
             sets && text_of(note.source, name) == id.as_bytes()
                 && is_role_call(role, note.source, value)
         }
-        What::Call {
-            function: _,
-            arguments: _,
-        } => false,
-        What::Loop { names: _ } => false,
+        _ => false,
     }
 }
 

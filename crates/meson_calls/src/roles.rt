@@ -43,16 +43,7 @@ fn value_without_name(arg: &Arg) -> Option<&Expr>
 {
     match arg {
         Arg::Plain(value) => Some(value),
-        Arg::Named {
-            span: _,
-            name: _,
-            value: _,
-        } => None,
-        Arg::Pair {
-            span: _,
-            key: _,
-            value: _,
-        } => None,
+        _ => None,
     }
 }
 
@@ -93,11 +84,6 @@ pub fn note_has_role(role: Role, source: &[u8], what: What<'_>) -> bool
             function,
             arguments,
         } => has_role(role, text_of(source, function), arguments),
-        What::Assign {
-            name: _,
-            sets: _,
-            value: _,
-        } => false,
-        What::Loop { names: _ } => false,
+        _ => false,
     }
 }

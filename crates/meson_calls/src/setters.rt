@@ -61,11 +61,7 @@ fn note_sets(alloc: Global, note: &Note<'_>, name: &[u8]) -> Result<bool, AllocE
             function,
             arguments,
         } => call_sets(alloc, note.source, function, arguments, name),
-        What::Assign {
-            name: _,
-            sets: _,
-            value: _,
-        } => Ok(false),
+        What::Assign { .. } => Ok(false),
         What::Loop { names } => Ok(one_of(note.source, names, name)),
     }
 }

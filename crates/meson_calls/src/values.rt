@@ -50,11 +50,7 @@ fn assigned_by<'t>(note: &'t Note<'t>, name: &[u8]) -> Option<Assigned<'t>>
                 None
             }
         }
-        What::Call {
-            function: _,
-            arguments: _,
-        } => None,
-        What::Loop { names: _ } => None,
+        _ => None,
     }
 }
 
