@@ -42,28 +42,11 @@ fn held_by(stmt: &Stmt) -> Option<Held>
 {
     match stmt {
         Stmt::Expr(_) => Some(Held::Alone),
-        Stmt::Assign {
-            span: _,
-            name,
-            assignment,
-            value: _,
-        } => match assignment {
+        Stmt::Assign { name, assignment, .. } => match assignment {
             Assignment::Set => Some(Held::SetTo(*name)),
             Assignment::Add => None,
         },
-        Stmt::If {
-            span: _,
-            branches: _,
-            otherwise: _,
-        } => None,
-        Stmt::Foreach {
-            span: _,
-            names: _,
-            items: _,
-            body: _,
-        } => None,
-        Stmt::Break(_) => None,
-        Stmt::Continue(_) => None,
+        _ => None,
     }
 }
 

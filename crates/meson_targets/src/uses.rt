@@ -99,11 +99,7 @@ fn note_uses(alloc: Global, note: &Note<'_>, name: &[u8]) -> Result<bool, AllocE
             function,
             arguments,
         } => call_uses(alloc, note.source, function, arguments, name),
-        What::Assign {
-            name: variable,
-            sets: _,
-            value: _,
-        } => Ok(text_of(note.source, variable) == name),
+        What::Assign { name: variable, .. } => Ok(text_of(note.source, variable) == name),
         What::Loop { names } => Ok(one_of(note.source, names, name)),
     }
 }
