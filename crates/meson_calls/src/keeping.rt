@@ -8,9 +8,9 @@ ghost use Rattle.meson_calls.specs.Walks.{Keeps, keeper_view, notes_of_kept, par
 
 use crate::call::CallRef;
 use crate::keeper::Keeper;
-use crate::marks::place_of;
 use crate::note::{Note, What};
 use crate::part::{Part, Walk};
+use crate::place::place_of;
 use crate::roles::text_of;
 use meson_syntax::{Assignment, Expr, Stmt};
 use std::alloc::AllocError;

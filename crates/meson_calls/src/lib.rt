@@ -22,6 +22,7 @@ pub mod note;
 pub mod notes;
 pub mod part;
 pub mod picking;
+pub mod place;
 pub mod refusal;
 pub mod roles;
 pub mod setters;

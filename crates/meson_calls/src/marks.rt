@@ -5,9 +5,8 @@ ghost use Rattle.meson_calls.specs.Project.{place};
 ghost use Rattle.meson_calls.specs.Roles.{one_of};
 
 use crate::call::{CallRef, SourceItem};
-use crate::picking::copy_place;
+use crate::place::{copy_place, place_of};
 use meson_splice::Text;
-use meson_syntax::{Many, Path};
 use std::alloc::{AllocError, Global};
 use std::str;
 
@@ -29,19 +28,6 @@ pub struct Marks<'t> {
     pub list: Option<CallRef>,
     pub vacant: Option<CallRef>,
     pub followed: Vec<&'t [u8]>,
-}
-
-/// The place of this path in a file.
-pub fn place_of(alloc: Global, file: usize, path: &[usize]) -> Result<CallRef, AllocError>
-    ensures { IfOk result (λ p. p ≡ place file path.now) }
-{
-    let steps = Vec::from_slice(alloc, path)?;
-    Ok(CallRef {
-        file,
-        path: Path {
-            steps: Many::of(steps),
-        },
-    })
 }
 
 /// A text of these bytes. No name in a source is anything but UTF-8.

@@ -13,7 +13,8 @@ ghost use Rattle.meson_calls.specs.Tallies.{gathered, expanded, stand, stand_at}
 
 use crate::call::{CallRef, SourceItem};
 use crate::literals::literal;
-use crate::marks::{Marks, Site, place_of, text_of_name};
+use crate::marks::{Marks, Site, text_of_name};
+use crate::place::place_of;
 use meson_lex::Span;
 use meson_splice::Text;
 use meson_syntax::{Arg, Expr, List};

@@ -5,16 +5,16 @@ ghost use Rattle.meson_syntax.specs.View.{expr_view};
 ghost use Rattle.meson_calls.specs.Calls.{call_of};
 ghost use Rattle.meson_calls.specs.Roles.{one_of, project_ids};
 ghost use Rattle.meson_calls.specs.Notes.{note_view, note_views};
-ghost use Rattle.meson_calls.specs.Project.{child};
 ghost use Rattle.meson_calls.specs.Picking.{note_has_name, note_sets_call, is_role_call, places_that, assigned_places, found_places};
 ghost use Rattle.meson_calls.specs.Strings.{AreGood, NotesGood, note_words};
 
 use crate::call::{CallRef, Role};
 use crate::literals::first_literal_is;
 use crate::note::{Note, What};
-use crate::picking::{copy_place, with_role};
+use crate::picking::with_role;
+use crate::place::{copy_place, value_place};
 use crate::roles::{has_role, text_of};
-use meson_syntax::{Expr, Many, Path};
+use meson_syntax::Expr;
 use std::alloc::{AllocError, Global};
 
 /// Whether a note is a call of a role and a name.
@@ -86,20 +86,6 @@ pub fn with_name(
     Ok(found)
 }
 
-/// The place of the value of an assignment.
-fn value_place(alloc: Global, place: &CallRef) -> Result<CallRef, AllocError>
-    ensures { IfOk result (λ p. p ≡ child place.now 0) }
-{
-    let mut steps = Vec::from_slice(alloc, place.path.steps.get())?;
-    steps.push(0)?;
-    Ok(CallRef {
-        file: place.file,
-        path: Path {
-            steps: Many::of(steps),
-        },
-    })
-}
-
 /// The places of the calls of a role that a variable is set to.
 fn assigned_to(
     alloc: Global,
@@ -113,7 +99,7 @@ fn assigned_to(
     for i in 0..notes.len() {
         let note = &notes[i];
         if sets_call(role, id, note) {
-            let place = value_place(alloc, &note.place)?;
+            let place = value_place(alloc, &note.place, 0)?;
             found.push(place)?;
         }
     }

@@ -6,22 +6,9 @@ ghost use Rattle.meson_calls.specs.Picking.{places_with_role};
 
 use crate::call::{CallRef, Role};
 use crate::note::Note;
+use crate::place::copy_place;
 use crate::roles::note_has_role;
-use meson_syntax::{Many, Path};
 use std::alloc::{AllocError, Global};
-
-/// An equal place.
-pub fn copy_place(alloc: Global, place: &CallRef) -> Result<CallRef, AllocError>
-    ensures { IfOk result (λ p. p ≡ place.now) }
-{
-    let steps = Vec::from_slice(alloc, place.path.steps.get())?;
-    Ok(CallRef {
-        file: place.file,
-        path: Path {
-            steps: Many::of(steps),
-        },
-    })
-}
 
 /// The places of the calls of a role.
 pub fn with_role(alloc: Global, role: Role, notes: &[Note<'_>]) -> Result<Vec<CallRef>, AllocError>

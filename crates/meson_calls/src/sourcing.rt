@@ -13,7 +13,7 @@ ghost use Rattle.meson_calls.specs.Sourced.{all_gathered};
 use crate::arguments::{behind_first, count_named};
 use crate::call::{CallRef, Sources};
 use crate::marks::{Marks, Site, text_of_name};
-use crate::picking::copy_place;
+use crate::place::copy_place;
 use crate::refusal::Refusal;
 use crate::variables::Variables;
 use meson_splice::Many;

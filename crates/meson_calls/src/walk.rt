@@ -13,7 +13,7 @@ use meson_syntax::{Arg, Expr, List, Operand, Tail};
 use std::alloc::AllocError;
 
 /// The number after some others. No file has so many parts that there is none.
-pub fn next(number: usize, more: usize) -> Result<usize, AllocError>
+pub(crate) fn next(number: usize, more: usize) -> Result<usize, AllocError>
     ensures { IfOk result (λ n. n ≡ number + more) }
 {
     match number.checked_add(more) {
@@ -25,7 +25,7 @@ pub fn next(number: usize, more: usize) -> Result<usize, AllocError>
 impl<'t> Walk<'t> {
     /// Visits the expression that is the n-th child, and the parts within it.
     #[cycle(walk)]
-    pub fn in_child(
+    pub(crate) fn in_child(
         &self,
         number: usize,
         expr: &'t Expr,

@@ -9,7 +9,6 @@ ghost use Rattle.meson_calls.specs.GoodLists.{GoodArgs};
 ghost use Rattle.meson_keywords.specs.KeywordEdits.{add_by_shape, add_steps, all_behind, all_known, behind_all, delete_steps, once_steps, passing, remove_by_shape, remove_equal, remove_steps, removed_from, says, set_steps, shape, text_in};
 ghost use Rattle.meson_keywords.specs.Keys.{written_element};
 ghost use Rattle.meson_steps.specs.ListSteps.{bare};
-ghost use Rattle.meson_calls.specs.Project.{child};
 ghost use Rattle.meson_steps.specs.WrittenValues.{WrittenFor, written};
 ghost use Rattle.meson_calls.specs.Strings.{AreGood};
 ghost use Rattle.meson_steps.specs.Meanings.{AreBehind, AreMeant};
@@ -20,26 +19,13 @@ use crate::elements::{
 };
 use crate::keys::ElementKind;
 use crate::writing::{written_element, written_list, written_named};
-use meson_calls::marks::{place_of, text_of_name};
-use meson_calls::picking::copy_place;
+use meson_calls::marks::text_of_name;
+use meson_calls::place::{copy_place, value_place};
 use meson_calls::{CallRef, Refusal};
 use meson_splice::{Bytes, Text};
 use meson_steps::step::{ListEdit, ListStep, push_step};
 use meson_syntax::Arg;
 use std::alloc::{AllocError, Global};
-
-/// The place of the value of the n-th argument of a call.
-pub(crate) fn value_place(
-    alloc: Global,
-    call: &CallRef,
-    number: usize,
-) -> Result<CallRef, AllocError>
-    ensures { IfOk result (λ place. place ≡ child call.now number) }
-{
-    let mut path = Vec::from_slice(alloc, call.path.steps.get())?;
-    path.push(number)?;
-    place_of(alloc, call.file, path.as_slice())
-}
 
 /// Adds the step of an edit of a list.
 pub(crate) fn push_edit(

@@ -15,8 +15,9 @@ use crate::elements::{
     Found, Subject, Test, all_known, array_in, is_element, is_entry, passing, the_value,
 };
 use crate::keys::ElementKind;
-use crate::keyword_steps::{not_literal, push_edit, put_behind, remove_all, value_place};
+use crate::keyword_steps::{not_literal, push_edit, put_behind, remove_all};
 use crate::writing::{written_element, written_list, written_named};
+use meson_calls::place::value_place;
 use meson_calls::{CallRef, Refusal};
 use meson_splice::Text;
 use meson_steps::step::{ListEdit, ListStep};

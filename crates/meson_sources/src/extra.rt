@@ -12,7 +12,7 @@ ghost use Rattle.meson_steps.specs.ListSteps.{bare};
 ghost use Rattle.meson_calls.specs.Loading.{AreParsed};
 ghost use Rattle.meson_calls.specs.Named.{AreVariables, project_of};
 ghost use Rattle.meson_calls.specs.Picking.{Source, call_with};
-ghost use Rattle.meson_calls.specs.Project.{child, placed};
+ghost use Rattle.meson_calls.specs.Project.{placed};
 ghost use Rattle.meson_sources.specs.SourceEdits.{behind_value, checked_extra, elements_there, extra_added, extra_key, extra_marks, extra_removed};
 ghost use Rattle.meson_calls.specs.Sourced.{kept_args};
 ghost use Rattle.meson_calls.specs.Sources.{or_option};
@@ -26,8 +26,8 @@ use crate::inserting::{insert, new_names};
 use crate::removing::{removed, spots_of};
 use meson_calls::arguments::{count_named, first_named};
 use meson_calls::literals::literal;
-use meson_calls::marks::{Marks, Site, place_of, text_of_name};
-use meson_calls::picking::copy_place;
+use meson_calls::marks::{Marks, Site, text_of_name};
+use meson_calls::place::{copy_place, value_place};
 use meson_calls::sourcing::MAX_FOLLOWED;
 use meson_calls::variables::Variables;
 use meson_calls::{CallRef, Refusal};
@@ -118,15 +118,6 @@ fn written_keyword(alloc: Global, name: &Text) -> Result<Bytes, Refusal>
     push_literal(alloc, &mut out, name.get())?;
     out.extend_from_slice(b"]")?;
     Ok(Bytes::of(out))
-}
-
-/// The place of the value of the n-th argument of a call.
-fn value_place(alloc: Global, call: &CallRef, number: usize) -> Result<CallRef, AllocError>
-    ensures { IfOk result (λ place. place ≡ child call.now number) }
-{
-    let mut path = Vec::from_slice(alloc, call.path.steps.get())?;
-    path.push(number)?;
-    place_of(alloc, call.file, path.as_slice())
 }
 
 /// Puts the first name into a new list, behind the last of so many arguments, and the others behind it.

@@ -7,7 +7,7 @@ ghost use Rattle.meson_sources.specs.Naming.{has_value, new_among};
 ghost use Rattle.meson_sources.specs.SourceEdits.{inserted};
 ghost use Rattle.meson_steps.specs.Names.{distinct};
 
-use meson_calls::picking::copy_place;
+use meson_calls::place::copy_place;
 use meson_calls::{CallRef, Refusal, SourceItem};
 use meson_splice::Text;
 use meson_steps::literals::written_text;

@@ -6,7 +6,8 @@ ghost use Rattle.meson_steps.specs.ListSteps.{bare};
 ghost use Rattle.meson_sources.specs.Spots.{after_each, all_there, before_all, is_some_there, spot_at, spot_view, spots_at, spots_of_names};
 ghost use Rattle.meson_sources.specs.SourceEdits.{distinct_spots, moved_up, path_after, removed, same_spot, spot_after};
 
-use meson_calls::marks::{Marks, place_of};
+use meson_calls::marks::Marks;
+use meson_calls::place::place_of;
 use meson_calls::{CallRef, Refusal, SourceItem};
 use meson_splice::Text;
 use meson_steps::step::{ListEdit, ListStep, push_step};

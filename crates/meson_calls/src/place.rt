@@ -1,0 +1,37 @@
+//! Places in the files of a project.
+
+ghost use Rattle.std.specs.Prelude.{◌≡◌, IfOk};
+ghost use Rattle.meson_calls.specs.Project.{child, place};
+
+use crate::call::CallRef;
+use meson_syntax::{Many, Path};
+use std::alloc::{AllocError, Global};
+
+/// The place of this path in a file.
+pub fn place_of(alloc: Global, file: usize, path: &[usize]) -> Result<CallRef, AllocError>
+    ensures { IfOk result (λ p. p ≡ place file path.now) }
+{
+    let steps = Vec::from_slice(alloc, path)?;
+    Ok(CallRef {
+        file,
+        path: Path {
+            steps: Many::of(steps),
+        },
+    })
+}
+
+/// An equal place.
+pub fn copy_place(alloc: Global, place: &CallRef) -> Result<CallRef, AllocError>
+    ensures { IfOk result (λ p. p ≡ place.now) }
+{
+    place_of(alloc, place.file, place.path.steps.get())
+}
+
+/// The place of the n-th child of what stands at a place: of the value of an argument of a call, or of an assignment.
+pub fn value_place(alloc: Global, place: &CallRef, number: usize) -> Result<CallRef, AllocError>
+    ensures { IfOk result (λ p. p ≡ child place.now number) }
+{
+    let mut path = Vec::from_slice(alloc, place.path.steps.get())?;
+    path.push(number)?;
+    place_of(alloc, place.file, path.as_slice())
+}
