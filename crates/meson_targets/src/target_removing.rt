@@ -42,7 +42,11 @@ fn held_by(stmt: &Stmt) -> Option<Held>
 {
     match stmt {
         Stmt::Expr(_) => Some(Held::Alone),
-        Stmt::Assign { name, assignment, .. } => match assignment {
+        Stmt::Assign {
+            name,
+            assignment,
+            ..
+        } => match assignment {
             Assignment::Set => Some(Held::SetTo(*name)),
             Assignment::Add => None,
         },

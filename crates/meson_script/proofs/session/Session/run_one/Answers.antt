@@ -4,7 +4,8 @@ use Rattle.serde_json.proofs.Views.{view-Array}
 use Rattle.meson_splice.specs.declared.change.Change.{Change}
 use Rattle.meson_splice.specs.declared.history.History.{History}
 use Rattle.meson_script.specs.Reports.{differing}
-use Rattle.meson_script.proofs.RunFacts.{change-names, names, one-run, one-stops, performs-patch, told-refused}
+use Rattle.meson_plan.proofs.SplicesDone.{performs-patch}
+use Rattle.meson_script.proofs.RunFacts.{change-names, names, one-run, one-stops, told-refused}
 use Rattle.meson_script.proofs.session.Session.run_one.Goals as goal
 
 pub returns-in-Err-listed-clause-refused : goal.returns-in-Err-listed-clause-refused
