@@ -1,5 +1,5 @@
 -- How a run ends, from what its steps did.
-use Rattle.std.proofs.Common.{◌≡◌, ◌⊎◌, ◌≤◌, true, ℕ, List, [], ◌∷◌, length, Option, None, Result, Ok, Err, inl, inr, refl, sym, ap, ◌∙◌, subst, arith}
+use Rattle.std.proofs.Common.{◌≡◌, ◌⊎◌, ◌≤◌, true, ℕ, List, [], ◌∷◌, length, Option, Some, None, Result, Ok, Err, inl, inr, refl, sym, ap, ◌∙◌, subst, arith}
 use Rattle.std.specs.Prelude.{IsTrue}
 use Rattle.meson_command.specs.Asking.{without_text}
 use Rattle.meson_command.specs.declared.asked.Action.{Action}
@@ -7,21 +7,25 @@ use Rattle.meson_command.specs.declared.asked.Action.TheVariants as action
 use Rattle.meson_command.specs.declared.asked.Asked.{Asked}
 use Rattle.meson_command.specs.declared.fault.UsageFault.{UsageFault}
 use Rattle.meson_script.specs.declared.session.Session.{Session}
-use Rattle.meson_store.specs.Calls.{FailureCounted, Leaves, counted}
-use Rattle.meson_store.specs.Commit.{CommitFails, HaltsWith, Put, fault_of, names_of, puts, put_all, still_new}
+use Rattle.meson_store.specs.Calls.{FailureCounted, counted}
+use Rattle.meson_store.proofs.Restoring.{Each, IsOld, each-append, each-map, puts-each, restored, untold-restored}
+use Rattle.meson_store.specs.Commit.{AreReplaced, CommitFails, Put, TakenBack, path_in, put_all, put_in, puts}
 use Rattle.meson_store.specs.Content.{Content}
+use Rattle.meson_store.specs.Seen.{Seen, Untouched}
 use Rattle.meson_store.specs.declared.store.StoreError.{StoreError}
 use Rattle.meson_store.specs.declared.store.StoreError.TheVariants as error
 use Rattle.meson_store.specs.declared.store_fault.StoreFault.{StoreFault}
 use Rattle.meson_store.specs.declared.store_fault.StoreFault.TheVariants as store
 use Rattle.meson_gathering.proofs.Stopping.{rose_before, stops_within}
-use Rattle.meson_gathering.specs.Gathering.{Finds}
+use Rattle.meson_gathering.specs.Gathering.{Finds, file_of, held}
+use Rattle.meson_splice.specs.declared.file_set.File.{File}
 use Rattle.meson_rewrite.specs.Edited.{IsEdited, IsTold}
 use Rattle.meson_rewrite.specs.Lines.{status, store_fault_status}
-use Rattle.meson_rewrite.specs.Logs.{with_log}
+use Rattle.meson_rewrite.proofs.Holding.{IsHeld, held-collected}
+use Rattle.meson_rewrite.specs.Logs.{IsLog, empty_log, log_name, with_log}
 use Rattle.meson_rewrite.specs.Opening.{IsNoLog, Opens, OpensNone, log_unread, bad_log, no_log, no_project}
 use Rattle.meson_rewrite.specs.Requests.{AsksFor, AsksForNone, shows_help}
-use Rattle.meson_rewrite.specs.Runs.{Edits, Ends, StepEnds, Seen, Untouched, done, memory_ran_out, misused, helped, asks_for_none, no_memory, not_opened, refused, steps, told, unwritten, written}
+use Rattle.meson_rewrite.specs.Runs.{Edits, Ends, HasEmptyLog, IsUnchanged, RanOut, StepEnds, done, memory_ran_out, misused, helped, asks_for_none, no_memory, not_opened, refused, steps, told, unwritten, written}
 use Rattle.meson_rewrite.specs.Steps.{MayRefuse, only_tells}
 use Rattle.meson_rewrite.specs.Stops.{WantsMemory}
 use Rattle.meson_rewrite.specs.declared.editing.Edit.{Edit}
@@ -54,8 +58,33 @@ module _ (dir : Option (List ℕ)) (before : Option Content) (first old new : �
   none-before _ (no_project fault stops) = no_project fault (stops_within (Finds before dir) (Finds before dir) (λ end p. p) first old new h k fault stops)
   none-before _ (no_log files why found lacks) = no_log files why found (no-log-before why lacks)
 
-  pub halts-before : (files : List Put) (after : Option Content) (fault : StoreFault) → HaltsWith files before after old new fault → HaltsWith files before after first new fault
-  halts-before files after fault w = record { why = w.why; halts = w.halts; failure = counted-before w.why w.failure; told = w.told }
+-- ---- what was read before a commit
+
+module _ (a b c : Seen) (u : Untouched a b) where
+  pub replaced-then : (files : List Put) → AreReplaced files b c → AreReplaced files a c
+  replaced-then files r = record {
+    put = r.put ∙ ap (put_all files) u.kept;
+    counts = let x = u.counts in let y = r.counts in omega (arith, x, y);
+    counted = r.counted ∙ ap (counted (length files)) u.no_replace;
+  }
+
+pub taken-then : (a b c : Seen) → Untouched a b → (files : List Put) (fault : StoreFault) → TakenBack files b c fault → TakenBack files a c fault
+taken-then a b c u files fault t = record {
+  why = t.why;
+  stopped = t.stopped;
+  stops = record {
+    done = t.stops.done;
+    failed = t.stops.failed;
+    rest = t.stops.rest;
+    all = t.stops.all;
+    reached = t.stops.reached;
+    are = replaced-then a b t.stops.reached u t.stops.done t.stops.are;
+    fails = t.stops.fails;
+  };
+  still = t.still;
+  back = t.back;
+  told = t.told;
+}
 
 -- ---- a step
 
@@ -79,12 +108,8 @@ module _ (dir : Option (List ℕ)) (step : Step) where
       not_opened stop (untouched-then a b c u v) (none-before dir a.content a.failures b.failures c.failures u.counts k stop (subst (λ m. OpensNone m dir b.failures c.failures stop) u.kept opens))
   step-before a b c _ u k (refused old log stop v opens may) = refused old log stop (untouched-then a b c u v) (subst (λ m. Opens m dir old log) u.kept opens) may
   step-before a b c _ u k (told old new log report v opens does only) = told old new log report (untouched-then a b c u v) (subst (λ m. Opens m dir old log) u.kept opens) does only
-  step-before a b c _ u k (done e put counts) =
-      done (edits-before a.content b.content u.kept e) (put ∙ ap (put_all (written e)) u.kept) (counts ∙ ap (counted (length (written e))) u.no_replace)
-  step-before a b c _ u k (unwritten e fault halts counts) =
-      unwritten (edits-before a.content b.content u.kept e) fault
-      (halts-before dir a.content a.failures b.failures c.failures u.counts k (written e) c.content fault (subst (λ m. HaltsWith (written e) m c.content b.failures c.failures fault) u.kept halts))
-      (counts ∙ ap (counted (length (still_new fault))) u.no_replace)
+  step-before a b c _ u k (done e are) = done (edits-before a.content b.content u.kept e) (replaced-then a b c u (written e) are)
+  step-before a b c _ u k (unwritten e fault taken) = unwritten (edits-before a.content b.content u.kept e) fault (taken-then a b c u (written e) fault taken)
   step-before a b c _ u k (no_memory stop v wants) = no_memory stop (untouched-then a b c u v) wants
 
   -- ---- by what stopped it, or by what is written
@@ -119,92 +144,87 @@ module _ (dir : Option (List ℕ)) (step : Step) where
     are-written : puts dir edit.before edit.after ≡ written edits
     are-written = ap (λ fs. puts dir fs edit.after) e.before ∙ ap (puts dir (with_log old.project.files log)) e.after
 
-    pub done-ends : a.content ≡ put_all (puts dir edit.before edit.after) m.content → a.replaces ≡ counted (length (puts dir edit.before edit.after)) m.replaces
-        → StepEnds dir step b a (Ok edit.said)
-    done-ends put counts =
-        subst (λ s. StepEnds dir step b a (Ok s)) (sym e.said)
-        (done edits (put ∙ ap (λ fs. put_all fs m.content) are-written ∙ ap (put_all (written edits)) u.kept)
-        (counts ∙ ap (λ fs. counted (length fs) m.replaces) are-written ∙ ap (counted (length (written edits))) u.no_replace))
+    pub done-ends : AreReplaced (puts dir edit.before edit.after) m a → StepEnds dir step b a (Ok edit.said)
+    done-ends are =
+        subst (λ s. StepEnds dir step b a (Ok s)) (sym e.said) (done edits (replaced-then b m a u (written edits) (subst (λ fs. AreReplaced fs m a) are-written are)))
 
-    pub failed-ends : m.failures ≤ a.failures → (fault : StoreFault) → CommitFails (puts dir edit.before edit.after) m.content a.content m.failures a.failures fault
-        → a.replaces ≡ counted (length (still_new fault)) m.replaces → StepEnds dir step b a (Err (Store fault))
-    failed-ends k fault (inl (is, kept)) counts =
-        no_memory (Store fault) (record {
-          kept = kept ∙ u.kept;
-          counts = let x = u.counts in omega (arith, x, k);
-          no_replace = counts ∙ ap (λ f. counted (length (still_new f)) m.replaces) is ∙ u.no_replace;
-        }) is
-    failed-ends k fault (inr halts) counts =
-        unwritten edits fault
-        (halts-before dir b.content b.failures m.failures a.failures u.counts k (written edits) a.content fault
-        (subst (λ c. HaltsWith (written edits) c a.content m.failures a.failures fault) u.kept (subst (λ fs. HaltsWith fs m.content a.content m.failures a.failures fault) are-written halts)))
-        (counts ∙ ap (counted (length (still_new fault))) u.no_replace)
+    pub failed-ends : (fault : StoreFault) → CommitFails (puts dir edit.before edit.after) m a fault → StepEnds dir step b a (Err (Store fault))
+    failed-ends fault (inl (is, untouched)) = no_memory (Store fault) (untouched-then b m a u untouched) is
+    failed-ends fault (inr taken) = unwritten edits fault (taken-then b m a u (written edits) fault (subst (λ fs. TakenBack fs m a fault) are-written taken))
 
 -- ---- with these statuses the store holds what it held
 
 abbrev Refusing : ℕ → Type 0
 Refusing code = (code ≡ 1) ⊎ (code ≡ 2)
 
-no-fault : (made : List (List ℕ)) (name : List ℕ) (why : StoreError) → store.OutOfMemory ≡ fault_of made name why → (made ≡ []) × (why ≡ error.OutOfMemory)
-no-fault [] name error.Device e = absurd (let no : ⊥ = cc in no)
-no-fault [] name error.OutOfMemory e = (refl, refl)
-no-fault (d ∷ made) name error.Device e = absurd (let no : ⊥ = cc in no)
-no-fault [] name error.Unchanged e = absurd (let no : ⊥ = cc in no)
-no-fault (d ∷ made) name error.Unchanged e = absurd (let no : ⊥ = cc in no)
-no-fault (d ∷ made) name error.OutOfMemory e = absurd (let no : ⊥ = cc in no)
-
-none-done : (before after : Option Content) (made : List Put) (failed : Put) (why : StoreError) → (names_of made ≡ []) × (why ≡ error.OutOfMemory)
-    → Leaves why failed.path failed.bytes (put_all made before) after → after ≡ before
-none-done before after [] failed error.Device (e, w) left = absurd (let no : ⊥ = cc in no)
-none-done before after [] failed error.Unchanged (e, w) left = absurd (let no : ⊥ = cc in no)
-none-done before after [] failed error.OutOfMemory (e, w) left = left
-none-done before after (d ∷ made) failed why (e, w) left = absurd (let no : ⊥ = cc in no)
-
-unwritten-keeps : (files : List Put) (before after : Option Content) (old new : ℕ) (fault : StoreFault) → HaltsWith files before after old new fault → Refusing (store_fault_status fault) → after ≡ before
-unwritten-keeps files before after old new (store.ReadFailed name) h (inl e) = absurd (omega (arith, e))
-unwritten-keeps files before after old new (store.ReadFailed name) h (inr e) = absurd (omega (arith, e))
-unwritten-keeps files before after old new (store.WriteFailed name still) h (inl e) = absurd (omega (arith, e))
-unwritten-keeps files before after old new (store.WriteFailed name still) h (inr e) = absurd (omega (arith, e))
-unwritten-keeps files before after old new (store.NoFile name) h (inl e) = absurd (omega (arith, e))
-unwritten-keeps files before after old new (store.NoFile name) h (inr e) = absurd (omega (arith, e))
-unwritten-keeps files before after old new store.OutputFailed h (inl e) = absurd (omega (arith, e))
-unwritten-keeps files before after old new store.OutputFailed h (inr e) = absurd (omega (arith, e))
-unwritten-keeps files before after old new store.OutOfMemory h s =
-    none-done before after h.halts.done h.halts.failed h.why (no-fault (names_of h.halts.done) h.halts.failed.name h.why h.told) h.halts.left
-
-unwritten-counts : (fault : StoreFault) (old new : ℕ) → new ≡ counted (length (still_new fault)) old → Refusing (store_fault_status fault) → new ≡ old
-unwritten-counts (store.ReadFailed name) old new h s = h
-unwritten-counts (store.WriteFailed name files) old new h (inl e) = absurd (omega (arith, e))
-unwritten-counts (store.WriteFailed name files) old new h (inr e) = absurd (omega (arith, e))
-unwritten-counts (store.NoFile name) old new h s = h
-unwritten-counts store.OutputFailed old new h s = h
-unwritten-counts store.OutOfMemory old new h s = h
-
-abbrev Same : Seen → Seen → Type 0
-Same before after = (after.content ≡ before.content) × (after.replaces ≡ before.replaces)
-
-untouched-same : (before after : Seen) → Untouched before after → Same before after
+untouched-same : (before after : Seen) → Untouched before after → IsUnchanged before after
 untouched-same before after u = (u.kept, u.no_replace)
 
-not-done : (before after : Seen) → Refusing 0 → Same before after
-not-done before after (inl e) = absurd (omega (arith, e))
-not-done before after (inr e) = absurd (omega (arith, e))
+-- each file that is written holds what it held, or is the log
+are-old : {before : Option Content} (dir : Option (List ℕ)) (step : Step) (e : Edits before dir step) (m : Content) → before ≡ Some m →
+    Each (IsOld m (path_in dir log_name) empty_log) (written e)
+are-old dir step e m is =
+    puts-each old dir (with_log e.old.project.files e.log) (with_log e.new.project.files e.new_log)
+    (each-append Old e.old.project.files (file_of log_name e.log ∷ [])
+    (each-map (IsHeld m dir) Old (λ f h bytes. inl h) e.old.project.files (held-collected m dir e.old.project.files (e.opens.found m is)))
+    (λ bytes. log (held m dir log_name) refl (e.opens.is_log m is), tt))
+  where
+    old : Put → Type 0
+    old = IsOld m (path_in dir log_name) empty_log
 
-step-keeps : (dir : Option (List ℕ)) (step : Step) (before after : Seen) (end : Result Said Stop) → StepEnds dir step before after end → Refusing (status end) → Same before after
-step-keeps dir step before after _ (not_opened stop u opens) s = untouched-same before after u
-step-keeps dir step before after _ (refused old log stop u opens may) s = untouched-same before after u
-step-keeps dir step before after _ (told old new log report u opens does only) s = untouched-same before after u
-step-keeps dir step before after _ (done e put counts) s = not-done before after s
-step-keeps dir step before after _ (unwritten e fault halts counts) s =
-    (unwritten-keeps (written e) before.content after.content before.failures after.failures fault halts s, unwritten-counts fault before.replaces after.replaces counts s)
-step-keeps dir step before after _ (no_memory stop u wants) s = untouched-same before after u
+    Old : File → Type 0
+    Old f = (bytes : List ℕ) → old (put_in dir f bytes)
 
-pub status-keeps : (asked : Result Asked UsageFault) (before after : Seen) (end : Result Said Stop) → Ends asked before after end → Refusing (status end) → Same before after
-status-keeps asked before after _ (misused fault u is) s = untouched-same before after u
-status-keeps asked before after _ (helped a text u is shows) s = untouched-same before after u
-status-keeps asked before after _ (asks_for_none a stop u is none) s = untouched-same before after u
-status-keeps asked before after _ (steps a step end is asks ends) s = step-keeps a.dir step before after end ends s
-status-keeps asked before after _ (memory_ran_out stop u wants) s = untouched-same before after u
+    log : (there : Option (List ℕ)) → held m dir log_name ≡ there → IsLog (held m dir log_name) e.log e.old.history →
+        (held m dir log_name ≡ Some e.log) ⊎ ((path_in dir log_name ≡ path_in dir log_name) × (e.log ≡ empty_log) × (held m dir log_name ≡ None))
+    log None is k = let l : IsLog None e.log e.old.history = subst (λ h. IsLog h e.log e.old.history) is k in inr (refl, l.0, is)
+    log (Some text) is k = let l : IsLog (Some text) e.log e.old.history = subst (λ h. IsLog h e.log e.old.history) is k in inl (is ∙ ap Some (sym l.0))
+
+-- a commit for which memory ran out
+ran-out : (asked : Result Asked UsageFault) (a : Asked) (step : Step) (before after : Seen) → asked ≡ Ok (without_text a) → (e : Edits before.content a.dir step) →
+    TakenBack (written e) before after store.OutOfMemory → RanOut asked before after
+ran-out asked a step before after is e taken = record { a = a; is_asked = is; files = written e; taken = taken; kept = kept before.content refl }
+  where
+    kept : (content : Option Content) → before.content ≡ content → (after.content ≡ before.content) ⊎ HasEmptyLog a.dir before.content after.content
+    kept None none = inl (untold-restored (written e) before after taken none ∙ sym none)
+    kept (Some m) some = elim (restored m (path_in a.dir log_name) empty_log (written e) before after taken some (are-old a.dir step e m some)) [
+      | inl same ↦ inl (same ∙ sym some)
+      | inr made ↦ inr (record { content = m; told = some; absent = made.1; made = made.0 })
+    ]
+
+module _ (asked : Result Asked UsageFault) (before after : Seen) where
+  abbrev Keeps : ℕ → Type 0
+  Keeps code = IsUnchanged before after ⊎ ((code ≡ 1) × RanOut asked before after)
+
+  not-refused : (code : ℕ) → Refusing code → (code ≡ 0) ⊎ (code ≡ 3) → Keeps code
+  not-refused code (inl e) (inl z) = absurd (omega (arith, e, z))
+  not-refused code (inl e) (inr z) = absurd (omega (arith, e, z))
+  not-refused code (inr e) (inl z) = absurd (omega (arith, e, z))
+  not-refused code (inr e) (inr z) = absurd (omega (arith, e, z))
+
+  unwritten-keeps : (a : Asked) (step : Step) → asked ≡ Ok (without_text a) → (e : Edits before.content a.dir step) (fault : StoreFault) → TakenBack (written e) before after fault
+      → Refusing (store_fault_status fault) → Keeps (store_fault_status fault)
+  unwritten-keeps a step is e (store.ReadFailed name) t s = not-refused 3 s (inr refl)
+  unwritten-keeps a step is e (store.WriteFailed name still) t s = not-refused 3 s (inr refl)
+  unwritten-keeps a step is e (store.NoFile name) t s = not-refused 3 s (inr refl)
+  unwritten-keeps a step is e store.OutputFailed t s = not-refused 3 s (inr refl)
+  unwritten-keeps a step is e store.OutOfMemory t s = inr (refl, ran-out asked a step before after is e t)
+
+  step-keeps : (a : Asked) (step : Step) → asked ≡ Ok (without_text a) → (end : Result Said Stop) → StepEnds a.dir step before after end → Refusing (status end) → Keeps (status end)
+  step-keeps a step is _ (not_opened stop u opens) s = inl (untouched-same before after u)
+  step-keeps a step is _ (refused old log stop u opens may) s = inl (untouched-same before after u)
+  step-keeps a step is _ (told old new log report u opens does only) s = inl (untouched-same before after u)
+  step-keeps a step is _ (done e are) s = not-refused 0 s (inl refl)
+  step-keeps a step is _ (unwritten e fault taken) s = unwritten-keeps a step is e fault taken s
+  step-keeps a step is _ (no_memory stop u wants) s = inl (untouched-same before after u)
+
+pub status-keeps : (asked : Result Asked UsageFault) (before after : Seen) (end : Result Said Stop) → Ends asked before after end → Refusing (status end) →
+    IsUnchanged before after ⊎ ((status end ≡ 1) × RanOut asked before after)
+status-keeps asked before after _ (misused fault u is) s = inl (untouched-same before after u)
+status-keeps asked before after _ (helped a text u is shows) s = inl (untouched-same before after u)
+status-keeps asked before after _ (asks_for_none a stop u is none) s = inl (untouched-same before after u)
+status-keeps asked before after _ (steps a step end is asks ends) s = step-keeps asked before after a step is end ends s
+status-keeps asked before after _ (memory_ran_out stop u wants) s = inl (untouched-same before after u)
 
 -- ---- what was asked for
 

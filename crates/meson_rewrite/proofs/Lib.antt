@@ -1,3 +1,4 @@
+pub mod Holding
 pub mod Telling
 pub mod Wants
 pub mod Names

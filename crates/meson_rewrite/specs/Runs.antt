@@ -1,5 +1,6 @@
 -- How a run of the program ends: what it says, and what the store then holds.
-use Rattle.std.specs.Prelude.{◌≡◌, ◌≤◌, ◌⊎◌, ⊤, IsTrue, true, ℕ, List, [], length, Option, Result, Ok, Err}
+use Rattle.std.specs.Prelude.{◌≡◌, ◌⊎◌, ⊤, IsTrue, true, ℕ, List, [], Option, Some, None, Result, Ok, Err}
+use Rattle.std.specs.FinMap.{insert}
 use Rattle.meson_calls.specs.Loading.{IsProject}
 use Rattle.meson_json.specs.Log.{log_of}
 use Rattle.meson_script.specs.declared.session.Report.{Report}
@@ -8,13 +9,15 @@ use Rattle.meson_command.specs.Asking.{without_text}
 use Rattle.meson_command.specs.declared.asked.Action.TheVariants.{Help}
 use Rattle.meson_command.specs.declared.asked.Asked.{Asked}
 use Rattle.meson_command.specs.declared.fault.UsageFault.{UsageFault}
-use Rattle.meson_store.specs.Calls.{counted}
-use Rattle.meson_store.specs.Commit.{Put, HaltsWith, puts, put_all, still_new}
+use Rattle.meson_store.specs.Commit.{AreReplaced, Put, TakenBack, path_in, puts}
 use Rattle.meson_store.specs.Content.{Content}
 use Rattle.meson_store.specs.Output.{Heard, Gets, Fails}
+use Rattle.meson_store.specs.Seen.{Seen, Untouched}
 use Rattle.meson_store.specs.declared.store_fault.StoreFault.{StoreFault}
+use Rattle.meson_store.specs.declared.store_fault.StoreFault.TheVariants.{OutOfMemory}
 use Rattle.meson_rewrite.specs.Lines.{stop_lines, status}
-use Rattle.meson_rewrite.specs.Logs.{with_log}
+use Rattle.meson_gathering.specs.Gathering.{held}
+use Rattle.meson_rewrite.specs.Logs.{empty_log, log_name, with_log}
 use Rattle.meson_rewrite.specs.Opening.{Opens, OpensNone}
 use Rattle.meson_rewrite.specs.Requests.{AsksFor, AsksForNone, shows_help}
 use Rattle.meson_rewrite.specs.Steps.{Does, MayRefuse, only_tells, says}
@@ -24,21 +27,6 @@ use Rattle.meson_rewrite.specs.declared.request.Step.{Step}
 use Rattle.meson_rewrite.specs.declared.said.Said.{Said}
 use Rattle.meson_rewrite.specs.declared.stop.Stop.{Stop}
 use Rattle.meson_rewrite.specs.declared.stop.Stop.TheVariants.{Usage, Store}
-
--- what is known of a store: what it holds, if it tells it, how many calls failed, and how many replaces may have changed a file
-pub record Seen : Type 0 where
-  pub content : Option Content
-  pub failures : ℕ
-  pub replaces : ℕ
-
-abbrev pub seen : Option Content → ℕ → ℕ → Seen
-seen content failures replaces = record { content = content; failures = failures; replaces = replaces }
-
--- it was read at most
-pub record Untouched (before after : Seen) : Type 0 where
-  pub kept : after.content ≡ before.content
-  pub counts : before.failures ≤ after.failures
-  pub no_replace : after.replaces ≡ before.replaces
 
 -- ---- a step on the project of a folder
 
@@ -69,11 +57,9 @@ module _ (dir : Option (List ℕ)) (step : Step) (before after : Seen) where
     told : (old new : Session) (log : List ℕ) (report : Report) → Untouched before after → Opens before.content dir old log → Does step old report new → only_tells step ≡ true
         → StepEnds (Ok (says step report))
     -- each file that differs was replaced, then the log, and no other
-    done : (edits : Edits before.content dir step) → after.content ≡ put_all (written edits) before.content
-        → after.replaces ≡ counted (length (written edits)) before.replaces → StepEnds (Ok (says step edits.report))
-    -- some of these may have been replaced, and the fault tells which
-    unwritten : (edits : Edits before.content dir step) (fault : StoreFault) → HaltsWith (written edits) before.content after.content before.failures after.failures fault
-        → after.replaces ≡ counted (length (still_new fault)) before.replaces → StepEnds (Err (Store fault))
+    done : (edits : Edits before.content dir step) → AreReplaced (written edits) before after → StepEnds (Ok (says step edits.report))
+    -- one could not be replaced, what was replaced got its old bytes again, and the fault tells of it
+    unwritten : (edits : Edits before.content dir step) (fault : StoreFault) → TakenBack (written edits) before after fault → StepEnds (Err (Store fault))
     no_memory : (stop : Stop) → Untouched before after → WantsMemory stop → StepEnds (Err stop)
 
 -- ---- a whole run, by what the words ask for
@@ -87,6 +73,26 @@ pub data Ends (asked : Result Asked UsageFault) (before after : Seen) : Result S
   steps : (a : Asked) (step : Step) (end : Result Said Stop) → asked ≡ Ok (without_text a) → AsksFor a.action before.content (request.Step step)
       → StepEnds a.dir step before after end → Ends asked before after end
   memory_ran_out : (stop : Stop) → Untouched before after → WantsMemory stop → Ends asked before after (Err stop)
+
+-- ---- what stays where nothing is done
+
+abbrev pub IsUnchanged : Seen → Seen → Type 0
+IsUnchanged before after = (after.content ≡ before.content) × (after.replaces ≡ before.replaces)
+
+-- the store holds what it held, and the log of no changes, of which it held none
+pub record HasEmptyLog (dir : Option (List ℕ)) (before after : Option Content) : Type 0 where
+  pub content : Content
+  pub told : before ≡ Some content
+  pub absent : held content dir log_name ≡ None
+  pub made : after ≡ Some (insert content (path_in dir log_name) empty_log)
+
+-- Memory ran out in a replace, and the files that were replaced got their old bytes again.
+pub record RanOut (asked : Result Asked UsageFault) (before after : Seen) : Type 0 where
+  pub a : Asked
+  pub is_asked : asked ≡ Ok (without_text a)
+  pub files : List Put
+  pub taken : TakenBack files before after OutOfMemory
+  pub kept : (after.content ≡ before.content) ⊎ HasEmptyLog a.dir before.content after.content
 
 -- nothing is asked of the store
 abbrev pub NeedsNoStore : Result Asked UsageFault → Type 0

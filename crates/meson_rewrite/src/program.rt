@@ -2,10 +2,11 @@
 
 ghost use Rattle.std.specs.Prelude.{◌≡◌, ◌≤◌, ◌⊎◌, IsTrue, MatchResult, Ok, map, option_map, string_bytes};
 ghost use Rattle.meson_command.specs.Asking.{asked_by, without_text};
+ghost use Rattle.meson_store.specs.Seen.{seen};
 ghost use Rattle.meson_rewrite.specs.Lines.{status, store_fault_status, usage_status};
 ghost use Rattle.meson_rewrite.specs.Requests.{shows_help};
 ghost use Rattle.meson_rewrite.specs.Steps.{only_tells};
-ghost use Rattle.meson_rewrite.specs.Runs.{CannotSay, Ends, NeedsNoStore, Run, Says, StepEnds, seen};
+ghost use Rattle.meson_rewrite.specs.Runs.{CannotSay, Ends, IsUnchanged, NeedsNoStore, RanOut, Run, Says, StepEnds};
 
 use crate::editing::{edited, told};
 use crate::lines::tell_stop;
@@ -154,8 +155,10 @@ pub fn rewrite<S: Store, O: Output, E: Output>(
     ensures runs { Run (asked_by (map string_bytes words.now)) (seen (S.content store.old) (S.failures store.old) (S.replaces store.old))
         (seen (S.content store.new) (S.failures store.new) (S.replaces store.new)) result (O.heard out.old) (O.heard out.new) (E.heard err.old) (E.heard err.new) }
     ensures untouched { NeedsNoStore (asked_by (map string_bytes words.now)) → store.new ≡ store.old }
-    ensures kept { (result ≡ 1) ⊎ (result ≡ 2) → S.content store.new ≡ S.content store.old }
-    ensures no_replace { (result ≡ 1) ⊎ (result ≡ 2) → S.replaces store.new ≡ S.replaces store.old }
+    ensures kept { (result ≡ 1) ⊎ (result ≡ 2) → IsUnchanged (seen (S.content store.old) (S.failures store.old) (S.replaces store.old))
+        (seen (S.content store.new) (S.failures store.new) (S.replaces store.new))
+        ⊎ ((result ≡ 1) × RanOut (asked_by (map string_bytes words.now)) (seen (S.content store.old) (S.failures store.old) (S.replaces store.old))
+        (seen (S.content store.new) (S.failures store.new) (S.replaces store.new))) }
 {
     let end = run(alloc, store, words);
     match tell(alloc, out, err, &end) {

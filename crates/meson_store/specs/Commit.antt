@@ -1,9 +1,10 @@
 -- What a commit of a project's files does to a store.
-use Rattle.std.specs.Prelude.{◌≡◌, ◌⊎◌, ℕ, List, [], ◌∷◌, ◌++◌, length, map, reverse, codes, bytes_eq}
-use Rattle.std.specs.Prelude.{if◌then◌else◌, Option, Some, None, Result, Ok, Err}
+use Rattle.std.specs.Prelude.{◌≡◌, ◌≤◌, ◌⊎◌, ℕ, List, [], ◌∷◌, ◌++◌, length, map, reverse, codes, bytes_eq}
+use Rattle.std.specs.Prelude.{if◌then◌else◌, Option, Some, None}
 use Rattle.meson_splice.specs.declared.file_set.File.{File}
-use Rattle.meson_store.specs.Calls.{FailureCounted, Leaves, counted}
+use Rattle.meson_store.specs.Calls.{counted}
 use Rattle.meson_store.specs.Content.{Content, replaced}
+use Rattle.meson_store.specs.Seen.{IsNotReplaced, IsReplaced, Seen, Untouched}
 use Rattle.meson_store.specs.declared.store.StoreError.{StoreError}
 use Rattle.meson_store.specs.declared.store.StoreError.TheVariants as error
 use Rattle.meson_store.specs.declared.store_fault.StoreFault.{StoreFault}
@@ -14,21 +15,22 @@ abbrev pub path_in : Option (List ℕ) → List ℕ → List ℕ
 path_in None name = name
 path_in (Some folder) name = folder ++ codes "/" ++ name
 
--- the bytes that a file gets
+-- a file that gets other bytes: what it held, and what it gets
 pub record Put : Type 0 where
   pub path : List ℕ
   pub name : List ℕ
+  pub was : List ℕ
   pub bytes : List ℕ
 
-abbrev pub put_in : Option (List ℕ) → File → Put
-put_in folder file = record { path = path_in folder file.name; name = file.name; bytes = file.bytes }
+abbrev pub put_in : Option (List ℕ) → File → List ℕ → Put
+put_in folder file bytes = record { path = path_in folder file.name; name = file.name; was = file.bytes; bytes = bytes }
 
--- the files whose bytes differ, in order, with those that they have afterwards
+-- the files whose bytes differ, in order
 abbrev pub puts : Option (List ℕ) → List File → List File → List Put
 puts folder [] after = []
 puts folder (b ∷ before) [] = []
 puts folder (b ∷ before) (a ∷ after) =
-    if bytes_eq b.bytes a.bytes then puts folder before after else (put_in folder a ∷ puts folder before after)
+    if bytes_eq b.bytes a.bytes then puts folder before after else (put_in folder b a.bytes ∷ puts folder before after)
 
 -- the content after these files got their bytes
 abbrev pub put_all : List Put → Option Content → Option Content
@@ -46,34 +48,63 @@ still_new (NoFile name) = []
 still_new OutputFailed = []
 still_new OutOfMemory = []
 
--- The fault of a replace of the file of that name, after the files `done` were replaced. Those and, where it may have its
--- new bytes, the file itself are listed, last to first.
-abbrev pub fault_of : List (List ℕ) → List ℕ → StoreError → StoreFault
-fault_of done name error.Device = WriteFailed name (name ∷ reverse done)
-fault_of done name error.Unchanged = WriteFailed name (reverse done)
-fault_of [] name error.OutOfMemory = OutOfMemory
-fault_of (first ∷ done) name error.OutOfMemory = WriteFailed name (reverse (first ∷ done))
+-- ---- all of them are replaced
+
+-- each of these files got its bytes, and no other
+pub record AreReplaced (files : List Put) (before after : Seen) : Type 0 where
+  pub put : after.content ≡ put_all files before.content
+  pub counts : before.failures ≤ after.failures
+  pub counted : after.replaces ≡ counted (length files) before.replaces
+
+-- ---- or one replace fails
 
 -- the files `done` were replaced, and the replace of the next one failed
-pub record Halts (files : List Put) (before after : Option Content) (why : StoreError) : Type 0 where
+pub record Stops (files : List Put) (before after : Seen) (why : StoreError) : Type 0 where
   pub done : List Put
   pub failed : Put
   pub rest : List Put
   pub all : files ≡ done ++ (failed ∷ rest)
-  pub left : Leaves why failed.path failed.bytes (put_all done before) after
+  pub reached : Seen
+  pub are : AreReplaced done before reached
+  pub fails : IsNotReplaced why failed.path failed.bytes reached after
 
--- the same, with the fault that tells of it
-pub record HaltsWith (files : List Put) (before after : Option Content) (old new : ℕ) (fault : StoreFault) : Type 0 where
+-- Files get the bytes again that they held, one after another. The names are those of the files where that failed.
+pub data GoBack : List Put → Seen → Seen → List (List ℕ) → Type 0 where
+  all_back : (s : Seen) → GoBack [] s s []
+  is_back : (file : Put) (files : List Put) (s t u : Seen) (names : List (List ℕ)) → IsReplaced file.path file.was s t → GoBack files t u names
+      → GoBack (file ∷ files) s u names
+  is_lost : (file : Put) (files : List Put) (s t u : Seen) (names : List (List ℕ)) (why : StoreError) → IsNotReplaced why file.path file.was s t
+      → GoBack files t u names → GoBack (file ∷ files) s u (file.name ∷ names)
+
+-- whether the file that could not be replaced gets its old bytes again, as a number: not where the store knows that it is as it was
+abbrev pub tries : StoreError → ℕ
+tries error.Device = 1
+tries error.Unchanged = 0
+tries error.OutOfMemory = 1
+
+-- the files that get their old bytes again: that one, and those that were replaced before it, the last first
+abbrev pub to_go_back : StoreError → Put → List Put → List Put
+to_go_back error.Device failed done = failed ∷ reverse done
+to_go_back error.Unchanged failed done = reverse done
+to_go_back error.OutOfMemory failed done = failed ∷ reverse done
+
+-- The fault of a replace of the file of that name, where these files did not get their old bytes again. Want of memory is
+-- told where nothing is left to tell of.
+abbrev pub fault_of : List ℕ → StoreError → List (List ℕ) → StoreFault
+fault_of name error.Device still = WriteFailed name still
+fault_of name error.Unchanged still = WriteFailed name still
+fault_of name error.OutOfMemory [] = OutOfMemory
+fault_of name error.OutOfMemory (first ∷ still) = WriteFailed name (first ∷ still)
+
+-- a replace failed, what was replaced got its old bytes again, and the fault tells of it
+pub record TakenBack (files : List Put) (before after : Seen) (fault : StoreFault) : Type 0 where
   pub why : StoreError
-  pub halts : Halts files before after why
-  pub failure : FailureCounted why old new
-  pub told : fault ≡ fault_of (names_of halts.done) halts.failed.name why
+  pub stopped : Seen
+  pub stops : Stops files before stopped why
+  pub still : List (List ℕ)
+  pub back : GoBack (to_go_back why stops.failed stops.done) stopped after still
+  pub told : fault ≡ fault_of stops.failed.name why still
 
 -- memory was refused before any file was replaced, or a replace failed
-abbrev pub CommitFails : List Put → Option Content → Option Content → ℕ → ℕ → StoreFault → Type 0
-CommitFails files before after old new fault = ((fault ≡ OutOfMemory) × (after ≡ before)) ⊎ HaltsWith files before after old new fault
-
--- how many replaces may have changed their file: one for each file that differs, or for each that the fault lists
-abbrev pub ReplacesCounted : List Put → Result (Unit {0}) StoreFault → ℕ → ℕ → Type 0
-ReplacesCounted files (Ok done) old new = new ≡ counted (length files) old
-ReplacesCounted files (Err fault) old new = new ≡ counted (length (still_new fault)) old
+abbrev pub CommitFails : List Put → Seen → Seen → StoreFault → Type 0
+CommitFails files before after fault = ((fault ≡ OutOfMemory) × Untouched before after) ⊎ TakenBack files before after fault

@@ -1,5 +1,6 @@
 pub mod Content
 pub mod Calls
+pub mod Seen
 pub mod Commit
 pub mod Planned
 pub mod MemoryStore

@@ -1,9 +1,9 @@
 //! Writing the files of a project that changed into a store.
 
-ghost use Rattle.std.specs.Prelude.{◌≡◌, ◌≤◌, ◌<◌, ◌++◌, ◌∷◌, ℕ, List, Option, length, map, option_map};
-ghost use Rattle.std.specs.Prelude.{IfOk, IfErr, MatchResult, OnOk, string_bytes};
-ghost use Rattle.meson_store.specs.Calls.{FailureCounted, changes, counted};
-ghost use Rattle.meson_store.specs.Commit.{CommitFails, Halts, ReplacesCounted, fault_of, names_of, path_in, put_all, puts};
+ghost use Rattle.std.specs.Prelude.{◌≡◌, ◌≤◌, ◌<◌, ◌+◌, ◌^◌, ◌++◌, [], ◌∷◌, ℕ, List, length, map, option_map, reverse, vec_capacity, vec_len};
+ghost use Rattle.std.specs.Prelude.{IfOk, IfErr, OnOk, string_bytes};
+ghost use Rattle.meson_store.specs.Commit.{AreReplaced, CommitFails, GoBack, Put, Stops, fault_of, names_of, path_in, puts, to_go_back, tries};
+ghost use Rattle.meson_store.specs.Seen.{seen};
 ghost use Rattle.meson_store.specs.Planned.{put_of};
 
 use crate::{Store, StoreError, StoreFault};
@@ -16,6 +16,7 @@ struct Planned<'a> {
     /// Its name in the store.
     path: String,
     name: &'a str,
+    was: &'a [u8],
     bytes: &'a [u8],
 }
 
@@ -43,7 +44,7 @@ pub fn path_in(alloc: Global, folder: Option<&str>, name: &str) -> Result<String
 fn differing<'a>(
     alloc: Global,
     folder: Option<&str>,
-    before: &FileSet,
+    before: &'a FileSet,
     after: &'a FileSet,
 ) -> Result<Vec<Planned<'a>>, AllocError>
     requires { map (λ f. f.name) before.now ≡ map (λ f. f.name) after.now }
@@ -51,11 +52,17 @@ fn differing<'a>(
 {
     let mut plan = Vec::new(alloc);
     for i in 0..after.len() {
+        let was = before.bytes(i);
         let bytes = after.bytes(i);
-        if before.bytes(i) != bytes {
-            let name = after.name(i);
+        if was != bytes {
+            let name = before.name(i);
             let path = path_in(alloc, folder, name)?;
-            plan.push(Planned { path, name, bytes })?;
+            plan.push(Planned {
+                path,
+                name,
+                was,
+                bytes,
+            })?;
         }
     }
     Ok(plan)
@@ -75,13 +82,11 @@ fn names_of(alloc: Global, plan: &[Planned<'_>]) -> Result<Vec<Text>, AllocError
 
 /// Replaces the files in order, up to the first that can't be.
 fn replace_all<S: Store>(store: &mut S, plan: &[Planned<'_>]) -> Result<(), Halt>
-    ensures done { OnOk result (S.content store.new ≡ put_all (map put_of plan.now) (S.content store.old)) }
-    ensures halted { IfErr result (λ halt. (halts : Halts (map put_of plan.now) (S.content store.old) (S.content store.new) halt.error)
-        × (length halts.done ≡ halt.done)) }
-    ensures failed { IfErr result (λ halt. FailureCounted halt.error (S.failures store.old) (S.failures store.new)) }
-    ensures counts { S.failures store.old ≤ S.failures store.new }
-    ensures counted { MatchResult result (λ _. S.replaces store.new ≡ counted (length plan.now) (S.replaces store.old))
-        (λ halt. S.replaces store.new ≡ counted (changes halt.error) (counted halt.done (S.replaces store.old))) }
+    ensures done { OnOk result (AreReplaced (map put_of plan.now)
+        (seen (S.content store.old) (S.failures store.old) (S.replaces store.old)) (seen (S.content store.new) (S.failures store.new) (S.replaces store.new))) }
+    ensures halted { IfErr result (λ halt. (stops : Stops (map put_of plan.now)
+        (seen (S.content store.old) (S.failures store.old) (S.replaces store.old)) (seen (S.content store.new) (S.failures store.new) (S.replaces store.new)) halt.error)
+        × (length stops.done ≡ halt.done)) }
 {
     for (done, file) in plan.iter().enumerate() {
         match store.replace(file.path.as_str(), file.bytes) {
@@ -92,41 +97,96 @@ fn replace_all<S: Store>(store: &mut S, plan: &[Planned<'_>]) -> Result<(), Halt
     Ok(())
 }
 
-/// What a replace that failed has to say. Both lists are the names of all files.
-fn write_fault(names: Vec<Text>, listed: Vec<Text>, halt: Halt) -> StoreFault
-    requires within { halt.done < length names.items }
-    requires same { listed.items ≡ names.items }
-    ensures { (done rest : List (List ℕ)) (name : List ℕ) → names.items ≡ done ++ (name ∷ rest) → length done ≡ halt.done
-        → result ≡ fault_of done name halt.error }
+/// Puts the bytes back that these files held, the last first. `names` are theirs; the names of those where it fails go
+/// behind `lost`.
+fn put_back<S: Store>(
+    store: &mut S,
+    files: &[Planned<'_>],
+    names: &mut Vec<Text>,
+    lost: &mut Vec<Text>,
+)
+    requires named { names.old.items ≡ names_of (map put_of files.now) }
+    requires room { vec_len lost.old + length files.now ≤ vec_capacity lost.old }
+    ensures { (still : List (List ℕ)) × GoBack (reverse (map put_of files.now))
+        (seen (S.content store.old) (S.failures store.old) (S.replaces store.old)) (seen (S.content store.new) (S.failures store.new) (S.replaces store.new)) still
+        × (lost.new.items ≡ lost.old.items ++ still) }
 {
-    let mut names = names;
-    let mut listed = listed;
-    let changed = match halt.error {
-        StoreError::Device => halt.done + 1,
-        StoreError::Unchanged => halt.done,
-        StoreError::OutOfMemory => {
-            if halt.done == 0 {
-                return StoreFault::OutOfMemory;
-            }
-            halt.done
-        }
+    let [earlier @ .., file] = files else {
+        return;
     };
-    let name = names.swap_remove(halt.done);
-    listed.truncate(changed);
-    listed.reverse();
-    StoreFault::WriteFailed {
-        name,
-        still_new: Many::of(listed),
+    let Some(name) = names.pop() else {
+        return;
+    };
+    match store.replace(file.path.as_str(), file.was) {
+        Ok(()) => {}
+        Err(_) => lost.push_reserved(name),
+    }
+    put_back(store, earlier, names, lost)
+}
+
+/// How many files get their old bytes again: those that were replaced, and the one that was not, unless the store knows
+/// that it is as it was.
+fn count_tried(halt: Halt) -> usize
+    requires { halt.done + 1 < 2 ^ 64 }
+    ensures { result ≡ halt.done + tries halt.error }
+{
+    match halt.error {
+        StoreError::Unchanged => halt.done,
+        StoreError::Device | StoreError::OutOfMemory => halt.done + 1,
     }
 }
 
+/// What is told of a replace that failed, where these files did not get their old bytes again.
+fn fault_of(name: Text, error: StoreError, lost: Vec<Text>) -> StoreFault
+    ensures { result ≡ fault_of name error lost.items }
+{
+    if lost.is_empty() && matches!(error, StoreError::OutOfMemory) {
+        return StoreFault::OutOfMemory;
+    }
+    StoreFault::WriteFailed {
+        name,
+        still_new: Many::of(lost),
+    }
+}
+
+/// Puts back what was replaced before a replace failed, and says why. `names` and `listed` are the names of all files,
+/// and `lost` has room for as many.
+fn taken_back<S: Store>(
+    store: &mut S,
+    files: &[Planned<'_>],
+    names: Vec<Text>,
+    listed: Vec<Text>,
+    lost: Vec<Text>,
+    halt: Halt,
+) -> StoreFault
+    requires within { halt.done < length files.now }
+    requires named { names.items ≡ names_of (map put_of files.now) }
+    requires same { listed.items ≡ names.items }
+    requires none { lost.items ≡ [] }
+    requires room { length files.now ≤ vec_capacity lost }
+    ensures { (done rest : List Put) (failed : Put) → map put_of files.now ≡ done ++ (failed ∷ rest) → length done ≡ halt.done
+        → (still : List (List ℕ)) × GoBack (to_go_back halt.error failed done)
+        (seen (S.content store.old) (S.failures store.old) (S.replaces store.old)) (seen (S.content store.new) (S.failures store.new) (S.replaces store.new)) still
+        × (result ≡ fault_of failed.name halt.error still) }
+{
+    let mut names = names;
+    let mut listed = listed;
+    let mut lost = lost;
+    let tried = count_tried(halt);
+    listed.truncate(tried);
+    put_back(store, &files[..tried], &mut listed, &mut lost);
+    fault_of(names.swap_remove(halt.done), halt.error, lost)
+}
+
 /// Replaces each file whose bytes differ between two sets of the same files, in order, and no other. A file NAME of the
-/// project is DIR/NAME in the store where a folder DIR is given, and else NAME. Nothing is written back.
+/// project is DIR/NAME in the store where a folder DIR is given, and else NAME. Where a replace fails, the old bytes are
+/// put back, once each: into that file, unless the store knows that it is as it was, then into those replaced before it,
+/// the last first.
 ///
 /// # Errors
-/// `WriteFailed` for the first file that could not be replaced, with the files that may have their new bytes: those that
-/// were replaced and, where the store doesn't know that it is as it was, that file, last first. `OutOfMemory` where
-/// memory was refused before any file was replaced; the growths of `commit` itself all come before.
+/// `WriteFailed` for the first file that could not be replaced, with the files whose old bytes could not be put back,
+/// in the order in which that was tried. `OutOfMemory` where memory was refused, and each file is as it was or has its
+/// old bytes again. The growths of `commit` itself all come before the first replace.
 pub fn commit<S: Store>(
     alloc: Global,
     store: &mut S,
@@ -135,20 +195,19 @@ pub fn commit<S: Store>(
     after: &FileSet,
 ) -> Result<(), StoreFault>
     requires same_files { map (λ f. f.name) before.now ≡ map (λ f. f.name) after.now }
-    ensures done { OnOk result (S.content store.new
-        ≡ put_all (puts (option_map (λ f. f.now) folder.entry) before.now after.now) (S.content store.old)) }
+    ensures done { OnOk result (AreReplaced (puts (option_map (λ f. f.now) folder.entry) before.now after.now)
+        (seen (S.content store.old) (S.failures store.old) (S.replaces store.old)) (seen (S.content store.new) (S.failures store.new) (S.replaces store.new))) }
     ensures failed { IfErr result (CommitFails (puts (option_map (λ f. f.now) folder.entry) before.now after.now)
-        (S.content store.old) (S.content store.new) (S.failures store.old) (S.failures store.new)) }
+        (seen (S.content store.old) (S.failures store.old) (S.replaces store.old)) (seen (S.content store.new) (S.failures store.new) (S.replaces store.new))) }
     ensures counts { S.failures store.old ≤ S.failures store.new }
-    ensures counted { ReplacesCounted (puts (option_map (λ f. f.now) folder.entry) before.now after.now) result
-        (S.replaces store.old) (S.replaces store.new) }
 {
     let plan = differing(alloc, folder, before, after)?;
     let files = plan.as_slice();
     let names = names_of(alloc, files)?;
     let listed = names_of(alloc, files)?;
+    let lost = Vec::with_capacity(alloc, files.len())?;
     match replace_all(store, files) {
         Ok(()) => Ok(()),
-        Err(halt) => Err(write_fault(names, listed, halt)),
+        Err(halt) => Err(taken_back(store, files, names, listed, lost, halt)),
     }
 }

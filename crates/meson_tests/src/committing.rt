@@ -140,18 +140,18 @@ fn the_first_replace_fails_and_leaves_the_old_file(rt: HostRuntime) {
     let mut store = store(&rt, alloc, &["1", "2"]);
     store.fail_replace(1, 1, false);
     let end = commit(alloc, &mut store, Some("d"), &before, &after);
-    assert!(rt; failed_at(end, "a", "a"));
+    assert!(rt; failed_at(end, "a", ""));
     assert!(rt; holds(&store, "d/a", "1"));
     assert!(rt; holds(&store, "d/b", "2"));
 }
 
 #[test]
-fn the_first_replace_fails_and_leaves_the_new_file(rt: HostRuntime) {
+fn the_first_replace_fails_and_leaves_the_new_file_which_stays(rt: HostRuntime) {
     let alloc = rt.alloc();
     let before = two(&rt, alloc, "1", "2");
     let after = two(&rt, alloc, "11", "22");
     let mut store = store(&rt, alloc, &["1", "2"]);
-    store.fail_replace(1, 1, true);
+    store.fail_replace(1, 2, true);
     let end = commit(alloc, &mut store, Some("d"), &before, &after);
     assert!(rt; failed_at(end, "a", "a"));
     assert!(rt; holds(&store, "d/a", "11"));
@@ -159,42 +159,43 @@ fn the_first_replace_fails_and_leaves_the_new_file(rt: HostRuntime) {
 }
 
 #[test]
-fn the_second_replace_fails_and_leaves_the_old_file(rt: HostRuntime) {
-    let alloc = rt.alloc();
-    let before = three(&rt, alloc, "1", "2", "3");
-    let after = three(&rt, alloc, "11", "22", "33");
-    let mut store = store(&rt, alloc, &["1", "2", "3"]);
-    store.fail_replace(2, 1, false);
-    let end = commit(alloc, &mut store, Some("d"), &before, &after);
-    assert!(rt; failed_at(end, "b", "b,a"));
-    assert!(rt; holds(&store, "d/a", "11"));
-    assert!(rt; holds(&store, "d/b", "2"));
-    assert!(rt; holds(&store, "d/c", "3"));
-}
-
-#[test]
-fn the_second_replace_fails_and_leaves_the_new_file(rt: HostRuntime) {
+fn the_second_replace_fails_and_the_first_file_is_put_back(rt: HostRuntime) {
     let alloc = rt.alloc();
     let before = three(&rt, alloc, "1", "2", "3");
     let after = three(&rt, alloc, "11", "22", "33");
     let mut store = store(&rt, alloc, &["1", "2", "3"]);
     store.fail_replace(2, 1, true);
     let end = commit(alloc, &mut store, Some("d"), &before, &after);
-    assert!(rt; failed_at(end, "b", "b,a"));
-    assert!(rt; holds(&store, "d/a", "11"));
+    assert!(rt; failed_at(end, "b", ""));
+    assert!(rt; holds(&store, "d/a", "1"));
+    assert!(rt; holds(&store, "d/b", "2"));
+    assert!(rt; holds(&store, "d/c", "3"));
+}
+
+#[test]
+fn the_second_file_stays_new_and_the_first_is_put_back(rt: HostRuntime) {
+    let alloc = rt.alloc();
+    let before = three(&rt, alloc, "1", "2", "3");
+    let after = three(&rt, alloc, "11", "22", "33");
+    let mut store = store(&rt, alloc, &["1", "2", "3"]);
+    store.fail_replace(2, 2, true);
+    let end = commit(alloc, &mut store, Some("d"), &before, &after);
+    assert!(rt; failed_at(end, "b", "b"));
+    assert!(rt; holds(&store, "d/a", "1"));
     assert!(rt; holds(&store, "d/b", "22"));
     assert!(rt; holds(&store, "d/c", "3"));
 }
 
 #[test]
-fn the_third_replace_fails_and_all_are_listed_last_first(rt: HostRuntime) {
+fn nothing_is_put_back_and_all_are_listed_last_first(rt: HostRuntime) {
     let alloc = rt.alloc();
     let before = three(&rt, alloc, "1", "2", "3");
     let after = three(&rt, alloc, "11", "22", "33");
     let mut store = store(&rt, alloc, &["1", "2", "3"]);
-    store.fail_replace(3, 1, false);
+    store.fail_replace(3, 4, false);
     let end = commit(alloc, &mut store, Some("d"), &before, &after);
     assert!(rt; failed_at(end, "c", "c,b,a"));
+    assert!(rt; holds(&store, "d/b", "22"));
     assert!(rt; holds(&store, "d/c", "3"));
 }
 
@@ -204,7 +205,7 @@ fn an_equal_file_between_is_not_listed(rt: HostRuntime) {
     let before = three(&rt, alloc, "1", "2", "3");
     let after = three(&rt, alloc, "11", "2", "33");
     let mut store = store(&rt, alloc, &["1", "2", "3"]);
-    store.fail_replace(2, 1, false);
+    store.fail_replace(2, 3, false);
     let end = commit(alloc, &mut store, Some("d"), &before, &after);
     assert!(rt; failed_at(end, "c", "c,a"));
     assert!(rt; holds(&store, "d/a", "11"));

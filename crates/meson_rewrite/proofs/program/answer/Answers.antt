@@ -1,7 +1,8 @@
 use Rattle.std.proofs.Common.{Ok, refl, subst, sym}
 use Rattle.meson_command.specs.Asking.{without_text}
 use Rattle.meson_rewrite.proofs.Endings.{asks-help, not-asked, step-before}
-use Rattle.meson_rewrite.specs.Runs.{Ends, StepEnds, Untouched, helped, seen, steps}
+use Rattle.meson_rewrite.specs.Runs.{Ends, StepEnds, helped, steps}
+use Rattle.meson_store.specs.Seen.{Untouched, seen}
 use Rattle.meson_rewrite.proofs.program.answer.Goals as goal
 
 pub returns-in-Ok-Help-clause-ends : goal.returns-in-Ok-Help-clause-ends

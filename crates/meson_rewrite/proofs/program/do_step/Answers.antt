@@ -1,6 +1,6 @@
 use Rattle.std.proofs.Common.{◌∙◌, option_map, sym}
 use Rattle.meson_rewrite.proofs.Endings.{done-ends, failed-ends, stopped-acting, stopped-opening, told-ends}
-use Rattle.meson_rewrite.specs.Runs.{Untouched, seen}
+use Rattle.meson_store.specs.Seen.{Untouched, seen}
 use Rattle.meson_rewrite.proofs.program.do_step.Goals as goal
 
 pub returns-in-Err-clause-ends : goal.returns-in-Err-clause-ends
@@ -47,7 +47,7 @@ returns-in-Ok-commit-clause-ends g c =
     let m = seen (S.content c.open.new.store) (S.failures c.open.new.store) (S.replaces c.open.new.store) in
     let a = seen (S.content c.commit.new.store) (S.failures c.commit.new.store) (S.replaces c.commit.new.store) in
     let u : Untouched b m = record { kept = c.open.ensures.kept; counts = c.open.ensures.counts; no_replace = c.open.ensures.no_replace } in
-    done-ends dir c.args.step.now b m a u c.in-Ok.opened.session c.in-Ok.opened.log.items c.in-Ok.ensures.opens c.in-Ok-edited.edit c.in-Ok-edited.ensures.edited c.in-Ok-commit.ensures.done c.in-Ok-commit.ensures.counted
+    done-ends dir c.args.step.now b m a u c.in-Ok.opened.session c.in-Ok.opened.log.items c.in-Ok.ensures.opens c.in-Ok-edited.edit c.in-Ok-edited.ensures.edited c.in-Ok-commit.ensures.done
 
 pub returns-in-Err-commit-clause-ends : goal.returns-in-Err-commit-clause-ends
 returns-in-Err-commit-clause-ends g c =
@@ -57,4 +57,4 @@ returns-in-Err-commit-clause-ends g c =
     let m = seen (S.content c.open.new.store) (S.failures c.open.new.store) (S.replaces c.open.new.store) in
     let a = seen (S.content c.commit.new.store) (S.failures c.commit.new.store) (S.replaces c.commit.new.store) in
     let u : Untouched b m = record { kept = c.open.ensures.kept; counts = c.open.ensures.counts; no_replace = c.open.ensures.no_replace } in
-    failed-ends dir c.args.step.now b m a u c.in-Ok.opened.session c.in-Ok.opened.log.items c.in-Ok.ensures.opens c.in-Ok-edited.edit c.in-Ok-edited.ensures.edited c.commit.ensures.counts c.in-Err-commit.fault c.in-Err-commit.ensures.failed c.in-Err-commit.ensures.counted
+    failed-ends dir c.args.step.now b m a u c.in-Ok.opened.session c.in-Ok.opened.log.items c.in-Ok.ensures.opens c.in-Ok-edited.edit c.in-Ok-edited.ensures.edited c.in-Err-commit.fault c.in-Err-commit.ensures.failed

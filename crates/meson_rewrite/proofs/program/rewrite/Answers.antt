@@ -2,7 +2,4 @@ use Rattle.meson_rewrite.proofs.Endings.{status-keeps}
 use Rattle.meson_rewrite.proofs.program.rewrite.Goals as goal
 
 pub returns-in-Ok-clause-kept : goal.returns-in-Ok-clause-kept
-returns-in-Ok-clause-kept g c = rw c.status.ensures (λ s. (status-keeps _ _ _ _ c.run-end.ensures.ends s).0)
-
-pub returns-in-Ok-clause-no_replace : goal.returns-in-Ok-clause-no_replace
-returns-in-Ok-clause-no_replace g c = rw c.status.ensures (λ s. (status-keeps _ _ _ _ c.run-end.ensures.ends s).1)
+returns-in-Ok-clause-kept g c = rw c.status.ensures (λ s. status-keeps _ _ _ _ c.run-end.ensures.ends s)

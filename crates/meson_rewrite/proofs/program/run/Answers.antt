@@ -2,7 +2,7 @@ use Rattle.std.proofs.Common.{◌≡◌, ◌≤◌, Err, arith, map, refl, strin
 use Rattle.meson_command.specs.Asking.{asked_by}
 use Rattle.meson_rewrite.proofs.Endings.{not-used}
 use Rattle.meson_rewrite.proofs.Wants.{usage-or-memory}
-use Rattle.meson_rewrite.specs.Runs.{Untouched, seen}
+use Rattle.meson_store.specs.Seen.{Untouched, seen}
 use Rattle.meson_rewrite.proofs.program.run.Goals as goal
 
 pub returns-in-Err-clause-ends : goal.returns-in-Err-clause-ends

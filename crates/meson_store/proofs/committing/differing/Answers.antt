@@ -12,10 +12,10 @@ loop-i-preserved c =
     let before_has : c.loop-i.i < length c.args.before.now = omega (arith, after_has, as_many) in
     elim c.if-ne.branch [
       | then-ne+in_ok-path+in_ok-push w ↦
-          plan-more _ c.args.before.now c.args.after.now c.loop-i.i c.bytes.result.now c.bytes-bytes.result.now c.ne.result _ _ before_has after_has c.bytes.ensures c.bytes-bytes.ensures c.ne.ensures c.loop-i.invariant
+          plan-more _ c.args.before.now c.args.after.now c.loop-i.i c.bytes-was.result.now c.bytes-bytes.result.now c.ne.result _ _ before_has after_has c.bytes-was.ensures c.bytes-bytes.ensures c.ne.ensures c.loop-i.invariant
           _ _ _ w.if-ne.true w.in_ok-path.ensures w.name-name.ensures
           (ap (λ v. map put_of v.items) w.plan-is ∙ ap (map put_of) w.in_ok-push.ensures.items ∙ map-append put_of c.loop-i.plan.items _)
       | else-ne w ↦
-          plan-kept _ c.args.before.now c.args.after.now c.loop-i.i c.bytes.result.now c.bytes-bytes.result.now c.ne.result _ _ before_has after_has c.bytes.ensures c.bytes-bytes.ensures c.ne.ensures c.loop-i.invariant
+          plan-kept _ c.args.before.now c.args.after.now c.loop-i.i c.bytes-was.result.now c.bytes-bytes.result.now c.ne.result _ _ before_has after_has c.bytes-was.ensures c.bytes-bytes.ensures c.ne.ensures c.loop-i.invariant
           _ w.if-ne.false (ap (λ v. map put_of v.items) w.plan-is)
     ]

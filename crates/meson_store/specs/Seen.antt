@@ -1,0 +1,33 @@
+-- What is known of a store between two calls, and what a call of `replace` did to it.
+use Rattle.std.specs.Prelude.{◌≡◌, ◌≤◌, ℕ, List, Option}
+use Rattle.meson_store.specs.Calls.{FailureCounted, Leaves, changes, counted, one_more}
+use Rattle.meson_store.specs.Content.{Content, replaced}
+use Rattle.meson_store.specs.declared.store.StoreError.{StoreError}
+
+-- what it holds, if it tells it, how many calls failed, and how many replaces may have changed a file
+pub record Seen : Type 0 where
+  pub content : Option Content
+  pub failures : ℕ
+  pub replaces : ℕ
+
+abbrev pub seen : Option Content → ℕ → ℕ → Seen
+seen content failures replaces = record { content = content; failures = failures; replaces = replaces }
+
+-- it was read at most
+pub record Untouched (before after : Seen) : Type 0 where
+  pub kept : after.content ≡ before.content
+  pub counts : before.failures ≤ after.failures
+  pub no_replace : after.replaces ≡ before.replaces
+
+-- the file at that path got these bytes
+pub record IsReplaced (path bytes : List ℕ) (before after : Seen) : Type 0 where
+  pub put : after.content ≡ replaced before.content path bytes
+  pub counts : before.failures ≤ after.failures
+  pub counted : after.replaces ≡ one_more before.replaces
+
+-- it should have got them, and the store failed
+pub record IsNotReplaced (why : StoreError) (path bytes : List ℕ) (before after : Seen) : Type 0 where
+  pub left : Leaves why path bytes before.content after.content
+  pub failed : FailureCounted why before.failures after.failures
+  pub counts : before.failures ≤ after.failures
+  pub counted : after.replaces ≡ counted (changes why) before.replaces
