@@ -41,7 +41,10 @@ fn help_tells_words_and_an_example(rt: HostRuntime) {
             panic!(rt; "{line}");
         };
         assert!(rt; text.get().contains(usage), "{line}");
-        assert!(rt; text.get().contains("Example: meson_rewrite "), "{line}");
+        assert!(rt;
+            text.get().contains("Examples:\n  meson_rewrite "),
+            "{line}"
+        );
         assert!(rt; text.get().contains("--help"), "{line}");
     }
 }
