@@ -3,7 +3,7 @@ use Rattle.std.specs.Prelude.{true, false, not, ◌&&◌, if◌then◌else◌, b
 use Rattle.std.proofs.lemmas.Result.{on_ok_weaker}
 use Rattle.meson_syntax.specs.declared.operator.Bracket.TheVariants as bracket
 use Rattle.meson_syntax.specs.Tree.{arguments_of}
-use Rattle.meson_syntax.specs.Grammar.{expression_words, expression_depth, listing_depth, argument_words, argument_depth, arguments_depth}
+use Rattle.meson_syntax.specs.Grammar.{expression_words, argument_words}
 use Rattle.meson_syntax.specs.View.{text_at, expr_view, list_view, arg_view, args_view}
 use Rattle.meson_calls.specs.Project.{child, place}
 use Rattle.meson_calls.specs.Roles.{one_of}
@@ -11,11 +11,12 @@ use Rattle.meson_calls.specs.Strings.{AreGood, NotesGood}
 use Rattle.meson_calls.specs.GoodLists.{GoodArgs}
 use Rattle.meson_calls.specs.Expansion.{Stand, fixed, met, opaque, empty, within, element, are_named, expand_by, expand_listing, expand_argument}
 use Rattle.meson_calls.specs.Named.{project_of}
+use Rattle.meson_calls.specs.Noted.{rank, listing_rank, argument_rank, arguments_rank}
 use Rattle.meson_calls.specs.Values.{value_view}
 use Rattle.meson_calls.specs.Tallies.{all_marked, gathered, expanded, with_mark, stand_at, follow_of}
 use Rattle.meson_calls.proofs.Singles.{single_fine}
-use Rattle.meson_calls.proofs.Measures.{values_depth, lower_step, inner_step, variable_step}
-use Rattle.meson_calls.proofs.Nested.{array_view, call_view, plain_view, good_listing, good_args, good_arg, args_depth, arg_depth}
+use Rattle.meson_calls.proofs.Measures.{values_rank, lower_step, inner_step, variable_step}
+use Rattle.meson_calls.proofs.Nested.{array_view, call_view, plain_view, good_listing, good_args, good_arg, args_rank, arg_rank}
 use Rattle.meson_calls.proofs.Gathers.{arg_turn, listing_alike, followed_value, first_of, second_of}
 use Rattle.meson_calls.proofs.Vacant.{vacant_list, filled_list}
 use Rattle.meson_calls.proofs.variables.Variables.+expansion.Goals as goal
@@ -27,8 +28,8 @@ pub expand-expand_list-requires : goal.expand-expand_list-requires
 expand-expand_list-requires t c =
     let source = c.args.site.source.now in
     let is = ap (expr_view source) c.in-Array.is ∙ array_view source c.in-Array.list in
-    let within : listing_depth (list_view source c.in-Array.list) ≤ expression_depth (expr_view source c.args.expr.now) = let e = ap expression_depth is in omega arith in (
-      lower_step c.args.left (values_depth c.args.self.now) _ _ 3 4 t within (omega arith) (sym c.decreases),
+    let within : listing_rank (list_view source c.in-Array.list) ≤ rank (expr_view source c.args.expr.now) = let e = ap rank is in omega arith in (
+      lower_step c.args.left (values_rank c.args.self.now) _ _ 3 4 t within (omega arith) (sym c.decreases),
       (c.requires.holds, good_listing (list_view source c.in-Array.list) bracket.Square (subst (λ e. AreGood (expression_words e)) is c.requires.good)),
     )
 
@@ -36,16 +37,16 @@ pub expand-expand_list-requires-then-not-are_named : goal.expand-expand_list-req
 expand-expand_list-requires-then-not-are_named t c =
     let source = c.args.site.source.now in
     let is = ap (expr_view source) c.in-Call.is ∙ call_view source c.in-Call.span c.in-Call.name c.in-Call.arguments in
-    let within : listing_depth (list_view source c.in-Call.arguments) ≤ expression_depth (expr_view source c.args.expr.now) = let e = ap expression_depth is in omega arith in (
-      lower_step c.args.left (values_depth c.args.self.now) _ _ 3 4 t within (omega arith) (sym c.decreases),
+    let within : listing_rank (list_view source c.in-Call.arguments) ≤ rank (expr_view source c.args.expr.now) = let e = ap rank is in omega arith in (
+      lower_step c.args.left (values_rank c.args.self.now) _ _ 3 4 t within (omega arith) (sym c.decreases),
       (c.requires.holds, good_listing (list_view source c.in-Call.arguments) bracket.Round (subst (λ e. AreGood (expression_words e)) is c.requires.good).1),
     )
 
 pub expand-follow-requires : goal.expand-follow-requires
 expand-follow-requires t c =
-    let depth = expression_depth (expr_view c.args.site.source.now c.args.expr.now) in
-    let within : 0 ≤ depth = omega arith in
-    (lower_step c.args.left (values_depth c.args.self.now) 0 depth 1 4 t within (omega arith) (sym c.decreases), c.requires.holds)
+    let here = rank (expr_view c.args.site.source.now c.args.expr.now) in
+    let within : 0 ≤ here = omega arith in
+    (lower_step c.args.left (values_rank c.args.self.now) 0 here 1 4 t within (omega arith) (sym c.decreases), c.requires.holds)
 
 pub expand-returns-then-not-are_named-clause-all : goal.expand-returns-then-not-are_named-clause-all
 expand-returns-then-not-are_named-clause-all t c =
@@ -84,15 +85,15 @@ expand-returns-else-eq-clause-all t c =
 
 pub expand_list-expand_own-requires : goal.expand_list-expand_own-requires
 expand_list-expand_own-requires t c =
-    let depth = listing_depth (list_view c.args.site.source.now c.args.list.now) in
-    let within : depth ≤ depth = omega arith in
-    (lower_step c.args.left (values_depth c.args.self.now) depth depth 2 3 t within (omega arith) (sym c.decreases), (c.requires.holds, c.requires.good))
+    let here = listing_rank (list_view c.args.site.source.now c.args.list.now) in
+    let within : here ≤ here = omega arith in
+    (lower_step c.args.left (values_rank c.args.self.now) here here 2 3 t within (omega arith) (sym c.decreases), (c.requires.holds, c.requires.good))
 
 pub expand_list-expand_own-requires-in-None : goal.expand_list-expand_own-requires-in-None
 expand_list-expand_own-requires-in-None t c =
-    let depth = listing_depth (list_view c.args.site.source.now c.args.list.now) in
-    let within : depth ≤ depth = omega arith in
-    (lower_step c.args.left (values_depth c.args.self.now) depth depth 2 3 t within (omega arith) (sym c.decreases), (c.requires.holds, c.requires.good))
+    let here = listing_rank (list_view c.args.site.source.now c.args.list.now) in
+    let within : here ≤ here = omega arith in
+    (lower_step c.args.left (values_rank c.args.self.now) here here 2 3 t within (omega arith) (sym c.decreases), (c.requires.holds, c.requires.good))
 
 pub expand_list-returns-in_ok-expand_own-in-Some-clause-all : goal.expand_list-returns-in_ok-expand_own-in-Some-clause-all
 expand_list-returns-in_ok-expand_own-in-Some-clause-all t c =
@@ -113,10 +114,10 @@ expand_list-returns-in_ok-expand_own-in-Some-clause-all t c =
 pub expand_own-expand_args-requires : goal.expand_own-expand_args-requires
 expand_own-expand_args-requires t c =
     let source = c.args.site.source.now in
-    let same = ap (λ xs. suc (arguments_depth (arguments_of (args_view source xs)))) c.get-args.ensures in
-    let whole = args_depth source c.args.list.now in
-    let within : suc (arguments_depth (arguments_of (args_view source c.get-args.result.now))) ≤ listing_depth (list_view source c.args.list.now) = omega arith in (
-      lower_step c.args.left (values_depth c.args.self.now) _ _ 1 2 t within (omega arith) (sym c.decreases),
+    let same = ap (λ xs. suc (arguments_rank (arguments_of (args_view source xs)))) c.get-args.ensures in
+    let whole = args_rank source c.args.list.now in
+    let within : suc (arguments_rank (arguments_of (args_view source c.get-args.result.now))) ≤ listing_rank (list_view source c.args.list.now) = omega arith in (
+      lower_step c.args.left (values_rank c.args.self.now) _ _ 1 2 t within (omega arith) (sym c.decreases),
       (c.requires.holds, subst (GoodArgs source) (sym c.get-args.ensures) (good_args source c.args.list.now c.requires.good)),
     )
 
@@ -140,8 +141,8 @@ expand_args-expand_arg-requires t c =
     let source = c.args.site.source.now in
     let args = c.args.args.now in
     let x = c.index-args-i.result in
-    let within = subst (λ a. argument_depth (arg_view source a) < suc (arguments_depth (arguments_of (args_view source args)))) (sym c.index-args-i.is) (arg_depth source args c.loop-i.i x c.loop-i-test.true) in (
-      inner_step c.args.left (values_depth c.args.self.now) _ _ 5 1 t within (omega arith) (sym c.decreases),
+    let within = subst (λ a. argument_rank (arg_view source a) < suc (arguments_rank (arguments_of (args_view source args)))) (sym c.index-args-i.is) (arg_rank source args c.loop-i.i x c.loop-i-test.true) in (
+      inner_step c.args.left (values_rank c.args.self.now) _ _ 5 1 t within (omega arith) (sym c.decreases),
       (c.requires.holds, subst (λ a. AreGood (argument_words (arg_view source a))) (sym c.index-args-i.is) (good_arg source args c.loop-i.i x c.loop-i-test.true c.requires.good)),
     )
 
@@ -166,8 +167,8 @@ pub expand_arg-expand-requires : goal.expand_arg-expand-requires
 expand_arg-expand-requires t c =
     let source = c.args.site.source.now in
     let is = ap (arg_view source) c.in-Plain.is ∙ plain_view source c.in-Plain.value in
-    let within : expression_depth (expr_view source c.in-Plain.value) ≤ argument_depth (arg_view source c.args.arg.now) = let e = ap argument_depth is in omega arith in
-    (lower_step c.args.left (values_depth c.args.self.now) _ _ 4 5 t within (omega arith) (sym c.decreases), (c.requires.holds, subst (λ a. AreGood (argument_words a)) is c.requires.good))
+    let within : rank (expr_view source c.in-Plain.value) ≤ argument_rank (arg_view source c.args.arg.now) = let e = ap argument_rank is in omega arith in
+    (lower_step c.args.left (values_rank c.args.self.now) _ _ 4 5 t within (omega arith) (sym c.decreases), (c.requires.holds, subst (λ a. AreGood (argument_words a)) is c.requires.good))
 
 -- ---- a variable
 
@@ -177,7 +178,7 @@ follow-expand-requires t c =
     let is = sym c.in_ok-value.ensures ∙ ap (option_map value_view) c.in-Some.is in
     let fine = single_fine c.args.name.now p (value_view c.in-Some.value) (subst NotesGood c.requires.holds.noted c.requires.holds.good) is in
     let some : 0 < c.args.left = omega arith in
-    (variable_step c.args.left (values_depth c.args.self.now) _ t some fine.1 (sym c.decreases), (c.requires.holds, fine.0))
+    (variable_step c.args.left (values_rank c.args.self.now) _ t some fine.1 (sym c.decreases), (c.requires.holds, fine.0))
 
 pub follow-returns-in_ok-follow-in-Some : goal.follow-returns-in_ok-follow-in-Some
 follow-returns-in_ok-follow-in-Some t c =
