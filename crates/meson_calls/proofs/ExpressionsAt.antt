@@ -1,11 +1,11 @@
 -- The expression at a place of a project, and the list of an array or a call there.
-use Rattle.std.proofs.Common.{◌≡◌, ℕ, ◌+◌, List, Some, ap, ◌∙◌, arith}
+use Rattle.std.proofs.Common.{◌≡◌, ℕ, ◌+◌, List, [], ◌∷◌, ◌++◌, Some, ap, ◌∙◌, arith}
 use Rattle.std.specs.Prelude.{option_and_then}
 use Rattle.meson_lex.specs.declared.kinds.Span.{Span}
 use Rattle.meson_syntax.specs.declared.operator.Assignment.{Assignment}
 use Rattle.meson_syntax.specs.Tree.{Expression, assign}
-use Rattle.meson_syntax.specs.Parts.{an_expression, a_statement, a_block, node_at, expression_any}
-use Rattle.meson_syntax.specs.Paths.{Sort, of_expression, of_statement, of_block, Node, reach, expression_of, ListAt, ListIn, list_at, list_in, list_within, list_of_node, block_of}
+use Rattle.meson_syntax.specs.Parts.{an_expression, a_statement, a_block, expression_parts, node_at, expression_any}
+use Rattle.meson_syntax.specs.Paths.{Sort, of_expression, of_statement, of_block, Node, reach, expression_of, nth, ListAt, ListIn, list_at, list_in, list_within, list_of_node, block_of}
 use Rattle.meson_syntax.specs.Paths as paths
 use Rattle.meson_syntax.proofs.PathNodes.{expression-reached}
 use Rattle.meson_syntax.proofs.paths.Reaching.{and-then-some}
@@ -15,7 +15,7 @@ use Rattle.meson_calls.specs.Parts as part
 use Rattle.meson_calls.specs.Project.{Project, BuildFile, Placed, child, nth_file, expression_at}
 use Rattle.meson_calls.specs.CallPlaces.{ListThere}
 use Rattle.meson_calls.proofs.CallsReached.{InProject}
-use Rattle.meson_calls.proofs.ListNodes.{list_of, node_below}
+use Rattle.meson_calls.proofs.ListNodes.{list_of, node_below, value_below}
 use Rattle.meson_calls.proofs.Reached.{any}
 
 -- ---- places of a project
@@ -30,6 +30,12 @@ list_here p c e l is is_list =
     let o = and-then-some (λ (g : BuildFile Span). paths.expression_at g.tree c.path.steps) (nth_file p c.file) e is in
     let i = list_of Span o.0.tree c.path.steps e l o.2 is_list in
     record { there = record { file = o.0; is_file = o.1; list = i.place; is_list = i.is_place }; same_list = i.list; same_bracket = i.bracket }
+
+-- an expression that is the n-th child of one stands there
+pub child_stands : (p : Project Span) (c : CallRef) (e : Expression Span) → expression_at p c ≡ Some e → (n : ℕ) (x : Expression Span) → nth (expression_parts e) n ≡ Some (an_expression x) → expression_at p (child c n) ≡ Some x
+child_stands p c e is n x is_child =
+    let o = and-then-some (λ (g : BuildFile Span). paths.expression_at g.tree c.path.steps) (nth_file p c.file) e is in
+    ap (option_and_then (λ (g : BuildFile Span). paths.expression_at g.tree (c.path.steps ++ n ∷ []))) o.1 ∙ value_below Span o.0.tree c.path.steps e n x o.2 is_child
 
 -- ---- parts of a project
 

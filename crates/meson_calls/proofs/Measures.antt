@@ -1,16 +1,16 @@
--- How much is left to expand: variables that may still be followed, each as deep as all values together, and then the depth of what is expanded now.
+-- How much is left to expand: variables that may still be followed, each of the rank of all values together, and then the rank of what is expanded now.
 use Rattle.std.proofs.Common.{◌≡◌, ℕ, zero, suc, ◌+◌, ◌-◌, ◌*◌, ◌<◌, ◌≤◌, arith, sym, subst, suc-mul}
 use Rattle.meson_calls.specs.declared.variables.Variables.{Variables}
 use Rattle.meson_calls.specs.Notes.{notes}
-use Rattle.meson_calls.specs.Noted.{notes_depth}
+use Rattle.meson_calls.specs.Noted.{notes_rank}
 use Rattle.meson_calls.specs.Named.{project_of}
 
-abbrev pub values_depth : Variables → ℕ
-values_depth v = notes_depth (notes (project_of v))
+abbrev pub values_rank : Variables → ℕ
+values_rank v = notes_rank (notes (project_of v))
 
 -- of six steps between two constructs the k-th
 unfoldable pub measure : ℕ → ℕ → ℕ → ℕ → ℕ
-measure left all depth k = 6 * (left * suc all + depth) + k
+measure left all rank k = 6 * (left * suc all + rank) + k
 
 -- ---- each step takes some of it
 

@@ -4,7 +4,7 @@ use Rattle.std.specs.Prelude.{Bool, true, false, not, ◌&&◌, ◌||◌, if◌t
 use Rattle.std.specs.List.{list_any, cons_option}
 use Rattle.meson_lex.specs.declared.kinds.Span.{Span}
 use Rattle.meson_syntax.specs.Tree.{Expression, evaluate, assign, selection, iteration, breaks, continues}
-use Rattle.meson_syntax.specs.Grammar.{expression_words, expression_depth}
+use Rattle.meson_syntax.specs.Grammar.{expression_words}
 use Rattle.meson_calls.specs.declared.call.CallRef.{CallRef}
 use Rattle.meson_calls.specs.Project.{Project, child, Placed, placed}
 use Rattle.meson_calls.specs.Parts.{Part, an_expression, a_statement, parts}
@@ -12,7 +12,7 @@ use Rattle.meson_calls.specs.Calls.{Call, call_of, part_call, all_chosen}
 use Rattle.meson_calls.specs.Roles.{one_of}
 use Rattle.meson_calls.specs.Variables.{Assigned, part_assigned, assignments, is_outermost, only_value, is_iterated, sets_variable, all_known, single}
 use Rattle.meson_calls.specs.Notes.{Note, a_call, an_assignment, a_loop, note_of, noted, notes}
-use Rattle.meson_calls.specs.Noted.{assigned_notes, is_set_by, note_depth, notes_depth}
+use Rattle.meson_calls.specs.Noted.{assigned_notes, is_set_by, rank, note_rank, notes_rank}
 use Rattle.meson_calls.specs.Strings.{AreGood, NotesGood}
 
 module _ (x : List ℕ) where
@@ -97,40 +97,40 @@ module _ (x : List ℕ) where
 
   AreFine : ℕ → List (Placed (Assigned Span)) → Type 0
   AreFine d [] = Unit {0}
-  AreFine d (a ∷ vs) = AreGood (expression_words a.it.value) × (expression_depth a.it.value ≤ d) × AreFine d vs
+  AreFine d (a ∷ vs) = AreGood (expression_words a.it.value) × (rank a.it.value ≤ d) × AreFine d vs
 
-  one_fine : (y : List ℕ) (sets : Bool) (e : Expression Span) (p : CallRef) (d : ℕ) (vs : List (Placed (Assigned Span))) → AreGood (expression_words e) → expression_depth e ≤ d → AreFine d vs →
+  one_fine : (y : List ℕ) (sets : Bool) (e : Expression Span) (p : CallRef) (d : ℕ) (vs : List (Placed (Assigned Span))) → AreGood (expression_words e) → rank e ≤ d → AreFine d vs →
       (b : Bool) → AreFine d (cons_option (option_map (placed p) (if b then Some (record { value = e; sets = sets }) else None)) vs)
   unfolding AreFine
   one_fine y sets e p d vs good within rest true = (good, within, rest)
   one_fine y sets e p d vs good within rest false = rest
 
-  note_fine : (n : Note Span) (p : CallRef) (d : ℕ) (ns : List (Placed (Note Span))) → NotesGood (placed p n ∷ ns) → note_depth n ≤ d → AreFine d (assigned_notes x ns) → AreFine d (assigned_notes x (placed p n ∷ ns))
+  note_fine : (n : Note Span) (p : CallRef) (d : ℕ) (ns : List (Placed (Note Span))) → NotesGood (placed p n ∷ ns) → note_rank n ≤ d → AreFine d (assigned_notes x ns) → AreFine d (assigned_notes x (placed p n ∷ ns))
   note_fine (a_call c) p d ns good within rest = rest
   note_fine (an_assignment y sets e) p d ns good within rest = one_fine y sets e p d (assigned_notes x ns) good.0 within rest (bytes_eq y x)
   note_fine (a_loop ys) p d ns good within rest = rest
 
-  all_fine : (ns : List (Placed (Note Span))) (d : ℕ) → NotesGood ns → notes_depth ns ≤ d → AreFine d (assigned_notes x ns)
+  all_fine : (ns : List (Placed (Note Span))) (d : ℕ) → NotesGood ns → notes_rank ns ≤ d → AreFine d (assigned_notes x ns)
   unfolding AreFine
   all_fine [] d good within = tt
   all_fine (n ∷ ns) d good within =
-      let here : note_depth n.it ≤ d = omega arith in
-      let more : notes_depth ns ≤ d = omega arith in
+      let here : note_rank n.it ≤ d = omega arith in
+      let more : notes_rank ns ≤ d = omega arith in
       note_fine n.it n.place d ns good here (all_fine ns d good.1 more)
 
-  only_fine : (vs : List (Placed (Assigned Span))) (d : ℕ) (v : Placed (Expression Span)) → AreFine d vs → only_value vs ≡ Some v → AreGood (expression_words v.it) × (expression_depth v.it ≤ d)
+  only_fine : (vs : List (Placed (Assigned Span))) (d : ℕ) (v : Placed (Expression Span)) → AreFine d vs → only_value vs ≡ Some v → AreGood (expression_words v.it) × (rank v.it ≤ d)
   unfolding AreFine
   only_fine [] d v fine is = cc
   only_fine (a ∷ []) d v fine is = go (a.it.sets && is_outermost a.place.path.steps) is
     where
-      go : (b : Bool) → (if b then Some (placed (child a.place 0) a.it.value) else None) ≡ Some v → AreGood (expression_words v.it) × (expression_depth v.it ≤ d)
-      go true so = let same : a.it.value ≡ v.it = cc in subst (λ e. AreGood (expression_words e) × (expression_depth e ≤ d)) same (fine.0, fine.1)
+      go : (b : Bool) → (if b then Some (placed (child a.place 0) a.it.value) else None) ≡ Some v → AreGood (expression_words v.it) × (rank v.it ≤ d)
+      go true so = let same : a.it.value ≡ v.it = cc in subst (λ e. AreGood (expression_words e) × (rank e ≤ d)) same (fine.0, fine.1)
       go false so = cc
   only_fine (a ∷ b ∷ vs) d v fine is = cc
 
-  pub single_fine : (p : Project Span) (v : Placed (Expression Span)) → NotesGood (notes p) → single p x ≡ Some v → AreGood (expression_words v.it) × (expression_depth v.it ≤ notes_depth (notes p))
+  pub single_fine : (p : Project Span) (v : Placed (Expression Span)) → NotesGood (notes p) → single p x ≡ Some v → AreGood (expression_words v.it) × (rank v.it ≤ notes_rank (notes p))
   single_fine p v good is = go (all_known p && not (is_set_by x (notes p))) (sym (single_notes p) ∙ is)
     where
-      go : (b : Bool) → (if b then only_value (assigned_notes x (notes p)) else None) ≡ Some v → AreGood (expression_words v.it) × (expression_depth v.it ≤ notes_depth (notes p))
-      go true so = let within : notes_depth (notes p) ≤ notes_depth (notes p) = omega arith in only_fine (assigned_notes x (notes p)) (notes_depth (notes p)) v (all_fine (notes p) (notes_depth (notes p)) good within) so
+      go : (b : Bool) → (if b then only_value (assigned_notes x (notes p)) else None) ≡ Some v → AreGood (expression_words v.it) × (rank v.it ≤ notes_rank (notes p))
+      go true so = let within : notes_rank (notes p) ≤ notes_rank (notes p) = omega arith in only_fine (assigned_notes x (notes p)) (notes_rank (notes p)) v (all_fine (notes p) (notes_rank (notes p)) good within) so
       go false so = cc

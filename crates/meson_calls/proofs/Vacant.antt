@@ -7,14 +7,14 @@ use Rattle.meson_syntax.specs.declared.tree.Arg.{Arg}
 use Rattle.meson_syntax.specs.declared.tree.List as rust
 use Rattle.meson_syntax.specs.View.{list_view}
 use Rattle.meson_calls.specs.Project.{Project}
-use Rattle.meson_calls.specs.Expansion.{Stand, empty, within, expand_listing}
-use Rattle.meson_calls.specs.Tallies.{Gathered, all_marked, expanded, with_mark, follow_of}
+use Rattle.meson_calls.specs.Expansion.{Stand, empty, within}
+use Rattle.meson_calls.specs.Tallies.{Gathered, all_marked, expanded, with_mark, listing_left}
 use Rattle.meson_calls.proofs.Listed.{list_is}
 use Rattle.meson_calls.proofs.Gathers.{args_left, no_element, some_element}
 
 module _ (p : Project Span) (left : ℕ) (source : List ℕ) (l : rust.List) (s : Stand) (g : Gathered) where
   of_list : Gathered
-  of_list = expanded g (λ f. within s.place (expand_listing (follow_of p left) (list_view source l) s f))
+  of_list = expanded g (λ f. within s.place (listing_left p left (list_view source l) s f))
 
   of_args : List Arg → Gathered
   of_args xs = expanded g (λ f. within s.place (args_left p left source xs 0 s f))
@@ -23,7 +23,7 @@ module _ (p : Project Span) (left : ℕ) (source : List ℕ) (l : rust.List) (s 
   unfolding of_list of_args
   list_of_args xs is =
       ap (λ ys. expanded g (λ f. within s.place (args_left p left source ys 0 s f))) is
-      ∙ ap (λ m. expanded g (λ f. within s.place (expand_listing (follow_of p left) m s f))) (sym (list_is source l))
+      ∙ ap (λ m. expanded g (λ f. within s.place (listing_left p left m s f))) (sym (list_is source l))
 
   vacant : (xs : List Arg) → (length xs == 0) ≡ true → with_mark g (empty s.place) ≡ of_args xs
   unfolding of_args
@@ -34,11 +34,11 @@ module _ (p : Project Span) (left : ℕ) (source : List ℕ) (l : rust.List) (s 
   filled xs some = ap (λ e. record { tally = all_marked g.tally e.marks; followed = e.followed }) (sym (some_element p left source xs s.place s g.followed some))
 
   pub vacant_list : {T E : Type 0} (r : Result T E) (after : Gathered) (xs : List Arg) → (length xs == 0) ≡ true → xs ≡ (rust.out-List l).items → OnOk r (after ≡ with_mark g (empty s.place)) →
-      OnOk r (after ≡ expanded g (λ f. within s.place (expand_listing (follow_of p left) (list_view source l) s f)))
+      OnOk r (after ≡ expanded g (λ f. within s.place (listing_left p left (list_view source l) s f)))
   unfolding of_list
   vacant_list r after xs none is ok = on_ok_weaker {P = after ≡ with_mark g (empty s.place)} {Q = after ≡ of_list} r (λ so. so ∙ vacant xs none ∙ list_of_args xs is) ok
 
   pub filled_list : {T E : Type 0} (r : Result T E) (after : Gathered) (xs : List Arg) → (length xs == 0) ≡ false → xs ≡ (rust.out-List l).items → OnOk r (after ≡ expanded g (args_left p left source xs 0 s)) →
-      OnOk r (after ≡ expanded g (λ f. within s.place (expand_listing (follow_of p left) (list_view source l) s f)))
+      OnOk r (after ≡ expanded g (λ f. within s.place (listing_left p left (list_view source l) s f)))
   unfolding of_list
   filled_list r after xs some is ok = on_ok_weaker {P = after ≡ expanded g (args_left p left source xs 0 s)} {Q = after ≡ of_list} r (λ so. so ∙ filled xs some ∙ list_of_args xs is) ok

@@ -1,7 +1,7 @@
 -- What notes say of variables.
-use Rattle.std.specs.Prelude.{ℕ, ◌+◌, Bool, false, List, [], ◌∷◌, if◌then◌else◌, bytes_eq, Option, Some, None}
+use Rattle.std.specs.Prelude.{ℕ, suc, ◌+◌, max, Bool, false, List, [], ◌∷◌, if◌then◌else◌, bytes_eq, Option, Some, None}
 use Rattle.std.specs.List.{list_any}
-use Rattle.meson_syntax.specs.Grammar.{expression_depth}
+use Rattle.meson_syntax.specs.Tree.{Expression, array, call, row, Operands, no_operands, operand, Listing, listing, Argument, plain, Arguments, no_arguments, argument}
 use Rattle.meson_calls.specs.Project.{Placed}
 use Rattle.meson_calls.specs.Calls.{all_chosen}
 use Rattle.meson_calls.specs.Roles.{one_of}
@@ -26,15 +26,38 @@ note_sets x (a_loop xs) = one_of xs x
 abbrev pub is_set_by : {S : Type 0} → List ℕ → List (Placed (Note S)) → Bool
 is_set_by x ns = list_any (λ n. note_sets x n.it) ns
 
--- how deep all the values of assignments nest, one after another: no single one nests deeper
-abbrev pub note_depth : {S : Type 0} → Note S → ℕ
-note_depth (a_call c) = 0
-note_depth (an_assignment y sets e) = expression_depth e
-note_depth (a_loop xs) = 0
+-- how many arrays, calls and rows stand inside one another, as far as an expansion goes into them
+abbrev mutual
+  pub rank : {S : Type 0} → Expression S → ℕ
+  rank (array l) = listing_rank l
+  rank (call s x l) = listing_rank l
+  rank (row s e os) = suc (max (rank e) (operands_rank os))
+  rank _ = 0
 
-abbrev pub notes_depth : {S : Type 0} → List (Placed (Note S)) → ℕ
-notes_depth [] = 0
-notes_depth (n ∷ ns) = note_depth n.it + notes_depth ns
+  pub operands_rank : {S : Type 0} → Operands S → ℕ
+  operands_rank no_operands = 0
+  operands_rank (operand o e more) = max (rank e) (operands_rank more)
+
+  pub listing_rank : {S : Type 0} → Listing S → ℕ
+  listing_rank (listing s trailing list) = suc (arguments_rank list)
+
+  pub argument_rank : {S : Type 0} → Argument S → ℕ
+  argument_rank (plain e) = rank e
+  argument_rank _ = 0
+
+  pub arguments_rank : {S : Type 0} → Arguments S → ℕ
+  arguments_rank no_arguments = 0
+  arguments_rank (argument a more) = max (argument_rank a) (arguments_rank more)
+
+-- that of all the values of assignments, one after another: no single one has more
+abbrev pub note_rank : {S : Type 0} → Note S → ℕ
+note_rank (a_call c) = 0
+note_rank (an_assignment y sets e) = rank e
+note_rank (a_loop xs) = 0
+
+abbrev pub notes_rank : {S : Type 0} → List (Placed (Note S)) → ℕ
+notes_rank [] = 0
+notes_rank (n ∷ ns) = note_rank n.it + notes_rank ns
 
 -- the element that is there, or none
 abbrev pub option_list : {X : Type 0} → Option X → List X

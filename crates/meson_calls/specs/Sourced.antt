@@ -8,9 +8,9 @@ use Rattle.meson_syntax.specs.View.{arg_view, args_view}
 use Rattle.meson_calls.specs.declared.call.CallRef.{CallRef}
 use Rattle.meson_calls.specs.Project.{Project, child}
 use Rattle.meson_calls.specs.Calls.{Numbered, numbered, kept_number, value_without_name, value_with_name}
-use Rattle.meson_calls.specs.Expansion.{Slot, in_list, fixed, opaque, Expansion, nothing, and_then, expand_by}
+use Rattle.meson_calls.specs.Expansion.{Slot, in_list, fixed, opaque, Expansion, nothing, and_then}
 use Rattle.meson_calls.specs.Sources.{rest, sources_key, kwargs_key}
-use Rattle.meson_calls.specs.Tallies.{Gathered, expanded, with_mark, no_marks, follow_of}
+use Rattle.meson_calls.specs.Tallies.{Gathered, expanded, with_mark, no_marks, expand_left}
 
 -- those that a test keeps, of arguments of which the first has the number n
 abbrev pub kept_args : {Y : Type 0} → List ℕ → (Argument Span → Option Y) → ℕ → List Arg → List (Numbered Y)
@@ -21,7 +21,7 @@ kept_arg source choose n a = kept_number choose (record { number = n; value = ar
 
 -- an argument's value, in the list of the call or in none
 abbrev pub one_by : Project Span → ℕ → CallRef → (ℕ → Slot) → Numbered (Expression Span) → List (List ℕ) → Expansion Span
-one_by p left c slot a = expand_by (follow_of p left) a.value (record { place = child c a.number; slot = slot a.number; variable = None })
+one_by p left c slot a = expand_left p left a.value (record { place = child c a.number; slot = slot a.number; variable = None })
 
 abbrev pub step_by : Project Span → ℕ → CallRef → (ℕ → Slot) → Option (Numbered (Expression Span)) → List (List ℕ) → Expansion Span
 step_by p left c slot None followed = nothing followed

@@ -1,21 +1,21 @@
 //! What a list of sources holds.
 
-ghost use Rattle.std.specs.Prelude.{◌≡◌, OnOk, if◌then◌else◌};
-ghost use Rattle.meson_syntax.specs.Grammar.{expression_words, argument_words};
-ghost use Rattle.meson_syntax.specs.Tree.{arguments_of};
-ghost use Rattle.meson_syntax.specs.View.{arg_view, args_view, expr_view, list_view};
-ghost use Rattle.meson_calls.specs.Expansion.{expand_by, expand_listing, expand_each, expand_argument, element, within, met, opaque};
+ghost use Rattle.std.specs.Prelude.{◌≡◌, ◌++◌, OnOk, if◌then◌else◌};
+ghost use Rattle.meson_syntax.specs.Grammar.{expression_words, operands_words, argument_words};
+ghost use Rattle.meson_syntax.specs.Tree.{arguments_of, operands_of};
+ghost use Rattle.meson_syntax.specs.View.{arg_view, args_view, expr_view, list_view, operands_view};
+ghost use Rattle.meson_calls.specs.Expansion.{element, operand_at, within, met, opaque};
 ghost use Rattle.meson_calls.specs.Roles.{one_of};
 ghost use Rattle.meson_calls.specs.Named.{AreVariables, project_of};
 ghost use Rattle.meson_calls.specs.Strings.{AreGood};
 ghost use Rattle.meson_calls.specs.GoodLists.{GoodArgs, GoodListing};
-ghost use Rattle.meson_calls.specs.Tallies.{gathered, expanded, stand_at, follow_of};
+ghost use Rattle.meson_calls.specs.Tallies.{gathered, expanded, stand_at, follow_of, expand_left, listing_left, each_left, argument_left, sum_left, row_left};
 
 use crate::marks::{Marks, Site};
-use crate::meeting::{are_named, meet_string};
+use crate::meeting::{is_files, meet_string};
 use crate::roles::text_of;
 use crate::variables::Variables;
-use meson_syntax::{Arg, Expr, List};
+use meson_syntax::{Arg, Expr, List, Operand};
 use std::alloc::AllocError;
 
 impl<'t> Variables<'t> {
@@ -33,7 +33,7 @@ impl<'t> Variables<'t> {
         requires holds { AreVariables self.now }
         requires good { AreGood (expression_words (expr_view site.source.now expr.now)) }
         ensures back { OnOk result (path.new.items ≡ path.old.items) }
-        ensures all { OnOk result (gathered marks.new ≡ expanded (gathered marks.old) (expand_by (follow_of (project_of self.now) left) (expr_view site.entry.source.now expr.now) (stand_at site.entry path.old.items slot))) }
+        ensures all { OnOk result (gathered marks.new ≡ expanded (gathered marks.old) (expand_left (project_of self.now) left (expr_view site.entry.source.now expr.now) (stand_at site.entry path.old.items slot))) }
     {
         match expr {
             Expr::String { span, .. } => {
@@ -45,13 +45,16 @@ impl<'t> Variables<'t> {
                 arguments,
                 ..
             } => {
-                if text_of(site.source, *name) == b"files".as_slice() && !are_named(arguments) {
+                if is_files(site.source, *name, arguments) {
                     self.expand_list(left, site, slot, arguments, path, marks)
                 } else {
                     marks.miss()
                 }
             }
             Expr::Identifier(name) => self.follow(left, text_of(site.source, *name), marks),
+            Expr::Row { first, rest, .. } => {
+                self.expand_row(left, site, slot, first.get(), rest.get(), path, marks)
+            }
             _ => marks.miss(),
         }
     }
@@ -70,7 +73,7 @@ impl<'t> Variables<'t> {
         requires holds { AreVariables self.now }
         requires good { GoodListing (list_view site.source.now list.now) }
         ensures back { OnOk result (path.new.items ≡ path.old.items) }
-        ensures all { OnOk result (gathered marks.new ≡ expanded (gathered marks.old) (λ followed. within (stand_at site.entry path.old.items slot).place (expand_listing (follow_of (project_of self.now) left) (list_view site.entry.source.now list.now) (stand_at site.entry path.old.items slot) followed))) }
+        ensures all { OnOk result (gathered marks.new ≡ expanded (gathered marks.old) (λ followed. within (stand_at site.entry path.old.items slot).place (listing_left (project_of self.now) left (list_view site.entry.source.now list.now) (stand_at site.entry path.old.items slot) followed))) }
     {
         match slot {
             Some(number) => {
@@ -96,7 +99,7 @@ impl<'t> Variables<'t> {
         requires holds { AreVariables self.now }
         requires good { GoodListing (list_view site.source.now list.now) }
         ensures back { OnOk result (path.new.items ≡ path.old.items) }
-        ensures all { OnOk result (gathered marks.new ≡ expanded (gathered marks.old) (λ followed. within (stand_at site.entry path.old.items None).place (expand_listing (follow_of (project_of self.now) left) (list_view site.entry.source.now list.now) (stand_at site.entry path.old.items None) followed))) }
+        ensures all { OnOk result (gathered marks.new ≡ expanded (gathered marks.old) (λ followed. within (stand_at site.entry path.old.items None).place (listing_left (project_of self.now) left (list_view site.entry.source.now list.now) (stand_at site.entry path.old.items None) followed))) }
     {
         let args = list.items.get();
         if args.is_empty() {
@@ -119,7 +122,7 @@ impl<'t> Variables<'t> {
         requires holds { AreVariables self.now }
         requires good { GoodArgs site.source.now args.now }
         ensures back { OnOk result (path.new.items ≡ path.old.items) }
-        ensures all { OnOk result (gathered marks.new ≡ expanded (gathered marks.old) (expand_each (follow_of (project_of self.now) left) (arguments_of (args_view site.entry.source.now args.now)) 0 (stand_at site.entry path.old.items None))) }
+        ensures all { OnOk result (gathered marks.new ≡ expanded (gathered marks.old) (each_left (project_of self.now) left (arguments_of (args_view site.entry.source.now args.now)) 0 (stand_at site.entry path.old.items None))) }
     {
         for i in 0..args.len() {
             self.expand_arg(left, site, i, &args[i], path, marks)?;
@@ -141,12 +144,88 @@ impl<'t> Variables<'t> {
         requires holds { AreVariables self.now }
         requires good { AreGood (argument_words (arg_view site.source.now arg.now)) }
         ensures back { OnOk result (path.new.items ≡ path.old.items) }
-        ensures all { OnOk result (gathered marks.new ≡ expanded (gathered marks.old) (expand_argument (follow_of (project_of self.now) left) (arg_view site.entry.source.now arg.now) (element (stand_at site.entry path.old.items None) number))) }
+        ensures all { OnOk result (gathered marks.new ≡ expanded (gathered marks.old) (argument_left (project_of self.now) left (arg_view site.entry.source.now arg.now) (element (stand_at site.entry path.old.items None) number))) }
     {
         match arg {
             Arg::Plain(value) => self.expand(left, site, Some(number), value, path, marks),
             _ => marks.miss(),
         }
+    }
+
+    /// Those of the operands of a row, where it is a sum.
+    #[cycle(expansion)]
+    fn expand_row(
+        &self,
+        left: usize,
+        site: Site<'t>,
+        slot: Option<usize>,
+        first: &'t Expr,
+        rest: &'t [Operand],
+        path: &mut Vec<usize>,
+        marks: &mut Marks<'t>,
+    ) -> Result<(), AllocError>
+        requires holds { AreVariables self.now }
+        requires good { AreGood (expression_words (expr_view site.source.now first.now) ++ operands_words (operands_of (operands_view site.source.now rest.now))) }
+        ensures back { OnOk result (path.new.items ≡ path.old.items) }
+        ensures all { OnOk result (gathered marks.new ≡ expanded (gathered marks.old) (row_left (project_of self.now) left (expr_view site.entry.source.now first.now) (operands_of (operands_view site.entry.source.now rest.now)) (stand_at site.entry path.old.items slot))) }
+    {
+        if !self.is_sum(site.source, first, rest)? {
+            return marks.miss();
+        }
+        match slot {
+            Some(number) => {
+                path.push(number)?;
+                self.expand_operands(left, site, first, rest, path, marks)?;
+                path.pop();
+                Ok(())
+            }
+            None => self.expand_operands(left, site, first, rest, path, marks),
+        }
+    }
+
+    /// Those of the operands of a sum at the path.
+    #[cycle(expansion)]
+    fn expand_operands(
+        &self,
+        left: usize,
+        site: Site<'t>,
+        first: &'t Expr,
+        rest: &'t [Operand],
+        path: &mut Vec<usize>,
+        marks: &mut Marks<'t>,
+    ) -> Result<(), AllocError>
+        requires holds { AreVariables self.now }
+        requires good { AreGood (expression_words (expr_view site.source.now first.now) ++ operands_words (operands_of (operands_view site.source.now rest.now))) }
+        ensures back { OnOk result (path.new.items ≡ path.old.items) }
+        ensures all { OnOk result (gathered marks.new ≡ expanded (gathered marks.old) (sum_left (project_of self.now) left (expr_view site.entry.source.now first.now) (operands_of (operands_view site.entry.source.now rest.now)) (stand_at site.entry path.old.items None))) }
+    {
+        self.expand_operand(left, site, 0, first, path, marks)?;
+        for i in 0..rest.len() {
+            self.expand_operand(left, site, i + 1, &rest[i].value, path, marks)?;
+        }
+        Ok(())
+    }
+
+    /// Those of the n-th operand of a sum at the path, which stands in no list.
+    #[cycle(expansion)]
+    fn expand_operand(
+        &self,
+        left: usize,
+        site: Site<'t>,
+        number: usize,
+        operand: &'t Expr,
+        path: &mut Vec<usize>,
+        marks: &mut Marks<'t>,
+    ) -> Result<(), AllocError>
+        requires holds { AreVariables self.now }
+        requires good { AreGood (expression_words (expr_view site.source.now operand.now)) }
+        ensures back { OnOk result (path.new.items ≡ path.old.items) }
+        ensures all { OnOk result (gathered marks.new ≡ expanded (gathered marks.old) (expand_left (project_of self.now) left (expr_view site.entry.source.now operand.now) (operand_at (stand_at site.entry path.old.items None) number))) }
+    {
+        path.push(number)?;
+        self.expand(left, site, None, operand, path, marks)?;
+        path.pop();
+        Ok(())
     }
 
     /// Those of the value of a variable.

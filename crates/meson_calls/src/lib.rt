@@ -27,6 +27,7 @@ pub mod refusal;
 pub mod roles;
 pub mod setters;
 pub mod sourcing;
+pub mod sums;
 pub mod values;
 pub mod variables;
 pub mod walk;

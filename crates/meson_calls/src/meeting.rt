@@ -2,10 +2,10 @@
 
 ghost use Rattle.std.specs.Prelude.{◌≡◌, Option, IfOk, OnOk, option_map};
 ghost use Rattle.meson_syntax.specs.Grammar.{expression_words};
-ghost use Rattle.meson_syntax.specs.View.{arg_view, expr_view, list_view};
+ghost use Rattle.meson_syntax.specs.View.{text_at, arg_view, expr_view, list_view};
 ghost use Rattle.meson_calls.specs.Calls.{literal};
 ghost use Rattle.meson_syntax.specs.Tree.{is_named};
-ghost use Rattle.meson_calls.specs.Expansion.{are_named, literal_item};
+ghost use Rattle.meson_calls.specs.Expansion.{are_named, is_files, literal_item};
 ghost use Rattle.meson_calls.specs.Picking.{Source};
 ghost use Rattle.meson_calls.specs.Sources.{list_of_slot};
 ghost use Rattle.meson_calls.specs.Strings.{AreGood};
@@ -15,6 +15,7 @@ use crate::call::{CallRef, SourceItem};
 use crate::literals::literal;
 use crate::marks::{Marks, Site, text_of_name};
 use crate::place::place_of;
+use crate::roles::text_of;
 use meson_lex::Span;
 use meson_splice::Text;
 use meson_syntax::{Arg, Expr, List};
@@ -42,6 +43,13 @@ pub fn are_named(list: &List) -> bool
         }
     }
     false
+}
+
+/// Whether a call is a list: one of `files` without names.
+pub fn is_files(source: &[u8], function: Span, arguments: &List) -> bool
+    ensures { result ≡ is_files (text_at source.now function) (list_view source.now arguments.now) }
+{
+    text_of(source, function) == b"files".as_slice() && !are_named(arguments)
 }
 
 /// The list in which something stands, if it stands in one.

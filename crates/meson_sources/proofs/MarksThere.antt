@@ -7,7 +7,7 @@ use Rattle.meson_syntax.specs.Tree.{Expression, Statement, assign}
 use Rattle.meson_syntax.proofs.paths.Every.{Every, every-append}
 use Rattle.meson_calls.specs.declared.call.CallRef.{CallRef}
 use Rattle.meson_calls.specs.Calls.{Numbered}
-use Rattle.meson_calls.specs.Expansion.{Slot, opaque, Stand, Expansion, of_variable, follow_single, expand, max_followed}
+use Rattle.meson_calls.specs.Expansion.{Slot, opaque, Stand, Expansion, is_list_operand, of_variable, follow_single, expand, max_followed}
 use Rattle.meson_calls.specs.Parts.{Part, parts}
 use Rattle.meson_calls.specs.Parts as part
 use Rattle.meson_calls.specs.Project.{Project, Placed, placed, child, expression_at}
@@ -62,9 +62,9 @@ module _ (p : Project Span) (levels : AreLevel p) where
   followed_met inner f x followed (Some v) is = f v.it (of_variable x v.place) (x ∷ followed) (record { is_at = single_stands p x v is; slot = tt })
 
   pub expand_met : (left : ℕ) (e : Expression Span) (s : Stand) (followed : List (List ℕ)) → StandsAs p s e → Met p (expand p left e s followed).marks
-  expand_met zero e s followed h = expression_met p levels (λ x now. record { marks = opaque ∷ []; followed = now }) (λ x now. opaque_met p) e s followed h
+  expand_met zero e s followed h = expression_met p levels (is_list_operand p) (λ x now. record { marks = opaque ∷ []; followed = now }) (λ x now. opaque_met p) e s followed h
   expand_met (suc left) e s followed h =
-      expression_met p levels (λ x now. follow_single (expand p left) x now (single p x)) (λ x now. followed_met (expand p left) (expand_met left) x now (single p x) refl) e s followed h
+      expression_met p levels (is_list_operand p) (λ x now. follow_single (expand p left) x now (single p x)) (λ x now. followed_met (expand p left) (expand_met left) x now (single p x) refl) e s followed h
 
   -- ---- arguments
 

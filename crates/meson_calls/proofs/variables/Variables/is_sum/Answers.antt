@@ -1,0 +1,20 @@
+use Rattle.std.proofs.Common.{◌≡◌, ◌∙◌, sym, ap, subst}
+use Rattle.std.specs.Prelude.{◌&&◌, IfOk}
+use Rattle.meson_syntax.specs.View.{expr_view}
+use Rattle.meson_calls.specs.Expansion.{is_list_operand}
+use Rattle.meson_calls.specs.Named.{project_of}
+use Rattle.meson_calls.proofs.variables.Variables.is_sum.Goals as goal
+
+pub returns-then-are_plus : goal.returns-then-are_plus
+unfolding is_list_operand
+returns-then-are_plus c =
+    let source = c.args.source.now in
+    let e = expr_view source c.args.first.now in
+    let sums = sym (c.are_plus.ensures source) ∙ c.if-are_plus.true in
+    subst (λ x. IfOk c.is_list_operand.result (λ b. b ≡ (x && is_list_operand (project_of c.args.self.now) e))) (sym sums) c.is_list_operand.ensures
+
+pub returns-else-are_plus : goal.returns-else-are_plus
+returns-else-are_plus c =
+    let source = c.args.source.now in
+    let e = expr_view source c.args.first.now in
+    sym (ap (λ x. x && is_list_operand (project_of c.args.self.now) e) (sym (c.are_plus.ensures source) ∙ c.if-are_plus.false))
