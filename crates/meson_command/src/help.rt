@@ -30,6 +30,9 @@ Operations:
   rm_target                        remove the target
   info                             list the target as JSON on standard error
 
+A KIND is one of executable, static_library, shared_library, shared_module, both_libraries, library, jar.
+A SUBDIR is a folder that a subdir call enters, without a slash at its end.
+
 Examples:
   meson_rewrite target tide add moon.c sun.c
   meson_rewrite target tide rm tide.c
@@ -56,6 +59,18 @@ Operations:
 
 The id of the project is / or //. No key may be given twice.
 
+Keys of project:
+  version, meson_version, subproject_dir (texts)
+  license, default_options (lists)
+Keys of dependency:
+  language, method, not_found_message (texts)
+  native, required, static (true or false)
+  version, modules (lists)
+Keys of target:
+  build_rpath, install_dir, install_rpath (texts)
+  build_by_default, export_dynamic, gui_app, implib, install, pie (true or false)
+  dependencies, link_with (lists of variables)
+
 Examples:
   meson_rewrite kwargs set project / version 1.4.0 license Apache-2.0
   meson_rewrite kwargs set target harbor install false
@@ -81,16 +96,20 @@ pub(crate) const COMMAND: &str = "Do the commands of a script";
 
 pub(crate) const BELOW_COMMAND: &str = "\
 A word that begins with [ or { is the script, any other word the name of its file.
-A script is an array of objects, one for each command. All are done, or none.
+A script is an array of objects, one for each command; man meson_rewrite has their members.
+All are done, or none. A file may be given on standard input, a pipe may not.
 
 Examples:
   meson_rewrite command changes.json
+  meson_rewrite command /dev/stdin <changes.json
   meson_rewrite command '[{\"type\":\"target\",\"operation\":\"src_add\",\"target\":\"tide\",\"sources\":[\"moon.c\"]}]'";
 
 pub(crate) const UNDO: &str = "Take back the newest run that was kept";
 
 pub(crate) const BELOW_UNDO: &str = "\
 Hand edits since then stay, unless the bytes that the run wrote moved or changed: then nothing is undone.
+A removal wrote no bytes. Where the file was changed since, its undo puts the text back at the old offset
+all the same, which may be a wrong place. So after a checkout remove meson.rewrite-log, and do not undo.
 
 Examples:
   meson_rewrite undo
@@ -100,6 +119,7 @@ pub(crate) const REDO: &str = "Do again what the last undo took back";
 
 pub(crate) const BELOW_REDO: &str = "\
 A new run drops what could be done again.
+What the run put in is put at its old offset again, also where the file was changed since.
 
 Examples:
   meson_rewrite redo
