@@ -99,6 +99,7 @@ pub(crate) fn perform_all(
         listings: Vec::new(alloc),
     };
     for (index, command) in commands.iter().enumerate() {
+        project.reads();
         let listing = match told(alloc, project, command) {
             Ok(listing) => listing,
             Err(refusal) => return Err(RunFault { index, refusal }),

@@ -132,6 +132,7 @@ impl Session {
         ensures kept { OnErr result (self.new ≡ self.old) }
         ensures project { OnOk result (IsProject self.new.project) }
     {
+        self.project.reads();
         let before = match self.project.files().copy(alloc) {
             Ok(files) => files,
             Err(_) => return Err(unmade()),
