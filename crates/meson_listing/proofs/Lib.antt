@@ -3,3 +3,4 @@ mod Puts
 mod Rising
 pub mod Agreeing
 mod Found
+pub mod ByTrees
