@@ -1,7 +1,7 @@
 -- The files and names after commands.
-use Rattle.std.proofs.Common.{◌≡◌, ℕ, suc, ◌+◌, ◌<◌, subst, length-take, take, drop, length, get_or, arith, List, [], ◌∷◌, ◌++◌, Bool, true, false, map, Result, Ok, Err, refl, sym, ap, ◌∙◌}
+use Rattle.std.proofs.Common.{◌≡◌, ℕ, suc, ◌+◌, ◌<◌, ◌≤◌, subst, length-take, take, drop, length, get_or, arith, List, [], ◌∷◌, ◌++◌, Bool, true, false, map, Result, Ok, Err, refl, sym, ap, ◌∙◌}
 use Rattle.std.specs.Prelude.{bytes_eq, if◌then◌else◌}
-use Rattle.std.proofs.lemmas.List.{map-append, take_more}
+use Rattle.std.proofs.lemmas.List.{map-append, take_all, take_more}
 use Rattle.std.proofs.Math.Seq.{split_at}
 use Rattle.serde_json.specs.Data.{Data}
 use Rattle.serde_json.specs.View.{view}
@@ -21,7 +21,7 @@ use Rattle.meson_plan.proofs.SplicesDone.{joined, performs-patch, performs-text,
 use Rattle.meson_listing.specs.Laws.{no_steps}
 use Rattle.meson_listing.specs.Listing.{kwargs_listing, target_listing}
 use Rattle.meson_listing.proofs.Agreeing.{calls_agree, targets_agree}
-use Rattle.meson_script.specs.Running.{MayStop, Runs, nothing_ran, ran_more, told}
+use Rattle.meson_script.specs.Running.{MayStop, Reaches, Runs, nothing_ran, ran_more, told}
 use Rattle.meson_script.specs.Laws.{RunsPatch, RunsText}
 
 pub runs-patch : RunsPatch
@@ -111,6 +111,18 @@ stops-there old between commands i here read lists c e ran reads within is refus
   reads = reads;
   refuses = refuses;
 }
+
+-- ---- how far commands came
+
+pub reaches : (old between : Loaded) (commands : List Command) (i : ℕ) (here : List Splice) (read : ℕ) (lists : List Data) → Runs old (take i commands) here read lists between → i ≤ length commands → Reaches old commands i
+reaches old between commands i here read lists ran within = record { within = within; splices = here; relexed = read; listings = lists; between = between; runs = ran }
+
+pub reaches-none : (old : Loaded) (commands : List Command) (i : ℕ) → i ≡ 0 → Reaches old commands i
+reaches-none old commands i is = subst (Reaches old commands) (sym is) (reaches old old commands 0 [] 0 [] nothing_ran (omega arith))
+
+pub reaches-all : (old between : Loaded) (commands : List Command) (here : List Splice) (read : ℕ) (lists : List Data) → Runs old commands here read lists between → Reaches old commands (length commands)
+reaches-all old between commands here read lists ran =
+    reaches old between commands (length commands) here read lists (subst (λ cs. Runs old cs here read lists between) (sym (take_all (length commands) commands (omega arith))) ran) (omega arith)
 
 -- ---- one command alone
 

@@ -1,5 +1,5 @@
 -- The commands of a script, one after another.
-use Rattle.std.specs.Prelude.{◌≡◌, ℕ, ◌+◌, List, [], ◌∷◌, ◌++◌, length, Result, Ok}
+use Rattle.std.specs.Prelude.{◌≡◌, ◌≤◌, ℕ, ◌+◌, List, [], ◌∷◌, ◌++◌, length, take, Result, Ok}
 use Rattle.serde_json.specs.Data.{Data, array}
 use Rattle.serde_json.specs.View.{items_of, view}
 use Rattle.meson_splice.specs.declared.splice.Splice.{Splice}
@@ -41,6 +41,15 @@ pub data Runs (old : Loaded) : List Command → List Splice → ℕ → List Dat
       → Runs old commands splices relexed listings between → IsProject between
       → (c : Command) (done : Done) (more : List Data) (new : Loaded) → told between c ≡ Ok more → Performs between c done new
       → Runs old (commands ++ c ∷ []) (splices ++ done.change.splices) (saturated (relexed + done.relexed)) (listings ++ more) new
+
+-- The commands before this number are performed: that of the command where a script ends, or of all of them.
+pub record Reaches (old : Loaded) (commands : List Command) (index : ℕ) : Type 0 where
+  pub within : index ≤ length commands
+  pub splices : List Splice
+  pub relexed : ℕ
+  pub listings : List Data
+  pub between : Loaded
+  pub runs : Runs old (take index commands) splices relexed listings between
 
 -- The command of this number may be refused so, and those before it are performed.
 pub record MayStop (old : Loaded) (commands : List Command) (index : ℕ) (refusal : Refusal) : Type 0 where

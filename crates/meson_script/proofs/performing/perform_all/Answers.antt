@@ -2,7 +2,7 @@ use Rattle.std.proofs.Common.{map, subst, arith, option_to_list}
 use Rattle.std.proofs.lemmas.List.{take_all}
 use Rattle.serde_json.specs.View.{view}
 use Rattle.meson_script.specs.Running.{Runs}
-use Rattle.meson_script.proofs.RunFacts.{nothing-run, one-more, stops-there, told-refused}
+use Rattle.meson_script.proofs.RunFacts.{nothing-run, one-more, reaches, stops-there, told-refused}
 use Rattle.meson_script.proofs.performing.perform_all.Goals as goal
 
 pub loop-index-init : goal.loop-index-init
@@ -31,3 +31,18 @@ pub returns-clause-done : goal.returns-clause-done
 returns-clause-done c =
     let l = c.loop-index in
     subst (λ cs. Runs c.args.project.now cs l.ran.splices.items l.ran.relexed (map view l.ran.listings.items) l.project) (take_all l.index c.args.commands.now (omega arith)) l.invariant
+
+pub returns-in-Err-clause-index : goal.returns-in-Err-clause-index
+returns-in-Err-clause-index c =
+    let l = c.loop-index in
+    reaches c.args.project.now l.project c.args.commands.now l.index l.ran.splices.items l.ran.relexed (map view l.ran.listings.items) l.invariant (omega (arith, c.loop-index-test.true))
+
+pub returns-in-Err-perform-clause-index : goal.returns-in-Err-perform-clause-index
+returns-in-Err-perform-clause-index c =
+    let l = c.loop-index in
+    reaches c.args.project.now l.project c.args.commands.now l.index l.ran.splices.items l.ran.relexed (map view l.ran.listings.items) l.invariant (omega (arith, c.loop-index-test.true))
+
+pub returns-in-Err-add-clause-index : goal.returns-in-Err-add-clause-index
+returns-in-Err-add-clause-index c =
+    let l = c.loop-index in
+    reaches c.args.project.now l.project c.args.commands.now l.index l.ran.splices.items l.ran.relexed (map view l.ran.listings.items) l.invariant (omega (arith, c.loop-index-test.true))
