@@ -4,3 +4,5 @@ mod Rising
 pub mod Agreeing
 mod Found
 pub mod ByTrees
+pub mod ReadTexts
+pub mod OnTexts
