@@ -6,3 +6,4 @@ pub mod Targets
 pub mod Settings
 pub mod Scripts
 pub mod Messages
+pub mod Rows

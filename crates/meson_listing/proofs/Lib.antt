@@ -3,3 +3,6 @@ mod Puts
 mod Rising
 pub mod Agreeing
 mod Found
+pub mod ByTrees
+pub mod ReadTexts
+pub mod OnTexts

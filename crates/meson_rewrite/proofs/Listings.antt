@@ -170,7 +170,7 @@ joined-plain (d ∷ ds) es p q =
 
 runs-plain : (old : Loaded) (commands : List Command) (splices : List Splice) (relexed : ℕ) (listings : List Data) (new : Loaded) → Runs old commands splices relexed listings new → AllPlain listings
 runs-plain old commands splices relexed listings new nothing_ran = refl
-runs-plain old commands splices relexed listings new (ran_more before here read listed between ran c done more after are performs) =
+runs-plain old commands splices relexed listings new (ran_more before here read listed between ran reads c done more after are performs) =
     joined-plain listed more (runs-plain old before here read listed between ran) (told-plain between c more are)
 
 pub does-plain : (step : Step) (old new : Session) (report : Report) → Does step old report new → has_float (view report.info) ≡ false

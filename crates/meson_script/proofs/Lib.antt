@@ -6,3 +6,5 @@ pub mod StepFacts
 pub mod Keeping
 pub mod Counts
 pub mod Outcomes
+pub mod SameTrees
+pub mod Scripts

@@ -1,7 +1,7 @@
 -- The files and names after commands.
-use Rattle.std.proofs.Common.{◌≡◌, ℕ, suc, ◌+◌, ◌<◌, subst, length-take, take, drop, length, get_or, arith, List, [], ◌∷◌, ◌++◌, Bool, true, false, map, Result, Ok, Err, refl, sym, ap, ◌∙◌}
+use Rattle.std.proofs.Common.{◌≡◌, ℕ, suc, ◌+◌, ◌<◌, ◌≤◌, subst, length-take, take, drop, length, get_or, arith, List, [], ◌∷◌, ◌++◌, Bool, true, false, map, Result, Ok, Err, refl, sym, ap, ◌∙◌}
 use Rattle.std.specs.Prelude.{bytes_eq, if◌then◌else◌}
-use Rattle.std.proofs.lemmas.List.{map-append, take_more}
+use Rattle.std.proofs.lemmas.List.{map-append, take_all, take_more}
 use Rattle.std.proofs.Math.Seq.{split_at}
 use Rattle.serde_json.specs.Data.{Data}
 use Rattle.serde_json.specs.View.{view}
@@ -10,7 +10,7 @@ use Rattle.meson_splice.specs.declared.fault.SpliceFault.{SpliceFault}
 use Rattle.meson_splice.specs.declared.file_set.File.{File}
 use Rattle.meson_splice.specs.declared.splice.Splice.{Splice}
 use Rattle.meson_splice.specs.Patch.{patched, patched_in, patched_all, then_ok}
-use Rattle.meson_calls.specs.Loading.{Loaded}
+use Rattle.meson_calls.specs.Loading.{IsProject, Loaded}
 use Rattle.meson_steps.specs.declared.command.Command.{Command}
 use Rattle.meson_steps.specs.declared.command.Command.TheVariants as command
 use Rattle.meson_steps.specs.declared.command.Done.{Done}
@@ -21,17 +21,17 @@ use Rattle.meson_plan.proofs.SplicesDone.{joined, performs-patch, performs-text,
 use Rattle.meson_listing.specs.Laws.{no_steps}
 use Rattle.meson_listing.specs.Listing.{kwargs_listing, target_listing}
 use Rattle.meson_listing.proofs.Agreeing.{calls_agree, targets_agree}
-use Rattle.meson_script.specs.Running.{MayStop, Runs, nothing_ran, ran_more, told}
+use Rattle.meson_script.specs.Running.{MayStop, Reaches, Runs, nothing_ran, ran_more, told}
 use Rattle.meson_script.specs.Laws.{RunsPatch, RunsText}
 
 pub runs-patch : RunsPatch
 runs-patch old new commands splices relexed listings (nothing_ran) = refl
-runs-patch old new commands splices relexed listings (ran_more before here read lists between rest c done more after tells performs) =
+runs-patch old new commands splices relexed listings (ran_more before here read lists between rest reads c done more after tells performs) =
     joined old.files between.files new.files here done.change.splices (runs-patch old between before here read lists rest) (performs-patch between c done new performs)
 
 pub runs-text : RunsText
 runs-text old new commands splices relexed listings (nothing_ran) = tt
-runs-text old new commands splices relexed listings (ran_more before here read lists between rest c done more after tells performs) =
+runs-text old new commands splices relexed listings (ran_more before here read lists between rest reads c done more after tells performs) =
     texts-append here done.change.splices (runs-text old between before here read lists rest) (performs-text between c done new performs)
 
 -- ---- names stay
@@ -80,12 +80,12 @@ pub nothing-run : (old : Loaded) (splices : List Splice) (listings : List Value)
 nothing-run old splices listings is untold_all = subst (λ ls. Runs old [] splices 0 (map view ls) old) (sym untold_all) (subst (λ ss. Runs old [] ss 0 [] old) (sym is) nothing_ran)
 
 pub one-more : (old between new : Loaded) (commands : List Command) (i : ℕ) (here splices : List Splice) (read relexed : ℕ) (lists listings more : List Value) (c : Command) (done : Done)
-    → Runs old (take i commands) here read (map view lists) between → i < length commands → c ≡ get_or commands i c → told between c ≡ Ok (map view more) → Performs between c done new
+    → Runs old (take i commands) here read (map view lists) between → IsProject between → i < length commands → c ≡ get_or commands i c → told between c ≡ Ok (map view more) → Performs between c done new
     → splices ≡ here ++ done.change.splices → relexed ≡ saturated (read + done.relexed) → listings ≡ lists ++ more
     → Runs old (take (i + 1) commands) splices relexed (map view listings) new
-one-more old between new commands i here splices read relexed lists listings more c done ran within is tells performs are counted listed =
+one-more old between new commands i here splices read relexed lists listings more c done ran reads within is tells performs are counted listed =
     let further : take i commands ++ c ∷ [] ≡ take (i + 1) commands = ap (λ x. take i commands ++ x ∷ []) is ∙ sym (take_more commands i c within) in
-    let all = ran_more (take i commands) here read (map view lists) between ran c done (map view more) new tells performs in
+    let all = ran_more (take i commands) here read (map view lists) between ran reads c done (map view more) new tells performs in
     let told_all : map view lists ++ map view more ≡ map view listings = sym (map-append view lists more) ∙ ap (map view) (sym listed) in
     let taken = subst (λ cs. Runs old cs (here ++ done.change.splices) (saturated (read + done.relexed)) (map view lists ++ map view more) new) further all in
     let spliced = subst (λ ss. Runs old (take (i + 1) commands) ss (saturated (read + done.relexed)) (map view lists ++ map view more) new) (sym are) taken in
@@ -96,8 +96,8 @@ taken_len : {A : Type 0} (xs : List A) (i : ℕ) → i < length xs → i ≡ len
 taken_len xs i within = grind (arith, length-take)
 
 pub stops-there : (old between : Loaded) (commands : List Command) (i : ℕ) (here : List Splice) (read : ℕ) (lists : List Data) (c : Command) (e : Refusal)
-    → Runs old (take i commands) here read lists between → i < length commands → c ≡ get_or commands i c → MayRefuse between c e → MayStop old commands i e
-stops-there old between commands i here read lists c e ran within is refuses = record {
+    → Runs old (take i commands) here read lists between → IsProject between → i < length commands → c ≡ get_or commands i c → MayRefuse between c e → MayStop old commands i e
+stops-there old between commands i here read lists c e ran reads within is refuses = record {
   before = take i commands;
   command = c;
   after = drop (suc i) commands;
@@ -108,19 +108,32 @@ stops-there old between commands i here read lists c e ran within is refuses = r
   listings = lists;
   between = between;
   runs = ran;
+  reads = reads;
   refuses = refuses;
 }
 
+-- ---- how far commands came
+
+pub reaches : (old between : Loaded) (commands : List Command) (i : ℕ) (here : List Splice) (read : ℕ) (lists : List Data) → Runs old (take i commands) here read lists between → i ≤ length commands → Reaches old commands i
+reaches old between commands i here read lists ran within = record { within = within; splices = here; relexed = read; listings = lists; between = between; runs = ran }
+
+pub reaches-none : (old : Loaded) (commands : List Command) (i : ℕ) → i ≡ 0 → Reaches old commands i
+reaches-none old commands i is = subst (Reaches old commands) (sym is) (reaches old old commands 0 [] 0 [] nothing_ran (omega arith))
+
+pub reaches-all : (old between : Loaded) (commands : List Command) (here : List Splice) (read : ℕ) (lists : List Data) → Runs old commands here read lists between → Reaches old commands (length commands)
+reaches-all old between commands here read lists ran =
+    reaches old between commands (length commands) here read lists (subst (λ cs. Runs old cs here read lists between) (sym (take_all (length commands) commands (omega arith))) ran) (omega arith)
+
 -- ---- one command alone
 
-pub one-run : (old new : Loaded) (c : Command) (done : Done) (more : List Data) → told old c ≡ Ok more → Performs old c done new → Runs old (c ∷ []) done.change.splices done.relexed more new
-one-run old new c done more tells performs =
+pub one-run : (old new : Loaded) (c : Command) (done : Done) (more : List Data) → IsProject old → told old c ≡ Ok more → Performs old c done new → Runs old (c ∷ []) done.change.splices done.relexed more new
+one-run old new c done more reads tells performs =
     let counted = performs.is_relexed in
     let same : saturated (0 + done.relexed) ≡ done.relexed = omega arith in
-    subst (λ n. Runs old (c ∷ []) done.change.splices n more new) same (ran_more [] [] 0 [] old nothing_ran c done more new tells performs)
+    subst (λ n. Runs old (c ∷ []) done.change.splices n more new) same (ran_more [] [] 0 [] old nothing_ran reads c done more new tells performs)
 
-pub one-stops : (old : Loaded) (c : Command) (e : Refusal) → MayRefuse old c e → MayStop old (c ∷ []) 0 e
-one-stops old c e refuses = record {
+pub one-stops : (old : Loaded) (c : Command) (e : Refusal) → IsProject old → MayRefuse old c e → MayStop old (c ∷ []) 0 e
+one-stops old c e reads refuses = record {
   before = [];
   command = c;
   after = [];
@@ -131,6 +144,7 @@ one-stops old c e refuses = record {
   listings = [];
   between = old;
   runs = nothing_ran;
+  reads = reads;
   refuses = refuses;
 }
 

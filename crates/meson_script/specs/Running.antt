@@ -1,11 +1,11 @@
 -- The commands of a script, one after another.
-use Rattle.std.specs.Prelude.{◌≡◌, ℕ, ◌+◌, List, [], ◌∷◌, ◌++◌, length, Result, Ok}
+use Rattle.std.specs.Prelude.{◌≡◌, ◌≤◌, ℕ, ◌+◌, List, [], ◌∷◌, ◌++◌, length, take, Result, Ok}
 use Rattle.serde_json.specs.Data.{Data, array}
 use Rattle.serde_json.specs.View.{items_of, view}
 use Rattle.meson_splice.specs.declared.splice.Splice.{Splice}
 use Rattle.meson_splice.specs.Patch.{then_ok}
 use Rattle.meson_calls.specs.declared.refusal.Refusal.{Refusal}
-use Rattle.meson_calls.specs.Loading.{Loaded}
+use Rattle.meson_calls.specs.Loading.{IsProject, Loaded}
 use Rattle.meson_script.specs.declared.session.Report.{Report}
 use Rattle.meson_script.specs.declared.session.Session.{Session}
 use Rattle.meson_script.specs.Reports.{differing}
@@ -33,13 +33,23 @@ told l (command.KwargsDelete role id keys) = Ok []
 told l (command.OptionsSet pairs) = Ok []
 told l (command.OptionsDelete names) = Ok []
 
--- Each command is performed on what the ones before it left, and tells of that; the splices and listings are those of all, in order.
+-- Each command is performed on what the ones before it left, a project whose trees are those of its files, and tells of that; the splices and
+-- listings are those of all, in order.
 pub data Runs (old : Loaded) : List Command → List Splice → ℕ → List Data → Loaded → Type 0 where
   nothing_ran : Runs old [] [] 0 [] old
   ran_more : (commands : List Command) (splices : List Splice) (relexed : ℕ) (listings : List Data) (between : Loaded)
-      → Runs old commands splices relexed listings between
+      → Runs old commands splices relexed listings between → IsProject between
       → (c : Command) (done : Done) (more : List Data) (new : Loaded) → told between c ≡ Ok more → Performs between c done new
       → Runs old (commands ++ c ∷ []) (splices ++ done.change.splices) (saturated (relexed + done.relexed)) (listings ++ more) new
+
+-- The commands before this number are performed: that of the command where a script ends, or of all of them.
+pub record Reaches (old : Loaded) (commands : List Command) (index : ℕ) : Type 0 where
+  pub within : index ≤ length commands
+  pub splices : List Splice
+  pub relexed : ℕ
+  pub listings : List Data
+  pub between : Loaded
+  pub runs : Runs old (take index commands) splices relexed listings between
 
 -- The command of this number may be refused so, and those before it are performed.
 pub record MayStop (old : Loaded) (commands : List Command) (index : ℕ) (refusal : Refusal) : Type 0 where
@@ -53,6 +63,7 @@ pub record MayStop (old : Loaded) (commands : List Command) (index : ℕ) (refus
   pub listings : List Data
   pub between : Loaded
   pub runs : Runs old before splices relexed listings between
+  pub reads : IsProject between
   pub refuses : MayRefuse between command refusal
 
 -- An accepted script: its commands run, and their splices are kept as one change, also where there are none. It tells the listings.

@@ -17,7 +17,8 @@ pub struct Unstarted {
 /// Why a script is refused. Nothing was changed then.
 #[derive(Debug, Drop, PartialEq)]
 pub struct RunFault {
-    /// The command that is refused, counted from 0, or the number of commands where memory was refused behind the last one.
+    /// The command that is refused, counted from 0, or the number of commands where memory was refused behind the last one. Those before it were
+    /// performed; where memory was refused before any was, it is 0.
     pub index: usize,
     pub refusal: Refusal,
 }

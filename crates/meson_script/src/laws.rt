@@ -1,7 +1,7 @@
 //! Laws of runs, undos and redos. The functions do nothing: what they ensure is the law.
 
 ghost use Rattle.meson_script.specs.Laws.{BeginsAStack, LoadsOrWantsMemory, NothingIsRedone, NothingIsUndone, RedoIsAStep, RunIsAStep, RunsPatch, RunsText, RunsThenUndosRestore, UndoIsAStep};
-ghost use Rattle.meson_script.specs.Outcomes.{NotRefused, OneOutcome, OneRefusal};
+ghost use Rattle.meson_script.specs.Outcomes.{NotRefused, NotStopped, OneOutcome, OneProject, OneRefusal, OneResult, OneStop};
 
 /// From every state, runs and then as many undos give the files before them.
 pub fn runs_then_undos_restore()
@@ -50,4 +50,12 @@ pub fn one_outcome()
     ensures performed { OneOutcome }
     ensures apart { NotRefused }
     ensures refused { OneRefusal }
+{}
+
+/// A whole script has one outcome: it is done with one result, or refused at one command for one reason.
+pub fn one_script()
+    ensures performed { OneResult }
+    ensures places { OneProject }
+    ensures apart { NotStopped }
+    ensures refused { OneStop }
 {}

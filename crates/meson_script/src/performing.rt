@@ -1,10 +1,10 @@
 //! The commands of a script, one after another.
 
-ghost use Rattle.std.specs.Prelude.{◌≡◌, ◌≢◌, ◌+◌, ◌++◌, ◌<◌, Err, IfErr, IfOk, Ok, OnOk, length, map, option_to_list};
+ghost use Rattle.std.specs.Prelude.{◌≡◌, ◌≢◌, ◌+◌, ◌++◌, Err, IfErr, IfOk, Ok, OnOk, map, option_to_list};
 ghost use Rattle.serde_json.specs.View.{view};
 ghost use Rattle.meson_steps.specs.Results.{saturated};
 ghost use Rattle.meson_calls.specs.declared.refusal.Refusal.TheVariants.{OutOfMemory};
-ghost use Rattle.meson_script.specs.Running.{MayStop, Runs, told};
+ghost use Rattle.meson_script.specs.Running.{MayStop, Reaches, Runs, told};
 
 use crate::fault::RunFault;
 use meson_listing::{info_kwargs, info_target};
@@ -91,7 +91,7 @@ pub(crate) fn perform_all(
 ) -> Result<Ran, RunFault>
     ensures done { IfOk result (λ ran. Runs project.old commands.now ran.splices.items ran.relexed (map view ran.listings.items) project.new) }
     ensures refused { IfErr result (λ f. f.refusal ≢ OutOfMemory → MayStop project.old commands.now f.index f.refusal) }
-    ensures index { IfErr result (λ f. f.index < length commands.now) }
+    ensures index { IfErr result (λ f. Reaches project.old commands.now f.index) }
 {
     let mut ran = Ran {
         splices: Vec::new(alloc),
@@ -99,6 +99,7 @@ pub(crate) fn perform_all(
         listings: Vec::new(alloc),
     };
     for (index, command) in commands.iter().enumerate() {
+        project.reads();
         let listing = match told(alloc, project, command) {
             Ok(listing) => listing,
             Err(refusal) => return Err(RunFault { index, refusal }),

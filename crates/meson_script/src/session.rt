@@ -1,10 +1,10 @@
 //! A project with the history of what was done to it.
 
-ghost use Rattle.std.specs.Prelude.{◌≡◌, ◌≢◌, ◌≤◌, ◌∷◌, [], IfErr, IfOk, OnErr, OnOk, Some, length, true};
+ghost use Rattle.std.specs.Prelude.{◌≡◌, ◌≢◌, ◌∷◌, [], IfErr, IfOk, OnErr, OnOk, Some, length, true};
 ghost use Rattle.meson_calls.specs.Loading.{IsProject, MayNotLoad};
 ghost use Rattle.meson_calls.specs.declared.refusal.Refusal.TheVariants.{OutOfMemory};
 ghost use Rattle.meson_json.specs.Log.{has_text};
-ghost use Rattle.meson_script.specs.Running.{Keeps, MayStop};
+ghost use Rattle.meson_script.specs.Running.{Keeps, MayStop, Reaches};
 ghost use Rattle.meson_script.specs.Stack.{RefusesRedo, RefusesUndo, Stack, Stands, ran, redo, undo};
 ghost use Rattle.meson_script.specs.Undoing.{MayNotStep, Steps};
 ghost use Rattle.meson_splice.specs.Past.{redone, undone};
@@ -102,7 +102,8 @@ impl Session {
     pub fn run(&mut self, alloc: Global, script: &Script) -> Result<Report, RunFault>
         ensures done { IfOk result (λ r. Keeps self.old script.now.commands r self.new) }
         ensures refused { IfErr result (λ f. f.refusal ≢ OutOfMemory → MayStop self.old.project script.now.commands f.index f.refusal) }
-        ensures index { IfErr result (λ f. f.index ≤ length script.now.commands) }
+        // Also where memory is refused, the commands before that number were performed.
+        ensures index { IfErr result (λ f. Reaches self.old.project script.now.commands f.index) }
         ensures kept { OnErr result (self.new ≡ self.old) }
         // Of a history that fits, this is a step of the stack.
         ensures step { OnOk result ((s : Stack) → Stands self.old.history self.old.project.files s
@@ -132,6 +133,7 @@ impl Session {
         ensures kept { OnErr result (self.new ≡ self.old) }
         ensures project { OnOk result (IsProject self.new.project) }
     {
+        self.project.reads();
         let before = match self.project.files().copy(alloc) {
             Ok(files) => files,
             Err(_) => return Err(unmade()),
@@ -170,7 +172,7 @@ impl Session {
     fn run_all(&mut self, alloc: Global, commands: &[Command]) -> Result<Report, RunFault>
         ensures done { IfOk result (λ r. Keeps self.old commands.now r self.new) }
         ensures refused { IfErr result (λ f. f.refusal ≢ OutOfMemory → MayStop self.old.project commands.now f.index f.refusal) }
-        ensures index { IfErr result (λ f. f.index ≤ length commands.now) }
+        ensures index { IfErr result (λ f. Reaches self.old.project commands.now f.index) }
         ensures kept { OnErr result (self.new ≡ self.old) }
         ensures project { OnOk result (IsProject self.new.project) }
     {

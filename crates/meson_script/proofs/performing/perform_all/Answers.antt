@@ -2,7 +2,7 @@ use Rattle.std.proofs.Common.{map, subst, arith, option_to_list}
 use Rattle.std.proofs.lemmas.List.{take_all}
 use Rattle.serde_json.specs.View.{view}
 use Rattle.meson_script.specs.Running.{Runs}
-use Rattle.meson_script.proofs.RunFacts.{nothing-run, one-more, stops-there, told-refused}
+use Rattle.meson_script.proofs.RunFacts.{nothing-run, one-more, reaches, stops-there, told-refused}
 use Rattle.meson_script.proofs.performing.perform_all.Goals as goal
 
 pub loop-index-init : goal.loop-index-init
@@ -13,21 +13,36 @@ loop-index-preserved c =
     let l = c.loop-index in
     one-more c.args.project.now l.project c.perform.new.self c.args.commands.now l.index l.ran.splices.items c.add.new.self.splices.items l.ran.relexed c.add.new.self.relexed
     l.ran.listings.items c.add.new.self.listings.items (option_to_list c.in-Ok.listing) c.index-commands-index.result c.in-Ok-perform.done
-    l.invariant c.loop-index-test.true c.index-commands-index.is c.in-Ok.ensures.told c.in-Ok-perform.ensures.done c.in_default.ensures.splices c.in_default.ensures.relexed c.in_default.ensures.listings
+    l.invariant c.reads.ensures c.loop-index-test.true c.index-commands-index.is c.in-Ok.ensures.told c.in-Ok-perform.ensures.done c.in_default.ensures.splices c.in_default.ensures.relexed c.in_default.ensures.listings
 
 pub returns-in-Err-clause-refused : goal.returns-in-Err-clause-refused
 returns-in-Err-clause-refused c = λ told.
     let l = c.loop-index in
     stops-there c.args.project.now l.project c.args.commands.now l.index l.ran.splices.items l.ran.relexed (map view l.ran.listings.items) c.index-commands-index.result c.in-Err.refusal
-    l.invariant c.loop-index-test.true c.index-commands-index.is (told-refused l.project c.index-commands-index.result c.in-Err.refusal (c.in-Err.ensures.refused told))
+    l.invariant c.reads.ensures c.loop-index-test.true c.index-commands-index.is (told-refused l.project c.index-commands-index.result c.in-Err.refusal (c.in-Err.ensures.refused told))
 
 pub returns-in-Err-perform-clause-refused : goal.returns-in-Err-perform-clause-refused
 returns-in-Err-perform-clause-refused c = λ told.
     let l = c.loop-index in
     stops-there c.args.project.now l.project c.args.commands.now l.index l.ran.splices.items l.ran.relexed (map view l.ran.listings.items) c.index-commands-index.result c.in-Err-perform.refusal
-    l.invariant c.loop-index-test.true c.index-commands-index.is (c.in-Err-perform.ensures.refused told)
+    l.invariant c.reads.ensures c.loop-index-test.true c.index-commands-index.is (c.in-Err-perform.ensures.refused told)
 
 pub returns-clause-done : goal.returns-clause-done
 returns-clause-done c =
     let l = c.loop-index in
     subst (λ cs. Runs c.args.project.now cs l.ran.splices.items l.ran.relexed (map view l.ran.listings.items) l.project) (take_all l.index c.args.commands.now (omega arith)) l.invariant
+
+pub returns-in-Err-clause-index : goal.returns-in-Err-clause-index
+returns-in-Err-clause-index c =
+    let l = c.loop-index in
+    reaches c.args.project.now l.project c.args.commands.now l.index l.ran.splices.items l.ran.relexed (map view l.ran.listings.items) l.invariant (omega (arith, c.loop-index-test.true))
+
+pub returns-in-Err-perform-clause-index : goal.returns-in-Err-perform-clause-index
+returns-in-Err-perform-clause-index c =
+    let l = c.loop-index in
+    reaches c.args.project.now l.project c.args.commands.now l.index l.ran.splices.items l.ran.relexed (map view l.ran.listings.items) l.invariant (omega (arith, c.loop-index-test.true))
+
+pub returns-in-Err-add-clause-index : goal.returns-in-Err-add-clause-index
+returns-in-Err-add-clause-index c =
+    let l = c.loop-index in
+    reaches c.args.project.now l.project c.args.commands.now l.index l.ran.splices.items l.ran.relexed (map view l.ran.listings.items) l.invariant (omega (arith, c.loop-index-test.true))

@@ -1,5 +1,6 @@
 use Rattle.std.proofs.Common.{◌≡◌, ◌∷◌, [], sym}
 use Rattle.meson_script.proofs.Keeping.{keeps-stands, keeps-text}
+use Rattle.meson_script.proofs.RunFacts.{reaches-none}
 use Rattle.meson_script.proofs.session.Session.run.Goals as goal
 
 pub returns-in-Ok-clause-step : goal.returns-in-Ok-clause-step
@@ -13,3 +14,6 @@ returns-in-Ok-run_all-clause-step c = keeps-stands c.args.self.now c.run_all.new
 
 pub returns-in-Ok-run_all-clause-text : goal.returns-in-Ok-run_all-clause-text
 returns-in-Ok-run_all-clause-text c = keeps-text c.args.self.now c.run_all.new.self _ c.in-Ok-run_all.report c.in-Ok-run_all.ensures.done
+
+pub returns-in-Err-clause-index : goal.returns-in-Err-clause-index
+returns-in-Err-clause-index c = reaches-none c.args.self.now.project c.args.script.now.commands c.in-Err.fault.index c.in-Err.ensures.index

@@ -10,7 +10,7 @@ use Rattle.meson_script.proofs.session.Session.run_one.Goals as goal
 
 pub returns-in-Err-listed-clause-refused : goal.returns-in-Err-listed-clause-refused
 returns-in-Err-listed-clause-refused c = λ other.
-    one-stops c.args.self.now.project c.args.command.now c.in-Err-listed.refusal (told-refused c.args.self.now.project c.args.command.now c.in-Err-listed.refusal (c.in-Err-listed.ensures.refused other))
+    one-stops c.args.self.now.project c.args.command.now c.in-Err-listed.refusal c.reads.ensures (told-refused c.args.self.now.project c.args.command.now c.in-Err-listed.refusal (c.in-Err-listed.ensures.refused other))
 
 pub count_differing-requires : goal.count_differing-requires
 count_differing-requires c =
@@ -28,7 +28,7 @@ returns-in-Ok-perform-clause-done c =
     record {
       splices = done.change.splices;
       listings = map view c.in-Ok-listed.listings.items;
-      runs = one-run old.project c.perform.new.self c.args.command.now done (map view c.in-Ok-listed.listings.items) c.in-Ok-listed.ensures.told c.in-Ok-perform.ensures.done;
+      runs = one-run old.project c.perform.new.self c.args.command.now done (map view c.in-Ok-listed.listings.items) c.reads.ensures c.in-Ok-listed.ensures.told c.in-Ok-perform.ensures.done;
       kept = ap₂ (λ before behind. let h : History = record { past = before; future = behind } in h) past c.clear.ensures;
       files = c.count_differing.ensures ∙ ap₂ differing (c.in-Ok.ensures.copied ∙ c.files.ensures) c.files-in-Ok-perform.ensures;
       count = ap length c.get.ensures;
@@ -36,4 +36,4 @@ returns-in-Ok-perform-clause-done c =
     }
 
 pub returns-clause-refused : goal.returns-clause-refused
-returns-clause-refused c = λ other. one-stops c.args.self.now.project c.args.command.now c.in-Err-perform.refusal (c.in-Err-perform.ensures.refused other)
+returns-clause-refused c = λ other. one-stops c.args.self.now.project c.args.command.now c.in-Err-perform.refusal c.reads.ensures (c.in-Err-perform.ensures.refused other)

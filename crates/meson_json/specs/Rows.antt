@@ -1,0 +1,89 @@
+-- Texts of scripts, each with the commands that it stands for or with its first fault; and logs.
+use Rattle.std.specs.Prelude.{◌≡◌, ℕ, ◌==◌, List, [], ◌∷◌, map, codes, if◌then◌else◌, true, Some, None, Result, Ok, Err}
+use Rattle.serde_json.specs.Data.{Items, array}
+use Rattle.serde_json.specs.Events.{items_len}
+use Rattle.serde_json.specs.Read.{read}
+use Rattle.meson_splice.specs.declared.history.History.{History}
+use Rattle.meson_splice.specs.declared.splice.Splice.{Splice}
+use Rattle.meson_calls.specs.declared.call.Role.TheVariants as role
+use Rattle.meson_steps.specs.declared.command.Command.{Command}
+use Rattle.meson_steps.specs.declared.command.Command.TheVariants as command
+use Rattle.meson_steps.specs.declared.command.Setting.TheVariants as setting
+use Rattle.meson_json.specs.Log.{log_of, logged}
+use Rattle.meson_json.specs.Scripts.{script_of}
+use Rattle.meson_json.specs.declared.fault.ScriptFault.{ScriptFault}
+use Rattle.meson_json.specs.declared.fault.ScriptFault.TheVariants.{NotJson, NotArray, TooMany, NotObject, UnknownType, BadField, UnknownOperation, Unsupported}
+
+-- a text of JSON, in which a single quote (39) is written for a double one (34)
+abbrev quoted : List ℕ → List ℕ
+quoted text = map (λ b. if b == 39 then 34 else b) text
+
+abbrev gives : List ℕ → Result (List Command) ScriptFault → Type 0
+gives text commands = script_of (read (quoted text)) ≡ commands
+
+-- an entry alone
+abbrev stands_for : List ℕ → Command → Type 0
+stands_for text c = gives text (Ok (c ∷ []))
+
+-- ---- scripts
+
+abbrev pub TargetEntries : Type 0
+TargetEntries =
+    stands_for (codes "[{'type':'target','target':'e','operation':'src_add','sources':['b.c','a.c']}]") (command.SourcesAdd (codes "e") (codes "b.c" ∷ codes "a.c" ∷ []))
+    × stands_for (codes "[{'type':'target','target':'e','operation':'src_rm','sources':['a.c']}]") (command.SourcesRemove (codes "e") (codes "a.c" ∷ []))
+    × stands_for (codes "[{'type':'target','target':'e','operation':'extra_files_add','sources':['x.h']}]") (command.ExtraAdd (codes "e") (codes "x.h" ∷ []))
+    × stands_for (codes "[{'type':'target','target':'e','operation':'extra_files_rm'}]") (command.ExtraRemove (codes "e") [])
+    × stands_for (codes "[{'type':'target','target':'l','operation':'target_add','sources':['a.c'],'subdir':'s','target_type':'jar'}]") (command.TargetAdd (codes "l") (codes "jar") (codes "s") (codes "a.c" ∷ []))
+    × stands_for (codes "[{'type':'target','target':'l','operation':'target_add'}]") (command.TargetAdd (codes "l") (codes "executable") [] [])
+    × stands_for (codes "[{'type':'target','target':'l','operation':'target_rm','kind':1}]") (command.TargetRemove (codes "l"))
+    × stands_for (codes "[{'type':'x','target':'e','operation':'info','type':'target'}]") (command.TargetInfo (codes "e"))
+
+-- keys and options in the order of their bytes
+abbrev pub ArgumentEntries : Type 0
+ArgumentEntries =
+    stands_for (codes "[{'type':'kwargs','function':'project','id':'/','operation':'set','kwargs':{'version':'2','license':['a','b']}}]") (command.KwargsSet role.Project (codes "/") ((codes "license", setting.Texts (codes "a" ∷ codes "b" ∷ [])) ∷ (codes "version", setting.Text (codes "2")) ∷ []))
+    × stands_for (codes "[{'type':'kwargs','function':'target','id':'e','operation':'set','kwargs':{'install':true}}]") (command.KwargsSet role.Target (codes "e") ((codes "install", setting.Bool true) ∷ []))
+    × stands_for (codes "[{'type':'kwargs','function':'dependency','id':'z','operation':'add','kwargs':{'version':'<2'}}]") (command.KwargsAdd role.Dependency (codes "z") ((codes "version", setting.Text (codes "<2")) ∷ []))
+    × stands_for (codes "[{'type':'kwargs','function':'dependency','id':'z','operation':'remove'}]") (command.KwargsRemove role.Dependency (codes "z") [])
+    × stands_for (codes "[{'type':'kwargs','function':'target','id':'e','operation':'delete','kwargs':{'install':null,'a':1}}]") (command.KwargsDelete role.Target (codes "e") (codes "a" ∷ codes "install" ∷ []))
+    × stands_for (codes "[{'type':'kwargs','function':'project','id':'/','operation':'info'}]") (command.KwargsInfo role.Project (codes "/"))
+    × stands_for (codes "[{'type':'default_options','operation':'set','options':{'warning_level':2,'b_lto':true}}]") (command.OptionsSet ((codes "b_lto", codes "true") ∷ (codes "warning_level", codes "2") ∷ []))
+    × stands_for (codes "[{'type':'default_options','operation':'delete','options':{'cpp_std':0}}]") (command.OptionsDelete (codes "cpp_std" ∷ []))
+
+-- entry by entry, and each in a fixed order
+abbrev pub Faults : Type 0
+Faults =
+    gives (codes "[") (Err NotJson)
+    × gives (codes "{}") (Err NotArray)
+    × gives (codes "[]") (Ok [])
+    × ((entries : Items) → items_len entries ≡ 4097 → script_of (Some (array entries)) ≡ Err TooMany)
+    × gives (codes "[1]") (Err (NotObject 0))
+    × gives (codes "[{}]") (Err (UnknownType 0))
+    × gives (codes "[{'type':'x'}]") (Err (UnknownType 0))
+    × gives (codes "[{'type':'kwargs'}]") (Err (BadField 0 (codes "operation")))
+    × gives (codes "[{'type':'kwargs','operation':'rename'}]") (Err (UnknownOperation 0))
+    × gives (codes "[{'type':'kwargs','operation':'remove_regex'}]") (Err (Unsupported 0))
+    × gives (codes "[{'type':'kwargs','operation':'set','id':1}]") (Err (BadField 0 (codes "function")))
+    × gives (codes "[{'type':'target','operation':'src_add'}]") (Err (BadField 0 (codes "target")))
+    × gives (codes "[{'type':'target','operation':'info','target':'e','subdir':null}]") (Err (BadField 0 (codes "subdir")))
+    × gives (codes "[{'type':'default_options','operation':'set','options':{'a':[]}}]") (Err (BadField 0 (codes "options")))
+    × gives (codes "[{'type':'target','operation':'info','target':'e'},[]]") (Err (NotObject 1))
+
+-- ---- logs
+
+-- `, 'b.c'` put in at 50
+abbrev an_insertion : Splice
+an_insertion = record { file = codes "meson.build"; at = 50; was = []; now = codes ", 'b.c'" }
+
+abbrev its_history : History
+its_history = record { past = record { splices = an_insertion ∷ [] } ∷ []; future = [] }
+
+abbrev pub Logs : Type 0
+Logs =
+    (log_of its_history ≡ Ok (codes "{\"future\":[],\"past\":[[{\"at\":50,\"file\":\"meson.build\",\"now\":\", 'b.c'\",\"was\":\"\"}]],\"version\":1}\n"))
+    × (logged (quoted (codes "{'version':1, 'future':[], 'past':[[]]}")) ≡ Some (record { past = record { splices = [] } ∷ []; future = [] }))
+    × (logged (codes "{}") ≡ None)
+    × (logged (quoted (codes "{'future':[],'past':[],'version':3}")) ≡ None)
+    × (logged (quoted (codes "{'future':[],'past':[],'title':'','version':1}")) ≡ None)
+    × (logged (quoted (codes "{'future':[],'past':[[{'at':-1,'file':'f','now':'','was':''}]],'version':1}")) ≡ None)
+    × (logged (quoted (codes "{'future':[],'past':[[{'at':'4','file':'f','now':'','was':''}]],'version':1}")) ≡ None)

@@ -1,0 +1,15 @@
+//! Laws of scripts and logs. The functions do nothing: what they ensure is the law.
+
+ghost use Rattle.meson_json.specs.Rows.{ArgumentEntries, Faults, Logs, TargetEntries};
+
+/// Which commands some texts are, and why some are none.
+pub fn script_rows()
+    ensures targets { TargetEntries }
+    ensures arguments { ArgumentEntries }
+    ensures faults { Faults }
+{}
+
+/// Which logs some histories have, and which texts are logs.
+pub fn log_rows()
+    ensures { Logs }
+{}

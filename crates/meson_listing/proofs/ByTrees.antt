@@ -1,0 +1,39 @@
+-- A listing goes by the files and the trees of a project.
+use Rattle.std.proofs.Common.{◌≡◌, ℕ, List, Result, Ok, ap₂}
+use Rattle.std.specs.Prelude.{option_and_then, option_map}
+use Rattle.serde_json.specs.Data.{Data}
+use Rattle.meson_lex.specs.declared.kinds.Span.{Span}
+use Rattle.meson_splice.specs.declared.file_set.File.{File}
+use Rattle.meson_splice.specs.Files.{bytes_at}
+use Rattle.meson_splice.specs.Patch.{then_ok}
+use Rattle.meson_calls.specs.declared.call.Role.{Role}
+use Rattle.meson_calls.specs.declared.call.Role.TheVariants as role
+use Rattle.meson_calls.specs.declared.refusal.Refusal.{Refusal}
+use Rattle.meson_calls.specs.Finding.{the_call}
+use Rattle.meson_calls.specs.Loading.{Loaded, named_trees, trees}
+use Rattle.meson_calls.specs.Project.{Project}
+use Rattle.meson_calls.specs.Sources.{call_at, sources}
+use Rattle.meson_sources.specs.Extras.{extra_files}
+use Rattle.meson_plan.specs.Details.{head, keywords_of_call}
+use Rattle.meson_listing.specs.Entries.{target_data, call_data}
+use Rattle.meson_listing.specs.Listing.{kwargs_listing, or_not_found, target_listing}
+
+-- the listing of a target of these files and this project
+abbrev pub target_of : List File → Project Span → List ℕ → Result Data Refusal
+target_of files p id =
+    then_ok (the_call p role.Target id) (λ c. or_not_found
+    (option_and_then (λ h. option_and_then (λ s. option_map (λ x. then_ok s (λ is. then_ok x (λ xs. Ok (target_data files c.place.file h is xs))))
+    (extra_files p c.place)) (sources p c.place)) (head p c.place)))
+
+-- the listing of the keyword arguments of a call
+abbrev pub call_of : List File → Project Span → Role → List ℕ → Result Data Refusal
+call_of files p r id =
+    then_ok (the_call p r id) (λ c. or_not_found
+    (option_and_then (λ h. option_map (λ ks. then_ok ks (λ pairs. Ok (call_data files c.place.file h pairs)))
+    (option_map (λ found. keywords_of_call (bytes_at c.place.file files) r found.it) (call_at p c.place))) (head p c.place)))
+
+pub targets-same : (p q : Loaded) (id : List ℕ) → p.files ≡ q.files → trees p ≡ trees q → target_listing p id ≡ target_listing q id
+targets-same p q id files same = ap₂ (λ fs ts. target_of fs (named_trees fs ts) id) files same
+
+pub calls-same : (p q : Loaded) (r : Role) (id : List ℕ) → p.files ≡ q.files → trees p ≡ trees q → kwargs_listing p r id ≡ kwargs_listing q r id
+calls-same p q r id files same = ap₂ (λ fs ts. call_of fs (named_trees fs ts) r id) files same
