@@ -1,5 +1,5 @@
 -- How a run ends, from what its steps did.
-use Rattle.std.proofs.Common.{◌≡◌, ◌⊎◌, ◌≤◌, true, ℕ, List, [], ◌∷◌, length, Option, Some, None, Result, Ok, Err, inl, inr, refl, sym, ap, ◌∙◌, subst, arith}
+use Rattle.std.proofs.Common.{◌≡◌, ◌⊎◌, ◌≤◌, false, true, ℕ, List, [], ◌∷◌, length, Option, Some, None, Result, Ok, Err, inl, inr, refl, sym, ap, ◌∙◌, subst, arith}
 use Rattle.std.specs.Prelude.{IsTrue}
 use Rattle.meson_command.specs.Asking.{without_text}
 use Rattle.meson_command.specs.declared.asked.Action.{Action}
@@ -24,13 +24,14 @@ use Rattle.meson_rewrite.specs.Lines.{status, store_fault_status}
 use Rattle.meson_rewrite.proofs.Holding.{IsHeld, held-collected}
 use Rattle.meson_rewrite.specs.Logs.{IsLog, empty_log, log_name, with_log}
 use Rattle.meson_rewrite.specs.Opening.{IsNoLog, Opens, OpensNone, log_unread, bad_log, no_log, no_project}
-use Rattle.meson_rewrite.specs.Requests.{AsksFor, AsksForNone, shows_help}
-use Rattle.meson_rewrite.specs.Runs.{Edits, Ends, HasEmptyLog, IsUnchanged, RanOut, StepEnds, done, memory_ran_out, misused, helped, asks_for_none, no_memory, not_opened, refused, steps, told, unwritten, written}
+use Rattle.meson_rewrite.specs.Requests.{AsksFor, AsksForNone, only_asks, script, shows_help}
+use Rattle.meson_rewrite.specs.Runs.{Edits, Ends, HasEmptyLog, IsUnchanged, OnlyAsks, RanOut, StepEnds, done, memory_ran_out, misused, helped, asks_for_none, no_memory, not_opened, refused, steps, told, unwritten, written}
 use Rattle.meson_rewrite.specs.Steps.{MayRefuse, only_tells}
 use Rattle.meson_rewrite.specs.Stops.{WantsMemory}
 use Rattle.meson_rewrite.specs.declared.editing.Edit.{Edit}
 use Rattle.meson_rewrite.specs.declared.request.Request.TheVariants as request
 use Rattle.meson_rewrite.specs.declared.request.Step.{Step}
+use Rattle.meson_rewrite.specs.declared.request.Step.TheVariants.{Tell}
 use Rattle.meson_rewrite.specs.declared.said.Said.{Said}
 use Rattle.meson_rewrite.specs.declared.stop.Stop.{Stop}
 use Rattle.meson_rewrite.specs.declared.stop.Stop.TheVariants.{Usage, Store}
@@ -108,8 +109,8 @@ module _ (dir : Option (List ℕ)) (step : Step) where
       not_opened stop (untouched-then a b c u v) (none-before dir a.content a.failures b.failures c.failures u.counts k stop (subst (λ m. OpensNone m dir b.failures c.failures stop) u.kept opens))
   step-before a b c _ u k (refused old log stop v opens may) = refused old log stop (untouched-then a b c u v) (subst (λ m. Opens m dir old log) u.kept opens) may
   step-before a b c _ u k (told old new log report v opens does only) = told old new log report (untouched-then a b c u v) (subst (λ m. Opens m dir old log) u.kept opens) does only
-  step-before a b c _ u k (done e are) = done (edits-before a.content b.content u.kept e) (replaced-then a b c u (written e) are)
-  step-before a b c _ u k (unwritten e fault taken) = unwritten (edits-before a.content b.content u.kept e) fault (taken-then a b c u (written e) fault taken)
+  step-before a b c _ u k (done e writes are) = done (edits-before a.content b.content u.kept e) writes (replaced-then a b c u (written e) are)
+  step-before a b c _ u k (unwritten e fault writes taken) = unwritten (edits-before a.content b.content u.kept e) fault writes (taken-then a b c u (written e) fault taken)
   step-before a b c _ u k (no_memory stop v wants) = no_memory stop (untouched-then a b c u v) wants
 
   -- ---- by what stopped it, or by what is written
@@ -127,7 +128,7 @@ module _ (dir : Option (List ℕ)) (step : Step) where
       pub told-ends : only_tells step ≡ true → (said : Said) → IsTold old step said → StepEnds dir step b a (Ok said)
       told-ends only said t = subst (λ s. StepEnds dir step b a (Ok s)) (sym t.is_said) (told old t.new log t.report u opens t.does only)
 
-  module _ (b m a : Seen) (u : Untouched b m) (old : Session) (log : List ℕ) (opens : Opens b.content dir old log) (edit : Edit) (e : IsEdited old log step edit) where
+  module _ (b m a : Seen) (u : Untouched b m) (writes : only_tells step ≡ false) (old : Session) (log : List ℕ) (opens : Opens b.content dir old log) (edit : Edit) (e : IsEdited old log step edit) where
     abbrev edits : Edits b.content dir step
     edits = record {
       old = old;
@@ -146,11 +147,11 @@ module _ (dir : Option (List ℕ)) (step : Step) where
 
     pub done-ends : AreReplaced (puts dir edit.before edit.after) m a → StepEnds dir step b a (Ok edit.said)
     done-ends are =
-        subst (λ s. StepEnds dir step b a (Ok s)) (sym e.said) (done edits (replaced-then b m a u (written edits) (subst (λ fs. AreReplaced fs m a) are-written are)))
+        subst (λ s. StepEnds dir step b a (Ok s)) (sym e.said) (done edits writes (replaced-then b m a u (written edits) (subst (λ fs. AreReplaced fs m a) are-written are)))
 
     pub failed-ends : (fault : StoreFault) → CommitFails (puts dir edit.before edit.after) m a fault → StepEnds dir step b a (Err (Store fault))
     failed-ends fault (inl (is, untouched)) = no_memory (Store fault) (untouched-then b m a u untouched) is
-    failed-ends fault (inr taken) = unwritten edits fault (taken-then b m a u (written edits) fault (subst (λ fs. TakenBack fs m a fault) are-written taken))
+    failed-ends fault (inr taken) = unwritten edits fault writes (taken-then b m a u (written edits) fault (subst (λ fs. TakenBack fs m a fault) are-written taken))
 
 -- ---- with these statuses the store holds what it held
 
@@ -214,8 +215,8 @@ module _ (asked : Result Asked UsageFault) (before after : Seen) where
   step-keeps a step is _ (not_opened stop u opens) s = inl (untouched-same before after u)
   step-keeps a step is _ (refused old log stop u opens may) s = inl (untouched-same before after u)
   step-keeps a step is _ (told old new log report u opens does only) s = inl (untouched-same before after u)
-  step-keeps a step is _ (done e are) s = not-refused 0 s (inl refl)
-  step-keeps a step is _ (unwritten e fault taken) s = unwritten-keeps a step is e fault taken s
+  step-keeps a step is _ (done e writes are) s = not-refused 0 s (inl refl)
+  step-keeps a step is _ (unwritten e fault writes taken) s = unwritten-keeps a step is e fault taken s
   step-keeps a step is _ (no_memory stop u wants) s = inl (untouched-same before after u)
 
 pub status-keeps : (asked : Result Asked UsageFault) (before after : Seen) (end : Result Said Stop) → Ends asked before after end → Refusing (status end) →
@@ -265,3 +266,42 @@ shows-same a t = go a.action t
     go action.Undo t = t
     go action.Redo t = t
     go (action.Help text) t = t
+
+-- ---- help and what an info command tells leave the store as it is
+
+asks-only : (a : Action) (held : Option Content) (step : Step) → AsksFor a held (request.Step step) → IsTrue (only_asks a) → only_tells step ≡ true
+asks-only (action.Run s) held step is t = absurd (let no : ⊥ = cc in no)
+asks-only (action.Info c) held step is t = let same : step ≡ Tell (script (c ∷ [])) = cc in ap only_tells same
+asks-only (action.ScriptText text) held step is t = absurd (let no : ⊥ = cc in no)
+asks-only (action.ScriptFile n) held step is t = absurd (let no : ⊥ = cc in no)
+asks-only action.Undo held step is t = absurd (let no : ⊥ = cc in no)
+asks-only action.Redo held step is t = absurd (let no : ⊥ = cc in no)
+asks-only (action.Help text) held step is t = absurd (let no : ⊥ = cc in no)
+
+asks-same : (a : Asked) → IsTrue (only_asks (without_text a).action) → IsTrue (only_asks a.action)
+asks-same a t = go a.action t
+  where
+    go : (x : Action) → IsTrue (only_asks (without_text (record { dir = None; action = x })).action) → IsTrue (only_asks x)
+    go (action.Run s) t = t
+    go (action.Info c) t = t
+    go (action.ScriptText text) t = t
+    go (action.ScriptFile n) t = t
+    go action.Undo t = t
+    go action.Redo t = t
+    go (action.Help text) t = t
+
+step-told : (dir : Option (List ℕ)) (step : Step) (before after : Seen) → only_tells step ≡ true → (end : Result Said Stop) → StepEnds dir step before after end → IsUnchanged before after
+step-told dir step before after only _ (not_opened stop u opens) = untouched-same before after u
+step-told dir step before after only _ (refused old log stop u opens may) = untouched-same before after u
+step-told dir step before after only _ (told old new log report u opens does tells) = untouched-same before after u
+step-told dir step before after only _ (done e writes are) = absurd (let no : ⊥ = cc in no)
+step-told dir step before after only _ (unwritten e fault writes taken) = absurd (let no : ⊥ = cc in no)
+step-told dir step before after only _ (no_memory stop u wants) = untouched-same before after u
+
+pub asking-keeps : (asked : Result Asked UsageFault) (before after : Seen) (end : Result Said Stop) → Ends asked before after end → OnlyAsks asked → IsUnchanged before after
+asking-keeps asked before after _ (misused fault u is) t = untouched-same before after u
+asking-keeps asked before after _ (helped a text u is shows) t = untouched-same before after u
+asking-keeps asked before after _ (asks_for_none a stop u is none) t = untouched-same before after u
+asking-keeps asked before after _ (steps a step end is asks ends) t =
+    step-told a.dir step before after (asks-only a.action before.content step asks (asks-same a (subst OnlyAsks is t))) end ends
+asking-keeps asked before after _ (memory_ran_out stop u wants) t = untouched-same before after u

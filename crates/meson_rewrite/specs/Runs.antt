@@ -1,5 +1,5 @@
 -- How a run of the program ends: what it says, and what the store then holds.
-use Rattle.std.specs.Prelude.{◌≡◌, ◌⊎◌, ⊤, IsTrue, true, ℕ, List, [], Option, Some, None, Result, Ok, Err}
+use Rattle.std.specs.Prelude.{◌≡◌, ◌⊎◌, ⊤, IsTrue, false, true, ℕ, List, [], Option, Some, None, Result, Ok, Err}
 use Rattle.std.specs.FinMap.{insert}
 use Rattle.meson_calls.specs.Loading.{IsProject}
 use Rattle.meson_json.specs.Log.{log_of}
@@ -19,7 +19,7 @@ use Rattle.meson_rewrite.specs.Lines.{stop_lines, status}
 use Rattle.meson_gathering.specs.Gathering.{held}
 use Rattle.meson_rewrite.specs.Logs.{empty_log, log_name, with_log}
 use Rattle.meson_rewrite.specs.Opening.{Opens, OpensNone}
-use Rattle.meson_rewrite.specs.Requests.{AsksFor, AsksForNone, shows_help}
+use Rattle.meson_rewrite.specs.Requests.{AsksFor, AsksForNone, only_asks, shows_help}
 use Rattle.meson_rewrite.specs.Steps.{Does, MayRefuse, only_tells, says}
 use Rattle.meson_rewrite.specs.Stops.{WantsMemory}
 use Rattle.meson_rewrite.specs.declared.request.Request.TheVariants as request
@@ -57,9 +57,10 @@ module _ (dir : Option (List ℕ)) (step : Step) (before after : Seen) where
     told : (old new : Session) (log : List ℕ) (report : Report) → Untouched before after → Opens before.content dir old log → Does step old report new → only_tells step ≡ true
         → StepEnds (Ok (says step report))
     -- each file that differs was replaced, then the log, and no other
-    done : (edits : Edits before.content dir step) → AreReplaced (written edits) before after → StepEnds (Ok (says step edits.report))
+    done : (edits : Edits before.content dir step) → only_tells step ≡ false → AreReplaced (written edits) before after → StepEnds (Ok (says step edits.report))
     -- one could not be replaced, what was replaced got its old bytes again, and the fault tells of it
-    unwritten : (edits : Edits before.content dir step) (fault : StoreFault) → TakenBack (written edits) before after fault → StepEnds (Err (Store fault))
+    unwritten : (edits : Edits before.content dir step) (fault : StoreFault) → only_tells step ≡ false → TakenBack (written edits) before after fault
+        → StepEnds (Err (Store fault))
     no_memory : (stop : Stop) → Untouched before after → WantsMemory stop → StepEnds (Err stop)
 
 -- ---- a whole run, by what the words ask for
@@ -98,6 +99,11 @@ pub record RanOut (asked : Result Asked UsageFault) (before after : Seen) : Type
 abbrev pub NeedsNoStore : Result Asked UsageFault → Type 0
 NeedsNoStore (Err fault) = ⊤
 NeedsNoStore (Ok a) = IsTrue (shows_help a.action)
+
+-- nothing is asked for but help, or what an info command tells
+abbrev pub OnlyAsks : Result Asked UsageFault → Type 0
+OnlyAsks (Err fault) = ⊤
+OnlyAsks (Ok a) = IsTrue (only_asks a.action)
 
 -- ---- what is written
 
