@@ -1,5 +1,5 @@
 -- Where all old bytes are put back, a store holds what it held.
-use Rattle.std.proofs.Common.{◌≡◌, ℕ, ◌⊎◌, List, [], ◌∷◌, ◌++◌, Option, Some, None, inl, inr, refl, sym, subst, ap, ◌∙◌, Bool, true, false, ◌||◌, cond, map, reverse}
+use Rattle.std.proofs.Common.{◌≡◌, ℕ, ◌⊎◌, List, [], ◌∷◌, ◌++◌, Option, Some, None, inl, inr, refl, sym, subst, ap, ◌∙◌, Bool, true, false, cond, map, reverse}
 use Rattle.std.proofs.lemmas.List.{reverse-append}
 use Rattle.std.specs.Ordering.{nat_cmp, eq_by_cmp, is_eq}
 use Rattle.std.specs.declared.cmp.Ordering.{Ordering}
@@ -15,7 +15,7 @@ use Rattle.meson_store.specs.Content.{Content, replaced}
 use Rattle.meson_store.specs.Seen.{Seen}
 use Rattle.meson_store.specs.declared.store.StoreError.{StoreError}
 use Rattle.meson_store.specs.declared.store.StoreError.TheVariants as error
-use Rattle.meson_store.specs.declared.store_fault.StoreFault.TheVariants.{OutOfMemory, WriteFailed}
+use Rattle.meson_store.specs.declared.store_fault.StoreFault.TheVariants.{OutOfMemory}
 
 -- ---- lists
 
@@ -39,11 +39,11 @@ pub each-right : {A : Type 0} (P : A → Type 0) (xs ys : List A) → Each P (xs
 each-right P [] ys h = h
 each-right P (x ∷ xs) ys h = each-right P xs ys h.1
 
-each-reverse : {A : Type 0} (P : A → Type 0) (xs : List A) → Each P xs → Each P (reverse xs)
+pub each-reverse : {A : Type 0} (P : A → Type 0) (xs : List A) → Each P xs → Each P (reverse xs)
 each-reverse P [] h = tt
 each-reverse P (x ∷ xs) h = subst (Each P) (sym (reverse-append (x ∷ []) xs)) (each-append P (reverse xs) (x ∷ []) (each-reverse P xs h.1) (h.0, tt))
 
-each-forward : {A : Type 0} (P : A → Type 0) (xs : List A) → Each P (reverse xs) → Each P xs
+pub each-forward : {A : Type 0} (P : A → Type 0) (xs : List A) → Each P (reverse xs) → Each P xs
 each-forward P [] h = tt
 each-forward P (x ∷ xs) h =
     let k = subst (Each P) (reverse-append (x ∷ []) xs) h in ((each-right P (reverse xs) (x ∷ []) k).0, each-forward P xs (each-left P (reverse xs) (x ∷ []) k))
@@ -66,17 +66,17 @@ tied : (k : List ℕ) → eq_by_cmp R k k ≡ true
 tied k = (eq_by_cmp_equiv nat_list_cmp_total).refl k
 
 -- a name is another one or not
-apart-or-not : (q k : List ℕ) → (q ≡ k) ⊎ (q ≡ k → ⊥)
+pub apart-or-not : (q k : List ℕ) → (q ≡ k) ⊎ (q ≡ k → ⊥)
 apart-or-not q k = go (eq_by_cmp R q k) refl
   where
     go : (b : Bool) → eq_by_cmp R q k ≡ b → (q ≡ k) ⊎ (q ≡ k → ⊥)
     go true e = inl (ties q k e)
     go false e = inr (λ same. let yes : eq_by_cmp R q k ≡ true = ap (λ z. eq_by_cmp R q z) (sym same) ∙ tied q in (let no : ⊥ = cc in no))
 
-at-same : (m : Content) (k v : List ℕ) → get (insert m k v) k ≡ Some v
+pub at-same : (m : Content) (k v : List ℕ) → get (insert m k v) k ≡ Some v
 at-same m k v = get-insert nat_list_cmp_total m k v k ∙ ap (λ b. cond b (Some v) (get m k)) (tied k)
 
-at-other : (m : Content) (k v q : List ℕ) → (q ≡ k → ⊥) → get (insert m k v) q ≡ get m q
+pub at-other : (m : Content) (k v q : List ℕ) → (q ≡ k → ⊥) → get (insert m k v) q ≡ get m q
 at-other m k v q apart = get-insert nat_list_cmp_total m k v q ∙ go (eq_by_cmp R q k) refl
   where
     go : (b : Bool) → eq_by_cmp R q k ≡ b → cond b (Some v) (get m q) ≡ get m q
@@ -85,19 +85,19 @@ at-other m k v q apart = get-insert nat_list_cmp_total m k v q ∙ go (eq_by_cmp
 
 -- ---- writes, one after another
 
-abbrev writes : List Put → Content → Content
+abbrev pub writes : List Put → Content → Content
 writes [] m = m
 writes (p ∷ ps) m = writes ps (insert m p.path p.bytes)
 
-put_all-told : (files : List Put) (m : Content) → put_all files (Some m) ≡ Some (writes files m)
+pub put_all-told : (files : List Put) (m : Content) → put_all files (Some m) ≡ Some (writes files m)
 put_all-told [] m = refl
 put_all-told (p ∷ ps) m = put_all-told ps (insert m p.path p.bytes)
 
-abbrev IsNoneOf : List Put → List ℕ → Type 0
+abbrev pub IsNoneOf : List Put → List ℕ → Type 0
 IsNoneOf files q = Each (λ p. q ≡ p.path → ⊥) files
 
 -- other files stay
-elsewhere : (files : List Put) (m : Content) (q : List ℕ) → IsNoneOf files q → get (writes files m) q ≡ get m q
+pub elsewhere : (files : List Put) (m : Content) (q : List ℕ) → IsNoneOf files q → get (writes files m) q ≡ get m q
 elsewhere [] m q n = refl
 elsewhere (p ∷ ps) m q n = elsewhere ps (insert m p.path p.bytes) q n.1 ∙ at-other m p.path p.bytes q n.0
 

@@ -18,8 +18,6 @@ pub record Held : Type 0 where
   pub replaces : Calls
   -- the next failing `replace` leaves its new bytes
   pub leaves_new : Bool
-  -- how many replaces may have changed their file
-  pub changes : ℕ
 
 abbrev calls_code : Coded Calls
 calls_code = code_by (ℕ × (ℕ × ℕ)) (coded× coded_ℕ (coded× coded_ℕ coded_ℕ))
@@ -29,17 +27,10 @@ abbrev plans_code : Coded (Calls × (Calls × Bool))
 plans_code = coded× calls_code (coded× calls_code coded_bool)
 
 abbrev pub held_code : Coded Held
-held_code = code_by ((Content × (ℕ × ℕ)) × (Calls × (Calls × Bool)))
-    (coded× (coded× (code (coded_list coded_ℕ) (coded_list coded_ℕ)) (coded× coded_ℕ coded_ℕ)) plans_code)
-    (λ h. ((h.files, (h.failures, h.changes)), (h.reads, (h.replaces, h.leaves_new))))
-    (λ p. record {
-      files = p.0.0;
-      failures = p.0.1.0;
-      reads = p.1.0;
-      replaces = p.1.1.0;
-      leaves_new = p.1.1.1;
-      changes = p.0.1.1;
-    })
+held_code = code_by ((Content × ℕ) × (Calls × (Calls × Bool)))
+    (coded× (coded× (code (coded_list coded_ℕ) (coded_list coded_ℕ)) coded_ℕ) plans_code)
+    (λ h. ((h.files, h.failures), (h.reads, (h.replaces, h.leaves_new))))
+    (λ p. record { files = p.0.0; failures = p.0.1; reads = p.1.0; replaces = p.1.1.0; leaves_new = p.1.1.1 })
     (λ _. refl)
 
 abbrev pub counted : Calls → Calls
@@ -68,24 +59,19 @@ no_files = record {
   reads = record { made = 0; first = 1; count = 0 };
   replaces = record { made = 0; first = 1; count = 0 };
   leaves_new = false;
-  changes = 0;
 }
 
 -- after a `read`, whatever it answers
 abbrev pub after_read : Held → Held
 after_read h = record h { reads = counted h.reads; failures = failures_after h.reads h.failures }
 
--- after a `replace` that left every file as it was
+-- after a `replace`, but for the bytes that its file may have got
 abbrev pub after_replace : Held → Held
 after_replace h = record h {
   replaces = counted h.replaces;
   failures = failures_after h.replaces h.failures;
   leaves_new = if is_due h.replaces then false else h.leaves_new;
 }
-
--- the same, after a `replace` that may have changed its file
-abbrev pub after_change : Held → Held
-after_change h = record (after_replace h) { changes = one_more h.changes }
 
 -- where the file of that name has these bytes
 abbrev pub with_file : Held → List ℕ → List ℕ → Held

@@ -254,16 +254,11 @@ impl<R: Files + Drop> Store for Folder<R> {
     }
 
     fn replace(&mut self, name: &str, bytes: &[u8]) -> Result<(), StoreError> {
+        self.replaces = self.replaces.saturating_add(1);
         match replace_file(&self.rt, self.alloc, name, bytes) {
-            Ok(()) => {
-                self.replaces = self.replaces.saturating_add(1);
-                Ok(())
-            }
+            Ok(()) => Ok(()),
             Err(why) => {
                 self.count_failure(why);
-                if why == StoreError::Device {
-                    self.replaces = self.replaces.saturating_add(1);
-                }
                 Err(why)
             }
         }

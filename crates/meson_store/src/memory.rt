@@ -3,7 +3,7 @@
 ghost use Rattle.std.specs.Prelude.{◌≡◌, ◌≢◌, ◌≤◌, ◌⊎◌, ◌↔◌, IfOk, IfErr, OnOk, OnErr, Some, true, false, option_map};
 ghost use Rattle.std.specs.FinMap.{get, insert, empty};
 ghost use Rattle.meson_store.specs.Calls.{FailureCounted, one_more};
-ghost use Rattle.meson_store.specs.MemoryStore.{planned, is_planned, is_due, no_files, after_read, after_replace, after_change, with_file};
+ghost use Rattle.meson_store.specs.MemoryStore.{planned, is_planned, is_due, no_files, after_read, after_replace, with_file};
 
 use crate::{Store, StoreError};
 use std::alloc::{AllocError, Global};
@@ -53,8 +53,6 @@ pub struct Memory {
     reads: Plan,
     replaces: Plan,
     leaves_new: bool,
-    /// How many replaces may have changed their file.
-    changes: u64,
 }
 
 impl Model for Memory {
@@ -72,7 +70,6 @@ impl Model for Memory {
       reads = record { made = m.reads.made; first = m.reads.first; count = m.reads.count };
       replaces = record { made = m.replaces.made; first = m.replaces.first; count = m.replaces.count };
       leaves_new = m.leaves_new;
-      changes = m.changes;
     } };
 }
 
@@ -88,7 +85,6 @@ impl Memory {
             reads: Plan::NONE,
             replaces: Plan::NONE,
             leaves_new: false,
-            changes: 0,
         }
     }
 
@@ -143,7 +139,7 @@ impl Store for Memory {
 
     ghost failures = { λ m. m.failures };
 
-    ghost replaces = { λ m. m.changes };
+    ghost replaces = { λ m. m.replaces.made };
 
     /// Fails only as planned, or where a growth was refused.
     fn read(&mut self, alloc: Global, name: &str) -> Result<Option<Vec<u8>>, StoreError>
@@ -168,10 +164,10 @@ impl Store for Memory {
 
     /// Fails only as planned, or where a growth was refused. It never answers `Unchanged`.
     fn replace(&mut self, name: &str, bytes: &[u8]) -> Result<(), StoreError>
-        ensures ok { OnOk result (self.new ≡ with_file (after_change self.old) name.now bytes.now) }
+        ensures ok { OnOk result (self.new ≡ with_file (after_replace self.old) name.now bytes.now) }
         ensures memory { result ≡ Err StoreError.OutOfMemory → self.new ≡ after_replace self.old }
-        ensures left { result ≡ Err StoreError.Device → (self.new ≡ after_change self.old)
-            ⊎ ((self.old.leaves_new ≡ true) × (self.new ≡ with_file (after_change self.old) name.now bytes.now)) }
+        ensures left { result ≡ Err StoreError.Device → (self.new ≡ after_replace self.old)
+            ⊎ ((self.old.leaves_new ≡ true) × (self.new ≡ with_file (after_replace self.old) name.now bytes.now)) }
         ensures due { (result ≡ Err StoreError.Device) ↔ (is_due self.old.replaces ≡ true) }
         ensures known { result ≢ Err StoreError.Unchanged }
         ensures counts { self.old.failures ≤ self.new.failures }
@@ -179,7 +175,6 @@ impl Store for Memory {
     {
         if self.replaces.next_fails() {
             self.failures = self.failures.saturating_add(1);
-            self.changes = self.changes.saturating_add(1);
             if self.leaves_new {
                 self.leaves_new = false;
                 let _ = self.put(name, bytes);
@@ -187,10 +182,7 @@ impl Store for Memory {
             return Err(StoreError::Device);
         }
         match self.put(name, bytes) {
-            Ok(()) => {
-                self.changes = self.changes.saturating_add(1);
-                Ok(())
-            }
+            Ok(()) => Ok(()),
             Err(AllocError) => Err(StoreError::OutOfMemory),
         }
     }
@@ -200,6 +192,6 @@ impl Store for Memory {
     }
 
     fn replaces(&self) -> u64 {
-        self.changes
+        self.replaces.made
     }
 }
