@@ -8,8 +8,8 @@ use Rattle.meson_command.specs.declared.asked.Asked.{Asked}
 use Rattle.meson_command.specs.declared.fault.UsageFault.{UsageFault}
 use Rattle.meson_script.specs.declared.session.Session.{Session}
 use Rattle.meson_store.specs.Calls.{FailureCounted, counted}
-use Rattle.meson_store.proofs.Restoring.{Each, IsOld, each-append, each-map, puts-each, restored, untold-restored}
-use Rattle.meson_store.specs.Commit.{AreReplaced, CommitFails, Put, TakenBack, path_in, put_all, put_in, puts}
+use Rattle.meson_store.proofs.Restoring.{CutLast, HasOld, each-map, puts-cut, restored, untold-restored}
+use Rattle.meson_store.specs.Commit.{AreReplaced, CommitFails, Put, TakenBack, put_all, put_in, puts}
 use Rattle.meson_store.specs.Content.{Content}
 use Rattle.meson_store.specs.Seen.{Seen, Untouched}
 use Rattle.meson_store.specs.declared.store.StoreError.{StoreError}
@@ -17,15 +17,14 @@ use Rattle.meson_store.specs.declared.store.StoreError.TheVariants as error
 use Rattle.meson_store.specs.declared.store_fault.StoreFault.{StoreFault}
 use Rattle.meson_store.specs.declared.store_fault.StoreFault.TheVariants as store
 use Rattle.meson_gathering.proofs.Stopping.{rose_before, stops_within}
-use Rattle.meson_gathering.specs.Gathering.{Finds, file_of, held}
-use Rattle.meson_splice.specs.declared.file_set.File.{File}
+use Rattle.meson_gathering.specs.Gathering.{Finds, file_of}
 use Rattle.meson_rewrite.specs.Edited.{IsEdited, IsTold}
-use Rattle.meson_rewrite.specs.Lines.{status, store_fault_status}
+use Rattle.meson_rewrite.specs.Lines.{status, stop_status, store_fault_status, usage_status}
 use Rattle.meson_rewrite.proofs.Holding.{IsHeld, held-collected}
-use Rattle.meson_rewrite.specs.Logs.{IsLog, empty_log, log_name, with_log}
+use Rattle.meson_rewrite.specs.Logs.{log_name, with_log}
 use Rattle.meson_rewrite.specs.Opening.{IsNoLog, Opens, OpensNone, log_unread, bad_log, no_log, no_project}
 use Rattle.meson_rewrite.specs.Requests.{AsksFor, AsksForNone, only_asks, script, shows_help}
-use Rattle.meson_rewrite.specs.Runs.{Edits, Ends, HasEmptyLog, IsUnchanged, OnlyAsks, RanOut, StepEnds, done, memory_ran_out, misused, helped, asks_for_none, no_memory, not_opened, refused, steps, told, unwritten, written}
+use Rattle.meson_rewrite.specs.Runs.{Edits, Ends, IsUnchanged, OnlyAsks, RanOut, StepEnds, done, memory_ran_out, misused, helped, asks_for_none, no_memory, not_opened, refused, steps, told, unwritten, written}
 use Rattle.meson_rewrite.specs.Steps.{MayRefuse, only_tells}
 use Rattle.meson_rewrite.specs.Stops.{WantsMemory}
 use Rattle.meson_rewrite.specs.declared.editing.Edit.{Edit}
@@ -161,41 +160,26 @@ Refusing code = (code ≡ 1) ⊎ (code ≡ 2)
 untouched-same : (before after : Seen) → Untouched before after → IsUnchanged before after
 untouched-same before after u = (u.kept, u.no_replace)
 
--- each file that is written holds what it held, or is the log
-are-old : {before : Option Content} (dir : Option (List ℕ)) (step : Step) (e : Edits before dir step) (m : Content) → before ≡ Some m →
-    Each (IsOld m (path_in dir log_name) empty_log) (written e)
-are-old dir step e m is =
-    puts-each old dir (with_log e.old.project.files e.log) (with_log e.new.project.files e.new_log)
-    (each-append Old e.old.project.files (file_of log_name e.log ∷ [])
-    (each-map (IsHeld m dir) Old (λ f h bytes. inl h) e.old.project.files (held-collected m dir e.old.project.files (e.opens.found m is)))
-    (λ bytes. log (held m dir log_name) refl (e.opens.is_log m is), tt))
-  where
-    old : Put → Type 0
-    old = IsOld m (path_in dir log_name) empty_log
-
-    Old : File → Type 0
-    Old f = (bytes : List ℕ) → old (put_in dir f bytes)
-
-    log : (there : Option (List ℕ)) → held m dir log_name ≡ there → IsLog (held m dir log_name) e.log e.old.history →
-        (held m dir log_name ≡ Some e.log) ⊎ ((path_in dir log_name ≡ path_in dir log_name) × (e.log ≡ empty_log) × (held m dir log_name ≡ None))
-    log None is k = let l : IsLog None e.log e.old.history = subst (λ h. IsLog h e.log e.old.history) is k in inr (refl, l.0, is)
-    log (Some text) is k = let l : IsLog (Some text) e.log e.old.history = subst (λ h. IsLog h e.log e.old.history) is k in inl (is ∙ ap Some (sym l.0))
+-- each file that is written holds what it held, but perhaps for the last one, the log
+cut-old : {before : Option Content} (dir : Option (List ℕ)) (step : Step) (e : Edits before dir step) (m : Content) → before ≡ Some m → CutLast (HasOld m) (written e)
+cut-old dir step e m is =
+    puts-cut (HasOld m) dir e.old.project.files (file_of log_name e.log) (with_log e.new.project.files e.new_log)
+    (each-map (IsHeld m dir) (λ f. (bytes : List ℕ) → HasOld m (put_in dir f bytes)) (λ f h bytes. h) e.old.project.files (held-collected m dir e.old.project.files (e.opens.found m is)))
 
 -- a commit for which memory ran out
-ran-out : (asked : Result Asked UsageFault) (a : Asked) (step : Step) (before after : Seen) → asked ≡ Ok (without_text a) → (e : Edits before.content a.dir step) →
-    TakenBack (written e) before after store.OutOfMemory → RanOut asked before after
-ran-out asked a step before after is e taken = record { a = a; is_asked = is; files = written e; taken = taken; kept = kept before.content refl }
+ran-out : (dir : Option (List ℕ)) (step : Step) (before after : Seen) (e : Edits before.content dir step) → TakenBack (written e) before after store.OutOfMemory → after.content ≡ before.content
+ran-out dir step before after e taken = kept before.content refl
   where
-    kept : (content : Option Content) → before.content ≡ content → (after.content ≡ before.content) ⊎ HasEmptyLog a.dir before.content after.content
-    kept None none = inl (untold-restored (written e) before after taken none ∙ sym none)
-    kept (Some m) some = elim (restored m (path_in a.dir log_name) empty_log (written e) before after taken some (are-old a.dir step e m some)) [
-      | inl same ↦ inl (same ∙ sym some)
-      | inr made ↦ inr (record { content = m; told = some; absent = made.1; made = made.0 })
-    ]
+    kept : (content : Option Content) → before.content ≡ content → after.content ≡ before.content
+    kept None none = untold-restored (written e) before after taken none ∙ sym none
+    kept (Some m) some = restored m (written e) before after taken some (cut-old dir step e m some) ∙ sym some
 
 module _ (asked : Result Asked UsageFault) (before after : Seen) where
   abbrev Keeps : ℕ → Type 0
-  Keeps code = IsUnchanged before after ⊎ ((code ≡ 1) × RanOut asked before after)
+  Keeps code = (after.content ≡ before.content) × ((after.replaces ≡ before.replaces) ⊎ ((code ≡ 1) × RanOut asked before after))
+
+  untouched-keeps : (code : ℕ) → Untouched before after → Keeps code
+  untouched-keeps code u = (u.kept, inl u.no_replace)
 
   not-refused : (code : ℕ) → Refusing code → (code ≡ 0) ⊎ (code ≡ 3) → Keeps code
   not-refused code (inl e) (inl z) = absurd (omega (arith, e, z))
@@ -203,29 +187,30 @@ module _ (asked : Result Asked UsageFault) (before after : Seen) where
   not-refused code (inr e) (inl z) = absurd (omega (arith, e, z))
   not-refused code (inr e) (inr z) = absurd (omega (arith, e, z))
 
-  unwritten-keeps : (a : Asked) (step : Step) → asked ≡ Ok (without_text a) → (e : Edits before.content a.dir step) (fault : StoreFault) → TakenBack (written e) before after fault
-      → Refusing (store_fault_status fault) → Keeps (store_fault_status fault)
-  unwritten-keeps a step is e (store.ReadFailed name) t s = not-refused 3 s (inr refl)
-  unwritten-keeps a step is e (store.WriteFailed name still) t s = not-refused 3 s (inr refl)
-  unwritten-keeps a step is e (store.NoFile name) t s = not-refused 3 s (inr refl)
-  unwritten-keeps a step is e store.OutputFailed t s = not-refused 3 s (inr refl)
-  unwritten-keeps a step is e store.OutOfMemory t s = inr (refl, ran-out asked a step before after is e t)
+  module _ (a : Asked) (step : Step) (is : asked ≡ Ok (without_text a)) (asks : AsksFor a.action before.content (request.Step step)) where
+    unwritten-keeps : (e : Edits before.content a.dir step) (fault : StoreFault) → TakenBack (written e) before after fault → Refusing (store_fault_status fault) → Keeps (store_fault_status fault)
+    unwritten-keeps e (store.ReadFailed name) t s = not-refused 3 s (inr refl)
+    unwritten-keeps e (store.WriteFailed name still) t s = not-refused 3 s (inr refl)
+    unwritten-keeps e (store.NoFile name) t s = not-refused 3 s (inr refl)
+    unwritten-keeps e store.OutputFailed t s = not-refused 3 s (inr refl)
+    unwritten-keeps e store.OutOfMemory t s =
+        (ran-out a.dir step before after e t, inr (refl, record { a = a; is_asked = is; step = step; asks = asks; edits = e; taken = t }))
 
-  step-keeps : (a : Asked) (step : Step) → asked ≡ Ok (without_text a) → (end : Result Said Stop) → StepEnds a.dir step before after end → Refusing (status end) → Keeps (status end)
-  step-keeps a step is _ (not_opened stop u opens) s = inl (untouched-same before after u)
-  step-keeps a step is _ (refused old log stop u opens may) s = inl (untouched-same before after u)
-  step-keeps a step is _ (told old new log report u opens does only) s = inl (untouched-same before after u)
-  step-keeps a step is _ (done e writes are) s = not-refused 0 s (inl refl)
-  step-keeps a step is _ (unwritten e fault writes taken) s = unwritten-keeps a step is e fault taken s
-  step-keeps a step is _ (no_memory stop u wants) s = inl (untouched-same before after u)
+    step-keeps : (end : Result Said Stop) → StepEnds a.dir step before after end → Refusing (status end) → Keeps (status end)
+    step-keeps _ (not_opened stop u opens) s = untouched-keeps (stop_status stop) u
+    step-keeps _ (refused old log stop u opens may) s = untouched-keeps (stop_status stop) u
+    step-keeps _ (told old new log report u opens does only) s = untouched-keeps 0 u
+    step-keeps _ (done e writes are) s = not-refused 0 s (inl refl)
+    step-keeps _ (unwritten e fault writes taken) s = unwritten-keeps e fault taken s
+    step-keeps _ (no_memory stop u wants) s = untouched-keeps (stop_status stop) u
 
 pub status-keeps : (asked : Result Asked UsageFault) (before after : Seen) (end : Result Said Stop) → Ends asked before after end → Refusing (status end) →
-    IsUnchanged before after ⊎ ((status end ≡ 1) × RanOut asked before after)
-status-keeps asked before after _ (misused fault u is) s = inl (untouched-same before after u)
-status-keeps asked before after _ (helped a text u is shows) s = inl (untouched-same before after u)
-status-keeps asked before after _ (asks_for_none a stop u is none) s = inl (untouched-same before after u)
-status-keeps asked before after _ (steps a step end is asks ends) s = step-keeps asked before after a step is end ends s
-status-keeps asked before after _ (memory_ran_out stop u wants) s = inl (untouched-same before after u)
+    (after.content ≡ before.content) × ((after.replaces ≡ before.replaces) ⊎ ((status end ≡ 1) × RanOut asked before after))
+status-keeps asked before after _ (misused fault u is) s = untouched-keeps asked before after (usage_status fault) u
+status-keeps asked before after _ (helped a text u is shows) s = untouched-keeps asked before after 0 u
+status-keeps asked before after _ (asks_for_none a stop u is none) s = untouched-keeps asked before after (stop_status stop) u
+status-keeps asked before after _ (steps a step end is asks ends) s = step-keeps asked before after a step is asks end ends s
+status-keeps asked before after _ (memory_ran_out stop u wants) s = untouched-keeps asked before after (stop_status stop) u
 
 -- ---- what was asked for
 

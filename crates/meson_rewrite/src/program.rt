@@ -158,10 +158,9 @@ pub fn rewrite<S: Store, O: Output, E: Output>(
     ensures untouched { NeedsNoStore (asked_by (map string_bytes words.now)) → store.new ≡ store.old }
     ensures asking { OnlyAsks (asked_by (map string_bytes words.now)) → IsUnchanged (seen (S.content store.old) (S.failures store.old) (S.replaces store.old))
         (seen (S.content store.new) (S.failures store.new) (S.replaces store.new)) }
-    ensures kept { (result ≡ 1) ⊎ (result ≡ 2) → IsUnchanged (seen (S.content store.old) (S.failures store.old) (S.replaces store.old))
-        (seen (S.content store.new) (S.failures store.new) (S.replaces store.new))
+    ensures kept { (result ≡ 1) ⊎ (result ≡ 2) → (S.content store.new ≡ S.content store.old) × ((S.replaces store.new ≡ S.replaces store.old)
         ⊎ ((result ≡ 1) × RanOut (asked_by (map string_bytes words.now)) (seen (S.content store.old) (S.failures store.old) (S.replaces store.old))
-        (seen (S.content store.new) (S.failures store.new) (S.replaces store.new))) }
+        (seen (S.content store.new) (S.failures store.new) (S.replaces store.new)))) }
 {
     let end = run(alloc, store, words);
     match tell(alloc, out, err, &end) {

@@ -33,7 +33,7 @@ of-all : {A : Type 0} (P : A → Type 0) (xs : List A) → ((x : A) → Contains
 of-all P [] f = tt
 of-all P (x ∷ xs) f = (f x (here x xs), of-all P xs (λ y c. f y (there x xs y c)))
 
-each-both : {A : Type 0} (P Q R : A → Type 0) → ((x : A) → P x → Q x → R x) → (xs : List A) → Each P xs → Each Q xs → Each R xs
+pub each-both : {A : Type 0} (P Q R : A → Type 0) → ((x : A) → P x → Q x → R x) → (xs : List A) → Each P xs → Each Q xs → Each R xs
 each-both P Q R f [] h k = tt
 each-both P Q R f (x ∷ xs) h k = (f x h.0 k.0, each-both P Q R f xs h.1 k.1)
 
@@ -80,7 +80,7 @@ puts-apart folder (b ∷ old) (a ∷ new) distinct =
 
 -- ---- what the store holds after its files got old bytes again
 
-some-is : {a b : Content} → Some a ≡ Some b → a ≡ b
+pub some-is : {a b : Content} → Some a ≡ Some b → a ≡ b
 some-is e = cc
 
 after-loss : (why : StoreError) (path bytes : List ℕ) (c : Content) (s t : Option Content) → s ≡ Some c → Leaves why path bytes s t → (t ≡ Some c) ⊎ (t ≡ Some (insert c path bytes))
@@ -150,29 +150,29 @@ listed _ s u _ (is_lost file files _ t _ names why r more) = (
   each-map (λ name. (p : Put) × Contains files p × (p.name ≡ name)) _ (λ name l. (l.0, there file files l.0 l.1, l.2)) names (listed files t u names more),
 )
 
--- at a path of no listed file there is what such a file held, or what there was
-back-at : (files : List Put) (s u : Seen) (names : List (List ℕ)) → GoBack files s u names → (c n : Content) → s.content ≡ Some c → u.content ≡ Some n → (m : Content) (q : List ℕ) →
-    Each (λ p. q ≡ p.path → (Contains names p.name → ⊥) × (get m q ≡ Some p.was)) files → (get n q ≡ get m q) ⊎ (IsNoneOf files q × (get n q ≡ get c q))
-back-at _ s _ _ (all_back _) c n hc hn m q h = inr (tt, ap (λ z. get z q) (some-is (sym hn ∙ hc)))
-back-at _ s u names (is_back file files _ t _ _ r more) c n hc hn m q h =
-    elim (back-at files t u names more (insert c file.path file.was) n (after-back file.path file.was c s.content t.content hc r.put) hn m q h.1) [
+-- at a path of no listed file stands what such a file held, or what stood there
+back-at : (files : List Put) (s u : Seen) (names : List (List ℕ)) → GoBack files s u names → (c n : Content) → s.content ≡ Some c → u.content ≡ Some n → (V : Option (List ℕ)) (q : List ℕ) →
+    Each (λ p. q ≡ p.path → (Contains names p.name → ⊥) × (V ≡ Some p.was)) files → (get n q ≡ V) ⊎ (IsNoneOf files q × (get n q ≡ get c q))
+back-at _ s _ _ (all_back _) c n hc hn V q h = inr (tt, ap (λ z. get z q) (some-is (sym hn ∙ hc)))
+back-at _ s u names (is_back file files _ t _ _ r more) c n hc hn V q h =
+    elim (back-at files t u names more (insert c file.path file.was) n (after-back file.path file.was c s.content t.content hc r.put) hn V q h.1) [
       | inl e ↦ inl e
       | inr l ↦ elim (apart-or-not q file.path) [
         | inl same ↦ inl (l.1 ∙ ap (get (insert c file.path file.was)) same ∙ at-same c file.path file.was ∙ sym (h.0 same).1)
         | inr apart ↦ inr ((apart, l.0), l.1 ∙ at-other c file.path file.was q apart)
       ]
     ]
-back-at _ s u _ (is_lost file files _ t _ names why r more) c n hc hn m q h = elim (apart-or-not q file.path) [
+back-at _ s u _ (is_lost file files _ t _ names why r more) c n hc hn V q h = elim (apart-or-not q file.path) [
   | inl same ↦ absurd ((h.0 same).0 (here file.name names))
   | inr apart ↦
-      let rest = each-map (λ p. q ≡ p.path → (Contains (file.name ∷ names) p.name → ⊥) × (get m q ≡ Some p.was)) (λ p. q ≡ p.path → (Contains names p.name → ⊥) × (get m q ≡ Some p.was))
+      let rest = each-map (λ p. q ≡ p.path → (Contains (file.name ∷ names) p.name → ⊥) × (V ≡ Some p.was)) (λ p. q ≡ p.path → (Contains names p.name → ⊥) × (V ≡ Some p.was))
       (λ p k e. (λ l. (k e).0 (there file.name names p.name l), (k e).1)) files h.1 in
       elim (after-loss why file.path file.was c s.content t.content hc r.left) [
-        | inl e ↦ elim (back-at files t u names more c n e hn m q rest) [
+        | inl e ↦ elim (back-at files t u names more c n e hn V q rest) [
           | inl is ↦ inl is
           | inr l ↦ inr ((apart, l.0), l.1)
         ]
-        | inr e ↦ elim (back-at files t u names more (insert c file.path file.was) n e hn m q rest) [
+        | inr e ↦ elim (back-at files t u names more (insert c file.path file.was) n e hn V q rest) [
           | inl is ↦ inl is
           | inr l ↦ inr ((apart, l.0), l.1 ∙ at-other c file.path file.was q apart)
         ]
@@ -185,12 +185,12 @@ back-at _ s u _ (is_lost file files _ t _ names why r more) c n hc hn m q h = el
 each-tried : (P : Put → Type 0) (why : StoreError) (failed : Put) (done : List Put) → P failed → Each P done → Each P (to_go_back why failed done)
 each-tried P error.Device failed done h hs = (h, each-reverse P done hs)
 each-tried P error.Unchanged failed done h hs = each-reverse P done hs
-each-tried P error.OutOfMemory failed done h hs = (h, each-reverse P done hs)
+each-tried P error.OutOfMemory failed done h hs = each-reverse P done hs
 
 tried-apart : (why : StoreError) (failed : Put) (done rest : List Put) → Apart (done ++ (failed ∷ rest)) → Apart (to_go_back why failed done)
 tried-apart error.Device failed done rest h = (each-reverse (λ p. failed.path ≡ p.path → ⊥) done (apart-before done failed rest h), apart-reverse done (apart-left done (failed ∷ rest) h))
 tried-apart error.Unchanged failed done rest h = apart-reverse done (apart-left done (failed ∷ rest) h)
-tried-apart error.OutOfMemory failed done rest h = (each-reverse (λ p. failed.path ≡ p.path → ⊥) done (apart-before done failed rest h), apart-reverse done (apart-left done (failed ∷ rest) h))
+tried-apart error.OutOfMemory failed done rest h = apart-reverse done (apart-left done (failed ∷ rest) h)
 
 -- what the fault lists
 still-is : (name : List ℕ) (why : StoreError) (still : List (List ℕ)) → still_new (fault_of name why still) ≡ still
@@ -275,17 +275,18 @@ module _ (files : List Put) (before after : Seen) (fault : StoreFault) (h : Take
           ap (λ z. get z q) (some-is (sym now ∙ after-back failed.path failed.bytes (writes done m) reached stopped is e))
           ∙ at-other (writes done m) failed.path failed.bytes q k.0 ∙ old k.1
       go error.Unchanged e k = kept k e
-      go error.OutOfMemory e k = kept k.1 e
+      go error.OutOfMemory e k = kept k e
 
-  untold-at : (q : List ℕ) → Each (λ p. q ≡ p.path → (Contains (still_new fault) p.name → ⊥) × (get m q ≡ Some p.was)) files → get n q ≡ get m q
-  untold-at q all =
-      let P : List (List ℕ) → Put → Type 0 = λ names p. q ≡ p.path → (Contains names p.name → ⊥) × (get m q ≡ Some p.was) in
+  -- at the path of a file that is not listed stands what it held, or what stood there
+  pub untold-at : (V : Option (List ℕ)) (q : List ℕ) → Each (λ p. q ≡ p.path → (Contains (still_new fault) p.name → ⊥) × (V ≡ Some p.was)) files → (get n q ≡ V) ⊎ (get n q ≡ get m q)
+  untold-at V q all =
+      let P : List (List ℕ) → Put → Type 0 = λ names p. q ≡ p.path → (Contains names p.name → ⊥) × (V ≡ Some p.was) in
       let parts : Each (P h.still) (h.stops.done ++ (h.stops.failed ∷ h.stops.rest)) = subst (Each (P h.still)) h.stops.all (subst (λ names. Each (P names) files) tells all) in
       let tried : Each (P h.still) (to_go_back h.why h.stops.failed h.stops.done) =
       each-tried (P h.still) h.why h.stops.failed h.stops.done (each-right (P h.still) h.stops.done (h.stops.failed ∷ h.stops.rest) parts).0 (each-left (P h.still) h.stops.done (h.stops.failed ∷ h.stops.rest) parts) in
-      elim (back-at (to_go_back h.why h.stops.failed h.stops.done) h.stopped after h.still h.back stopped.0 n stopped.1 holds m q tried) [
-        | inl e ↦ e
-        | inr l ↦ l.1 ∙ untried h.why h.stops.failed h.stops.done h.stops.reached.content h.stopped.content stopped.0 q reached h.stops.fails.left stopped.1 l.0
+      elim (back-at (to_go_back h.why h.stops.failed h.stops.done) h.stopped after h.still h.back stopped.0 n stopped.1 holds V q tried) [
+        | inl e ↦ inl e
+        | inr l ↦ inr (l.1 ∙ untried h.why h.stops.failed h.stops.done h.stops.reached.content h.stopped.content stopped.0 q reached h.stops.fails.left stopped.1 l.0)
       ]
 
 -- ---- the laws
@@ -312,8 +313,12 @@ module _ (folder : Option (List ℕ)) (old new : List File) (held left : Content
     where
       go : CommitFails (puts folder old new) f.before f.after fault → get left path ≡ get held path
       go (inl none) = ap (λ m. get m path) (some-is (sym f.told_after ∙ none.1.kept ∙ f.told_before))
-      go (inr h) = untold-at (puts folder old new) f.before f.after fault h held left f.told_before f.told_after path
-          (of-all (λ p. path ≡ p.path → (Contains (still_new fault) p.name → ⊥) × (get held path ≡ Some p.was)) (puts folder old new) each)
+      go (inr h) =
+          elim (untold-at (puts folder old new) f.before f.after fault h held left f.told_before f.told_after (get held path) path
+          (of-all (λ p. path ≡ p.path → (Contains (still_new fault) p.name → ⊥) × (get held path ≡ Some p.was)) (puts folder old new) each)) [
+            | inl e ↦ e
+            | inr e ↦ e
+          ]
 
 pub old-or-told : (m n : Content) (names : List (List ℕ)) (p : Put) → IsLeft m n names p → (get n p.path ≡ Some p.was) ⊎ Contains names p.name
 old-or-told m n names p (inl e) = inl e

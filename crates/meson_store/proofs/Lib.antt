@@ -1,4 +1,4 @@
 pub mod Commits
 pub mod Returns
 pub mod Restoring
-mod Leaving
+pub mod Leaving

@@ -79,7 +79,7 @@ pub gone-back : (files : List Planned) (n : ℕ) (done rest : List Put) (failed 
     reverse (map put_of (take (n + tries why) files)) ≡ to_go_back why failed done
 gone-back files n done rest failed split many error.Device = ap reverse (tried-of files n done rest failed split many).1 ∙ reverse-append done (failed ∷ [])
 gone-back files n done rest failed split many error.Unchanged = ap (λ k. reverse (map put_of (take k files))) (let e : n + 0 ≡ n = omega arith in e) ∙ ap reverse (tried-of files n done rest failed split many).0
-gone-back files n done rest failed split many error.OutOfMemory = ap reverse (tried-of files n done rest failed split many).1 ∙ reverse-append done (failed ∷ [])
+gone-back files n done rest failed split many error.OutOfMemory = ap (λ k. reverse (map put_of (take k files))) (let e : n + 0 ≡ n = omega arith in e) ∙ ap reverse (tried-of files n done rest failed split many).0
 
 -- the name of the one that could not be replaced
 pub failed-name : (files : List Planned) (n : ℕ) (done rest : List Put) (failed : Put) → map put_of files ≡ done ++ (failed ∷ rest) → length done ≡ n →

@@ -128,8 +128,8 @@ fn count_tried(halt: Halt) -> usize
     ensures { result ≡ halt.done + tries halt.error }
 {
     match halt.error {
-        StoreError::Unchanged => halt.done,
-        StoreError::Device | StoreError::OutOfMemory => halt.done + 1,
+        StoreError::Device => halt.done + 1,
+        StoreError::Unchanged | StoreError::OutOfMemory => halt.done,
     }
 }
 
