@@ -1,5 +1,5 @@
 -- How a run ends, from what its steps did.
-use Rattle.std.proofs.Common.{◌≡◌, ◌⊎◌, ◌≤◌, true, ℕ, List, [], ◌∷◌, length, Option, Some, None, Result, Ok, Err, inl, inr, refl, sym, ap, ◌∙◌, subst, arith}
+use Rattle.std.proofs.Common.{◌≡◌, ◌⊎◌, ◌≤◌, false, true, ℕ, List, [], ◌∷◌, length, Option, Some, None, Result, Ok, Err, inl, inr, refl, sym, ap, ◌∙◌, subst, arith}
 use Rattle.std.specs.Prelude.{IsTrue}
 use Rattle.meson_command.specs.Asking.{without_text}
 use Rattle.meson_command.specs.declared.asked.Action.{Action}
@@ -8,8 +8,8 @@ use Rattle.meson_command.specs.declared.asked.Asked.{Asked}
 use Rattle.meson_command.specs.declared.fault.UsageFault.{UsageFault}
 use Rattle.meson_script.specs.declared.session.Session.{Session}
 use Rattle.meson_store.specs.Calls.{FailureCounted, counted}
-use Rattle.meson_store.proofs.Restoring.{Each, IsOld, each-append, each-map, puts-each, restored, untold-restored}
-use Rattle.meson_store.specs.Commit.{AreReplaced, CommitFails, Put, TakenBack, path_in, put_all, put_in, puts}
+use Rattle.meson_store.proofs.Restoring.{CutLast, HasOld, each-map, puts-cut, restored, untold-restored}
+use Rattle.meson_store.specs.Commit.{AreReplaced, CommitFails, Put, TakenBack, put_all, put_in, puts}
 use Rattle.meson_store.specs.Content.{Content}
 use Rattle.meson_store.specs.Seen.{Seen, Untouched}
 use Rattle.meson_store.specs.declared.store.StoreError.{StoreError}
@@ -17,20 +17,20 @@ use Rattle.meson_store.specs.declared.store.StoreError.TheVariants as error
 use Rattle.meson_store.specs.declared.store_fault.StoreFault.{StoreFault}
 use Rattle.meson_store.specs.declared.store_fault.StoreFault.TheVariants as store
 use Rattle.meson_gathering.proofs.Stopping.{rose_before, stops_within}
-use Rattle.meson_gathering.specs.Gathering.{Finds, file_of, held}
-use Rattle.meson_splice.specs.declared.file_set.File.{File}
+use Rattle.meson_gathering.specs.Gathering.{Finds, file_of}
 use Rattle.meson_rewrite.specs.Edited.{IsEdited, IsTold}
-use Rattle.meson_rewrite.specs.Lines.{status, store_fault_status}
+use Rattle.meson_rewrite.specs.Lines.{status, stop_status, store_fault_status, usage_status}
 use Rattle.meson_rewrite.proofs.Holding.{IsHeld, held-collected}
-use Rattle.meson_rewrite.specs.Logs.{IsLog, empty_log, log_name, with_log}
+use Rattle.meson_rewrite.specs.Logs.{log_name, with_log}
 use Rattle.meson_rewrite.specs.Opening.{IsNoLog, Opens, OpensNone, log_unread, bad_log, no_log, no_project}
-use Rattle.meson_rewrite.specs.Requests.{AsksFor, AsksForNone, shows_help}
-use Rattle.meson_rewrite.specs.Runs.{Edits, Ends, HasEmptyLog, IsUnchanged, RanOut, StepEnds, done, memory_ran_out, misused, helped, asks_for_none, no_memory, not_opened, refused, steps, told, unwritten, written}
+use Rattle.meson_rewrite.specs.Requests.{AsksFor, AsksForNone, only_asks, script, shows_help}
+use Rattle.meson_rewrite.specs.Runs.{Edits, Ends, IsUnchanged, OnlyAsks, RanOut, StepEnds, done, memory_ran_out, misused, helped, asks_for_none, no_memory, not_opened, refused, steps, told, unwritten, written}
 use Rattle.meson_rewrite.specs.Steps.{MayRefuse, only_tells}
 use Rattle.meson_rewrite.specs.Stops.{WantsMemory}
 use Rattle.meson_rewrite.specs.declared.editing.Edit.{Edit}
 use Rattle.meson_rewrite.specs.declared.request.Request.TheVariants as request
 use Rattle.meson_rewrite.specs.declared.request.Step.{Step}
+use Rattle.meson_rewrite.specs.declared.request.Step.TheVariants.{Tell}
 use Rattle.meson_rewrite.specs.declared.said.Said.{Said}
 use Rattle.meson_rewrite.specs.declared.stop.Stop.{Stop}
 use Rattle.meson_rewrite.specs.declared.stop.Stop.TheVariants.{Usage, Store}
@@ -108,8 +108,8 @@ module _ (dir : Option (List ℕ)) (step : Step) where
       not_opened stop (untouched-then a b c u v) (none-before dir a.content a.failures b.failures c.failures u.counts k stop (subst (λ m. OpensNone m dir b.failures c.failures stop) u.kept opens))
   step-before a b c _ u k (refused old log stop v opens may) = refused old log stop (untouched-then a b c u v) (subst (λ m. Opens m dir old log) u.kept opens) may
   step-before a b c _ u k (told old new log report v opens does only) = told old new log report (untouched-then a b c u v) (subst (λ m. Opens m dir old log) u.kept opens) does only
-  step-before a b c _ u k (done e are) = done (edits-before a.content b.content u.kept e) (replaced-then a b c u (written e) are)
-  step-before a b c _ u k (unwritten e fault taken) = unwritten (edits-before a.content b.content u.kept e) fault (taken-then a b c u (written e) fault taken)
+  step-before a b c _ u k (done e writes are) = done (edits-before a.content b.content u.kept e) writes (replaced-then a b c u (written e) are)
+  step-before a b c _ u k (unwritten e fault writes taken) = unwritten (edits-before a.content b.content u.kept e) fault writes (taken-then a b c u (written e) fault taken)
   step-before a b c _ u k (no_memory stop v wants) = no_memory stop (untouched-then a b c u v) wants
 
   -- ---- by what stopped it, or by what is written
@@ -127,7 +127,7 @@ module _ (dir : Option (List ℕ)) (step : Step) where
       pub told-ends : only_tells step ≡ true → (said : Said) → IsTold old step said → StepEnds dir step b a (Ok said)
       told-ends only said t = subst (λ s. StepEnds dir step b a (Ok s)) (sym t.is_said) (told old t.new log t.report u opens t.does only)
 
-  module _ (b m a : Seen) (u : Untouched b m) (old : Session) (log : List ℕ) (opens : Opens b.content dir old log) (edit : Edit) (e : IsEdited old log step edit) where
+  module _ (b m a : Seen) (u : Untouched b m) (writes : only_tells step ≡ false) (old : Session) (log : List ℕ) (opens : Opens b.content dir old log) (edit : Edit) (e : IsEdited old log step edit) where
     abbrev edits : Edits b.content dir step
     edits = record {
       old = old;
@@ -146,11 +146,11 @@ module _ (dir : Option (List ℕ)) (step : Step) where
 
     pub done-ends : AreReplaced (puts dir edit.before edit.after) m a → StepEnds dir step b a (Ok edit.said)
     done-ends are =
-        subst (λ s. StepEnds dir step b a (Ok s)) (sym e.said) (done edits (replaced-then b m a u (written edits) (subst (λ fs. AreReplaced fs m a) are-written are)))
+        subst (λ s. StepEnds dir step b a (Ok s)) (sym e.said) (done edits writes (replaced-then b m a u (written edits) (subst (λ fs. AreReplaced fs m a) are-written are)))
 
     pub failed-ends : (fault : StoreFault) → CommitFails (puts dir edit.before edit.after) m a fault → StepEnds dir step b a (Err (Store fault))
     failed-ends fault (inl (is, untouched)) = no_memory (Store fault) (untouched-then b m a u untouched) is
-    failed-ends fault (inr taken) = unwritten edits fault (taken-then b m a u (written edits) fault (subst (λ fs. TakenBack fs m a fault) are-written taken))
+    failed-ends fault (inr taken) = unwritten edits fault writes (taken-then b m a u (written edits) fault (subst (λ fs. TakenBack fs m a fault) are-written taken))
 
 -- ---- with these statuses the store holds what it held
 
@@ -160,41 +160,26 @@ Refusing code = (code ≡ 1) ⊎ (code ≡ 2)
 untouched-same : (before after : Seen) → Untouched before after → IsUnchanged before after
 untouched-same before after u = (u.kept, u.no_replace)
 
--- each file that is written holds what it held, or is the log
-are-old : {before : Option Content} (dir : Option (List ℕ)) (step : Step) (e : Edits before dir step) (m : Content) → before ≡ Some m →
-    Each (IsOld m (path_in dir log_name) empty_log) (written e)
-are-old dir step e m is =
-    puts-each old dir (with_log e.old.project.files e.log) (with_log e.new.project.files e.new_log)
-    (each-append Old e.old.project.files (file_of log_name e.log ∷ [])
-    (each-map (IsHeld m dir) Old (λ f h bytes. inl h) e.old.project.files (held-collected m dir e.old.project.files (e.opens.found m is)))
-    (λ bytes. log (held m dir log_name) refl (e.opens.is_log m is), tt))
-  where
-    old : Put → Type 0
-    old = IsOld m (path_in dir log_name) empty_log
-
-    Old : File → Type 0
-    Old f = (bytes : List ℕ) → old (put_in dir f bytes)
-
-    log : (there : Option (List ℕ)) → held m dir log_name ≡ there → IsLog (held m dir log_name) e.log e.old.history →
-        (held m dir log_name ≡ Some e.log) ⊎ ((path_in dir log_name ≡ path_in dir log_name) × (e.log ≡ empty_log) × (held m dir log_name ≡ None))
-    log None is k = let l : IsLog None e.log e.old.history = subst (λ h. IsLog h e.log e.old.history) is k in inr (refl, l.0, is)
-    log (Some text) is k = let l : IsLog (Some text) e.log e.old.history = subst (λ h. IsLog h e.log e.old.history) is k in inl (is ∙ ap Some (sym l.0))
+-- each file that is written holds what it held, but perhaps for the last one, the log
+cut-old : {before : Option Content} (dir : Option (List ℕ)) (step : Step) (e : Edits before dir step) (m : Content) → before ≡ Some m → CutLast (HasOld m) (written e)
+cut-old dir step e m is =
+    puts-cut (HasOld m) dir e.old.project.files (file_of log_name e.log) (with_log e.new.project.files e.new_log)
+    (each-map (IsHeld m dir) (λ f. (bytes : List ℕ) → HasOld m (put_in dir f bytes)) (λ f h bytes. h) e.old.project.files (held-collected m dir e.old.project.files (e.opens.found m is)))
 
 -- a commit for which memory ran out
-ran-out : (asked : Result Asked UsageFault) (a : Asked) (step : Step) (before after : Seen) → asked ≡ Ok (without_text a) → (e : Edits before.content a.dir step) →
-    TakenBack (written e) before after store.OutOfMemory → RanOut asked before after
-ran-out asked a step before after is e taken = record { a = a; is_asked = is; files = written e; taken = taken; kept = kept before.content refl }
+ran-out : (dir : Option (List ℕ)) (step : Step) (before after : Seen) (e : Edits before.content dir step) → TakenBack (written e) before after store.OutOfMemory → after.content ≡ before.content
+ran-out dir step before after e taken = kept before.content refl
   where
-    kept : (content : Option Content) → before.content ≡ content → (after.content ≡ before.content) ⊎ HasEmptyLog a.dir before.content after.content
-    kept None none = inl (untold-restored (written e) before after taken none ∙ sym none)
-    kept (Some m) some = elim (restored m (path_in a.dir log_name) empty_log (written e) before after taken some (are-old a.dir step e m some)) [
-      | inl same ↦ inl (same ∙ sym some)
-      | inr made ↦ inr (record { content = m; told = some; absent = made.1; made = made.0 })
-    ]
+    kept : (content : Option Content) → before.content ≡ content → after.content ≡ before.content
+    kept None none = untold-restored (written e) before after taken none ∙ sym none
+    kept (Some m) some = restored m (written e) before after taken some (cut-old dir step e m some) ∙ sym some
 
 module _ (asked : Result Asked UsageFault) (before after : Seen) where
   abbrev Keeps : ℕ → Type 0
-  Keeps code = IsUnchanged before after ⊎ ((code ≡ 1) × RanOut asked before after)
+  Keeps code = (after.content ≡ before.content) × ((after.replaces ≡ before.replaces) ⊎ ((code ≡ 1) × RanOut asked before after))
+
+  untouched-keeps : (code : ℕ) → Untouched before after → Keeps code
+  untouched-keeps code u = (u.kept, inl u.no_replace)
 
   not-refused : (code : ℕ) → Refusing code → (code ≡ 0) ⊎ (code ≡ 3) → Keeps code
   not-refused code (inl e) (inl z) = absurd (omega (arith, e, z))
@@ -202,29 +187,30 @@ module _ (asked : Result Asked UsageFault) (before after : Seen) where
   not-refused code (inr e) (inl z) = absurd (omega (arith, e, z))
   not-refused code (inr e) (inr z) = absurd (omega (arith, e, z))
 
-  unwritten-keeps : (a : Asked) (step : Step) → asked ≡ Ok (without_text a) → (e : Edits before.content a.dir step) (fault : StoreFault) → TakenBack (written e) before after fault
-      → Refusing (store_fault_status fault) → Keeps (store_fault_status fault)
-  unwritten-keeps a step is e (store.ReadFailed name) t s = not-refused 3 s (inr refl)
-  unwritten-keeps a step is e (store.WriteFailed name still) t s = not-refused 3 s (inr refl)
-  unwritten-keeps a step is e (store.NoFile name) t s = not-refused 3 s (inr refl)
-  unwritten-keeps a step is e store.OutputFailed t s = not-refused 3 s (inr refl)
-  unwritten-keeps a step is e store.OutOfMemory t s = inr (refl, ran-out asked a step before after is e t)
+  module _ (a : Asked) (step : Step) (is : asked ≡ Ok (without_text a)) (asks : AsksFor a.action before.content (request.Step step)) where
+    unwritten-keeps : (e : Edits before.content a.dir step) (fault : StoreFault) → TakenBack (written e) before after fault → Refusing (store_fault_status fault) → Keeps (store_fault_status fault)
+    unwritten-keeps e (store.ReadFailed name) t s = not-refused 3 s (inr refl)
+    unwritten-keeps e (store.WriteFailed name still) t s = not-refused 3 s (inr refl)
+    unwritten-keeps e (store.NoFile name) t s = not-refused 3 s (inr refl)
+    unwritten-keeps e store.OutputFailed t s = not-refused 3 s (inr refl)
+    unwritten-keeps e store.OutOfMemory t s =
+        (ran-out a.dir step before after e t, inr (refl, record { a = a; is_asked = is; step = step; asks = asks; edits = e; taken = t }))
 
-  step-keeps : (a : Asked) (step : Step) → asked ≡ Ok (without_text a) → (end : Result Said Stop) → StepEnds a.dir step before after end → Refusing (status end) → Keeps (status end)
-  step-keeps a step is _ (not_opened stop u opens) s = inl (untouched-same before after u)
-  step-keeps a step is _ (refused old log stop u opens may) s = inl (untouched-same before after u)
-  step-keeps a step is _ (told old new log report u opens does only) s = inl (untouched-same before after u)
-  step-keeps a step is _ (done e are) s = not-refused 0 s (inl refl)
-  step-keeps a step is _ (unwritten e fault taken) s = unwritten-keeps a step is e fault taken s
-  step-keeps a step is _ (no_memory stop u wants) s = inl (untouched-same before after u)
+    step-keeps : (end : Result Said Stop) → StepEnds a.dir step before after end → Refusing (status end) → Keeps (status end)
+    step-keeps _ (not_opened stop u opens) s = untouched-keeps (stop_status stop) u
+    step-keeps _ (refused old log stop u opens may) s = untouched-keeps (stop_status stop) u
+    step-keeps _ (told old new log report u opens does only) s = untouched-keeps 0 u
+    step-keeps _ (done e writes are) s = not-refused 0 s (inl refl)
+    step-keeps _ (unwritten e fault writes taken) s = unwritten-keeps e fault taken s
+    step-keeps _ (no_memory stop u wants) s = untouched-keeps (stop_status stop) u
 
 pub status-keeps : (asked : Result Asked UsageFault) (before after : Seen) (end : Result Said Stop) → Ends asked before after end → Refusing (status end) →
-    IsUnchanged before after ⊎ ((status end ≡ 1) × RanOut asked before after)
-status-keeps asked before after _ (misused fault u is) s = inl (untouched-same before after u)
-status-keeps asked before after _ (helped a text u is shows) s = inl (untouched-same before after u)
-status-keeps asked before after _ (asks_for_none a stop u is none) s = inl (untouched-same before after u)
-status-keeps asked before after _ (steps a step end is asks ends) s = step-keeps asked before after a step is end ends s
-status-keeps asked before after _ (memory_ran_out stop u wants) s = inl (untouched-same before after u)
+    (after.content ≡ before.content) × ((after.replaces ≡ before.replaces) ⊎ ((status end ≡ 1) × RanOut asked before after))
+status-keeps asked before after _ (misused fault u is) s = untouched-keeps asked before after (usage_status fault) u
+status-keeps asked before after _ (helped a text u is shows) s = untouched-keeps asked before after 0 u
+status-keeps asked before after _ (asks_for_none a stop u is none) s = untouched-keeps asked before after (stop_status stop) u
+status-keeps asked before after _ (steps a step end is asks ends) s = step-keeps asked before after a step is asks end ends s
+status-keeps asked before after _ (memory_ran_out stop u wants) s = untouched-keeps asked before after (stop_status stop) u
 
 -- ---- what was asked for
 
@@ -265,3 +251,42 @@ shows-same a t = go a.action t
     go action.Undo t = t
     go action.Redo t = t
     go (action.Help text) t = t
+
+-- ---- help and what an info command tells leave the store as it is
+
+asks-only : (a : Action) (held : Option Content) (step : Step) → AsksFor a held (request.Step step) → IsTrue (only_asks a) → only_tells step ≡ true
+asks-only (action.Run s) held step is t = absurd (let no : ⊥ = cc in no)
+asks-only (action.Info c) held step is t = let same : step ≡ Tell (script (c ∷ [])) = cc in ap only_tells same
+asks-only (action.ScriptText text) held step is t = absurd (let no : ⊥ = cc in no)
+asks-only (action.ScriptFile n) held step is t = absurd (let no : ⊥ = cc in no)
+asks-only action.Undo held step is t = absurd (let no : ⊥ = cc in no)
+asks-only action.Redo held step is t = absurd (let no : ⊥ = cc in no)
+asks-only (action.Help text) held step is t = absurd (let no : ⊥ = cc in no)
+
+asks-same : (a : Asked) → IsTrue (only_asks (without_text a).action) → IsTrue (only_asks a.action)
+asks-same a t = go a.action t
+  where
+    go : (x : Action) → IsTrue (only_asks (without_text (record { dir = None; action = x })).action) → IsTrue (only_asks x)
+    go (action.Run s) t = t
+    go (action.Info c) t = t
+    go (action.ScriptText text) t = t
+    go (action.ScriptFile n) t = t
+    go action.Undo t = t
+    go action.Redo t = t
+    go (action.Help text) t = t
+
+step-told : (dir : Option (List ℕ)) (step : Step) (before after : Seen) → only_tells step ≡ true → (end : Result Said Stop) → StepEnds dir step before after end → IsUnchanged before after
+step-told dir step before after only _ (not_opened stop u opens) = untouched-same before after u
+step-told dir step before after only _ (refused old log stop u opens may) = untouched-same before after u
+step-told dir step before after only _ (told old new log report u opens does tells) = untouched-same before after u
+step-told dir step before after only _ (done e writes are) = absurd (let no : ⊥ = cc in no)
+step-told dir step before after only _ (unwritten e fault writes taken) = absurd (let no : ⊥ = cc in no)
+step-told dir step before after only _ (no_memory stop u wants) = untouched-same before after u
+
+pub asking-keeps : (asked : Result Asked UsageFault) (before after : Seen) (end : Result Said Stop) → Ends asked before after end → OnlyAsks asked → IsUnchanged before after
+asking-keeps asked before after _ (misused fault u is) t = untouched-same before after u
+asking-keeps asked before after _ (helped a text u is shows) t = untouched-same before after u
+asking-keeps asked before after _ (asks_for_none a stop u is none) t = untouched-same before after u
+asking-keeps asked before after _ (steps a step end is asks ends) t =
+    step-told a.dir step before after (asks-only a.action before.content step asks (asks-same a (subst OnlyAsks is t))) end ends
+asking-keeps asked before after _ (memory_ran_out stop u wants) t = untouched-same before after u

@@ -6,3 +6,4 @@ pub mod Listings
 pub mod Scripts
 pub mod Endings
 pub mod Opened
+pub mod Untold

@@ -35,6 +35,12 @@ abbrev pub shows_help : Action → Bool
 shows_help (action.Help text) = true
 shows_help _ = false
 
+-- nothing is asked for but help, or what an info command tells
+abbrev pub only_asks : Action → Bool
+only_asks (action.Help text) = true
+only_asks (action.Info c) = true
+only_asks _ = false
+
 -- ---- the step that an action asks for, and that it is one
 
 abbrev pub AsksFor : Action → Option Content → Request → Type 0

@@ -1,6 +1,7 @@
 -- How a run of the program ends: what it says, and what the store then holds.
-use Rattle.std.specs.Prelude.{◌≡◌, ◌⊎◌, ⊤, IsTrue, true, ℕ, List, [], Option, Some, None, Result, Ok, Err}
-use Rattle.std.specs.FinMap.{insert}
+use Rattle.std.specs.Prelude.{◌≡◌, ◌⊎◌, ⊤, IsTrue, false, true, ℕ, List, [], Option, Some, None, Result, Ok, Err, IfErr}
+use Rattle.std.specs.FinMap.{get}
+use Rattle.std.specs.List.{Contains}
 use Rattle.meson_calls.specs.Loading.{IsProject}
 use Rattle.meson_json.specs.Log.{log_of}
 use Rattle.meson_script.specs.declared.session.Report.{Report}
@@ -15,11 +16,10 @@ use Rattle.meson_store.specs.Output.{Heard, Gets, Fails}
 use Rattle.meson_store.specs.Seen.{Seen, Untouched}
 use Rattle.meson_store.specs.declared.store_fault.StoreFault.{StoreFault}
 use Rattle.meson_store.specs.declared.store_fault.StoreFault.TheVariants.{OutOfMemory}
-use Rattle.meson_rewrite.specs.Lines.{stop_lines, status}
-use Rattle.meson_gathering.specs.Gathering.{held}
+use Rattle.meson_rewrite.specs.Lines.{left_by, stop_lines, status}
 use Rattle.meson_rewrite.specs.Logs.{empty_log, log_name, with_log}
 use Rattle.meson_rewrite.specs.Opening.{Opens, OpensNone}
-use Rattle.meson_rewrite.specs.Requests.{AsksFor, AsksForNone, shows_help}
+use Rattle.meson_rewrite.specs.Requests.{AsksFor, AsksForNone, only_asks, shows_help}
 use Rattle.meson_rewrite.specs.Steps.{Does, MayRefuse, only_tells, says}
 use Rattle.meson_rewrite.specs.Stops.{WantsMemory}
 use Rattle.meson_rewrite.specs.declared.request.Request.TheVariants as request
@@ -57,9 +57,10 @@ module _ (dir : Option (List ℕ)) (step : Step) (before after : Seen) where
     told : (old new : Session) (log : List ℕ) (report : Report) → Untouched before after → Opens before.content dir old log → Does step old report new → only_tells step ≡ true
         → StepEnds (Ok (says step report))
     -- each file that differs was replaced, then the log, and no other
-    done : (edits : Edits before.content dir step) → AreReplaced (written edits) before after → StepEnds (Ok (says step edits.report))
+    done : (edits : Edits before.content dir step) → only_tells step ≡ false → AreReplaced (written edits) before after → StepEnds (Ok (says step edits.report))
     -- one could not be replaced, what was replaced got its old bytes again, and the fault tells of it
-    unwritten : (edits : Edits before.content dir step) (fault : StoreFault) → TakenBack (written edits) before after fault → StepEnds (Err (Store fault))
+    unwritten : (edits : Edits before.content dir step) (fault : StoreFault) → only_tells step ≡ false → TakenBack (written edits) before after fault
+        → StepEnds (Err (Store fault))
     no_memory : (stop : Stop) → Untouched before after → WantsMemory stop → StepEnds (Err stop)
 
 -- ---- a whole run, by what the words ask for
@@ -79,25 +80,38 @@ pub data Ends (asked : Result Asked UsageFault) (before after : Seen) : Result S
 abbrev pub IsUnchanged : Seen → Seen → Type 0
 IsUnchanged before after = (after.content ≡ before.content) × (after.replaces ≡ before.replaces)
 
--- the store holds what it held, and the log of no changes, of which it held none
-pub record HasEmptyLog (dir : Option (List ℕ)) (before after : Option Content) : Type 0 where
-  pub content : Content
-  pub told : before ≡ Some content
-  pub absent : held content dir log_name ≡ None
-  pub made : after ≡ Some (insert content (path_in dir log_name) empty_log)
-
 -- Memory ran out in a replace, and the files that were replaced got their old bytes again.
 pub record RanOut (asked : Result Asked UsageFault) (before after : Seen) : Type 0 where
   pub a : Asked
   pub is_asked : asked ≡ Ok (without_text a)
-  pub files : List Put
-  pub taken : TakenBack files before after OutOfMemory
-  pub kept : (after.content ≡ before.content) ⊎ HasEmptyLog a.dir before.content after.content
+  pub step : Step
+  pub asks : AsksFor a.action before.content (request.Step step)
+  pub edits : Edits before.content a.dir step
+  pub taken : TakenBack (written edits) before after OutOfMemory
+
+-- the folder of the project
+abbrev pub dir_of : Result Asked UsageFault → Option (List ℕ)
+dir_of (Err fault) = None
+dir_of (Ok a) = a.dir
+
+-- at that path stands what stood there, or the log of no changes, where no log stood
+abbrev pub IsKept : Option (List ℕ) → Content → Content → List ℕ → Type 0
+IsKept dir old new path = (get new path ≡ get old path) ⊎ ((path ≡ path_in dir log_name) × (get old path ≡ None) × (get new path ≡ Some empty_log))
+
+-- Each file is as it was, but for those of which a run tells that was stopped.
+abbrev pub KeepsUntold : Option (List ℕ) → Option Content → Option Content → Stop → Type 0
+KeepsUntold dir before after stop = (old new : Content) → before ≡ Some old → after ≡ Some new → (path : List ℕ) →
+    ((name : List ℕ) → Contains (left_by stop) name → path ≡ path_in dir name → ⊥) → IsKept dir old new path
 
 -- nothing is asked of the store
 abbrev pub NeedsNoStore : Result Asked UsageFault → Type 0
 NeedsNoStore (Err fault) = ⊤
 NeedsNoStore (Ok a) = IsTrue (shows_help a.action)
+
+-- nothing is asked for but help, or what an info command tells
+abbrev pub OnlyAsks : Result Asked UsageFault → Type 0
+OnlyAsks (Err fault) = ⊤
+OnlyAsks (Ok a) = IsTrue (only_asks a.action)
 
 -- ---- what is written
 
@@ -119,3 +133,5 @@ pub record Run (asked : Result Asked UsageFault) (before after : Seen) (code : �
   pub end : Result Said Stop
   pub ends : Ends asked before after end
   pub tells : Tells code out out' err err' end
+  -- where it was stopped
+  pub kept : IfErr end (KeepsUntold (dir_of asked) before.content after.content)

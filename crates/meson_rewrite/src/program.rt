@@ -6,7 +6,7 @@ ghost use Rattle.meson_store.specs.Seen.{seen};
 ghost use Rattle.meson_rewrite.specs.Lines.{status, store_fault_status, usage_status};
 ghost use Rattle.meson_rewrite.specs.Requests.{shows_help};
 ghost use Rattle.meson_rewrite.specs.Steps.{only_tells};
-ghost use Rattle.meson_rewrite.specs.Runs.{CannotSay, Ends, IsUnchanged, NeedsNoStore, RanOut, Run, Says, StepEnds};
+ghost use Rattle.meson_rewrite.specs.Runs.{CannotSay, Ends, IsUnchanged, NeedsNoStore, OnlyAsks, RanOut, Run, Says, StepEnds};
 
 use crate::editing::{edited, told};
 use crate::lines::tell_stop;
@@ -144,7 +144,8 @@ fn status(end: &Result<Said, Stop>) -> u8
 /// listings and faults on `err`. Answers the exit status.
 ///
 /// The status is 0 where it was done, 1 where a file, a script or the log is none, a command is refused or memory ran
-/// out, 2 where the words ask for nothing, and 3 where the store or a writer failed.
+/// out, 2 where the words ask for nothing, and 3 where the store or a writer failed. Help, and what an info command of the
+/// command line tells, leave the store as it is, whatever the status.
 pub fn rewrite<S: Store, O: Output, E: Output>(
     alloc: Global,
     store: &mut S,
@@ -155,10 +156,11 @@ pub fn rewrite<S: Store, O: Output, E: Output>(
     ensures runs { Run (asked_by (map string_bytes words.now)) (seen (S.content store.old) (S.failures store.old) (S.replaces store.old))
         (seen (S.content store.new) (S.failures store.new) (S.replaces store.new)) result (O.heard out.old) (O.heard out.new) (E.heard err.old) (E.heard err.new) }
     ensures untouched { NeedsNoStore (asked_by (map string_bytes words.now)) → store.new ≡ store.old }
-    ensures kept { (result ≡ 1) ⊎ (result ≡ 2) → IsUnchanged (seen (S.content store.old) (S.failures store.old) (S.replaces store.old))
-        (seen (S.content store.new) (S.failures store.new) (S.replaces store.new))
+    ensures asking { OnlyAsks (asked_by (map string_bytes words.now)) → IsUnchanged (seen (S.content store.old) (S.failures store.old) (S.replaces store.old))
+        (seen (S.content store.new) (S.failures store.new) (S.replaces store.new)) }
+    ensures kept { (result ≡ 1) ⊎ (result ≡ 2) → (S.content store.new ≡ S.content store.old) × ((S.replaces store.new ≡ S.replaces store.old)
         ⊎ ((result ≡ 1) × RanOut (asked_by (map string_bytes words.now)) (seen (S.content store.old) (S.failures store.old) (S.replaces store.old))
-        (seen (S.content store.new) (S.failures store.new) (S.replaces store.new))) }
+        (seen (S.content store.new) (S.failures store.new) (S.replaces store.new)))) }
 {
     let end = run(alloc, store, words);
     match tell(alloc, out, err, &end) {

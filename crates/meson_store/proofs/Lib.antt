@@ -1,3 +1,4 @@
 pub mod Commits
 pub mod Returns
 pub mod Restoring
+pub mod Leaving

@@ -1,5 +1,5 @@
 -- Where all old bytes are put back, a store holds what it held.
-use Rattle.std.proofs.Common.{◌≡◌, ℕ, ◌⊎◌, List, [], ◌∷◌, ◌++◌, Option, Some, None, inl, inr, refl, sym, subst, ap, ◌∙◌, Bool, true, false, ◌||◌, cond, map, reverse}
+use Rattle.std.proofs.Common.{◌≡◌, ℕ, ◌⊎◌, List, [], ◌∷◌, ◌++◌, Option, Some, None, inl, inr, refl, sym, subst, ap, ◌∙◌, Bool, true, false, cond, map, reverse, length, ◌+◌, ◌≤◌, arith, length-append}
 use Rattle.std.proofs.lemmas.List.{reverse-append}
 use Rattle.std.specs.Ordering.{nat_cmp, eq_by_cmp, is_eq}
 use Rattle.std.specs.declared.cmp.Ordering.{Ordering}
@@ -15,7 +15,7 @@ use Rattle.meson_store.specs.Content.{Content, replaced}
 use Rattle.meson_store.specs.Seen.{Seen}
 use Rattle.meson_store.specs.declared.store.StoreError.{StoreError}
 use Rattle.meson_store.specs.declared.store.StoreError.TheVariants as error
-use Rattle.meson_store.specs.declared.store_fault.StoreFault.TheVariants.{OutOfMemory, WriteFailed}
+use Rattle.meson_store.specs.declared.store_fault.StoreFault.TheVariants.{OutOfMemory}
 
 -- ---- lists
 
@@ -39,14 +39,22 @@ pub each-right : {A : Type 0} (P : A → Type 0) (xs ys : List A) → Each P (xs
 each-right P [] ys h = h
 each-right P (x ∷ xs) ys h = each-right P xs ys h.1
 
-each-reverse : {A : Type 0} (P : A → Type 0) (xs : List A) → Each P xs → Each P (reverse xs)
+pub each-reverse : {A : Type 0} (P : A → Type 0) (xs : List A) → Each P xs → Each P (reverse xs)
 each-reverse P [] h = tt
 each-reverse P (x ∷ xs) h = subst (Each P) (sym (reverse-append (x ∷ []) xs)) (each-append P (reverse xs) (x ∷ []) (each-reverse P xs h.1) (h.0, tt))
 
-each-forward : {A : Type 0} (P : A → Type 0) (xs : List A) → Each P (reverse xs) → Each P xs
+pub each-forward : {A : Type 0} (P : A → Type 0) (xs : List A) → Each P (reverse xs) → Each P xs
 each-forward P [] h = tt
 each-forward P (x ∷ xs) h =
     let k = subst (Each P) (reverse-append (x ∷ []) xs) h in ((each-right P (reverse xs) (x ∷ []) k).0, each-forward P xs (each-left P (reverse xs) (x ∷ []) k))
+
+-- each of a list, but perhaps for the last
+pub record CutLast {A : Type 0} (P : A → Type 0) (xs : List A) : Type 0 where
+  pub front : List A
+  pub last : List A
+  pub all : xs ≡ front ++ last
+  pub few : length last ≤ 1
+  pub each : Each P front
 
 -- ---- a map from names
 
@@ -66,17 +74,17 @@ tied : (k : List ℕ) → eq_by_cmp R k k ≡ true
 tied k = (eq_by_cmp_equiv nat_list_cmp_total).refl k
 
 -- a name is another one or not
-apart-or-not : (q k : List ℕ) → (q ≡ k) ⊎ (q ≡ k → ⊥)
+pub apart-or-not : (q k : List ℕ) → (q ≡ k) ⊎ (q ≡ k → ⊥)
 apart-or-not q k = go (eq_by_cmp R q k) refl
   where
     go : (b : Bool) → eq_by_cmp R q k ≡ b → (q ≡ k) ⊎ (q ≡ k → ⊥)
     go true e = inl (ties q k e)
     go false e = inr (λ same. let yes : eq_by_cmp R q k ≡ true = ap (λ z. eq_by_cmp R q z) (sym same) ∙ tied q in (let no : ⊥ = cc in no))
 
-at-same : (m : Content) (k v : List ℕ) → get (insert m k v) k ≡ Some v
+pub at-same : (m : Content) (k v : List ℕ) → get (insert m k v) k ≡ Some v
 at-same m k v = get-insert nat_list_cmp_total m k v k ∙ ap (λ b. cond b (Some v) (get m k)) (tied k)
 
-at-other : (m : Content) (k v q : List ℕ) → (q ≡ k → ⊥) → get (insert m k v) q ≡ get m q
+pub at-other : (m : Content) (k v q : List ℕ) → (q ≡ k → ⊥) → get (insert m k v) q ≡ get m q
 at-other m k v q apart = get-insert nat_list_cmp_total m k v q ∙ go (eq_by_cmp R q k) refl
   where
     go : (b : Bool) → eq_by_cmp R q k ≡ b → cond b (Some v) (get m q) ≡ get m q
@@ -85,19 +93,19 @@ at-other m k v q apart = get-insert nat_list_cmp_total m k v q ∙ go (eq_by_cmp
 
 -- ---- writes, one after another
 
-abbrev writes : List Put → Content → Content
+abbrev pub writes : List Put → Content → Content
 writes [] m = m
 writes (p ∷ ps) m = writes ps (insert m p.path p.bytes)
 
-put_all-told : (files : List Put) (m : Content) → put_all files (Some m) ≡ Some (writes files m)
+pub put_all-told : (files : List Put) (m : Content) → put_all files (Some m) ≡ Some (writes files m)
 put_all-told [] m = refl
 put_all-told (p ∷ ps) m = put_all-told ps (insert m p.path p.bytes)
 
-abbrev IsNoneOf : List Put → List ℕ → Type 0
+abbrev pub IsNoneOf : List Put → List ℕ → Type 0
 IsNoneOf files q = Each (λ p. q ≡ p.path → ⊥) files
 
 -- other files stay
-elsewhere : (files : List Put) (m : Content) (q : List ℕ) → IsNoneOf files q → get (writes files m) q ≡ get m q
+pub elsewhere : (files : List Put) (m : Content) (q : List ℕ) → IsNoneOf files q → get (writes files m) q ≡ get m q
 elsewhere [] m q n = refl
 elsewhere (p ∷ ps) m q n = elsewhere ps (insert m p.path p.bytes) q n.1 ∙ at-other m p.path p.bytes q n.0
 
@@ -135,73 +143,43 @@ holds-back : (m : Content) (files : List Put) → Each (λ p. get m p.path ≡ S
 holds-back m [] h = tt
 holds-back m (p ∷ ps) h = (h.0, holds-back m ps h.1)
 
-module _ (m : Content) (log empty : List ℕ) where
-  -- the store holds what the file held, or it is the log, which the store does not hold
-  abbrev pub IsOld : Put → Type 0
-  IsOld p = (get m p.path ≡ Some p.was) ⊎ ((p.path ≡ log) × (p.was ≡ empty) × (get m log ≡ None))
+module _ (m : Content) where
+  -- the store holds what the file held
+  abbrev pub HasOld : Put → Type 0
+  HasOld p = get m p.path ≡ Some p.was
 
-  -- the files that were tried, and what the store holds once they have their old bytes again
-  settles : (done : List Put) (failed : Put) → Each IsOld done → IsOld failed → (c : Content) → c ≡ writes done m →
-      (writes (map back (failed ∷ reverse done)) c ≡ m) ⊎ ((writes (map back (failed ∷ reverse done)) c ≡ insert m log empty) × (get m log ≡ None))
-  settles done failed olds old c is = go (with-log (failed ∷ done) (old, olds))
+  settles : (done : List Put) → Each HasOld done → writes (map back (reverse done)) (writes done m) ≡ m
+  settles done held = settled (map back (reverse done)) (writes done m) m (holds-back m (reverse done) (each-reverse HasOld done held)) same
     where
-      tried : List Put
-      tried = failed ∷ reverse done
+      same : (q : List ℕ) → IsNoneOf (map back (reverse done)) q → get (writes done m) q ≡ get m q
+      same q n = elsewhere done m q (each-forward (λ p. q ≡ p.path → ⊥) done (none-of-back (reverse done) q n))
 
-      -- all are held, or the log is among them and is not held
-      with-log : (files : List Put) → Each IsOld files → Each (λ p. get m p.path ≡ Some p.was) files ⊎ ((get m log ≡ None) × (IsNoneOf files log → ⊥))
-      with-log [] h = inl tt
-      with-log (p ∷ ps) (inr l, h) = inr (l.2, λ none. none.0 (sym l.0))
-      with-log (p ∷ ps) (inl e, h) = elim (with-log ps h) [
-        | inl es ↦ inl (e, es)
-        | inr l ↦ inr (l.0, λ none. l.1 none.1)
-      ]
+  -- what was replaced before one failed is none of the last
+  done-old : (done : List Put) (failed : Put) (rest front last : List Put) → done ++ (failed ∷ rest) ≡ front ++ last → length last ≤ 1 → Each HasOld front → Each HasOld done
+  done-old [] failed rest front last e few olds = tt
+  done-old (d ∷ done) failed rest [] last e few olds =
+      let many : length (d ∷ (done ++ (failed ∷ rest))) ≡ length last = ap length e in
+      let parts : length (done ++ (failed ∷ rest)) ≡ length done + length (failed ∷ rest) = length-append done (failed ∷ rest) in
+      absurd (omega arith)
+  done-old (d ∷ done) failed rest (f ∷ front) last e few olds =
+      let first : f ≡ d = cc in
+      let more : done ++ (failed ∷ rest) ≡ front ++ last = cc in
+      (subst HasOld first olds.0, done-old done failed rest front last more few olds.1)
 
-      turned : (P : Put → Type 0) → Each P (failed ∷ done) → Each P tried
-      turned P h = (h.0, each-reverse P done h.1)
-
-      none-done : (q : List ℕ) → IsNoneOf (map back tried) q → IsNoneOf (failed ∷ done) q
-      none-done q n = let k = none-of-back tried q n in (k.0, each-forward (λ p. q ≡ p.path → ⊥) done k.1)
-
-      same : (q : List ℕ) → IsNoneOf (map back tried) q → get c q ≡ get m q
-      same q n = ap (λ z. get z q) is ∙ elsewhere done m q (none-done q n).1
-
-      now-held : get m log ≡ None → (p : Put) → IsOld p → get (insert m log empty) p.path ≡ Some p.was
-      now-held absent p (inr l) = ap (get (insert m log empty)) l.0 ∙ at-same m log empty ∙ ap Some (sym l.1)
-      now-held absent p (inl e) = elim (apart-or-not p.path log) [
-        | inl is_log ↦ absurd (let there : get m log ≡ Some p.was = ap (get m) (sym is_log) ∙ e in (let no : ⊥ = cc in no))
-        | inr apart ↦ at-other m log empty p.path apart ∙ e
-      ]
-
-      go : Each (λ p. get m p.path ≡ Some p.was) (failed ∷ done) ⊎ ((get m log ≡ None) × (IsNoneOf (failed ∷ done) log → ⊥)) →
-          (writes (map back tried) c ≡ m) ⊎ ((writes (map back tried) c ≡ insert m log empty) × (get m log ≡ None))
-      go (inl held) = inl (settled (map back tried) c m (holds-back m tried (turned (λ p. get m p.path ≡ Some p.was) held)) same)
-      go (inr l) = inr (
-        settled (map back tried) c (insert m log empty)
-            (holds-back (insert m log empty) tried (turned (λ p. get (insert m log empty) p.path ≡ Some p.was) (each-map IsOld _ (now-held l.0) (failed ∷ done) (old, olds))))
-            (λ q n. same q n ∙ sym (at-other m log empty q (λ e. l.1 (subst (IsNoneOf (failed ∷ done)) e (none-done q n))))),
-        l.0,
-      )
-
-  -- a commit for which memory ran out
-  pub restored : (files : List Put) (before after : Seen) → TakenBack files before after OutOfMemory → before.content ≡ Some m → Each IsOld files →
-      (after.content ≡ Some m) ⊎ ((after.content ≡ Some (insert m log empty)) × (get m log ≡ None))
-  restored files before after h told olds =
+  -- a commit for which memory ran out, of files that are held, but perhaps for the last one
+  pub restored : (files : List Put) (before after : Seen) → TakenBack files before after OutOfMemory → before.content ≡ Some m → CutLast HasOld files → after.content ≡ Some m
+  restored files before after h told cut =
       let alone = memory-alone h.stops.failed.name h.why h.still h.told in
       let done = h.stops.done in
-      let failed = h.stops.failed in
-      let are : Each IsOld (done ++ (failed ∷ h.stops.rest)) = subst (Each IsOld) h.stops.all olds in
+      let olds : Each HasOld done = done-old done h.stops.failed h.stops.rest cut.front cut.last (sym h.stops.all ∙ cut.all) cut.few cut.each in
       let reached : h.stops.reached.content ≡ Some (writes done m) = h.stops.are.put ∙ ap (put_all done) told ∙ put_all-told done m in
-      let stopped : h.stopped.content ≡ Some (writes done m) = left h.why failed.path failed.bytes h.stops.reached.content h.stopped.content alone.0 h.stops.fails.left ∙ reached in
-      let gone : GoBack (failed ∷ reverse done) h.stopped after h.still = subst (λ w. GoBack (to_go_back w failed done) h.stopped after h.still) alone.0 h.back in
-      let now : after.content ≡ Some (writes (map back (failed ∷ reverse done)) (writes done m)) =
-      all-back-content (failed ∷ reverse done) h.stopped after h.still gone alone.1
-      ∙ ap (put_all (map back (failed ∷ reverse done))) stopped
-      ∙ put_all-told (map back (failed ∷ reverse done)) (writes done m) in
-      elim (settles done failed (each-left IsOld done (failed ∷ h.stops.rest) are) (each-right IsOld done (failed ∷ h.stops.rest) are).0 (writes done m) refl) [
-        | inl e ↦ inl (now ∙ ap Some e)
-        | inr e ↦ inr (now ∙ ap Some e.0, e.1)
-      ]
+      let stopped : h.stopped.content ≡ Some (writes done m) =
+      left h.why h.stops.failed.path h.stops.failed.bytes h.stops.reached.content h.stopped.content alone.0 h.stops.fails.left ∙ reached in
+      let gone : GoBack (reverse done) h.stopped after h.still = subst (λ w. GoBack (to_go_back w h.stops.failed done) h.stopped after h.still) alone.0 h.back in
+      all-back-content (reverse done) h.stopped after h.still gone alone.1
+      ∙ ap (put_all (map back (reverse done))) stopped
+      ∙ put_all-told (map back (reverse done)) (writes done m)
+      ∙ ap Some (settles done olds)
     where
       left : (why : StoreError) (path bytes : List ℕ) (c d : Option Content) → why ≡ error.OutOfMemory → Leaves why path bytes c d → d ≡ c
       left error.Device path bytes c d e l = absurd (let no : ⊥ = cc in no)
@@ -237,3 +215,22 @@ puts-each P folder (b ∷ before) (a ∷ after) h = go (bytes_eq b.bytes a.bytes
     go : (same : Bool) → Each P (puts folder before after) → Each P (cond same (puts folder before after) (put_in folder b a.bytes ∷ puts folder before after))
     go true rest = rest
     go false rest = (h.0 a.bytes, rest)
+
+-- the last file may be another one
+pub puts-cut : (P : Put → Type 0) (folder : Option (List ℕ)) (before : List File) (last : File) (after : List File) → Each (λ f. (bytes : List ℕ) → P (put_in folder f bytes)) before
+    → CutLast P (puts folder (before ++ last ∷ []) after)
+puts-cut P folder [] last [] h = record { front = []; last = []; all = refl; few = omega arith; each = tt }
+puts-cut P folder [] last (a ∷ after) h =
+    record { front = []; last = puts folder (last ∷ []) (a ∷ after); all = refl; few = few (bytes_eq last.bytes a.bytes); each = tt }
+  where
+    few : (same : Bool) → length (cond same (puts folder [] after) (put_in folder last a.bytes ∷ puts folder [] after)) ≤ 1
+    few true = omega arith
+    few false = omega arith
+puts-cut P folder (b ∷ before) last [] h = record { front = []; last = []; all = refl; few = omega arith; each = tt }
+puts-cut P folder (b ∷ before) last (a ∷ after) h = go (bytes_eq b.bytes a.bytes) (puts-cut P folder before last after h.1)
+  where
+    go : (same : Bool) → CutLast P (puts folder (before ++ last ∷ []) after)
+        → CutLast P (cond same (puts folder (before ++ last ∷ []) after) (put_in folder b a.bytes ∷ puts folder (before ++ last ∷ []) after))
+    go true cut = cut
+    go false cut =
+        record { front = put_in folder b a.bytes ∷ cut.front; last = cut.last; all = ap (λ ps. put_in folder b a.bytes ∷ ps) cut.all; few = cut.few; each = (h.0 a.bytes, cut.each) }

@@ -1,5 +1,5 @@
 -- What a call of a store did, by its answer.
-use Rattle.std.specs.Prelude.{◌≡◌, ℕ, suc, zero, ◌+◌, ◌-◌, ◌^◌, min, ◌⊎◌, List, Option, Result, Ok, Err}
+use Rattle.std.specs.Prelude.{◌≡◌, ℕ, suc, zero, ◌+◌, ◌-◌, ◌^◌, min, ◌⊎◌, List, Option}
 use Rattle.meson_store.specs.Content.{Content, replaced, Rose}
 use Rattle.meson_store.specs.declared.store.StoreError.{StoreError}
 use Rattle.meson_store.specs.declared.store.StoreError.TheVariants as error
@@ -24,14 +24,3 @@ abbrev pub Leaves : StoreError → List ℕ → List ℕ → Option Content → 
 Leaves error.Device name bytes before after = (after ≡ before) ⊎ (after ≡ replaced before name bytes)
 Leaves error.Unchanged name bytes before after = after ≡ before
 Leaves error.OutOfMemory name bytes before after = after ≡ before
-
--- how many files a replace that failed may have changed
-abbrev pub changes : StoreError → ℕ
-changes error.Device = 1
-changes error.Unchanged = 0
-changes error.OutOfMemory = 0
-
--- the count of the replaces that may have changed their file, after one more call
-abbrev pub replaces_after : Result (Unit {0}) StoreError → ℕ → ℕ
-replaces_after (Ok done) n = one_more n
-replaces_after (Err why) n = counted (changes why) n

@@ -80,13 +80,13 @@ pub data GoBack : List Put → Seen → Seen → List (List ℕ) → Type 0 wher
 abbrev pub tries : StoreError → ℕ
 tries error.Device = 1
 tries error.Unchanged = 0
-tries error.OutOfMemory = 1
+tries error.OutOfMemory = 0
 
 -- the files that get their old bytes again: that one, and those that were replaced before it, the last first
 abbrev pub to_go_back : StoreError → Put → List Put → List Put
 to_go_back error.Device failed done = failed ∷ reverse done
 to_go_back error.Unchanged failed done = reverse done
-to_go_back error.OutOfMemory failed done = failed ∷ reverse done
+to_go_back error.OutOfMemory failed done = reverse done
 
 -- The fault of a replace of the file of that name, where these files did not get their old bytes again. Want of memory is
 -- told where nothing is left to tell of.

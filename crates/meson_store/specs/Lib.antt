@@ -6,3 +6,4 @@ pub mod Planned
 pub mod MemoryStore
 pub mod Output
 pub mod Messages
+pub mod Laws

@@ -1,10 +1,10 @@
 -- What is known of a store between two calls, and what a call of `replace` did to it.
 use Rattle.std.specs.Prelude.{◌≡◌, ◌≤◌, ℕ, List, Option}
-use Rattle.meson_store.specs.Calls.{FailureCounted, Leaves, changes, counted, one_more}
+use Rattle.meson_store.specs.Calls.{FailureCounted, Leaves, one_more}
 use Rattle.meson_store.specs.Content.{Content, replaced}
 use Rattle.meson_store.specs.declared.store.StoreError.{StoreError}
 
--- what it holds, if it tells it, how many calls failed, and how many replaces may have changed a file
+-- what it holds, if it tells it, how many calls failed, and how many calls of `replace` there were
 pub record Seen : Type 0 where
   pub content : Option Content
   pub failures : ℕ
@@ -30,4 +30,4 @@ pub record IsNotReplaced (why : StoreError) (path bytes : List ℕ) (before afte
   pub left : Leaves why path bytes before.content after.content
   pub failed : FailureCounted why before.failures after.failures
   pub counts : before.failures ≤ after.failures
-  pub counted : after.replaces ≡ counted (changes why) before.replaces
+  pub counted : after.replaces ≡ one_more before.replaces

@@ -111,17 +111,14 @@ fn put_back<S: Store>(
         (seen (S.content store.old) (S.failures store.old) (S.replaces store.old)) (seen (S.content store.new) (S.failures store.new) (S.replaces store.new)) still
         × (lost.new.items ≡ lost.old.items ++ still) }
 {
-    let [earlier @ .., file] = files else {
-        return;
-    };
-    let Some(name) = names.pop() else {
-        return;
-    };
-    match store.replace(file.path.as_str(), file.was) {
-        Ok(()) => {}
-        Err(_) => lost.push_reserved(name),
+    while let Some(name) = names.pop() {
+        let left = names.len();
+        let file = &files[left];
+        match store.replace(file.path.as_str(), file.was) {
+            Ok(()) => (),
+            Err(_) => lost.push_reserved(name),
+        }
     }
-    put_back(store, earlier, names, lost)
 }
 
 /// How many files get their old bytes again: those that were replaced, and the one that was not, unless the store knows
@@ -131,8 +128,8 @@ fn count_tried(halt: Halt) -> usize
     ensures { result ≡ halt.done + tries halt.error }
 {
     match halt.error {
-        StoreError::Unchanged => halt.done,
-        StoreError::Device | StoreError::OutOfMemory => halt.done + 1,
+        StoreError::Device => halt.done + 1,
+        StoreError::Unchanged | StoreError::OutOfMemory => halt.done,
     }
 }
 

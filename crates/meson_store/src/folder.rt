@@ -4,10 +4,11 @@ ghost use Rattle.std.specs.Prelude.{◌≡◌, ◌≤◌, IfErr};
 ghost use Rattle.meson_store.specs.Calls.{FailureCounted};
 
 use crate::{Store, StoreError};
-use std::alloc::Global;
+use std::alloc::{AllocError, Global};
 use std::fs::{Metadata, OpenFile, OpenOptions};
 use std::io::{ErrorKind, Read, Write};
-use std::os::unix::fs::{MetadataExt, OpenOptionsExt};
+use std::os::fd::AsFd;
+use std::os::unix::fs::{MetadataExt, OpenOptionsExt, fchown};
 use std::rt::Files;
 use std::{fs, io};
 
@@ -27,6 +28,9 @@ const NEW_SUFFIXES: [&str; 9] = [
     ".rewrite-new-9",
 ];
 
+/// How many bytes the longest of these has.
+const MOST_SUFFIX: usize = 14;
+
 /// The mode of a new file until it gets that of the old one.
 const FOR_OWNER: u32 = 0o600;
 
@@ -40,12 +44,15 @@ const FOR_ALL: u32 = 0o666;
 #[derive(Drop)]
 pub struct Folder<R: Files + Drop> {
     rt: R,
-    alloc: Global,
+    names: Names,
     failures: u64,
     replaces: u64,
 }
 
-impl<R: Files + Drop> Folder<R> {
+impl<R: Files + Drop> Folder<R>
+where
+    R::File: AsFd,
+{
     /// Keeps the runtime and the allocator, and takes no memory.
     pub fn new(rt: R, alloc: Global) -> Self
         ensures failures { ⟦<Folder<R> as Store>⟧.failures result ≡ 0 }
@@ -53,7 +60,7 @@ impl<R: Files + Drop> Folder<R> {
     {
         Folder {
             rt,
-            alloc,
+            names: Names::new(alloc),
             failures: 0,
             replaces: 0,
         }
@@ -141,38 +148,81 @@ fn known<T>(asked: io::Result<T>) -> io::Result<Option<T>> {
     }
 }
 
-/// Where a file really stands: a link is followed to the file behind it.
-fn real_path<R: Files>(rt: &R, alloc: Global, name: &str) -> io::Result<String> {
-    match known(fs::symlink_metadata(rt, name))? {
-        Some(met) if met.is_symlink() => Ok(rt.canonicalize(alloc, name)?.into_string()),
-        _ => Ok(String::from_str(alloc, name)?),
+/// A name that is a link, and where the file behind it stands.
+#[derive(Drop)]
+struct Link {
+    name: String,
+    path: String,
+}
+
+/// Names of files for one replace after another. They keep their memory, so that a file that was replaced once is replaced
+/// again without any.
+#[derive(Drop)]
+struct Names {
+    alloc: Global,
+    /// Where the file really stands.
+    path: String,
+    /// The new file beside it.
+    beside: String,
+    /// The links that were followed.
+    links: Vec<Link>,
+}
+
+impl Names {
+    /// No names, and no memory.
+    fn new(alloc: Global) -> Self {
+        Names {
+            alloc,
+            path: String::new(alloc),
+            beside: String::new(alloc),
+            links: Vec::new(alloc),
+        }
+    }
+
+    /// Finds where a file really stands: a link is followed to the file behind it, once.
+    fn find<R: Files>(&mut self, rt: &R, name: &str) -> io::Result<()> {
+        self.path.clear();
+        match known(fs::symlink_metadata(rt, name))? {
+            Some(met) if met.is_symlink() => self.follow(rt, name),
+            _ => Ok(self.path.push_str(name)?),
+        }
+    }
+
+    /// The same of a link.
+    fn follow<R: Files>(&mut self, rt: &R, name: &str) -> io::Result<()> {
+        for link in &self.links {
+            if link.name.as_str() == name {
+                return Ok(self.path.push_str(link.path.as_str())?);
+            }
+        }
+        let path = rt.canonicalize(self.alloc, name)?.into_string();
+        self.path.push_str(path.as_str())?;
+        let name = String::from_str(self.alloc, name)?;
+        Ok(self.links.push(Link { name, path })?)
+    }
+
+    /// Names a new file beside the one that was found.
+    fn put_beside(&mut self, suffix: &str) -> Result<(), AllocError> {
+        self.beside.clear();
+        // Room for each suffix, so that a longer one takes no memory later on.
+        self.beside
+            .reserve(self.path.len().saturating_add(MOST_SUFFIX))?;
+        self.beside.push_str(self.path.as_str())?;
+        self.beside.push_str(suffix)
     }
 }
 
-/// A file that was made beside another, and its name.
-#[derive(Drop)]
-struct NewFile<F: Drop> {
-    name: String,
-    file: F,
-}
-
 /// Makes a file of that mode beside this one. Nothing that stands there is opened, and no link followed.
-fn make_beside<R: Files>(
-    rt: &R,
-    alloc: Global,
-    path: &str,
-    mode: u32,
-) -> Result<NewFile<R::File>, StoreError> {
+fn make_beside<R: Files>(rt: &R, names: &mut Names, mode: u32) -> Result<R::File, StoreError> {
     for suffix in NEW_SUFFIXES {
-        let mut name = String::from_str(alloc, path)?;
-        name.push_str(suffix)?;
+        names.put_beside(suffix)?;
         let made = OpenOptions::new()
             .write(true)
             .create_new(true)
             .mode(mode)
-            .open(rt, name.as_str());
+            .open(rt, names.beside.as_str());
         match made {
-            Ok(file) => return Ok(NewFile { name, file }),
+            Ok(file) => return Ok(file),
             Err(e) => {
                 if e.kind() != ErrorKind::AlreadyExists {
                     return Err(StoreError::from(e));
@@ -184,61 +234,66 @@ fn make_beside<R: Files>(
 }
 
 /// Gives the new file the owner, where that is permitted, and the mode of the old one.
-fn keep_owner_and_mode<R: Files>(rt: &R, new: &NewFile<R::File>, old: &Metadata) -> io::Result<()> {
-    let made = new.file.metadata()?;
+fn keep_owner_and_mode<F: OpenFile + AsFd>(new: &F, old: &Metadata) -> io::Result<()> {
+    let made = new.metadata()?;
     if made.uid() != old.uid() || made.gid() != old.gid() {
         let (owner, group) = (Some(old.uid()), Some(old.gid()));
-        if rt.lchown(new.name.as_str(), owner, group).is_err() {
-            let _ = rt.lchown(new.name.as_str(), None, group);
+        if fchown(new, owner, group).is_err() {
+            let _ = fchown(new, None, group);
         }
     }
     if made.mode() == old.mode() {
         return Ok(());
     }
-    new.file.set_permissions(old.permissions())
+    new.set_permissions(old.permissions())
 }
 
 /// Fills the new file, and has the device take its bytes.
-fn fill<R: Files>(
-    rt: &R,
-    new: &mut NewFile<R::File>,
+fn fill<F: Write + OpenFile + AsFd>(
+    new: &mut F,
     old: Option<Metadata>,
     bytes: &[u8],
 ) -> io::Result<()> {
     if let Some(old) = old {
-        keep_owner_and_mode(rt, new, &old)?;
+        keep_owner_and_mode(new, &old)?;
     }
-    new.file.write_all(bytes)?;
-    new.file.flush()?;
-    new.file.sync_all()
+    new.write_all(bytes)?;
+    new.flush()?;
+    new.sync_all()
 }
 
 /// Writes a new file beside the real one, and has it take the real one's name. Where that fails, what was made is
 /// removed. `Device` comes of the last step alone.
 fn replace_file<R: Files>(
     rt: &R,
-    alloc: Global,
+    names: &mut Names,
     name: &str,
     bytes: &[u8],
-) -> Result<(), StoreError> {
-    let path = real_path(rt, alloc, name)?;
-    let old = known(fs::metadata(rt, path.as_str()))?;
+) -> Result<(), StoreError>
+where
+    R::File: AsFd,
+{
+    names.find(rt, name)?;
+    let old = known(fs::metadata(rt, names.path.as_str()))?;
     let mode = if old.is_some() { FOR_OWNER } else { FOR_ALL };
-    let mut new = make_beside(rt, alloc, path.as_str(), mode)?;
-    let filled = fill(rt, &mut new, old, bytes);
-    let NewFile { name: made, file } = new;
+    let mut file = make_beside(rt, names, mode)?;
+    let filled = fill(&mut file, old, bytes);
     drop(file);
+    let (made, path) = (names.beside.as_str(), names.path.as_str());
     let end = match filled {
-        Ok(()) => fs::rename(rt, made.as_str(), path.as_str()).map_err(|_| StoreError::Device),
+        Ok(()) => fs::rename(rt, made, path).map_err(|_| StoreError::Device),
         Err(e) => Err(StoreError::from(e)),
     };
     if end.is_err() {
-        let _ = fs::remove_file(rt, made.as_str());
+        let _ = fs::remove_file(rt, made);
     }
     end
 }
 
-impl<R: Files + Drop> Store for Folder<R> {
+impl<R: Files + Drop> Store for Folder<R>
+where
+    R::File: AsFd,
+{
     ghost failures = { λ f. f.failures };
 
     ghost replaces = { λ f. f.replaces };
@@ -254,16 +309,11 @@ impl<R: Files + Drop> Store for Folder<R> {
     }
 
     fn replace(&mut self, name: &str, bytes: &[u8]) -> Result<(), StoreError> {
-        match replace_file(&self.rt, self.alloc, name, bytes) {
-            Ok(()) => {
-                self.replaces = self.replaces.saturating_add(1);
-                Ok(())
-            }
+        self.replaces = self.replaces.saturating_add(1);
+        match replace_file(&self.rt, &mut self.names, name, bytes) {
+            Ok(()) => Ok(()),
             Err(why) => {
                 self.count_failure(why);
-                if why == StoreError::Device {
-                    self.replaces = self.replaces.saturating_add(1);
-                }
                 Err(why)
             }
         }

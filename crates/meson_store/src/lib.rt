@@ -3,6 +3,7 @@
 
 mod committing;
 mod folder;
+pub mod laws;
 mod memory;
 mod output;
 mod store;

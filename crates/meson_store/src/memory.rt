@@ -1,9 +1,9 @@
 //! A store in memory, for tests.
 
-ghost use Rattle.std.specs.Prelude.{◌≡◌, ◌≢◌, ◌≤◌, ◌⊎◌, ◌↔◌, IfOk, IfErr, OnOk, OnErr, Some, true, false, option_map};
+ghost use Rattle.std.specs.Prelude.{◌≡◌, ◌≤◌, ◌↔◌, IfOk, IfErr, OnOk, OnErr, Some, true, false, option_map};
 ghost use Rattle.std.specs.FinMap.{get, insert, empty};
 ghost use Rattle.meson_store.specs.Calls.{FailureCounted, one_more};
-ghost use Rattle.meson_store.specs.MemoryStore.{planned, is_planned, is_due, no_files, after_read, after_replace, after_change, with_file};
+ghost use Rattle.meson_store.specs.MemoryStore.{MayAnswer, planned, is_planned, is_due, no_files, after_read, replaced_so, with_file};
 
 use crate::{Store, StoreError};
 use std::alloc::{AllocError, Global};
@@ -53,8 +53,8 @@ pub struct Memory {
     reads: Plan,
     replaces: Plan,
     leaves_new: bool,
-    /// How many replaces may have changed their file.
-    changes: u64,
+    /// A `replace` that is to fail knows that its file is as it was.
+    is_sure: bool,
 }
 
 impl Model for Memory {
@@ -72,7 +72,7 @@ impl Model for Memory {
       reads = record { made = m.reads.made; first = m.reads.first; count = m.reads.count };
       replaces = record { made = m.replaces.made; first = m.replaces.first; count = m.replaces.count };
       leaves_new = m.leaves_new;
-      changes = m.changes;
+      is_sure = m.is_sure;
     } };
 }
 
@@ -88,7 +88,7 @@ impl Memory {
             reads: Plan::NONE,
             replaces: Plan::NONE,
             leaves_new: false,
-            changes: 0,
+            is_sure: false,
         }
     }
 
@@ -126,15 +126,26 @@ impl Memory {
         self.reads.count = count;
     }
 
-    /// Has `count` calls of `replace` fail, from call `first` on; the store's first call is 1.
+    /// Has `count` calls of `replace` answer `Device`, from call `first` on; the store's first call is 1.
     ///
-    /// With `leaves_new` the first one that fails leaves its new bytes, if there is memory for them.
+    /// With `leaves_new` the first one that fails leaves its new bytes. Where there is no memory for them, it answers that.
     pub fn fail_replace(&mut self, first: u64, count: u64, leaves_new: bool)
-        ensures { self.new ≡ record self.old { replaces = planned self.old.replaces first count; leaves_new = leaves_new } }
+        ensures { self.new ≡ record self.old { replaces = planned self.old.replaces first count; leaves_new = leaves_new; is_sure = false } }
     {
         self.replaces.first = first;
         self.replaces.count = count;
         self.leaves_new = leaves_new;
+        self.is_sure = false;
+    }
+
+    /// Has `count` calls of `replace` answer `Unchanged`, from call `first` on; the store's first call is 1.
+    pub fn fail_unchanged(&mut self, first: u64, count: u64)
+        ensures { self.new ≡ record self.old { replaces = planned self.old.replaces first count; leaves_new = false; is_sure = true } }
+    {
+        self.replaces.first = first;
+        self.replaces.count = count;
+        self.leaves_new = false;
+        self.is_sure = true;
     }
 }
 
@@ -143,7 +154,7 @@ impl Store for Memory {
 
     ghost failures = { λ m. m.failures };
 
-    ghost replaces = { λ m. m.changes };
+    ghost replaces = { λ m. m.replaces.made };
 
     /// Fails only as planned, or where a growth was refused.
     fn read(&mut self, alloc: Global, name: &str) -> Result<Option<Vec<u8>>, StoreError>
@@ -166,31 +177,30 @@ impl Store for Memory {
         }
     }
 
-    /// Fails only as planned, or where a growth was refused. It never answers `Unchanged`.
+    /// Fails only as planned, or where a growth was refused.
     fn replace(&mut self, name: &str, bytes: &[u8]) -> Result<(), StoreError>
-        ensures ok { OnOk result (self.new ≡ with_file (after_change self.old) name.now bytes.now) }
-        ensures memory { result ≡ Err StoreError.OutOfMemory → self.new ≡ after_replace self.old }
-        ensures left { result ≡ Err StoreError.Device → (self.new ≡ after_change self.old)
-            ⊎ ((self.old.leaves_new ≡ true) × (self.new ≡ with_file (after_change self.old) name.now bytes.now)) }
-        ensures due { (result ≡ Err StoreError.Device) ↔ (is_due self.old.replaces ≡ true) }
-        ensures known { result ≢ Err StoreError.Unchanged }
+        ensures after { self.new ≡ replaced_so self.old name.now bytes.now result }
+        ensures answer { MayAnswer self.old result }
         ensures counts { self.old.failures ≤ self.new.failures }
         ensures failed { IfErr result (λ why. FailureCounted why self.old.failures self.new.failures) }
     {
-        if self.replaces.next_fails() {
-            self.failures = self.failures.saturating_add(1);
-            self.changes = self.changes.saturating_add(1);
-            if self.leaves_new {
-                self.leaves_new = false;
-                let _ = self.put(name, bytes);
-            }
+        if !self.replaces.next_fails() {
+            return match self.put(name, bytes) {
+                Ok(()) => Ok(()),
+                Err(AllocError) => Err(StoreError::OutOfMemory),
+            };
+        }
+        self.failures = self.failures.saturating_add(1);
+        let leaves_new = self.leaves_new;
+        self.leaves_new = false;
+        if self.is_sure {
+            return Err(StoreError::Unchanged);
+        }
+        if !leaves_new {
             return Err(StoreError::Device);
         }
         match self.put(name, bytes) {
-            Ok(()) => {
-                self.changes = self.changes.saturating_add(1);
-                Ok(())
-            }
+            Ok(()) => Err(StoreError::Device),
             Err(AllocError) => Err(StoreError::OutOfMemory),
         }
     }
@@ -200,6 +210,6 @@ impl Store for Memory {
     }
 
     fn replaces(&self) -> u64 {
-        self.changes
+        self.replaces.made
     }
 }

@@ -48,7 +48,7 @@ impl From<io::Error> for StoreError {
 ///
 /// A store that knows what it holds tells it as `content`; a folder of the file system tells none.
 pub trait Store {
-    ghost use Rattle.meson_store.specs.Calls.{FailureCounted, Leaves, replaces_after};
+    ghost use Rattle.meson_store.specs.Calls.{FailureCounted, Leaves, one_more};
 
     ghost content: { Self → Option Content } = { λ _. None };
 
@@ -78,14 +78,13 @@ pub trait Store {
         ensures err { IfErr result (λ why. Leaves why name.now bytes.now (content self.old) (content self.new)) }
         ensures counts { failures self.old ≤ failures self.new }
         ensures failed { IfErr result (λ why. FailureCounted why (failures self.old) (failures self.new)) }
-        ensures counted { replaces self.new ≡ replaces_after result (replaces self.old) };
+        ensures counted { replaces self.new ≡ one_more (replaces self.old) };
 
     /// How many calls failed for another cause than memory. The count stops at `u64::MAX`.
     fn failures(&self) -> u64
         ensures { result ≡ failures self.now };
 
-    /// How many replaces may have changed their file: those that were done, and those that answered `Device`.
-    /// The count stops at `u64::MAX`.
+    /// How many calls of `replace` there were, whatever they answered. The count stops at `u64::MAX`.
     fn replaces(&self) -> u64
         ensures { result ≡ replaces self.now };
 }

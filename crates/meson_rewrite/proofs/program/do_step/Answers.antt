@@ -1,5 +1,6 @@
-use Rattle.std.proofs.Common.{◌∙◌, option_map, sym}
+use Rattle.std.proofs.Common.{◌≡◌, false, true, option_map}
 use Rattle.meson_rewrite.proofs.Endings.{done-ends, failed-ends, stopped-acting, stopped-opening, told-ends}
+use Rattle.meson_rewrite.specs.Steps.{only_tells}
 use Rattle.meson_store.specs.Seen.{Untouched, seen}
 use Rattle.meson_rewrite.proofs.program.do_step.Goals as goal
 
@@ -19,7 +20,8 @@ returns-in-Ok-told-clause-ends g c =
     let b = seen (S.content c.args.store.now) (S.failures c.args.store.now) (S.replaces c.args.store.now) in
     let a = seen (S.content c.open.new.store) (S.failures c.open.new.store) (S.replaces c.open.new.store) in
     let u : Untouched b a = record { kept = c.open.ensures.kept; counts = c.open.ensures.counts; no_replace = c.open.ensures.no_replace } in
-    told-ends dir c.args.step.now b a u c.in-Ok.opened.session c.in-Ok.opened.log.items c.in-Ok.ensures.opens (sym c.only_tells.ensures ∙ c.if-only_tells.true) c.in-Ok-told.said c.in-Ok-told.ensures.told
+    let only : only_tells c.args.step.now ≡ true = cc in
+    told-ends dir c.args.step.now b a u c.in-Ok.opened.session c.in-Ok.opened.log.items c.in-Ok.ensures.opens only c.in-Ok-told.said c.in-Ok-told.ensures.told
 
 pub returns-in-Err-told-clause-ends : goal.returns-in-Err-told-clause-ends
 returns-in-Err-told-clause-ends g c =
@@ -47,7 +49,8 @@ returns-in-Ok-commit-clause-ends g c =
     let m = seen (S.content c.open.new.store) (S.failures c.open.new.store) (S.replaces c.open.new.store) in
     let a = seen (S.content c.commit.new.store) (S.failures c.commit.new.store) (S.replaces c.commit.new.store) in
     let u : Untouched b m = record { kept = c.open.ensures.kept; counts = c.open.ensures.counts; no_replace = c.open.ensures.no_replace } in
-    done-ends dir c.args.step.now b m a u c.in-Ok.opened.session c.in-Ok.opened.log.items c.in-Ok.ensures.opens c.in-Ok-edited.edit c.in-Ok-edited.ensures.edited c.in-Ok-commit.ensures.done
+    let writes : only_tells c.args.step.now ≡ false = cc in
+    done-ends dir c.args.step.now b m a u writes c.in-Ok.opened.session c.in-Ok.opened.log.items c.in-Ok.ensures.opens c.in-Ok-edited.edit c.in-Ok-edited.ensures.edited c.in-Ok-commit.ensures.done
 
 pub returns-in-Err-commit-clause-ends : goal.returns-in-Err-commit-clause-ends
 returns-in-Err-commit-clause-ends g c =
@@ -57,4 +60,5 @@ returns-in-Err-commit-clause-ends g c =
     let m = seen (S.content c.open.new.store) (S.failures c.open.new.store) (S.replaces c.open.new.store) in
     let a = seen (S.content c.commit.new.store) (S.failures c.commit.new.store) (S.replaces c.commit.new.store) in
     let u : Untouched b m = record { kept = c.open.ensures.kept; counts = c.open.ensures.counts; no_replace = c.open.ensures.no_replace } in
-    failed-ends dir c.args.step.now b m a u c.in-Ok.opened.session c.in-Ok.opened.log.items c.in-Ok.ensures.opens c.in-Ok-edited.edit c.in-Ok-edited.ensures.edited c.in-Err-commit.fault c.in-Err-commit.ensures.failed
+    let writes : only_tells c.args.step.now ≡ false = cc in
+    failed-ends dir c.args.step.now b m a u writes c.in-Ok.opened.session c.in-Ok.opened.log.items c.in-Ok.ensures.opens c.in-Ok-edited.edit c.in-Ok-edited.ensures.edited c.in-Err-commit.fault c.in-Err-commit.ensures.failed

@@ -1,0 +1,107 @@
+-- A run that was stopped leaves each file as it was of which it does not tell.
+use Rattle.std.proofs.Common.{◌≡◌, ◌⊎◌, ℕ, List, [], ◌∷◌, Option, Some, None, Result, Ok, Err, inl, inr, refl, sym, ap, ◌∙◌, subst}
+use Rattle.std.specs.FinMap.{get}
+use Rattle.std.specs.List.{Contains}
+use Rattle.std.specs.Prelude.{IfErr}
+use Rattle.meson_command.specs.declared.asked.Asked.{Asked}
+use Rattle.meson_command.specs.declared.fault.UsageFault.{UsageFault}
+use Rattle.meson_splice.specs.declared.file_set.File.{File}
+use Rattle.meson_store.proofs.Leaving.{some-is, untold-at}
+use Rattle.meson_store.proofs.Restoring.{Each, apart-or-not, each-append, each-map, puts-each}
+use Rattle.meson_store.specs.Commit.{Put, TakenBack, path_in, put_in, still_new}
+use Rattle.meson_store.specs.Content.{Content}
+use Rattle.meson_store.specs.Seen.{Seen}
+use Rattle.meson_store.specs.declared.store_fault.StoreFault.{StoreFault}
+use Rattle.meson_gathering.specs.Gathering.{file_of, held}
+use Rattle.meson_rewrite.proofs.Holding.{IsHeld, held-collected}
+use Rattle.meson_rewrite.specs.Logs.{IsLog, empty_log, log_name, with_log}
+use Rattle.meson_rewrite.specs.Runs.{Edits, Ends, IsKept, KeepsUntold, StepEnds, asks_for_none, dir_of, done, helped, memory_ran_out, misused, no_memory, not_opened, refused, steps, told, unwritten, written}
+use Rattle.meson_rewrite.specs.declared.request.Step.{Step}
+use Rattle.meson_rewrite.specs.declared.said.Said.{Said}
+use Rattle.meson_rewrite.specs.declared.stop.Stop.{Stop}
+use Rattle.meson_rewrite.specs.declared.stop.Stop.TheVariants.{Store, Usage}
+
+same-keeps : (dir : Option (List ℕ)) (before after : Option Content) (stop : Stop) → after ≡ before → KeepsUntold dir before after stop
+same-keeps dir before after stop same old new is now path untold = inl (ap (λ c. get c path) (some-is (sym now ∙ same ∙ is)))
+
+-- ---- a file that is written
+
+module _ (dir : Option (List ℕ)) (old : Content) where
+  -- the store holds what it held, or it is the log, and there is none; it stands at the path of its name
+  record IsOld (p : Put) : Type 0 where
+    held_so : (get old p.path ≡ Some p.was) ⊎ ((p.path ≡ path_in dir log_name) × (p.was ≡ empty_log) × (get old (path_in dir log_name) ≡ None))
+    named : p.path ≡ path_in dir p.name
+
+  are-old : {before : Option Content} (step : Step) (e : Edits before dir step) → before ≡ Some old → Each IsOld (written e)
+  are-old step e is =
+      puts-each IsOld dir (with_log e.old.project.files e.log) (with_log e.new.project.files e.new_log)
+      (each-append Old e.old.project.files (file_of log_name e.log ∷ [])
+      (each-map (IsHeld old dir) Old (λ f h bytes. record { held_so = inl h; named = refl }) e.old.project.files (held-collected old dir e.old.project.files (e.opens.found old is)))
+      (λ bytes. record { held_so = log (held old dir log_name) refl (e.opens.is_log old is); named = refl }, tt))
+    where
+      Old : File → Type 0
+      Old f = (bytes : List ℕ) → IsOld (put_in dir f bytes)
+
+      log : (there : Option (List ℕ)) → held old dir log_name ≡ there → IsLog there e.log e.old.history →
+          (held old dir log_name ≡ Some e.log) ⊎ ((path_in dir log_name ≡ path_in dir log_name) × (e.log ≡ empty_log) × (held old dir log_name ≡ None))
+      log None is l = inr (refl, l.0, is)
+      log (Some text) is l = inl (is ∙ ap Some (sym l.0))
+
+-- ---- files that were not written
+
+module _ (dir : Option (List ℕ)) (step : Step) (before after : Seen) (e : Edits before.content dir step) (fault : StoreFault) (taken : TakenBack (written e) before after fault) (old new : Content)
+    (is : before.content ≡ Some old) (now : after.content ≡ Some new) (path : List ℕ) (untold : (name : List ℕ) → Contains (still_new fault) name → path ≡ path_in dir name → ⊥) where
+  at : (V : Option (List ℕ)) → ((p : Put) → path ≡ p.path → IsOld dir old p → V ≡ Some p.was) → (get new path ≡ V) ⊎ (get new path ≡ get old path)
+  at V f =
+      untold-at (written e) before after fault taken old new is now V path
+      (each-map (IsOld dir old) (λ p. path ≡ p.path → (Contains (still_new fault) p.name → ⊥) × (V ≡ Some p.was))
+      (λ p o same. (λ l. untold p.name l (same ∙ o.named), f p same o)) (written e) (are-old dir old step e is))
+
+  -- the log, where there was none
+  absent-log : path ≡ path_in dir log_name → get old path ≡ None → IsKept dir old new path
+  absent-log is_log none = elim (at (Some empty_log) (λ p same o. go p same o.held_so)) [
+    | inl made ↦ inr (is_log, none, made)
+    | inr kept ↦ inl kept
+  ]
+    where
+      go : (p : Put) → path ≡ p.path → (get old p.path ≡ Some p.was) ⊎ ((p.path ≡ path_in dir log_name) × (p.was ≡ empty_log) × (get old (path_in dir log_name) ≡ None))
+          → Some empty_log ≡ Some p.was
+      go p same (inl there) = absurd (let both : None ≡ Some p.was = sym none ∙ ap (get old) same ∙ there in (let no : ⊥ = cc in no))
+      go p same (inr l) = ap Some (sym l.1)
+
+  other : (path ≡ path_in dir log_name → get old path ≡ None → ⊥) → IsKept dir old new path
+  other no_log = elim (at (get old path) (λ p same o. go p same o.held_so)) [
+    | inl kept ↦ inl kept
+    | inr kept ↦ inl kept
+  ]
+    where
+      go : (p : Put) → path ≡ p.path → (get old p.path ≡ Some p.was) ⊎ ((p.path ≡ path_in dir log_name) × (p.was ≡ empty_log) × (get old (path_in dir log_name) ≡ None))
+          → get old path ≡ Some p.was
+      go p same (inl there) = ap (get old) same ∙ there
+      go p same (inr l) = absurd (no_log (same ∙ l.0) (ap (get old) (same ∙ l.0) ∙ l.2))
+
+  unwritten-keeps : IsKept dir old new path
+  unwritten-keeps = go (apart-or-not path (path_in dir log_name)) (get old path) refl
+    where
+      go : (path ≡ path_in dir log_name) ⊎ (path ≡ path_in dir log_name → ⊥) → (there : Option (List ℕ)) → get old path ≡ there → IsKept dir old new path
+      go (inl is_log) None none = absent-log is_log none
+      go (inl is_log) (Some b) some = other (λ _ none. let both : Some b ≡ None = sym some ∙ none in (let no : ⊥ = cc in no))
+      go (inr apart) there found = other (λ is_log _. apart is_log)
+
+-- ---- a run
+
+step-untold : (dir : Option (List ℕ)) (step : Step) (before after : Seen) (end : Result Said Stop) → StepEnds dir step before after end → IfErr end (KeepsUntold dir before.content after.content)
+step-untold dir step before after _ (not_opened stop u opens) = same-keeps dir before.content after.content stop u.kept
+step-untold dir step before after _ (refused old log stop u opens may) = same-keeps dir before.content after.content stop u.kept
+step-untold dir step before after _ (told old new log report u opens does only) = tt
+step-untold dir step before after _ (done e writes are) = tt
+step-untold dir step before after _ (unwritten e fault writes taken) = λ old new is now path untold. unwritten-keeps dir step before after e fault taken old new is now path untold
+step-untold dir step before after _ (no_memory stop u wants) = same-keeps dir before.content after.content stop u.kept
+
+pub run-untold : (asked : Result Asked UsageFault) (before after : Seen) (end : Result Said Stop) → Ends asked before after end → IfErr end (KeepsUntold (dir_of asked) before.content after.content)
+run-untold asked before after _ (misused fault u is) = same-keeps (dir_of asked) before.content after.content (Usage fault) u.kept
+run-untold asked before after _ (helped a text u is shows) = tt
+run-untold asked before after _ (asks_for_none a stop u is none) = same-keeps (dir_of asked) before.content after.content stop u.kept
+run-untold asked before after _ (steps a step end is asks ends) =
+    subst (λ r. IfErr end (KeepsUntold (dir_of r) before.content after.content)) (sym is) (step-untold a.dir step before after end ends)
+run-untold asked before after _ (memory_ran_out stop u wants) = same-keeps (dir_of asked) before.content after.content stop u.kept
