@@ -34,10 +34,11 @@ fn has_bad_part(folder: &[u8]) -> bool
     goes_nowhere(&folder[from..])
 }
 
-fn has_control(folder: &[u8]) -> bool
-    ensures { result ≡ list_any is_control folder.now }
+/// Whether a text has a control character of ASCII: a byte below 32, or 127.
+pub fn has_control(text: &[u8]) -> bool
+    ensures { result ≡ list_any is_control text.now }
 {
-    folder.iter().any(|&byte| is_control(byte))
+    text.iter().any(|&byte| is_control(byte))
 }
 
 /// Whether the text names a folder below, by plain parts.

@@ -1,10 +1,10 @@
 //! A case on files: a project of them, or the program in their folder.
 
-use crate::cutting::put_cut;
+use crate::cutting::put_cuts;
 use crate::failures::{Failing, Failures};
 use crate::files::Files;
 use crate::performing::{make, perform};
-use crate::program::{call, words_of};
+use crate::program::{call, expect_logs, words_of};
 use crate::project::{put_entered, put_is_target, put_loaded, put_named, put_targets};
 use crate::sources::put_sources;
 use crate::undoing::Undoing;
@@ -38,6 +38,7 @@ impl ProjectCase {
             "fail-out" => self.failures.out = Failing::of(rest),
             "fail-err" => self.failures.err = Failing::of(rest),
             "leave-new" => self.failures.leaves_new = true,
+            "be-sure" => self.failures.is_sure = true,
             _ => return Ok(false),
         }
         Ok(true)
@@ -72,13 +73,12 @@ impl ProjectCase {
         call(self.alloc, files, failures, words.as_slice(), is_brief, to)
     }
 
-    /// Calls the program on the root file cut at each length.
+    /// Calls the program on the files, of which one is cut at each length.
     fn cut(&mut self, rest: &str, to: &mut Transcript) -> Result<(), AllocError> {
+        let (name, rest) = rest.split_once(' ').unwrap_or((rest, ""));
         let words = words_of(self.alloc, Some(PROGRAM), rest)?;
-        match self.files.bytes("meson.build") {
-            Some(bytes) => put_cut(self.alloc, bytes, words.as_slice(), to),
-            None => Ok(()),
-        }
+        expect_logs(self.alloc, &mut self.files)?;
+        put_cuts(self.alloc, &self.files, name, words.as_slice(), to)
     }
 
     fn answer(&mut self, word: &str, rest: &str, to: &mut Transcript) -> Result<(), AllocError> {

@@ -16,6 +16,8 @@ pub struct Failures {
     pub reads: Failing,
     pub replaces: Failing,
     pub leaves_new: bool,
+    /// The replaces that fail know that their file is as it was.
+    pub is_sure: bool,
     pub out: Failing,
     pub err: Failing,
 }
@@ -43,6 +45,7 @@ impl Failures {
         reads: Failing::NONE,
         replaces: Failing::NONE,
         leaves_new: false,
+        is_sure: false,
         out: Failing::NONE,
         err: Failing::NONE,
     };

@@ -7,7 +7,7 @@ use meson_rewrite::{Counted, Memory, rewrite};
 use std::alloc::{AllocError, Global};
 
 /// A store of the files that are there.
-fn store_of(files: &Files, alloc: Global, failures: Failures) -> Result<Memory, AllocError> {
+pub fn store_of(files: &Files, alloc: Global, failures: Failures) -> Result<Memory, AllocError> {
     let mut store = Memory::new(alloc);
     for file in files.get() {
         if let Some(bytes) = &file.bytes {
@@ -16,7 +16,11 @@ fn store_of(files: &Files, alloc: Global, failures: Failures) -> Result<Memory, 
     }
     store.fail_read(failures.reads.first, failures.reads.count);
     let replaces = failures.replaces;
-    store.fail_replace(replaces.first, replaces.count, failures.leaves_new);
+    if failures.is_sure {
+        store.fail_unchanged(replaces.first, replaces.count);
+    } else {
+        store.fail_replace(replaces.first, replaces.count, failures.leaves_new);
+    }
     Ok(store)
 }
 
@@ -67,7 +71,7 @@ fn put_stored(store: &Memory, files: &mut Files, to: &mut Transcript) -> Result<
 }
 
 /// Counts with an undo log in each folder that has a build file, so that it is shown where it comes.
-fn expect_logs(alloc: Global, files: &mut Files) -> Result<(), AllocError> {
+pub fn expect_logs(alloc: Global, files: &mut Files) -> Result<(), AllocError> {
     for i in 0..files.get().len() {
         if let Some(file) = files.get().get(i)
             && let Some(folder) = file.name.as_str().strip_suffix("meson.build")

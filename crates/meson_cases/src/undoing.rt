@@ -18,9 +18,7 @@ pub struct Undoing {
 }
 
 fn no_change(alloc: Global) -> Change {
-    Change {
-        splices: Many::new(alloc),
-    }
+    Change::untitled(alloc, Many::new(alloc))
 }
 
 /// A splice by its words: the file and the offset, and behind ` :: ` the bytes there and what they become.

@@ -5,13 +5,14 @@ use Rattle.clap.specs.Words.{Row, Text, first_of}
 use Rattle.meson_calls.specs.declared.call.Role.{Role}
 use Rattle.meson_splice.specs.Patch.{then_ok}
 use Rattle.meson_command.specs.Actions.{action_of, kwargs_action, kwargs_by, options_action, options_by, is_json, script_action, target_action, target_by, target_words, word_at, words_at}
-use Rattle.meson_command.specs.Asking.{asked_from, names_no_folder, without_help_text, without_text}
+use Rattle.meson_command.specs.Asking.{asked_from, names_no_folder, title_in, with_title, without_help_text, without_text}
 use Rattle.meson_command.specs.declared.asked.Action.{Action}
 use Rattle.meson_command.specs.declared.asked.Action.TheVariants.{Run, Info, ScriptText, ScriptFile, Undo, Redo, Help}
 use Rattle.meson_command.specs.declared.asked.Asked.{Asked}
+use Rattle.meson_json.specs.Titles.{is_title}
 use Rattle.meson_json.specs.Operations.{kwargs_operation, options_operation, role_of}
 use Rattle.meson_command.specs.Pairs.{pairs_of}
-use Rattle.meson_command.specs.declared.fault.UsageFault.TheVariants.{Usage}
+use Rattle.meson_command.specs.declared.fault.UsageFault.TheVariants.{Usage, BadTitle}
 use Rattle.meson_json.specs.declared.names.KwargsOperation.{KwargsOperation}
 use Rattle.meson_json.specs.declared.names.KwargsOperation.TheVariants as kwargs
 use Rattle.meson_json.specs.declared.names.OptionsOperation.{OptionsOperation}
@@ -103,10 +104,13 @@ action-plain name rows =
     (either (bytes_eq name (codes "undo")) _ _ (ok Undo tt)
     (either (bytes_eq name (codes "redo")) _ _ (ok Redo tt) (err Usage))))))
 
+titled : (rows : List Row) (a : Action) → IsPlain a → Answers (λ x. IsPlain x.action) (with_title rows a)
+titled rows a plain = either (is_title (title_in rows)) _ _ (ok _ plain) (err BadTitle)
+
 asked : (rows : List Row) (subcommand : Option (Text × List Row)) → Answers (λ a. IsPlain a.action) (asked_from rows subcommand)
 unfolding asked_from
 asked rows subcommand = after (ok_or subcommand Usage) _ (λ s. either (names_no_folder (first_of (codes "DIR") rows)) _ _ (err _)
-    (after_some IsPlain (action_of s.0 s.1) _ (action-plain s.0 s.1) (λ a plain. ok _ plain)))
+    (after_some IsPlain (action_of s.0 s.1) _ (action-plain s.0 s.1) (titled rows)))
 
 pub not_help : (rows : List Row) (subcommand : Option (Text × List Row)) (a : Asked) → asked_from rows subcommand ≡ Ok a → IsPlain a.action
 not_help rows subcommand a is = subst (λ r. IfOk r (λ x. IsPlain x.action)) is (asked rows subcommand).so

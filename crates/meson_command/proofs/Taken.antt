@@ -13,13 +13,14 @@ use Rattle.meson_command.specs.Actions.{action_of}
 use Rattle.clap.specs.declared.error.kind.ErrorKind.{ErrorKind}
 use Rattle.clap.specs.declared.error.kind.ErrorKind.TheVariants as kind
 use Rattle.clap.specs.declared.error.kind.ErrorKind.TheVariants.{DisplayHelp, OutOfMemory}
-use Rattle.meson_command.specs.Asking.{answer, asked_from, asked_of, help, is_help, names_no_folder}
+use Rattle.meson_json.specs.Titles.{is_title}
+use Rattle.meson_command.specs.Asking.{answer, asked_from, asked_of, help, is_help, names_no_folder, title_in}
 use Rattle.meson_command.specs.Program.{command, default_options, kwargs, program, redo, target, undo}
 use Rattle.meson_command.proofs.HelpAlone.{Clean, clean}
 use Rattle.meson_command.specs.declared.asked.Action.{Action}
 use Rattle.meson_command.specs.declared.asked.Asked.{Asked}
 use Rattle.meson_command.specs.declared.fault.UsageFault.{UsageFault}
-use Rattle.meson_command.specs.declared.fault.UsageFault.TheVariants.{Usage}
+use Rattle.meson_command.specs.declared.fault.UsageFault.TheVariants.{Usage, BadTitle}
 
 program_is_simple : is_simple program ≡ true
 unfolding program target kwargs default_options command undo redo
@@ -43,15 +44,21 @@ module _ {Z : Type 0} where
       let at : rows ≡ rows_of (found_of (out-SubCommand (box_value b)).matches) = cc in
       ap₂ (λ (n : Text) (r : List Row). Some (n, r)) (sym same) (sym at)
 
-pub asks : (rows : List Row) (sub : Option (Text × List Row)) (name : Text) (inner : List Row) (dir : Option Text) (a : Action) → sub ≡ Some (name, inner)
-    → names_no_folder (first_of (codes "DIR") rows) ≡ false → dir ≡ first_of (codes "DIR") rows → action_of name inner ≡ Ok a → asked_from rows sub ≡ Ok (record { dir = dir; action = a })
+pub asks : (rows : List Row) (sub : Option (Text × List Row)) (name : Text) (inner : List Row) (dir : Option Text) (title : Text) (a : Action) → sub ≡ Some (name, inner)
+    → names_no_folder (first_of (codes "DIR") rows) ≡ false → dir ≡ first_of (codes "DIR") rows → action_of name inner ≡ Ok a
+    → is_title (title_in rows) ≡ true → title ≡ title_in rows → asked_from rows sub ≡ Ok (record { dir = dir; title = title; action = a })
 unfolding asked_from
-asks rows sub name inner dir a is folder at action = rw (is, folder, action, at) refl
+asks rows sub name inner dir title a is folder at action good same = rw (is, folder, action, good, at, same) refl
 
 pub refuses : (rows : List Row) (sub : Option (Text × List Row)) (name : Text) (inner : List Row) (e : UsageFault) → sub ≡ Some (name, inner)
     → names_no_folder (first_of (codes "DIR") rows) ≡ false → action_of name inner ≡ Err e → asked_from rows sub ≡ Err e
 unfolding asked_from
 refuses rows sub name inner e is folder action = rw (is, folder, action) refl
+
+pub refuses_title : (rows : List Row) (sub : Option (Text × List Row)) (name : Text) (inner : List Row) (a : Action) → sub ≡ Some (name, inner)
+    → names_no_folder (first_of (codes "DIR") rows) ≡ false → action_of name inner ≡ Ok a → is_title (title_in rows) ≡ false → asked_from rows sub ≡ Err BadTitle
+unfolding asked_from
+refuses_title rows sub name inner a is folder action bad = rw (is, folder, action, bad) refl
 
 pub refuses_folder : (rows : List Row) (sub : Option (Text × List Row)) (s : Text × List Row) → sub ≡ Some s → names_no_folder (first_of (codes "DIR") rows) ≡ true → asked_from rows sub ≡ Err Usage
 unfolding asked_from

@@ -14,8 +14,9 @@ use Rattle.clap.specs.declared.error.kind.ErrorKind.TheVariants.{DisplayHelp}
 use Rattle.meson_calls.specs.declared.call.Role.{Role}
 use Rattle.meson_splice.specs.Patch.{then_ok}
 use Rattle.meson_command.specs.Actions.{action_of, kwargs_action, kwargs_by, options_action, target_action, word_at, words_at}
-use Rattle.meson_command.specs.Asking.{answer, asked_from, asked_of, help, is_help, names_no_folder}
+use Rattle.meson_command.specs.Asking.{answer, asked_from, asked_of, help, is_help, names_no_folder, title_in, with_title}
 use Rattle.meson_command.specs.Laws.{HelpWhereAsked, IsUnknown, UsageMeansUnknown}
+use Rattle.meson_json.specs.Titles.{is_title}
 use Rattle.meson_json.specs.Operations.{kwargs_operation, options_operation, role_of}
 use Rattle.meson_command.specs.Operations.{target_operation}
 use Rattle.meson_command.specs.Pairs.{in_pairs, names, pairs_of, repeats}
@@ -23,7 +24,7 @@ use Rattle.meson_command.specs.Program.{command, default_options, kwargs, progra
 use Rattle.meson_command.specs.declared.asked.Action.{Action}
 use Rattle.meson_command.specs.declared.asked.Asked.{Asked}
 use Rattle.meson_command.specs.declared.fault.UsageFault.{UsageFault}
-use Rattle.meson_command.specs.declared.fault.UsageFault.TheVariants.{Usage, OddWords, RepeatedKey}
+use Rattle.meson_command.specs.declared.fault.UsageFault.TheVariants.{Usage, OddWords, RepeatedKey, BadTitle}
 use Rattle.meson_json.specs.declared.names.KwargsOperation.{KwargsOperation}
 use Rattle.meson_json.specs.declared.names.KwargsOperation.TheVariants as of_kwargs
 use Rattle.meson_command.proofs.HelpAlone.{Clean}
@@ -186,14 +187,19 @@ Wrong rows sub = (names_no_folder (first_of (codes "DIR") rows) ≡ true) ⊎ ((
 abbrev wrong : Result Asked UsageFault
 wrong = Err Usage
 
-not_done : (dir : Option Text) (r : Result Action UsageFault) → then_ok r (λ action. Ok (record { dir = dir; action = action })) ≡ wrong → r ≡ Err Usage
-not_done dir (Ok a) e = cc
-not_done dir (Err fault) e = let at : fault ≡ Usage = cc in ap (λ (u : UsageFault). Err u) at
+-- a title that is none is no wrong usage
+by_title : (rows : List Row) (a : Action) (b : Bool) → (if b then Ok (record { dir = first_of (codes "DIR") rows; title = title_in rows; action = a }) else Err BadTitle) ≡ wrong → ⊥
+by_title rows a true e = cc
+by_title rows a false e = cc
+
+not_done : (rows : List Row) (r : Result Action UsageFault) → then_ok r (with_title rows) ≡ wrong → r ≡ Err Usage
+not_done rows (Ok a) e = absurd (by_title rows a (is_title (title_in rows)) e)
+not_done rows (Err fault) e = let at : fault ≡ Usage = cc in ap (λ (u : UsageFault). Err u) at
 
 by_folder : (rows : List Row) (s : Text × List Row) (b : Bool) → names_no_folder (first_of (codes "DIR") rows) ≡ b
-    → (if b then Err Usage else then_ok (action_of s.0 s.1) (λ action. Ok (record { dir = first_of (codes "DIR") rows; action = action }))) ≡ wrong → Wrong rows (Some s)
+    → (if b then Err Usage else then_ok (action_of s.0 s.1) (with_title rows)) ≡ wrong → Wrong rows (Some s)
 by_folder rows s true is e = inl is
-by_folder rows s false is e = inr (s.0, s.1, refl, not_done (first_of (codes "DIR") rows) (action_of s.0 s.1) e)
+by_folder rows s false is e = inr (s.0, s.1, refl, not_done rows (action_of s.0 s.1) e)
 
 split : (rows : List Row) (sub : Option (Text × List Row)) → is_some sub ≡ true → asked_from rows sub ≡ Err Usage → Wrong rows sub
 unfolding asked_from

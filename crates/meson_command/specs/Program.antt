@@ -54,11 +54,12 @@ bare name = record (new_app name) {
   top = record (new_app name).top { subcommand_required = true; disable_help_flag = true; disable_help_subcommand = true };
 }
 
--- meson_rewrite [--sourcedir DIR]
+-- meson_rewrite [--sourcedir DIR] [--title TEXT]
 abbrev pub own_words : App
-own_words = with_rule (with_rule (bare (codes "meson_rewrite")) (option (codes "DIR") (codes "sourcedir"))) help
+own_words =
+    with_rule (with_rule (with_rule (bare (codes "meson_rewrite")) (option (codes "DIR") (codes "sourcedir"))) (option (codes "TEXT") (codes "title"))) help
 
--- meson_rewrite [--sourcedir DIR] SUBCOMMAND
+-- meson_rewrite [--sourcedir DIR] [--title TEXT] SUBCOMMAND
 unfoldable pub program : App
 program = fold (λ a s. with_subcommand a s.top) own_words (target ∷ kwargs ∷ default_options ∷ command ∷ undo ∷ redo ∷ [])
 

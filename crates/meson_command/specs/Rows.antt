@@ -1,5 +1,5 @@
 -- Command lines, each with what it asks for.
-use Rattle.std.specs.Prelude.{◌≡◌, ℕ, ◌==◌, List, [], ◌∷◌, codes, if◌then◌else◌, Some, None, Result, Ok, Err}
+use Rattle.std.specs.Prelude.{◌≡◌, ℕ, ◌==◌, List, [], ◌∷◌, ◌++◌, codes, if◌then◌else◌, Some, None, Result, Ok, Err}
 use Rattle.meson_calls.specs.declared.call.Role.TheVariants as role
 use Rattle.meson_steps.specs.declared.command.Command.TheVariants as command
 use Rattle.meson_steps.specs.declared.command.Setting.TheVariants as setting
@@ -9,7 +9,7 @@ use Rattle.meson_command.specs.declared.asked.Action.{Action}
 use Rattle.meson_command.specs.declared.asked.Action.TheVariants.{Info, ScriptText, ScriptFile, Undo, Redo}
 use Rattle.meson_command.specs.declared.asked.Asked.{Asked}
 use Rattle.meson_command.specs.declared.fault.UsageFault.{UsageFault}
-use Rattle.meson_command.specs.declared.fault.UsageFault.TheVariants.{Usage, OddWords, RepeatedKey, Unsupported}
+use Rattle.meson_command.specs.declared.fault.UsageFault.TheVariants.{Usage, OddWords, RepeatedKey, Unsupported, BadTitle}
 
 -- a byte before the first of some words
 abbrev onto : ℕ → List (List ℕ) → List (List ℕ)
@@ -22,14 +22,21 @@ words_in [] = [] ∷ []
 words_in (b ∷ bytes) = if b == 32 then [] ∷ words_in bytes else onto b (words_in bytes)
 
 abbrev here : Action → Result Asked UsageFault
-here action = Ok (record { dir = None; action = action })
+here action = Ok (record { dir = None; title = []; action = action })
 
 abbrev there : List ℕ → Action → Result Asked UsageFault
-there dir action = Ok (record { dir = Some dir; action = action })
+there dir action = Ok (record { dir = Some dir; title = []; action = action })
+
+abbrev named : List ℕ → Action → Result Asked UsageFault
+named title action = Ok (record { dir = None; title = title; action = action })
 
 -- a line after the program's name asks for this
 abbrev asks : List ℕ → Result Asked UsageFault → Type 0
 asks line asked = asked_by (codes "T" ∷ words_in line) ≡ asked
+
+-- the same of `undo` behind a title, which may have blanks or be empty
+abbrev asks_titled : List ℕ → Result Asked UsageFault → Type 0
+asks_titled title asked = asked_by (codes "T" ∷ codes "--title" ∷ title ∷ codes "undo" ∷ []) ≡ asked
 
 -- what is to be done
 abbrev pub Done : Type 0
@@ -49,6 +56,19 @@ Done =
     × asks (codes "default-options delete cpp_std c++20") (here (run (command.OptionsDelete (codes "cpp_std" ∷ []))))
     × asks (codes "--sourcedir d undo") (there (codes "d") Undo)
     × asks (codes "redo") (here Redo)
+
+-- what it is for
+abbrev pub Titled : Type 0
+Titled =
+    asks (codes "--title more target e rm a.c") (named (codes "more") (run (command.SourcesRemove (codes "e") (codes "a.c" ∷ []))))
+    × asks (codes "--title a --sourcedir d redo") (Ok (record { dir = Some (codes "d"); title = codes "a"; action = Redo }))
+    × asks_titled (codes "add B") (named (codes "add B") Undo)
+    × asks_titled [] (here Undo)
+    × asks_titled (codes "a\tb") (Err BadTitle)
+    × asks_titled (codes "a" ++ 127 ∷ []) (Err BadTitle)
+    × asks (codes "--title a --title b undo") (Err Usage)
+    × asks (codes "undo --title a") (Err Usage)
+    × (asked_by (codes "T" ∷ codes "--title" ∷ codes "\t" ∷ codes "kwargs" ∷ codes "remove_regex" ∷ codes "target" ∷ codes "e" ∷ []) ≡ Err Unsupported)
 
 -- what is listed, which scripts are meant, and help
 abbrev pub Other : Type 0

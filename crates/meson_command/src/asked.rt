@@ -2,10 +2,11 @@
 
 ghost use Rattle.std.specs.Prelude.{◌≡◌, ◌≢◌, Err, IfErr, IfOk, Ok, false, true, map, option_map, string_bytes};
 ghost use Rattle.clap.specs.Words.{Row, Text as Word, found_of, rows_of, subcommand_rows_of, takes};
+ghost use Rattle.meson_json.specs.Titles.{is_title};
 ghost use Rattle.meson_command.specs.Actions.{action_of};
 ghost use Rattle.meson_command.specs.Asking.{asked_by, asked_from, asked_of, names_no_folder, without_text};
 ghost use Rattle.meson_command.specs.Program.{program};
-ghost use Rattle.meson_command.specs.declared.fault.UsageFault.TheVariants.{OutOfMemory, Usage};
+ghost use Rattle.meson_command.specs.declared.fault.UsageFault.TheVariants.{BadTitle, OutOfMemory, Usage};
 
 use crate::fault::UsageFault;
 use crate::kwargs::kwargs_action;
@@ -13,10 +14,10 @@ use crate::options::options_action;
 use crate::program::named_program;
 use crate::script::script_action;
 use crate::target::target_action;
-use crate::words::owned;
+use crate::words::{owned, word_or};
 use clap::ArgMatches;
 use clap::error::ErrorKind;
-use meson_json::Script;
+use meson_json::{Script, is_title};
 use meson_splice::Text;
 use meson_steps::command::Command;
 use std::alloc::Global;
@@ -45,6 +46,8 @@ pub enum Action {
 pub struct Asked {
     /// The folder of the root file, where one is named.
     pub dir: Option<Text>,
+    /// What the run is for; empty where nothing is named.
+    pub title: Text,
     pub action: Action,
 }
 
@@ -87,11 +90,24 @@ fn folder(alloc: Global, dir: Option<&str>) -> Result<Option<Text>, UsageFault>
     }
 }
 
+/// A title that is named.
+fn checked_title(alloc: Global, word: &str) -> Result<Text, UsageFault>
+    ensures ok { IfOk result (λ t. (is_title t ≡ true) × (t ≡ word.now)) }
+    ensures refused { IfErr result (λ e. e ≢ OutOfMemory → (e ≡ BadTitle) × (is_title word.now ≡ false)) }
+{
+    if is_title(word) {
+        Ok(owned(alloc, word)?)
+    } else {
+        Err(UsageFault::BadTitle)
+    }
+}
+
 /// What words that clap took ask for.
 #[tactic(auto, unfolding(crate::specs::Asking::asked_from))]
 fn asked_from(alloc: Global, matches: &ArgMatches<'_>) -> Result<Asked, UsageFault>
     ensures ok { IfOk result (λ a. asked_from (rows_of (found_of matches.now)) (subcommand_rows_of matches.now) ≡ Ok a) }
     ensures refused { IfErr result (λ e. e ≢ OutOfMemory → asked_from (rows_of (found_of matches.now)) (subcommand_rows_of matches.now) ≡ Err e) }
+    ensures title { IfOk result (λ a. is_title a.title ≡ true) }
 {
     let Some((subcommand, words)) = matches.subcommand() else {
         return Err(UsageFault::Usage);
@@ -100,23 +116,28 @@ fn asked_from(alloc: Global, matches: &ArgMatches<'_>) -> Result<Asked, UsageFau
         Ok(dir) => dir,
         Err(fault) => return Err(fault),
     };
-    match action_of(alloc, subcommand, words) {
-        Ok(action) => Ok(Asked { dir, action }),
+    let action = match action_of(alloc, subcommand, words) {
+        Ok(action) => action,
+        Err(fault) => return Err(fault),
+    };
+    match checked_title(alloc, word_or(matches, "TEXT", "")) {
+        Ok(title) => Ok(Asked { dir, title, action }),
         Err(fault) => Err(fault),
     }
 }
 
 /// What the words of a command line ask for, of which the first is the program's name. They are those of the Rewriter page of
-/// the Meson manual; `undo`, `redo`, `--subdir` and `--type` are this program's own. Values, ids and names go through as given.
+/// the Meson manual; `undo`, `redo`, `--title`, `--subdir` and `--type` are this program's own. Values, ids and names go through as given.
 ///
 /// # Errors
 /// In this order: a word is missing, unknown or one too many, or the folder is empty; in words that are names with values, the
-/// last name has no value; a name comes twice; the operation is not done here. And want of memory, at any time.
+/// last name has no value; a name comes twice; the operation is not done here; the title is none. And want of memory, at any time.
 pub fn command_of(alloc: Global, words: &[String]) -> Result<Asked, UsageFault>
     ensures ok { IfOk result (λ a. asked_by (map string_bytes words.now) ≡ Ok (without_text a)) }
     ensures refused { IfErr result (λ e. e ≢ OutOfMemory → asked_by (map string_bytes words.now) ≡ Err e) }
     ensures taken { takes program (map string_bytes words.now) ≡ true → IfOk result (λ a. asked_of (map string_bytes words.now) ≡ Ok a) }
     ensures taken_refused { takes program (map string_bytes words.now) ≡ true → IfErr result (λ e. e ≢ OutOfMemory → asked_of (map string_bytes words.now) ≡ Err e) }
+    ensures title { IfOk result (λ a. is_title a.title ≡ true) }
 {
     let command = named_program(alloc)?;
     match command.try_get_matches_from(words) {
@@ -125,6 +146,7 @@ pub fn command_of(alloc: Global, words: &[String]) -> Result<Asked, UsageFault>
             ErrorKind::OutOfMemory => Err(UsageFault::OutOfMemory),
             ErrorKind::DisplayHelp => Ok(Asked {
                 dir: None,
+                title: Text::of(String::new(alloc)),
                 action: Action::Help(Text::of(error.to_string(alloc)?)),
             }),
             _ => Err(UsageFault::Usage),

@@ -15,6 +15,8 @@ pub enum UsageFault {
     RepeatedKey,
     /// The operation is known, but not done here.
     Unsupported,
+    /// The text is no title.
+    BadTitle,
     OutOfMemory,
 }
 
@@ -30,6 +32,7 @@ impl fmt::Display for UsageFault {
             UsageFault::OddWords => f.write_str("U2 odd words"),
             UsageFault::RepeatedKey => f.write_str("U3 repeated key"),
             UsageFault::Unsupported => f.write_str("U4 unsupported"),
+            UsageFault::BadTitle => f.write_str("U6 bad title"),
             UsageFault::OutOfMemory => f.write_str("out of memory"),
         }
     }

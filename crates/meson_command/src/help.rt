@@ -13,12 +13,14 @@ SUBCOMMAND --help lists the operations; man meson_rewrite explains each refusal.
 
 Examples:
   meson_rewrite target tide add moon.c
-  meson_rewrite kwargs set project / version 1.4.0
+  meson_rewrite --title 'Release 1.4.0' kwargs set project / version 1.4.0
   meson_rewrite default-options set c_std c17
   meson_rewrite command changes.json
   meson_rewrite --sourcedir harbor undo";
 
 pub(crate) const DIR: &str = "Folder of the root file [default: the working folder]";
+
+pub(crate) const TITLE: &str = "What the run is for, in at most 200 bytes; undo and redo tell it";
 
 pub(crate) const TARGET: &str = "Edit, list, add or remove a target";
 

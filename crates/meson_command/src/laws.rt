@@ -1,11 +1,12 @@
 //! Laws of the command line. The functions do nothing: what they ensure is the law.
 
 ghost use Rattle.meson_command.specs.Laws.{HelpWhereAsked, OddWordsAreOdd, PairsAreTheWords, UsageMeansUnknown};
-ghost use Rattle.meson_command.specs.Rows.{Done, Other, Refused};
+ghost use Rattle.meson_command.specs.Rows.{Done, Other, Refused, Titled};
 
 /// What some command lines ask for.
 pub fn rows()
     ensures done { Done }
+    ensures titled { Titled }
     ensures other { Other }
     ensures refused { Refused }
 {}

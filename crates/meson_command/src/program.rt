@@ -160,6 +160,7 @@ fn own_words<'h>(alloc: Global) -> Result<Command<'h>, AllocError>
         .disable_help_flag(true)
         .disable_help_subcommand(true);
     let program = with_option(alloc, program, "DIR", "sourcedir", help::DIR)?;
+    let program = with_option(alloc, program, "TEXT", "title", help::TITLE)?;
     with_help(alloc, program)
 }
 

@@ -4,3 +4,4 @@ pub mod Stopping
 pub mod Places
 pub mod FileNames
 pub mod Parsed
+pub mod Asking

@@ -1,6 +1,6 @@
 //! Reading the files of a project from a store.
 
-ghost use Rattle.std.specs.Prelude.{◌≡◌, ◌≤◌, ◌<◌, ◌∷◌, [], ℕ, List, Some, None, Option, All, IfOk, IfErr, OnOk, length, map, option_map, string_bytes, take, drop};
+ghost use Rattle.std.specs.Prelude.{◌≡◌, ◌≤◌, ◌<◌, ◌∷◌, [], ℕ, List, Some, None, Option, All, IfOk, IfErr, OnErr, OnOk, length, map, option_map, string_bytes, take, drop};
 ghost use Rattle.meson_splice.specs.Files.{bytes_at};
 ghost use Rattle.meson_syntax.specs.Reads.{IsSpanned, MayRefuse};
 ghost use Rattle.meson_syntax.specs.View.{view};
@@ -9,6 +9,8 @@ ghost use Rattle.meson_calls.specs.Loading.{HasFileName, IsProject, max_files, n
 ghost use Rattle.meson_calls.specs.Subdirs.{Enters};
 ghost use Rattle.meson_gathering.specs.Gathering.{Collects, Finds, Gathers, Told, entered, file_of, held, whole, with_more};
 ghost use Rattle.meson_gathering.specs.Gathered.{Grows, IsNotAdded, IsNotEntered, IsUnread, LooksAt, StopsAt, StopsLooking};
+ghost use Rattle.meson_gathering.specs.Reading.{EntersEach, EntersFor, EntersOne, OnceAtMost, OnceIfNew, ReadsFiles, StopsEntering, StopsFor, StopsReading};
+ghost use Rattle.meson_store.specs.Calls.{one_more};
 
 use crate::fault::GatherFault;
 use meson_calls::{MAX_FILES, entered_by};
@@ -45,6 +47,8 @@ pub fn read_file<S: Store>(
     ensures kept { S.content store.new ≡ S.content store.old }
     ensures counts { S.failures store.old ≤ S.failures store.new }
     ensures no_replace { S.replaces store.new ≡ S.replaces store.old }
+    ensures once { OnOk result (S.reads store.new ≡ one_more (S.reads store.old)) }
+    ensures at_most_once { OnceAtMost (S.reads store.old) (S.reads store.new) }
 {
     let told = text_of(alloc, name)?;
     let path = path_in(alloc, folder, name)?;
@@ -93,6 +97,8 @@ fn enter<S: Store>(
     ensures kept { S.content store.new ≡ S.content store.old }
     ensures counts { S.failures store.old ≤ S.failures store.new }
     ensures no_replace { S.replaces store.new ≡ S.replaces store.old }
+    ensures asks { OnOk result (EntersOne (S.content store.old) (option_map (λ f. f.now) folder.entry) name.now files.old (S.reads store.old) files.new (S.reads store.new)) }
+    ensures asks_at_most { OnErr result (OnceIfNew name.now files.old (S.reads store.old) (S.reads store.new)) }
 {
     if files.find(name).is_some() {
         return Ok(());
@@ -122,6 +128,8 @@ fn enter_all<S: Store>(
     ensures kept { S.content store.new ≡ S.content store.old }
     ensures counts { S.failures store.old ≤ S.failures store.new }
     ensures no_replace { S.replaces store.new ≡ S.replaces store.old }
+    ensures asks { OnOk result (EntersEach (S.content store.old) (option_map (λ f. f.now) folder.entry) files.old (S.reads store.old) (map string_bytes names.now) files.new (S.reads store.new)) }
+    ensures asks_at_most { OnErr result (StopsEntering (S.content store.old) (option_map (λ f. f.now) folder.entry) files.old (S.reads store.old) (map string_bytes names.now) (S.reads store.new)) }
 {
     for i in 0..names.len() {
         match enter(alloc, store, folder, files, names[i].as_str()) {
@@ -192,6 +200,8 @@ fn look<S: Store>(
     ensures kept { S.content store.new ≡ S.content store.old }
     ensures counts { S.failures store.old ≤ S.failures store.new }
     ensures no_replace { S.replaces store.new ≡ S.replaces store.old }
+    ensures asks { OnOk result (EntersFor (S.content store.old) (option_map (λ f. f.now) folder.entry) files.old place (S.reads store.old) files.new (S.reads store.new)) }
+    ensures asks_at_most { OnErr result (StopsFor (S.content store.old) (option_map (λ f. f.now) folder.entry) files.old place (S.reads store.old) (S.reads store.new)) }
 {
     let Entry { tree, names } = match entry_at(alloc, files, place) {
         Ok(entry) => entry,
@@ -216,6 +226,8 @@ fn root_set<S: Store>(
     ensures kept { S.content store.new ≡ S.content store.old }
     ensures counts { S.failures store.old ≤ S.failures store.new }
     ensures no_replace { S.replaces store.new ≡ S.replaces store.old }
+    ensures once { OnOk result (S.reads store.new ≡ one_more (S.reads store.old)) }
+    ensures at_most_once { OnceAtMost (S.reads store.old) (S.reads store.new) }
 {
     let Ok(name) = text_of(alloc, ROOT) else {
         return Err(GatherFault::Store(StoreFault::OutOfMemory));
@@ -233,7 +245,8 @@ fn root_set<S: Store>(
 }
 
 /// Reads the project in this folder: the root file, and then for each file in order those that it enters.
-/// A file that is entered need not be there. Each file is parsed once.
+/// A file that is entered need not be there. Each file is parsed once. The store is asked once for the root file, once for
+/// each name that is entered and that no file has which was read before, and for no other.
 ///
 /// # Errors
 /// The store has no root file, a file can't be read or is none, there are too many, or want of memory.
@@ -248,6 +261,8 @@ pub fn gather<S: Store>(
     ensures kept { S.content store.new ≡ S.content store.old }
     ensures counts { S.failures store.old ≤ S.failures store.new }
     ensures no_replace { S.replaces store.new ≡ S.replaces store.old }
+    ensures asks { IfOk result (λ project. ReadsFiles (S.content store.old) (option_map (λ f. f.now) folder.entry) (S.reads store.old) project.files (S.reads store.new)) }
+    ensures asks_at_most { OnErr result (StopsReading (S.content store.old) (option_map (λ f. f.now) folder.entry) (S.reads store.old) (S.reads store.new)) }
 {
     let mut files = match root_set(alloc, store, folder) {
         Ok(files) => files,

@@ -131,7 +131,7 @@ read-line d h = ap (λ ls. option_and_then of_json (option_and_then (λ p. json.
 
 -- ---- the log is such a value
 
-both : (a b : Bool) → (a && b) ≡ true → (a ≡ true) × (b ≡ true)
+pub both : (a b : Bool) → (a && b) ≡ true → (a ≡ true) × (b ≡ true)
 both true b h = (refl, h)
 both false b h = absurd (let bad : ⊥ = cc in bad)
 
@@ -144,11 +144,11 @@ plain-splices (s ∷ ss) h = let p = both (is_placed s) _ h in ((below s.at p.0,
 
 plain-changes : (cs : List Change) → are_placed cs ≡ true → ArePlain (items_of (map change_data cs))
 plain-changes [] h = tt
-plain-changes (c ∷ cs) h = let p = both (list_all is_placed c.splices) _ h in (plain-splices c.splices p.0, plain-changes cs p.1)
+plain-changes (c ∷ cs) h = let p = both (list_all is_placed c.splices) _ h in ((plain-splices c.splices p.0, (tt, tt)), plain-changes cs p.1)
 
-one : 1 < 2 ^ 64
-one = omega arith
+two : 2 < 2 ^ 64
+two = omega arith
 
 pub plain-log : (h : History) → are_placed h.future ≡ true → are_placed h.past ≡ true → IsPlain (log_data h)
 unfolding log_data
-plain-log h future past = (plain-changes h.future future, (plain-changes h.past past, (one, tt)))
+plain-log h future past = (plain-changes h.future future, (plain-changes h.past past, (two, tt)))

@@ -4,6 +4,7 @@ pub mod Log
 pub mod Operations
 pub mod Targets
 pub mod Settings
+pub mod Titles
 pub mod Scripts
 pub mod Messages
 pub mod Rows

@@ -9,32 +9,42 @@ use Rattle.serde_json.specs.Read.{read}
 use Rattle.serde_json.specs.Written.{compact_text}
 use Rattle.meson_json.specs.Each.{each_of}
 use Rattle.meson_json.specs.Members.{text_at, whole_at, has_members}
+use Rattle.meson_json.specs.Titles.{is_title}
 use Rattle.meson_splice.specs.declared.change.Change.{Change}
 use Rattle.meson_splice.specs.declared.history.History.{History}
 use Rattle.meson_splice.specs.declared.splice.Splice.{Splice}
 use Rattle.meson_json.specs.declared.fault.ScriptFault.{ScriptFault}
 use Rattle.meson_json.specs.declared.fault.ScriptFault.TheVariants.{BadLog}
+use Rattle.meson_json.specs.declared.version.Version.{Version}
+use Rattle.meson_json.specs.declared.version.Version.TheVariants.{Bare, Titled}
 
 -- ---- a history as JSON, with the members of an object in the order of their names
 
 abbrev pub splice_data : Splice → Data
 splice_data s = object (member (codes "at") (number (unsigned s.at)) (member (codes "file") (string s.file) (member (codes "now") (string s.now) (member (codes "was") (string s.was) no_members))))
 
+abbrev pub splices_data : List Splice → Data
+splices_data ss = array (items_of (map splice_data ss))
+
 abbrev pub change_data : Change → Data
-change_data c = array (items_of (map splice_data c.splices))
+change_data c = object (member (codes "splices") (splices_data c.splices) (member (codes "title") (string c.title) no_members))
 
 abbrev pub changes_data : List Change → Data
 changes_data cs = array (items_of (map change_data cs))
 
 unfoldable pub log_data : History → Data
-log_data h = object (member (codes "future") (changes_data h.future) (member (codes "past") (changes_data h.past) (member (codes "version") (number (unsigned 1)) no_members)))
+log_data h = object (member (codes "future") (changes_data h.future) (member (codes "past") (changes_data h.past) (member (codes "version") (number (unsigned 2)) no_members)))
 
--- whether the bytes of the splices are text
+-- whether the bytes of a splice are text
 abbrev pub is_text : Splice → Bool
 is_text s = is_utf8 s.was && is_utf8 s.now
 
+-- and the title is one
+abbrev pub change_has_text : Change → Bool
+change_has_text c = list_all is_text c.splices && is_title c.title
+
 abbrev pub are_text : List Change → Bool
-are_text cs = list_all (λ c. list_all is_text c.splices) cs
+are_text cs = list_all change_has_text cs
 
 -- whether the place is a number of 64 bits, as that of each splice in memory is
 abbrev pub is_placed : Splice → Bool
@@ -60,19 +70,36 @@ splice_of d =
     Some (record { file = file; at = at; was = was; now = now })) (text_at (codes "was") d)) (text_at (codes "now") d)) (text_at (codes "file") d)) (whole_at (codes "at") d)
     else None
 
-abbrev pub change_of : Data → Option Change
-change_of d = option_map (λ ss. record { splices = ss }) (option_and_then (each_of splice_of) (as_array d))
+-- in the first version: the splices alone
+abbrev pub bare_change_of : Data → Option Change
+bare_change_of d = option_map (λ ss. record { splices = ss; title = [] }) (option_and_then (each_of splice_of) (as_array d))
 
-abbrev pub changes_at : List ℕ → Data → Option (List Change)
-changes_at name d = option_and_then (each_of change_of) (option_and_then as_array (get name d))
+abbrev pub titled : List Splice → List ℕ → Option Change
+titled ss title = if is_title title then Some (record { splices = ss; title = title }) else None
 
--- where it is an object of these three members, and the version is 1
+-- in the second: where it is an object of these two members
+unfoldable pub titled_change_of : Data → Option Change
+titled_change_of d =
+    if has_members 2 d
+    then option_and_then (λ ss. option_and_then (titled ss) (text_at (codes "title") d)) (option_and_then (each_of splice_of) (option_and_then as_array (get (codes "splices") d)))
+    else None
+
+abbrev pub version_of : ℕ → Option Version
+version_of n = if n == 1 then Some Bare else if n == 2 then Some Titled else None
+
+abbrev pub change_of : Version → Data → Option Change
+change_of Bare d = bare_change_of d
+change_of Titled d = titled_change_of d
+
+abbrev pub changes_at : Version → List ℕ → Data → Option (List Change)
+changes_at version name d = option_and_then (each_of (change_of version)) (option_and_then as_array (get name d))
+
+-- where it is an object of these three members, of a version that there is
 unfoldable pub history_of : Data → Option History
 history_of d =
     if has_members 3 d
-    then option_and_then (λ version. if version == 1
-    then option_and_then (λ future. option_and_then (λ past. Some (record { past = past; future = future })) (changes_at (codes "past") d)) (changes_at (codes "future") d)
-    else None) (whole_at (codes "version") d)
+    then option_and_then (λ version. option_and_then (λ future. option_and_then (λ past.
+    Some (record { past = past; future = future })) (changes_at version (codes "past") d)) (changes_at version (codes "future") d)) (option_and_then version_of (whole_at (codes "version") d))
     else None
 
 -- the history that a text is the log of

@@ -76,12 +76,18 @@ abbrev an_insertion : Splice
 an_insertion = record { file = codes "meson.build"; at = 50; was = []; now = codes ", 'b.c'" }
 
 abbrev its_history : History
-its_history = record { past = record { splices = an_insertion ∷ [] } ∷ []; future = [] }
+its_history = record { past = record { splices = an_insertion ∷ []; title = codes "add b" } ∷ []; future = [] }
+
+abbrev an_untitled_change : History
+an_untitled_change = record { past = record { splices = []; title = [] } ∷ []; future = [] }
 
 abbrev pub Logs : Type 0
 Logs =
-    (log_of its_history ≡ Ok (codes "{\"future\":[],\"past\":[[{\"at\":50,\"file\":\"meson.build\",\"now\":\", 'b.c'\",\"was\":\"\"}]],\"version\":1}\n"))
-    × (logged (quoted (codes "{'version':1, 'future':[], 'past':[[]]}")) ≡ Some (record { past = record { splices = [] } ∷ []; future = [] }))
+    (log_of its_history ≡ Ok (codes "{\"future\":[],\"past\":[{\"splices\":[{\"at\":50,\"file\":\"meson.build\",\"now\":\", 'b.c'\",\"was\":\"\"}],\"title\":\"add b\"}],\"version\":2}\n"))
+    × (logged (quoted (codes "{'version':2, 'future':[], 'past':[{'title':'','splices':[]}]}")) ≡ Some an_untitled_change)
+    × (logged (quoted (codes "{'version':1, 'future':[], 'past':[[]]}")) ≡ Some an_untitled_change)
+    × (logged (quoted (codes "{'version':2, 'future':[], 'past':[[]]}")) ≡ None)
+    × (logged (quoted (codes "{'version':1, 'future':[], 'past':[{'title':'','splices':[]}]}")) ≡ None)
     × (logged (codes "{}") ≡ None)
     × (logged (quoted (codes "{'future':[],'past':[],'version':3}")) ≡ None)
     × (logged (quoted (codes "{'future':[],'past':[],'title':'','version':1}")) ≡ None)

@@ -9,7 +9,10 @@ mod members;
 pub mod names;
 pub mod script;
 pub mod target;
+mod title;
+mod version;
 
 pub use fault::ScriptFault;
 pub use log::{empty_log, history_text, read_log};
 pub use script::Script;
+pub use title::is_title;

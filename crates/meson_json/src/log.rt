@@ -3,15 +3,17 @@
 ghost use Rattle.std.specs.Prelude.{◌≡◌, ◌≢◌, Err, IfErr, IfOk, None, Ok, OnOk, Some, codes, false, option_map, true};
 ghost use Rattle.std.specs.List.{list_all};
 ghost use Rattle.std.specs.Str.{is_utf8};
-ghost use Rattle.serde_json.specs.Data.{member, no_members, number, object, unsigned};
+ghost use Rattle.serde_json.specs.Data.{member, no_members, number, object, string, unsigned};
 ghost use Rattle.serde_json.specs.View.{items_view, view};
 ghost use Rattle.meson_json.specs.Each.{each_of};
-ghost use Rattle.meson_json.specs.Log.{are_placed, are_text, change_data, change_of, changes_at, changes_data, has_text, history_of, is_placed, is_text, log_data, log_of, logged, splice_data, splice_of};
+ghost use Rattle.meson_json.specs.Log.{are_placed, are_text, bare_change_of, change_data, change_has_text, change_of, changes_at, changes_data, has_text, history_of, is_placed, is_text, log_data, log_of, logged, splice_data, splice_of, splices_data, titled_change_of};
 ghost use Rattle.meson_json.specs.Members.{has_members, whole_at};
 ghost use Rattle.meson_json.specs.declared.fault.ScriptFault.TheVariants.{BadLog, OutOfMemory};
 
 use crate::fault::ScriptFault;
 use crate::members::text_at;
+use crate::title::is_title;
+use crate::version::{Version, version_of};
 use meson_splice::{Bytes, Change, History, Many, Splice, Text};
 use serde_json::{Value, json};
 use std::alloc::{AllocError, Global};
@@ -46,18 +48,37 @@ fn splice_value(alloc: Global, splice: &Splice) -> Result<Value, ScriptFault>
     Ok(splice_object(alloc, at, splice.file.get(), now, was)?)
 }
 
-/// A change as JSON, if its bytes are text.
-fn change_value(alloc: Global, change: &Change) -> Result<Value, ScriptFault>
-    ensures ok { IfOk result (λ v. view v ≡ change_data change.now) }
-    ensures text { OnOk result (list_all is_text change.now.splices ≡ true) }
-    ensures placed { OnOk result (list_all is_placed change.now.splices ≡ true) }
-    ensures refused { IfErr result (λ e. e ≢ OutOfMemory → (e ≡ BadLog) × (list_all is_text change.now.splices ≡ false)) }
+fn splices_value(alloc: Global, splices: &[Splice]) -> Result<Value, ScriptFault>
+    ensures ok { IfOk result (λ v. view v ≡ splices_data splices.now) }
+    ensures text { OnOk result (list_all is_text splices.now ≡ true) }
+    ensures placed { OnOk result (list_all is_placed splices.now ≡ true) }
+    ensures refused { IfErr result (λ e. e ≢ OutOfMemory → (e ≡ BadLog) × (list_all is_text splices.now ≡ false)) }
 {
     let mut list = Vec::new(alloc);
-    for splice in change.splices.get() {
+    for splice in splices {
         list.push(splice_value(alloc, splice)?)?;
     }
     Ok(Value::Array(list))
+}
+
+fn change_object(alloc: Global, splices: Value, title: &str) -> Result<Value, AllocError>
+    ensures { IfOk result (λ v. view v ≡ object (member (codes "splices") (view splices) (member (codes "title") (string title.now) no_members))) }
+{
+    json!(in alloc; {"splices": splices, "title": title})
+}
+
+/// A change as JSON, if its bytes are text and its title is one.
+fn change_value(alloc: Global, change: &Change) -> Result<Value, ScriptFault>
+    ensures ok { IfOk result (λ v. view v ≡ change_data change.now) }
+    ensures text { OnOk result (change_has_text change.now ≡ true) }
+    ensures placed { OnOk result (list_all is_placed change.now.splices ≡ true) }
+    ensures refused { IfErr result (λ e. e ≢ OutOfMemory → (e ≡ BadLog) × (change_has_text change.now ≡ false)) }
+{
+    if !is_title(change.title.get()) {
+        return Err(ScriptFault::BadLog);
+    }
+    let splices = splices_value(alloc, change.splices.get())?;
+    Ok(change_object(alloc, splices, change.title.get())?)
 }
 
 fn changes_value(alloc: Global, changes: &[Change]) -> Result<Value, ScriptFault>
@@ -75,12 +96,12 @@ fn changes_value(alloc: Global, changes: &[Change]) -> Result<Value, ScriptFault
 
 fn log_object(alloc: Global, future: Value, past: Value) -> Result<Value, AllocError>
     ensures { IfOk result (λ v. view v ≡ object (member (codes "future") (view future)
-        (member (codes "past") (view past) (member (codes "version") (number (unsigned 1)) no_members)))) }
+        (member (codes "past") (view past) (member (codes "version") (number (unsigned 2)) no_members)))) }
 {
-    json!(in alloc; {"future": future, "past": past, "version": 1u64})
+    json!(in alloc; {"future": future, "past": past, "version": 2u64})
 }
 
-/// A history as JSON, if the bytes of its splices are text.
+/// A history as JSON, if the bytes of its splices are text and its titles are titles.
 #[tactic(auto, unfolding(crate::specs::Log::log_data))]
 fn log_value(alloc: Global, history: &History) -> Result<Value, ScriptFault>
     ensures ok { IfOk result (λ v. view v ≡ log_data history.now) }
@@ -96,7 +117,7 @@ fn log_value(alloc: Global, history: &History) -> Result<Value, ScriptFault>
 /// The log of a history: compact JSON and a line end. It is read back as that history.
 ///
 /// # Errors
-/// The bytes of a splice are no text, or want of memory.
+/// The bytes of a splice are no text, a title is none, or want of memory.
 pub fn history_text(alloc: Global, history: &History) -> Result<Vec<u8>, ScriptFault>
     ensures text { IfOk result (λ b. log_of history.now ≡ Ok b.items) }
     ensures refused { IfErr result (λ e. e ≢ OutOfMemory → log_of history.now ≡ Err e) }
@@ -116,7 +137,7 @@ pub fn history_text(alloc: Global, history: &History) -> Result<Vec<u8>, ScriptF
 /// # Errors
 /// Want of memory.
 pub fn empty_log(alloc: Global) -> Result<Vec<u8>, ScriptFault>
-    ensures text { IfOk result (λ b. b.items ≡ codes "{\"future\":[],\"past\":[],\"version\":1}\n") }
+    ensures text { IfOk result (λ b. b.items ≡ codes "{\"future\":[],\"past\":[],\"version\":2}\n") }
     ensures refused { IfErr result (λ e. e ≡ OutOfMemory) }
 {
     match history_text(alloc, &History::new(alloc)) {
@@ -192,28 +213,73 @@ fn splices_from(alloc: Global, list: &[Value]) -> Result<Many<Splice>, ScriptFau
     Ok(Many::of(splices))
 }
 
-fn change_from(alloc: Global, value: &Value) -> Result<Change, ScriptFault>
-    ensures ok { IfOk result (λ c. change_of (view value.now) ≡ Some c) }
-    ensures text { IfOk result (λ c. list_all is_text c.splices ≡ true) }
-    ensures refused { IfErr result (λ e. e ≢ OutOfMemory → (e ≡ BadLog) × (change_of (view value.now) ≡ None)) }
+/// A change of the first version.
+fn bare_change(alloc: Global, value: &Value) -> Result<Change, ScriptFault>
+    ensures ok { IfOk result (λ c. bare_change_of (view value.now) ≡ Some c) }
+    ensures text { IfOk result (λ c. change_has_text c ≡ true) }
+    ensures refused { IfErr result (λ e. e ≢ OutOfMemory → (e ≡ BadLog) × (bare_change_of (view value.now) ≡ None)) }
 {
     let Some(list) = value.as_array() else {
         return Err(ScriptFault::BadLog);
     };
     match splices_from(alloc, list) {
-        Ok(splices) => Ok(Change { splices }),
+        Ok(splices) => Ok(Change::untitled(alloc, splices)),
         Err(fault) => Err(fault),
     }
 }
 
-fn changes_from(alloc: Global, list: &[Value]) -> Result<Many<Change>, ScriptFault>
-    ensures ok { IfOk result (λ cs. each_of change_of (items_view list.now) ≡ Some cs) }
+/// A change of the second version.
+#[tactic(auto, unfolding(crate::specs::Log::titled_change_of))]
+fn titled_change(alloc: Global, value: &Value) -> Result<Change, ScriptFault>
+    ensures ok { IfOk result (λ c. titled_change_of (view value.now) ≡ Some c) }
+    ensures text { IfOk result (λ c. change_has_text c ≡ true) }
+    ensures refused { IfErr result (λ e. e ≢ OutOfMemory → (e ≡ BadLog) × (titled_change_of (view value.now) ≡ None)) }
+{
+    if !has_members(value, 2) {
+        return Err(ScriptFault::BadLog);
+    }
+    let Some(list) = value.get("splices").and_then(Value::as_array) else {
+        return Err(ScriptFault::BadLog);
+    };
+    let splices = match splices_from(alloc, list) {
+        Ok(splices) => splices,
+        Err(fault) => return Err(fault),
+    };
+    let Some(title) = text_at(value, "title") else {
+        return Err(ScriptFault::BadLog);
+    };
+    if !is_title(title) {
+        return Err(ScriptFault::BadLog);
+    }
+    Ok(Change {
+        splices,
+        title: Text::of(String::from_str(alloc, title)?),
+    })
+}
+
+fn change_from(alloc: Global, version: Version, value: &Value) -> Result<Change, ScriptFault>
+    ensures ok { IfOk result (λ c. change_of version (view value.now) ≡ Some c) }
+    ensures text { IfOk result (λ c. change_has_text c ≡ true) }
+    ensures refused { IfErr result (λ e. e ≢ OutOfMemory → (e ≡ BadLog) × (change_of version (view value.now) ≡ None)) }
+{
+    match version {
+        Version::Bare => bare_change(alloc, value),
+        Version::Titled => titled_change(alloc, value),
+    }
+}
+
+fn changes_from(
+    alloc: Global,
+    version: Version,
+    list: &[Value],
+) -> Result<Many<Change>, ScriptFault>
+    ensures ok { IfOk result (λ cs. each_of (change_of version) (items_view list.now) ≡ Some cs) }
     ensures text { IfOk result (λ cs. are_text cs ≡ true) }
-    ensures refused { IfErr result (λ e. e ≢ OutOfMemory → (e ≡ BadLog) × (each_of change_of (items_view list.now) ≡ None)) }
+    ensures refused { IfErr result (λ e. e ≢ OutOfMemory → (e ≡ BadLog) × (each_of (change_of version) (items_view list.now) ≡ None)) }
 {
     let mut changes = Vec::new(alloc);
     for value in list {
-        match change_from(alloc, value) {
+        match change_from(alloc, version, value) {
             Ok(change) => changes.push(change)?,
             Err(fault) => return Err(fault),
         }
@@ -221,15 +287,20 @@ fn changes_from(alloc: Global, list: &[Value]) -> Result<Many<Change>, ScriptFau
     Ok(Many::of(changes))
 }
 
-fn changes_at(alloc: Global, value: &Value, name: &str) -> Result<Many<Change>, ScriptFault>
-    ensures ok { IfOk result (λ cs. changes_at name.now (view value.now) ≡ Some cs) }
+fn changes_at(
+    alloc: Global,
+    version: Version,
+    value: &Value,
+    name: &str,
+) -> Result<Many<Change>, ScriptFault>
+    ensures ok { IfOk result (λ cs. changes_at version name.now (view value.now) ≡ Some cs) }
     ensures text { IfOk result (λ cs. are_text cs ≡ true) }
-    ensures refused { IfErr result (λ e. e ≢ OutOfMemory → (e ≡ BadLog) × (changes_at name.now (view value.now) ≡ None)) }
+    ensures refused { IfErr result (λ e. e ≢ OutOfMemory → (e ≡ BadLog) × (changes_at version name.now (view value.now) ≡ None)) }
 {
     let Some(list) = value.get(name).and_then(Value::as_array) else {
         return Err(ScriptFault::BadLog);
     };
-    changes_from(alloc, list)
+    changes_from(alloc, version, list)
 }
 
 #[tactic(auto, unfolding(crate::specs::Log::history_of))]
@@ -241,17 +312,17 @@ fn history_from(alloc: Global, value: &Value) -> Result<History, ScriptFault>
     if !has_members(value, 3) {
         return Err(ScriptFault::BadLog);
     }
-    let Some(version) = whole_at(value, "version") else {
+    let Some(number) = whole_at(value, "version") else {
         return Err(ScriptFault::BadLog);
     };
-    if version != 1 {
+    let Some(version) = version_of(number) else {
         return Err(ScriptFault::BadLog);
-    }
-    let future = match changes_at(alloc, value, "future") {
+    };
+    let future = match changes_at(alloc, version, value, "future") {
         Ok(future) => future,
         Err(fault) => return Err(fault),
     };
-    let past = match changes_at(alloc, value, "past") {
+    let past = match changes_at(alloc, version, value, "past") {
         Ok(past) => past,
         Err(fault) => return Err(fault),
     };

@@ -84,7 +84,9 @@ fn spliced(alloc: Global, text: &[u8], splices: Vec<Splice>) -> Result<Vec<u8>, 
     let bytes = Vec::from_slice(alloc, text)?;
     let _ = files.push(String::from_str(alloc, "f")?, bytes);
     let splices = Many::of(splices);
-    if apply_all(alloc, &mut files, &Change { splices }).is_err() || files.is_empty() {
+    if apply_all(alloc, &mut files, &Change::untitled(alloc, splices)).is_err()
+        || files.is_empty()
+    {
         return Vec::from_slice(alloc, b"not spliced");
     }
     Vec::from_slice(alloc, files.bytes(0))

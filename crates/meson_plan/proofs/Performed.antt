@@ -1,5 +1,5 @@
 -- What a command makes of a project, and why it is refused, from what is done of the steps that it means.
-use Rattle.std.proofs.Common.{◌≡◌, List, refl, ◌∙◌}
+use Rattle.std.proofs.Common.{◌≡◌, List, [], refl, ◌∙◌}
 use Rattle.std.specs.Prelude.{Ok}
 use Rattle.meson_steps.specs.declared.command.Command.{Command}
 use Rattle.meson_steps.specs.declared.command.Done.{Done}
@@ -29,8 +29,8 @@ module _ (old : Loaded) (k : Command) where
   may_refuse e (outcome.unmeant refusal is) = performing.unplanned refusal is
   may_refuse e (outcome.unmade steps is refusal why) = unmade steps is refusal why
 
-  pub performed : (w : Work) → IsDone old (planned (project old) k) w → (d : Done) → d.change.splices ≡ w.splices.items → d.relexed ≡ w.relexed → Performs old k d (so_far old w)
-  performed w out d is_change is_relexed = record {
+  pub performed : (w : Work) → IsDone old (planned (project old) k) w → (d : Done) → d.change.splices ≡ w.splices.items → d.change.title ≡ [] → d.relexed ≡ w.relexed → Performs old k d (so_far old w)
+  performed w out d is_change is_untitled is_relexed = record {
     made = record {
       steps = out.steps;
       are_planned = out.is;
@@ -44,6 +44,7 @@ module _ (old : Loaded) (k : Command) where
     shallow = out.outcome.shallow;
     small = out.outcome.small;
     is_change = is_change;
+    is_untitled = is_untitled;
     is_relexed = is_relexed ∙ out.outcome.made.is_relexed;
     are_files = refl;
     are_trees = refl;

@@ -1,5 +1,5 @@
 -- How a command ends.
-use Rattle.std.specs.Prelude.{◌≡◌, ℕ, List, Some, Ok, Err}
+use Rattle.std.specs.Prelude.{◌≡◌, ℕ, List, [], Some, Ok, Err}
 use Rattle.meson_splice.specs.declared.file_set.File.{File}
 use Rattle.meson_splice.specs.declared.splice.Splice.{Splice}
 use Rattle.meson_syntax.specs.Tree.{Plain}
@@ -31,6 +31,7 @@ pub record Performs (old : Loaded) (c : Command) (done : Done) (new : Loaded) : 
   pub shallow : AreShallow made.trees
   pub small : AreSmall made.files
   pub is_change : done.change.splices ≡ made.splices
+  pub is_untitled : done.change.title ≡ []
   pub is_relexed : done.relexed ≡ saturated made.bytes
   pub are_files : new.files ≡ made.files
   pub are_trees : plain_trees new ≡ made.trees

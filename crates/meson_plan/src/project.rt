@@ -233,9 +233,7 @@ impl Project {
         self.files = files;
         put_trees(&mut self.trees, new);
         Ok(Done {
-            change: Change {
-                splices: Many::of(splices),
-            },
+            change: Change::untitled(alloc, Many::of(splices)),
             relexed,
         })
     }

@@ -187,7 +187,7 @@ module _ (asked : Result Asked UsageFault) (before after : Seen) where
   not-refused code (inr e) (inl z) = absurd (omega (arith, e, z))
   not-refused code (inr e) (inr z) = absurd (omega (arith, e, z))
 
-  module _ (a : Asked) (step : Step) (is : asked ≡ Ok (without_text a)) (asks : AsksFor a.action before.content (request.Step step)) where
+  module _ (a : Asked) (step : Step) (is : asked ≡ Ok (without_text a)) (asks : AsksFor a.title a.action before.content (request.Step step)) where
     unwritten-keeps : (e : Edits before.content a.dir step) (fault : StoreFault) → TakenBack (written e) before after fault → Refusing (store_fault_status fault) → Keeps (store_fault_status fault)
     unwritten-keeps e (store.ReadFailed name) t s = not-refused 3 s (inr refl)
     unwritten-keeps e (store.WriteFailed name still) t s = not-refused 3 s (inr refl)
@@ -214,23 +214,23 @@ status-keeps asked before after _ (memory_ran_out stop u wants) s = untouched-ke
 
 -- ---- what was asked for
 
-pub asks-help : (a : Action) (held : Option Content) (text : List ℕ) → AsksFor a held (request.Help text) → a ≡ action.Help text
-asks-help (action.Run s) held text is = absurd (let no : ⊥ = cc in no)
-asks-help (action.Info c) held text is = absurd (let no : ⊥ = cc in no)
-asks-help (action.ScriptText t) held text (cs, of, is) = absurd (let no : ⊥ = cc in no)
-asks-help (action.ScriptFile n) held text (cs, of, is) = absurd (let no : ⊥ = cc in no)
-asks-help action.Undo held text is = absurd (let no : ⊥ = cc in no)
-asks-help action.Redo held text is = absurd (let no : ⊥ = cc in no)
-asks-help (action.Help t) held text is = let same : t ≡ text = cc in ap action.Help same
+pub asks-help : (title : List ℕ) (a : Action) (held : Option Content) (text : List ℕ) → AsksFor title a held (request.Help text) → a ≡ action.Help text
+asks-help title (action.Run s) held text is = absurd (let no : ⊥ = cc in no)
+asks-help title (action.Info c) held text is = absurd (let no : ⊥ = cc in no)
+asks-help title (action.ScriptText t) held text (cs, of, is) = absurd (let no : ⊥ = cc in no)
+asks-help title (action.ScriptFile n) held text (cs, of, is) = absurd (let no : ⊥ = cc in no)
+asks-help title action.Undo held text is = absurd (let no : ⊥ = cc in no)
+asks-help title action.Redo held text is = absurd (let no : ⊥ = cc in no)
+asks-help title (action.Help t) held text is = let same : t ≡ text = cc in ap action.Help same
 
-pub asks-no-step : (a : Action) (held : Option Content) (step : Step) → AsksFor a held (request.Step step) → IsTrue (shows_help a) → ⊥
-asks-no-step (action.Run s) held step is t = let no : ⊥ = cc in no
-asks-no-step (action.Info c) held step is t = let no : ⊥ = cc in no
-asks-no-step (action.ScriptText text) held step is t = let no : ⊥ = cc in no
-asks-no-step (action.ScriptFile n) held step is t = let no : ⊥ = cc in no
-asks-no-step action.Undo held step is t = let no : ⊥ = cc in no
-asks-no-step action.Redo held step is t = let no : ⊥ = cc in no
-asks-no-step (action.Help text) held step is t = let no : ⊥ = cc in no
+pub asks-no-step : (title : List ℕ) (a : Action) (held : Option Content) (step : Step) → AsksFor title a held (request.Step step) → IsTrue (shows_help a) → ⊥
+asks-no-step title (action.Run s) held step is t = let no : ⊥ = cc in no
+asks-no-step title (action.Info c) held step is t = let no : ⊥ = cc in no
+asks-no-step title (action.ScriptText text) held step is t = let no : ⊥ = cc in no
+asks-no-step title (action.ScriptFile n) held step is t = let no : ⊥ = cc in no
+asks-no-step title action.Undo held step is t = let no : ⊥ = cc in no
+asks-no-step title action.Redo held step is t = let no : ⊥ = cc in no
+asks-no-step title (action.Help text) held step is t = let no : ⊥ = cc in no
 
 pub not-asked : (a : Asked) (b c : Seen) → Untouched b c → (stop : Stop) → WantsMemory stop ⊎ AsksForNone a.action b.content b.failures c.failures stop → Ends (Ok (without_text a)) b c (Err stop)
 not-asked a b c u stop (inl m) = memory_ran_out stop u m
@@ -243,7 +243,7 @@ not-used asked b c u fault (inr is) = misused fault u is
 pub shows-same : (a : Asked) → IsTrue (shows_help (without_text a).action) → IsTrue (shows_help a.action)
 shows-same a t = go a.action t
   where
-    go : (x : Action) → IsTrue (shows_help (without_text (record { dir = None; action = x })).action) → IsTrue (shows_help x)
+    go : (x : Action) → IsTrue (shows_help (without_text (record { dir = None; title = []; action = x })).action) → IsTrue (shows_help x)
     go (action.Run s) t = t
     go (action.Info c) t = t
     go (action.ScriptText text) t = t
@@ -254,19 +254,19 @@ shows-same a t = go a.action t
 
 -- ---- help and what an info command tells leave the store as it is
 
-asks-only : (a : Action) (held : Option Content) (step : Step) → AsksFor a held (request.Step step) → IsTrue (only_asks a) → only_tells step ≡ true
-asks-only (action.Run s) held step is t = absurd (let no : ⊥ = cc in no)
-asks-only (action.Info c) held step is t = let same : step ≡ Tell (script (c ∷ [])) = cc in ap only_tells same
-asks-only (action.ScriptText text) held step is t = absurd (let no : ⊥ = cc in no)
-asks-only (action.ScriptFile n) held step is t = absurd (let no : ⊥ = cc in no)
-asks-only action.Undo held step is t = absurd (let no : ⊥ = cc in no)
-asks-only action.Redo held step is t = absurd (let no : ⊥ = cc in no)
-asks-only (action.Help text) held step is t = absurd (let no : ⊥ = cc in no)
+asks-only : (title : List ℕ) (a : Action) (held : Option Content) (step : Step) → AsksFor title a held (request.Step step) → IsTrue (only_asks a) → only_tells step ≡ true
+asks-only title (action.Run s) held step is t = absurd (let no : ⊥ = cc in no)
+asks-only title (action.Info c) held step is t = let same : step ≡ Tell (script (c ∷ [])) = cc in ap only_tells same
+asks-only title (action.ScriptText text) held step is t = absurd (let no : ⊥ = cc in no)
+asks-only title (action.ScriptFile n) held step is t = absurd (let no : ⊥ = cc in no)
+asks-only title action.Undo held step is t = absurd (let no : ⊥ = cc in no)
+asks-only title action.Redo held step is t = absurd (let no : ⊥ = cc in no)
+asks-only title (action.Help text) held step is t = absurd (let no : ⊥ = cc in no)
 
 asks-same : (a : Asked) → IsTrue (only_asks (without_text a).action) → IsTrue (only_asks a.action)
 asks-same a t = go a.action t
   where
-    go : (x : Action) → IsTrue (only_asks (without_text (record { dir = None; action = x })).action) → IsTrue (only_asks x)
+    go : (x : Action) → IsTrue (only_asks (without_text (record { dir = None; title = []; action = x })).action) → IsTrue (only_asks x)
     go (action.Run s) t = t
     go (action.Info c) t = t
     go (action.ScriptText text) t = t
@@ -288,5 +288,5 @@ asking-keeps asked before after _ (misused fault u is) t = untouched-same before
 asking-keeps asked before after _ (helped a text u is shows) t = untouched-same before after u
 asking-keeps asked before after _ (asks_for_none a stop u is none) t = untouched-same before after u
 asking-keeps asked before after _ (steps a step end is asks ends) t =
-    step-told a.dir step before after (asks-only a.action before.content step asks (asks-same a (subst OnlyAsks is t))) end ends
+    step-told a.dir step before after (asks-only a.title a.action before.content step asks (asks-same a (subst OnlyAsks is t))) end ends
 asking-keeps asked before after _ (memory_ran_out stop u wants) t = untouched-same before after u

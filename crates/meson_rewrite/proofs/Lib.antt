@@ -7,3 +7,4 @@ pub mod Scripts
 pub mod Endings
 pub mod Opened
 pub mod Untold
+pub mod Reading

@@ -174,7 +174,7 @@ runs-plain old commands splices relexed listings new (ran_more before here read 
     joined-plain listed more (runs-plain old before here read listed between ran) (told-plain between c more are)
 
 pub does-plain : (step : Step) (old new : Session) (report : Report) → Does step old report new → has_float (view report.info) ≡ false
-does-plain (Run script) old new report k = ap has_float k.info ∙ runs-plain old.project script.commands k.splices report.relexed k.listings new.project k.runs
+does-plain (Run script title) old new report k = ap has_float k.info ∙ runs-plain old.project script.commands k.splices report.relexed k.listings new.project k.runs
 does-plain (Tell script) old new report k = ap has_float k.info ∙ runs-plain old.project script.commands k.splices report.relexed k.listings new.project k.runs
 does-plain Undo old new report s = ap has_float s.info
 does-plain Redo old new report s = ap has_float s.info

@@ -57,7 +57,7 @@ redone-names (c ∷ later) past files h after is =
     moved files c.splices (λ _. record { past = past ++ c ∷ []; future = reverse later }) h after (patched_all files c.splices) refl is
 
 pub step-names : (step : Step) (old new : Session) (report : Report) → Does step old report new → names old.project.files ≡ names new.project.files
-step-names (Run script) old new report k =
+step-names (Run script title) old new report k =
     change-names old.project.files k.splices new.project.files (runs-patch old.project new.project script.commands k.splices report.relexed k.listings k.runs)
 step-names (Tell script) old new report k =
     change-names old.project.files k.splices new.project.files (runs-patch old.project new.project script.commands k.splices report.relexed k.listings k.runs)

@@ -25,4 +25,5 @@ usage-or-memory P usage.Usage h = inr (h (λ e. cc))
 usage-or-memory P usage.OddWords h = inr (h (λ e. cc))
 usage-or-memory P usage.RepeatedKey h = inr (h (λ e. cc))
 usage-or-memory P usage.Unsupported h = inr (h (λ e. cc))
+usage-or-memory P usage.BadTitle h = inr (h (λ e. cc))
 usage-or-memory P usage.OutOfMemory h = inl refl

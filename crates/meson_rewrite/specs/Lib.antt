@@ -1,8 +1,9 @@
 pub mod Logs
 pub mod Stops
 pub mod Lines
+pub mod Steps
 pub mod Requests
 pub mod Opening
-pub mod Steps
 pub mod Edited
 pub mod Runs
+pub mod Reads

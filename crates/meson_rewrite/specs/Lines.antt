@@ -57,6 +57,11 @@ stop_lines stop = line (codes "error: " ++ stop_text stop) ++ left_lines (left_b
 abbrev pub done_line : ℕ → ℕ → List ℕ
 done_line files splices = line (codes "files: " ++ (decimal files ++ (codes ", splices: " ++ decimal splices)))
 
+-- what a change is for, where it has a title
+abbrev pub title_line : List ℕ → List ℕ
+title_line [] = []
+title_line (b ∷ title) = line (codes "title: " ++ b ∷ title)
+
 -- ---- the status: 0 where a run was done, 1 where it is refused or memory ran out, 2 for words that ask for nothing, 3 where the store failed
 
 abbrev pub store_fault_status : StoreFault → ℕ

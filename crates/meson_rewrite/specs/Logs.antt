@@ -10,7 +10,7 @@ log_name = codes "meson.rewrite-log"
 
 -- the log of a history without changes
 abbrev pub empty_log : List ℕ
-empty_log = codes "{\"future\":[],\"past\":[],\"version\":1}\n"
+empty_log = codes "{\"future\":[],\"past\":[],\"version\":2}\n"
 
 -- What the store holds as the log is this text, of this history; where it holds none, that is the log of no changes.
 abbrev pub IsLog : Option (List ℕ) → List ℕ → History → Type 0

@@ -1,5 +1,5 @@
 -- What the words and the script file ask for.
-use Rattle.std.specs.Prelude.{◌≡◌, Bool, true, false, ℕ, List, [], ◌∷◌, if◌then◌else◌, Option, Some, None, option_map, Result, Ok, Err}
+use Rattle.std.specs.Prelude.{◌≡◌, ⊤, Bool, true, false, ℕ, List, [], ◌∷◌, if◌then◌else◌, Option, Some, None, option_map, Result, Ok, Err}
 use Rattle.std.specs.FinMap.{get}
 use Rattle.std.specs.Str.{is_utf8}
 use Rattle.serde_json.specs.Read.{read}
@@ -13,6 +13,7 @@ use Rattle.meson_command.specs.declared.asked.Action.TheVariants as action
 use Rattle.meson_store.specs.Content.{Content, Rose}
 use Rattle.meson_store.specs.declared.store_fault.StoreFault.TheVariants as store
 use Rattle.meson_gathering.specs.Gathering.{Told}
+use Rattle.meson_rewrite.specs.Steps.{IsTitled}
 use Rattle.meson_rewrite.specs.declared.request.Request.{Request}
 use Rattle.meson_rewrite.specs.declared.request.Request.TheVariants as request
 use Rattle.meson_rewrite.specs.declared.request.Step.TheVariants.{Run, Tell, Undo, Redo}
@@ -41,16 +42,21 @@ only_asks (action.Help text) = true
 only_asks (action.Info c) = true
 only_asks _ = false
 
--- ---- the step that an action asks for, and that it is one
+-- ---- the step that an action asks for, a run with this title, and that it is one
 
-abbrev pub AsksFor : Action → Option Content → Request → Type 0
-AsksFor (action.Run s) held r = r ≡ request.Step (Run s)
-AsksFor (action.Info c) held r = r ≡ request.Step (Tell (script (c ∷ [])))
-AsksFor (action.ScriptText text) held r = (commands : List Command) × (script_of (read text) ≡ Ok commands) × (r ≡ request.Step (Run (script commands)))
-AsksFor (action.ScriptFile name) held r = (commands : List Command) × IsScriptOf held name commands × (r ≡ request.Step (Run (script commands)))
-AsksFor action.Undo held r = r ≡ request.Step Undo
-AsksFor action.Redo held r = r ≡ request.Step Redo
-AsksFor (action.Help text) held r = r ≡ request.Help text
+abbrev pub AsksFor : List ℕ → Action → Option Content → Request → Type 0
+AsksFor title (action.Run s) held r = r ≡ request.Step (Run s title)
+AsksFor title (action.Info c) held r = r ≡ request.Step (Tell (script (c ∷ [])))
+AsksFor title (action.ScriptText text) held r = (commands : List Command) × (script_of (read text) ≡ Ok commands) × (r ≡ request.Step (Run (script commands) title))
+AsksFor title (action.ScriptFile name) held r = (commands : List Command) × IsScriptOf held name commands × (r ≡ request.Step (Run (script commands) title))
+AsksFor title action.Undo held r = r ≡ request.Step Undo
+AsksFor title action.Redo held r = r ≡ request.Step Redo
+AsksFor title (action.Help text) held r = r ≡ request.Help text
+
+-- a run that is asked for has a title
+abbrev pub StepsTitled : Request → Type 0
+StepsTitled (request.Step step) = IsTitled step
+StepsTitled (request.Help text) = ⊤
 
 -- ---- why there is none, want of memory aside
 

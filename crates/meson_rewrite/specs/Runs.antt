@@ -71,7 +71,7 @@ pub data Ends (asked : Result Asked UsageFault) (before after : Seen) : Result S
   -- the words ask for a script that is none
   asks_for_none : (a : Asked) (stop : Stop) → Untouched before after → asked ≡ Ok (without_text a)
       → AsksForNone a.action before.content before.failures after.failures stop → Ends asked before after (Err stop)
-  steps : (a : Asked) (step : Step) (end : Result Said Stop) → asked ≡ Ok (without_text a) → AsksFor a.action before.content (request.Step step)
+  steps : (a : Asked) (step : Step) (end : Result Said Stop) → asked ≡ Ok (without_text a) → AsksFor a.title a.action before.content (request.Step step)
       → StepEnds a.dir step before after end → Ends asked before after end
   memory_ran_out : (stop : Stop) → Untouched before after → WantsMemory stop → Ends asked before after (Err stop)
 
@@ -85,7 +85,7 @@ pub record RanOut (asked : Result Asked UsageFault) (before after : Seen) : Type
   pub a : Asked
   pub is_asked : asked ≡ Ok (without_text a)
   pub step : Step
-  pub asks : AsksFor a.action before.content (request.Step step)
+  pub asks : AsksFor a.title a.action before.content (request.Step step)
   pub edits : Edits before.content a.dir step
   pub taken : TakenBack (written edits) before after OutOfMemory
 

@@ -1,5 +1,5 @@
 -- What a step does to a session, and what it then says.
-use Rattle.std.specs.Prelude.{◌≡◌, ◌≢◌, Bool, true, false, ℕ, List, [], ◌∷◌, ◌++◌, if◌then◌else◌, Option, Some, None, Result}
+use Rattle.std.specs.Prelude.{◌≡◌, ◌≢◌, ⊤, Bool, true, false, ℕ, List, [], ◌∷◌, ◌++◌, if◌then◌else◌, Option, Some, None, Result}
 use Rattle.serde_json.specs.Data.{Data, Items, no_items, item}
 use Rattle.serde_json.specs.Find.{as_array}
 use Rattle.serde_json.specs.View.{view}
@@ -9,13 +9,14 @@ use Rattle.meson_splice.specs.Past.{redone, undone}
 use Rattle.meson_splice.specs.declared.fault.SpliceFault.{SpliceFault}
 use Rattle.meson_splice.specs.declared.file_set.File.{File}
 use Rattle.meson_splice.specs.declared.history.History.{History}
+use Rattle.meson_json.specs.Titles.{is_title}
 use Rattle.meson_steps.specs.declared.command.Command.{Command}
 use Rattle.meson_script.specs.declared.fault.UndoFault.{UndoFault}
 use Rattle.meson_script.specs.declared.session.Report.{Report}
 use Rattle.meson_script.specs.declared.session.Session.{Session}
 use Rattle.meson_script.specs.Running.{Keeps, MayStop}
 use Rattle.meson_script.specs.Undoing.{MayNotStep, Steps}
-use Rattle.meson_rewrite.specs.Lines.{done_line}
+use Rattle.meson_rewrite.specs.Lines.{done_line, title_line}
 use Rattle.meson_rewrite.specs.Stops.{undo_stop}
 use Rattle.meson_rewrite.specs.declared.request.Step.{Step}
 use Rattle.meson_rewrite.specs.declared.request.Step.TheVariants.{Run, Tell, Undo, Redo}
@@ -26,8 +27,8 @@ use Rattle.meson_rewrite.specs.declared.stop.Stop.TheVariants.{Refused}
 -- ---- what is done
 
 abbrev pub Does : Step → Session → Report → Session → Type 0
-Does (Run script) old report new = Keeps old script.commands report new
-Does (Tell script) old report new = Keeps old script.commands report new
+Does (Run script title) old report new = Keeps old script.commands title report new
+Does (Tell script) old report new = Keeps old script.commands [] report new
 Does Undo old report new = Steps old old.history.past (undone old.history old.project.files) report new
 Does Redo old report new = Steps old old.history.future (redone old.history old.project.files) report new
 
@@ -41,10 +42,15 @@ abbrev pub StopsStep : Session → Result (History × List File) SpliceFault →
 StopsStep old step why = (fault : UndoFault) × MayNotStep step fault × (why ≡ undo_stop old.project.files fault)
 
 abbrev pub MayRefuse : Step → Session → Stop → Type 0
-MayRefuse (Run script) old why = StopsRun old script.commands why
+MayRefuse (Run script title) old why = StopsRun old script.commands why
 MayRefuse (Tell script) old why = StopsRun old script.commands why
 MayRefuse Undo old why = StopsStep old (undone old.history old.project.files) why
 MayRefuse Redo old why = StopsStep old (redone old.history old.project.files) why
+
+-- what is kept gets a title
+abbrev pub IsTitled : Step → Type 0
+IsTitled (Run script title) = is_title title ≡ true
+IsTitled _ = ⊤
 
 -- it tells what its commands list, and changes nothing
 abbrev pub only_tells : Step → Bool
@@ -63,6 +69,12 @@ is_empty_array (Some (item d ds)) = false
 abbrev pub listing_line : Data → List ℕ
 listing_line listings = if is_empty_array (as_array listings) then [] else (compact_text listings ++ 10 ∷ [])
 
+-- of a change that was taken back or done again: what was done, and what the change is for
+abbrev pub step_lines : Report → List ℕ
+step_lines report = done_line report.files report.splices ++ title_line report.title
+
 abbrev pub says : Step → Report → Said
+says (Run script title) report = record { out = done_line report.files report.splices; err = listing_line (view report.info) }
 says (Tell script) report = record { out = []; err = listing_line (view report.info) }
-says _ report = record { out = done_line report.files report.splices; err = listing_line (view report.info) }
+says Undo report = record { out = step_lines report; err = listing_line (view report.info) }
+says Redo report = record { out = step_lines report; err = listing_line (view report.info) }

@@ -5,7 +5,7 @@ ghost use Rattle.meson_calls.specs.Loading.{IsProject, name_at};
 ghost use Rattle.meson_json.specs.Log.{has_text, log_of};
 ghost use Rattle.meson_rewrite.specs.Edited.{IsEdited, IsTold, IsWithin};
 ghost use Rattle.meson_rewrite.specs.Logs.{with_log};
-ghost use Rattle.meson_rewrite.specs.Steps.{Does, MayRefuse};
+ghost use Rattle.meson_rewrite.specs.Steps.{Does, IsTitled, MayRefuse};
 ghost use Rattle.meson_rewrite.specs.Stops.{WantsMemory, undo_stop};
 
 use crate::opening::{LOG, Opened};
@@ -49,13 +49,18 @@ fn undo_stop(alloc: Global, files: &FileSet, fault: UndoFault) -> Stop
 
 /// Does a step on a session, or nothing.
 fn act(alloc: Global, session: &mut Session, step: &Step) -> Result<Report, Stop>
+    requires { IsTitled step.now }
     ensures does { IfOk result (λ report. Does step.now session.old report session.new) }
     ensures refused { IfErr result (MayRefuse step.now session.old) }
     ensures text { OnOk result (has_text session.old.history ≡ true → has_text session.new.history ≡ true) }
     ensures project { OnOk result (IsProject session.new.project) }
 {
     match step {
-        Step::Run(script) | Step::Tell(script) => match session.run(alloc, script) {
+        Step::Run { script, title } => match session.run_titled(alloc, script, title.get()) {
+            Ok(report) => Ok(report),
+            Err(fault) => Err(Stop::Refused(fault)),
+        },
+        Step::Tell(script) => match session.run(alloc, script) {
             Ok(report) => Ok(report),
             Err(fault) => Err(Stop::Refused(fault)),
         },
@@ -107,7 +112,8 @@ pub(crate) struct Edit {
 
 /// What a step makes of a session whose history is text.
 pub(crate) fn edited(alloc: Global, opened: Opened, step: &Step) -> Result<Edit, Stop>
-    requires { has_text opened.session.history ≡ true }
+    requires text { has_text opened.session.history ≡ true }
+    requires title { IsTitled step.now }
     ensures edited { IfOk result (IsEdited opened.session opened.log.items step.now) }
     ensures same_names { IfOk result (λ edit. map (λ f. f.name) edit.before ≡ map (λ f. f.name) edit.after) }
     ensures refused { IfErr result (λ why. WantsMemory why ⊎ MayRefuse step.now opened.session why) }
@@ -133,6 +139,7 @@ pub(crate) fn edited(alloc: Global, opened: Opened, step: &Step) -> Result<Edit,
 
 /// What is to be told of a step on a session.
 pub(crate) fn told(alloc: Global, opened: Opened, step: &Step) -> Result<Said, Stop>
+    requires { IsTitled step.now }
     ensures told { IfOk result (IsTold opened.session step.now) }
     ensures refused { IfErr result (λ why. WantsMemory why ⊎ MayRefuse step.now opened.session why) }
 {

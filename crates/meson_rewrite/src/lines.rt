@@ -1,10 +1,12 @@
 //! The lines that the program writes.
 
 ghost use Rattle.std.specs.Prelude.{◌≡◌, IfOk, MatchResult};
-ghost use Rattle.meson_rewrite.specs.Lines.{done_line, left_by, left_lines, stop_lines};
+ghost use Rattle.meson_rewrite.specs.Lines.{done_line, left_by, left_lines, stop_lines, title_line};
+ghost use Rattle.meson_rewrite.specs.Steps.{step_lines};
 ghost use Rattle.meson_store.specs.Output.{Gets, Fails};
 
 use crate::stop::Stop;
+use meson_script::Report;
 use meson_splice::Text;
 use meson_store::{Output, StoreFault};
 use std::alloc::{AllocError, Global};
@@ -21,16 +23,14 @@ fn left_by(stop: &Stop) -> &[Text]
 }
 
 /// Writes a line for each file that may have its new bytes.
-#[tactic(auto, using(crate::proofs::Telling::gets_nothing))]
 fn tell_left<O: Output>(alloc: Global, to: &mut O, names: &[Text]) -> io::Result<()>
     ensures { MatchResult result (λ _. Gets (O.heard to.old) (O.heard to.new) (left_lines names.now))
         (λ _. Fails (O.heard to.old) (O.heard to.new)) }
 {
-    let Some((name, names)) = names.split_first() else {
-        return Ok(());
-    };
-    to.tell_line(alloc, &format_args!("left new: {name}"))?;
-    tell_left(alloc, to, names)
+    for name in names {
+        to.tell_line(alloc, &format_args!("left new: {name}"))?;
+    }
+    Ok(())
 }
 
 /// Writes why a run was stopped.
@@ -48,4 +48,25 @@ pub(crate) fn done_text(alloc: Global, files: usize, splices: usize) -> Result<V
 {
     let line = format!(in alloc; "files: {files}, splices: {splices}\n")?;
     Ok(line.into_bytes())
+}
+
+/// The line that says what a change is for; nothing where it has no title.
+fn title_text(alloc: Global, title: &str) -> Result<Vec<u8>, AllocError>
+    ensures { IfOk result (λ text. text.items ≡ title_line title.now) }
+{
+    if title.is_empty() {
+        return Ok(Vec::new(alloc));
+    }
+    let line = format!(in alloc; "title: {title}\n")?;
+    Ok(line.into_bytes())
+}
+
+/// The lines that say what was taken back or done again.
+pub(crate) fn step_text(alloc: Global, report: &Report) -> Result<Vec<u8>, AllocError>
+    ensures { IfOk result (λ text. text.items ≡ step_lines report.now) }
+{
+    let mut text = done_text(alloc, report.files, report.splices)?;
+    let title = title_text(alloc, report.title.get())?;
+    text.extend_from_slice(title.as_slice())?;
+    Ok(text)
 }

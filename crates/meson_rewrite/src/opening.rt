@@ -1,13 +1,16 @@
 //! The session of a project in a store.
 
-ghost use Rattle.std.specs.Prelude.{◌≡◌, ◌≤◌, ◌⊎◌, IfOk, IfErr, None, Some, option_map, true};
+ghost use Rattle.std.specs.Prelude.{◌≡◌, ◌≤◌, ◌⊎◌, IfOk, IfErr, None, OnErr, OnOk, Some, option_map, true};
 ghost use Rattle.meson_json.specs.Log.{has_text, logged};
 ghost use Rattle.meson_json.specs.declared.fault.ScriptFault.TheVariants.{BadLog};
 ghost use Rattle.meson_rewrite.specs.declared.stop.Stop.TheVariants.{Script};
 ghost use Rattle.meson_gathering.specs.Gathering.{Told, held};
 ghost use Rattle.meson_rewrite.specs.Logs.{IsLog, log_name};
 ghost use Rattle.meson_rewrite.specs.Opening.{IsNoLog, Opens, OpensNone};
+ghost use Rattle.meson_rewrite.specs.Reads.{ReadsAtMost, ReadsWithLog};
 ghost use Rattle.meson_rewrite.specs.Stops.{WantsMemory};
+ghost use Rattle.meson_store.specs.Calls.{one_more};
+ghost use Rattle.meson_gathering.specs.Reading.{OnceAtMost};
 
 use crate::stop::Stop;
 use meson_gathering::{gather, read_file};
@@ -48,6 +51,8 @@ fn read_history<S: Store>(alloc: Global, store: &mut S, dir: Option<&str>) -> Re
     ensures kept { S.content store.new ≡ S.content store.old }
     ensures counts { S.failures store.old ≤ S.failures store.new }
     ensures no_replace { S.replaces store.new ≡ S.replaces store.old }
+    ensures once { OnOk result (S.reads store.new ≡ one_more (S.reads store.old)) }
+    ensures at_most_once { OnceAtMost (S.reads store.old) (S.reads store.new) }
 {
     match read_file(alloc, store, dir, LOG) {
         Ok(Some(text)) => match log_in(alloc, text) {
@@ -96,6 +101,8 @@ pub(crate) fn open<S: Store>(
     ensures kept { S.content store.new ≡ S.content store.old }
     ensures counts { S.failures store.old ≤ S.failures store.new }
     ensures no_replace { S.replaces store.new ≡ S.replaces store.old }
+    ensures reads { IfOk result (λ o. ReadsWithLog (S.content store.old) (option_map (λ d. d.now) dir.entry) (S.reads store.old) o.session.project.files (S.reads store.new)) }
+    ensures reads_at_most { OnErr result (ReadsAtMost (S.content store.old) (option_map (λ d. d.now) dir.entry) (S.reads store.old) (S.reads store.new)) }
 {
     let project = match gather(alloc, store, dir) {
         Ok(project) => project,

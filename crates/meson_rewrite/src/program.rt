@@ -1,11 +1,13 @@
 //! The program, over any store and any two writers.
 
-ghost use Rattle.std.specs.Prelude.{◌≡◌, ◌≤◌, ◌⊎◌, IsTrue, MatchResult, Ok, map, option_map, string_bytes};
+ghost use Rattle.std.specs.Prelude.{◌≡◌, ◌≤◌, ◌⊎◌, IsTrue, MatchResult, Ok, map, option_map, string_bytes, true, OnOk};
 ghost use Rattle.meson_command.specs.Asking.{asked_by, without_text};
+ghost use Rattle.meson_json.specs.Titles.{is_title};
 ghost use Rattle.meson_store.specs.Seen.{seen};
 ghost use Rattle.meson_rewrite.specs.Lines.{status, store_fault_status, usage_status};
+ghost use Rattle.meson_rewrite.specs.Reads.{MayRead, ReadsAll, ReadsAtMost, ReadsProject};
 ghost use Rattle.meson_rewrite.specs.Requests.{shows_help};
-ghost use Rattle.meson_rewrite.specs.Steps.{only_tells};
+ghost use Rattle.meson_rewrite.specs.Steps.{IsTitled, only_tells};
 ghost use Rattle.meson_rewrite.specs.Runs.{CannotSay, Ends, IsUnchanged, NeedsNoStore, OnlyAsks, RanOut, Run, Says, StepEnds};
 
 use crate::editing::{edited, told};
@@ -34,9 +36,12 @@ fn do_step<S: Store>(
     dir: Option<&str>,
     step: &Step,
 ) -> Result<Said, Stop>
+    requires { IsTitled step.now }
     ensures ends { StepEnds (option_map (λ d. d.now) dir.entry) step.now (seen (S.content store.old) (S.failures store.old) (S.replaces store.old))
         (seen (S.content store.new) (S.failures store.new) (S.replaces store.new)) result }
     ensures counts { S.failures store.old ≤ S.failures store.new }
+    ensures reads { ReadsAtMost (S.content store.old) (option_map (λ d. d.now) dir.entry) (S.reads store.old) (S.reads store.new) }
+    ensures reads_all { OnOk result (ReadsProject (S.content store.old) (option_map (λ d. d.now) dir.entry) (S.reads store.old) (S.reads store.new)) }
 {
     let opened = match open(alloc, store, dir) {
         Ok(opened) => opened,
@@ -70,12 +75,15 @@ fn folder(dir: &Option<Text>) -> Option<&str>
 
 /// Does what is asked for.
 fn answer<S: Store>(alloc: Global, store: &mut S, asked: Asked) -> Result<Said, Stop>
+    requires { is_title asked.title ≡ true }
     ensures ends { Ends (Ok (without_text asked)) (seen (S.content store.old) (S.failures store.old) (S.replaces store.old))
         (seen (S.content store.new) (S.failures store.new) (S.replaces store.new)) result }
     ensures untouched { IsTrue (shows_help asked.action) → store.new ≡ store.old }
+    ensures reads { MayRead (Ok (without_text asked)) (S.content store.old) (S.reads store.old) (S.reads store.new) }
+    ensures reads_all { OnOk result (ReadsAll (Ok (without_text asked)) (S.content store.old) (S.reads store.old) (S.reads store.new)) }
 {
-    let Asked { dir, action } = asked;
-    match request_of(alloc, store, action) {
+    let Asked { dir, title, action } = asked;
+    match request_of(alloc, store, action, title) {
         Ok(Request::Help(text)) => Ok(Said::help(alloc, text)),
         Ok(Request::Step(step)) => do_step(alloc, store, folder(&dir), &step),
         Err(stop) => Err(stop),
@@ -87,6 +95,8 @@ fn run<S: Store>(alloc: Global, store: &mut S, words: &[String]) -> Result<Said,
     ensures ends { Ends (asked_by (map string_bytes words.now)) (seen (S.content store.old) (S.failures store.old) (S.replaces store.old))
         (seen (S.content store.new) (S.failures store.new) (S.replaces store.new)) result }
     ensures untouched { NeedsNoStore (asked_by (map string_bytes words.now)) → store.new ≡ store.old }
+    ensures reads { MayRead (asked_by (map string_bytes words.now)) (S.content store.old) (S.reads store.old) (S.reads store.new) }
+    ensures reads_all { OnOk result (ReadsAll (asked_by (map string_bytes words.now)) (S.content store.old) (S.reads store.old) (S.reads store.new)) }
 {
     match command_of(alloc, words) {
         Ok(asked) => answer(alloc, store, asked),
@@ -143,6 +153,10 @@ fn status(end: &Result<Said, Stop>) -> u8
 /// what the words ask for, replaces the files that changed and then the undo log, and tells what it did on `out`, and
 /// listings and faults on `err`. Answers the exit status.
 ///
+/// Where it is done, the store is read once for the script file, if one is named, once for the root file, once for each
+/// name that a `subdir` call enters and that no file has which was read before, and once for the log; help reads nothing.
+/// Where it ends early, the store is read as far as that, and no more.
+///
 /// The status is 0 where it was done, 1 where a file, a script or the log is none, a command is refused or memory ran
 /// out, 2 where the words ask for nothing, and 3 where the store or a writer failed. Help, and what an info command of the
 /// command line tells, leave the store as it is, whatever the status.
@@ -161,6 +175,8 @@ pub fn rewrite<S: Store, O: Output, E: Output>(
     ensures kept { (result ≡ 1) ⊎ (result ≡ 2) → (S.content store.new ≡ S.content store.old) × ((S.replaces store.new ≡ S.replaces store.old)
         ⊎ ((result ≡ 1) × RanOut (asked_by (map string_bytes words.now)) (seen (S.content store.old) (S.failures store.old) (S.replaces store.old))
         (seen (S.content store.new) (S.failures store.new) (S.replaces store.new)))) }
+    ensures reads { MayRead (asked_by (map string_bytes words.now)) (S.content store.old) (S.reads store.old) (S.reads store.new) }
+    ensures reads_all { (result ≡ 0) → ReadsAll (asked_by (map string_bytes words.now)) (S.content store.old) (S.reads store.old) (S.reads store.new) }
 {
     let end = run(alloc, store, words);
     match tell(alloc, out, err, &end) {

@@ -1,10 +1,14 @@
 //! What is asked of a project, by the words and the script file that they name.
 
-ghost use Rattle.std.specs.Prelude.{◌≡◌, ◌≤◌, ◌⊎◌, ◌∷◌, [], IfOk, IfErr, IsTrue, Ok};
+ghost use Rattle.std.specs.Prelude.{◌≡◌, ◌≤◌, ◌⊎◌, ◌∷◌, [], IfOk, IfErr, IsTrue, Ok, true, OnOk};
 ghost use Rattle.serde_json.specs.Read.{read};
 ghost use Rattle.meson_json.specs.Scripts.{script_of};
-ghost use Rattle.meson_rewrite.specs.Requests.{AsksFor, AsksForNone, IsBad, IsNoScript, IsScriptOf, script, script_in, shows_help};
+ghost use Rattle.meson_json.specs.Titles.{is_title};
+ghost use Rattle.meson_rewrite.specs.Requests.{AsksFor, AsksForNone, IsBad, IsNoScript, IsScriptOf, StepsTitled, script, script_in, shows_help};
+ghost use Rattle.meson_rewrite.specs.Reads.{script_read};
 ghost use Rattle.meson_rewrite.specs.Stops.{WantsMemory};
+ghost use Rattle.meson_store.specs.Calls.{one_more};
+ghost use Rattle.meson_gathering.specs.Reading.{OnceAtMost};
 
 use crate::stop::Stop;
 use meson_command::Action;
@@ -28,8 +32,8 @@ pub(crate) enum Request {
 /// A step on a session.
 #[derive(Drop)]
 pub(crate) enum Step {
-    /// Do the commands, and keep what they did.
-    Run(Script),
+    /// Do the commands, and keep what they did as a change of this title.
+    Run { script: Script, title: Text },
     /// Tell what the commands list, and write nothing.
     Tell(Script),
     /// Take back the newest change.
@@ -67,6 +71,8 @@ fn read_script<S: Store>(alloc: Global, store: &mut S, name: Text) -> Result<Scr
     ensures kept { S.content store.new ≡ S.content store.old }
     ensures counts { S.failures store.old ≤ S.failures store.new }
     ensures no_replace { S.replaces store.new ≡ S.replaces store.old }
+    ensures once { OnOk result (S.reads store.new ≡ one_more (S.reads store.old)) }
+    ensures at_most_once { OnceAtMost (S.reads store.old) (S.reads store.new) }
 {
     match read_file(alloc, store, None, name.get()) {
         Ok(Some(bytes)) => match script_in(alloc, bytes.as_slice()) {
@@ -89,32 +95,37 @@ fn script_of_one(alloc: Global, command: Command) -> Result<Script, Stop>
     }
 }
 
-/// What an action asks for.
+/// What an action asks for; a run keeps its change under the title.
 pub(crate) fn request_of<S: Store>(
     alloc: Global,
     store: &mut S,
     action: Action,
+    title: Text,
 ) -> Result<Request, Stop>
-    ensures asks { IfOk result (λ r. AsksFor action (S.content store.old) r) }
+    requires { is_title title ≡ true }
+    ensures asks { IfOk result (λ r. AsksFor title action (S.content store.old) r) }
+    ensures titled { IfOk result StepsTitled }
     ensures none { IfErr result (λ why. WantsMemory why ⊎ AsksForNone action (S.content store.old) (S.failures store.old) (S.failures store.new) why) }
     ensures kept { S.content store.new ≡ S.content store.old }
     ensures counts { S.failures store.old ≤ S.failures store.new }
     ensures no_replace { S.replaces store.new ≡ S.replaces store.old }
+    ensures reads { OnOk result (S.reads store.new ≡ script_read action (S.reads store.old)) }
+    ensures reads_at_most { (S.reads store.new ≡ S.reads store.old) ⊎ (S.reads store.new ≡ script_read action (S.reads store.old)) }
     ensures untouched { IsTrue (shows_help action) → store.new ≡ store.old }
 {
     match action {
         Action::Help(text) => Ok(Request::Help(text)),
-        Action::Run(script) => Ok(Request::Step(Step::Run(script))),
+        Action::Run(script) => Ok(Request::Step(Step::Run { script, title })),
         Action::Info(command) => match script_of_one(alloc, command) {
             Ok(script) => Ok(Request::Step(Step::Tell(script))),
             Err(stop) => Err(stop),
         },
         Action::ScriptText(text) => match script_from(alloc, text.get()) {
-            Ok(script) => Ok(Request::Step(Step::Run(script))),
+            Ok(script) => Ok(Request::Step(Step::Run { script, title })),
             Err(stop) => Err(stop),
         },
         Action::ScriptFile(name) => match read_script(alloc, store, name) {
-            Ok(script) => Ok(Request::Step(Step::Run(script))),
+            Ok(script) => Ok(Request::Step(Step::Run { script, title })),
             Err(stop) => Err(stop),
         },
         Action::Undo => Ok(Request::Step(Step::Undo)),

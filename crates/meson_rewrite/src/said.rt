@@ -7,7 +7,7 @@ ghost use Rattle.serde_json.specs.Written.{has_float};
 ghost use Rattle.meson_rewrite.specs.Steps.{is_empty_array, listing_line, says};
 ghost use Rattle.meson_store.specs.Output.{Fails, Gets};
 
-use crate::lines::done_text;
+use crate::lines::{done_text, step_text};
 use crate::request::Step;
 use meson_script::Report;
 use meson_splice::{Bytes, Text};
@@ -64,8 +64,9 @@ impl Said {
     {
         let err = listing_text(alloc, &report.info)?;
         let out = match step {
+            Step::Run { .. } => done_text(alloc, report.files, report.splices)?,
             Step::Tell(_) => Vec::new(alloc),
-            _ => done_text(alloc, report.files, report.splices)?,
+            Step::Undo | Step::Redo => step_text(alloc, report)?,
         };
         Ok(Said {
             out: Bytes::of(out),

@@ -1,5 +1,6 @@
 -- A command has one outcome: its steps are one list or one refusal, and steps make one thing of files and trees.
 use Rattle.std.proofs.Common.{◌≡◌, List, Some, Result, Ok, Err, refl, sym, ap, ap₂, ◌∙◌, subst}
+use Rattle.meson_splice.specs.declared.change.Change.{Change}
 use Rattle.meson_syntax.specs.Tree.{Plain}
 use Rattle.meson_calls.specs.declared.refusal.Refusal.{Refusal}
 use Rattle.meson_calls.specs.Loading.{Loaded, project}
@@ -47,15 +48,14 @@ alike old c m n =
       bytes = made.2;
     }
 
-done_of : (d : Done) → d ≡ record { change = record { splices = d.change.splices }; relexed = d.relexed }
-done_of d = refl
-
 pub one-outcome : OneOutcome
 one-outcome old c done other new next p q =
     let a = alike old c p.made q.made in
     let splices : done.change.splices ≡ other.change.splices = p.is_change ∙ a.splices ∙ sym q.is_change in
+    let title : done.change.title ≡ other.change.title = p.is_untitled ∙ sym q.is_untitled in
+    let change : done.change ≡ other.change = ap₂ (λ ss t. let c : Change = record { splices = ss; title = t } in c) splices title in
     let relexed : done.relexed ≡ other.relexed = p.is_relexed ∙ ap saturated a.bytes ∙ sym q.is_relexed in (
-      ap₂ (λ ss n. let d : Done = record { change = record { splices = ss }; relexed = n } in d) splices relexed,
+      ap₂ (λ c n. let d : Done = record { change = c; relexed = n } in d) change relexed,
       p.are_files ∙ a.files ∙ sym q.are_files,
       p.are_trees ∙ a.trees ∙ sym q.are_trees,
     )

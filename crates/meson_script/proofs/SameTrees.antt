@@ -83,6 +83,7 @@ performs-same p q c done new s h = record {
   shallow = h.shallow;
   small = h.small;
   is_change = h.is_change;
+  is_untitled = h.is_untitled;
   is_relexed = h.is_relexed;
   are_files = h.are_files;
   are_trees = h.are_trees;

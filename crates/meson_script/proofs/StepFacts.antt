@@ -17,7 +17,7 @@ use Rattle.meson_steps.specs.declared.command.Command.{Command}
 use Rattle.meson_script.specs.Running.{Runs}
 use Rattle.meson_script.specs.declared.fault.UndoFault.{UndoFault}
 use Rattle.meson_script.specs.declared.fault.UndoFault.TheVariants.{Splice, Load}
-use Rattle.meson_script.specs.Stack.{Stack, Stands, Loads, ran, back, forth, undo, redo, RefusesUndo, RefusesRedo}
+use Rattle.meson_script.specs.Stack.{Kept, Stack, Stands, Loads, ran, back, forth, undo, redo, RefusesUndo, RefusesRedo}
 use Rattle.meson_script.specs.Undoing.{MayNotChange, MayNotStep}
 use Rattle.meson_script.proofs.Loading.{loads-or-wants-memory, project-loads}
 use Rattle.meson_script.proofs.RunFacts.{runs-patch}
@@ -74,12 +74,12 @@ redone-moved h files after front moved past c x is done next before =
 
 -- ---- a run of a history that fits
 
-pub run-stands : (old new copy : Loaded) (h k : History) (commands : List Command) (splices kept : List ASplice) (relexed : ℕ) (listings : List Data) → copy ≡ old → Runs copy commands splices relexed listings new → IsProject new
-    → kept ≡ splices → k ≡ record { past = h.past ++ record { splices = kept } ∷ []; future = [] } → (s : Stack) → Stands h old.files s → Stands k new.files (ran s new.files)
-run-stands old new copy h k commands splices kept relexed listings same runs is all is_kept s stands =
-    let c : Change = record { splices = kept } in
-    let done : patched_all old.files kept ≡ Ok new.files = ap (patched_all old.files) all ∙ ap (λ p. patched_all p.files splices) (sym same) ∙ runs-patch copy new commands splices relexed listings runs in
-    subst (λ j. Stands j new.files (ran s new.files)) (sym is_kept) (run-is-a-step h old.files new.files s c stands done (project-loads new is))
+pub run-stands : (old new copy : Loaded) (h k : History) (commands : List Command) (title : List ℕ) (splices all : List ASplice) (relexed : ℕ) (listings : List Data) → copy ≡ old → Runs copy commands splices relexed listings new → IsProject new
+    → all ≡ splices → k ≡ record { past = h.past ++ record { splices = all; title = title } ∷ []; future = [] } → (s : Stack) → Stands h old.files s → Stands k new.files (ran s title new.files)
+run-stands old new copy h k commands title splices all relexed listings same runs is are is_kept s stands =
+    let c : Change = record { splices = all; title = title } in
+    let done : patched_all old.files all ≡ Ok new.files = ap (patched_all old.files) are ∙ ap (λ p. patched_all p.files splices) (sym same) ∙ runs-patch copy new commands splices relexed listings runs in
+    subst (λ j. Stands j new.files (ran s title new.files)) (sym is_kept) (run-is-a-step h old.files new.files s c stands done (project-loads new is))
 
 -- ---- a history that fits
 
@@ -152,11 +152,11 @@ redo-refuses-done s t h k fs (Load (load.Parse i fault)) done loads why = loads_
 redo-refuses-done s t h k fs (Load load.OutOfMemory) done loads why = tt
 
 -- nothing to undo: that alone is the refusal
-none_undo : (past : List (List File)) (present : List File) (future : List (List File)) → back past present future ≡ None → past ≡ []
+none_undo : (past : List Kept) (present : List File) (future : List Kept) → back past present future ≡ None → past ≡ []
 none_undo [] present future is = refl
 none_undo (p ∷ past) present future is = absurd (let bad : ⊥ = cc in bad)
 
-none_redo : (past : List (List File)) (future : List (List File)) (present : List File) → forth past future present ≡ None → future ≡ []
+none_redo : (past : List Kept) (future : List Kept) (present : List File) → forth past future present ≡ None → future ≡ []
 none_redo past [] present is = refl
 none_redo past (n ∷ future) present is = absurd (let bad : ⊥ = cc in bad)
 

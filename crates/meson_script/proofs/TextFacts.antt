@@ -1,5 +1,5 @@
 -- Histories whose splices are text, and so have a log.
-use Rattle.std.proofs.Common.{◌≡◌, Bool, true, false, ◌&&◌, List, [], ◌∷◌, ◌++◌, refl, sym, ap, ◌∙◌}
+use Rattle.std.proofs.Common.{◌≡◌, ℕ, Bool, true, false, ◌&&◌, List, [], ◌∷◌, ◌++◌, refl, sym, ap, ◌∙◌}
 use Rattle.std.specs.List.{list_all}
 use Rattle.std.specs.Str.{is_utf8}
 use Rattle.std.proofs.lemmas.Str.{is_utf8-from_IsUtf8}
@@ -8,7 +8,8 @@ use Rattle.meson_splice.specs.declared.change.Change.{Change}
 use Rattle.meson_splice.specs.declared.history.History.{History}
 use Rattle.meson_splice.specs.declared.splice.Splice.{Splice}
 use Rattle.meson_layout.specs.Laws.{AreTexts}
-use Rattle.meson_json.specs.Log.{are_text, has_text, is_text}
+use Rattle.meson_json.specs.Log.{are_text, change_has_text, has_text, is_text}
+use Rattle.meson_json.specs.Titles.{is_title}
 
 both : (a b : Bool) → (a && b) ≡ true → (a ≡ true) × (b ≡ true)
 both true b h = (refl, h)
@@ -22,23 +23,22 @@ all-text : (ss : List Splice) → AreTexts ss → list_all is_text ss ≡ true
 all-text [] a = refl
 all-text (s ∷ ss) a = join (is_text s) (list_all is_text ss) (join (is_utf8 s.was) (is_utf8 s.now) (is_utf8-from_IsUtf8 s.was a.0.0) (is_utf8-from_IsUtf8 s.now a.0.1)) (all-text ss a.1)
 
-abbrev change_text : Change → Bool
-change_text c = list_all is_text c.splices
+one-more-text : (cs : List Change) (c : Change) → are_text cs ≡ true → change_has_text c ≡ true → are_text (cs ++ c ∷ []) ≡ true
+one-more-text cs c h k = list_all-append change_has_text cs (c ∷ []) ∙ join (are_text cs) (are_text (c ∷ [])) h (join (change_has_text c) true k refl)
 
-one-more-text : (cs : List Change) (c : Change) → are_text cs ≡ true → change_text c ≡ true → are_text (cs ++ c ∷ []) ≡ true
-one-more-text cs c h k = list_all-append change_text cs (c ∷ []) ∙ join (are_text cs) (are_text (c ∷ [])) h (join (change_text c) true k refl)
-
-one-less-text : (cs : List Change) (c : Change) → are_text (cs ++ c ∷ []) ≡ true → (are_text cs ≡ true) × (change_text c ≡ true)
+one-less-text : (cs : List Change) (c : Change) → are_text (cs ++ c ∷ []) ≡ true → (are_text cs ≡ true) × (change_has_text c ≡ true)
 one-less-text cs c h =
-    let parts = both (are_text cs) (are_text (c ∷ [])) (sym (list_all-append change_text cs (c ∷ [])) ∙ h) in
-    (parts.0, (both (change_text c) true parts.1).0)
+    let parts = both (are_text cs) (are_text (c ∷ [])) (sym (list_all-append change_has_text cs (c ∷ [])) ∙ h) in
+    (parts.0, (both (change_has_text c) true parts.1).0)
 
 pub nothing-text : has_text (record { past = []; future = [] }) ≡ true
 nothing-text = refl
 
 -- a change that is kept
-pub kept-text : (h : History) (splices : List Splice) → has_text h ≡ true → AreTexts splices → has_text (record { past = h.past ++ record { splices = splices } ∷ []; future = [] }) ≡ true
-kept-text h splices is a = one-more-text h.past (record { splices = splices }) (both (are_text h.future) (are_text h.past) is).1 (all-text splices a)
+pub kept-text : (h : History) (splices : List Splice) (title : List ℕ) → has_text h ≡ true → is_title title ≡ true → AreTexts splices
+    → has_text (record { past = h.past ++ record { splices = splices; title = title } ∷ []; future = [] }) ≡ true
+kept-text h splices title is named a =
+    one-more-text h.past (record { splices = splices; title = title }) (both (are_text h.future) (are_text h.past) is).1 (join (list_all is_text splices) (is_title title) (all-text splices a) named)
 
 -- a change that moves from one list to the other
 moved-text : (from to here there : List Change) (c : Change) → from ≡ here ++ c ∷ [] → there ≡ to ++ c ∷ [] → are_text from ≡ true → are_text to ≡ true → (are_text here ≡ true) × (are_text there ≡ true)

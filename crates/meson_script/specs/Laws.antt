@@ -14,11 +14,11 @@ use Rattle.meson_calls.specs.declared.load_fault.LoadFault.TheVariants as load
 use Rattle.meson_calls.specs.Loading.{Loaded, IsProject, MayNotLoad}
 use Rattle.meson_steps.specs.declared.command.Command.{Command}
 use Rattle.meson_script.specs.Running.{Runs}
-use Rattle.meson_script.specs.Stack.{Loads, Stack, Stands, ran, ran_all, redo, undo, undos}
+use Rattle.meson_script.specs.Stack.{Kept, Loads, Stack, Stands, ran, ran_all, redo, undo, undos}
 
 -- n runs and then n undos give the files before them
 abbrev pub RunsThenUndosRestore : Type 0
-RunsThenUndosRestore = (s : Stack) (sets : List (List File)) → option_map (λ t. t.present) (undos (length sets) (ran_all s sets)) ≡ Some s.present
+RunsThenUndosRestore = (s : Stack) (sets : List Kept) → option_map (λ t. t.present) (undos (length sets) (ran_all s sets)) ≡ Some s.present
 
 -- a project with an empty history stands for a stack without past and future
 abbrev pub BeginsAStack : Type 0
@@ -27,7 +27,7 @@ BeginsAStack = (p : Loaded) → IsProject p → Stands (record { past = []; futu
 -- a change that was done and kept is a run
 abbrev pub RunIsAStep : Type 0
 RunIsAStep = (h : History) (files after : List File) (s : Stack) (c : Change) → Stands h files s → patched_all files c.splices ≡ Ok after → Loads after
-    → Stands (record { past = h.past ++ c ∷ []; future = [] }) after (ran s after)
+    → Stands (record { past = h.past ++ c ∷ []; future = [] }) after (ran s c.title after)
 
 abbrev pub UndoIsAStep : Type 0
 UndoIsAStep = (h : History) (files : List File) (s t : Stack) → Stands h files s → undo s ≡ Some t → (k : History) × (undone h files ≡ Ok (k, t.present)) × Stands k t.present t

@@ -66,12 +66,14 @@ pub record MayStop (old : Loaded) (commands : List Command) (index : ℕ) (refus
   pub reads : IsProject between
   pub refuses : MayRefuse between command refusal
 
--- An accepted script: its commands run, and their splices are kept as one change, also where there are none. It tells the listings.
-pub record Keeps (old : Session) (commands : List Command) (report : Report) (new : Session) : Type 0 where
+-- An accepted script: its commands run, and their splices are kept as one change of this title, also where there are none. It tells
+-- the listings.
+pub record Keeps (old : Session) (commands : List Command) (title : List ℕ) (report : Report) (new : Session) : Type 0 where
   pub splices : List Splice
   pub listings : List Data
   pub runs : Runs old.project commands splices report.relexed listings new.project
-  pub kept : new.history ≡ record { past = old.history.past ++ record { splices = splices } ∷ []; future = [] }
+  pub kept : new.history ≡ record { past = old.history.past ++ record { splices = splices; title = title } ∷ []; future = [] }
   pub files : report.files ≡ differing old.project.files new.project.files
   pub count : report.splices ≡ length splices
+  pub is_title : report.title ≡ title
   pub info : view report.info ≡ array (items_of listings)

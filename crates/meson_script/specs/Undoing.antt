@@ -24,7 +24,8 @@ abbrev pub MayNotStep : Result (History × List File) SpliceFault → UndoFault 
 MayNotStep r (Splice e) = e ≢ OutOfMemory → r ≡ Err e
 MayNotStep r (Load f) = (h : History) × (files : List File) × (r ≡ Ok (h, files)) × MayNotLoad files f
 
--- A step that moves the last change of `from`: the history and files are those of the step, and the report counts and tells nothing.
+-- A step that moves the last change of `from`: the history and files are those of the step, and the report counts, has
+-- the change's title and lists nothing.
 pub record Steps (old : Session) (from : List Change) (step : Result (History × List File) SpliceFault) (report : Report) (new : Session) : Type 0 where
   pub before : List Change
   pub change : Change
@@ -32,5 +33,6 @@ pub record Steps (old : Session) (from : List Change) (step : Result (History ×
   pub is_step : step ≡ Ok (new.history, new.project.files)
   pub files : report.files ≡ differing old.project.files new.project.files
   pub splices : report.splices ≡ length change.splices
+  pub title : report.title ≡ change.title
   pub relexed : report.relexed ≡ 0
   pub info : view report.info ≡ array no_items

@@ -11,5 +11,5 @@ mod stepping;
 
 pub use fault::{RunFault, UndoFault, Unstarted};
 pub use logging::log_text;
-pub use meson_json::{Script, ScriptFault, empty_log, read_log};
+pub use meson_json::{Script, ScriptFault, empty_log, is_title, read_log};
 pub use session::{Report, Session};

@@ -34,7 +34,7 @@ impl Ran {
             self.listings.push(listing)?;
         }
         let Done { change, relexed } = done;
-        let Change { splices } = change;
+        let Change { splices, title: _ } = change;
         self.splices.append(&mut splices.take())?;
         self.relexed = self.relexed.saturating_add(relexed);
         Ok(())

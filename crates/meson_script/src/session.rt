@@ -4,6 +4,7 @@ ghost use Rattle.std.specs.Prelude.{◌≡◌, ◌≢◌, ◌∷◌, [], IfErr, 
 ghost use Rattle.meson_calls.specs.Loading.{IsProject, MayNotLoad};
 ghost use Rattle.meson_calls.specs.declared.refusal.Refusal.TheVariants.{OutOfMemory};
 ghost use Rattle.meson_json.specs.Log.{has_text};
+ghost use Rattle.meson_json.specs.Titles.{is_title};
 ghost use Rattle.meson_script.specs.Running.{Keeps, MayStop, Reaches};
 ghost use Rattle.meson_script.specs.Stack.{RefusesRedo, RefusesUndo, Stack, Stands, ran, redo, undo};
 ghost use Rattle.meson_script.specs.Undoing.{MayNotStep, Steps};
@@ -14,10 +15,10 @@ use crate::fault::{RunFault, UndoFault, Unstarted};
 use crate::performing::{listed, perform_all};
 use crate::stepping::{done_again, taken_back};
 use meson_json::Script;
-use meson_plan::{Command, Project, Refusal};
-use meson_splice::{Change, FileSet, History, Many, SpliceFault};
+use meson_plan::{Command, Done, Project, Refusal};
+use meson_splice::{Change, FileSet, History, Many, SpliceFault, Text};
 use serde_json::Value;
-use std::alloc::Global;
+use std::alloc::{AllocError, Global};
 use std::mem;
 
 /// A project, and the changes that were done to it and undone.
@@ -38,6 +39,17 @@ pub struct Report {
     pub relexed: u64,
     /// An array of the listings of the info commands, in order.
     pub info: Value,
+    /// What the change is for that was made, taken back or done again.
+    pub title: Text,
+}
+
+/// A title for a change, and one for its report.
+fn titles(alloc: Global, title: &str) -> Result<(Text, Text), AllocError>
+    ensures { IfOk result (λ both. both ≡ (title.now, title.now)) }
+{
+    let kept = String::from_str(alloc, title)?;
+    let told = String::from_str(alloc, title)?;
+    Ok((Text::of(kept), Text::of(told)))
 }
 
 /// Want of memory before any command was done.
@@ -95,30 +107,53 @@ impl Session {
         self.history.depths()
     }
 
-    /// Does the commands of a script in order, or nothing. What they did is kept as one change, an empty one too.
+    /// Does the commands of a script in order, or nothing. What they did is kept as one change without a title, an empty one too.
     ///
     /// # Errors
     /// The first refusal with the number of its command, or want of memory.
     pub fn run(&mut self, alloc: Global, script: &Script) -> Result<Report, RunFault>
-        ensures done { IfOk result (λ r. Keeps self.old script.now.commands r self.new) }
+        ensures done { IfOk result (λ r. Keeps self.old script.now.commands [] r self.new) }
         ensures refused { IfErr result (λ f. f.refusal ≢ OutOfMemory → MayStop self.old.project script.now.commands f.index f.refusal) }
         // Also where memory is refused, the commands before that number were performed.
         ensures index { IfErr result (λ f. Reaches self.old.project script.now.commands f.index) }
         ensures kept { OnErr result (self.new ≡ self.old) }
         // Of a history that fits, this is a step of the stack.
         ensures step { OnOk result ((s : Stack) → Stands self.old.history self.old.project.files s
-            → Stands self.new.history self.new.project.files (ran s self.new.project.files)) }
+            → Stands self.new.history self.new.project.files (ran s [] self.new.project.files)) }
         // A history that has a log has one then.
         ensures text { OnOk result (has_text self.old.history ≡ true → has_text self.new.history ≡ true) }
         // The new files read as the new trees.
         ensures project { OnOk result (IsProject self.new.project) }
     {
+        self.run_titled(alloc, script, "")
+    }
+
+    /// The same, with a title for the change: `is_title` says which texts are one.
+    ///
+    /// # Errors
+    /// The first refusal with the number of its command, or want of memory.
+    pub fn run_titled(
+        &mut self,
+        alloc: Global,
+        script: &Script,
+        title: &str,
+    ) -> Result<Report, RunFault>
+        requires { is_title title.now ≡ true }
+        ensures done { IfOk result (λ r. Keeps self.old script.now.commands title.now r self.new) }
+        ensures refused { IfErr result (λ f. f.refusal ≢ OutOfMemory → MayStop self.old.project script.now.commands f.index f.refusal) }
+        ensures index { IfErr result (λ f. Reaches self.old.project script.now.commands f.index) }
+        ensures kept { OnErr result (self.new ≡ self.old) }
+        ensures step { OnOk result ((s : Stack) → Stands self.old.history self.old.project.files s
+            → Stands self.new.history self.new.project.files (ran s title.now self.new.project.files)) }
+        ensures text { OnOk result (has_text self.old.history ≡ true → has_text self.new.history ≡ true) }
+        ensures project { OnOk result (IsProject self.new.project) }
+    {
         match script.commands.get() {
-            [command] => match self.run_one(alloc, command) {
+            [command] => match self.run_one(alloc, command, title) {
                 Ok(report) => Ok(report),
                 Err(fault) => Err(fault),
             },
-            commands => match self.run_all(alloc, commands) {
+            commands => match self.run_all(alloc, commands, title) {
                 Ok(report) => Ok(report),
                 Err(fault) => Err(fault),
             },
@@ -126,8 +161,8 @@ impl Session {
     }
 
     /// Does a command and keeps what it did. A refused command changes nothing, so it needs no copy of the project.
-    fn run_one(&mut self, alloc: Global, command: &Command) -> Result<Report, RunFault>
-        ensures done { IfOk result (λ r. Keeps self.old (command.now ∷ []) r self.new) }
+    fn run_one(&mut self, alloc: Global, command: &Command, title: &str) -> Result<Report, RunFault>
+        ensures done { IfOk result (λ r. Keeps self.old (command.now ∷ []) title.now r self.new) }
         ensures refused { IfErr result (λ f. f.refusal ≢ OutOfMemory → MayStop self.old.project (command.now ∷ []) f.index f.refusal) }
         ensures index { IfErr result (λ f. f.index ≡ 0) }
         ensures kept { OnErr result (self.new ≡ self.old) }
@@ -142,6 +177,9 @@ impl Session {
             Ok(listings) => listings,
             Err(refusal) => return Err(RunFault { index: 0, refusal }),
         };
+        let Ok((kept, told)) = titles(alloc, title) else {
+            return Err(unmade());
+        };
         let mut past = mem::replace(&mut self.history.past, Many::new(alloc)).take();
         if past.reserve(1).is_err() {
             self.history.past = Many::of(past);
@@ -150,13 +188,19 @@ impl Session {
         match self.project.perform(alloc, command) {
             Ok(done) => {
                 self.project.reads();
+                let Done { change, relexed } = done;
+                let Change { splices, title: _ } = change;
                 let report = Report {
                     files: count_differing(&before, self.project.files()),
-                    splices: done.change.splices.get().len(),
-                    relexed: done.relexed,
+                    splices: splices.get().len(),
+                    relexed,
                     info: Value::Array(listings),
+                    title: told,
                 };
-                past.push_reserved(done.change);
+                past.push_reserved(Change {
+                    splices,
+                    title: kept,
+                });
                 self.history.past = Many::of(past);
                 self.history.future.clear();
                 Ok(report)
@@ -169,8 +213,13 @@ impl Session {
     }
 
     /// Does commands on a copy of the project, which takes its place when all are done and kept.
-    fn run_all(&mut self, alloc: Global, commands: &[Command]) -> Result<Report, RunFault>
-        ensures done { IfOk result (λ r. Keeps self.old commands.now r self.new) }
+    fn run_all(
+        &mut self,
+        alloc: Global,
+        commands: &[Command],
+        title: &str,
+    ) -> Result<Report, RunFault>
+        ensures done { IfOk result (λ r. Keeps self.old commands.now title.now r self.new) }
         ensures refused { IfErr result (λ f. f.refusal ≢ OutOfMemory → MayStop self.old.project commands.now f.index f.refusal) }
         ensures index { IfErr result (λ f. Reaches self.old.project commands.now f.index) }
         ensures kept { OnErr result (self.new ≡ self.old) }
@@ -179,6 +228,9 @@ impl Session {
         let mut project = match self.project.copy(alloc) {
             Ok(project) => project,
             Err(refusal) => return Err(RunFault { index: 0, refusal }),
+        };
+        let Ok((kept, told)) = titles(alloc, title) else {
+            return Err(unmade());
         };
         let performed = match perform_all(alloc, &mut project, commands) {
             Ok(performed) => performed,
@@ -189,9 +241,11 @@ impl Session {
             splices: performed.splices.len(),
             relexed: performed.relexed,
             info: Value::Array(performed.listings),
+            title: told,
         };
         let change = Change {
             splices: Many::of(performed.splices),
+            title: kept,
         };
         match self.history.keep(change) {
             Ok(()) => {}
@@ -226,6 +280,7 @@ impl Session {
             return Err(UndoFault::Splice(SpliceFault::NothingToUndo));
         };
         let splices = change.splices.get().len();
+        let title = change.title.clone()?;
         let project = match taken_back(alloc, &self.project, change) {
             Ok(project) => project,
             Err(fault) => return Err(fault),
@@ -238,6 +293,7 @@ impl Session {
             splices,
             relexed: 0,
             info: Value::Array(Vec::new(alloc)),
+            title,
         })
     }
 
@@ -261,6 +317,7 @@ impl Session {
             return Err(UndoFault::Splice(SpliceFault::NothingToRedo));
         };
         let splices = change.splices.get().len();
+        let title = change.title.clone()?;
         let project = match done_again(alloc, &self.project, change) {
             Ok(project) => project,
             Err(fault) => return Err(fault),
@@ -273,6 +330,7 @@ impl Session {
             splices,
             relexed: 0,
             info: Value::Array(Vec::new(alloc)),
+            title,
         })
     }
 }

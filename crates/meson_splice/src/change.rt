@@ -1,6 +1,6 @@
 //! Changes: splices one after another, all or none of them.
 
-ghost use Rattle.std.specs.Prelude.{◌≡◌, ◌≢◌, Err, IfErr, IfOk, Ok, OnErr, OnOk};
+ghost use Rattle.std.specs.Prelude.{◌≡◌, ◌≢◌, [], Err, IfErr, IfOk, Ok, OnErr, OnOk};
 ghost use Rattle.meson_splice.specs.Borrowed.{splice_of};
 ghost use Rattle.meson_splice.specs.Patch.{inverses_of, patched_all, patched_in};
 ghost use Rattle.meson_splice.specs.Saved.{is_saved, put_back};
@@ -9,13 +9,27 @@ ghost use Rattle.meson_splice.specs.declared.fault.SpliceFault.TheVariants.{OutO
 use crate::fault::SpliceFault;
 use crate::file_set::FileSet;
 use crate::splice::{Borrowed, Splice};
-use meson_values::{Bytes, Many};
+use meson_values::{Bytes, Many, Text};
 use std::alloc::Global;
 
 /// Splices that are done first to last. Each offset counts in the bytes that the earlier ones left.
 #[derive(Debug, Drop)]
 pub struct Change {
     pub splices: Many<Splice>,
+    /// What the change is for. It plays no part where the change is done or taken back.
+    pub title: Text,
+}
+
+impl Change {
+    /// The change of these splices, without a title. Takes no memory.
+    pub fn untitled(alloc: Global, splices: Many<Splice>) -> Self
+        ensures { result ≡ record { splices = splices; title = [] } }
+    {
+        Change {
+            splices,
+            title: Text::of(String::new(alloc)),
+        }
+    }
 }
 
 /// The bytes that a file had before the first splice at it.

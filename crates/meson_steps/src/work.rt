@@ -199,9 +199,7 @@ impl Work {
         ensures done { OnOk result (IsChanged self.old self.new file splices.items) }
         ensures refused { IfErr result (λ e. e ≡ Refusal.OutOfMemory) }
     {
-        let change = Change {
-            splices: Many::of(splices),
-        };
+        let change = Change::untitled(alloc, Many::of(splices));
         match apply_all(alloc, &mut self.files, &change) {
             Ok(()) => {}
             Err(fault) => return Err(unmade(fault)),
@@ -212,7 +210,7 @@ impl Work {
             Ok(tree) => self.trees[file] = Some(tree),
             Err(fault) => return Err(unread(fault)),
         }
-        let Change { splices } = change;
+        let Change { splices, title: _ } = change;
         push_all(&mut self.splices, splices.take())?;
         Ok(())
     }

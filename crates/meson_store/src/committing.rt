@@ -87,6 +87,7 @@ fn replace_all<S: Store>(store: &mut S, plan: &[Planned<'_>]) -> Result<(), Halt
     ensures halted { IfErr result (λ halt. (stops : Stops (map put_of plan.now)
         (seen (S.content store.old) (S.failures store.old) (S.replaces store.old)) (seen (S.content store.new) (S.failures store.new) (S.replaces store.new)) halt.error)
         × (length stops.done ≡ halt.done)) }
+    ensures no_read { S.reads store.new ≡ S.reads store.old }
 {
     for (done, file) in plan.iter().enumerate() {
         match store.replace(file.path.as_str(), file.bytes) {
@@ -107,9 +108,10 @@ fn put_back<S: Store>(
 )
     requires named { names.old.items ≡ names_of (map put_of files.now) }
     requires room { vec_len lost.old + length files.now ≤ vec_capacity lost.old }
-    ensures { (still : List (List ℕ)) × GoBack (reverse (map put_of files.now))
+    ensures gone_back { (still : List (List ℕ)) × GoBack (reverse (map put_of files.now))
         (seen (S.content store.old) (S.failures store.old) (S.replaces store.old)) (seen (S.content store.new) (S.failures store.new) (S.replaces store.new)) still
         × (lost.new.items ≡ lost.old.items ++ still) }
+    ensures no_read { S.reads store.new ≡ S.reads store.old }
 {
     while let Some(name) = names.pop() {
         let left = names.len();
@@ -161,10 +163,11 @@ fn taken_back<S: Store>(
     requires same { listed.items ≡ names.items }
     requires none { lost.items ≡ [] }
     requires room { length files.now ≤ vec_capacity lost }
-    ensures { (done rest : List Put) (failed : Put) → map put_of files.now ≡ done ++ (failed ∷ rest) → length done ≡ halt.done
+    ensures gone_back { (done rest : List Put) (failed : Put) → map put_of files.now ≡ done ++ (failed ∷ rest) → length done ≡ halt.done
         → (still : List (List ℕ)) × GoBack (to_go_back halt.error failed done)
         (seen (S.content store.old) (S.failures store.old) (S.replaces store.old)) (seen (S.content store.new) (S.failures store.new) (S.replaces store.new)) still
         × (result ≡ fault_of failed.name halt.error still) }
+    ensures no_read { S.reads store.new ≡ S.reads store.old }
 {
     let mut names = names;
     let mut listed = listed;
@@ -197,6 +200,7 @@ pub fn commit<S: Store>(
     ensures failed { IfErr result (CommitFails (puts (option_map (λ f. f.now) folder.entry) before.now after.now)
         (seen (S.content store.old) (S.failures store.old) (S.replaces store.old)) (seen (S.content store.new) (S.failures store.new) (S.replaces store.new))) }
     ensures counts { S.failures store.old ≤ S.failures store.new }
+    ensures no_read { S.reads store.new ≡ S.reads store.old }
 {
     let plan = differing(alloc, folder, before, after)?;
     let files = plan.as_slice();

@@ -46,6 +46,7 @@ pub struct Folder<R: Files + Drop> {
     rt: R,
     names: Names,
     failures: u64,
+    reads: u64,
     replaces: u64,
 }
 
@@ -56,12 +57,14 @@ where
     /// Keeps the runtime and the allocator, and takes no memory.
     pub fn new(rt: R, alloc: Global) -> Self
         ensures failures { ⟦<Folder<R> as Store>⟧.failures result ≡ 0 }
+        ensures reads { ⟦<Folder<R> as Store>⟧.reads result ≡ 0 }
         ensures replaces { ⟦<Folder<R> as Store>⟧.replaces result ≡ 0 }
     {
         Folder {
             rt,
             names: Names::new(alloc),
             failures: 0,
+            reads: 0,
             replaces: 0,
         }
     }
@@ -70,6 +73,7 @@ where
     fn count_failure(&mut self, why: StoreError)
         ensures counted { FailureCounted why self.old.failures self.new.failures }
         ensures counts { self.old.failures ≤ self.new.failures }
+        ensures reads { self.new.reads ≡ self.old.reads }
         ensures replaces { self.new.replaces ≡ self.old.replaces }
     {
         match why {
@@ -296,9 +300,12 @@ where
 {
     ghost failures = { λ f. f.failures };
 
+    ghost reads = { λ f. f.reads };
+
     ghost replaces = { λ f. f.replaces };
 
     fn read(&mut self, alloc: Global, name: &str) -> Result<Option<Vec<u8>>, StoreError> {
+        self.reads = self.reads.saturating_add(1);
         match read_file(&self.rt, alloc, name) {
             Ok(bytes) => Ok(bytes),
             Err(why) => {
@@ -321,6 +328,10 @@ where
 
     fn failures(&self) -> u64 {
         self.failures
+    }
+
+    fn reads(&self) -> u64 {
+        self.reads
     }
 
     fn replaces(&self) -> u64 {

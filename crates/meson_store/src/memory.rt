@@ -154,6 +154,8 @@ impl Store for Memory {
 
     ghost failures = { λ m. m.failures };
 
+    ghost reads = { λ m. m.reads.made };
+
     ghost replaces = { λ m. m.replaces.made };
 
     /// Fails only as planned, or where a growth was refused.
@@ -207,6 +209,10 @@ impl Store for Memory {
 
     fn failures(&self) -> u64 {
         self.failures
+    }
+
+    fn reads(&self) -> u64 {
+        self.reads.made
     }
 
     fn replaces(&self) -> u64 {

@@ -54,6 +54,8 @@ pub trait Store {
 
     ghost failures: { Self → ℕ };
 
+    ghost reads: { Self → ℕ };
+
     ghost replaces: { Self → ℕ };
 
     /// The bytes of a file, or none where there is no such file.
@@ -66,6 +68,7 @@ pub trait Store {
         ensures kept { content self.new ≡ content self.old }
         ensures counts { failures self.old ≤ failures self.new }
         ensures failed { IfErr result (λ why. FailureCounted why (failures self.old) (failures self.new)) }
+        ensures counted { reads self.new ≡ one_more (reads self.old) }
         ensures no_replace { replaces self.new ≡ replaces self.old };
 
     /// Puts the bytes in place of the file's, or makes the file. Every other file stays.
@@ -78,11 +81,16 @@ pub trait Store {
         ensures err { IfErr result (λ why. Leaves why name.now bytes.now (content self.old) (content self.new)) }
         ensures counts { failures self.old ≤ failures self.new }
         ensures failed { IfErr result (λ why. FailureCounted why (failures self.old) (failures self.new)) }
-        ensures counted { replaces self.new ≡ one_more (replaces self.old) };
+        ensures counted { replaces self.new ≡ one_more (replaces self.old) }
+        ensures no_read { reads self.new ≡ reads self.old };
 
     /// How many calls failed for another cause than memory. The count stops at `u64::MAX`.
     fn failures(&self) -> u64
         ensures { result ≡ failures self.now };
+
+    /// How many calls of `read` there were, whatever they answered. The count stops at `u64::MAX`.
+    fn reads(&self) -> u64
+        ensures { result ≡ reads self.now };
 
     /// How many calls of `replace` there were, whatever they answered. The count stops at `u64::MAX`.
     fn replaces(&self) -> u64

@@ -58,6 +58,7 @@ fn faults_of_usage_are_told(rt: HostRuntime) {
         ("T -h", "U1 usage"),
         ("T kwargs set project / version", "U2 odd words"),
         ("T default-options set a 1 a 2", "U3 repeated key"),
+        ("T --title \t undo", "U6 bad title"),
         ("T kwargs remove_regex target e", "U4 unsupported"),
     ];
     for (line, told) in lines {

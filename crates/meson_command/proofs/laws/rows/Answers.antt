@@ -10,6 +10,10 @@ pub returns-clause-done : goal.returns-clause-done
 unfolding clap_on_literals program target kwargs default_options command undo redo asked_from action_of target_action kwargs_action kwargs_by options_action script_action pairs_of
 returns-clause-done c = (refl, refl, refl, refl, refl, refl, refl, refl, refl, refl, refl, refl, refl, refl, refl)
 
+pub returns-clause-titled : goal.returns-clause-titled
+unfolding clap_on_literals program target kwargs default_options command undo redo asked_from action_of target_action kwargs_action kwargs_by options_action script_action pairs_of
+returns-clause-titled c = (refl, refl, refl, refl, refl, refl, refl, refl, refl)
+
 pub returns-clause-other : goal.returns-clause-other
 unfolding clap_on_literals program target kwargs default_options command undo redo asked_from action_of target_action kwargs_action kwargs_by options_action script_action pairs_of
 returns-clause-other c = (refl, refl, refl, refl, refl, refl, refl)

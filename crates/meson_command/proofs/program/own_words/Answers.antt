@@ -15,5 +15,6 @@ returns c =
     ∙ ap (λ f. app_of_fields (record f { disable_help_subcommand = true })) c.disable_help_flag.ensures
     ∙ ap (λ f. app_of_fields (record f { disable_help_flag = true; disable_help_subcommand = true })) c.subcommand_required.ensures
     ∙ ap flags c.described.ensures.0 in
-    let option_is = c.in_ok-program.ensures.0 ∙ ap (λ a. with_rule a (option (codes "DIR") (codes "sourcedir"))) bare_is in
-    IfOk-weaker c.with_help.result _ _ (λ r h. h.0 ∙ ap (λ a. with_rule a help) option_is) c.with_help.ensures
+    let dir_is = c.in_ok-program.ensures.0 ∙ ap (λ a. with_rule a (option (codes "DIR") (codes "sourcedir"))) bare_is in
+    let title_is = c.in_ok-program-2.ensures.0 ∙ ap (λ a. with_rule a (option (codes "TEXT") (codes "title"))) dir_is in
+    IfOk-weaker c.with_help.result _ _ (λ r h. h.0 ∙ ap (λ a. with_rule a help) title_is) c.with_help.ensures

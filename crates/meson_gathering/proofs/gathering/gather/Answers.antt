@@ -5,6 +5,8 @@ use Rattle.std.proofs.lemmas.List.Elements.{All-cons, All-nil, All-append}
 use Rattle.meson_calls.specs.Directories.{build_file}
 use Rattle.meson_calls.specs.Loading.{max_files, HasFileName, AreParsed}
 use Rattle.meson_gathering.specs.Gathering.{Told, Finds, Collects, Ending, Gathers, file_of, from_root, whole}
+use Rattle.meson_gathering.specs.Reading.{EntersFor, Looks, ReadsFiles, StopsFor, StopsReading, next_file, root_read, stops_at_file, stops_at_root}
+use Rattle.meson_gathering.proofs.Asking.{on_err}
 use Rattle.meson_gathering.proofs.Places.{looks, ended_all}
 use Rattle.meson_gathering.proofs.Parsed.{parsed_more, all_parsed}
 use Rattle.meson_gathering.proofs.Stopping.{stops_within}
@@ -12,6 +14,7 @@ use Rattle.meson_gathering.proofs.gathering.gather.Goals as goal
 
 pub looking-init : goal.looking-init
 looking-init g c =
+    let S = g.S.Store in
     let folder = option_map (λ f. f.now) c.args.folder in
     let root = c.in-Ok.ensures.root in
     let f = file_of build_file root.0 in
@@ -25,6 +28,8 @@ looking-init g c =
       many = ap length c.new-trees.ensures.items;
       parsed = subst (AreParsed []) (sym c.new-trees.ensures.items) tt;
       ends = λ content is end gathers. from_root root.0 end (root.2 content is) (subst (λ fs. Gathers content folder [] fs end) root.1 gathers);
+      asks = subst (λ fs. Looks (S.content c.args.store.now) folder (S.reads c.args.store.now) fs 0 (S.reads c.root_set.new.store)) (sym root.1)
+          (subst (Looks (S.content c.args.store.now) folder (S.reads c.args.store.now) (f ∷ []) 0) (sym c.in-Ok.ensures.once) (root_read root.0 root.2));
     }
 
 pub returns-in-Err-look-clause-stopped : goal.returns-in-Err-look-clause-stopped
@@ -39,6 +44,9 @@ returns-in-Err-look-clause-stopped g c =
 
 pub looking-preserved : goal.looking-preserved
 looking-preserved g c =
+    let S = g.S.Store in
+    let n = S.reads c.looking.store in
+    let m = S.reads c.look.new.store in
     let folder = option_map (λ f. f.now) c.args.folder in
     let old = c.looking.files in
     let new = c.look.new.files in
@@ -60,6 +68,8 @@ looking-preserved g c =
           c.looking.invariant.ends content is end
           (looks content folder old place within new grows.more grows.is_more (c.in-Ok-look.ensures.looked content (c.looking.invariant.kept ∙ is)) end
           (subst (λ k. Gathers content folder (take k new) (drop k new) end) (sym next) gathers));
+      asks = subst (λ k. Looks (S.content c.args.store.now) folder (S.reads c.args.store.now) new k m) next
+          (next_file old new place n m c.looking.invariant.asks within (subst (λ b. EntersFor b folder old place n new m) c.looking.invariant.kept c.in-Ok-look.ensures.asks));
     }
 
 pub returns-clause-files : goal.returns-clause-files
@@ -73,3 +83,36 @@ pub of-requires : goal.of-requires
 of-requires g c =
     let past : length c.looking.files ≤ c.looking.looked = omega arith in
     record { few = c.looking.invariant.few; named = c.looking.invariant.named; parsed = all_parsed c.looking.files c.looking.trees.items c.looking.looked past c.looking.invariant.parsed }
+
+pub returns-clause-asks : goal.returns-clause-asks
+returns-clause-asks g c =
+    let S = g.S.Store in
+    let folder = option_map (λ f. f.now) c.args.folder in
+    let past : length c.looking.files ≤ c.looking.looked = omega arith in
+    subst (λ p. ReadsFiles (S.content c.args.store.now) folder (S.reads c.args.store.now) p.files (S.reads c.looking.store)) (sym c.of.ensures)
+    (record { place = c.looking.looked; past = past; looks = c.looking.invariant.asks })
+
+pub returns-in-Err-clause-asks_at_most : goal.returns-in-Err-clause-asks_at_most
+returns-in-Err-clause-asks_at_most g c = stops_at_root c.root_set.ensures.at_most_once
+
+pub returns-in-Err-look-clause-asks_at_most : goal.returns-in-Err-look-clause-asks_at_most
+returns-in-Err-look-clause-asks_at_most g c =
+    let S = g.S.Store in
+    let folder = option_map (λ f. f.now) c.args.folder in
+    let files = c.looking.files in
+    let place = c.looking.looked in
+    let n = S.reads c.looking.store in
+    stops_at_file files place n c.looking.invariant.asks (subst (λ b. StopsFor b folder files place n (S.reads c.look.new.store)) c.looking.invariant.kept c.in-Err-look.ensures.asks_at_most)
+
+pub returns-in_err-push-in-Ok-look-clause-asks_at_most : goal.returns-in_err-push-in-Ok-look-clause-asks_at_most
+returns-in_err-push-in-Ok-look-clause-asks_at_most g c =
+    let S = g.S.Store in
+    let folder = option_map (λ f. f.now) c.args.folder in
+    let old = c.looking.files in
+    let new = c.look.new.files in
+    let place = c.looking.looked in
+    let n = S.reads c.looking.store in
+    let m = S.reads c.look.new.store in
+    let within : place < length old = omega arith in
+    let looked = next_file old new place n m c.looking.invariant.asks within (subst (λ b. EntersFor b folder old place n new m) c.looking.invariant.kept c.in-Ok-look.ensures.asks) in
+    on_err (StopsReading (S.content c.args.store.now) folder (S.reads c.args.store.now) m) (stops_at_file new (suc place) m looked (inl refl)) c.from_residual.result

@@ -2,6 +2,7 @@ use Rattle.std.proofs.Common.{◌≡◌, ◌≤◌, ◌-◌, length, take, drop,
 use Rattle.std.specs.Prelude.{All}
 use Rattle.meson_calls.specs.Loading.{max_files, HasFileName, AreParsed}
 use Rattle.meson_gathering.specs.Gathering.{Told, Ending, Gathers, Collects}
+use Rattle.meson_gathering.specs.Reading.{Looks}
 use Rattle.meson_gathering.proofs.gathering.gather.Given as goal
 
 -- however the files end that are left, the project's files end so
@@ -15,6 +16,7 @@ invariant-looking g l = record {
   many : length l.trees.items ≡ l.looked;
   parsed : AreParsed (take l.looked l.files) l.trees.items;
   ends : Told (g.S.Store.content l.fn.store) (λ content. (end : Ending) → Gathers content (option_map (λ f. f.now) l.folder) (take l.looked l.files) (drop l.looked l.files) end → Collects content (option_map (λ f. f.now) l.folder) end);
+  asks : Looks (g.S.Store.content l.fn.store) (option_map (λ f. f.now) l.folder) (g.S.Store.reads l.fn.store) l.files l.looked (g.S.Store.reads l.store);
 }
 
 abbrev pub decreases-looking : goal.decreases-looking

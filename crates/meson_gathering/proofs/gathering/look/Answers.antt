@@ -1,8 +1,9 @@
-use Rattle.std.proofs.Common.{◌≡◌, ◌≤◌, ◌∙◌, sym, ap, subst, map, option_map, take, drop, string_bytes, arith}
+use Rattle.std.proofs.Common.{◌≡◌, ◌≤◌, ◌∙◌, inl, inr, refl, sym, ap, subst, map, option_map, take, drop, string_bytes, arith}
 use Rattle.meson_splice.specs.Files.{bytes_at}
 use Rattle.meson_calls.specs.Loading.{name_at}
 use Rattle.meson_gathering.specs.Gathering.{Told, Ending, Gathers, entered}
 use Rattle.meson_gathering.specs.Gathered.{IsNotEntered}
+use Rattle.meson_gathering.specs.Reading.{EntersEach, StopsEntering}
 use Rattle.meson_gathering.proofs.Places.{not_entered, not_parsed}
 use Rattle.meson_gathering.proofs.Stopping.{stops_within, looking_stops}
 use Rattle.meson_gathering.proofs.gathering.look.Goals as goal
@@ -42,3 +43,29 @@ returns-in-Err-clause-stopped g c =
     let first = g.S.Store.failures c.args.store.now in
     let Q : Ending → Type 0 = λ end. Told (g.S.Store.content c.args.store.now) (λ content. Gathers content folder (take place files) (drop place files) end) in
     looking_stops Q first first (name_at place files) (bytes_at place files) (λ fault why told content is. not_parsed content folder files place c.requires.within fault why told) c.in-Err.fault c.in-Err.ensures.stopped
+
+pub returns-in-Ok-enter_all-clause-asks : goal.returns-in-Ok-enter_all-clause-asks
+returns-in-Ok-enter_all-clause-asks g c =
+    let S = g.S.Store in
+    let folder = option_map (λ f. f.now) c.args.folder in
+    let names = map string_bytes c.in-Ok.entry.names.items in (
+      names,
+      c.in-Ok.ensures.names,
+      subst (λ ns. EntersEach (S.content c.args.store.now) folder c.args.files.now (S.reads c.args.store.now) ns c.enter_all.new.files (S.reads c.enter_all.new.store))
+          (ap (map string_bytes) c.as_slice.ensures.value) c.in-Ok-enter_all.ensures.asks,
+    )
+
+pub returns-in-Err-enter_all-clause-asks_at_most : goal.returns-in-Err-enter_all-clause-asks_at_most
+returns-in-Err-enter_all-clause-asks_at_most g c =
+    let S = g.S.Store in
+    let folder = option_map (λ f. f.now) c.args.folder in
+    let names = map string_bytes c.in-Ok.entry.names.items in
+    inr (
+      names,
+      c.in-Ok.ensures.names,
+      subst (λ ns. StopsEntering (S.content c.args.store.now) folder c.args.files.now (S.reads c.args.store.now) ns (S.reads c.enter_all.new.store))
+          (ap (map string_bytes) c.as_slice.ensures.value) c.in-Err-enter_all.ensures.asks_at_most,
+    )
+
+pub returns-in-Err-clause-asks_at_most : goal.returns-in-Err-clause-asks_at_most
+returns-in-Err-clause-asks_at_most g c = inl refl

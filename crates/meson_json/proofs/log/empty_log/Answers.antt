@@ -6,7 +6,7 @@ use Rattle.meson_json.specs.declared.fault.ScriptFault.{ScriptFault}
 use Rattle.meson_json.specs.declared.fault.ScriptFault.TheVariants.{NotJson, NotArray, TooMany, NotObject, UnknownType, BadField, UnknownOperation, Unsupported, BadLog, OutOfMemory}
 use Rattle.meson_json.proofs.log.empty_log.Goals as goal
 
-nothing_logged : log_of (record { past = []; future = [] }) ≡ Ok (codes "{\"future\":[],\"past\":[],\"version\":1}\n")
+nothing_logged : log_of (record { past = []; future = [] }) ≡ Ok (codes "{\"future\":[],\"past\":[],\"version\":2}\n")
 unfolding serde_json_on_literals digits log_of log_data
 nothing_logged = refl
 

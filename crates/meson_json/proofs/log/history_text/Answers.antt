@@ -36,4 +36,4 @@ returns-clause-reads_back c =
     let back : read c.push.new.self.items ≡ Some (log_data h) =
     ap read whole ∙ ap (λ t. read (t ++ 10 ∷ [])) compact ∙ read-line (log_data h) (plain-log h c.in-Ok.ensures.placed.0 c.in-Ok.ensures.placed.1)
     ∙ ap read (sym compact) ∙ c.in_ok-text.ensures.reads_back shallow ∙ ap (λ d. Some d) is in
-    rw (utf8, back) (log-back h)
+    rw (utf8, back) (log-back h c.in-Ok.ensures.text)

@@ -8,13 +8,13 @@ use Rattle.meson_rewrite.proofs.editing.act.Goals as goal
 pub undo_stop-requires : goal.undo_stop-requires
 undo_stop-requires c =
     let old = c.args.session.now in
-    subst (λ files. IsWithin c.in-Err.fault (length files)) (sym (c.files.ensures ∙ ap (λ s. s.project.files) c.in-Err.ensures.kept)) (undo-within old.history old.project.files c.in-Err.fault c.in-Err.ensures.refused)
+    subst (λ files. IsWithin c.in-Err-undo.fault (length files)) (sym (c.files.ensures ∙ ap (λ s. s.project.files) c.in-Err-undo.ensures.kept)) (undo-within old.history old.project.files c.in-Err-undo.fault c.in-Err-undo.ensures.refused)
 
-pub returns-in-Err-clause-refused : goal.returns-in-Err-clause-refused
-returns-in-Err-clause-refused c =
+pub returns-in-Err-undo-clause-refused : goal.returns-in-Err-undo-clause-refused
+returns-in-Err-undo-clause-refused c =
     let old = c.args.session.now in
     subst (λ s. MayRefuse s old c.undo_stop.result) (sym c.in-Undo.is)
-    (stops-step old (undone old.history old.project.files) c.files.result.now (c.files.ensures ∙ ap (λ s. s.project.files) c.in-Err.ensures.kept) c.in-Err.fault c.undo_stop.result c.in-Err.ensures.refused c.undo_stop.ensures)
+    (stops-step old (undone old.history old.project.files) c.files.result.now (c.files.ensures ∙ ap (λ s. s.project.files) c.in-Err-undo.ensures.kept) c.in-Err-undo.fault c.undo_stop.result c.in-Err-undo.ensures.refused c.undo_stop.ensures)
 
 pub undo_stop-requires-in-Err-redo : goal.undo_stop-requires-in-Err-redo
 undo_stop-requires-in-Err-redo c =

@@ -1,6 +1,7 @@
 use Rattle.std.proofs.Common.{Ok, refl, subst, sym}
 use Rattle.meson_command.specs.Asking.{without_text}
 use Rattle.meson_rewrite.proofs.Endings.{asks-help, not-asked, step-before}
+use Rattle.meson_rewrite.proofs.Reading.{asked-alone, help-reads-none, step-may-read, step-reads-all}
 use Rattle.meson_rewrite.specs.Runs.{Ends, StepEnds, helped, steps}
 use Rattle.meson_store.specs.Seen.{Untouched, seen}
 use Rattle.meson_rewrite.proofs.program.answer.Goals as goal
@@ -14,7 +15,7 @@ returns-in-Ok-Help-clause-ends g c =
     let u : Untouched b a = record { kept = c.request_of.ensures.kept; counts = c.request_of.ensures.counts; no_replace = c.request_of.ensures.no_replace } in
     let asks = rw c.in-Ok-Help.field-0-is at c.in-Ok-Help.ensures.asks in
     subst (λ said. Ends (Ok (without_text asked)) b a (Ok said)) (sym c.help.ensures)
-    (helped asked c.in-Ok-Help.text u refl (asks-help asked.action b.content c.in-Ok-Help.text asks))
+    (helped asked c.in-Ok-Help.text u refl (asks-help asked.title asked.action b.content c.in-Ok-Help.text asks))
 
 pub returns-in-Ok-Step-clause-ends : goal.returns-in-Ok-Step-clause-ends
 returns-in-Ok-Step-clause-ends g c =
@@ -35,3 +36,34 @@ returns-clause-ends g c =
     let a = seen (S.content c.request_of.new.store) (S.failures c.request_of.new.store) (S.replaces c.request_of.new.store) in
     let u : Untouched b a = record { kept = c.request_of.ensures.kept; counts = c.request_of.ensures.counts; no_replace = c.request_of.ensures.no_replace } in
     not-asked c.args.asked b a u c.in-Err.stop c.in-Err.ensures.none
+
+pub returns-in-Ok-Help-clause-reads : goal.returns-in-Ok-Help-clause-reads
+returns-in-Ok-Help-clause-reads g c =
+    let S = g.S.Store in
+    asked-alone c.args.asked (S.content c.args.store.now) (S.reads c.args.store.now) (S.reads c.request_of.new.store) c.request_of.ensures.reads_at_most
+
+pub returns-in-Ok-Help-clause-reads_all : goal.returns-in-Ok-Help-clause-reads_all
+returns-in-Ok-Help-clause-reads_all g c =
+    let S = g.S.Store in
+    let asked = c.args.asked in
+    let before = S.content c.args.store.now in
+    let asks = rw c.in-Ok-Help.field-0-is at c.in-Ok-Help.ensures.asks in
+    help-reads-none asked before (S.reads c.args.store.now) c.in-Ok-Help.text (S.reads c.request_of.new.store) (asks-help asked.title asked.action before c.in-Ok-Help.text asks) c.in-Ok-Help.ensures.reads
+
+pub returns-in-Ok-Step-clause-reads : goal.returns-in-Ok-Step-clause-reads
+returns-in-Ok-Step-clause-reads g c =
+    let S = g.S.Store in
+    step-may-read c.args.asked (S.content c.args.store.now) (S.reads c.args.store.now) (S.content c.request_of.new.store) _ (S.reads c.request_of.new.store) (S.reads c.do_step.new.store)
+    c.request_of.ensures.kept c.folder.ensures c.in-Ok-Step.ensures.reads c.do_step.ensures.reads
+
+pub returns-in-Ok-Step-clause-reads_all : goal.returns-in-Ok-Step-clause-reads_all
+returns-in-Ok-Step-clause-reads_all g c =
+    let S = g.S.Store in
+    let asks = rw c.in-Ok-Step.field-0-is at c.in-Ok-Step.ensures.asks in
+    step-reads-all c.args.asked (S.content c.args.store.now) (S.reads c.args.store.now) (S.content c.request_of.new.store) _ (S.reads c.request_of.new.store) (S.reads c.do_step.new.store)
+    c.request_of.ensures.kept c.folder.ensures c.in-Ok-Step.ensures.reads c.in-Ok-Step.step asks c.do_step.result c.do_step.ensures.reads_all
+
+pub returns-clause-reads : goal.returns-clause-reads
+returns-clause-reads g c =
+    let S = g.S.Store in
+    asked-alone c.args.asked (S.content c.args.store.now) (S.reads c.args.store.now) (S.reads c.request_of.new.store) c.request_of.ensures.reads_at_most

@@ -1,5 +1,6 @@
-use Rattle.std.proofs.Common.{◌≡◌, false, true, option_map}
+use Rattle.std.proofs.Common.{◌≡◌, false, refl, true, option_map}
 use Rattle.meson_rewrite.proofs.Endings.{done-ends, failed-ends, stopped-acting, stopped-opening, told-ends}
+use Rattle.meson_rewrite.proofs.Reading.{with-log-all, with-log-at-most}
 use Rattle.meson_rewrite.specs.Steps.{only_tells}
 use Rattle.meson_store.specs.Seen.{Untouched, seen}
 use Rattle.meson_rewrite.proofs.program.do_step.Goals as goal
@@ -62,3 +63,48 @@ returns-in-Err-commit-clause-ends g c =
     let u : Untouched b m = record { kept = c.open.ensures.kept; counts = c.open.ensures.counts; no_replace = c.open.ensures.no_replace } in
     let writes : only_tells c.args.step.now ≡ false = cc in
     failed-ends dir c.args.step.now b m a u writes c.in-Ok.opened.session c.in-Ok.opened.log.items c.in-Ok.ensures.opens c.in-Ok-edited.edit c.in-Ok-edited.ensures.edited c.in-Err-commit.fault c.in-Err-commit.ensures.failed
+
+pub returns-in-Err-clause-reads : goal.returns-in-Err-clause-reads
+returns-in-Err-clause-reads g c = c.in-Err.ensures.reads_at_most
+
+pub returns-in-Ok-told-clause-reads : goal.returns-in-Ok-told-clause-reads
+returns-in-Ok-told-clause-reads g c =
+    let S = g.S.Store in
+    let dir = option_map (λ d. d.now) c.args.dir in
+    with-log-at-most (S.content c.args.store.now) dir (S.reads c.args.store.now) c.in-Ok.opened.session.project.files (S.reads c.open.new.store) _ refl c.in-Ok.ensures.reads
+
+pub returns-in-Ok-told-clause-reads_all : goal.returns-in-Ok-told-clause-reads_all
+returns-in-Ok-told-clause-reads_all g c =
+    let S = g.S.Store in
+    let dir = option_map (λ d. d.now) c.args.dir in
+    with-log-all (S.content c.args.store.now) dir (S.reads c.args.store.now) c.in-Ok.opened.session.project.files (S.reads c.open.new.store) _ refl c.in-Ok.ensures.reads c.in-Ok.ensures.opens.found
+
+pub returns-in-Err-told-clause-reads : goal.returns-in-Err-told-clause-reads
+returns-in-Err-told-clause-reads g c =
+    let S = g.S.Store in
+    let dir = option_map (λ d. d.now) c.args.dir in
+    with-log-at-most (S.content c.args.store.now) dir (S.reads c.args.store.now) c.in-Ok.opened.session.project.files (S.reads c.open.new.store) _ refl c.in-Ok.ensures.reads
+
+pub returns-in-Err-edited-clause-reads : goal.returns-in-Err-edited-clause-reads
+returns-in-Err-edited-clause-reads g c =
+    let S = g.S.Store in
+    let dir = option_map (λ d. d.now) c.args.dir in
+    with-log-at-most (S.content c.args.store.now) dir (S.reads c.args.store.now) c.in-Ok.opened.session.project.files (S.reads c.open.new.store) _ refl c.in-Ok.ensures.reads
+
+pub returns-in-Ok-commit-clause-reads : goal.returns-in-Ok-commit-clause-reads
+returns-in-Ok-commit-clause-reads g c =
+    let S = g.S.Store in
+    let dir = option_map (λ d. d.now) c.args.dir in
+    with-log-at-most (S.content c.args.store.now) dir (S.reads c.args.store.now) c.in-Ok.opened.session.project.files (S.reads c.open.new.store) _ c.commit.ensures.no_read c.in-Ok.ensures.reads
+
+pub returns-in-Ok-commit-clause-reads_all : goal.returns-in-Ok-commit-clause-reads_all
+returns-in-Ok-commit-clause-reads_all g c =
+    let S = g.S.Store in
+    let dir = option_map (λ d. d.now) c.args.dir in
+    with-log-all (S.content c.args.store.now) dir (S.reads c.args.store.now) c.in-Ok.opened.session.project.files (S.reads c.open.new.store) _ c.commit.ensures.no_read c.in-Ok.ensures.reads c.in-Ok.ensures.opens.found
+
+pub returns-in-Err-commit-clause-reads : goal.returns-in-Err-commit-clause-reads
+returns-in-Err-commit-clause-reads g c =
+    let S = g.S.Store in
+    let dir = option_map (λ d. d.now) c.args.dir in
+    with-log-at-most (S.content c.args.store.now) dir (S.reads c.args.store.now) c.in-Ok.opened.session.project.files (S.reads c.open.new.store) _ c.commit.ensures.no_read c.in-Ok.ensures.reads

@@ -1,5 +1,6 @@
 use Rattle.std.proofs.Common.{rules}
 use Rattle.meson_rewrite.proofs.Endings.{asking-keeps, status-keeps}
+use Rattle.meson_rewrite.proofs.Reading.{done-by-status}
 use Rattle.meson_rewrite.proofs.Untold.{run-untold}
 use Rattle.meson_rewrite.proofs.program.rewrite.Goals as goal
 
@@ -27,3 +28,6 @@ returns-clause-runs g c = record {
 
 pub returns-clause-asking : goal.returns-clause-asking
 returns-clause-asking g c = λ t. asking-keeps _ _ _ _ c.run-end.ensures.ends t
+
+pub returns-in-Ok-clause-reads_all : goal.returns-in-Ok-clause-reads_all
+returns-in-Ok-clause-reads_all g c = rw c.status.ensures (λ s. done-by-status _ c.run-end.result c.run-end.ensures.reads_all s)

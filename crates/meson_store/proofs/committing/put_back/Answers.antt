@@ -1,4 +1,4 @@
-use Rattle.std.proofs.Common.{◌≡◌, ◌∙◌, ◌<◌, ◌≤◌, ◌+◌, [], ◌∷◌, ◌++◌, List, ℕ, Some, sym, ap, subst, length, map, take, drop, reverse, vec_len, arith, append_assoc, append-nil}
+use Rattle.std.proofs.Common.{◌≡◌, ◌∙◌, refl, ◌<◌, ◌≤◌, ◌+◌, [], ◌∷◌, ◌++◌, List, ℕ, Some, sym, ap, subst, length, map, take, drop, reverse, vec_len, arith, append_assoc, append-nil}
 use Rattle.std.proofs.lemmas.List.{length-map, take_all, drop_all}
 use Rattle.std.specs.Prelude.{slice_index_or}
 use Rattle.meson_store.specs.Commit.{GoBack, all_back, names_of}
@@ -28,6 +28,7 @@ loop-name-init g c =
     record {
       few = omega arith;
       named = all-of files (vec_len names) many names.items c.requires.named;
+      no_read = refl;
       room = omega arith;
       gone = ([], nothing-yet files (vec_len names) many _, sym (append-nil c.args.lost.now.items));
     }
@@ -50,6 +51,7 @@ loop-name-preserved-in-Ok-1 g c =
     record {
       few = omega arith;
       named = names-before files k many within next names.items c.pop.new.self.items c.loop-name.invariant.named c.pop.ensures.rest;
+      no_read = c.replace.ensures.no_read ∙ c.loop-name.invariant.no_read;
       room = omega (arith, c.loop-name.invariant.room, next);
       gone = (
         gone.0 ++ [],
@@ -80,6 +82,7 @@ loop-name-preserved g c =
     record {
       few = omega arith;
       named = names-before files k many within next names.items c.pop.new.self.items c.loop-name.invariant.named c.pop.ensures.rest;
+      no_read = c.replace.ensures.no_read ∙ c.loop-name.invariant.no_read;
       room = omega (arith, c.loop-name.invariant.room, next, c.push_reserved.ensures.len, c.push_reserved.ensures.capacity);
       gone = (
         gone.0 ++ name ∷ [],
@@ -90,8 +93,8 @@ loop-name-preserved g c =
       );
     }
 
-pub returns : goal.returns
-returns g c =
+pub returns-clause-gone_back : goal.returns-clause-gone_back
+returns-clause-gone_back g c =
     let files = c.args.files.now in
     let first = seen (g.S.Store.content c.args.store.now) (g.S.Store.failures c.args.store.now) (g.S.Store.replaces c.args.store.now) in
     let last = seen (g.S.Store.content c.loop-name.store) (g.S.Store.failures c.loop-name.store) (g.S.Store.replaces c.loop-name.store) in

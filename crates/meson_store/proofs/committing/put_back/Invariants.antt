@@ -10,6 +10,7 @@ abbrev pub invariant-loop-name : goal.invariant-loop-name
 invariant-loop-name g l = record {
   few : vec_len l.names ≤ length l.files;
   named : l.names.items ≡ names_of (map put_of (take (vec_len l.names) l.files));
+  no_read : g.S.Store.reads l.store ≡ g.S.Store.reads l.initial.store;
   room : vec_len l.lost + vec_len l.names ≤ vec_capacity l.lost;
   gone : (still : List (List ℕ)) × GoBack (reverse (map put_of (drop (vec_len l.names) l.files)))
       (seen (g.S.Store.content l.initial.store) (g.S.Store.failures l.initial.store) (g.S.Store.replaces l.initial.store))

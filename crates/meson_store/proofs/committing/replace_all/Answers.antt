@@ -20,7 +20,7 @@ returns-in-Err-clause-halted g c =
         rest = map put_of (drop (suc c.loop-done.done) plan);
         all = cut.0;
         reached = seen (g.S.Store.content c.loop-done.store) (g.S.Store.failures c.loop-done.store) (g.S.Store.replaces c.loop-done.store);
-        are = c.loop-done.invariant;
+        are = c.loop-done.invariant.are;
         fails = subst P c.as_str.ensures.value (record {
           left = c.in-Err.ensures.err;
           failed = c.in-Err.ensures.failed;
@@ -34,11 +34,14 @@ returns-in-Err-clause-halted g c =
 pub loop-done-preserved : goal.loop-done-preserved
 loop-done-preserved g c =
     let plan = c.args.plan.now in record {
-      put =
-          c.in-Ok.ensures.ok
-          ∙ ap (λ m. replaced m c.as_str.result.now c.index-plan-done.result.bytes.now) c.loop-done.invariant.put
-          ∙ ap (λ p. replaced (put_all (map put_of (take c.loop-done.done plan)) (g.S.Store.content c.args.store.now)) p c.index-plan-done.result.bytes.now) c.as_str.ensures.value
-          ∙ sym (put-more plan c.loop-done.done c.index-plan-done.result c.index-plan-done.is c.loop-done-test.true (g.S.Store.content c.args.store.now));
-      counts = omega (arith, c.loop-done.invariant.counts, c.replace.ensures.counts);
-      counted = count_one plan c.loop-done.done c.loop-done-test.true _ _ _ c.loop-done.invariant.counted c.in-Ok.ensures.counted;
+      are = record {
+        put =
+            c.in-Ok.ensures.ok
+            ∙ ap (λ m. replaced m c.as_str.result.now c.index-plan-done.result.bytes.now) c.loop-done.invariant.are.put
+            ∙ ap (λ p. replaced (put_all (map put_of (take c.loop-done.done plan)) (g.S.Store.content c.args.store.now)) p c.index-plan-done.result.bytes.now) c.as_str.ensures.value
+            ∙ sym (put-more plan c.loop-done.done c.index-plan-done.result c.index-plan-done.is c.loop-done-test.true (g.S.Store.content c.args.store.now));
+        counts = omega (arith, c.loop-done.invariant.are.counts, c.replace.ensures.counts);
+        counted = count_one plan c.loop-done.done c.loop-done-test.true _ _ _ c.loop-done.invariant.are.counted c.in-Ok.ensures.counted;
+      };
+      no_read = c.in-Ok.ensures.no_read ∙ c.loop-done.invariant.no_read;
     }

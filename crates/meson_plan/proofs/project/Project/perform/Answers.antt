@@ -23,10 +23,10 @@ returns-clause-done c =
     let is = ap (λ ts. record { files = files; parsed = ts }) c.as_slice-trees.ensures.value ∙ c.self.view_is in
     let old : Loaded = record { files = files; parsed = c.as_slice-trees.result.now } in
     let put = ap (with_some work.trees.items) c.as_slice-trees.ensures.value ∙ sym c.put_trees.ensures in
-    let done : Done = record { change = record { splices = c.of.result }; relexed = work.relexed } in
+    let done : Done = record { change = c.untitled.result; relexed = work.relexed } in
     subst (λ l. Performs l k done (record { files = work.files; parsed = c.put_trees.new.trees.items })) is
     (subst (λ ts. Performs old k done (record { files = work.files; parsed = ts })) put
-    (performed old k work c.in-Ok.ensures.done done c.of.ensures refl))
+    (performed old k work c.in-Ok.ensures.done done (ap (λ x. x.splices) c.untitled.ensures ∙ c.of.ensures) (ap (λ x. x.title) c.untitled.ensures) refl))
 
 pub returns-clause-patched : goal.returns-clause-patched
 returns-clause-patched c = performs-patch _ _ _ _ (returns-clause-done c)

@@ -19,7 +19,7 @@ count_differing-requires c =
     ∙ ap names (sym c.files-2.ensures)
 
 pub returns-clause-project : goal.returns-clause-project
-returns-clause-project c = subst IsProject c.project.view_is c.project.invariant
+returns-clause-project c = subst IsProject c.project-2.view_is c.project-2.invariant
 
 pub returns-in-Err-clause-index : goal.returns-in-Err-clause-index
 returns-in-Err-clause-index c = reaches-none c.args.self.now.project c.args.commands.now 0 refl
@@ -32,3 +32,6 @@ returns-in-Err-keep-clause-index c =
     let p = c.in-Ok-perform_all.performed in
     let all = reaches-all c.in-Ok.project c.perform_all.new.project c.args.commands.now p.splices.items p.relexed (map view p.listings.items) c.in-Ok-perform_all.ensures.done in
     subst (λ old. Reaches old c.args.commands.now (length c.args.commands.now)) c.in-Ok.ensures.copied all
+
+pub returns-in_default-clause-index : goal.returns-in_default-clause-index
+returns-in_default-clause-index c = reaches-none c.args.self.now.project c.args.commands.now c.unmade.result.index (ap (λ f. f.index) c.unmade.ensures)

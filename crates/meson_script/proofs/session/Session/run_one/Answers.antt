@@ -23,8 +23,11 @@ pub returns-in-Ok-perform-clause-done : goal.returns-in-Ok-perform-clause-done
 returns-in-Ok-perform-clause-done c =
     let old = c.args.self.now in
     let done = c.in-Ok-perform.done in
-    let past : c.of-in-Ok-perform.result ≡ old.history.past ++ done.change ∷ [] =
-    c.of-in-Ok-perform.ensures ∙ c.push_reserved.ensures.items ∙ ap (λ cs. cs ++ done.change ∷ []) (c.reserve.ensures.items ∙ c.take-past.ensures ∙ c.replace.ensures.value) in
+    let made : Change = record { splices = done.change.splices; title = c.args.title.now } in
+    let pushed : Change = record { splices = done.change.splices; title = c.in-Ok-titles.kept } in
+    let is : pushed ≡ made = ap (λ both. let x : Change = record { splices = done.change.splices; title = both.0 } in x) c.in-Ok-titles.ensures in
+    let past : c.of-in-Ok-perform.result ≡ old.history.past ++ made ∷ [] =
+    c.of-in-Ok-perform.ensures ∙ c.push_reserved.ensures.items ∙ ap (λ cs. cs ++ pushed ∷ []) (c.reserve.ensures.items ∙ c.take-past.ensures ∙ c.replace.ensures.value) ∙ ap (λ x. old.history.past ++ x ∷ []) is in
     record {
       splices = done.change.splices;
       listings = map view c.in-Ok-listed.listings.items;
@@ -33,6 +36,7 @@ returns-in-Ok-perform-clause-done c =
       files = c.count_differing.ensures ∙ ap₂ differing (c.in-Ok.ensures.copied ∙ c.files.ensures) c.files-in-Ok-perform.ensures;
       count = ap length c.get.ensures;
       info = view-Array c.in-Ok-listed.listings;
+      is_title = ap (λ both. both.1) c.in-Ok-titles.ensures;
     }
 
 pub returns-clause-refused : goal.returns-clause-refused

@@ -1,0 +1,71 @@
+-- How often a store is read for a project's files: once for the root file, and once for each name that is entered and that no file there has.
+use Rattle.std.specs.Prelude.{◌≡◌, ◌<◌, ◌≤◌, ◌⊎◌, true, ℕ, suc, List, [], ◌∷◌, ◌++◌, length, Option, Some, None, is_some}
+use Rattle.meson_splice.specs.declared.file_set.File.{File}
+use Rattle.meson_splice.specs.Files.{bytes_at, found}
+use Rattle.meson_calls.specs.Directories.{build_file}
+use Rattle.meson_calls.specs.Loading.{name_at}
+use Rattle.meson_calls.specs.Subdirs.{Enters}
+use Rattle.meson_store.specs.Calls.{one_more}
+use Rattle.meson_store.specs.Content.{Content}
+use Rattle.meson_gathering.specs.Gathering.{Told, file_of, held, joined}
+
+-- it was read once, or not at all
+abbrev pub OnceAtMost : ℕ → ℕ → Type 0
+OnceAtMost reads reads' = (reads' ≡ reads) ⊎ (reads' ≡ one_more reads)
+
+-- the same of a file of that name, and not at all where it is there
+abbrev pub OnceIfNew : List ℕ → List File → ℕ → ℕ → Type 0
+OnceIfNew name files reads reads' = (reads' ≡ reads) ⊎ ((found name files ≡ None) × (reads' ≡ one_more reads))
+
+-- of a store that told this before
+module _ (before : Option Content) (folder : Option (List ℕ)) where
+  -- ---- names that are entered
+
+  -- a name is entered: where its file is there nothing is read; else the store is asked for it, once
+  pub data EntersOne (name : List ℕ) (files : List File) (reads : ℕ) : List File → ℕ → Type 0 where
+    is_there : is_some (found name files) ≡ true → EntersOne name files reads files reads
+    is_read : (bytes : Option (List ℕ)) (new : List File) → found name files ≡ None → Told before (λ content. bytes ≡ held content folder name)
+        → joined files name None bytes ≡ Some new → EntersOne name files reads new (one_more reads)
+
+  -- names are entered, one after another
+  pub data EntersEach (files : List File) (reads : ℕ) : List (List ℕ) → List File → ℕ → Type 0 where
+    no_name : EntersEach files reads [] files reads
+    next_name : (names : List (List ℕ)) (name : List ℕ) (there new : List File) (n m : ℕ) → EntersEach files reads names there n → EntersOne name there n new m
+        → EntersEach files reads (names ++ name ∷ []) new m
+
+  -- one of them is not: those before it were
+  pub record StopsEntering (files : List File) (reads : ℕ) (names : List (List ℕ)) (reads' : ℕ) : Type 0 where
+    pub done : List (List ℕ)
+    pub name : List ℕ
+    pub rest : List (List ℕ)
+    pub all : names ≡ done ++ name ∷ rest
+    pub there : List File
+    pub so_far : ℕ
+    pub entered : EntersEach files reads done there so_far
+    pub last : OnceIfNew name there so_far reads'
+
+  -- ---- the files, of which so many were looked at
+
+  -- the names that the file at a place enters are entered
+  abbrev pub EntersFor : List File → ℕ → ℕ → List File → ℕ → Type 0
+  EntersFor files place reads new reads' = (names : List (List ℕ)) × Enters (name_at place files) (bytes_at place files) names × EntersEach files reads names new reads'
+
+  -- they are not known, or one of them is not entered
+  abbrev pub StopsFor : List File → ℕ → ℕ → ℕ → Type 0
+  StopsFor files place reads reads' =
+      (reads' ≡ reads) ⊎ ((names : List (List ℕ)) × Enters (name_at place files) (bytes_at place files) names × StopsEntering files reads names reads')
+
+  pub data Looks (reads : ℕ) : List File → ℕ → ℕ → Type 0 where
+    root_read : (bytes : List ℕ) → Told before (λ content. held content folder build_file ≡ Some bytes) → Looks reads (file_of build_file bytes ∷ []) 0 (one_more reads)
+    next_file : (files new : List File) (place n m : ℕ) → Looks reads files place n → place < length files → EntersFor files place n new m → Looks reads new (suc place) m
+
+  -- these are all files
+  pub record ReadsFiles (reads : ℕ) (files : List File) (reads' : ℕ) : Type 0 where
+    pub place : ℕ
+    pub past : length files ≤ place
+    pub looks : Looks reads files place reads'
+
+  -- the files are not all read
+  pub data StopsReading (reads reads' : ℕ) : Type 0 where
+    stops_at_root : OnceAtMost reads reads' → StopsReading reads reads'
+    stops_at_file : (files : List File) (place n : ℕ) → Looks reads files place n → StopsFor files place n reads' → StopsReading reads reads'

@@ -1,0 +1,104 @@
+-- How often a run reads the store, from how often its steps do.
+use Rattle.std.proofs.Common.{◌≡◌, ◌⊎◌, ◌∙◌, ℕ, List, [], Option, None, Result, Ok, Err, inl, inr, refl, sym, ap, subst, arith}
+use Rattle.std.specs.Prelude.{OnOk}
+use Rattle.meson_command.specs.Asking.{without_help_text, without_text}
+use Rattle.meson_command.specs.declared.asked.Action.{Action}
+use Rattle.meson_command.specs.declared.asked.Action.TheVariants as action
+use Rattle.meson_command.specs.declared.asked.Asked.{Asked}
+use Rattle.meson_command.specs.declared.fault.UsageFault.{UsageFault}
+use Rattle.meson_command.specs.declared.fault.UsageFault.TheVariants as usage
+use Rattle.meson_splice.specs.declared.file_set.File.{File}
+use Rattle.meson_store.specs.Calls.{one_more}
+use Rattle.meson_store.specs.Content.{Content}
+use Rattle.meson_store.specs.declared.store_fault.StoreFault.{StoreFault}
+use Rattle.meson_store.specs.declared.store_fault.StoreFault.TheVariants as store
+use Rattle.meson_gathering.specs.Gathering.{Finds, whole}
+use Rattle.meson_rewrite.specs.Lines.{status, store_fault_status, usage_status}
+use Rattle.meson_rewrite.specs.Reads.{MayRead, ReadsAll, ReadsAtMost, ReadsFor, ReadsProject, ReadsWithLog, script_read}
+use Rattle.meson_rewrite.specs.Requests.{AsksFor}
+use Rattle.meson_rewrite.specs.declared.request.Request.TheVariants as request
+use Rattle.meson_rewrite.specs.declared.request.Step.{Step}
+use Rattle.meson_rewrite.specs.declared.said.Said.{Said}
+use Rattle.meson_rewrite.specs.declared.stop.Stop.{Stop}
+use Rattle.meson_rewrite.specs.declared.stop.Stop.TheVariants.{Usage, Script, Parse, TooManyFiles, BadFileName, Refused, Splice, Store}
+
+-- ---- a step
+
+module _ (before : Option Content) (dir : Option (List ℕ)) (reads : ℕ) (files : List File) (n m : ℕ) (same : m ≡ n) (all : ReadsWithLog before dir reads files n) where
+  pub with-log-at-most : ReadsAtMost before dir reads m
+  with-log-at-most = inr (files, all.0, all.1, inr (same ∙ all.2))
+
+  pub with-log-all : Finds before dir (whole files) → ReadsProject before dir reads m
+  with-log-all found = (files, found, (all.0, all.1, same ∙ all.2))
+
+-- ---- a run
+
+pub nothing-read : (asked : Result Asked UsageFault) (before : Option Content) (reads : ℕ) → MayRead asked before reads reads
+nothing-read (Err fault) before reads = refl
+nothing-read (Ok a) before reads = inl refl
+
+same-script : (a : Action) (reads : ℕ) → script_read (without_help_text a) reads ≡ script_read a reads
+same-script (action.Run s) reads = refl
+same-script (action.Info c) reads = refl
+same-script (action.ScriptText text) reads = refl
+same-script (action.ScriptFile n) reads = refl
+same-script action.Undo reads = refl
+same-script action.Redo reads = refl
+same-script (action.Help text) reads = refl
+
+module _ (a : Asked) (before : Option Content) (reads : ℕ) where
+  pub asked-alone : (reads' : ℕ) → (reads' ≡ reads) ⊎ (reads' ≡ script_read a.action reads) → MayRead (Ok (without_text a)) before reads reads'
+  asked-alone reads' (inl e) = inl e
+  asked-alone reads' (inr e) = inr (inl (e ∙ sym (same-script a.action reads)))
+
+  module _ (middle : Option Content) (dir : Option (List ℕ)) (n reads' : ℕ) (kept : middle ≡ before) (named : dir ≡ a.dir) (script : n ≡ script_read a.action reads) where
+    pub step-may-read : ReadsAtMost middle dir n reads' → MayRead (Ok (without_text a)) before reads reads'
+    step-may-read h =
+        inr (inr (subst (λ k. ReadsAtMost before a.dir k reads') (script ∙ sym (same-script a.action reads)) (subst (λ d. ReadsAtMost before d n reads') named (subst (λ b. ReadsAtMost b dir n reads') kept h))))
+
+    pub step-reads-all : {E : Type 0} (step : Step) → AsksFor a.title a.action before (request.Step step) → (end : Result Said E) → OnOk end (ReadsProject middle dir n reads')
+        → OnOk end (ReadsAll (Ok (without_text a)) before reads reads')
+    step-reads-all step asks (Ok said) h =
+        of-action a.action asks (subst (λ k. ReadsProject before a.dir k reads') script (subst (λ d. ReadsProject before d n reads') named (subst (λ b. ReadsProject b dir n reads') kept h)))
+      where
+        of-action : (x : Action) → AsksFor a.title x before (request.Step step) → ReadsProject before a.dir (script_read x reads) reads' → ReadsFor (without_help_text x) before a.dir reads reads'
+        of-action (action.Run s) is h = h
+        of-action (action.Info c) is h = h
+        of-action (action.ScriptText text) is h = h
+        of-action (action.ScriptFile n) is h = h
+        of-action action.Undo is h = h
+        of-action action.Redo is h = h
+        of-action (action.Help text) is h = absurd (let no : ⊥ = cc in no)
+    step-reads-all step asks (Err stop) h = h
+
+  pub help-reads-none : (text : List ℕ) (reads' : ℕ) → a.action ≡ action.Help text → reads' ≡ script_read a.action reads → ReadsAll (Ok (without_text a)) before reads reads'
+  help-reads-none text reads' is e =
+      subst (λ x. ReadsFor (without_help_text x) before a.dir reads reads') (sym is) (e ∙ ap (λ x. script_read x reads) is)
+
+-- ---- status 0 is that of a run that was done
+
+usage-not-0 : (fault : UsageFault) → usage_status fault ≡ 0 → ⊥
+usage-not-0 usage.Usage e = let no : ⊥ = cc in no
+usage-not-0 usage.OddWords e = let no : ⊥ = cc in no
+usage-not-0 usage.BadTitle e = let no : ⊥ = cc in no
+usage-not-0 usage.RepeatedKey e = let no : ⊥ = cc in no
+usage-not-0 usage.Unsupported e = let no : ⊥ = cc in no
+usage-not-0 usage.OutOfMemory e = let no : ⊥ = cc in no
+
+store-not-0 : (fault : StoreFault) → store_fault_status fault ≡ 0 → ⊥
+store-not-0 (store.ReadFailed name) e = let no : ⊥ = cc in no
+store-not-0 (store.WriteFailed name still) e = let no : ⊥ = cc in no
+store-not-0 (store.NoFile name) e = let no : ⊥ = cc in no
+store-not-0 store.OutputFailed e = let no : ⊥ = cc in no
+store-not-0 store.OutOfMemory e = let no : ⊥ = cc in no
+
+pub done-by-status : (P : Type 0) (end : Result Said Stop) → OnOk end P → status end ≡ 0 → P
+done-by-status P (Ok said) p e = p
+done-by-status P (Err (Usage fault)) p e = absurd (usage-not-0 fault e)
+done-by-status P (Err (Store fault)) p e = absurd (store-not-0 fault e)
+done-by-status P (Err (Script fault)) p e = absurd (let no : ⊥ = cc in no)
+done-by-status P (Err (Parse name fault)) p e = absurd (let no : ⊥ = cc in no)
+done-by-status P (Err TooManyFiles) p e = absurd (let no : ⊥ = cc in no)
+done-by-status P (Err (BadFileName place)) p e = absurd (let no : ⊥ = cc in no)
+done-by-status P (Err (Refused fault)) p e = absurd (let no : ⊥ = cc in no)
+done-by-status P (Err (Splice fault)) p e = absurd (let no : ⊥ = cc in no)

@@ -1,0 +1,47 @@
+-- How often a run reads the store: once for the script file, where one is named, once for each file of the project that is asked for, and once for the log.
+use Rattle.std.specs.Prelude.{◌≡◌, ◌⊎◌, ℕ, List, Option, Result, Ok, Err}
+use Rattle.meson_command.specs.declared.asked.Action.{Action}
+use Rattle.meson_command.specs.declared.asked.Action.TheVariants as action
+use Rattle.meson_command.specs.declared.asked.Asked.{Asked}
+use Rattle.meson_command.specs.declared.fault.UsageFault.{UsageFault}
+use Rattle.meson_splice.specs.declared.file_set.File.{File}
+use Rattle.meson_store.specs.Calls.{one_more}
+use Rattle.meson_store.specs.Content.{Content}
+use Rattle.meson_gathering.specs.Gathering.{Finds, whole}
+use Rattle.meson_gathering.specs.Reading.{OnceAtMost, ReadsFiles, StopsReading}
+
+-- the script file
+abbrev pub script_read : Action → ℕ → ℕ
+script_read (action.ScriptFile name) reads = one_more reads
+script_read _ reads = reads
+
+-- ---- the project of a folder, in a store that told this before
+
+module _ (before : Option Content) (dir : Option (List ℕ)) where
+  -- these files, and then the log
+  abbrev pub ReadsWithLog : ℕ → List File → ℕ → Type 0
+  ReadsWithLog reads files reads' = (n : ℕ) × ReadsFiles before dir reads files n × (reads' ≡ one_more n)
+
+  -- the files of the project, and then the log
+  abbrev pub ReadsProject : ℕ → ℕ → Type 0
+  ReadsProject reads reads' = (files : List File) × Finds before dir (whole files) × ReadsWithLog reads files reads'
+
+  -- the same, or no more than a part of them
+  abbrev pub ReadsAtMost : ℕ → ℕ → Type 0
+  ReadsAtMost reads reads' = StopsReading before dir reads reads' ⊎ ((files : List File) × (n : ℕ) × ReadsFiles before dir reads files n × OnceAtMost n reads')
+
+-- ---- a whole run, by what the words ask for
+
+-- nothing; the script file; or that and then the project's files and the log, or a part of them
+abbrev pub MayRead : Result Asked UsageFault → Option Content → ℕ → ℕ → Type 0
+MayRead (Err fault) before reads reads' = reads' ≡ reads
+MayRead (Ok a) before reads reads' = (reads' ≡ reads) ⊎ (reads' ≡ script_read a.action reads) ⊎ ReadsAtMost before a.dir (script_read a.action reads) reads'
+
+abbrev pub ReadsFor : Action → Option Content → Option (List ℕ) → ℕ → ℕ → Type 0
+ReadsFor (action.Help text) before dir reads reads' = reads' ≡ reads
+ReadsFor a before dir reads reads' = ReadsProject before dir (script_read a reads) reads'
+
+-- all of them, but for help, which reads nothing
+abbrev pub ReadsAll : Result Asked UsageFault → Option Content → ℕ → ℕ → Type 0
+ReadsAll (Err fault) before reads reads' = reads' ≡ reads
+ReadsAll (Ok a) before reads reads' = ReadsFor a.action before a.dir reads reads'
