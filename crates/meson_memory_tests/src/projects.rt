@@ -1,0 +1,203 @@
+//! Projects: loaded, copied, asked and changed.
+
+use crate::rows::Row;
+use crate::trial::{Call, Fault, Wrong, each_growth_refused};
+use meson_listing::{info_kwargs, info_target};
+use meson_plan::{CallRef, Done, LoadFault, Project, Refusal, Role, Sources, Unloaded};
+use meson_script::Script;
+use meson_splice::FileSet;
+use serde_json::Value;
+use std::alloc::Global;
+use std::mem;
+
+impl Fault for Refusal {
+    fn is_want(&self) -> bool {
+        matches!(self, Refusal::OutOfMemory)
+    }
+}
+
+impl Fault for LoadFault {
+    fn is_want(&self) -> bool {
+        matches!(self, LoadFault::OutOfMemory)
+    }
+}
+
+enum Load {}
+
+impl Call for Load {
+    type Given = FileSet;
+
+    type Value = Project;
+
+    type Fault = LoadFault;
+
+    fn given(alloc: Global, row: Row<'_>) -> Option<FileSet> {
+        row.files(alloc)
+    }
+
+    fn make(alloc: Global, given: &mut FileSet) -> Result<Project, LoadFault> {
+        let files = mem::replace(given, FileSet::new(alloc));
+        match Project::load(alloc, files) {
+            Ok(project) => Ok(project),
+            Err(Unloaded { files, fault }) => {
+                *given = files;
+                Err(fault)
+            }
+        }
+    }
+}
+
+enum CopyProject {}
+
+impl Call for CopyProject {
+    type Given = Project;
+
+    type Value = Project;
+
+    type Fault = Refusal;
+
+    fn given(alloc: Global, row: Row<'_>) -> Option<Project> {
+        row.project(alloc)
+    }
+
+    fn make(alloc: Global, given: &mut Project) -> Result<Project, Refusal> {
+        given.copy(alloc)
+    }
+}
+
+/// A project, and its first target if it has one.
+#[derive(Debug, Drop)]
+struct Asking {
+    project: Project,
+    target: Option<CallRef>,
+}
+
+enum AskSources {}
+
+impl Call for AskSources {
+    type Given = Asking;
+
+    type Value = Sources;
+
+    type Fault = Refusal;
+
+    fn given(alloc: Global, row: Row<'_>) -> Option<Asking> {
+        let project = row.project(alloc)?;
+        let target = project.targets(alloc).ok()?.pop();
+        Some(Asking { project, target })
+    }
+
+    fn make(alloc: Global, given: &mut Asking) -> Result<Sources, Refusal> {
+        match &given.target {
+            Some(target) if given.project.is_target(target) => given.project.sources(alloc, target),
+            _ => Err(Refusal::NotFound),
+        }
+    }
+}
+
+/// A project, and a script for it.
+#[derive(Debug, Drop)]
+struct Performing {
+    project: Project,
+    script: Script,
+}
+
+enum Perform {}
+
+impl Call for Perform {
+    type Given = Performing;
+
+    type Value = Done;
+
+    type Fault = Refusal;
+
+    fn given(alloc: Global, row: Row<'_>) -> Option<Performing> {
+        Some(Performing {
+            project: row.project(alloc)?,
+            script: row.script(alloc)?,
+        })
+    }
+
+    fn make(alloc: Global, given: &mut Performing) -> Result<Done, Refusal> {
+        match given.script.commands.get().first() {
+            Some(command) => given.project.perform(alloc, command),
+            None => Err(Refusal::NotFound),
+        }
+    }
+}
+
+/// A project, and the id of a target.
+#[derive(Debug, Drop)]
+struct Naming {
+    project: Project,
+    id: String,
+}
+
+enum ListTarget {}
+
+impl Call for ListTarget {
+    type Given = Naming;
+
+    type Value = Value;
+
+    type Fault = Refusal;
+
+    fn given(alloc: Global, row: Row<'_>) -> Option<Naming> {
+        Some(Naming {
+            project: row.project(alloc)?,
+            id: String::from_str(alloc, row.target).ok()?,
+        })
+    }
+
+    fn make(alloc: Global, given: &mut Naming) -> Result<Value, Refusal> {
+        info_target(alloc, &given.project, given.id.as_str())
+    }
+}
+
+enum ListKeywords {}
+
+impl Call for ListKeywords {
+    type Given = Project;
+
+    type Value = Value;
+
+    type Fault = Refusal;
+
+    fn given(alloc: Global, row: Row<'_>) -> Option<Project> {
+        row.project(alloc)
+    }
+
+    fn make(alloc: Global, given: &mut Project) -> Result<Value, Refusal> {
+        info_kwargs(alloc, given, Role::Project, "/")
+    }
+}
+
+#[test]
+fn loads(rt: HostRuntime) -> Result<(), Wrong> {
+    each_growth_refused::<Load>(rt.alloc())
+}
+
+#[test]
+fn copies(rt: HostRuntime) -> Result<(), Wrong> {
+    each_growth_refused::<CopyProject>(rt.alloc())
+}
+
+#[test]
+fn tells_sources(rt: HostRuntime) -> Result<(), Wrong> {
+    each_growth_refused::<AskSources>(rt.alloc())
+}
+
+#[test]
+fn performs(rt: HostRuntime) -> Result<(), Wrong> {
+    each_growth_refused::<Perform>(rt.alloc())
+}
+
+#[test]
+fn lists_a_target(rt: HostRuntime) -> Result<(), Wrong> {
+    each_growth_refused::<ListTarget>(rt.alloc())
+}
+
+#[test]
+fn lists_keywords(rt: HostRuntime) -> Result<(), Wrong> {
+    each_growth_refused::<ListKeywords>(rt.alloc())
+}

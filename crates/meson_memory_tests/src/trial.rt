@@ -1,0 +1,143 @@
+//! A call that is made again and again, with another growth refused each time.
+
+use crate::refusing::{Refusal, refuse, was_refused};
+use crate::rows::{Row, rows};
+use std::alloc::Global;
+use std::fmt::Debug;
+
+/// More than any call here grows.
+const MOST: u32 = 100_000;
+
+/// Why a call was refused.
+pub trait Fault: Debug + Drop {
+    /// Whether memory ran out.
+    fn is_want(&self) -> bool;
+}
+
+/// A call, and what it is given.
+pub trait Call {
+    /// All of it that the call can change is shown.
+    type Given: Debug + Drop;
+
+    type Value: Debug + Drop;
+
+    type Fault: Fault;
+
+    /// What the call is given, made anew of a row.
+    fn given(alloc: Global, row: Row<'_>) -> Option<Self::Given>;
+
+    fn make(alloc: Global, given: &mut Self::Given) -> Result<Self::Value, Self::Fault>;
+}
+
+/// A value as programmers see it.
+fn shown<T: Debug>(alloc: Global, value: &T) -> Option<String> {
+    format!(in alloc; "{value:?}").ok()
+}
+
+/// What came of a call.
+#[derive(Debug, Drop)]
+struct Trial {
+    refusal: Refusal,
+    /// What the call was given, before and after it.
+    before: String,
+    after: String,
+    answer: String,
+    /// The call said that memory ran out.
+    is_want: bool,
+    was_refused: bool,
+}
+
+/// A call that was wrong, beside the same with ample memory; none where it could not be made.
+#[derive(Debug, Drop)]
+pub struct Wrong {
+    row: u32,
+    ample: Option<Trial>,
+    trial: Option<Trial>,
+}
+
+/// Makes a call with this growth refused.
+fn tried<C: Call>(alloc: Global, row: Row<'_>, refusal: Refusal) -> Option<Trial> {
+    let mut given = C::given(alloc, row)?;
+    let before = shown(alloc, &given)?;
+    refuse(alloc, refusal);
+    let answer = C::make(alloc, &mut given);
+    let was_refused = was_refused(alloc);
+    let is_want = match &answer {
+        Ok(_) => false,
+        Err(fault) => fault.is_want(),
+    };
+    Some(Trial {
+        refusal,
+        before,
+        after: shown(alloc, &given)?,
+        answer: shown(alloc, &answer)?,
+        is_want,
+        was_refused,
+    })
+}
+
+/// Whether a call was right: it came to what it comes to with ample memory, or it said that memory ran out where a growth was
+/// refused, and left all as it was.
+fn is_right(trial: &Trial, ample: &Trial) -> bool {
+    if trial.is_want {
+        trial.was_refused && trial.after.as_str() == trial.before.as_str()
+    } else {
+        trial.answer.as_str() == ample.answer.as_str()
+            && trial.after.as_str() == ample.after.as_str()
+    }
+}
+
+/// Makes the call of a row with each growth refused, alone and with all after it, until one meets none. Gives the first
+/// that is wrong.
+fn wrong_of_row<C: Call>(alloc: Global, row: Row<'_>, ample: &Trial) -> Option<Trial> {
+    for number in 2..MOST {
+        let refusal = Refusal {
+            first: number / 2,
+            is_lasting: number % 2 == 1,
+        };
+        let trial = tried::<C>(alloc, row, refusal)?;
+        if !is_right(&trial, ample) || number == MOST - 1 {
+            return Some(trial);
+        }
+        if !trial.was_refused {
+            return None;
+        }
+    }
+    None
+}
+
+/// Makes the call of each row with each growth refused in turn.
+///
+/// # Errors
+/// The first call that was wrong.
+pub fn each_growth_refused<C: Call>(alloc: Global) -> Result<(), Wrong> {
+    let mut row = 0u32;
+    let Some(rows) = rows(alloc) else {
+        return Err(Wrong {
+            row,
+            ample: None,
+            trial: None,
+        });
+    };
+    for each in rows {
+        row = row.saturating_add(1);
+        let ample = tried::<C>(alloc, each, Refusal::NONE);
+        match &ample {
+            Some(whole) if !whole.is_want => {
+                if let Some(trial) = wrong_of_row::<C>(alloc, each, whole) {
+                    return Err(Wrong {
+                        row,
+                        ample,
+                        trial: Some(trial),
+                    });
+                }
+            }
+            _ => return Err(Wrong {
+                row,
+                ample,
+                trial: None,
+            }),
+        }
+    }
+    Ok(())
+}
