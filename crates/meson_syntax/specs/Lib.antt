@@ -23,4 +23,6 @@ pub mod Lines
 pub mod ReadsList
 pub mod Messages
 pub mod Laws
+pub mod LendsInside
+pub mod LendsItems
 pub mod formers

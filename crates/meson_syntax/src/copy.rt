@@ -2,12 +2,12 @@
 
 ghost use Rattle.std.specs.Prelude.{◌≡◌, IfErr, IfOk};
 
+use crate::boxed::Boxed;
 use crate::fault::ParseFault;
 use crate::many::Many;
 use crate::operator::UnaryOperator;
 use crate::tree::{Arg, Block, Branch, Expr, List, Operand, Parsed, Stmt, Tail};
 use meson_lex::Span;
-use sqlite_items::Boxed;
 use std::alloc::{AllocError, Global};
 
 impl Parsed {

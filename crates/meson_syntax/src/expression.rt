@@ -6,11 +6,11 @@ ghost use Rattle.meson_syntax.specs.Nests.{Follows, Nests, Runs};
 ghost use Rattle.meson_syntax.specs.Reading as spec;
 ghost use Rattle.meson_syntax.specs.View.{expr_view};
 
+use crate::boxed::Boxed;
 use crate::fault::ParseFault;
 use crate::grammar::{Cursor, Grammar};
 use crate::tree::Expr;
 use meson_lex::Kind;
-use sqlite_items::Boxed;
 use std::alloc::Global;
 
 /// The level of the loosest rows.

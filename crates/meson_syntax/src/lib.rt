@@ -2,6 +2,7 @@
 #![tactic(auto)]
 
 mod block;
+mod boxed;
 mod copy;
 mod expression;
 mod fault;
@@ -23,6 +24,7 @@ mod tail;
 mod token;
 mod tree;
 
+pub use boxed::Boxed;
 pub use fault::ParseFault;
 pub use file::{parse, parse_wide, parse_within};
 pub use list_text::parse_list;
@@ -30,5 +32,4 @@ pub use many::Many;
 pub use operator::{Assignment, Bracket, Operator, StringKind, UnaryOperator};
 pub use path::Path;
 pub use source::{Limits, MAX_LEN};
-pub use sqlite_items::Boxed;
 pub use tree::{Arg, Block, Branch, Expr, List, Operand, Parsed, Stmt, Tail};

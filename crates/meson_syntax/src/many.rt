@@ -1,6 +1,8 @@
 //! A list that owns its elements.
 
 ghost use Rattle.std.specs.Prelude.{◌≡◌, ◌++◌, ◌∷◌, [], OnOk, OnErr};
+ghost use Rattle.std.specs.Borrow.{sem};
+ghost use Rattle.meson_syntax.specs.LendsItems.{LendsItems};
 
 use std::alloc::{AllocError, Global};
 use std::marker::Model;
@@ -35,6 +37,14 @@ impl<T> Many<T> {
         ensures { result.now ≡ self.now }
     {
         self.vec.as_slice()
+    }
+
+    /// The elements, lent for writing.
+    pub fn get_mut(&mut self) -> &mut [T]
+        ensures* writes_back { sem 𝓛 (LendsItems T.row self.entry result) }
+        ensures value { result.now ≡ self.old }
+    {
+        self.vec.as_mut_slice()
     }
 
     /// The elements, given back as a vector without memory.

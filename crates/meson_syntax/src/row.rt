@@ -8,13 +8,13 @@ ghost use Rattle.meson_syntax.specs.Reading as spec;
 ghost use Rattle.meson_syntax.specs.Rows.{operands, row_with};
 ghost use Rattle.meson_syntax.specs.View.{expr_view, operand_view, operands_view};
 
+use crate::boxed::Boxed;
 use crate::fault::ParseFault;
 use crate::grammar::{Cursor, Grammar};
 use crate::many::Many;
 use crate::operator::{Operator, UnaryOperator};
 use crate::tree::{Expr, Operand};
 use meson_lex::{Kind, Span};
-use sqlite_items::Boxed;
 use std::alloc::{AllocError, Global};
 
 /// The level of the rows that go on with a token of this kind, the tightest first; 0 of none.

@@ -8,13 +8,13 @@ ghost use Rattle.meson_syntax.specs.Nests.{Follows, Nests};
 ghost use Rattle.meson_syntax.specs.Reading as spec;
 ghost use Rattle.meson_syntax.specs.View.{expr_view, tail_view, tails_view};
 
+use crate::boxed::Boxed;
 use crate::fault::ParseFault;
 use crate::grammar::{Cursor, Grammar};
 use crate::many::Many;
 use crate::operator::Bracket;
 use crate::tree::{Expr, Tail};
 use meson_lex::{Kind, Span};
-use sqlite_items::Boxed;
 use std::alloc::{AllocError, Global};
 
 impl<'a, F> Grammar<'a, F> {

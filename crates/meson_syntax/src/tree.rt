@@ -2,10 +2,10 @@
 //!
 //! The rules are those of the Syntax page of the Meson manual.
 
+use crate::boxed::Boxed;
 use crate::many::Many;
 use crate::operator::{Assignment, Operator, StringKind, UnaryOperator};
 use meson_lex::Span;
-use sqlite_items::Boxed;
 
 /// An expression.
 #[cycle(tree)]

@@ -1,0 +1,52 @@
+//! A value in memory of its own.
+
+ghost use Rattle.std.specs.Prelude.{◌≡◌, IfOk};
+ghost use Rattle.std.specs.Borrow.{sem};
+ghost use Rattle.meson_syntax.specs.LendsInside.{LendsInside};
+
+use std::alloc::{AllocError, Global};
+use std::marker::Model;
+
+/// A `Box` that contracts see as its value, so that a tree made of such boxes is plain data.
+#[derive(Debug, Drop)]
+pub struct Boxed<T> {
+    inner: Box<T>,
+}
+
+impl<T> Model for Boxed<T> {
+    ghost use Rattle.std.specs.Prelude.{◌≡◌};
+
+    ghost Value = { T };
+
+    ghost coded = { T.code };
+
+    ghost view = { λ b. b.inner.value };
+}
+
+impl<T> Boxed<T> {
+    /// The value, lent.
+    pub fn get(&self) -> &T
+        ensures { result.now ≡ self.now }
+    {
+        &self.inner
+    }
+
+    /// The value, lent for writing.
+    pub fn get_mut(&mut self) -> &mut T
+        ensures* writes_back { sem 𝓛 (LendsInside T.row self.entry result) }
+        ensures value { result.now ≡ self.old }
+    {
+        self.inner.as_mut()
+    }
+}
+
+impl<T: Drop> Boxed<T> {
+    /// A value put into memory of its own, unless memory is refused.
+    pub fn new(alloc: Global, value: T) -> Result<Boxed<T>, AllocError>
+        ensures { IfOk result (λ b. b ≡ value) }
+    {
+        Ok(Boxed {
+            inner: Box::new(alloc, value)?,
+        })
+    }
+}
