@@ -7,12 +7,12 @@ use Rattle.meson_syntax.specs.declared.tree.Arg.TheFolds.{the_lemmas}
 use Rattle.meson_syntax.specs.declared.tree.Expr.{Expr}
 use Rattle.meson_syntax.specs.Paths.{nth}
 use Rattle.meson_syntax.specs.Tree.{plain, named}
-use Rattle.meson_syntax.specs.View.{arg_view, args_view, expr_view, text_at}
+use Rattle.meson_syntax.specs.View.{arg_view, args_view, expr_view, name_at}
 
 pub plain_view : (source : List ℕ) (e : Expr) → arg_view source (arg.Plain e) ≡ plain (expr_view source e)
 plain_view source e = search (rules, the_lemmas)
 
-pub named_view : (source : List ℕ) (s x : Span) (e : Expr) → arg_view source (arg.Named s x e) ≡ named s (text_at source x) (expr_view source e)
+pub named_view : (source : List ℕ) (s x : Span) (e : Expr) → arg_view source (arg.Named s x e) ≡ named s (name_at source x) (expr_view source e)
 named_view source s x e = search (rules, the_lemmas)
 
 pub nth_there : (source : List ℕ) (args : List Arg) (n : ℕ) (d : Arg) → n < length args → nth (args_view source args) n ≡ Some (arg_view source (get_or args n d))

@@ -5,7 +5,7 @@ use Rattle.meson_lex.specs.declared.kinds.Span.{Span}
 use Rattle.meson_splice.specs.Patch.{then_ok}
 use Rattle.meson_syntax.specs.declared.operator.Assignment.TheVariants as assignment
 use Rattle.meson_syntax.specs.declared.operator.Bracket.TheVariants as bracket
-use Rattle.meson_syntax.specs.Tree.{Expression, call, Statement, assign}
+use Rattle.meson_syntax.specs.Tree.{Name, Expression, call, Statement, assign}
 use Rattle.meson_syntax.specs.Paths.{ListIn, list_in}
 use Rattle.meson_syntax.proofs.paths.Every.{Every}
 use Rattle.meson_calls.specs.declared.call.Role.{Role}
@@ -67,12 +67,12 @@ SetAt p x = expression_at p (child x.place 0) ≡ Some x.it
 set_at : (p : Project Span) (x : List ℕ) (q : Placed (Part Span)) (e : Expression Span) → InProject 0 p q → part_set_to x q.it ≡ Some e → SetAt p (placed q.place e)
 set_at p x q e i is = go q.it refl is
   where
-    given : (s : Span) (y : List ℕ) (f : Expression Span) (b : Bool) → q.it ≡ part.a_statement (assign s y assignment.Set f) → (if b then Some f else None) ≡ Some e → SetAt p (placed q.place e)
+    given : (s : Span) (y : Name Span) (f : Expression Span) (b : Bool) → q.it ≡ part.a_statement (assign s y assignment.Set f) → (if b then Some f else None) ≡ Some e → SetAt p (placed q.place e)
     given s y f true same k = let here : f ≡ e = cc in assigned_stands p q s y assignment.Set f i same ∙ ap Some here
     given s y f false same k = absurd cc
 
     stated : (s : Statement Span) → q.it ≡ part.a_statement s → set_to x s ≡ Some e → SetAt p (placed q.place e)
-    stated (assign s y assignment.Set f) same k = given s y f (bytes_eq y x) same k
+    stated (assign s y assignment.Set f) same k = given s y f (bytes_eq y.text x) same k
     stated _ same k = absurd cc
 
     go : (y : Part Span) → q.it ≡ y → part_set_to x y ≡ Some e → SetAt p (placed q.place e)
@@ -129,7 +129,7 @@ record RoundList (e : Expression Span) (c : Call Span) : Type 0 where
 
 round_list : (e : Expression Span) (c : Call Span) → call_of e ≡ Some c → RoundList e c
 round_list (call s f l) c h =
-    let same : record { function = f; arguments = l } ≡ c = cc in
+    let same : record { function = f.text; arguments = l } ≡ c = cc in
     record { list = _; is_list = refl; same = ap (λ (k : Call Span). k.arguments) same; is_round = refl }
 round_list _ c h = absurd cc
 

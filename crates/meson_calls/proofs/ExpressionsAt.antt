@@ -3,7 +3,7 @@ use Rattle.std.proofs.Common.{◌≡◌, ℕ, ◌+◌, List, [], ◌∷◌, ◌+
 use Rattle.std.specs.Prelude.{option_and_then}
 use Rattle.meson_lex.specs.declared.kinds.Span.{Span}
 use Rattle.meson_syntax.specs.declared.operator.Assignment.{Assignment}
-use Rattle.meson_syntax.specs.Tree.{Expression, assign}
+use Rattle.meson_syntax.specs.Tree.{Name, Expression, assign}
 use Rattle.meson_syntax.specs.Parts.{an_expression, a_statement, a_block, expression_parts, node_at, expression_any}
 use Rattle.meson_syntax.specs.Paths.{Sort, of_expression, of_statement, of_block, Node, reach, expression_of, nth, ListAt, ListIn, list_at, list_in, list_within, list_of_node, block_of}
 use Rattle.meson_syntax.specs.Paths as paths
@@ -53,6 +53,6 @@ pub expression_stands : (p : Project Span) (q : Placed (Part Span)) (e : Express
 expression_stands p q e i is = node_expression p q.place i.file e (part_file p q i) (i.is_node ∙ ap (λ x. Some (any x)) is)
 
 -- the value of an assignment stands at its first child
-pub assigned_stands : (p : Project Span) (q : Placed (Part Span)) (s : Span) (x : List ℕ) (a : Assignment) (e : Expression Span) → InProject 0 p q → q.it ≡ part.a_statement (assign s x a e) → expression_at p (child q.place 0) ≡ Some e
+pub assigned_stands : (p : Project Span) (q : Placed (Part Span)) (s : Span) (x : Name Span) (a : Assignment) (e : Expression Span) → InProject 0 p q → q.it ≡ part.a_statement (assign s x a e) → expression_at p (child q.place 0) ≡ Some e
 assigned_stands p q s x a e i is =
     node_expression p (child q.place 0) i.file e (part_file p q i) (node_below Span (a_block (block_of i.file.tree)) q.place.path.steps (a_statement (assign s x a e)) 0 (i.is_node ∙ ap (λ y. Some (any y)) is))

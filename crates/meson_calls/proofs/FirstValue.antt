@@ -6,8 +6,8 @@ use Rattle.meson_syntax.specs.declared.tree.Arg.{Arg}
 use Rattle.meson_syntax.specs.declared.tree.Arg.TheVariants as arg
 use Rattle.meson_syntax.specs.declared.tree.Arg.TheFolds.{the_lemmas}
 use Rattle.meson_syntax.specs.declared.tree.Expr.{Expr}
-use Rattle.meson_syntax.specs.Tree.{Expression, plain, named, pair}
-use Rattle.meson_syntax.specs.View.{arg_view, expr_view, text_at}
+use Rattle.meson_syntax.specs.Tree.{Name, Expression, plain, named, pair}
+use Rattle.meson_syntax.specs.View.{arg_view, expr_view, name_at}
 use Rattle.meson_syntax.proofs.parsing.Steps.{some-injective}
 use Rattle.meson_calls.specs.Calls.{value_with_name}
 use Rattle.meson_calls.proofs.ArgumentViews.{nth_there, named_view, plain_view}
@@ -20,8 +20,8 @@ use Rattle.meson_calls.proofs.Nested.{good_arg}
 pair_view : (source : List ℕ) (s : Span) (k v : Expr) → arg_view source (arg.Pair s k v) ≡ pair s (expr_view source k) (expr_view source v)
 pair_view source s k v = search (rules, the_lemmas)
 
-of_named : (key : List ℕ) (s : Span) (x : List ℕ) (e v : Expression Span) → value_with_name key (named s x e) ≡ Some v → v ≡ e
-of_named key s x e v is = go (bytes_eq x key) is
+of_named : (key : List ℕ) (s : Span) (x : Name Span) (e v : Expression Span) → value_with_name key (named s x e) ≡ Some v → v ≡ e
+of_named key s x e v is = go (bytes_eq x.text key) is
   where
     go : (b : Bool) → (if b then Some e else None) ≡ Some v → v ≡ e
     go true h = sym (some-injective _ _ h)
@@ -33,7 +33,7 @@ module _ (source key : List ℕ) (args : List Arg) (n : ℕ) (d : Arg) (within :
 
   pub value_is : (s x : Span) (e : Expr) → get_or args n d ≡ arg.Named s x e → first.value ≡ expr_view source e
   value_is s x e is =
-      of_named key s (text_at source x) (expr_view source e) first.value
+      of_named key s (name_at source x) (expr_view source e) first.value
       (ap (value_with_name key) (sym (ap (arg_view source) is ∙ named_view source s x e) ∙ element_is) ∙ first.is_value)
 
   plain_view_at : (e : Expr) → get_or args n d ≡ arg.Plain e → plain (expr_view source e) ≡ first.element

@@ -59,7 +59,7 @@ module _ (is_list : Expression Span → Bool) (follow : List ℕ → List (List 
   gives_by (string at_ q x) s f = gives_literal at_ s f (value (string_kind q) x)
   gives_by (array l) s f = gives_within s.place (expand_listing is_list follow l s f)
   gives_by (call at_ x l) s f =
-      gives_if (is_files x l) (within s.place (expand_listing is_list follow l s f)) (met opaque f) (gives_within s.place (expand_listing is_list follow l s f)) (λ is. cc)
+      gives_if (is_files x.text l) (within s.place (expand_listing is_list follow l s f)) (met opaque f) (gives_within s.place (expand_listing is_list follow l s f)) (λ is. cc)
   gives_by (identifier at_ x) s f = gives_if (one_of f x) (met opaque f) (follow x f) (λ is. cc) (some x f)
   gives_by (boolean at_ b) s f = λ is. cc
   gives_by (integer at_ x) s f = λ is. cc

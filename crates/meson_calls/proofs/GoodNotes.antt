@@ -9,7 +9,7 @@ use Rattle.meson_syntax.specs.declared.tree.Expr.TheVariants as expr
 use Rattle.meson_syntax.specs.declared.tree.List as rust
 use Rattle.meson_syntax.specs.declared.tree.Arg.TheFolds.{the_lemmas}
 use Rattle.meson_syntax.specs.Tree.{call, assign, iteration, erase}
-use Rattle.meson_syntax.specs.View.{text_at, expr_view, list_view, view}
+use Rattle.meson_syntax.specs.View.{name_at, expr_view, list_view, view}
 use Rattle.meson_syntax.specs.Reads.{IsSpanned}
 use Rattle.meson_syntax.proofs.parsing.FileErased.{file-words-erased}
 use Rattle.meson_calls.specs.declared.note.Note as code
@@ -22,7 +22,7 @@ use Rattle.meson_calls.specs.Strings.{AreGood, PartsGood, NotesGood, note_words,
 use Rattle.meson_calls.proofs.GoodParts.{file_good}
 use Rattle.meson_calls.proofs.GoodTexts.{text_good}
 
-pub call_view : (source : List ℕ) (s x : Span) (l : rust.List) → expr_view source (expr.Call s x l) ≡ call s (text_at source x) (list_view source l)
+pub call_view : (source : List ℕ) (s x : Span) (l : rust.List) → expr_view source (expr.Call s x l) ≡ call s (name_at source x) (list_view source l)
 call_view source s x l = search (rules, the_lemmas)
 
 pub good_at : (ns : List code.Note) (i : ℕ) (d : code.Note) → i < length ns → NotesGood (note_views ns) → AreGood (note_words (note_view (get_or ns i d)).it)

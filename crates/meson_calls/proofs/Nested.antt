@@ -13,7 +13,7 @@ use Rattle.meson_syntax.specs.declared.tree.Operand.{Operand}
 use Rattle.meson_syntax.specs.declared.tree.List as rust
 use Rattle.meson_syntax.specs.Tree.{array, call, Listing, listing, plain, Arguments, no_arguments, argument, arguments_of, operands_of}
 use Rattle.meson_syntax.specs.Grammar.{mark, operator_words, expression_words, operands_words, argument_words, arguments_words, comma_words, listing_words}
-use Rattle.meson_syntax.specs.View.{text_at, expr_view, list_view, arg_view, args_view, operand_view, operands_view}
+use Rattle.meson_syntax.specs.View.{name_at, expr_view, list_view, arg_view, args_view, operand_view, operands_view}
 use Rattle.meson_calls.specs.Noted.{rank, operands_rank, argument_rank, arguments_rank, listing_rank}
 use Rattle.meson_calls.specs.Strings.{AreGood}
 use Rattle.meson_calls.specs.GoodLists.{GoodArguments, GoodListing, GoodArgs}
@@ -37,7 +37,7 @@ module _ (source : List ℕ) where
   pub array_view : (l : rust.List) → expr_view source (expr.Array l) ≡ array (list_view source l)
   array_view l = search (rules, the_lemmas)
 
-  pub call_view : (s x : Span) (l : rust.List) → expr_view source (expr.Call s x l) ≡ call s (text_at source x) (list_view source l)
+  pub call_view : (s x : Span) (l : rust.List) → expr_view source (expr.Call s x l) ≡ call s (name_at source x) (list_view source l)
   call_view s x l = search (rules, the_lemmas)
 
   pub plain_view : (e : Expr) → arg_view source (arg.Plain e) ≡ plain (expr_view source e)

@@ -4,7 +4,7 @@ use Rattle.std.specs.Prelude.{Bool, true, false, ◌&&◌, bytes_eq, if◌then�
 use Rattle.std.specs.List.{cons_option}
 use Rattle.std.proofs.lemmas.List.{append_assoc, append-nil, at_drop_more, at_drop_all}
 use Rattle.meson_lex.specs.declared.kinds.Span.{Span}
-use Rattle.meson_syntax.specs.Tree.{Expression, Statement, evaluate, assign, selection, iteration, breaks, continues}
+use Rattle.meson_syntax.specs.Tree.{Name, Expression, Statement, evaluate, assign, selection, iteration, breaks, continues}
 use Rattle.meson_syntax.specs.declared.operator.Assignment.TheVariants as assignment
 use Rattle.meson_calls.specs.declared.call.CallRef.{CallRef}
 use Rattle.meson_calls.specs.declared.call.Role.{Role}
@@ -133,10 +133,10 @@ module _ (r : Role) (id : List ℕ) where
   picked_value true n ns = refl
   picked_value false n ns = refl
 
-  set_step : (s : Span) (y : List ℕ) (e : Expression Span) (p : CallRef) (ns : List (Placed (Note Span))) (ps : List (Placed (Part Span))) → assigned_places r id ns ≡ chosen_values ps →
-      (if bytes_eq y id && is_role_call r (call_of e) then child p 0 ∷ assigned_places r id ns else assigned_places r id ns) ≡ chosen_values (placed p (a_statement (assign s y assignment.Set e)) ∷ ps)
+  set_step : (s : Span) (y : Name Span) (e : Expression Span) (p : CallRef) (ns : List (Placed (Note Span))) (ps : List (Placed (Part Span))) → assigned_places r id ns ≡ chosen_values ps →
+      (if bytes_eq y.text id && is_role_call r (call_of e) then child p 0 ∷ assigned_places r id ns else assigned_places r id ns) ≡ chosen_values (placed p (a_statement (assign s y assignment.Set e)) ∷ ps)
   unfolding chosen_values
-  set_step s y e p ns ps rest = go (bytes_eq y id)
+  set_step s y e p ns ps rest = go (bytes_eq y.text id)
     where
       go : (b : Bool) → (if b && is_role_call r (call_of e) then child p 0 ∷ assigned_places r id ns else assigned_places r id ns)
           ≡ places (all_chosen (with_role r) (all_chosen call_of (map value_of_assignment (cons_option (option_map (placed p) (if b then Some e else None)) (all_chosen (part_set_to id) ps)))))
@@ -153,7 +153,7 @@ module _ (r : Role) (id : List ℕ) where
   assigned_step (an_expression e) p ns ps rest = expression_step (call_of e) p ns ∙ rest
   assigned_step (a_statement (evaluate e)) p ns ps rest = rest
   assigned_step (a_statement (assign s y assignment.Set e)) p ns ps rest =
-      picked_value (bytes_eq y id && is_role_call r (call_of e)) (placed p (an_assignment y true e)) ns ∙ set_step s y e p ns ps rest
+      picked_value (bytes_eq y.text id && is_role_call r (call_of e)) (placed p (an_assignment y.text true e)) ns ∙ set_step s y e p ns ps rest
   assigned_step (a_statement (assign s y assignment.Add e)) p ns ps rest = rest
   assigned_step (a_statement (selection s bs o)) p ns ps rest = rest
   assigned_step (a_statement (iteration s xs e b)) p ns ps rest = rest

@@ -9,8 +9,7 @@ use Rattle.meson_calls.specs.declared.call.CallRef.{CallRef}
 use Rattle.meson_calls.specs.Project.{Project, child, Placed, placed}
 use Rattle.meson_calls.specs.Parts.{Part, an_expression, a_statement, parts}
 use Rattle.meson_calls.specs.Calls.{Call, call_of, part_call, all_chosen}
-use Rattle.meson_calls.specs.Roles.{one_of}
-use Rattle.meson_calls.specs.Variables.{Assigned, part_assigned, assignments, is_outermost, only_value, is_iterated, sets_variable, all_known, single}
+use Rattle.meson_calls.specs.Variables.{Assigned, part_assigned, assignments, is_outermost, only_value, is_iterated, sets_variable, all_known, single, one_of_names}
 use Rattle.meson_calls.specs.Notes.{Note, a_call, an_assignment, a_loop, note_of, noted, notes}
 use Rattle.meson_calls.specs.Noted.{assigned_notes, is_set_by, rank, note_rank, notes_rank}
 use Rattle.meson_calls.specs.Strings.{AreGood, NotesGood}
@@ -63,7 +62,7 @@ module _ (x : List ℕ) where
   part_sets (a_statement (assign s y a e)) p ps cs ns rest = rest
   part_sets (a_statement (selection s bs o)) p ps cs ns rest = rest
   part_sets (a_statement (iteration s ys e b)) p ps cs ns rest =
-      regroup (one_of ys x) (list_any (λ q. is_iterated x q.it) ps) (list_any (λ d. sets_variable x d.it) cs) ∙ ap (λ t. one_of ys x || t) rest
+      regroup (one_of_names ys x) (list_any (λ q. is_iterated x q.it) ps) (list_any (λ d. sets_variable x d.it) cs) ∙ ap (λ t. one_of_names ys x || t) rest
   part_sets (a_statement (breaks s)) p ps cs ns rest = rest
   part_sets (a_statement (continues s)) p ps cs ns rest = rest
 

@@ -9,7 +9,7 @@ use Rattle.meson_syntax.specs.declared.tree.Stmt.{Stmt}
 use Rattle.meson_syntax.specs.declared.tree.Stmt.TheVariants as stmt
 use Rattle.meson_syntax.specs.declared.tree.Stmt.TheFolds.{the_lemmas}
 use Rattle.meson_syntax.specs.Tree.{Statement, evaluate, assign, selection, iteration, breaks, continues, branches_of, statements_of}
-use Rattle.meson_syntax.specs.View.{texts_at, expr_view, stmt_view, stmts_view, block_view, branch_view, branches_view}
+use Rattle.meson_syntax.specs.View.{names_at, expr_view, stmt_view, stmts_view, block_view, branch_view, branches_view}
 use Rattle.meson_calls.specs.declared.call.CallRef.{CallRef}
 use Rattle.meson_calls.specs.Project.{Placed, placed, child}
 use Rattle.meson_calls.specs.Parts.{Part, a_statement, statement_parts, statements_parts, branches_parts, branches_children}
@@ -21,7 +21,7 @@ module _ (source : List ℕ) where
   if_view s bs (Some b) = search (rules, the_lemmas)
 
   pub foreach_view : (s : Span) (names : List Span) (items : Expr) (body : rust_block.Block) →
-      stmt_view source (stmt.Foreach s names items body) ≡ iteration s (texts_at source names) (expr_view source items) (block_view source body)
+      stmt_view source (stmt.Foreach s names items body) ≡ iteration s (names_at source names) (expr_view source items) (block_view source body)
   foreach_view s names items body = search (rules, the_lemmas)
 
   pub branch_condition : (b : Branch) → (branch_view source b).0 ≡ expr_view source b.condition

@@ -14,7 +14,7 @@ pub record Call (S : Type 0) : Type 0 where
   pub arguments : Listing S
 
 abbrev pub call_of : {S : Type 0} → Expression S → Option (Call S)
-call_of (call s f l) = Some (record { function = f; arguments = l })
+call_of (call s f l) = Some (record { function = f.text; arguments = l })
 call_of _ = None
 
 abbrev pub part_call : {S : Type 0} → Part S → Option (Call S)
@@ -52,7 +52,7 @@ value_without_name (pair s e f) = None
 
 abbrev pub value_with_name : {S : Type 0} → List ℕ → Argument S → Option (Expression S)
 value_with_name key (plain e) = None
-value_with_name key (named s x e) = if bytes_eq x key then Some e else None
+value_with_name key (named s x e) = if bytes_eq x.text key then Some e else None
 value_with_name key (pair s e f) = None
 
 abbrev pub kept_number : {X Y : Type 0} → (X → Option Y) → Numbered X → Option (Numbered Y)

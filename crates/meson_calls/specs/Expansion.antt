@@ -97,14 +97,14 @@ are_plus (operand o e more) = is_plus o && are_plus more
 -- a list, or a variable that holds one
 abbrev pub is_operand_by : {S : Type 0} → (List ℕ → Bool) → Expression S → Bool
 is_operand_by holds (array l) = true
-is_operand_by holds (call at_ f l) = is_files f l
+is_operand_by holds (call at_ f l) = is_files f.text l
 is_operand_by holds (identifier at_ x) = holds x
 is_operand_by holds _ = false
 
 -- the value of a variable that holds a list: a list, or a sum that begins with one
 abbrev pub is_value_by : {S : Type 0} → (Expression S → Bool) → Expression S → Bool
 is_value_by is_list (array l) = true
-is_value_by is_list (call at_ f l) = is_files f l
+is_value_by is_list (call at_ f l) = is_files f.text l
 is_value_by is_list (row at_ e os) = are_plus os && is_list e
 is_value_by is_list _ = false
 
@@ -137,7 +137,7 @@ module _ {S : Type 0} (is_list : Expression S → Bool) (follow : List ℕ → L
     pub expand_by : Expression S → Stand → List (List ℕ) → Expansion S
     expand_by (string at_ q x) s followed = literal_item at_ s followed (value (string_kind q) x)
     expand_by (array l) s followed = within s.place (expand_listing l s followed)
-    expand_by (call at_ f l) s followed = if is_files f l then within s.place (expand_listing l s followed) else met opaque followed
+    expand_by (call at_ f l) s followed = if is_files f.text l then within s.place (expand_listing l s followed) else met opaque followed
     expand_by (identifier at_ x) s followed = if one_of followed x then met opaque followed else follow x followed
     expand_by (row at_ e os) s followed =
         if are_plus os && is_list e then and_then (expand_by e (operand_at s 0) followed) (λ now. expand_operands os 1 s now) else met opaque followed

@@ -4,8 +4,7 @@ use Rattle.std.specs.List.{list_any}
 use Rattle.meson_syntax.specs.Tree.{Expression, array, call, row, Operands, no_operands, operand, Listing, listing, Argument, plain, Arguments, no_arguments, argument}
 use Rattle.meson_calls.specs.Project.{Placed}
 use Rattle.meson_calls.specs.Calls.{all_chosen}
-use Rattle.meson_calls.specs.Roles.{one_of}
-use Rattle.meson_calls.specs.Variables.{Assigned, sets_variable}
+use Rattle.meson_calls.specs.Variables.{Assigned, one_of_names, sets_variable}
 use Rattle.meson_calls.specs.Notes.{Note, a_call, an_assignment, a_loop}
 
 -- a note of an assignment to a variable
@@ -21,7 +20,7 @@ assigned_notes x ns = all_chosen (note_assigned x) ns
 abbrev pub note_sets : {S : Type 0} → List ℕ → Note S → Bool
 note_sets x (a_call c) = sets_variable x c
 note_sets x (an_assignment y sets e) = false
-note_sets x (a_loop xs) = one_of xs x
+note_sets x (a_loop xs) = one_of_names xs x
 
 abbrev pub is_set_by : {S : Type 0} → List ℕ → List (Placed (Note S)) → Bool
 is_set_by x ns = list_any (λ n. note_sets x n.it) ns

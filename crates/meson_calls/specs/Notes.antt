@@ -1,8 +1,8 @@
 -- What all commands look at: the calls, assignments and loops of a project, with their places.
 use Rattle.std.specs.Prelude.{ℕ, Bool, List, map, Option, Some, None, option_map}
 use Rattle.meson_lex.specs.declared.kinds.Span.{Span}
-use Rattle.meson_syntax.specs.Tree.{Expression, Statement, evaluate, assign, selection, iteration, breaks, continues}
-use Rattle.meson_syntax.specs.View.{text_at, texts_at, expr_view, list_view}
+use Rattle.meson_syntax.specs.Tree.{Name, Expression, Statement, evaluate, assign, selection, iteration, breaks, continues}
+use Rattle.meson_syntax.specs.View.{text_at, names_at, expr_view, list_view}
 use Rattle.meson_calls.specs.declared.note.Note as code
 use Rattle.meson_calls.specs.declared.note.What.{What}
 use Rattle.meson_calls.specs.declared.note.What.TheVariants as what
@@ -15,11 +15,11 @@ pub data Note (S : Type 0) : Type 0 where
   a_call : Call S → Note S
   -- a variable, whether it is set, and the value
   an_assignment : List ℕ → Bool → Expression S → Note S
-  a_loop : List (List ℕ) → Note S
+  a_loop : List (Name S) → Note S
 
 abbrev pub statement_note : {S : Type 0} → Statement S → Option (Note S)
 statement_note (evaluate e) = None
-statement_note (assign s x a e) = Some (an_assignment x (is_set a) e)
+statement_note (assign s x a e) = Some (an_assignment x.text (is_set a) e)
 statement_note (selection s bs o) = None
 statement_note (iteration s xs e b) = Some (a_loop xs)
 statement_note (breaks s) = None
@@ -40,7 +40,7 @@ notes p = noted (parts p)
 abbrev pub what_view : List ℕ → What → Note Span
 what_view source (what.Call f l) = a_call (record { function = text_at source f; arguments = list_view source l.now })
 what_view source (what.Assign x sets e) = an_assignment (text_at source x) sets (expr_view source e.now)
-what_view source (what.Loop xs) = a_loop (texts_at source xs.now)
+what_view source (what.Loop xs) = a_loop (names_at source xs.now)
 
 abbrev pub note_view : code.Note → Placed (Note Span)
 note_view n = placed n.place (what_view n.source.now n.what)

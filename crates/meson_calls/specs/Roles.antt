@@ -50,7 +50,7 @@ is_target p at_ = is_target_call (expression_at p at_)
 
 -- what a name is assigned with `=`
 abbrev pub set_to : {S : Type 0} → List ℕ → Statement S → Option (Expression S)
-set_to x (assign s y assignment.Set e) = if bytes_eq y x then Some e else None
+set_to x (assign s y assignment.Set e) = if bytes_eq y.text x then Some e else None
 set_to x _ = None
 
 abbrev pub part_set_to : {S : Type 0} → List ℕ → Part S → Option (Expression S)

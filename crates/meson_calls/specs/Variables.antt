@@ -4,11 +4,10 @@ use Rattle.std.specs.Prelude.{ℕ, Bool, true, false, not, ◌&&◌, ◌||◌, L
 use Rattle.std.specs.List.{list_any}
 use Rattle.meson_syntax.specs.declared.operator.Assignment.{Assignment}
 use Rattle.meson_syntax.specs.declared.operator.Assignment.TheVariants as assignment
-use Rattle.meson_syntax.specs.Tree.{Expression, Statement, assign, iteration}
+use Rattle.meson_syntax.specs.Tree.{Name, Expression, Statement, assign, iteration}
 use Rattle.meson_calls.specs.Project.{Project, nth_file, child, Placed, placed}
 use Rattle.meson_calls.specs.Parts.{Part, an_expression, a_statement, parts}
 use Rattle.meson_calls.specs.Calls.{Call, all_chosen, calls, first_literal, is}
-use Rattle.meson_calls.specs.Roles.{one_of}
 use Rattle.meson_calls.specs.Directories.{file_in}
 
 -- ---- assignments
@@ -23,7 +22,7 @@ is_set assignment.Set = true
 is_set assignment.Add = false
 
 abbrev pub assigned_by : {S : Type 0} → List ℕ → Statement S → Option (Assigned S)
-assigned_by x (assign s y a e) = if bytes_eq y x then Some (record { value = e; sets = is_set a }) else None
+assigned_by x (assign s y a e) = if bytes_eq y.text x then Some (record { value = e; sets = is_set a }) else None
 assigned_by x _ = None
 
 abbrev pub part_assigned : {S : Type 0} → List ℕ → Part S → Option (Assigned S)
@@ -48,9 +47,12 @@ only_value (a ∷ b ∷ more) = None
 
 -- ---- what else sets a variable
 
+abbrev pub one_of_names : {S : Type 0} → List (Name S) → List ℕ → Bool
+one_of_names names x = list_any (λ name. bytes_eq name.text x) names
+
 abbrev pub is_iterated : {S : Type 0} → List ℕ → Part S → Bool
 is_iterated x (an_expression e) = false
-is_iterated x (a_statement (iteration s xs e b)) = one_of xs x
+is_iterated x (a_statement (iteration s xs e b)) = one_of_names xs x
 is_iterated x (a_statement s) = false
 
 abbrev pub calls_function : {S : Type 0} → List ℕ → Call S → Bool

@@ -3,13 +3,12 @@
 ghost use Rattle.std.specs.Prelude.{◌≡◌, IfOk};
 ghost use Rattle.meson_syntax.specs.Grammar.{listing_words};
 ghost use Rattle.meson_syntax.specs.declared.operator.Bracket.TheVariants as bracket;
-ghost use Rattle.meson_syntax.specs.View.{text_at, texts_at, list_view};
+ghost use Rattle.meson_syntax.specs.View.{names_at, text_at, list_view};
 ghost use Rattle.meson_calls.specs.Notes.{note_view, note_views};
 ghost use Rattle.meson_calls.specs.Noted.{note_sets, is_set_by};
 ghost use Rattle.meson_calls.specs.Picking.{call_with};
-ghost use Rattle.meson_calls.specs.Roles.{one_of};
 ghost use Rattle.meson_calls.specs.Strings.{AreGood, NotesGood, note_words};
-ghost use Rattle.meson_calls.specs.Variables.{sets_variable};
+ghost use Rattle.meson_calls.specs.Variables.{one_of_names, sets_variable};
 
 use crate::literals::first_literal;
 use crate::note::{Note, What};
@@ -20,7 +19,7 @@ use std::alloc::{AllocError, Global};
 
 /// Whether a text is one of some spans'.
 pub fn one_of(source: &[u8], spans: &[Span], name: &[u8]) -> bool
-    ensures { result ≡ one_of (texts_at source.now spans.now) name.now }
+    ensures { result ≡ one_of_names (names_at source.now spans.now) name.now }
 {
     for i in 0..spans.len() {
         if text_of(source, spans[i]) == name {

@@ -37,7 +37,7 @@ module _ (key : List ℕ) where
   named_erased n (plain e ∷ xs) = named_erased (n + 1) xs
   named_erased n (pair s e f ∷ xs) = named_erased (n + 1) xs
   named_erased n (named s x e ∷ xs) =
-      one_named n e (bytes_eq x key) (filter_map (kept_number (value_with_name key)) (numbered (n + 1) (arguments_of (map erase_argument xs))))
+      one_named n e (bytes_eq x.text key) (filter_map (kept_number (value_with_name key)) (numbered (n + 1) (arguments_of (map erase_argument xs))))
       (filter_map (kept_number (value_with_name key)) (numbered (n + 1) (arguments_of xs))) (named_erased (n + 1) xs)
 
   -- what is made of the one value, or of none

@@ -2,7 +2,7 @@
 use Rattle.std.proofs.Common.{◌≡◌, ℕ, suc, ◌+◌, true, false, List, [], ◌∷◌, Some, None, refl, sym, ap, ◌∙◌, arith}
 use Rattle.std.specs.Prelude.{Bool, if◌then◌else◌, bytes_eq, option_map}
 use Rattle.std.specs.List.{filter_map, cons_option}
-use Rattle.meson_syntax.specs.Tree.{Nowhere, Expression, Argument, plain, named, pair, arguments_of}
+use Rattle.meson_syntax.specs.Tree.{Name, Nowhere, Expression, Argument, plain, named, pair, arguments_of}
 use Rattle.meson_syntax.specs.Paths.{nth, value_of}
 use Rattle.meson_calls.specs.Calls.{Numbered, numbered, kept_number, value_with_name}
 use Rattle.meson_keywords.specs.KeywordEdits.{keyword_in}
@@ -23,7 +23,7 @@ module _ (key : List ℕ) where
   abbrev named_from : List (Argument Nowhere) → ℕ → List (Numbered (Expression Nowhere))
   named_from xs n = filter_map (kept_number (value_with_name key)) (numbered n (arguments_of xs))
 
-  by_name : (s : Nowhere) (x : List ℕ) (e : Expression Nowhere) (xs : List (Argument Nowhere)) (n : ℕ) (v : Numbered (Expression Nowhere)) (more : List (Numbered (Expression Nowhere))) (b : Bool)
+  by_name : (s : Nowhere) (x : Name Nowhere) (e : Expression Nowhere) (xs : List (Argument Nowhere)) (n : ℕ) (v : Numbered (Expression Nowhere)) (more : List (Numbered (Expression Nowhere))) (b : Bool)
       → cons_option (option_map (λ y. record { number = n; value = y }) (if b then Some e else None)) (named_from xs (n + 1)) ≡ v ∷ more
       → (named_from xs (n + 1) ≡ v ∷ more → NamedThere xs (n + 1) v) → NamedThere (named s x e ∷ xs) n v
   by_name s x e xs n v more true is later =
@@ -36,7 +36,7 @@ module _ (key : List ℕ) where
   named_there : (xs : List (Argument Nowhere)) (n : ℕ) (v : Numbered (Expression Nowhere)) (more : List (Numbered (Expression Nowhere))) → named_from xs n ≡ v ∷ more → NamedThere xs n v
   named_there [] n v more is = absurd cc
   named_there (plain e ∷ xs) n v more is = one_behind (plain e) xs n v (named_there xs (n + 1) v more is)
-  named_there (named s x e ∷ xs) n v more is = by_name s x e xs n v more (bytes_eq x key) is (λ h. named_there xs (n + 1) v more h)
+  named_there (named s x e ∷ xs) n v more is = by_name s x e xs n v more (bytes_eq x.text key) is (λ h. named_there xs (n + 1) v more h)
   named_there (pair s k e ∷ xs) n v more is = one_behind (pair s k e) xs n v (named_there xs (n + 1) v more is)
 
 pub record ValueThere (xs : List (Argument Nowhere)) (v : Numbered (Expression Nowhere)) : Type 0 where

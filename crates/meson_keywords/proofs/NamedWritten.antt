@@ -12,7 +12,7 @@ use Rattle.meson_lex.specs.Words.{IsTight, speaks}
 use Rattle.meson_layout.specs.Looks as look
 use Rattle.meson_layout.specs.Pieces.{space}
 use Rattle.meson_layout.proofs.FirstBytes.{no_blank_first, some_text}
-use Rattle.meson_syntax.specs.Tree.{Nowhere, Expression, named}
+use Rattle.meson_syntax.specs.Tree.{bare as bare_name, Nowhere, Expression, named}
 use Rattle.meson_syntax.specs.Grammar.{argument_words, expression_words}
 use Rattle.meson_edit.specs.Places.{IsWritten}
 use Rattle.meson_keywords.proofs.WrittenElements.{word_return}
@@ -53,7 +53,7 @@ colon_text = (codes ": ", (refl, refl))
 key_stands : (key rest : List ℕ) → IsIdentifier key → IsItem (key_item key) (58 ∷ rest)
 key_stands key rest is = (is, word_return key is.0, (refl, λ same. refl))
 
-pub named_written : (key bytes : List ℕ) (node : Expression Nowhere) → IsIdentifier key → IsUtf8 key → IsWritten bytes (expression_words node) → IsWritten (key ++ (codes ": " ++ bytes)) (argument_words (named tt key node))
+pub named_written : (key bytes : List ℕ) (node : Expression Nowhere) → IsIdentifier key → IsUtf8 key → IsWritten bytes (expression_words node) → IsWritten (key ++ (codes ": " ++ bytes)) (argument_words (named tt (bare_name key) node))
 named_written key bytes node is utf8 w =
     let t : IsTight w.items = w.is_new.tight in
     let each = subst (λ l. AreItems l []) t.begins w.is_new.are_items.each in

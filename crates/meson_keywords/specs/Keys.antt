@@ -5,7 +5,7 @@ use Rattle.meson_lex.specs.Bytes.{is_word_start, is_word_byte}
 use Rattle.meson_lex.specs.Kinds.{spelling, reserved}
 use Rattle.meson_lex.specs.Literals.{literal}
 use Rattle.meson_splice.specs.Patch.{then_ok}
-use Rattle.meson_syntax.specs.Tree.{Nowhere, Expression, identifier, boolean, Argument, plain, named}
+use Rattle.meson_syntax.specs.Tree.{bare as bare_name, Nowhere, Expression, identifier, boolean, Argument, plain, named}
 use Rattle.meson_edit.specs.Edits.{Written}
 use Rattle.meson_calls.specs.declared.call.Role.{Role}
 use Rattle.meson_calls.specs.declared.call.Role.TheVariants as role
@@ -94,7 +94,7 @@ written_switch b = record { bytes = truth b; node = boolean tt b }
 
 -- `KEY: VALUE`
 abbrev pub written_named : List ℕ → Written (Expression Nowhere) → Written (Argument Nowhere)
-written_named key new = record { bytes = key ++ (codes ": " ++ new.bytes); node = named tt key new.node }
+written_named key new = record { bytes = key ++ (codes ": " ++ new.bytes); node = named tt (bare_name key) new.node }
 
 -- ---- the values of a command
 

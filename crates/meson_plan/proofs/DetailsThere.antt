@@ -3,7 +3,7 @@ use Rattle.std.proofs.Common.{◌≡◌, ◌≢◌, ℕ, List, Option, Some, ref
 use Rattle.std.specs.Prelude.{Result, Ok, Err, IfOk, IfErr, option_map, option_and_then}
 use Rattle.meson_lex.specs.declared.kinds.Span.{Span}
 use Rattle.meson_splice.specs.Files.{bytes_at}
-use Rattle.meson_syntax.specs.Tree.{Listing, call}
+use Rattle.meson_syntax.specs.Tree.{Name, Listing, call}
 use Rattle.meson_calls.specs.declared.call.CallRef.{CallRef}
 use Rattle.meson_calls.specs.declared.call.Role.{Role}
 use Rattle.meson_calls.specs.declared.refusal.Refusal.{Refusal}
@@ -33,9 +33,9 @@ pub placed_same : (found : Result (Placed (Call Span)) Refusal) → placed_at fo
 placed_same (Ok c) = refl
 placed_same (Err e) = refl
 
-module _ (c : CallRef) (s : Span) (f : List ℕ) (l : Listing Span) where
-  pub extra_there : (p : Project Span) → expression_at p c ≡ Some (call s f l) → extra_files p c ≡ Some (extra_of_call p (placed c (call_with f l)))
+module _ (c : CallRef) (s : Span) (f : Name Span) (l : Listing Span) where
+  pub extra_there : (p : Project Span) → expression_at p c ≡ Some (call s f l) → extra_files p c ≡ Some (extra_of_call p (placed c (call_with f.text l)))
   extra_there p is = ap (λ o. option_map (extra_of_call p) (option_map (placed c) (option_and_then call_of o))) is
 
-  pub keywords_there : (old : Loaded) (r : Role) → expression_at (project old) c ≡ Some (call s f l) → keywords old r c ≡ Some (keywords_of_call (bytes_at c.file old.files) r (call_with f l))
+  pub keywords_there : (old : Loaded) (r : Role) → expression_at (project old) c ≡ Some (call s f l) → keywords old r c ≡ Some (keywords_of_call (bytes_at c.file old.files) r (call_with f.text l))
   keywords_there old r is = ap (λ o. option_map (λ (found : Placed (Call Span)). keywords_of_call (bytes_at c.file old.files) r found.it) (option_map (placed c) (option_and_then call_of o))) is

@@ -41,7 +41,7 @@ is_hidden c = is_some (first (keyword kwargs_key c))
 
 -- the offset of the first byte, the function, whether arguments are hidden, and the text of the first argument without a name, if that is a literal
 abbrev pub head_of : Expression Span → Option Head
-head_of (call s f l) = Some (record { at = s.from; function = f; hidden = is_hidden (call_with f l); name = first_literal (call_with f l) })
+head_of (call s f l) = Some (record { at = s.from; function = f.text; hidden = is_hidden (call_with f.text l); name = first_literal (call_with f.text l) })
 head_of _ = None
 
 abbrev pub head : Project Span → CallRef → Option Head
@@ -90,7 +90,7 @@ shown_value source e = shown.Opaque (source_text source e)
 
 abbrev pub shown_argument : List ℕ → Role → Argument Span → Option (List ℕ × Shown)
 shown_argument source r (plain e) = None
-shown_argument source r (named s x e) = if is_key r x then Some (x, shown_value source e) else None
+shown_argument source r (named s x e) = if is_key r x.text then Some (x.text, shown_value source e) else None
 shown_argument source r (pair s e f) = None
 
 -- those that commands change, in the call's order, each of which may be there once only

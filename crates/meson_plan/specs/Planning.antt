@@ -30,7 +30,7 @@ target_told c = then_ok (only_once sources_key c) (λ _. then_ok (only_once extr
 
 abbrev pub name_in : {S : Type 0} → Argument S → Option (List ℕ)
 name_in (plain e) = None
-name_in (named s x e) = Some x
+name_in (named s x e) = Some x.text
 name_in (pair s e f) = None
 
 abbrev pub key_told : {S : Type 0} → Role → Call S → List ℕ → Result (Unit {0}) Refusal

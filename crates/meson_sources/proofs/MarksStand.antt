@@ -120,7 +120,7 @@ module _ (p : Project Span) (levels : AreLevel p) where
       expression_met (array l) s followed h =
           within_met p s.place (array l) _ h.is_at refl (expand_listing lists follow l s followed).marks (listing_met l s followed (elements_stand s.place (array l) _ h.is_at refl))
       expression_met (call at f l) s followed h =
-          call_met (is_files f l) s.place (expand_listing lists follow l s followed) followed
+          call_met (is_files f.text l) s.place (expand_listing lists follow l s followed) followed
           (within_met p s.place (call at f l) _ h.is_at refl (expand_listing lists follow l s followed).marks (listing_met l s followed (elements_stand s.place (call at f l) _ h.is_at refl)))
       expression_met (identifier at x) s followed h = variable_met (one_of followed x) x followed
       expression_met (row at e os) s followed h =

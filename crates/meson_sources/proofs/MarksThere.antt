@@ -3,7 +3,7 @@ use Rattle.std.proofs.Common.{◌≡◌, ℕ, zero, suc, List, [], ◌∷◌, Op
 use Rattle.std.specs.Prelude.{Bool, true, false, not, ◌&&◌, if◌then◌else◌, bytes_eq}
 use Rattle.meson_lex.specs.declared.kinds.Span.{Span}
 use Rattle.meson_syntax.specs.declared.operator.Assignment.{Assignment}
-use Rattle.meson_syntax.specs.Tree.{Expression, Statement, assign}
+use Rattle.meson_syntax.specs.Tree.{Name, Expression, Statement, assign}
 use Rattle.meson_syntax.proofs.paths.Every.{Every, every-append}
 use Rattle.meson_calls.specs.declared.call.CallRef.{CallRef}
 use Rattle.meson_calls.specs.Calls.{Numbered}
@@ -27,12 +27,12 @@ AssignedAt p a = expression_at p (child a.place 0) ≡ Some a.it.value
 assigned_at : (p : Project Span) (x : List ℕ) (q : Placed (Part Span)) (v : Assigned Span) → InProject 0 p q → part_assigned x q.it ≡ Some v → AssignedAt p (placed q.place v)
 assigned_at p x q v i is = go q.it refl is
   where
-    given : (s : Span) (y : List ℕ) (a : Assignment) (e : Expression Span) (b : Bool) → q.it ≡ part.a_statement (assign s y a e) → (if b then Some (record { value = e; sets = is_set a }) else None) ≡ Some v → AssignedAt p (placed q.place v)
+    given : (s : Span) (y : Name Span) (a : Assignment) (e : Expression Span) (b : Bool) → q.it ≡ part.a_statement (assign s y a e) → (if b then Some (record { value = e; sets = is_set a }) else None) ≡ Some v → AssignedAt p (placed q.place v)
     given s y a e true same k = let here : record { value = e; sets = is_set a } ≡ v = cc in assigned_stands p q s y a e i same ∙ ap (λ (w : Assigned Span). Some w.value) here
     given s y a e false same k = absurd cc
 
     stated : (s : Statement Span) → q.it ≡ part.a_statement s → assigned_by x s ≡ Some v → AssignedAt p (placed q.place v)
-    stated (assign s y a e) same k = given s y a e (bytes_eq y x) same k
+    stated (assign s y a e) same k = given s y a e (bytes_eq y.text x) same k
     stated _ same k = absurd cc
 
     go : (y : Part Span) → q.it ≡ y → part_assigned x y ≡ Some v → AssignedAt p (placed q.place v)

@@ -3,7 +3,7 @@ use Rattle.std.proofs.Common.{◌≡◌, ℕ, suc, ◌+◌, true, false, List, �
 use Rattle.std.specs.Prelude.{Bool, if◌then◌else◌, bytes_eq, option_map}
 use Rattle.std.specs.List.{filter_map, cons_option}
 use Rattle.meson_lex.specs.declared.kinds.Span.{Span}
-use Rattle.meson_syntax.specs.Tree.{Expression, Listing, listing, Argument, plain, named, pair, Arguments, no_arguments, argument, argument_list}
+use Rattle.meson_syntax.specs.Tree.{Name, Expression, Listing, listing, Argument, plain, named, pair, Arguments, no_arguments, argument, argument_list}
 use Rattle.meson_syntax.specs.Paths.{nth, value_of}
 use Rattle.meson_edit.specs.Edits.{elements}
 use Rattle.meson_calls.specs.Calls.{Call, Numbered, numbered, kept_number, value_with_name, keyword}
@@ -24,7 +24,7 @@ module _ (key : List ℕ) where
   abbrev named_from : Arguments Span → ℕ → List (Numbered (Expression Span))
   named_from list n = filter_map (kept_number (value_with_name key)) (numbered n list)
 
-  by_name : (s : Span) (x : List ℕ) (e : Expression Span) (list : Arguments Span) (n : ℕ) (v : Numbered (Expression Span)) (more : List (Numbered (Expression Span))) (b : Bool)
+  by_name : (s : Span) (x : Name Span) (e : Expression Span) (list : Arguments Span) (n : ℕ) (v : Numbered (Expression Span)) (more : List (Numbered (Expression Span))) (b : Bool)
       → cons_option (option_map (λ y. record { number = n; value = y }) (if b then Some e else None)) (named_from list (n + 1)) ≡ v ∷ more
       → (named_from list (n + 1) ≡ v ∷ more → NamedThere list (n + 1) v) → NamedThere (argument (named s x e) list) n v
   by_name s x e list n v more true is later =
@@ -37,7 +37,7 @@ module _ (key : List ℕ) where
   named_there : (list : Arguments Span) (n : ℕ) (v : Numbered (Expression Span)) (more : List (Numbered (Expression Span))) → named_from list n ≡ v ∷ more → NamedThere list n v
   named_there no_arguments n v more is = absurd cc
   named_there (argument (plain e) list) n v more is = one_behind (plain e) list n v (named_there list (n + 1) v more is)
-  named_there (argument (named s x e) list) n v more is = by_name s x e list n v more (bytes_eq x key) is (λ h. named_there list (n + 1) v more h)
+  named_there (argument (named s x e) list) n v more is = by_name s x e list n v more (bytes_eq x.text key) is (λ h. named_there list (n + 1) v more h)
   named_there (argument (pair s k e) list) n v more is = one_behind (pair s k e) list n v (named_there list (n + 1) v more is)
 
 pub record ValueThere (l : Listing Span) (v : Numbered (Expression Span)) : Type 0 where

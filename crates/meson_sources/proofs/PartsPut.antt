@@ -122,13 +122,13 @@ module _ (S : Type 0) where
 
   tail_count : (t : Tail S) → length (tail_children t) ≡ length (tail_parts t)
   tail_count (method s x (listing r trailing list)) =
-      length-around (mark k.Dot ++ (k.Identifier, x) ∷ []) [] (method s x) (listing_children (listing r trailing list) bracket.Round)
+      length-around (mark k.Dot ++ (k.Identifier, x.text) ∷ []) [] (method s x) (listing_children (listing r trailing list) bracket.Round)
       ∙ length-around (mark (opens bracket.Round)) (mark (closes bracket.Round)) (listing r trailing) (arguments_children list trailing) ∙ arguments_count list trailing
   tail_count (index s e) = refl
 
   tail_puts : (t : Tail S) → EveryAt (Puts (Tail S) tail_parts t) 0 (tail_children t)
   tail_puts (method s x l) =
-      part_puts (Listing S) (Tail S) listing_parts tail_parts l (mark k.Dot ++ (k.Identifier, x) ∷ []) [] (method s x) [] [] (λ z. append-nil _)
+      part_puts (Listing S) (Tail S) listing_parts tail_parts l (mark k.Dot ++ (k.Identifier, x.text) ∷ []) [] (method s x) [] [] (λ z. append-nil _)
       0 0 refl (listing_children l bracket.Round) (listing_puts l bracket.Round)
   tail_puts (index s e) = (λ y. here, tt)
 
@@ -159,7 +159,7 @@ module _ (S : Type 0) where
   expression_puts (paren s e) = (λ y. here, tt)
   expression_puts (array l) = lists_put l bracket.Square [] array (λ z. refl)
   expression_puts (dictionary l) = lists_put l bracket.Curly [] dictionary (λ z. refl)
-  expression_puts (call s x l) = lists_put l bracket.Round ((k.Identifier, x) ∷ []) (call s x) (λ z. refl)
+  expression_puts (call s x l) = lists_put l bracket.Round ((k.Identifier, x.text) ∷ []) (call s x) (λ z. refl)
   expression_puts (unary s o e) = (λ y. here, tt)
   expression_puts (row s e os) = (
     λ y. here,

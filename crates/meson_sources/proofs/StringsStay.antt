@@ -99,7 +99,7 @@ module _ (S : Type 0) where
 
   expressions_stay : (e : Expression S) → Every (StaysAmong of_expression e) (expression_children e)
   expressions_stay (array l) = some_list l bracket.Square [] array (λ z. refl)
-  expressions_stay (call s x l) = some_list l bracket.Round ((k.Identifier, x) ∷ []) (call s x) (λ z. refl)
+  expressions_stay (call s x l) = some_list l bracket.Round ((k.Identifier, x.text) ∷ []) (call s x) (λ z. refl)
   expressions_stay e = no_list of_expression e refl
 
   pub children_stay : (sort : Sort) (x : Node sort S) → Every (StaysAmong sort x) (children S sort x)

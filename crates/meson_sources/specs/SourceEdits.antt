@@ -4,7 +4,7 @@ use Rattle.std.specs.Prelude.{ℕ, zero, suc, ◌-◌, Bool, true, false, not, �
 use Rattle.std.specs.List.{filter, list_any}
 use Rattle.meson_lex.specs.Literals.{literal}
 use Rattle.meson_splice.specs.Patch.{then_ok}
-use Rattle.meson_syntax.specs.Tree.{Nowhere, Expression, array, listing, Argument, plain, named, pair, arguments_of}
+use Rattle.meson_syntax.specs.Tree.{bare as bare_name, Nowhere, Expression, array, listing, Argument, plain, named, pair, arguments_of}
 use Rattle.meson_syntax.specs.Paths.{ListIn, list_in}
 use Rattle.meson_edit.specs.Edits.{Written, First, After, Remove, Wrap, elements}
 use Rattle.meson_calls.specs.declared.call.CallRef.{CallRef}
@@ -171,7 +171,7 @@ array_with name = array (listing tt false (arguments_of (plain (string_of name) 
 
 -- `extra_files: ['NAME']`
 abbrev pub written_keyword : List ℕ → Written (Argument Nowhere)
-written_keyword name = record { bytes = extra_key ++ (codes ": [" ++ (literal name ++ 93 ∷ [])); node = named tt extra_key (array_with name) }
+written_keyword name = record { bytes = extra_key ++ (codes ": [" ++ (literal name ++ 93 ∷ [])); node = named tt (bare_name extra_key) (array_with name) }
 
 -- the first into a new list, and the others behind it
 abbrev pub into_new_list : {S : Type 0} → Project S → CallRef → List (List ℕ) → List Step

@@ -25,7 +25,7 @@ named_span source s x e = ap (λ a. option_map expression_span (value_of a)) (na
 -- the value of an argument of a name
 pub named_value : (key : List ℕ) (a : Argument Span) (v : Expression Span) → value_with_name key a ≡ Some v → value_of a ≡ Some v
 named_value key (plain e) v is = absurd cc
-named_value key (named s x e) v is = go (bytes_eq x key) is
+named_value key (named s x e) v is = go (bytes_eq x.text key) is
   where
     go : (b : Bool) → (if b then Some e else None) ≡ Some v → Some e ≡ Some v
     go true h = h

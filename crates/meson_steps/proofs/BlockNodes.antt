@@ -59,7 +59,7 @@ module _ (S : Type 0) where
 
   tail-insides : (t : Tail S) → insides (tail_children t) ≡ tail_parts t
   unfolding inside_of insides
-  tail-insides (method s x l) = insides-around (mark k.Dot ++ (k.Identifier, x) ∷ []) [] (method s x) (listing_children l bracket.Round) ∙ listing-insides l bracket.Round
+  tail-insides (method s x l) = insides-around (mark k.Dot ++ (k.Identifier, x.text) ∷ []) [] (method s x) (listing_children l bracket.Round) ∙ listing-insides l bracket.Round
   tail-insides (index s e) = refl
 
   tails-insides : (ts : Tails S) → insides (tails_children ts) ≡ tails_parts ts
@@ -78,7 +78,7 @@ module _ (S : Type 0) where
   expression-insides (paren s e) = refl
   expression-insides (array l) = insides-around [] [] array (listing_children l bracket.Square) ∙ listing-insides l bracket.Square
   expression-insides (dictionary l) = insides-around [] [] dictionary (listing_children l bracket.Curly) ∙ listing-insides l bracket.Curly
-  expression-insides (call s x l) = insides-around ((k.Identifier, x) ∷ []) [] (call s x) (listing_children l bracket.Round) ∙ listing-insides l bracket.Round
+  expression-insides (call s x l) = insides-around ((k.Identifier, x.text) ∷ []) [] (call s x) (listing_children l bracket.Round) ∙ listing-insides l bracket.Round
   expression-insides (unary s o e) = refl
   expression-insides (row s e os) = ap (λ l. an_expression e ∷ l) (insides-around (expression_words e) [] (row s e) (operands_children os) ∙ operands-insides os)
   expression-insides (postfix s e ts) = ap (λ l. an_expression e ∷ l) (insides-around (expression_words e) [] (postfix s e) (tails_children ts) ∙ tails-insides ts)

@@ -5,7 +5,7 @@ use Rattle.meson_lex.specs.declared.kinds.Kind.TheVariants as k
 use Rattle.meson_lex.specs.declared.kinds.Span.{Span}
 use Rattle.meson_lex.specs.Located.{Token}
 use Rattle.meson_syntax.specs.declared.operator.StringKind.TheVariants as quotes
-use Rattle.meson_syntax.specs.Input.{Input, Parser, and_then, from, kind, left, next, sees, span_from, spelling}
+use Rattle.meson_syntax.specs.Input.{Input, Parser, and_then, from, kind, left, name_next, next, sees, span_from, spelling}
 use Rattle.meson_syntax.specs.Reading.{answered, chosen, identified, number, postfixed, primary, quoted, row_at, row_of, tails, tails_from, truth, unaried, unary_by, unary_of, with_tails}
 use Rattle.meson_syntax.specs.Rows.{row_with}
 use Rattle.meson_syntax.specs.Alone.{begins_alone, ends_expression, is_alone, is_single, tailed}
@@ -60,7 +60,7 @@ module _ (room : Bool) (inner : Parser (Expression Span)) where
 
   -- a token that is an expression, where no bracket follows
   primary-single : (κ : Kind) (i : Input) → is_single κ ≡ true → kind i ≡ Some κ → sees k.OpenRound (next i) ≡ false → (e : Expression Span) × (primary room inner i ≡ Some (e, next i))
-  unfolding primary identified truth number quoted
+  unfolding primary identified truth number quoted name_next
   primary-single k.Identifier i single is closed = (identifier (span_from (from i) (next i)) (spelling i), simp (is, closed))
   primary-single k.WordTrue i single is closed = (boolean (span_from (from i) (next i)) true, simp is)
   primary-single k.WordFalse i single is closed = (boolean (span_from (from i) (next i)) false, simp is)

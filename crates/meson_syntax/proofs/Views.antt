@@ -6,7 +6,7 @@ use Rattle.meson_syntax.specs.declared.tree.Branch.{Branch}
 use Rattle.meson_syntax.specs.declared.tree.Operand.{Operand}
 use Rattle.meson_syntax.specs.declared.tree.Stmt.{Stmt}
 use Rattle.meson_syntax.specs.declared.tree.Tail as rust
-use Rattle.meson_syntax.specs.View.{arg_view, args_view, branch_view, branches_view, operand_view, operands_view, stmt_view, stmts_view, tail_view, tails_view, text_at, texts_at}
+use Rattle.meson_syntax.specs.View.{arg_view, args_view, branch_view, branches_view, operand_view, operands_view, stmt_view, stmts_view, tail_view, tails_view, name_at, names_at}
 
 map-push : {A B : Type 0} (f : A → B) (xs : List A) (x : A) → map f (xs ++ x ∷ []) ≡ map f xs ++ f x ∷ []
 map-push f [] x = refl
@@ -27,5 +27,5 @@ stmts_view-push source xs x = map-push (stmt_view source) xs x
 pub branches_view-push : (source : List ℕ) (xs : List Branch) (x : Branch) → branches_view source (xs ++ x ∷ []) ≡ branches_view source xs ++ branch_view source x ∷ []
 branches_view-push source xs x = map-push (branch_view source) xs x
 
-pub texts_at-push : (source : List ℕ) (xs : List Span) (x : Span) → texts_at source (xs ++ x ∷ []) ≡ texts_at source xs ++ text_at source x ∷ []
-texts_at-push source xs x = map-push (text_at source) xs x
+pub names_at-push : (source : List ℕ) (xs : List Span) (x : Span) → names_at source (xs ++ x ∷ []) ≡ names_at source xs ++ name_at source x ∷ []
+names_at-push source xs x = map-push (name_at source) xs x

@@ -8,7 +8,7 @@ use Rattle.meson_syntax.specs.declared.operator.Operator.{Operator}
 use Rattle.meson_syntax.specs.declared.operator.Bracket.{Bracket}
 use Rattle.meson_syntax.specs.declared.operator.Bracket.TheVariants as bracket
 use Rattle.meson_syntax.specs.Operators.{operator_kind, operator_rest, unary_kind, string_kind, boolean_kind, assignment_kind, opens, closes, holds_values, holds_names, holds_pairs, level}
-use Rattle.meson_syntax.specs.Tree.{Expression, identifier, boolean, integer, string, paren, array, dictionary, call, unary, row, postfix, conditional, Operands, no_operands, operand, Tail, method, index, Tails, no_tails, tail, Listing, listing, Argument, plain, named, pair, is_named, Arguments, no_arguments, argument, Statement, evaluate, assign, selection, iteration, breaks, continues, Branches, no_branches, branch, Otherwise, nothing_else, otherwise, Statements, no_statements, statement, Block, block, File, file}
+use Rattle.meson_syntax.specs.Tree.{Name, Expression, identifier, boolean, integer, string, paren, array, dictionary, call, unary, row, postfix, conditional, Operands, no_operands, operand, Tail, method, index, Tails, no_tails, tail, Listing, listing, Argument, plain, named, pair, is_named, Arguments, no_arguments, argument, Statement, evaluate, assign, selection, iteration, breaks, continues, Branches, no_branches, branch, Otherwise, nothing_else, otherwise, Statements, no_statements, statement, Block, block, File, file}
 
 -- ---- words
 
@@ -16,13 +16,13 @@ abbrev pub mark : Kind → List Word
 mark κ = (κ, []) ∷ []
 
 -- names with commas between them
-abbrev pub more_names_words : List (List ℕ) → List Word
+abbrev pub more_names_words : {S : Type 0} → List (Name S) → List Word
 more_names_words [] = []
-more_names_words (x ∷ xs) = mark k.Comma ++ ((k.Identifier, x) ∷ more_names_words xs)
+more_names_words (x ∷ xs) = mark k.Comma ++ ((k.Identifier, x.text) ∷ more_names_words xs)
 
-abbrev pub names_words : List (List ℕ) → List Word
+abbrev pub names_words : {S : Type 0} → List (Name S) → List Word
 names_words [] = []
-names_words (x ∷ xs) = (k.Identifier, x) ∷ more_names_words xs
+names_words (x ∷ xs) = (k.Identifier, x.text) ∷ more_names_words xs
 
 abbrev pub comma_words : {S : Type 0} → Arguments S → Bool → List Word
 comma_words no_arguments true = mark k.Comma
@@ -41,7 +41,7 @@ abbrev mutual
   expression_words (paren s e) = mark k.OpenRound ++ (expression_words e ++ mark k.CloseRound)
   expression_words (array l) = listing_words l bracket.Square
   expression_words (dictionary l) = listing_words l bracket.Curly
-  expression_words (call s x l) = (k.Identifier, x) ∷ listing_words l bracket.Round
+  expression_words (call s x l) = (k.Identifier, x.text) ∷ listing_words l bracket.Round
   expression_words (unary s o e) = mark (unary_kind o) ++ expression_words e
   expression_words (row s e os) = expression_words e ++ operands_words os
   expression_words (postfix s e ts) = expression_words e ++ tails_words ts
@@ -53,7 +53,7 @@ abbrev mutual
   operands_words (operand o e more) = operator_words o ++ (expression_words e ++ operands_words more)
 
   pub tail_words : {S : Type 0} → Tail S → List Word
-  tail_words (method s x l) = mark k.Dot ++ ((k.Identifier, x) ∷ listing_words l bracket.Round)
+  tail_words (method s x l) = mark k.Dot ++ ((k.Identifier, x.text) ∷ listing_words l bracket.Round)
   tail_words (index s e) = mark k.OpenSquare ++ (expression_words e ++ mark k.CloseSquare)
 
   pub tails_words : {S : Type 0} → Tails S → List Word
@@ -65,7 +65,7 @@ abbrev mutual
 
   pub argument_words : {S : Type 0} → Argument S → List Word
   argument_words (plain e) = expression_words e
-  argument_words (named s x e) = (k.Identifier, x) ∷ (mark k.Colon ++ expression_words e)
+  argument_words (named s x e) = (k.Identifier, x.text) ∷ (mark k.Colon ++ expression_words e)
   argument_words (pair s e f) = expression_words e ++ (mark k.Colon ++ expression_words f)
 
   -- each element with the comma behind it
@@ -76,7 +76,7 @@ abbrev mutual
 abbrev mutual
   pub statement_words : {S : Type 0} → Statement S → List Word
   statement_words (evaluate e) = expression_words e
-  statement_words (assign s x a e) = (k.Identifier, x) ∷ (mark (assignment_kind a) ++ expression_words e)
+  statement_words (assign s x a e) = (k.Identifier, x.text) ∷ (mark (assignment_kind a) ++ expression_words e)
   statement_words (selection s bs o) = branches_words bs k.WordIf ++ (otherwise_words o ++ mark k.WordEndif)
   statement_words (iteration s xs e b) = mark k.WordForeach ++ (names_words xs ++ (mark k.Colon ++ (expression_words e ++ ((new_line ∷ block_words b) ++ mark k.WordEndforeach))))
   statement_words (breaks s) = mark k.WordBreak
@@ -128,7 +128,7 @@ abbrev pub HasBranch : {S : Type 0} → Branches S → Type 0
 HasBranch no_branches = ⊥
 HasBranch (branch e b more) = ⊤
 
-abbrev pub HasName : List (List ℕ) → Type 0
+abbrev pub HasName : {A : Type 0} → List A → Type 0
 HasName [] = ⊥
 HasName (x ∷ xs) = ⊤
 

@@ -5,6 +5,7 @@ use Rattle.meson_lex.specs.declared.kinds.Kind.{Kind}
 use Rattle.meson_lex.specs.contracts.kinds.Kind.{the_type}
 use Rattle.meson_lex.specs.declared.kinds.Span.{Span}
 use Rattle.meson_lex.specs.Located.{Token}
+use Rattle.meson_syntax.specs.Tree.{Name}
 use Rattle.meson_syntax.specs.declared.fault.ParseFault.{ParseFault}
 use Rattle.meson_syntax.specs.declared.fault.ParseFault.TheVariants.{OutOfMemory}
 
@@ -104,12 +105,19 @@ saw_two κ ι = λ i. Some (sees_two κ ι i, i)
 abbrev pub take_token : Parser (List ℕ)
 take_token = λ i. Some (spelling i, next i)
 
-abbrev pub here : Parser ℕ
-here = λ i. Some (from i, i)
-
 -- from a place to the end of the last token
 unfoldable pub span_from : ℕ → Input → Span
 span_from start i = record { from = start; to = i.last }
+
+-- the name that the next token is, with its place
+unfoldable pub name_next : Input → Name Span
+name_next i = record { place = span_from (from i) (next i); text = spelling i }
+
+abbrev pub take_name : Parser (Name Span)
+take_name = λ i. Some (name_next i, next i)
+
+abbrev pub here : Parser ℕ
+here = λ i. Some (from i, i)
 
 abbrev pub since : ℕ → Parser Span
 since start = λ i. Some (span_from start i, i)

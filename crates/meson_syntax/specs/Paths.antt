@@ -55,7 +55,7 @@ block_in before b behind make = record { sort = of_block; inside = b; before = b
 
 abbrev pub argument_children : {S : Type 0} → Argument S → List (Hole S (Argument S))
 argument_children (plain e) = expression_in [] e [] plain ∷ []
-argument_children (named s x e) = expression_in ((k.Identifier, x) ∷ mark k.Colon) e [] (named s x) ∷ []
+argument_children (named s x e) = expression_in ((k.Identifier, x.text) ∷ mark k.Colon) e [] (named s x) ∷ []
 argument_children (pair s e f) = expression_in [] e (mark k.Colon ++ expression_words f) (λ x. pair s x f) ∷ expression_in (expression_words e ++ mark k.Colon) f [] (pair s e) ∷ []
 
 abbrev pub arguments_children : {S : Type 0} → Arguments S → Bool → List (Hole S (Arguments S))
@@ -73,7 +73,7 @@ operands_children (operand o e more) =
     expression_in (operator_words o) e (operands_words more) (λ x. operand o x more) ∷ all_around (operator_words o ++ expression_words e) [] (operand o e) (operands_children more)
 
 abbrev pub tail_children : {S : Type 0} → Tail S → List (Hole S (Tail S))
-tail_children (method s x l) = all_around (mark k.Dot ++ (k.Identifier, x) ∷ []) [] (method s x) (listing_children l bracket.Round)
+tail_children (method s x l) = all_around (mark k.Dot ++ (k.Identifier, x.text) ∷ []) [] (method s x) (listing_children l bracket.Round)
 tail_children (index s e) = expression_in (mark k.OpenSquare) e (mark k.CloseSquare) (index s) ∷ []
 
 abbrev pub tails_children : {S : Type 0} → Tails S → List (Hole S (Tails S))
@@ -84,7 +84,7 @@ abbrev pub expression_children : {S : Type 0} → Expression S → List (Hole S 
 expression_children (paren s e) = expression_in (mark k.OpenRound) e (mark k.CloseRound) (paren s) ∷ []
 expression_children (array l) = all_around [] [] array (listing_children l bracket.Square)
 expression_children (dictionary l) = all_around [] [] dictionary (listing_children l bracket.Curly)
-expression_children (call s x l) = all_around ((k.Identifier, x) ∷ []) [] (call s x) (listing_children l bracket.Round)
+expression_children (call s x l) = all_around ((k.Identifier, x.text) ∷ []) [] (call s x) (listing_children l bracket.Round)
 expression_children (unary s o e) = expression_in (mark (unary_kind o)) e [] (unary s o) ∷ []
 expression_children (row s e os) = expression_in [] e (operands_words os) (λ x. row s x os) ∷ all_around (expression_words e) [] (row s e) (operands_children os)
 expression_children (postfix s e ts) = expression_in [] e (tails_words ts) (λ x. postfix s x ts) ∷ all_around (expression_words e) [] (postfix s e) (tails_children ts)
@@ -108,7 +108,7 @@ otherwise_children (otherwise b) = block_in (mark k.WordElse ++ new_line ∷ [])
 
 abbrev pub statement_children : {S : Type 0} → Statement S → List (Hole S (Statement S))
 statement_children (evaluate e) = expression_in [] e [] evaluate ∷ []
-statement_children (assign s x a e) = expression_in ((k.Identifier, x) ∷ mark (assignment_kind a)) e [] (assign s x a) ∷ []
+statement_children (assign s x a e) = expression_in ((k.Identifier, x.text) ∷ mark (assignment_kind a)) e [] (assign s x a) ∷ []
 statement_children (selection s bs o) =
     all_around [] (otherwise_words o ++ mark k.WordEndif) (λ x. selection s x o) (branches_children bs k.WordIf)
     ++ all_around (branches_words bs k.WordIf) (mark k.WordEndif) (selection s bs) (otherwise_children o)
@@ -174,7 +174,7 @@ pub record ListIn (S : Type 0) : Type 0 where
 
 abbrev pub list_in : {S : Type 0} → Expression S → Option (ListIn S)
 list_in (array l) = Some (record { list = l; bracket = bracket.Square; ahead = []; back = array })
-list_in (call s x l) = Some (record { list = l; bracket = bracket.Round; ahead = (k.Identifier, x) ∷ []; back = call s x })
+list_in (call s x l) = Some (record { list = l; bracket = bracket.Round; ahead = (k.Identifier, x.text) ∷ []; back = call s x })
 list_in _ = None
 
 -- the list of the array or call that a path names, in its file
@@ -229,5 +229,5 @@ value_of (pair s e f) = None
 
 abbrev pub words_ahead : {S : Type 0} → Argument S → List Word
 words_ahead (plain e) = []
-words_ahead (named s x e) = (k.Identifier, x) ∷ mark k.Colon
+words_ahead (named s x e) = (k.Identifier, x.text) ∷ mark k.Colon
 words_ahead (pair s e f) = []

@@ -13,7 +13,7 @@ use Rattle.meson_syntax.specs.declared.operator.Bracket.{Bracket}
 use Rattle.meson_syntax.specs.declared.operator.Bracket.TheVariants as bracket
 use Rattle.meson_syntax.specs.Operators.{closes}
 use Rattle.meson_syntax.specs.Tree.{Expression, identifier, boolean, integer, string, paren, array, dictionary, call, unary, row, postfix, conditional, operands_of, Tail, method, index, tails_of, Listing, listing, Argument, plain, named, pair, is_named, arguments_of}
-use Rattle.meson_syntax.specs.Input.{Parser, ◌>>=◌, ◌>>◌, pure, refuse, peek, saw, saw_two, take_token, here, since, eat, expect, left}
+use Rattle.meson_syntax.specs.Input.{Parser, ◌>>=◌, ◌>>◌, pure, refuse, peek, saw, saw_two, take_token, take_name, here, since, eat, expect, left}
 
 -- whether a construct may stand one level deeper
 abbrev pub room : ℕ → Bool
@@ -87,7 +87,7 @@ module _ (room : Bool) (inner : Parser (Expression Span)) where
   unfoldable pub with_name : Parser (Argument Span)
   with_name = do
     start ← here
-    name ← take_token
+    name ← take_name
     take_token
     value ← inner
     at ← since start
@@ -147,12 +147,12 @@ module _ (room : Bool) (inner : Parser (Expression Span)) where
   unfoldable pub identified : Parser (Expression Span)
   identified = do
     start ← here
-    x ← take_token
+    x ← take_name
     called ← saw k.OpenRound
     if called then (do
       l ← listed bracket.Round
       at ← since start
-      pure (call at x l)) else (do at ← since start; pure (identifier at x))
+      pure (call at x l)) else (do at ← since start; pure (identifier at x.text))
 
   -- `true` or `false`, which comes next
   unfoldable pub truth : Bool → Parser (Expression Span)
@@ -215,7 +215,7 @@ module _ (room : Bool) (inner : Parser (Expression Span)) where
     take_token
     has_name ← saw_two k.Identifier k.OpenRound
     if has_name then (do
-      x ← take_token
+      x ← take_name
       l ← listed bracket.Round
       at ← since start
       pure (method at x l)) else refuse

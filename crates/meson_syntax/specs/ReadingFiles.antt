@@ -6,8 +6,8 @@ use Rattle.meson_lex.specs.declared.kinds.Span.{Span}
 use Rattle.meson_lex.specs.Located.{Token}
 use Rattle.meson_syntax.specs.declared.operator.Assignment.{Assignment}
 use Rattle.meson_syntax.specs.declared.operator.Assignment.TheVariants as assigns
-use Rattle.meson_syntax.specs.Tree.{Expression, Statement, evaluate, assign, selection, iteration, breaks, continues, branches_of, Otherwise, nothing_else, otherwise, Block, block, File, file, statements_of}
-use Rattle.meson_syntax.specs.Input.{Input, Outcome, Parser, ◌>>=◌, ◌>>◌, pure, refuse, peek, saw, saw_two, take_token, here, since, eat, expect, left}
+use Rattle.meson_syntax.specs.Tree.{Name, Expression, Statement, evaluate, assign, selection, iteration, breaks, continues, branches_of, Otherwise, nothing_else, otherwise, Block, block, File, file, statements_of}
+use Rattle.meson_syntax.specs.Input.{Input, Outcome, Parser, ◌>>=◌, ◌>>◌, pure, refuse, peek, saw, saw_two, take_token, take_name, here, since, eat, expect, left}
 use Rattle.meson_syntax.specs.Reading.{room, expression}
 
 -- whether a block ends before a token of this kind, or at the end
@@ -25,19 +25,19 @@ block_span start [] i = record { from = i.last; to = i.last }
 block_span start (s ∷ ss) i = record { from = start; to = i.last }
 
 -- an identifier
-unfoldable pub name : Parser (List ℕ)
+unfoldable pub name : Parser (Name Span)
 name = do
   is_name ← saw k.Identifier
-  if is_name then take_token else refuse
+  if is_name then take_name else refuse
 
 -- names behind commas. The number bounds the turns.
-unfoldable pub names_from : ℕ → List (List ℕ) → Parser (List (List ℕ))
+unfoldable pub names_from : ℕ → List (Name Span) → Parser (List (Name Span))
 names_from zero found = pure found
 names_from (suc n) found = do
   more ← eat k.Comma
   if more then (do x ← name; names_from n (found ++ x ∷ [])) else pure found
 
-unfoldable pub names : Parser (List (List ℕ))
+unfoldable pub names : Parser (List (Name Span))
 names = do
   x ← name
   λ i. names_from (left i) (x ∷ []) i
@@ -48,7 +48,7 @@ module _ (room : Bool) (expr inner : Parser (Expression Span)) (body : Parser (B
   unfoldable pub assigned : Assignment → Parser (Statement Span)
   assigned a = do
     start ← here
-    x ← take_token
+    x ← take_name
     take_token
     value ← expr
     at ← since start

@@ -8,7 +8,7 @@ use Rattle.meson_lex.specs.Located.{Token}
 use Rattle.meson_syntax.specs.declared.operator.Bracket.{Bracket}
 use Rattle.meson_syntax.specs.declared.operator.Bracket.TheVariants as bracket
 use Rattle.meson_syntax.specs.Operators.{operator_kind, operator_rest, unary_kind, string_kind, boolean_kind, assignment_kind, opens, closes, holds_values, holds_names, holds_pairs, level}
-use Rattle.meson_syntax.specs.Tree.{Expression, identifier, boolean, integer, string, paren, array, dictionary, call, unary, row, postfix, conditional, Operands, no_operands, operand, Tail, method, index, Tails, no_tails, tail, Listing, listing, Argument, plain, named, pair, is_named, Arguments, no_arguments, argument, Statement, evaluate, assign, selection, iteration, breaks, continues, Branches, no_branches, branch, Otherwise, nothing_else, otherwise, Statements, no_statements, statement, Block, block, File, file}
+use Rattle.meson_syntax.specs.Tree.{Name, Expression, identifier, boolean, integer, string, paren, array, dictionary, call, unary, row, postfix, conditional, Operands, no_operands, operand, Tail, method, index, Tails, no_tails, tail, Listing, listing, Argument, plain, named, pair, is_named, Arguments, no_arguments, argument, Statement, evaluate, assign, selection, iteration, breaks, continues, Branches, no_branches, branch, Otherwise, nothing_else, otherwise, Statements, no_statements, statement, Block, block, File, file}
 use Rattle.meson_syntax.specs.Grammar.{looseness, row_level, HasOperand, HasTail, HasBranch, Flagged}
 
 -- where the last token ends
@@ -69,14 +69,18 @@ abbrev pub Each : List Kind → List Token → Type 0
 Each [] ts = Nothing ts
 Each (κ ∷ κs) ts = Then (One κ) (Each κs) ts
 
--- names with commas between them
-abbrev pub SaysMoreNames : List (List ℕ) → List Token → Type 0
-SaysMoreNames [] ts = Nothing ts
-SaysMoreNames (x ∷ xs) ts = Then (One k.Comma) (Then (Says k.Identifier x) (SaysMoreNames xs)) ts
+-- one token of this name, at its place
+abbrev pub SaysName : Name Span → List Token → Type 0
+SaysName name ts = Covers name.place ts × Says k.Identifier name.text ts
 
-abbrev pub SaysNames : List (List ℕ) → List Token → Type 0
+-- names with commas between them
+abbrev pub SaysMoreNames : List (Name Span) → List Token → Type 0
+SaysMoreNames [] ts = Nothing ts
+SaysMoreNames (x ∷ xs) ts = Then (One k.Comma) (Then (SaysName x) (SaysMoreNames xs)) ts
+
+abbrev pub SaysNames : List (Name Span) → List Token → Type 0
 SaysNames [] ts = ⊥
-SaysNames (x ∷ xs) ts = Then (Says k.Identifier x) (SaysMoreNames xs) ts
+SaysNames (x ∷ xs) ts = Then (SaysName x) (SaysMoreNames xs) ts
 
 -- the comma behind an element: where another follows, or a trailing one is written
 abbrev pub Comma : {S : Type 0} → Arguments S → Bool → List Token → Type 0
@@ -94,7 +98,7 @@ abbrev mutual
   SpellsExpression (paren s e) depth ts = Covers s ts × Then (One k.OpenRound) (Then (Deeper (SpellsExpression e) depth) (One k.CloseRound)) ts
   SpellsExpression (array l) depth ts = SpellsListing l bracket.Square depth ts
   SpellsExpression (dictionary l) depth ts = SpellsListing l bracket.Curly depth ts
-  SpellsExpression (call s x l) depth ts = Covers s ts × Then (Says k.Identifier x) (SpellsListing l bracket.Round depth) ts
+  SpellsExpression (call s x l) depth ts = Covers s ts × Then (SaysName x) (SpellsListing l bracket.Round depth) ts
   SpellsExpression (unary s o e) depth ts = Covers s ts × (looseness e ≤ 1) × Then (One (unary_kind o)) (SpellsExpression e depth) ts
   SpellsExpression (row s e os) depth ts = Covers s ts × HasOperand os × (looseness e < 2 + row_level os)
       × Then (SpellsExpression e depth) (SpellsOperands os (row_level os) depth) ts
@@ -110,7 +114,7 @@ abbrev mutual
       × Then (One (operator_kind o)) (Then (Each (operator_rest o)) (Then (SpellsExpression e depth) (SpellsOperands more n depth))) ts
 
   pub SpellsTail : Tail Span → ℕ → List Token → Type 0
-  SpellsTail (method s x l) depth ts = Covers s ts × Then (One k.Dot) (Then (Says k.Identifier x) (SpellsListing l bracket.Round depth)) ts
+  SpellsTail (method s x l) depth ts = Covers s ts × Then (One k.Dot) (Then (SaysName x) (SpellsListing l bracket.Round depth)) ts
   SpellsTail (index s e) depth ts = Covers s ts × Then (One k.OpenSquare) (Then (Deeper (SpellsExpression e) depth) (One k.CloseSquare)) ts
 
   pub SpellsTails : Tails Span → ℕ → List Token → Type 0
@@ -130,14 +134,14 @@ abbrev mutual
   pub SpellsArgument : Argument Span → Bracket → Bool → ℕ → List Token → Type 0
   SpellsArgument (plain e) b seen depth ts = (holds_values b ≡ true) × (seen ≡ false) × Deeper (SpellsExpression e) depth ts
   SpellsArgument (named s x e) b seen depth ts = Covers s ts × (holds_names b ≡ true)
-      × Then (Says k.Identifier x) (Then (One k.Colon) (Deeper (SpellsExpression e) depth)) ts
+      × Then (SaysName x) (Then (One k.Colon) (Deeper (SpellsExpression e) depth)) ts
   SpellsArgument (pair s e f) b seen depth ts = Covers s ts × (holds_pairs b ≡ true)
       × Then (Deeper (SpellsExpression e) depth) (Then (One k.Colon) (Deeper (SpellsExpression f) depth)) ts
 
 abbrev mutual
   pub SpellsStatement : Statement Span → ℕ → List Token → Type 0
   SpellsStatement (evaluate e) depth ts = SpellsExpression e depth ts
-  SpellsStatement (assign s x a e) depth ts = Covers s ts × Then (Says k.Identifier x) (Then (One (assignment_kind a)) (SpellsExpression e depth)) ts
+  SpellsStatement (assign s x a e) depth ts = Covers s ts × Then (SaysName x) (Then (One (assignment_kind a)) (SpellsExpression e depth)) ts
   SpellsStatement (selection s bs o) depth ts = Covers s ts × HasBranch bs × Deeper (λ inner. Then (SpellsBranches bs k.WordIf inner) (Then (SpellsOtherwise o inner) (One k.WordEndif))) depth ts
   SpellsStatement (iteration s xs e b) depth ts = Covers s ts × Then (One k.WordForeach) (Then (SaysNames xs) (Then (One k.Colon)
       (Deeper (λ inner. Then (SpellsExpression e inner) (Then (NewLine (SpellsBlock b inner)) (One k.WordEndforeach))) depth))) ts

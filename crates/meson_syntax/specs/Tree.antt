@@ -1,9 +1,14 @@
 -- Trees of build files. What each node carries is an S: a span, or nothing.
-use Rattle.std.specs.Prelude.{ℕ, Bool, true, false, List, [], ◌∷◌}
+use Rattle.std.specs.Prelude.{ℕ, Bool, true, false, List, [], ◌∷◌, map}
 use Rattle.meson_syntax.specs.declared.operator.Operator.{Operator}
 use Rattle.meson_syntax.specs.declared.operator.UnaryOperator.{UnaryOperator}
 use Rattle.meson_syntax.specs.declared.operator.StringKind.{StringKind}
 use Rattle.meson_syntax.specs.declared.operator.Assignment.{Assignment}
+
+-- a name as it is written, and what it carries
+pub record Name (S : Type 0) : Type 0 where
+  pub place : S
+  pub text : List ℕ
 
 mutual
   pub data Expression (S : Type 0) : Type 0 where
@@ -17,7 +22,7 @@ mutual
     array : Listing S → Expression S
     dictionary : Listing S → Expression S
     -- a function's name and its arguments
-    call : S → List ℕ → Listing S → Expression S
+    call : S → Name S → Listing S → Expression S
     unary : S → UnaryOperator → Expression S → Expression S
     -- the first operand, and each further one with the operator before it
     row : S → Expression S → Operands S → Expression S
@@ -31,7 +36,7 @@ mutual
     operand : Operator → Expression S → Operands S → Operands S
 
   pub data Tail (S : Type 0) : Type 0 where
-    method : S → List ℕ → Listing S → Tail S
+    method : S → Name S → Listing S → Tail S
     index : S → Expression S → Tail S
 
   pub data Tails (S : Type 0) : Type 0 where
@@ -44,7 +49,7 @@ mutual
 
   pub data Argument (S : Type 0) : Type 0 where
     plain : Expression S → Argument S
-    named : S → List ℕ → Expression S → Argument S
+    named : S → Name S → Expression S → Argument S
     -- a dictionary's key and its value
     pair : S → Expression S → Expression S → Argument S
 
@@ -56,11 +61,11 @@ mutual
   pub data Statement (S : Type 0) : Type 0 where
     evaluate : Expression S → Statement S
     -- a variable, what is done with it, and the value
-    assign : S → List ℕ → Assignment → Expression S → Statement S
+    assign : S → Name S → Assignment → Expression S → Statement S
     -- from `if` to `endif`
     selection : S → Branches S → Otherwise S → Statement S
     -- from `foreach` to `endforeach`: the variables, what they run through, and the body
-    iteration : S → List (List ℕ) → Expression S → Block S → Statement S
+    iteration : S → List (Name S) → Expression S → Block S → Statement S
     breaks : S → Statement S
     continues : S → Statement S
 
@@ -139,6 +144,16 @@ Nowhere = Unit {0}
 abbrev pub Plain : Type 0
 Plain = File Nowhere
 
+-- a name that stands nowhere
+abbrev pub bare : List ℕ → Name Nowhere
+bare text = record { place = tt; text = text }
+
+abbrev pub erase_name : {S : Type 0} → Name S → Name Nowhere
+erase_name name = bare name.text
+
+abbrev pub erase_names : {S : Type 0} → List (Name S) → List (Name Nowhere)
+erase_names = map erase_name
+
 abbrev mutual
   pub erase_expression : {S : Type 0} → Expression S → Expression Nowhere
   erase_expression (identifier s x) = identifier tt x
@@ -148,7 +163,7 @@ abbrev mutual
   erase_expression (paren s e) = paren tt (erase_expression e)
   erase_expression (array l) = array (erase_listing l)
   erase_expression (dictionary l) = dictionary (erase_listing l)
-  erase_expression (call s x l) = call tt x (erase_listing l)
+  erase_expression (call s x l) = call tt (erase_name x) (erase_listing l)
   erase_expression (unary s o e) = unary tt o (erase_expression e)
   erase_expression (row s e os) = row tt (erase_expression e) (erase_operands os)
   erase_expression (postfix s e ts) = postfix tt (erase_expression e) (erase_tails ts)
@@ -159,7 +174,7 @@ abbrev mutual
   erase_operands (operand o e more) = operand o (erase_expression e) (erase_operands more)
 
   pub erase_tail : {S : Type 0} → Tail S → Tail Nowhere
-  erase_tail (method s x l) = method tt x (erase_listing l)
+  erase_tail (method s x l) = method tt (erase_name x) (erase_listing l)
   erase_tail (index s e) = index tt (erase_expression e)
 
   pub erase_tails : {S : Type 0} → Tails S → Tails Nowhere
@@ -171,7 +186,7 @@ abbrev mutual
 
   pub erase_argument : {S : Type 0} → Argument S → Argument Nowhere
   erase_argument (plain e) = plain (erase_expression e)
-  erase_argument (named s x e) = named tt x (erase_expression e)
+  erase_argument (named s x e) = named tt (erase_name x) (erase_expression e)
   erase_argument (pair s e f) = pair tt (erase_expression e) (erase_expression f)
 
   pub erase_arguments : {S : Type 0} → Arguments S → Arguments Nowhere
@@ -181,9 +196,9 @@ abbrev mutual
 abbrev mutual
   pub erase_statement : {S : Type 0} → Statement S → Statement Nowhere
   erase_statement (evaluate e) = evaluate (erase_expression e)
-  erase_statement (assign s x a e) = assign tt x a (erase_expression e)
+  erase_statement (assign s x a e) = assign tt (erase_name x) a (erase_expression e)
   erase_statement (selection s bs o) = selection tt (erase_branches bs) (erase_otherwise o)
-  erase_statement (iteration s xs e b) = iteration tt xs (erase_expression e) (erase_block b)
+  erase_statement (iteration s xs e b) = iteration tt (erase_names xs) (erase_expression e) (erase_block b)
   erase_statement (breaks s) = breaks tt
   erase_statement (continues s) = continues tt
 

@@ -16,14 +16,18 @@ use Rattle.meson_syntax.specs.declared.tree.Branch.{Branch, fold-Branch}
 use Rattle.meson_syntax.specs.declared.tree.Block.{fold-Block}
 use Rattle.meson_syntax.specs.declared.tree.Block as rust_block
 use Rattle.meson_syntax.specs.declared.tree.Parsed.{Parsed}
-use Rattle.meson_syntax.specs.Tree.{Expression, identifier, boolean, integer, string, paren, array, dictionary, call, unary, row, postfix, conditional, operands_of, Tail, method, index, tails_of, Listing, listing, Argument, plain, named, pair, arguments_of, Statement, evaluate, assign, selection, iteration, breaks, continues, branches_of, Otherwise, nothing_else, otherwise, Block, block, statements_of, File, file}
+use Rattle.meson_syntax.specs.Tree.{Name, Expression, identifier, boolean, integer, string, paren, array, dictionary, call, unary, row, postfix, conditional, operands_of, Tail, method, index, tails_of, Listing, listing, Argument, plain, named, pair, arguments_of, Statement, evaluate, assign, selection, iteration, breaks, continues, branches_of, Otherwise, nothing_else, otherwise, Block, block, statements_of, File, file}
 
 -- the bytes of a span
 abbrev pub text_at : List ℕ → Span → List ℕ
 text_at source span = slice_range source span.from span.to
 
-abbrev pub texts_at : List ℕ → List Span → List (List ℕ)
-texts_at source = map (text_at source)
+-- the name that stands at a span
+abbrev pub name_at : List ℕ → Span → Name Span
+name_at source span = record { place = span; text = text_at source span }
+
+abbrev pub names_at : List ℕ → List Span → List (Name Span)
+names_at source = map (name_at source)
 
 abbrev A : Type 0
 A = Argument Span
@@ -58,7 +62,7 @@ module _ (source : List ℕ) where
 
   abbrev arg_step : Arg-F A E T L O → A
   arg_step (Arg-F.Plain e) = plain e
-  arg_step (Arg-F.Named span name value) = named span (text_at source name) value
+  arg_step (Arg-F.Named span name value) = named span (name_at source name) value
   arg_step (Arg-F.Pair span key value) = pair span key value
 
   abbrev expr_step : Expr-F A E T L O → E
@@ -69,14 +73,14 @@ module _ (source : List ℕ) where
   expr_step (Expr-F.Paren span inside) = paren span inside
   expr_step (Expr-F.Array list) = array list
   expr_step (Expr-F.Dictionary list) = dictionary list
-  expr_step (Expr-F.Call span name arguments) = call span (text_at source name) arguments
+  expr_step (Expr-F.Call span name arguments) = call span (name_at source name) arguments
   expr_step (Expr-F.Unary span operator operand) = unary span operator operand
   expr_step (Expr-F.Row span first rest) = row span first (operands_of rest)
   expr_step (Expr-F.Postfix span base tails) = postfix span base (tails_of tails)
   expr_step (Expr-F.Conditional span condition so else_so) = conditional span condition so else_so
 
   abbrev tail_step : Tail-F A E T L O → T
-  tail_step (Tail-F.Method span name arguments) = method span (text_at source name) arguments
+  tail_step (Tail-F.Method span name arguments) = method span (name_at source name) arguments
   tail_step (Tail-F.Index span e) = index span e
 
   abbrev list_step : List-F A E T L O → L
@@ -113,9 +117,9 @@ module _ (source : List ℕ) where
 
   abbrev stmt_step : Stmt-F S B C → S
   stmt_step (Stmt-F.Expr e) = evaluate (expr_view e)
-  stmt_step (Stmt-F.Assign span name assignment value) = assign span (text_at source name) assignment (expr_view value)
+  stmt_step (Stmt-F.Assign span name assignment value) = assign span (name_at source name) assignment (expr_view value)
   stmt_step (Stmt-F.If span branches last) = selection span (branches_of branches) (otherwise_of last)
-  stmt_step (Stmt-F.Foreach span names items body) = iteration span (texts_at source names) (expr_view items) body
+  stmt_step (Stmt-F.Foreach span names items body) = iteration span (names_at source names) (expr_view items) body
   stmt_step (Stmt-F.Break span) = breaks span
   stmt_step (Stmt-F.Continue span) = continues span
 

@@ -7,7 +7,7 @@ ghost use Rattle.meson_syntax.specs.Input as spec;
 ghost use Rattle.meson_syntax.specs.Input.{Gives};
 ghost use Rattle.meson_syntax.specs.Nests.{IsGrammatical};
 ghost use Rattle.meson_syntax.specs.Tokens.{tokens_of};
-ghost use Rattle.meson_syntax.specs.View.{text_at};
+ghost use Rattle.meson_syntax.specs.View.{name_at, text_at};
 
 use crate::fault::ParseFault;
 use crate::token::Token;
@@ -199,9 +199,10 @@ impl<'a, F> Grammar<'a, F> {
     }
 
     /// Takes the next token, and gives its span.
-    #[tactic(auto, unfolding(crate::specs::Input::spelling, crate::specs::Input::next, crate::specs::Input::from, crate::specs::Input::span_from, crate::specs::Cursor::input))]
+    #[tactic(auto, unfolding(crate::specs::Input::spelling, crate::specs::Input::next, crate::specs::Input::from, crate::specs::Input::span_from, crate::specs::Input::name_next, crate::specs::Cursor::input))]
     pub(crate) fn take(&self, tokens: &mut Cursor<'_>) -> Span
         ensures text { text_at self.now.source.now result ≡ spec.spelling (input self.now.source.now tokens.old) }
+        ensures name { name_at self.now.source.now result ≡ spec.name_next (input self.now.source.now tokens.old) }
         ensures next { input self.now.source.now tokens.new ≡ spec.next (input self.now.source.now tokens.old) }
         ensures span { result ≡ spec.span_from (spec.from (input self.now.source.now tokens.old)) (spec.next (input self.now.source.now tokens.old)) }
     {

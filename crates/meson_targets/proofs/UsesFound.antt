@@ -8,7 +8,7 @@ use Rattle.meson_calls.specs.declared.call.CallRef.{CallRef}
 use Rattle.meson_calls.specs.Project.{Project, Placed, placed}
 use Rattle.meson_calls.specs.Parts.{Part, an_expression, a_statement, parts}
 use Rattle.meson_calls.specs.Notes.{Note, note_of, noted, notes}
-use Rattle.meson_calls.specs.Roles.{one_of}
+use Rattle.meson_calls.specs.Variables.{one_of_names}
 use Rattle.meson_targets.specs.TargetEdits.{StatementPlace, call_uses, part_uses, is_used_outside}
 use Rattle.meson_calls.specs.Walks.{part_reads, read_in}
 use Rattle.meson_targets.specs.Uses.{is_outside, is_noted_outside, is_read_outside}
@@ -47,7 +47,7 @@ module _ (line : StatementPlace) (x : List ℕ) where
 
   part_step : (p : CallRef) (y : Part Span) (ns : List (Placed (Note Span))) (cs : List CallRef) → ((is_outside line p && part_uses x y) || told ns cs) ≡ with_part p y ns cs
   part_step p (an_expression (identifier s y)) ns cs = identifier_step p ns cs (bytes_eq y x)
-  part_step p (an_expression (call s f l)) ns cs = note_use (is_outside line p) (call_uses x (record { function = f; arguments = l })) (is_noted_outside line x ns) (is_read_outside line cs)
+  part_step p (an_expression (call s f l)) ns cs = note_use (is_outside line p) (call_uses x (record { function = f.text; arguments = l })) (is_noted_outside line x ns) (is_read_outside line cs)
   part_step p (an_expression (boolean s b)) ns cs = no_use (is_outside line p) (is_noted_outside line x ns) (is_read_outside line cs)
   part_step p (an_expression (integer s t)) ns cs = no_use (is_outside line p) (is_noted_outside line x ns) (is_read_outside line cs)
   part_step p (an_expression (string s q t)) ns cs = no_use (is_outside line p) (is_noted_outside line x ns) (is_read_outside line cs)
@@ -58,8 +58,8 @@ module _ (line : StatementPlace) (x : List ℕ) where
   part_step p (an_expression (row s e os)) ns cs = no_use (is_outside line p) (is_noted_outside line x ns) (is_read_outside line cs)
   part_step p (an_expression (postfix s e ts)) ns cs = no_use (is_outside line p) (is_noted_outside line x ns) (is_read_outside line cs)
   part_step p (an_expression (conditional s a b c)) ns cs = no_use (is_outside line p) (is_noted_outside line x ns) (is_read_outside line cs)
-  part_step p (a_statement (assign s y a e)) ns cs = note_use (is_outside line p) (bytes_eq y x) (is_noted_outside line x ns) (is_read_outside line cs)
-  part_step p (a_statement (iteration s xs e b)) ns cs = note_use (is_outside line p) (one_of xs x) (is_noted_outside line x ns) (is_read_outside line cs)
+  part_step p (a_statement (assign s y a e)) ns cs = note_use (is_outside line p) (bytes_eq y.text x) (is_noted_outside line x ns) (is_read_outside line cs)
+  part_step p (a_statement (iteration s xs e b)) ns cs = note_use (is_outside line p) (one_of_names xs x) (is_noted_outside line x ns) (is_read_outside line cs)
   part_step p (a_statement (evaluate e)) ns cs = no_use (is_outside line p) (is_noted_outside line x ns) (is_read_outside line cs)
   part_step p (a_statement (selection s bs o)) ns cs = no_use (is_outside line p) (is_noted_outside line x ns) (is_read_outside line cs)
   part_step p (a_statement (breaks s)) ns cs = no_use (is_outside line p) (is_noted_outside line x ns) (is_read_outside line cs)

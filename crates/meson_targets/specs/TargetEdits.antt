@@ -4,7 +4,7 @@ use Rattle.std.specs.List.{list_any}
 use Rattle.meson_lex.specs.Literals.{literal}
 use Rattle.meson_splice.specs.Patch.{then_ok}
 use Rattle.meson_syntax.specs.declared.operator.Assignment.TheVariants as assignment
-use Rattle.meson_syntax.specs.Tree.{Nowhere, Expression, identifier, call, listing, plain, arguments_of, Statement, evaluate, assign, iteration}
+use Rattle.meson_syntax.specs.Tree.{bare as bare_name, Nowhere, Expression, identifier, call, listing, plain, arguments_of, Statement, evaluate, assign, iteration}
 use Rattle.meson_syntax.specs.ExchangeStatements.{block_at, statement_in}
 use Rattle.meson_edit.specs.Edits.{Written, RemoveStatement, Append}
 use Rattle.meson_calls.specs.declared.call.CallRef.{CallRef}
@@ -15,6 +15,7 @@ use Rattle.meson_calls.specs.Project.{Project, BuildFile, Placed, place, child, 
 use Rattle.meson_calls.specs.Parts.{Part, an_expression, a_statement, parts}
 use Rattle.meson_calls.specs.Calls.{Call, all_chosen, first_literal, is}
 use Rattle.meson_calls.specs.Roles.{target_functions, one_of, role_calls, with_name}
+use Rattle.meson_calls.specs.Variables.{one_of_names}
 use Rattle.meson_calls.specs.Directories.{build_file, file_in}
 use Rattle.meson_steps.specs.WrittenTexts.{string_of, comma_between}
 use Rattle.meson_steps.specs.Names.{checked_names, distinct}
@@ -60,7 +61,7 @@ number_in p folder = some_file (option_and_then (file_number p) (file_of_folder 
 
 -- `KIND('NAME', 'SOURCE', ..)`, where the texts are the name and the sources
 abbrev pub target_statement : List ℕ → List (List ℕ) → Statement Nowhere
-target_statement kind texts = evaluate (call tt kind (listing tt false (arguments_of (map plain (map string_of texts)))))
+target_statement kind texts = evaluate (call tt (bare_name kind) (listing tt false (arguments_of (map plain (map string_of texts)))))
 
 abbrev pub written_target : List ℕ → List (List ℕ) → Written (Statement Nowhere)
 written_target kind texts = record { bytes = kind ++ (40 ∷ (comma_between (map literal texts) ++ 41 ∷ [])); node = target_statement kind texts }
@@ -102,7 +103,7 @@ pub data Held : Type 0 where
 
 abbrev pub held_by : {S : Type 0} → Statement S → Option Held
 held_by (evaluate e) = Some alone
-held_by (assign s x assignment.Set e) = Some (set_to x)
+held_by (assign s x assignment.Set e) = Some (set_to x.text)
 held_by _ = None
 
 -- the statement that is the call at this place or sets a variable to it
@@ -128,12 +129,12 @@ call_uses x c = one_of variable_functions c.function && is x (first_literal c)
 
 abbrev pub expression_uses : {S : Type 0} → List ℕ → Expression S → Bool
 expression_uses x (identifier s y) = bytes_eq y x
-expression_uses x (call s f l) = call_uses x (record { function = f; arguments = l })
+expression_uses x (call s f l) = call_uses x (record { function = f.text; arguments = l })
 expression_uses x _ = false
 
 abbrev pub statement_uses : {S : Type 0} → List ℕ → Statement S → Bool
-statement_uses x (assign s y a e) = bytes_eq y x
-statement_uses x (iteration s xs e b) = one_of xs x
+statement_uses x (assign s y a e) = bytes_eq y.text x
+statement_uses x (iteration s xs e b) = one_of_names xs x
 statement_uses x _ = false
 
 abbrev pub part_uses : {S : Type 0} → List ℕ → Part S → Bool

@@ -4,13 +4,13 @@ use Rattle.std.specs.List.{list_any}
 use Rattle.meson_calls.specs.declared.call.CallRef.{CallRef}
 use Rattle.meson_calls.specs.Project.{Placed}
 use Rattle.meson_calls.specs.Notes.{Note, a_call, an_assignment, a_loop}
-use Rattle.meson_calls.specs.Roles.{one_of}
+use Rattle.meson_calls.specs.Variables.{one_of_names}
 use Rattle.meson_targets.specs.TargetEdits.{StatementPlace, call_uses, is_in_statement}
 
 abbrev pub note_uses : {S : Type 0} → List ℕ → Note S → Bool
 note_uses x (a_call c) = call_uses x c
 note_uses x (an_assignment y sets e) = bytes_eq y x
-note_uses x (a_loop xs) = one_of xs x
+note_uses x (a_loop xs) = one_of_names xs x
 
 -- outside a statement
 abbrev pub is_outside : StatementPlace → CallRef → Bool

@@ -37,7 +37,7 @@ value-words (pair s e f) w h v = absurd cc
 
 before-value : (a : Argument Span) (before : List Word) → IsBeforeElement before → IsBeforeValue (before ++ words_ahead a)
 before-value (plain e) before h = subst IsBeforeValue (sym (append-nil before)) (inl h)
-before-value (named s x e) before h = inr (before ++ (k.Identifier, x) ∷ [], sym (append_assoc before ((k.Identifier, x) ∷ []) ((k.Colon, []) ∷ [])))
+before-value (named s x e) before h = inr (before ++ (k.Identifier, x.text) ∷ [], sym (append_assoc before ((k.Identifier, x.text) ∷ []) ((k.Colon, []) ∷ [])))
 before-value (pair s e f) before h = subst IsBeforeValue (sym (append-nil before)) (inl h)
 
 array-words : (v : Expression Nowhere) (behind : List Word) → expression_words (array_of v) ++ behind ≡ (k.OpenSquare, []) ∷ (expression_words v ++ (k.CloseSquare, []) ∷ behind)

@@ -54,7 +54,7 @@ module _ (S : Type 0) where
   )
 
   tail-grows : (t : Tail S) → Every (Grows (Tail S) tail_depth t) (tail_children t)
-  tail-grows (method s x l) = part-grows (Listing S) (Tail S) listing_depth tail_depth (mark k.Dot ++ (k.Identifier, x) ∷ []) [] (method s x) l (λ z k g. g) (listing_children l bracket.Round) (listing-grows l bracket.Round)
+  tail-grows (method s x l) = part-grows (Listing S) (Tail S) listing_depth tail_depth (mark k.Dot ++ (k.Identifier, x.text) ∷ []) [] (method s x) l (λ z k g. g) (listing_children l bracket.Round) (listing-grows l bracket.Round)
   tail-grows (index s e) = (λ y k l. omega (arith, l), tt)
 
   tails-grow : (ts : Tails S) → Every (Grows (Tails S) tails_depth ts) (tails_children ts)
@@ -72,7 +72,7 @@ module _ (S : Type 0) where
   expression-grows (paren s e) = (λ y k l. omega (arith, l), tt)
   expression-grows (array l) = part-grows (Listing S) (Expression S) listing_depth expression_depth [] [] array l (λ z k g. g) (listing_children l bracket.Square) (listing-grows l bracket.Square)
   expression-grows (dictionary l) = part-grows (Listing S) (Expression S) listing_depth expression_depth [] [] dictionary l (λ z k g. g) (listing_children l bracket.Curly) (listing-grows l bracket.Curly)
-  expression-grows (call s x l) = part-grows (Listing S) (Expression S) listing_depth expression_depth ((k.Identifier, x) ∷ []) [] (call s x) l (λ z k g. g) (listing_children l bracket.Round) (listing-grows l bracket.Round)
+  expression-grows (call s x l) = part-grows (Listing S) (Expression S) listing_depth expression_depth ((k.Identifier, x.text) ∷ []) [] (call s x) l (λ z k g. g) (listing_children l bracket.Round) (listing-grows l bracket.Round)
   expression-grows (unary s o e) = (λ y k l. l, tt)
   expression-grows (row s e os) = (
     λ y k l. omega (arith, l),

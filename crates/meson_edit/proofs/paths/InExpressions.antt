@@ -72,7 +72,7 @@ module _ (S : Type 0) where
 
   tail-stays : (t : Tail S) → EveryAt (StaysIn (Tail S) tail_children) 0 (tail_children t)
   tail-stays (method s x l) =
-      part-stays S (Listing S) (Tail S) (λ z. listing_children z bracket.Round) tail_children AnyLike AnyLike (mark k.Dot ++ (k.Identifier, x) ∷ []) [] (method s x) 0 (λ z. []) (λ z. [])
+      part-stays S (Listing S) (Tail S) (λ z. listing_children z bracket.Round) tail_children AnyLike AnyLike (mark k.Dot ++ (k.Identifier, x.text) ∷ []) [] (method s x) 0 (λ z. []) (λ z. [])
       (λ z like. sym (append-nil _)) (λ z. refl) (λ z like. tt)
       0 0 (omega arith) (listing_children l bracket.Round) (listing-stays l bracket.Round)
   tail-stays (index s e) = (record { found = λ y. refl; like = λ y. tt }, tt)
@@ -112,7 +112,7 @@ module _ (S : Type 0) where
   expression-stays (paren s e) = (record { found = λ y. refl; like = λ y. tt }, tt)
   expression-stays (array l) = lists-stay l bracket.Square [] array (λ z. refl)
   expression-stays (dictionary l) = lists-stay l bracket.Curly [] dictionary (λ z. refl)
-  expression-stays (call s x l) = lists-stay l bracket.Round ((k.Identifier, x) ∷ []) (call s x) (λ z. refl)
+  expression-stays (call s x l) = lists-stay l bracket.Round ((k.Identifier, x.text) ∷ []) (call s x) (λ z. refl)
   expression-stays (unary s o e) = (record { found = λ y. refl; like = λ y. tt }, tt)
   expression-stays (row s e os) = (
     record { found = λ y. refl; like = λ y. tt },

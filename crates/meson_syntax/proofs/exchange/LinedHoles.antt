@@ -45,7 +45,7 @@ module _ (S : Type 0) where
   operands-inner (operand o e more) = (refl, inner-around (operator_words o ++ expression_words e) [] (operand o e) (operands_children more) (operands-inner more))
 
   tail-inner : (t : Tail S) → Every IsInner (tail_children t)
-  tail-inner (method s x l) = inner-around (mark k.Dot ++ (k.Identifier, x) ∷ []) [] (method s x) (listing_children l bracket.Round) (listing-inner l bracket.Round)
+  tail-inner (method s x l) = inner-around (mark k.Dot ++ (k.Identifier, x.text) ∷ []) [] (method s x) (listing_children l bracket.Round) (listing-inner l bracket.Round)
   tail-inner (index s e) = (refl, tt)
 
   tails-inner : (ts : Tails S) → Every IsInner (tails_children ts)
@@ -61,7 +61,7 @@ module _ (S : Type 0) where
   expression-inner (paren s e) = (refl, tt)
   expression-inner (array l) = inner-around [] [] array (listing_children l bracket.Square) (listing-inner l bracket.Square)
   expression-inner (dictionary l) = inner-around [] [] dictionary (listing_children l bracket.Curly) (listing-inner l bracket.Curly)
-  expression-inner (call s x l) = inner-around ((k.Identifier, x) ∷ []) [] (call s x) (listing_children l bracket.Round) (listing-inner l bracket.Round)
+  expression-inner (call s x l) = inner-around ((k.Identifier, x.text) ∷ []) [] (call s x) (listing_children l bracket.Round) (listing-inner l bracket.Round)
   expression-inner (unary s o e) = (refl, tt)
   expression-inner (row s e os) = (refl, inner-around (expression_words e) [] (row s e) (operands_children os) (operands-inner os))
   expression-inner (postfix s e ts) = (refl, inner-around (expression_words e) [] (postfix s e) (tails_children ts) (tails-inner ts))

@@ -114,7 +114,7 @@ module _ (S : Type 0) where
     expression-flat (paren s e) = flat-brackets k.OpenRound k.CloseRound (expression_words e) refl refl (expression-flat e)
     expression-flat (array l) = listing-flat l bracket.Square
     expression-flat (dictionary l) = listing-flat l bracket.Curly
-    expression-flat (call s x l) = flat-append ((k.Identifier, x) ∷ []) (listing_words l bracket.Round) (flat-word k.Identifier x refl) (listing-flat l bracket.Round)
+    expression-flat (call s x l) = flat-append ((k.Identifier, x.text) ∷ []) (listing_words l bracket.Round) (flat-word k.Identifier x.text refl) (listing-flat l bracket.Round)
     expression-flat (unary s o e) = flat-append (mark (unary_kind o)) (expression_words e) (flat-word (unary_kind o) [] (unary-other o)) (expression-flat e)
     expression-flat (row s e os) = flat-append (expression_words e) (operands_words os) (expression-flat e) (operands-flat os)
     expression-flat (postfix s e ts) = flat-append (expression_words e) (tails_words ts) (expression-flat e) (tails-flat ts)
@@ -130,8 +130,8 @@ module _ (S : Type 0) where
 
     tail-flat : (t : Tail S) → Flat (tail_words t)
     tail-flat (method s x l) =
-        flat-append (mark k.Dot) ((k.Identifier, x) ∷ listing_words l bracket.Round) (flat-word k.Dot [] refl)
-        (flat-append ((k.Identifier, x) ∷ []) (listing_words l bracket.Round) (flat-word k.Identifier x refl) (listing-flat l bracket.Round))
+        flat-append (mark k.Dot) ((k.Identifier, x.text) ∷ listing_words l bracket.Round) (flat-word k.Dot [] refl)
+        (flat-append ((k.Identifier, x.text) ∷ []) (listing_words l bracket.Round) (flat-word k.Identifier x.text refl) (listing-flat l bracket.Round))
     tail-flat (index s e) = flat-brackets k.OpenSquare k.CloseSquare (expression_words e) refl refl (expression-flat e)
 
     tails-flat : (ts : Tails S) → Flat (tails_words ts)
@@ -144,7 +144,7 @@ module _ (S : Type 0) where
     argument-flat : (a : Argument S) → Flat (argument_words a)
     argument-flat (plain e) = expression-flat e
     argument-flat (named s x e) =
-        flat-append ((k.Identifier, x) ∷ []) (mark k.Colon ++ expression_words e) (flat-word k.Identifier x refl) (flat-append (mark k.Colon) (expression_words e) (flat-word k.Colon [] refl) (expression-flat e))
+        flat-append ((k.Identifier, x.text) ∷ []) (mark k.Colon ++ expression_words e) (flat-word k.Identifier x.text refl) (flat-append (mark k.Colon) (expression_words e) (flat-word k.Colon [] refl) (expression-flat e))
     argument-flat (pair s e f) =
         flat-append (expression_words e) (mark k.Colon ++ expression_words f) (expression-flat e) (flat-append (mark k.Colon) (expression_words f) (flat-word k.Colon [] refl) (expression-flat f))
 

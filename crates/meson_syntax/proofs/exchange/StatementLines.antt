@@ -6,7 +6,7 @@ use Rattle.meson_lex.specs.Significant.{Word, new_line, Other, role}
 use Rattle.meson_syntax.specs.declared.operator.Assignment.{Assignment}
 use Rattle.meson_syntax.specs.declared.operator.Assignment.TheVariants as assigns
 use Rattle.meson_syntax.specs.Operators.{assignment_kind}
-use Rattle.meson_syntax.specs.Tree.{Statement, evaluate, assign, selection, iteration, breaks, continues, Branches, no_branches, branch, Otherwise, nothing_else, otherwise, Statements, no_statements, statement, Block, block, File, file}
+use Rattle.meson_syntax.specs.Tree.{Name, Statement, evaluate, assign, selection, iteration, breaks, continues, Branches, no_branches, branch, Otherwise, nothing_else, otherwise, Statements, no_statements, statement, Block, block, File, file}
 use Rattle.meson_syntax.specs.Grammar.{mark, more_names_words, names_words, expression_words, statement_words, branches_words, otherwise_words, statements_words, block_words, file_words}
 use Rattle.meson_syntax.proofs.exchange.Nesting.{Flat, flat-append, flat-word, expression-flat}
 use Rattle.meson_syntax.proofs.exchange.States.{Lines, no-lines, lines-append, line-more, line-flat}
@@ -15,15 +15,15 @@ assignment-other : (a : Assignment) → role (assignment_kind a) ≡ Other
 assignment-other assigns.Set = refl
 assignment-other assigns.Add = refl
 
-more-names-flat : (xs : List (List ℕ)) → Flat (more_names_words xs)
+more-names-flat : {S : Type 0} (xs : List (Name S)) → Flat (more_names_words xs)
 more-names-flat [] = λ n b. refl
 more-names-flat (x ∷ xs) =
-    flat-append (mark k.Comma) ((k.Identifier, x) ∷ more_names_words xs) (flat-word k.Comma [] refl)
-    (flat-append ((k.Identifier, x) ∷ []) (more_names_words xs) (flat-word k.Identifier x refl) (more-names-flat xs))
+    flat-append (mark k.Comma) ((k.Identifier, x.text) ∷ more_names_words xs) (flat-word k.Comma [] refl)
+    (flat-append ((k.Identifier, x.text) ∷ []) (more_names_words xs) (flat-word k.Identifier x.text refl) (more-names-flat xs))
 
-names-flat : (xs : List (List ℕ)) → Flat (names_words xs)
+names-flat : {S : Type 0} (xs : List (Name S)) → Flat (names_words xs)
 names-flat [] = λ n b. refl
-names-flat (x ∷ xs) = flat-append ((k.Identifier, x) ∷ []) (more_names_words xs) (flat-word k.Identifier x refl) (more-names-flat xs)
+names-flat (x ∷ xs) = flat-append ((k.Identifier, x.text) ∷ []) (more_names_words xs) (flat-word k.Identifier x.text refl) (more-names-flat xs)
 
 -- a word and what is asked behind it, and then lines
 pub asked-lines : (word : Kind) (a b : List Word) → role word ≡ Other → Flat a → Lines b → Lines (mark word ++ (a ++ (new_line ∷ b)))
@@ -34,7 +34,7 @@ loop_group a b m e x = simp append_assoc
 
 module _ (S : Type 0) where
   -- what stands before the body of an iteration, and lines
-  pub loop-lines : (xs : List (List ℕ)) (a b : List Word) → Flat a → Lines b → Lines (mark k.WordForeach ++ (names_words xs ++ (mark k.Colon ++ (a ++ (new_line ∷ b)))))
+  pub loop-lines : (xs : List (Name S)) (a b : List Word) → Flat a → Lines b → Lines (mark k.WordForeach ++ (names_words xs ++ (mark k.Colon ++ (a ++ (new_line ∷ b)))))
   loop-lines xs a b f l =
       subst Lines (loop_group (mark k.WordForeach) (names_words xs) (mark k.Colon) a (new_line ∷ b))
       (line-more (mark k.WordForeach ++ (names_words xs ++ (mark k.Colon ++ a))) b
@@ -45,7 +45,7 @@ module _ (S : Type 0) where
     pub statement-flat : (s : Statement S) → Flat (statement_words s)
     statement-flat (evaluate e) = expression-flat S e
     statement-flat (assign s x a e) =
-        flat-append ((k.Identifier, x) ∷ []) (mark (assignment_kind a) ++ expression_words e) (flat-word k.Identifier x refl)
+        flat-append ((k.Identifier, x.text) ∷ []) (mark (assignment_kind a) ++ expression_words e) (flat-word k.Identifier x.text refl)
         (flat-append (mark (assignment_kind a)) (expression_words e) (flat-word (assignment_kind a) [] (assignment-other a)) (expression-flat S e))
     statement-flat (selection s bs o) =
         flat-append (branches_words bs k.WordIf) (otherwise_words o ++ mark k.WordEndif) (branches-lines bs k.WordIf refl).flat

@@ -7,13 +7,13 @@ use Rattle.meson_syntax.specs.declared.operator.StringKind.TheVariants as quotes
 use Rattle.meson_syntax.specs.declared.operator.Bracket.{Bracket}
 use Rattle.meson_syntax.specs.declared.operator.Bracket.TheVariants as bracket
 use Rattle.meson_syntax.specs.Operators.{string_kind, boolean_kind, opens, closes}
-use Rattle.meson_syntax.specs.Tree.{Expression, identifier, boolean, integer, string, paren, array, dictionary, call, unary, row, postfix, conditional, method, index, Listing, listing, Argument, plain, named, pair, is_named, Arguments, no_arguments, argument, arguments_of, argument_list}
+use Rattle.meson_syntax.specs.Tree.{Expression, identifier, boolean, integer, string, paren, array, dictionary, call, unary, row, postfix, conditional, method, index, Listing, listing, Argument, plain, named, pair, is_named, Arguments, no_arguments, argument, arguments_of, argument_list, Name}
 use Rattle.meson_syntax.specs.Grammar.{looseness}
 use Rattle.meson_syntax.specs.Input.{Input, kind, next, sees, sees_two, after, expect, left}
 use Rattle.meson_syntax.specs.Reading.{room, with_name, without_name, paired, element, elements_from, elements, listed, identified, truth, number, quoted, parenthesized, primary_by, primary, method_call, indexed, expression}
-use Rattle.meson_syntax.specs.Spelling.{One, Says, Then, Deeper, Nothing, SpellsExpression, SpellsTail, SpellsListing, SpellsArguments, SpellsArgument}
+use Rattle.meson_syntax.specs.Spelling.{One, Then, Deeper, Nothing, SpellsExpression, SpellsTail, SpellsListing, SpellsArguments, SpellsArgument, SaysName}
 use Rattle.meson_syntax.proofs.parsing.Steps.{Passes, part, nothing-same, some-injective}
-use Rattle.meson_syntax.proofs.parsing.Splits.{bind-is, yes-at, no-at, passes-split, says-read, one-read, yes-sees, not-sees, yes-two, not-two, expect-is, after-is, after-not, covered, falls}
+use Rattle.meson_syntax.proofs.parsing.Splits.{bind-is, yes-at, no-at, passes-split, says-read, one-read, yes-sees, not-sees, yes-two, not-two, expect-is, after-is, after-not, covered, falls, name-read, name-text}
 use Rattle.meson_syntax.proofs.parsing.NonEmpty.{one-some, argument-some}
 use Rattle.meson_syntax.proofs.parsing.Firsts.{binding, Stops, stops-at, closing-stops, starts-closing, first-one, first-listing, first-argument, name-alone}
 
@@ -43,14 +43,14 @@ module _ (d : ℕ) (deep : (e : Expression Span) (i j : Input) → Passes (Deepe
   unfolding without_name
   without-name-is e seen i j unseen r stop = no-at seen _ _ i _ unseen (bind-is (expression d i) _ (e, j) _ (deep e i j r stop) refl)
 
-  with-name-is : (s : Span) (x : List ℕ) (e : Expression Span) (seen : Bool) (i j : Input) → Passes (SpellsArgument (named s x e) bracket.Round seen d) i j → Stops (kind j)
+  with-name-is : (s : Span) (x : Name Span) (e : Expression Span) (seen : Bool) (i j : Input) → Passes (SpellsArgument (named s x e) bracket.Round seen d) i j → Stops (kind j)
       → element (room d) (expression d) bracket.Round seen i ≡ Some (named s x e, j)
   unfolding element with_name
   with-name-is s x e seen i j r stop =
       let P = Deeper (SpellsExpression e) d in
-      let a = passes-split (Says k.Identifier x) (Then (One k.Colon) P) i j (part _ _ i j r r.fits.2) in
+      let a = passes-split (SaysName x) (Then (One k.Colon) P) i j (part _ _ i j r r.fits.2) in
       let b = passes-split (One k.Colon) P a.at j a.second in
-      let name = says-read k.Identifier x i a.at a.first in
+      let name = name-read x i a.at a.first in
       let mark = one-read k.Colon a.at b.at b.first in
       let goes : next (next i) ≡ b.at = ap next name.goes ∙ mark.goes in
       let inside : expression d (next (next i)) ≡ Some (e, j) = rw goes (deep e b.at j b.second stop) in
@@ -206,7 +206,7 @@ module _ (d : ℕ) (deep : (e : Expression Span) (i j : Input) → Passes (Deepe
   complete-primary (identifier s x) i j h r stop =
       let w = says-read k.Identifier x i j (part _ _ i j r r.fits.1) in
       rw w.is (rw w.goes (no-at (sees k.OpenRound j) _ _ j _ (not-sees k.OpenRound j (stops-at 0 j k.OpenRound stop (omega arith)))
-      (ap₂ (λ y z. Some (identifier y z, j)) (covered s i j r.used r.fits.0 r.took) w.says)))
+      (ap₂ (λ y z. Some (identifier y z, j)) (covered s i j r.used r.fits.0 r.took) (name-text i ∙ w.says))))
   complete-primary (boolean s b) i j h r stop =
       let w = one-read (boolean_kind b) i j (part _ _ i j r r.fits.1) in
       rw w.is (rw (boolean-by b) (rw w.goes (ap (λ y. Some (boolean y b, j)) (covered s i j r.used r.fits.0 r.took))))
@@ -224,8 +224,8 @@ module _ (d : ℕ) (deep : (e : Expression Span) (i j : Input) → Passes (Deepe
       rw (first-listing l bracket.Curly d i j r)
       (bind-is (listed (room d) (expression d) bracket.Curly i) _ (l, j) _ (listed-is l bracket.Curly i j r) refl)
   complete-primary (call s x l) i j h r stop =
-      let p = passes-split (Says k.Identifier x) (SpellsListing l bracket.Round d) i j (part _ _ i j r r.fits.1) in
-      let w = says-read k.Identifier x i p.at p.first in
+      let p = passes-split (SaysName x) (SpellsListing l bracket.Round d) i j (part _ _ i j r r.fits.1) in
+      let w = name-read x i p.at p.first in
       rw w.is (rw w.goes (yes-at (sees k.OpenRound p.at) _ _ p.at _ (yes-sees k.OpenRound p.at (first-listing l bracket.Round d p.at j p.second))
       (bind-is (listed (room d) (expression d) bracket.Round p.at) _ (l, j) _ (listed-is l bracket.Round p.at j p.second)
       (ap₂ (λ y z. Some (call y z l, j)) (covered s i j r.used r.fits.0 r.took) w.says))))
@@ -236,12 +236,12 @@ module _ (d : ℕ) (deep : (e : Expression Span) (i j : Input) → Passes (Deepe
 
   -- ---- one tail
 
-  pub complete-method : (s : Span) (x : List ℕ) (l : Listing Span) (i j : Input) → Passes (SpellsTail (method s x l) d) i j → method_call (room d) (expression d) i ≡ Some (method s x l, j)
+  pub complete-method : (s : Span) (x : Name Span) (l : Listing Span) (i j : Input) → Passes (SpellsTail (method s x l) d) i j → method_call (room d) (expression d) i ≡ Some (method s x l, j)
   unfolding method_call
   complete-method s x l i j r =
-      let p = passes-split (One k.Dot) (Then (Says k.Identifier x) (SpellsListing l bracket.Round d)) i j (part _ _ i j r r.fits.1) in
-      let q = passes-split (Says k.Identifier x) (SpellsListing l bracket.Round d) p.at j p.second in
-      let w = says-read k.Identifier x p.at q.at q.first in
+      let p = passes-split (One k.Dot) (Then (SaysName x) (SpellsListing l bracket.Round d)) i j (part _ _ i j r r.fits.1) in
+      let q = passes-split (SaysName x) (SpellsListing l bracket.Round d) p.at j p.second in
+      let w = name-read x p.at q.at q.first in
       let begins = ap kind w.goes ∙ first-listing l bracket.Round d q.at j q.second in
       rw (one-read k.Dot i p.at p.first).goes
       (yes-at (sees_two k.Identifier k.OpenRound p.at) _ _ p.at _ (yes-two k.Identifier k.OpenRound p.at w.is begins)

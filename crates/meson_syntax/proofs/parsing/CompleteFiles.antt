@@ -8,16 +8,16 @@ use Rattle.meson_lex.specs.Located.{Token}
 use Rattle.meson_syntax.specs.declared.operator.Assignment.{Assignment}
 use Rattle.meson_syntax.specs.declared.operator.Assignment.TheVariants as assigns
 use Rattle.meson_syntax.specs.Operators.{assignment_kind}
-use Rattle.meson_syntax.specs.Tree.{Expression, Statement, evaluate, assign, selection, iteration, breaks, continues, Branches, no_branches, branch, branches_of, branch_list, Otherwise, nothing_else, otherwise, Statements, no_statements, statement, statements_of, statement_list, Block, block, File, file}
+use Rattle.meson_syntax.specs.Tree.{Expression, Statement, evaluate, assign, selection, iteration, breaks, continues, Branches, no_branches, branch, branches_of, branch_list, Otherwise, nothing_else, otherwise, Statements, no_statements, statement, statements_of, statement_list, Block, block, File, file, Name}
 use Rattle.meson_syntax.specs.Grammar.{HasBranch}
 use Rattle.meson_syntax.specs.Input.{Input, kind, from, next, sees, sees_two, after, expect, span_from, left}
 use Rattle.meson_syntax.specs.Reading.{room, expression}
 use Rattle.meson_syntax.specs.ReadingFiles.{ends_block, block_span, name, names_from, names, assigned, evaluated, simple, bodied, branched, branches_from, branches, otherwised, selected, iterated, broken, continued, stmt_by, stmt, line, lines_from, lines, blocked, block_at, file_of, whole}
-use Rattle.meson_syntax.specs.Spelling.{end_of, Covers, CoversBlock, One, Says, Then, Deeper, NewLine, SaysMoreNames, SaysNames, SpellsExpression, SpellsStatement, SpellsBranches, SpellsOtherwise, SpellsStatements, SpellsBlock, SpellsFile}
+use Rattle.meson_syntax.specs.Spelling.{end_of, Covers, CoversBlock, One, Then, Deeper, NewLine, SaysMoreNames, SaysNames, SpellsExpression, SpellsStatement, SpellsBranches, SpellsOtherwise, SpellsStatements, SpellsBlock, SpellsFile, SaysName}
 use Rattle.meson_syntax.proofs.parsing.Steps.{Passes, part, nothing-same}
-use Rattle.meson_syntax.proofs.parsing.Splits.{bind-is, yes-at, no-at, passes-split, says-read, one-read, yes-sees, not-sees, yes-two, not-two, expect-is, after-is, after-not, covered, falls}
+use Rattle.meson_syntax.proofs.parsing.Splits.{bind-is, yes-at, no-at, passes-split, one-read, yes-sees, not-sees, yes-two, not-two, expect-is, after-is, after-not, covered, falls, name-read}
 use Rattle.meson_syntax.proofs.parsing.NonEmpty.{one-some, then-some, statement-some}
-use Rattle.meson_syntax.proofs.parsing.Firsts.{Stops, Starts, first-says, first-one, first-expression, name-alone}
+use Rattle.meson_syntax.proofs.parsing.Firsts.{Stops, Starts, first-one, first-expression, name-alone, first-name}
 use Rattle.meson_syntax.proofs.parsing.FirstsFiles.{line-split, first-line, line-stops, first-branches, branches-end, otherwise-end, first-statement}
 use Rattle.meson_syntax.proofs.parsing.Complete.{room-is}
 use Rattle.meson_syntax.proofs.parsing.CompleteRows.{passes-left, complete-expression}
@@ -34,13 +34,13 @@ list-of-branches (branch e b more) = ap (branch e b) (list-of-branches more)
 
 -- ---- names
 
-complete-name : (x : List ℕ) (i j : Input) → Passes (Says k.Identifier x) i j → name i ≡ Some (x, j)
+complete-name : (x : Name Span) (i j : Input) → Passes (SaysName x) i j → name i ≡ Some (x, j)
 unfolding name
 complete-name x i j r =
-    let w = says-read k.Identifier x i j r in
+    let w = name-read x i j r in
     yes-at (sees k.Identifier i) _ _ i _ (yes-sees k.Identifier i w.is) (ap₂ (λ y z. Some (y, z)) w.says w.goes)
 
-complete-names_from : (xs : List (List ℕ)) (n : ℕ) (found : List (List ℕ)) (i j : Input) → left i ≤ n → Passes (SaysMoreNames xs) i j → (kind j ≡ Some k.Comma → ⊥)
+complete-names_from : (xs : List (Name Span)) (n : ℕ) (found : List (Name Span)) (i j : Input) → left i ≤ n → Passes (SaysMoreNames xs) i j → (kind j ≡ Some k.Comma → ⊥)
     → names_from n found i ≡ Some (found ++ xs, j)
 unfolding names_from
 complete-names_from [] zero found i j fuel r stop = ap₂ (λ f x. Some (f, x)) (sym (append-nil found)) (nothing-same i j r)
@@ -52,20 +52,20 @@ complete-names_from (x ∷ xs) zero found i j fuel r stop =
     let less = falls (One k.Comma) i p.at (one-some k.Comma) p.first in
     absurd (omega arith)
 complete-names_from (x ∷ xs) (suc n) found i j fuel r stop =
-    let p = passes-split (One k.Comma) (Then (Says k.Identifier x) (SaysMoreNames xs)) i j r in
-    let q = passes-split (Says k.Identifier x) (SaysMoreNames xs) p.at j p.second in
+    let p = passes-split (One k.Comma) (Then (SaysName x) (SaysMoreNames xs)) i j r in
+    let q = passes-split (SaysName x) (SaysMoreNames xs) p.at j p.second in
     let less = falls (One k.Comma) i p.at (one-some k.Comma) p.first in
-    let lesser = passes-left (Says k.Identifier x) p.at q.at q.first in
+    let lesser = passes-left (SaysName x) p.at q.at q.first in
     let rest = complete-names_from xs n (found ++ x ∷ []) q.at j (omega arith) q.second stop in
     yes-at (sees k.Comma i) _ _ (after k.Comma i) _ (yes-sees k.Comma i (one-read k.Comma i p.at p.first).is)
     (rw (after-is k.Comma i p.at p.first) (bind-is (name p.at) _ (x, q.at) _ (complete-name x p.at q.at q.first)
     (rest ∙ ap (λ f. Some (f, j)) (append_assoc found (x ∷ []) xs))))
 
-complete-names : (xs : List (List ℕ)) (i j : Input) → Passes (SaysNames xs) i j → (kind j ≡ Some k.Comma → ⊥) → names i ≡ Some (xs, j)
+complete-names : (xs : List (Name Span)) (i j : Input) → Passes (SaysNames xs) i j → (kind j ≡ Some k.Comma → ⊥) → names i ≡ Some (xs, j)
 unfolding names
 complete-names [] i j r stop = absurd r.fits
 complete-names (x ∷ xs) i j r stop =
-    let p = passes-split (Says k.Identifier x) (SaysMoreNames xs) i j r in
+    let p = passes-split (SaysName x) (SaysMoreNames xs) i j r in
     bind-is (name i) _ (x, p.at) _ (complete-name x i p.at p.first) (complete-names_from xs (left p.at) (x ∷ []) p.at j (omega arith) p.second stop)
 
 -- ---- spans of blocks
@@ -186,7 +186,7 @@ module _ (d : ℕ) (blocks : (b : Block Span) (i j : Input) → Passes (Deeper (
 
   -- ---- `foreach`
 
-  complete-iterated : (s : Span) (xs : List (List ℕ)) (e : Expression Span) (b : Block Span) (i j : Input) → Passes (SpellsStatement (iteration s xs e b) d) i j
+  complete-iterated : (s : Span) (xs : List (Name Span)) (e : Expression Span) (b : Block Span) (i j : Input) → Passes (SpellsStatement (iteration s xs e b) d) i j
       → iterated (room d) (expression (suc d)) (expression d) (block_at d) i ≡ Some (iteration s xs e b, j)
   unfolding iterated
   complete-iterated s xs e b i j r =
@@ -239,21 +239,21 @@ module _ (d : ℕ) (blocks : (b : Block Span) (i j : Input) → Passes (Deeper (
       (no-at (sees_two k.Identifier k.PlusAssign i) _ _ i _ (not-two k.Identifier k.PlusAssign i unadded)
       (bind-is (expression (suc d) i) _ (e, j) _ (value-is e i j r (line-stops j end)) refl))
 
-  assigned-is : (s : Span) (x : List ℕ) (a : Assignment) (e : Expression Span) (i j : Input) → Passes (SpellsStatement (assign s x a e) d) i j → kind j ≡ Some k.LineEnd
+  assigned-is : (s : Span) (x : Name Span) (a : Assignment) (e : Expression Span) (i j : Input) → Passes (SpellsStatement (assign s x a e) d) i j → kind j ≡ Some k.LineEnd
       → (kind i ≡ Some k.Identifier) × (kind (next i) ≡ Some (assignment_kind a)) × (assigned (room d) (expression (suc d)) (expression d) (block_at d) a i ≡ Some (assign s x a e, j))
   unfolding assigned
   assigned-is s x a e i j r end =
       let P = SpellsExpression e d in
       let κ = assignment_kind a in
-      let p = passes-split (Says k.Identifier x) (Then (One κ) P) i j (part _ _ i j r r.fits.1) in
+      let p = passes-split (SaysName x) (Then (One κ) P) i j (part _ _ i j r r.fits.1) in
       let q = passes-split (One κ) P p.at j p.second in
-      let w = says-read k.Identifier x i p.at p.first in
+      let w = name-read x i p.at p.first in
       let mark = one-read κ p.at q.at q.first in
       let goes : next (next i) ≡ q.at = ap next w.goes ∙ mark.goes in
       let value : expression (suc d) (next (next i)) ≡ Some (e, j) = rw goes (value-is e q.at j q.second (line-stops j end)) in
       (w.is, ap kind w.goes ∙ mark.is, bind-is (expression (suc d) (next (next i))) _ (e, j) _ value (ap₂ (λ y z. Some (assign y z a e, j)) (covered s i j r.used r.fits.0 r.took) w.says))
 
-  complete-assigned : (s : Span) (x : List ℕ) (a : Assignment) (e : Expression Span) (i j : Input) → Passes (SpellsStatement (assign s x a e) d) i j → kind j ≡ Some k.LineEnd
+  complete-assigned : (s : Span) (x : Name Span) (a : Assignment) (e : Expression Span) (i j : Input) → Passes (SpellsStatement (assign s x a e) d) i j → kind j ≡ Some k.LineEnd
       → simple (room d) (expression (suc d)) (expression d) (block_at d) i ≡ Some (assign s x a e, j)
   unfolding simple
   complete-assigned s x assigns.Set e i j r end =
@@ -267,7 +267,7 @@ module _ (d : ℕ) (blocks : (b : Block Span) (i j : Input) → Passes (Deeper (
   complete-stmt : (s : Statement Span) (i j : Input) → Passes (SpellsStatement s d) i j → kind j ≡ Some k.LineEnd → stmt (room d) (expression (suc d)) (expression d) (block_at d) i ≡ Some (s, j)
   unfolding stmt broken continued
   complete-stmt (evaluate e) i j r end = rw (simple-by (kind i) (first-expression e d i j r)) (complete-evaluated e i j r end)
-  complete-stmt (assign s x a e) i j r end = rw (first-says k.Identifier x _ i j (part _ _ i j r r.fits.1)) (complete-assigned s x a e i j r end)
+  complete-stmt (assign s x a e) i j r end = rw (first-name x _ i j (part _ _ i j r r.fits.1)) (complete-assigned s x a e i j r end)
   complete-stmt (selection s bs o) i j r end =
       let inner = r.fits.2.inner in
       let p = passes-split (SpellsBranches bs k.WordIf inner) _ i j (part _ _ i j r r.fits.2.spelled) in

@@ -5,8 +5,8 @@ use Rattle.meson_lex.specs.declared.kinds.Kind.TheVariants as k
 use Rattle.meson_lex.specs.declared.kinds.Span.{Span}
 use Rattle.meson_lex.specs.Significant.{Word, kept, new_line}
 use Rattle.meson_lex.specs.Located.{Token, word_of, words}
-use Rattle.meson_syntax.specs.Tree.{Arguments, no_arguments, argument}
-use Rattle.meson_syntax.specs.Spelling.{Covers, CoversBlock, end_of, One, Says, Then, Deeper, NewLine, Nothing, Each, SaysMoreNames, SaysNames, Comma}
+use Rattle.meson_syntax.specs.Tree.{Nowhere, Name, erase_name, erase_names, Arguments, no_arguments, argument}
+use Rattle.meson_syntax.specs.Spelling.{Covers, CoversBlock, end_of, One, Says, SaysName, Then, Deeper, NewLine, Nothing, Each, SaysMoreNames, SaysNames, Comma}
 use Rattle.meson_syntax.specs.Grammar.{mark, comma_words, names_words, more_names_words, HasName}
 use Rattle.meson_syntax.proofs.parsing.NonEmpty.{says-some, one-some, then-some}
 
@@ -57,13 +57,28 @@ nothing-from (t ∷ ts) e = absurd cc
 pub one-then : (κ : Kind) (Q : List Token → Type 0) (b : List Word) (ts : List Token) → (c : Cut (mark κ) b ts) → Q c.back → Then (One κ) Q ts
 one-then κ Q b ts c q = join (One κ) Q (mark κ) b ts c (one-from κ c.front c.first) q
 
--- a name, and what follows it
-pub name-then : (x : List ℕ) (Q : List Token → Type 0) (b : List Word) (ts : List Token) → (c : Cut ((k.Identifier, x) ∷ []) b ts) → Q c.back → Then (Says k.Identifier x) Q ts
-name-then x Q b ts c q = join (Says k.Identifier x) Q ((k.Identifier, x) ∷ []) b ts c (says-from k.Identifier x c.front (λ y. refl) c.first) q
-
 -- what stands before a token at the end
 pub then-one : (κ : Kind) (P : List Token → Type 0) (a : List Word) (ts : List Token) → (c : Cut a (mark κ) ts) → P c.front → Then P (One κ) ts
 then-one κ P a ts c p = join P (One κ) a (mark κ) ts c p (one-from κ c.back c.second)
+
+-- ---- spans for tokens
+
+cover : (ts : List Token) → (ts ≡ [] → ⊥) → (s : Span) × Covers s ts
+cover [] some = absurd (some refl)
+cover (t ∷ ts) some = (record { from = t.from; to = end_of t.to ts }, (refl, refl))
+
+pub cover-one : (κ : Kind) (ts : List Token) → One κ ts → (s : Span) × Covers s ts
+cover-one κ ts w = cover ts (λ e. one-some κ (subst (One κ) e w))
+
+pub cover-says : (κ : Kind) (x : List ℕ) (ts : List Token) → Says κ x ts → (s : Span) × Covers s ts
+cover-says κ x ts w = cover ts (λ e. says-some κ x (subst (Says κ x) e w))
+
+-- this name, at the place where it stands
+pub name-from : (x : Name Nowhere) (ts : List Token) → words ts ≡ (k.Identifier, x.text) ∷ [] → (y : Name Span) × (erase_name y ≡ x) × SaysName y ts
+name-from x ts e =
+    let w = says-from k.Identifier x.text ts (λ y. refl) e in
+    let c = cover-says k.Identifier x.text ts w in
+    (record { place = c.0; text = x.text }, refl, (c.1, w))
 
 -- ---- several tokens
 
@@ -78,18 +93,23 @@ comma-from no_arguments true ts e = one-from k.Comma ts e
 comma-from no_arguments false ts e = nothing-from ts e
 comma-from (argument a more) trailing ts e = one-from k.Comma ts e
 
-more-names-from : (xs : List (List ℕ)) (ts : List Token) → words ts ≡ more_names_words xs → SaysMoreNames xs ts
-more-names-from [] ts e = nothing-from ts e
+more-names-from : (xs : List (Name Nowhere)) (ts : List Token) → words ts ≡ more_names_words xs → (ys : List (Name Span)) × (erase_names ys ≡ xs) × SaysMoreNames ys ts
+more-names-from [] ts e = ([], refl, nothing-from ts e)
 more-names-from (x ∷ xs) ts e =
-    let a = cut (mark k.Comma) ((k.Identifier, x) ∷ more_names_words xs) ts e in
-    let b = cut ((k.Identifier, x) ∷ []) (more_names_words xs) a.back a.second in
-    one-then k.Comma (Then (Says k.Identifier x) (SaysMoreNames xs)) _ ts a (name-then x (SaysMoreNames xs) _ a.back b (more-names-from xs b.back b.second))
+    let a = cut (mark k.Comma) ((k.Identifier, x.text) ∷ more_names_words xs) ts e in
+    let b = cut ((k.Identifier, x.text) ∷ []) (more_names_words xs) a.back a.second in
+    let y = name-from x b.front b.first in
+    let ys = more-names-from xs b.back b.second in
+    let t = join (SaysName y.0) (SaysMoreNames ys.0) _ _ a.back b y.2 ys.2 in
+    (y.0 ∷ ys.0, ap₂ (λ v w. v ∷ w) y.1 ys.1, one-then k.Comma (Then (SaysName y.0) (SaysMoreNames ys.0)) _ ts a t)
 
-pub names-from : (xs : List (List ℕ)) (ts : List Token) → HasName xs → words ts ≡ names_words xs → SaysNames xs ts
+pub names-from : (xs : List (Name Nowhere)) (ts : List Token) → HasName xs → words ts ≡ names_words xs → (ys : List (Name Span)) × (erase_names ys ≡ xs) × SaysNames ys ts
 names-from [] ts has e = absurd has
 names-from (x ∷ xs) ts has e =
-    let a = cut ((k.Identifier, x) ∷ []) (more_names_words xs) ts e in
-    name-then x (SaysMoreNames xs) _ ts a (more-names-from xs a.back a.second)
+    let a = cut ((k.Identifier, x.text) ∷ []) (more_names_words xs) ts e in
+    let y = name-from x a.front a.first in
+    let ys = more-names-from xs a.back a.second in
+    (y.0 ∷ ys.0, ap₂ (λ v w. v ∷ w) y.1 ys.1, join (SaysName y.0) (SaysMoreNames ys.0) _ _ ts a y.2 ys.2)
 
 -- ---- line ends
 
@@ -111,17 +131,7 @@ line-cut b (t ∷ ts) e =
 pub new-line-from : (P : ℕ → List Token → Type 0) (b : List Word) (ts : List Token) → (c : LineCut b ts) → P c.token.to c.rest → NewLine P ts
 new-line-from P b ts c p = record { token = c.token; rest = c.rest; joined = c.joined; is = c.is; second = p }
 
--- ---- spans for tokens
-
-cover : (ts : List Token) → (ts ≡ [] → ⊥) → (s : Span) × Covers s ts
-cover [] some = absurd (some refl)
-cover (t ∷ ts) some = (record { from = t.from; to = end_of t.to ts }, (refl, refl))
-
-pub cover-one : (κ : Kind) (ts : List Token) → One κ ts → (s : Span) × Covers s ts
-cover-one κ ts w = cover ts (λ e. one-some κ (subst (One κ) e w))
-
-pub cover-says : (κ : Kind) (x : List ℕ) (ts : List Token) → Says κ x ts → (s : Span) × Covers s ts
-cover-says κ x ts w = cover ts (λ e. says-some κ x (subst (Says κ x) e w))
+-- ---- spans for several tokens
 
 pub cover-then : (P Q : List Token → Type 0) (ts : List Token) → (P [] → ⊥) → Then P Q ts → (s : Span) × Covers s ts
 cover-then P Q ts some t = cover ts (λ e. then-some P Q some (subst (Then P Q) e t))

@@ -70,7 +70,7 @@ module _ {S : Type 0} where
     expression-words-erased (paren s e) = ap (λ w. mark k.OpenRound ++ (w ++ mark k.CloseRound)) (expression-words-erased e)
     expression-words-erased (array l) = listing-words-erased l bracket.Square
     expression-words-erased (dictionary l) = listing-words-erased l bracket.Curly
-    expression-words-erased (call s x l) = ap (λ w. (k.Identifier, x) ∷ w) (listing-words-erased l bracket.Round)
+    expression-words-erased (call s x l) = ap (λ w. (k.Identifier, x.text) ∷ w) (listing-words-erased l bracket.Round)
     expression-words-erased (unary s o e) = ap (λ w. mark (unary_kind o) ++ w) (expression-words-erased e)
     expression-words-erased (row s e os) = ap₂ (λ u v. u ++ v) (expression-words-erased e) (operands-words-erased os)
     expression-words-erased (postfix s e ts) = ap₂ (λ u v. u ++ v) (expression-words-erased e) (tails-words-erased ts)
@@ -82,7 +82,7 @@ module _ {S : Type 0} where
     operands-words-erased (operand o e more) = ap₂ (λ u v. operator_words o ++ (u ++ v)) (expression-words-erased e) (operands-words-erased more)
 
     pub tail-words-erased : (t : Tail S) → tail_words (erase_tail t) ≡ tail_words t
-    tail-words-erased (method s x l) = ap (λ w. mark k.Dot ++ ((k.Identifier, x) ∷ w)) (listing-words-erased l bracket.Round)
+    tail-words-erased (method s x l) = ap (λ w. mark k.Dot ++ ((k.Identifier, x.text) ∷ w)) (listing-words-erased l bracket.Round)
     tail-words-erased (index s e) = ap (λ w. mark k.OpenSquare ++ (w ++ mark k.CloseSquare)) (expression-words-erased e)
 
     pub tails-words-erased : (ts : Tails S) → tails_words (erase_tails ts) ≡ tails_words ts
@@ -94,7 +94,7 @@ module _ {S : Type 0} where
 
     pub argument-words-erased : (a : Argument S) → argument_words (erase_argument a) ≡ argument_words a
     argument-words-erased (plain e) = expression-words-erased e
-    argument-words-erased (named s x e) = ap (λ w. (k.Identifier, x) ∷ (mark k.Colon ++ w)) (expression-words-erased e)
+    argument-words-erased (named s x e) = ap (λ w. (k.Identifier, x.text) ∷ (mark k.Colon ++ w)) (expression-words-erased e)
     argument-words-erased (pair s e f) = ap₂ (λ u v. u ++ (mark k.Colon ++ v)) (expression-words-erased e) (expression-words-erased f)
 
     pub arguments-words-erased : (list : Arguments S) (trailing : Bool) → arguments_words (erase_arguments list) trailing ≡ arguments_words list trailing

@@ -1,11 +1,11 @@
 -- A file without its spans has the same words, levels and depth.
-use Rattle.std.proofs.Common.{◌≡◌, suc, max, ◌∷◌, ◌++◌, refl, ap, ap₂}
+use Rattle.std.proofs.Common.{◌≡◌, suc, max, ◌∷◌, ◌++◌, refl, ap, ap₂, List, [], ◌∙◌}
 use Rattle.meson_lex.specs.declared.kinds.Kind.{Kind}
 use Rattle.meson_lex.specs.declared.kinds.Kind.TheVariants as k
 use Rattle.meson_lex.specs.Significant.{new_line}
 use Rattle.meson_syntax.specs.Operators.{assignment_kind}
-use Rattle.meson_syntax.specs.Tree.{Statement, evaluate, assign, selection, iteration, breaks, continues, Branches, no_branches, branch, Otherwise, nothing_else, otherwise, Statements, no_statements, statement, Block, block, File, file, erase, erase_statement, erase_branches, erase_otherwise, erase_statements, erase_block}
-use Rattle.meson_syntax.specs.Grammar.{mark, names_words, statement_words, branches_words, otherwise_words, statements_words, block_words, file_words, HasBranch, LevelStatement, LevelBranches, LevelOtherwise, LevelStatements, LevelBlock, LevelFile, statement_depth, branches_depth, otherwise_depth, statements_depth, block_depth, file_depth}
+use Rattle.meson_syntax.specs.Tree.{Statement, evaluate, assign, selection, iteration, breaks, continues, Branches, no_branches, branch, Otherwise, nothing_else, otherwise, Statements, no_statements, statement, Block, block, File, file, erase, erase_statement, erase_branches, erase_otherwise, erase_statements, erase_block, Name, erase_names, erase_expression}
+use Rattle.meson_syntax.specs.Grammar.{mark, names_words, statement_words, branches_words, otherwise_words, statements_words, block_words, file_words, HasBranch, LevelStatement, LevelBranches, LevelOtherwise, LevelStatements, LevelBlock, LevelFile, statement_depth, branches_depth, otherwise_depth, statements_depth, block_depth, file_depth, more_names_words, HasName, expression_words}
 use Rattle.meson_syntax.proofs.parsing.Erased.{both, three, expression-words-erased, expression-level-erased, expression-depth-erased}
 
 module _ {S : Type 0} where
@@ -15,13 +15,26 @@ module _ {S : Type 0} where
 
   -- ---- words
 
+  more-names-words-erased : (xs : List (Name S)) → more_names_words (erase_names xs) ≡ more_names_words xs
+  more-names-words-erased [] = refl
+  more-names-words-erased (x ∷ xs) = ap (λ w. mark k.Comma ++ ((k.Identifier, x.text) ∷ w)) (more-names-words-erased xs)
+
+  pub names-words-erased : (xs : List (Name S)) → names_words (erase_names xs) ≡ names_words xs
+  names-words-erased [] = refl
+  names-words-erased (x ∷ xs) = ap (λ w. (k.Identifier, x.text) ∷ w) (more-names-words-erased xs)
+
+  has-name-erased : (xs : List (Name S)) → HasName (erase_names xs) ≡ HasName xs
+  has-name-erased [] = refl
+  has-name-erased (x ∷ xs) = refl
+
   mutual
     pub statement-words-erased : (s : Statement S) → statement_words (erase_statement s) ≡ statement_words s
     statement-words-erased (evaluate e) = expression-words-erased e
-    statement-words-erased (assign s x a e) = ap (λ w. (k.Identifier, x) ∷ (mark (assignment_kind a) ++ w)) (expression-words-erased e)
+    statement-words-erased (assign s x a e) = ap (λ w. (k.Identifier, x.text) ∷ (mark (assignment_kind a) ++ w)) (expression-words-erased e)
     statement-words-erased (selection s bs o) = ap₂ (λ u v. u ++ (v ++ mark k.WordEndif)) (branches-words-erased bs k.WordIf) (otherwise-words-erased o)
     statement-words-erased (iteration s xs e b) =
-        ap₂ (λ u v. mark k.WordForeach ++ (names_words xs ++ (mark k.Colon ++ (u ++ ((new_line ∷ v) ++ mark k.WordEndforeach))))) (expression-words-erased e) (block-words-erased b)
+        ap (λ w. mark k.WordForeach ++ (w ++ (mark k.Colon ++ (expression_words (erase_expression e) ++ ((new_line ∷ block_words (erase_block b)) ++ mark k.WordEndforeach))))) (names-words-erased xs)
+        ∙ ap₂ (λ u v. mark k.WordForeach ++ (names_words xs ++ (mark k.Colon ++ (u ++ ((new_line ∷ v) ++ mark k.WordEndforeach))))) (expression-words-erased e) (block-words-erased b)
     statement-words-erased (breaks s) = refl
     statement-words-erased (continues s) = refl
 
@@ -51,7 +64,7 @@ module _ {S : Type 0} where
     statement-level-erased (evaluate e) = expression-level-erased e
     statement-level-erased (assign s x a e) = expression-level-erased e
     statement-level-erased (selection s bs o) = three _ _ _ _ _ _ (has-branch-erased bs) (branches-level-erased bs) (otherwise-level-erased o)
-    statement-level-erased (iteration s xs e b) = three _ _ _ _ _ _ refl (expression-level-erased e) (block-level-erased b)
+    statement-level-erased (iteration s xs e b) = three _ _ _ _ _ _ (has-name-erased xs) (expression-level-erased e) (block-level-erased b)
     statement-level-erased (breaks s) = refl
     statement-level-erased (continues s) = refl
 

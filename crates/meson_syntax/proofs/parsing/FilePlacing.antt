@@ -6,12 +6,12 @@ use Rattle.meson_lex.specs.declared.kinds.Span.{Span}
 use Rattle.meson_lex.specs.Significant.{new_line}
 use Rattle.meson_lex.specs.Located.{Token, words}
 use Rattle.meson_syntax.specs.Operators.{assignment_kind}
-use Rattle.meson_syntax.specs.Tree.{Nowhere, Plain, Statement, evaluate, assign, selection, iteration, breaks, continues, Branches, no_branches, branch, Otherwise, nothing_else, otherwise, Statements, no_statements, statement, Block, block, File, file, erase, erase_expression, erase_statement, erase_branches, erase_otherwise, erase_statements, erase_block}
-use Rattle.meson_syntax.specs.Spelling.{One, Says, Then, Deeper, NewLine, SaysNames, SpellsExpression, SpellsStatement, SpellsBranches, SpellsOtherwise, SpellsStatements, SpellsBlock, SpellsFile}
+use Rattle.meson_syntax.specs.Tree.{Nowhere, Plain, Statement, evaluate, assign, selection, iteration, breaks, continues, Branches, no_branches, branch, Otherwise, nothing_else, otherwise, Statements, no_statements, statement, Block, block, File, file, erase, erase_expression, erase_statement, erase_branches, erase_otherwise, erase_statements, erase_block, erase_names}
+use Rattle.meson_syntax.specs.Spelling.{One, Then, Deeper, NewLine, SaysNames, SpellsExpression, SpellsStatement, SpellsBranches, SpellsOtherwise, SpellsStatements, SpellsBlock, SpellsFile, SaysName}
 use Rattle.meson_syntax.specs.Grammar.{mark, names_words, expression_words, statement_words, branches_words, otherwise_words, statements_words, block_words, file_words, HasBranch, LevelStatement, LevelBranches, LevelOtherwise, LevelStatements, LevelBlock, LevelFile, expression_depth, statement_depth, branches_depth, otherwise_depth, statements_depth, block_depth, file_depth}
-use Rattle.meson_syntax.proofs.parsing.NonEmpty.{says-some, one-some, then-some}
+use Rattle.meson_syntax.proofs.parsing.NonEmpty.{one-some, then-some, name-some}
 use Rattle.meson_syntax.proofs.parsing.FileErased.{has-branch-erased}
-use Rattle.meson_syntax.proofs.parsing.Cuts.{cut, join, one-from, nothing-from, one-then, name-then, then-one, names-from, line-cut, new-line-from, cover-one, cover-then, cover-block, under, deeper}
+use Rattle.meson_syntax.proofs.parsing.Cuts.{cut, join, one-from, nothing-from, one-then, then-one, names-from, line-cut, new-line-from, cover-one, cover-then, cover-block, under, deeper, name-from}
 use Rattle.meson_syntax.proofs.parsing.Placing.{three-as, place-expression}
 
 has-branch-as : (bs : Branches Span) (p : Branches Nowhere) → erase_branches bs ≡ p → HasBranch p → HasBranch bs
@@ -28,13 +28,14 @@ mutual
       let r = place-expression p d ts l n e in
       (evaluate r.0, ap evaluate r.1, r.2)
   place-statement (assign u x s p) d ts l n e =
-      let a = cut ((k.Identifier, x) ∷ []) (mark (assignment_kind s) ++ expression_words p) ts e in
+      let a = cut ((k.Identifier, x.text) ∷ []) (mark (assignment_kind s) ++ expression_words p) ts e in
       let b = cut (mark (assignment_kind s)) (expression_words p) a.back a.second in
       let r = place-expression p d b.back l n b.second in
       let P = SpellsExpression r.0 d in
-      let t = name-then x (Then (One (assignment_kind s)) P) _ ts a (one-then (assignment_kind s) P _ a.back b r.2) in
-      let c = cover-then (Says k.Identifier x) (Then (One (assignment_kind s)) P) ts (says-some k.Identifier x) t in
-      (assign c.0 x s r.0, ap (assign tt x s) r.1, (c.1, t))
+      let y = name-from x a.front a.first in
+      let t = join (SaysName y.0) (Then (One (assignment_kind s)) P) _ _ ts a y.2 (one-then (assignment_kind s) P _ a.back b r.2) in
+      let c = cover-then (SaysName y.0) (Then (One (assignment_kind s)) P) ts (name-some y.0) t in
+      (assign c.0 y.0 s r.0, ap₂ (λ v w. assign tt v s w) y.1 r.1, (c.1, t))
   place-statement (selection u bs o) d ts l n e =
       let a = cut (branches_words bs k.WordIf) (otherwise_words o ++ mark k.WordEndif) ts e in
       let b = cut (otherwise_words o) (mark k.WordEndif) a.back a.second in
@@ -67,11 +68,12 @@ mutual
       let Q = NewLine (SpellsBlock q.0 room.inner) in
       let inside = join (SpellsExpression r.0 room.inner) (Then Q (One k.WordEndforeach)) _ _ f.back g r.2
       (then-one k.WordEndforeach Q _ g.back h (new-line-from (SpellsBlock q.0 room.inner) _ h.front line q.2)) in
-      let t = one-then k.WordForeach (Then (SaysNames xs) (Then (One k.Colon) (Deeper P d))) _ ts a
-      (join (SaysNames xs) (Then (One k.Colon) (Deeper P d)) _ _ a.back b (names-from xs b.front l.0 b.first)
+      let ys = names-from xs b.front l.0 b.first in
+      let t = one-then k.WordForeach (Then (SaysNames ys.0) (Then (One k.Colon) (Deeper P d))) _ ts a
+      (join (SaysNames ys.0) (Then (One k.Colon) (Deeper P d)) _ _ a.back b ys.2
       (one-then k.Colon (Deeper P d) _ b.back f (deeper P _ d f.back room inside))) in
-      let c = cover-then (One k.WordForeach) (Then (SaysNames xs) (Then (One k.Colon) (Deeper P d))) ts (one-some k.WordForeach) t in
-      (iteration c.0 xs r.0 q.0, ap₂ (iteration tt xs) r.1 q.1, (c.1, t))
+      let c = cover-then (One k.WordForeach) (Then (SaysNames ys.0) (Then (One k.Colon) (Deeper P d))) ts (one-some k.WordForeach) t in
+      (iteration c.0 ys.0 r.0 q.0, three-as (iteration tt) (erase_names ys.0) xs (erase_expression r.0) p (erase_block q.0) body ys.1 r.1 q.1, (c.1, t))
   place-statement (breaks u) d ts l n e =
       let w = one-from k.WordBreak ts e in
       let c = cover-one k.WordBreak ts w in

@@ -6,11 +6,11 @@ use Rattle.meson_lex.specs.declared.kinds.Span.{Span}
 use Rattle.meson_lex.specs.Significant.{Word, kept, new_line}
 use Rattle.meson_lex.specs.Located.{Token, word_of, words}
 use Rattle.meson_syntax.specs.Operators.{assignment_kind}
-use Rattle.meson_syntax.specs.Tree.{Statement, evaluate, assign, selection, iteration, breaks, continues, Branches, no_branches, branch, Otherwise, nothing_else, otherwise, Statements, no_statements, statement, Block, block, File, file}
+use Rattle.meson_syntax.specs.Tree.{Statement, evaluate, assign, selection, iteration, breaks, continues, Branches, no_branches, branch, Otherwise, nothing_else, otherwise, Statements, no_statements, statement, Block, block, File, file, Name}
 use Rattle.meson_syntax.specs.Spelling.{NewLine, SaysMoreNames, SaysNames, SpellsStatement, SpellsBranches, SpellsOtherwise, SpellsStatements, SpellsBlock, SpellsFile}
 use Rattle.meson_syntax.specs.Grammar.{more_names_words, names_words, statement_words, branches_words, otherwise_words, statements_words, block_words, file_words}
 use Rattle.meson_syntax.proofs.parsing.Marks.{assignment-drops}
-use Rattle.meson_syntax.proofs.parsing.Words.{says-words, one-words, then-words, expression-words}
+use Rattle.meson_syntax.proofs.parsing.Words.{name-words, one-words, then-words, expression-words}
 
 -- ---- steps
 
@@ -20,16 +20,16 @@ new-line-words P ts a h e =
     let made : word_of t ≡ new_line = ap (λ (κ : Kind). (κ, kept κ t.text)) h.is in
     ap words h.joined ∙ ap₂ (λ w ws. w ∷ ws) made e
 
-pub more-names-words : (xs : List (List ℕ)) (ts : List Token) → SaysMoreNames xs ts → words ts ≡ more_names_words xs
+pub more-names-words : (xs : List (Name Span)) (ts : List Token) → SaysMoreNames xs ts → words ts ≡ more_names_words xs
 more-names-words [] ts h = ap words h
 more-names-words (x ∷ xs) ts h =
     let q = h.second in
     then-words _ _ ts _ _ h (one-words k.Comma h.front (λ x. refl) h.first)
-    (then-words _ _ h.back _ _ q (says-words k.Identifier x q.front refl q.first) (more-names-words xs q.back q.second))
+    (then-words _ _ h.back _ _ q (name-words x q.front q.first) (more-names-words xs q.back q.second))
 
-pub names-words : (xs : List (List ℕ)) (ts : List Token) → SaysNames xs ts → words ts ≡ names_words xs
+pub names-words : (xs : List (Name Span)) (ts : List Token) → SaysNames xs ts → words ts ≡ names_words xs
 names-words [] ts h = absurd h
-names-words (x ∷ xs) ts h = then-words _ _ ts _ _ h (says-words k.Identifier x h.front refl h.first) (more-names-words xs h.back h.second)
+names-words (x ∷ xs) ts h = then-words _ _ ts _ _ h (name-words x h.front h.first) (more-names-words xs h.back h.second)
 
 -- ---- statements
 
@@ -39,7 +39,7 @@ mutual
   statement-words (assign s x a e) d ts h =
       let p = h.1 in
       let q = p.second in
-      then-words _ _ ts _ _ p (says-words k.Identifier x p.front refl p.first)
+      then-words _ _ ts _ _ p (name-words x p.front p.first)
       (then-words _ _ p.back _ _ q (one-words (assignment_kind a) q.front (assignment-drops a) q.first) (expression-words e d q.back q.second))
   statement-words (selection s bs o) d ts h =
       let inner = h.2.inner in

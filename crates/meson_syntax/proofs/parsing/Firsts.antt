@@ -13,13 +13,13 @@ use Rattle.meson_syntax.specs.declared.operator.StringKind.TheVariants as quotes
 use Rattle.meson_syntax.specs.declared.operator.Bracket.{Bracket}
 use Rattle.meson_syntax.specs.declared.operator.Bracket.TheVariants as bracket
 use Rattle.meson_syntax.specs.Operators.{operator_kind, unary_kind, string_kind, boolean_kind, opens, closes, level}
-use Rattle.meson_syntax.specs.Tree.{Expression, identifier, boolean, integer, string, paren, array, dictionary, call, unary, row, postfix, conditional, Operands, no_operands, operand, Tail, method, index, Tails, no_tails, tail, Listing, listing, Argument, plain, named, pair}
+use Rattle.meson_syntax.specs.Tree.{Expression, identifier, boolean, integer, string, paren, array, dictionary, call, unary, row, postfix, conditional, Operands, no_operands, operand, Tail, method, index, Tails, no_tails, tail, Listing, listing, Argument, plain, named, pair, Name}
 use Rattle.meson_syntax.specs.Grammar.{looseness, row_level, HasOperand, HasTail}
 use Rattle.meson_syntax.specs.Input.{Input, kind, next}
 use Rattle.meson_syntax.specs.Reading.{row_of, unary_of}
-use Rattle.meson_syntax.specs.Spelling.{One, Says, Then, SpellsExpression, SpellsOperands, SpellsTail, SpellsTails, SpellsListing, SpellsArgument}
+use Rattle.meson_syntax.specs.Spelling.{One, Says, Then, SpellsExpression, SpellsOperands, SpellsTail, SpellsTails, SpellsListing, SpellsArgument, SaysName}
 use Rattle.meson_syntax.proofs.parsing.Steps.{Passes, part, nothing-same}
-use Rattle.meson_syntax.proofs.parsing.Splits.{passes-split, says-read, one-read}
+use Rattle.meson_syntax.proofs.parsing.Splits.{passes-split, says-read, one-read, name-read}
 
 -- ---- what may stand behind an expression
 
@@ -136,8 +136,8 @@ closing-stops bracket.Curly = omega arith
 
 -- ---- first tokens
 
-pub first-says : (κ : Kind) (x : List ℕ) (Q : List Token → Type 0) (i j : Input) → Passes (Then (Says κ x) Q) i j → kind i ≡ Some κ
-first-says κ x Q i j r = let s = passes-split (Says κ x) Q i j r in (says-read κ x i s.at s.first).is
+pub first-name : (x : Name Span) (Q : List Token → Type 0) (i j : Input) → Passes (Then (SaysName x) Q) i j → kind i ≡ Some k.Identifier
+first-name x Q i j r = let s = passes-split (SaysName x) Q i j r in (name-read x i s.at s.first).is
 
 pub first-one : (κ : Kind) (Q : List Token → Type 0) (i j : Input) → Passes (Then (One κ) Q) i j → kind i ≡ Some κ
 first-one κ Q i j r = let s = passes-split (One κ) Q i j r in (one-read κ i s.at s.first).is
@@ -184,7 +184,7 @@ begins-expression (string s q x) d i j r = let b = ap beginning (says-read (stri
 begins-expression (paren s e) d i j r = let b = ap beginning (first-one k.OpenRound _ i j (part _ _ i j r r.fits.1)) in omega arith
 begins-expression (array l) d i j r = let b = ap beginning (first-listing l bracket.Square d i j r) in omega arith
 begins-expression (dictionary l) d i j r = let b = ap beginning (first-listing l bracket.Curly d i j r) in omega arith
-begins-expression (call s x l) d i j r = let b = ap beginning (first-says k.Identifier x _ i j (part _ _ i j r r.fits.1)) in omega arith
+begins-expression (call s x l) d i j r = let b = ap beginning (first-name x _ i j (part _ _ i j r r.fits.1)) in omega arith
 begins-expression (unary s o e) d i j r = let b = ap beginning (first-one (unary_kind o) _ i j (part _ _ i j r r.fits.2)) ∙ begins-unary o in omega arith
 begins-expression (row s e os) d i j r =
     let p = passes-split (SpellsExpression e d) _ i j (part _ _ i j r r.fits.3) in
@@ -211,7 +211,7 @@ first-expression e d i j r = let b = begins-expression e d i j r in let most = l
 
 pub first-argument : (a : Argument Span) (b : Bracket) (seen : Bool) (d : ℕ) (i j : Input) → Passes (SpellsArgument a b seen d) i j → Starts (kind i)
 first-argument (plain e) b seen d i j r = first-expression e r.fits.2.inner i j (part _ _ i j r r.fits.2.spelled)
-first-argument (named s x e) b seen d i j r = let first = ap beginning (first-says k.Identifier x _ i j (part _ _ i j r r.fits.2)) in omega arith
+first-argument (named s x e) b seen d i j r = let first = ap beginning (first-name x _ i j (part _ _ i j r r.fits.2)) in omega arith
 first-argument (pair s e f) b seen d i j r =
     let p = passes-split _ _ i j (part _ _ i j r r.fits.2) in
     first-expression e p.first.fits.inner i p.at (part _ _ i p.at p.first p.first.fits.spelled)
@@ -280,9 +280,9 @@ name-alone (paren s f) d i j r e stop = let is = first-one k.OpenRound _ i j (pa
 name-alone (array l) d i j r e stop = let is = first-listing l bracket.Square d i j r in absurd cc
 name-alone (dictionary l) d i j r e stop = let is = first-listing l bracket.Curly d i j r in absurd cc
 name-alone (call s x l) d i j r e stop =
-    let p = passes-split (Says k.Identifier x) _ i j (part _ _ i j r r.fits.1) in
+    let p = passes-split (SaysName x) _ i j (part _ _ i j r r.fits.1) in
     let is = first-listing l bracket.Round d p.at j p.second in
-    let goes = (says-read k.Identifier x i p.at p.first).goes in
+    let goes = (name-read x i p.at p.first).goes in
     absurd (stops-at 9 (next i) k.OpenRound stop (omega arith) (ap kind goes ∙ is))
 name-alone (unary s o f) d i j r e stop =
     let two = ap beginning (first-one (unary_kind o) _ i j (part _ _ i j r r.fits.2)) ∙ begins-unary o in

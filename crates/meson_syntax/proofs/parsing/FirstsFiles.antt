@@ -11,7 +11,7 @@ use Rattle.meson_syntax.specs.ReadingFiles.{ends_block}
 use Rattle.meson_syntax.specs.Spelling.{end_of, One, NewLine, SpellsStatement, SpellsBranches, SpellsOtherwise}
 use Rattle.meson_syntax.proofs.parsing.Steps.{Passes, part, nothing-same}
 use Rattle.meson_syntax.proofs.parsing.Splits.{passes-split, one-read}
-use Rattle.meson_syntax.proofs.parsing.Firsts.{Stops, Starts, first-says, first-one, first-expression}
+use Rattle.meson_syntax.proofs.parsing.Firsts.{Stops, Starts, first-name, first-one, first-expression}
 
 -- ---- line ends
 
@@ -68,7 +68,7 @@ otherwise-end (otherwise b) d i j r end =
 -- no block ends where a statement begins
 pub first-statement : (s : Statement Span) (d : ℕ) (i j : Input) → Passes (SpellsStatement s d) i j → ends_block (kind i) ≡ false
 first-statement (evaluate e) d i j r = starts-inside (kind i) (first-expression e d i j r)
-first-statement (assign s x a e) d i j r = ap ends_block (first-says k.Identifier x _ i j (part _ _ i j r r.fits.1))
+first-statement (assign s x a e) d i j r = ap ends_block (first-name x _ i j (part _ _ i j r r.fits.1))
 first-statement (selection s bs o) d i j r =
     let inside = r.fits.2.inner in
     let p = passes-split (SpellsBranches bs k.WordIf inside) _ i j (part _ _ i j r r.fits.2.spelled) in

@@ -6,7 +6,7 @@ use Rattle.meson_lex.specs.declared.kinds.Span.{Span}
 use Rattle.meson_lex.specs.Located.{Token}
 use Rattle.meson_syntax.specs.declared.operator.Bracket.{Bracket}
 use Rattle.meson_syntax.specs.declared.operator.Bracket.TheVariants as bracket
-use Rattle.meson_syntax.specs.Tree.{Expression, identifier, boolean, integer, string, paren, array, dictionary, call, unary, row, postfix, conditional, Operands, no_operands, operand, Tail, method, index, Tails, no_tails, tail, Listing, listing, Argument, plain, named, pair, is_named, Arguments, no_arguments, argument, Statement, evaluate, assign, selection, iteration, breaks, continues, Branches, no_branches, branch, Otherwise, nothing_else, otherwise, Statements, no_statements, statement, Block, block, File, file}
+use Rattle.meson_syntax.specs.Tree.{Expression, identifier, boolean, integer, string, paren, array, dictionary, call, unary, row, postfix, conditional, Operands, no_operands, operand, Tail, method, index, Tails, no_tails, tail, Listing, listing, Argument, plain, named, pair, is_named, Arguments, no_arguments, argument, Statement, evaluate, assign, selection, iteration, breaks, continues, Branches, no_branches, branch, Otherwise, nothing_else, otherwise, Statements, no_statements, statement, Block, block, File, file, Name}
 use Rattle.meson_syntax.specs.Spelling.{SaysNames, SpellsExpression, SpellsOperands, SpellsTail, SpellsTails, SpellsListing, SpellsArguments, SpellsArgument, SpellsStatement, SpellsBranches, SpellsOtherwise, SpellsStatements, SpellsBlock, SpellsFile}
 use Rattle.meson_syntax.specs.Grammar.{row_level, HasName, LevelExpression, LevelOperands, LevelTail, LevelTails, LevelListing, LevelArgument, LevelArguments, LevelStatement, LevelBranches, LevelOtherwise, LevelStatements, LevelBlock, LevelFile, expression_depth, operands_depth, tail_depth, tails_depth, listing_depth, argument_depth, arguments_depth, statement_depth, branches_depth, otherwise_depth, statements_depth, block_depth, file_depth}
 
@@ -106,7 +106,7 @@ mutual
       let y = expression-level f q.inner h.2.second.back q.spelled in
       ((h.1, x.0, y.0), omega arith)
 
-has-name : (xs : List (List ℕ)) (ts : List Token) → SaysNames xs ts → HasName xs
+has-name : (xs : List (Name Span)) (ts : List Token) → SaysNames xs ts → HasName xs
 has-name [] ts h = h
 has-name (x ∷ xs) ts h = tt
 

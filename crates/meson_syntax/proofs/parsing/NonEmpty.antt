@@ -1,15 +1,19 @@
 -- What is spelled takes a token at least.
 use Rattle.std.proofs.Common.{◌≡◌, ℕ, Bool, List, [], ◌∷◌, ◌++◌}
+use Rattle.meson_lex.specs.declared.kinds.Kind.TheVariants as k
 use Rattle.meson_lex.specs.declared.kinds.Kind.{Kind}
 use Rattle.meson_lex.specs.declared.kinds.Span.{Span}
 use Rattle.meson_lex.specs.Located.{Token}
 use Rattle.meson_syntax.specs.declared.operator.Bracket.{Bracket}
 use Rattle.meson_syntax.specs.declared.operator.Bracket.TheVariants as bracket
-use Rattle.meson_syntax.specs.Tree.{Expression, identifier, boolean, integer, string, paren, array, dictionary, call, unary, row, postfix, conditional, Tail, method, index, Listing, listing, Argument, plain, named, pair, Statement, evaluate, assign, selection, iteration, breaks, continues}
-use Rattle.meson_syntax.specs.Spelling.{One, Says, Then, NewLine, SpellsExpression, SpellsTail, SpellsListing, SpellsArgument, SpellsStatement}
+use Rattle.meson_syntax.specs.Tree.{Name, Expression, identifier, boolean, integer, string, paren, array, dictionary, call, unary, row, postfix, conditional, Tail, method, index, Listing, listing, Argument, plain, named, pair, Statement, evaluate, assign, selection, iteration, breaks, continues}
+use Rattle.meson_syntax.specs.Spelling.{One, Says, SaysName, Then, NewLine, SpellsExpression, SpellsTail, SpellsListing, SpellsArgument, SpellsStatement}
 
 pub says-some : (κ : Kind) (x : List ℕ) → Says κ x [] → ⊥
 says-some κ x w = let e = w.alone in absurd cc
+
+pub name-some : (x : Name Span) → SaysName x [] → ⊥
+name-some x w = w.0
 
 pub one-some : (κ : Kind) → One κ [] → ⊥
 one-some κ w = let e = w.alone in absurd cc

@@ -7,12 +7,12 @@ use Rattle.meson_syntax.specs.declared.operator.Bracket.{Bracket}
 use Rattle.meson_syntax.specs.declared.operator.Bracket.TheVariants as bracket
 use Rattle.meson_syntax.specs.Operators.{operator_kind, operator_rest, unary_kind, string_kind, boolean_kind, opens, closes}
 use Rattle.meson_syntax.specs.Tree.{Nowhere, Expression, identifier, boolean, integer, string, paren, array, dictionary, call, unary, row, postfix, conditional, Operands, no_operands, operand, Tail, method, index, Tails, no_tails, tail, Listing, listing, Argument, plain, named, pair, is_named, Arguments, no_arguments, argument, erase_expression, erase_operands, erase_tail, erase_tails, erase_listing, erase_argument, erase_arguments}
-use Rattle.meson_syntax.specs.Spelling.{One, Says, Then, Deeper, Each, Comma, SpellsExpression, SpellsOperands, SpellsTail, SpellsTails, SpellsListing, SpellsArguments, SpellsArgument}
+use Rattle.meson_syntax.specs.Spelling.{One, Then, Deeper, Each, Comma, SpellsExpression, SpellsOperands, SpellsTail, SpellsTails, SpellsListing, SpellsArguments, SpellsArgument, SaysName}
 use Rattle.meson_syntax.specs.Grammar.{mark, comma_words, expression_words, operands_words, tail_words, tails_words, listing_words, argument_words, arguments_words, row_level, looseness, HasOperand, HasTail, Flagged, LevelExpression, LevelOperands, LevelTail, LevelTails, LevelListing, LevelArgument, LevelArguments, expression_depth, operands_depth, tail_depth, tails_depth, listing_depth, argument_depth, arguments_depth}
-use Rattle.meson_syntax.proofs.parsing.NonEmpty.{says-some, one-some, expression-some}
+use Rattle.meson_syntax.proofs.parsing.NonEmpty.{one-some, expression-some, name-some}
 use Rattle.meson_syntax.proofs.parsing.Marks.{string-keeps}
 use Rattle.meson_syntax.proofs.parsing.Erased.{named-erased, flagged-erased, comma-erased, row-erased, looseness-erased, has-operand-erased, has-tail-erased}
-use Rattle.meson_syntax.proofs.parsing.Cuts.{cut, join, one-from, says-from, nothing-from, one-then, name-then, then-one, each-from, comma-from, cover-one, cover-says, cover-then, under, deeper}
+use Rattle.meson_syntax.proofs.parsing.Cuts.{cut, join, one-from, says-from, nothing-from, one-then, then-one, each-from, comma-from, cover-one, cover-says, cover-then, under, deeper, name-from}
 
 -- ---- what a tree says is what the tree without its spans says
 
@@ -78,11 +78,12 @@ mutual
       let r = place-listing list bracket.Curly d ts l n e in
       (dictionary r.0, ap dictionary r.1, r.2)
   place-expression (call u x list) d ts l n e =
-      let a = cut ((k.Identifier, x) ∷ []) (listing_words list bracket.Round) ts e in
+      let a = cut ((k.Identifier, x.text) ∷ []) (listing_words list bracket.Round) ts e in
       let r = place-listing list bracket.Round d a.back l n a.second in
-      let t = name-then x (SpellsListing r.0 bracket.Round d) _ ts a r.2 in
-      let c = cover-then (Says k.Identifier x) (SpellsListing r.0 bracket.Round d) ts (says-some k.Identifier x) t in
-      (call c.0 x r.0, ap (call tt x) r.1, (c.1, t))
+      let y = name-from x a.front a.first in
+      let t = join (SaysName y.0) (SpellsListing r.0 bracket.Round d) _ _ ts a y.2 r.2 in
+      let c = cover-then (SaysName y.0) (SpellsListing r.0 bracket.Round d) ts (name-some y.0) t in
+      (call c.0 y.0 r.0, ap₂ (call tt) y.1 r.1, (c.1, t))
   place-expression (unary u o p) d ts l n e =
       let a = cut (mark (unary_kind o)) (expression_words p) ts e in
       let r = place-expression p d a.back l.1 n a.second in
@@ -149,13 +150,14 @@ mutual
   place-tail : (p : Tail Nowhere) (d : ℕ) (ts : List Token) → LevelTail p → tail_depth p ≤ d → words ts ≡ tail_words p
       → (t : Tail Span) × (erase_tail t ≡ p) × SpellsTail t d ts
   place-tail (method u x list) d ts l n e =
-      let a = cut (mark k.Dot) ((k.Identifier, x) ∷ listing_words list bracket.Round) ts e in
-      let b = cut ((k.Identifier, x) ∷ []) (listing_words list bracket.Round) a.back a.second in
+      let a = cut (mark k.Dot) ((k.Identifier, x.text) ∷ listing_words list bracket.Round) ts e in
+      let b = cut ((k.Identifier, x.text) ∷ []) (listing_words list bracket.Round) a.back a.second in
+      let y = name-from x b.front b.first in
       let r = place-listing list bracket.Round d b.back l n b.second in
       let P = SpellsListing r.0 bracket.Round d in
-      let t = one-then k.Dot (Then (Says k.Identifier x) P) _ ts a (name-then x P _ a.back b r.2) in
-      let c = cover-then (One k.Dot) (Then (Says k.Identifier x) P) ts (one-some k.Dot) t in
-      (method c.0 x r.0, ap (method tt x) r.1, (c.1, t))
+      let t = one-then k.Dot (Then (SaysName y.0) P) _ ts a (join (SaysName y.0) P _ _ a.back b y.2 r.2) in
+      let c = cover-then (One k.Dot) (Then (SaysName y.0) P) ts (one-some k.Dot) t in
+      (method c.0 y.0 r.0, ap₂ (method tt) y.1 r.1, (c.1, t))
   place-tail (index u p) d ts l n e =
       let a = cut (mark k.OpenSquare) (expression_words p ++ mark k.CloseSquare) ts e in
       let b = cut (expression_words p) (mark k.CloseSquare) a.back a.second in
@@ -210,14 +212,15 @@ mutual
       let r = place-expression p room.inner ts l.2 room.fits e in
       (plain r.0, ap plain r.1, (l.0, l.1, deeper (SpellsExpression r.0) _ d ts room r.2))
   place-argument (named u x p) b seen d ts l n e =
-      let a = cut ((k.Identifier, x) ∷ []) (mark k.Colon ++ expression_words p) ts e in
+      let a = cut ((k.Identifier, x.text) ∷ []) (mark k.Colon ++ expression_words p) ts e in
       let f = cut (mark k.Colon) (expression_words p) a.back a.second in
       let room = under (expression_depth p) d n in
       let r = place-expression p room.inner f.back l.1 room.fits f.second in
       let P = Deeper (SpellsExpression r.0) d in
-      let t = name-then x (Then (One k.Colon) P) _ ts a (one-then k.Colon P _ a.back f (deeper (SpellsExpression r.0) _ d f.back room r.2)) in
-      let c = cover-then (Says k.Identifier x) (Then (One k.Colon) P) ts (says-some k.Identifier x) t in
-      (named c.0 x r.0, ap (named tt x) r.1, (c.1, l.0, t))
+      let y = name-from x a.front a.first in
+      let t = join (SaysName y.0) (Then (One k.Colon) P) _ _ ts a y.2 (one-then k.Colon P _ a.back f (deeper (SpellsExpression r.0) _ d f.back room r.2)) in
+      let c = cover-then (SaysName y.0) (Then (One k.Colon) P) ts (name-some y.0) t in
+      (named c.0 y.0 r.0, ap₂ (named tt) y.1 r.1, (c.1, l.0, t))
   place-argument (pair u p v) b seen d ts l n e =
       let a = cut (expression_words p) (mark k.Colon ++ expression_words v) ts e in
       let f = cut (mark k.Colon) (expression_words v) a.back a.second in

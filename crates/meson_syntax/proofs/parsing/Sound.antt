@@ -10,12 +10,12 @@ use Rattle.meson_syntax.specs.declared.operator.Bracket.{Bracket}
 use Rattle.meson_syntax.specs.declared.operator.Bracket.TheVariants as bracket
 use Rattle.meson_syntax.specs.Operators.{string_kind, boolean_kind, opens, closes, holds_values}
 use Rattle.meson_syntax.specs.Tree.{Expression, Listing, listing, Argument, is_named, arguments_of}
-use Rattle.meson_syntax.specs.Input.{same_kind, Input, kind, spelling, from, next, sees, sees_two, after, expect, span_from, left}
+use Rattle.meson_syntax.specs.Input.{same_kind, Input, kind, spelling, from, next, sees, sees_two, after, expect, span_from, left, name_next}
 use Rattle.meson_syntax.specs.Reading.{room, with_name, without_name, paired, element, elements_from, elements, listed, identified, truth, number, quoted, parenthesized, primary, primary_by, expression}
 use Rattle.meson_syntax.specs.Grammar.{looseness}
-use Rattle.meson_syntax.specs.Spelling.{One, Says, Then, Deeper, Nothing, SpellsExpression, SpellsListing, SpellsArguments, SpellsArgument}
-use Rattle.meson_syntax.proofs.parsing.Steps.{Passes, part, passes-then, passes-nothing, and_then_some, chosen_at, some-injective, passes-at, passes-from, node, sees-says, sees-one, expect-one, eat-one, eat-none, two-both, kind-sees}
-use Rattle.meson_syntax.proofs.parsing.NonEmpty.{says-some, one-some, then-some, expression-some}
+use Rattle.meson_syntax.specs.Spelling.{One, Says, Then, Deeper, Nothing, SpellsExpression, SpellsListing, SpellsArguments, SpellsArgument, SaysName}
+use Rattle.meson_syntax.proofs.parsing.Steps.{Passes, part, passes-then, passes-nothing, and_then_some, chosen_at, some-injective, passes-at, passes-from, node, sees-says, sees-one, expect-one, eat-one, eat-none, two-both, kind-sees, sees-name}
+use Rattle.meson_syntax.proofs.parsing.NonEmpty.{says-some, one-some, then-some, expression-some, name-some}
 
 pub room-some : (d : ℕ) → room d ≡ true → 0 < d
 room-some zero h = absurd cc
@@ -39,9 +39,9 @@ module _ (d : ℕ) (deep : (i : Input) (q : Expression Span × Input) → expres
       let at = next (next i) in
       let a = and_then_some (expression d at) _ _ h in
       let P = Deeper (SpellsExpression a.0.0) d in
-      let r = passes-then (Says k.Identifier (spelling i)) (Then (One k.Colon) P) i (next i) a.0.1 (sees-says k.Identifier i both.0)
+      let r = passes-then (SaysName (name_next i)) (Then (One k.Colon) P) i (next i) a.0.1 (sees-name i both.0)
       (passes-then (One k.Colon) P (next i) at a.0.1 (sees-one k.Colon (next i) both.1) (deep at a.0 a.1)) in
-      let n = node _ i a.0.1 (then-some _ _ (says-some k.Identifier (spelling i))) r in
+      let n = node _ i a.0.1 (then-some _ _ (name-some (name_next i))) r in
       passes-at (λ x. SpellsArgument x bracket.Round seen d) i _ q a.2 (part _ _ i a.0.1 n (n.fits.0, refl, n.fits.1))
 
   sound-without_name : (b : Bracket) (seen : Bool) (i : Input) (q : Argument Span × Input) → holds_values b ≡ true → without_name (room d) (expression d) seen i ≡ Some q
@@ -170,16 +170,16 @@ module _ (d : ℕ) (deep : (i : Input) (q : Expression Span × Input) → expres
   sound-identified : (i : Input) (q : Expression Span × Input) → sees k.Identifier i ≡ true → identified (room d) (expression d) i ≡ Some q → Passes (Within 0 q.0 d) i q.1
   unfolding identified
   sound-identified i q is h =
-      let word = sees-says k.Identifier i is in
+      let word = sees-name i is in
       elim (chosen_at (sees k.OpenRound (next i)) _ _ (next i) _ h) [
         | inl w ↦ (
             let a = and_then_some (listed (room d) (expression d) bracket.Round (next i)) _ _ w.1 in
             let l = sound-listed bracket.Round (next i) a.0 w.0 a.1 in
-            let r = passes-then (Says k.Identifier (spelling i)) (SpellsListing a.0.0 bracket.Round d) i (next i) a.0.1 word l in
-            let n = node _ i a.0.1 (then-some _ _ (says-some k.Identifier (spelling i))) r in
+            let r = passes-then (SaysName (name_next i)) (SpellsListing a.0.0 bracket.Round d) i (next i) a.0.1 word l in
+            let n = node _ i a.0.1 (then-some _ _ (name-some (name_next i))) r in
             passes-at (λ e. Within 0 e d) i _ q a.2 (part _ _ i a.0.1 n (omega arith, n.fits)))
         | inr w ↦ (
-            let n = node _ i (next i) (says-some k.Identifier (spelling i)) word in
+            let n = node (Says k.Identifier (name_next i).text) i (next i) (says-some k.Identifier (name_next i).text) (part _ _ i (next i) word word.fits.1) in
             passes-at (λ e. Within 0 e d) i _ q w.1 (part _ _ i (next i) n (omega arith, n.fits)))
       ]
 

@@ -8,14 +8,14 @@ use Rattle.meson_lex.specs.Located.{Token}
 use Rattle.meson_syntax.specs.declared.operator.Assignment.{Assignment}
 use Rattle.meson_syntax.specs.declared.operator.Assignment.TheVariants as assigns
 use Rattle.meson_syntax.specs.Operators.{assignment_kind}
-use Rattle.meson_syntax.specs.Tree.{Expression, Statement, branches_of, Otherwise, nothing_else, Block, block, File, file, statements_of}
-use Rattle.meson_syntax.specs.Input.{same_kind, Input, Outcome, Parser, kind, spelling, from, next, sees, sees_two, after, expect, span_from, left}
+use Rattle.meson_syntax.specs.Tree.{Expression, Statement, branches_of, Otherwise, nothing_else, Block, block, File, file, statements_of, Name}
+use Rattle.meson_syntax.specs.Input.{same_kind, Input, Outcome, Parser, kind, from, next, sees, sees_two, after, expect, span_from, left, name_next}
 use Rattle.meson_syntax.specs.Reading.{room, expression}
 use Rattle.meson_syntax.specs.ReadingFiles.{ends_block, block_span, name, names_from, names, assigned, evaluated, simple, bodied, branched, branches_from, branches, otherwised, selected, iterated, broken, continued, stmt_by, stmt, line, lines_from, lines, blocked, block_at, if_over, file_of, whole}
 use Rattle.meson_syntax.specs.Grammar.{HasBranch}
-use Rattle.meson_syntax.specs.Spelling.{end_of, Covers, CoversBlock, One, Says, Then, Deeper, NewLine, SaysMoreNames, SaysNames, SpellsExpression, SpellsStatement, SpellsBranches, SpellsOtherwise, SpellsStatements, SpellsBlock, SpellsFile}
-use Rattle.meson_syntax.proofs.parsing.Steps.{Passes, part, passes-then, passes-nothing, and_then_some, chosen_at, some-injective, passes-at, node, sees-says, sees-one, expect-one, eat-one, eat-none, two-both, kind-sees}
-use Rattle.meson_syntax.proofs.parsing.NonEmpty.{says-some, one-some, then-some, statement-some}
+use Rattle.meson_syntax.specs.Spelling.{end_of, Covers, CoversBlock, One, Then, Deeper, NewLine, SaysMoreNames, SaysNames, SpellsExpression, SpellsStatement, SpellsBranches, SpellsOtherwise, SpellsStatements, SpellsBlock, SpellsFile, SaysName}
+use Rattle.meson_syntax.proofs.parsing.Steps.{Passes, part, passes-then, passes-nothing, and_then_some, chosen_at, some-injective, passes-at, node, sees-one, expect-one, eat-one, eat-none, two-both, kind-sees, sees-name}
+use Rattle.meson_syntax.proofs.parsing.NonEmpty.{one-some, then-some, statement-some, name-some}
 use Rattle.meson_syntax.proofs.parsing.SoundRows.{sound-expression}
 
 -- ---- line ends
@@ -36,22 +36,22 @@ passes-new-line P i m j p q =
 
 -- ---- names
 
-sound-name : (i : Input) (q : List ℕ × Input) → name i ≡ Some q → Passes (Says k.Identifier q.0) i q.1
+sound-name : (i : Input) (q : Name Span × Input) → name i ≡ Some q → Passes (SaysName q.0) i q.1
 unfolding name
 sound-name i q h = elim (chosen_at (sees k.Identifier i) _ _ i _ h) [
-  | inl w ↦ passes-at (λ x. Says k.Identifier x) i _ q w.1 (sees-says k.Identifier i w.0)
+  | inl w ↦ passes-at (λ x. SaysName x) i _ q w.1 (sees-name i w.0)
   | inr w ↦ absurd cc
 ]
 
-record NamesRead (found : List (List ℕ)) (i : Input) (q : List (List ℕ) × Input) : Type 0 where
-  more : List (List ℕ)
+record NamesRead (found : List (Name Span)) (i : Input) (q : List (Name Span) × Input) : Type 0 where
+  more : List (Name Span)
   are : q.0 ≡ found ++ more
   spelled : Passes (SaysMoreNames more) i q.1
 
-no-names : (found : List (List ℕ)) (i : Input) (q : List (List ℕ) × Input) → Some (found, i) ≡ Some q → NamesRead found i q
+no-names : (found : List (Name Span)) (i : Input) (q : List (Name Span) × Input) → Some (found, i) ≡ Some q → NamesRead found i q
 no-names found i q h = subst (NamesRead found i) (some-injective _ q h) (record { more = []; are = sym (append-nil found); spelled = passes-nothing i })
 
-sound-names_from : (n : ℕ) (found : List (List ℕ)) (i : Input) (q : List (List ℕ) × Input) → names_from n found i ≡ Some q → NamesRead found i q
+sound-names_from : (n : ℕ) (found : List (Name Span)) (i : Input) (q : List (Name Span) × Input) → names_from n found i ≡ Some q → NamesRead found i q
 unfolding names_from
 sound-names_from zero found i q h = no-names found i q h
 sound-names_from (suc n) found i q h =
@@ -65,20 +65,20 @@ sound-names_from (suc n) found i q h =
           record {
             more = x ∷ rest.more;
             are = rest.are ∙ append_assoc found (x ∷ []) rest.more;
-            spelled = passes-then (One k.Comma) (Then (Says k.Identifier x) P) i m q.1 (eat-one k.Comma i w.0)
-                (passes-then (Says k.Identifier x) P m a.0.1 q.1 (sound-name m a.0 a.1) rest.spelled);
+            spelled = passes-then (One k.Comma) (Then (SaysName x) P) i m q.1 (eat-one k.Comma i w.0)
+                (passes-then (SaysName x) P m a.0.1 q.1 (sound-name m a.0 a.1) rest.spelled);
           })
       | inr w ↦ no-names found i q (ap (λ x. Some (found, x)) (sym (eat-none k.Comma i w.0)) ∙ w.1)
     ]
 
-sound-names : (i : Input) (q : List (List ℕ) × Input) → names i ≡ Some q → Passes (SaysNames q.0) i q.1
+sound-names : (i : Input) (q : List (Name Span) × Input) → names i ≡ Some q → Passes (SaysNames q.0) i q.1
 unfolding names
 sound-names i q h =
     let a = and_then_some (name i) _ _ h in
     let x = a.0.0 in
     let m = a.0.1 in
     let read = sound-names_from (left m) (x ∷ []) m q a.2 in
-    let r = passes-then (Says k.Identifier x) (SaysMoreNames read.more) i m q.1 (sound-name i a.0 a.1) read.spelled in
+    let r = passes-then (SaysName x) (SaysMoreNames read.more) i m q.1 (sound-name i a.0 a.1) read.spelled in
     subst (λ xs. Passes (SaysNames xs) i q.1) (sym read.are) r
 
 -- ---- selections and iterations at d, where what stands inside is read as it is spelled at n, one level deeper
@@ -237,9 +237,9 @@ module _ (room : Bool) (expr inner : Parser (Expression Span)) (body : Parser (B
       let at = next (next i) in
       let e = and_then_some (expr at) _ _ h in
       let P = SpellsExpression e.0.0 d in
-      let r = passes-then (Says k.Identifier (spelling i)) (Then (One sign) P) i (next i) e.0.1 (sees-says k.Identifier i both.0)
+      let r = passes-then (SaysName (name_next i)) (Then (One sign) P) i (next i) e.0.1 (sees-name i both.0)
       (passes-then (One sign) P (next i) at e.0.1 (sees-one sign (next i) both.1) (sound-expr at e.0 e.1)) in
-      let n = node _ i e.0.1 (then-some _ _ (says-some k.Identifier (spelling i))) r in
+      let n = node _ i e.0.1 (then-some _ _ (name-some (name_next i))) r in
       passes-at (λ s. SpellsStatement s d) i _ q e.2 n
 
   sound-simple : (i : Input) (q : Statement Span × Input) → simple room expr inner body i ≡ Some q → Passes (SpellsStatement q.0 d) i q.1

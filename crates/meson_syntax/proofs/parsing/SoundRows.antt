@@ -14,11 +14,11 @@ use Rattle.meson_syntax.specs.declared.operator.Bracket.{Bracket}
 use Rattle.meson_syntax.specs.declared.operator.Bracket.TheVariants as bracket
 use Rattle.meson_syntax.specs.Operators.{operator_kind, operator_rest, unary_kind, opens, level}
 use Rattle.meson_syntax.specs.Tree.{Expression, Tail, tails_of, operands_of, Listing}
-use Rattle.meson_syntax.specs.Input.{same_kind, Input, kind, spelling, from, next, sees, sees_two, expect, span_from, left}
+use Rattle.meson_syntax.specs.Input.{same_kind, Input, kind, from, next, sees, sees_two, expect, span_from, left, name_next}
 use Rattle.meson_syntax.specs.Reading.{room, row_of, one_token, operator, operator_by, unary_of, with_tails, with_operands, listed, primary, method_call, indexed, tails_from, tails, postfixed, unary_by, unaried, operands_from, row_at, answered, chosen, expression}
 use Rattle.meson_syntax.specs.Grammar.{looseness}
-use Rattle.meson_syntax.specs.Spelling.{One, Says, Then, Each, Deeper, SpellsExpression, SpellsOperands, SpellsTail, SpellsTails, SpellsListing}
-use Rattle.meson_syntax.proofs.parsing.Steps.{Passes, part, passes-then, passes-nothing, nothing-same, and_then_some, chosen_at, some-injective, passes-at, node, sees-says, sees-one, expect-one, two-both, kind-sees}
+use Rattle.meson_syntax.specs.Spelling.{One, Then, Each, Deeper, SpellsExpression, SpellsOperands, SpellsTail, SpellsTails, SpellsListing, SaysName}
+use Rattle.meson_syntax.proofs.parsing.Steps.{Passes, part, passes-then, passes-nothing, nothing-same, and_then_some, chosen_at, some-injective, passes-at, node, sees-one, expect-one, two-both, kind-sees, sees-name}
 use Rattle.meson_syntax.proofs.parsing.NonEmpty.{one-some, then-some, expression-some}
 use Rattle.meson_syntax.proofs.parsing.Sound.{Within, sound-listed, sound-primary}
 
@@ -82,12 +82,12 @@ module _ (d : ℕ) (deep : (i : Input) (q : Expression Span × Input) → expres
   sound-method_call i q dotted h = elim (chosen_at (sees_two k.Identifier k.OpenRound (next i)) _ _ (next i) _ h) [
     | inl w ↦
         (let both = two-both k.Identifier k.OpenRound (next i) w.0 in
-        let x = spelling (next i) in
+        let x = name_next (next i) in
         let at = next (next i) in
         let a = and_then_some (listed (room d) (expression d) bracket.Round at) _ _ w.1 in
         let P = SpellsListing a.0.0 bracket.Round d in
-        let r = passes-then (One k.Dot) (Then (Says k.Identifier x) P) i (next i) a.0.1 (sees-one k.Dot i dotted)
-        (passes-then (Says k.Identifier x) P (next i) at a.0.1 (sees-says k.Identifier (next i) both.0) (sound-listed d deep bracket.Round at a.0 both.1 a.1)) in
+        let r = passes-then (One k.Dot) (Then (SaysName x) P) i (next i) a.0.1 (sees-one k.Dot i dotted)
+        (passes-then (SaysName x) P (next i) at a.0.1 (sees-name (next i) both.0) (sound-listed d deep bracket.Round at a.0 both.1 a.1)) in
         let n = node _ i a.0.1 (then-some _ _ (one-some k.Dot)) r in
         passes-at (λ t. SpellsTail t d) i _ q a.2 n)
     | inr w ↦ absurd cc

@@ -1,13 +1,15 @@
 -- From what was spelled to what is read: steps.
 use Rattle.std.proofs.Common.{◌≡◌, ℕ, ◌+◌, ◌<◌, Bool, true, false, cond, List, [], ◌∷◌, ◌++◌, length, Some, refl, sym, ap, ap₂, subst, ◌∙◌, append_assoc, length-append, arith, rules}
 use denote.Enum.Bare.{true_same, false_same, same_true}
+use Rattle.meson_lex.specs.declared.kinds.Kind.TheVariants as k
 use Rattle.meson_lex.specs.contracts.kinds.Kind.{the_type}
 use Rattle.meson_lex.specs.declared.kinds.Kind.{Kind}
 use Rattle.meson_lex.specs.declared.kinds.Span.{Span}
 use Rattle.meson_lex.specs.Located.{Token}
-use Rattle.meson_syntax.specs.Input.{same_kind, Input, Outcome, Parser, and_then, kind_of, text_of, from_of, next_of, begins_with, kind, spelling, from, next, sees, sees_two, after, expect, span_from, left, is_over}
-use Rattle.meson_syntax.specs.Spelling.{end_of, Covers, One, Says, Then}
-use Rattle.meson_syntax.proofs.parsing.Steps.{Took, Passes, end_of-append, two-by, some-injective}
+use Rattle.meson_syntax.specs.Input.{same_kind, Input, Outcome, Parser, and_then, kind_of, text_of, from_of, next_of, begins_with, kind, spelling, from, next, sees, sees_two, after, expect, span_from, left, is_over, name_next}
+use Rattle.meson_syntax.specs.Spelling.{end_of, Covers, One, Says, Then, SaysName}
+use Rattle.meson_syntax.proofs.parsing.Steps.{Took, Passes, end_of-append, two-by, some-injective, part}
+use Rattle.meson_syntax.specs.Tree.{Name}
 
 -- ---- what a parser answers
 
@@ -73,6 +75,42 @@ one-read κ i j r =
     let w = token_list κ t.text i.last i.rest j t (r.took.rest ∙ ap (λ u. u ++ j.rest) r.fits.alone) (r.took.last ∙ ap (end_of i.last) r.fits.alone) r.fits.is refl in
     record { is = w.is; says = refl; goes = w.goes }
 
+-- ---- spans and lengths
+
+span : ℕ → ℕ → Span
+span a b = record { from = a; to = b }
+
+covered_list : (s : Span) (last : ℕ) (rest more : List Token) (to : ℕ) (used : List Token) → Covers s used → rest ≡ used ++ more → to ≡ end_of last used
+    → span (from_of last rest) to ≡ span s.from s.to
+covered_list s last rest more to [] c e l = absurd c
+covered_list s last rest more to (t ∷ ts) c e l = ap₂ span (ap (from_of last) e ∙ sym c.0) (l ∙ sym c.1)
+
+-- the one span that covers what was taken
+pub covered : (s : Span) (i j : Input) (used : List Token) → Covers s used → Took i used j → span_from (from i) j ≡ s
+unfolding span_from from span
+covered s i j used c t = covered_list s i.last i.rest j.rest j.last used c t.rest t.last
+
+-- the next token is this name, at its place, and j stands behind it
+pub record NameRead (x : Name Span) (i j : Input) : Type 0 where
+  pub is : kind i ≡ Some k.Identifier
+  pub says : name_next i ≡ x
+  pub goes : next i ≡ j
+
+name_of : Span → List ℕ → Name Span
+name_of place text = record { place = place; text = text }
+
+pub name-read : (x : Name Span) (i j : Input) → Passes (SaysName x) i j → NameRead x i j
+unfolding name_next name_of
+name-read x i j r =
+    let w = says-read k.Identifier x.text i j (part _ _ i j r r.fits.1) in
+    let place = ap (span_from (from i)) w.goes ∙ covered x.place i j r.used r.fits.0 r.took in
+    record { is = w.is; says = ap₂ name_of place w.says; goes = w.goes }
+
+-- the text of the next name is the next token's
+pub name-text : (i : Input) → (name_next i).text ≡ spelling i
+unfolding name_next
+name-text i = refl
+
 yes_list : (κ : Kind) (rest : List Token) → kind_of rest ≡ Some κ → begins_with κ rest ≡ true
 unfolding same_kind
 yes_list κ [] e = absurd cc
@@ -130,20 +168,7 @@ pub after-not : (κ : Kind) (i : Input) → (kind i ≡ Some κ → ⊥) → aft
 unfolding after
 after-not κ i f = rw (not-sees κ i f)
 
--- ---- spans and lengths
-
-span : ℕ → ℕ → Span
-span a b = record { from = a; to = b }
-
-covered_list : (s : Span) (last : ℕ) (rest more : List Token) (to : ℕ) (used : List Token) → Covers s used → rest ≡ used ++ more → to ≡ end_of last used
-    → span (from_of last rest) to ≡ span s.from s.to
-covered_list s last rest more to [] c e l = absurd c
-covered_list s last rest more to (t ∷ ts) c e l = ap₂ span (ap (from_of last) e ∙ sym c.0) (l ∙ sym c.1)
-
--- the one span that covers what was taken
-pub covered : (s : Span) (i j : Input) (used : List Token) → Covers s used → Took i used j → span_from (from i) j ≡ s
-unfolding span_from from span
-covered s i j used c t = covered_list s i.last i.rest j.rest j.last used c t.rest t.last
+-- ---- lengths
 
 took-left : (i j : Input) (used : List Token) → Took i used j → left i ≡ length used + left j
 unfolding left

@@ -1,11 +1,14 @@
 -- Steps of a parser, and the tokens that they take.
 use Rattle.std.proofs.Common.{◌≡◌, ℕ, Bool, true, false, cond, List, [], ◌∷◌, ◌++◌, Some, None, ◌⊎◌, inl, inr, refl, sym, ap, ap₂, subst, ◌∙◌, append_assoc, rules}
 use denote.Enum.Bare.{same_true}
+use Rattle.meson_lex.specs.declared.kinds.Kind.TheVariants as k
 use Rattle.meson_lex.specs.contracts.kinds.Kind.{the_type}
 use Rattle.meson_lex.specs.declared.kinds.Kind.{Kind}
 use Rattle.meson_lex.specs.Located.{Token}
-use Rattle.meson_syntax.specs.Input.{same_kind, Input, Outcome, Parser, and_then, kind_of, text_of, from_of, next_of, begins_with, begins_with_two, kind, spelling, from, next, sees, sees_two, after, expect, span_from}
-use Rattle.meson_syntax.specs.Spelling.{end_of, Covers, One, Says, Then, Nothing}
+use Rattle.meson_syntax.specs.Input.{same_kind, Input, Outcome, Parser, and_then, kind_of, text_of, from_of, next_of, begins_with, begins_with_two, kind, spelling, from, next, sees, sees_two, after, expect, span_from, name_next}
+use Rattle.meson_syntax.specs.Spelling.{end_of, Covers, One, Says, Then, Nothing, SaysName}
+use Rattle.meson_syntax.specs.Tree.{Name}
+use Rattle.meson_syntax.proofs.parsing.NonEmpty.{says-some}
 
 -- from i to j the parser took these tokens
 pub record Took (i : Input) (used : List Token) (j : Input) : Type 0 where
@@ -111,6 +114,11 @@ says_list κ last (t ∷ ts) h = record {
 pub sees-says : (κ : Kind) (i : Input) → sees κ i ≡ true → Passes (Says κ (spelling i)) i (next i)
 unfolding sees spelling next
 sees-says κ i h = says_list κ i.last i.rest h
+
+-- a name, at its place
+pub sees-name : (i : Input) → sees k.Identifier i ≡ true → Passes (SaysName (name_next i)) i (next i)
+unfolding name_next
+sees-name i h = node (Says k.Identifier (spelling i)) i (next i) (says-some k.Identifier (spelling i)) (sees-says k.Identifier i h)
 
 one-from-says : (κ : Kind) (x : List ℕ) (i j : Input) → Passes (Says κ x) i j → Passes (One κ) i j
 one-from-says κ x i j r = record { used = r.used; fits = record { token = r.fits.token; alone = r.fits.alone; is = r.fits.is }; took = r.took }

@@ -9,8 +9,8 @@ use Rattle.meson_lex.proofs.TokenWords.{words-append}
 use Rattle.meson_syntax.specs.declared.operator.Bracket.{Bracket}
 use Rattle.meson_syntax.specs.declared.operator.Bracket.TheVariants as bracket
 use Rattle.meson_syntax.specs.Operators.{operator_kind, operator_rest, unary_kind, string_kind, boolean_kind, opens, closes}
-use Rattle.meson_syntax.specs.Tree.{Expression, identifier, boolean, integer, string, paren, array, dictionary, call, unary, row, postfix, conditional, Operands, no_operands, operand, Tail, method, index, Tails, no_tails, tail, Listing, listing, Argument, plain, named, pair, is_named, Arguments, no_arguments, argument}
-use Rattle.meson_syntax.specs.Spelling.{One, Says, Then, Each, Comma, SpellsExpression, SpellsOperands, SpellsTail, SpellsTails, SpellsListing, SpellsArguments, SpellsArgument}
+use Rattle.meson_syntax.specs.Tree.{Expression, identifier, boolean, integer, string, paren, array, dictionary, call, unary, row, postfix, conditional, Operands, no_operands, operand, Tail, method, index, Tails, no_tails, tail, Listing, listing, Argument, plain, named, pair, is_named, Arguments, no_arguments, argument, Name}
+use Rattle.meson_syntax.specs.Spelling.{One, Says, Then, Each, Comma, SpellsExpression, SpellsOperands, SpellsTail, SpellsTails, SpellsListing, SpellsArguments, SpellsArgument, SaysName}
 use Rattle.meson_syntax.specs.Grammar.{mark, comma_words, expression_words, operands_words, tail_words, tails_words, listing_words, argument_words, arguments_words}
 use Rattle.meson_syntax.proofs.parsing.Marks.{Drop, string-keeps, boolean-drops, unary-drops, opens-drops, closes-drops, operator-drops, rest-drops}
 
@@ -20,6 +20,9 @@ pub says-words : (κ : Kind) (x : List ℕ) (ts : List Token) → kept κ x ≡ 
 says-words κ x ts keeps w =
     let made : word_of w.token ≡ (κ, x) = ap₂ (λ (a : Kind) (b : List ℕ). (a, kept a b)) w.is w.says ∙ ap (λ b. (κ, b)) keeps in
     ap words w.alone ∙ ap (λ y. y ∷ []) made
+
+pub name-words : (x : Name Span) (ts : List Token) → SaysName x ts → words ts ≡ (k.Identifier, x.text) ∷ []
+name-words x ts h = says-words k.Identifier x.text ts refl h.1
 
 pub one-words : (κ : Kind) (ts : List Token) → ((x : List ℕ) → kept κ x ≡ []) → One κ ts → words ts ≡ mark κ
 one-words κ ts drops w =
@@ -56,7 +59,7 @@ mutual
   expression-words (dictionary l) d ts h = listing-words l bracket.Curly d ts h
   expression-words (call s x l) d ts h =
       let p = h.1 in
-      then-words _ _ ts _ _ p (says-words k.Identifier x p.front refl p.first) (listing-words l bracket.Round d p.back p.second)
+      then-words _ _ ts _ _ p (name-words x p.front p.first) (listing-words l bracket.Round d p.back p.second)
   expression-words (unary s o e) d ts h =
       let p = h.2 in
       then-words _ _ ts _ _ p (one-words (unary_kind o) p.front (unary-drops o) p.first) (expression-words e d p.back p.second)
@@ -91,7 +94,7 @@ mutual
       let p = h.1 in
       let q = p.second in
       then-words _ _ ts _ _ p (one-words k.Dot p.front (λ x. refl) p.first)
-      (then-words _ _ p.back _ _ q (says-words k.Identifier x q.front refl q.first) (listing-words l bracket.Round d q.back q.second))
+      (then-words _ _ p.back _ _ q (name-words x q.front q.first) (listing-words l bracket.Round d q.back q.second))
   tail-words (index s e) d ts h =
       let p = h.1 in
       let q = p.second in
@@ -121,7 +124,7 @@ mutual
   argument-words (named s x e) b seen d ts h =
       let p = h.2 in
       let q = p.second in
-      then-words _ _ ts _ _ p (says-words k.Identifier x p.front refl p.first)
+      then-words _ _ ts _ _ p (name-words x p.front p.first)
       (then-words _ _ p.back _ _ q (one-words k.Colon q.front (λ x. refl) q.first) (expression-words e q.second.inner q.back q.second.spelled))
   argument-words (pair s e f) b seen d ts h =
       let p = h.2 in

@@ -83,7 +83,7 @@ module _ (S : Type 0) where
   argument-fits (named s x e) b seen = (
     record {
       same = refl;
-      put = λ y. ap (λ w. (k.Identifier, x) ∷ (mark k.Colon ++ w)) (sym (append-nil (expression_words y)));
+      put = λ y. ap (λ w. (k.Identifier, x.text) ∷ (mark k.Colon ++ w)) (sym (append-nil (expression_words y)));
       like = λ y. refl;
       inside = λ l. l.1;
       outside = λ l y t ly. (l.0, ly);
@@ -155,10 +155,10 @@ module _ (S : Type 0) where
 
   tail-fits : (t : Tail S) → Every (FitsTail t) (tail_children t)
   tail-fits (method s x l) =
-      every-around (FitsListing l bracket.Round) (FitsTail (method s x l)) (mark k.Dot ++ (k.Identifier, x) ∷ []) [] (method s x)
+      every-around (FitsListing l bracket.Round) (FitsTail (method s x l)) (mark k.Dot ++ (k.Identifier, x.text) ∷ []) [] (method s x)
       (λ h f. around-fits S (Listing S) (Tail S) (λ y. listing_words y bracket.Round) tail_words (λ y. LevelListing y bracket.Round) LevelTail LikeAny LikeAny
-      (mark k.Dot ++ (k.Identifier, x) ∷ []) [] (method s x) l
-      (λ z like. regroup (mark k.Dot) ((k.Identifier, x) ∷ []) (listing_words z bracket.Round)) (λ z like. tt) (λ l. l) (λ l z like lz. lz) h f)
+      (mark k.Dot ++ (k.Identifier, x.text) ∷ []) [] (method s x) l
+      (λ z like. regroup (mark k.Dot) ((k.Identifier, x.text) ∷ []) (listing_words z bracket.Round)) (λ z like. tt) (λ l. l) (λ l z like lz. lz) h f)
       (listing_children l bracket.Round) (listing-fits l bracket.Round)
   tail-fits (index s e) = (
     record {
@@ -205,7 +205,7 @@ module _ (S : Type 0) where
   expression-fits (paren s e) = (record { same = refl; put = λ y. refl; like = λ y. refl; inside = λ l. l; outside = λ l y t ly. ly }, tt)
   expression-fits (array l) = lists-fit l bracket.Square [] array (λ z. refl) (λ z. refl) (λ z. refl)
   expression-fits (dictionary l) = lists-fit l bracket.Curly [] dictionary (λ z. refl) (λ z. refl) (λ z. refl)
-  expression-fits (call s x l) = lists-fit l bracket.Round ((k.Identifier, x) ∷ []) (call s x) (λ z. refl) (λ z. refl) (λ z. refl)
+  expression-fits (call s x l) = lists-fit l bracket.Round ((k.Identifier, x.text) ∷ []) (call s x) (λ z. refl) (λ z. refl) (λ z. refl)
   expression-fits (unary s o e) = (
     record {
       same = refl;

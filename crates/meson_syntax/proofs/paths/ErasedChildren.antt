@@ -8,12 +8,12 @@ use Rattle.meson_lex.specs.Significant.{Word, new_line}
 use Rattle.meson_syntax.specs.declared.operator.Bracket.{Bracket}
 use Rattle.meson_syntax.specs.declared.operator.Bracket.TheVariants as bracket
 use Rattle.meson_syntax.specs.Operators.{opens, closes}
-use Rattle.meson_syntax.specs.Tree.{Nowhere, Expression, identifier, boolean, integer, string, paren, array, dictionary, call, unary, row, postfix, conditional, Operands, no_operands, operand, Tail, method, index, Tails, no_tails, tail, Listing, listing, Argument, plain, named, pair, Arguments, no_arguments, argument, Statement, evaluate, assign, selection, iteration, breaks, continues, Branches, no_branches, branch, Otherwise, nothing_else, otherwise, Statements, no_statements, statement, Block, block, erase_expression, erase_operands, erase_tail, erase_tails, erase_listing, erase_argument, erase_arguments, erase_statement, erase_branches, erase_otherwise, erase_statements, erase_block}
+use Rattle.meson_syntax.specs.Tree.{Nowhere, Expression, identifier, boolean, integer, string, paren, array, dictionary, call, unary, row, postfix, conditional, Operands, no_operands, operand, Tail, method, index, Tails, no_tails, tail, Listing, listing, Argument, plain, named, pair, Arguments, no_arguments, argument, Statement, evaluate, assign, selection, iteration, breaks, continues, Branches, no_branches, branch, Otherwise, nothing_else, otherwise, Statements, no_statements, statement, Block, block, erase_name, erase_expression, erase_operands, erase_tail, erase_tails, erase_listing, erase_argument, erase_arguments, erase_statement, erase_branches, erase_otherwise, erase_statements, erase_block}
 use Rattle.meson_syntax.specs.Grammar.{mark, names_words, operator_words}
 use Rattle.meson_syntax.specs.Paths.{Sort, of_expression, of_statement, of_block, Node, Hole, all_around, argument_children, arguments_children, listing_children, operands_children, tail_children, tails_children, expression_children, branches_children, otherwise_children, statement_children, statements_children, block_children, children}
 use Rattle.meson_syntax.specs.Laws.{Front, front, erase_node, erase_front}
 use Rattle.meson_syntax.proofs.parsing.Erased.{comma-erased, expression-words-erased, operands-words-erased, tail-words-erased, tails-words-erased, argument-words-erased, arguments-words-erased}
-use Rattle.meson_syntax.proofs.parsing.FileErased.{statement-words-erased, branches-words-erased, otherwise-words-erased, statements-words-erased, block-words-erased}
+use Rattle.meson_syntax.proofs.parsing.FileErased.{statement-words-erased, branches-words-erased, otherwise-words-erased, statements-words-erased, block-words-erased, names-words-erased}
 
 -- a node in a hole without its spans, and the words around it
 abbrev pub bare : {S T : Type 0} → Hole S T → Front Nowhere
@@ -76,7 +76,7 @@ module _ {S : Type 0} where
       (within _ _ [] [] (operand o (erase_expression e)) (operand o e) _ _ (ap (λ w. operator_words o ++ w) (expression-words-erased e)) refl (operands-children-erased more))
 
   tail-children-erased : (t : Tail S) → map front (tail_children (erase_tail t)) ≡ map bare (tail_children t)
-  tail-children-erased (method s x l) = within (mark k.Dot ++ (k.Identifier, x) ∷ []) _ [] _ (method tt x) (method s x) _ _ refl refl (listing-children-erased l bracket.Round)
+  tail-children-erased (method s x l) = within (mark k.Dot ++ (k.Identifier, x.text) ∷ []) _ [] _ (method tt (erase_name x)) (method s x) _ _ refl refl (listing-children-erased l bracket.Round)
   tail-children-erased (index s e) = refl
 
   tails-children-erased : (ts : Tails S) → map front (tails_children (erase_tails ts)) ≡ map bare (tails_children ts)
@@ -94,7 +94,7 @@ module _ {S : Type 0} where
   expression-children-erased (paren s e) = refl
   expression-children-erased (array l) = within [] _ [] _ array array _ _ refl refl (listing-children-erased l bracket.Square)
   expression-children-erased (dictionary l) = within [] _ [] _ dictionary dictionary _ _ refl refl (listing-children-erased l bracket.Curly)
-  expression-children-erased (call s x l) = within ((k.Identifier, x) ∷ []) _ [] _ (call tt x) (call s x) _ _ refl refl (listing-children-erased l bracket.Round)
+  expression-children-erased (call s x l) = within ((k.Identifier, x.text) ∷ []) _ [] _ (call tt (erase_name x)) (call s x) _ _ refl refl (listing-children-erased l bracket.Round)
   expression-children-erased (unary s o e) = refl
   expression-children-erased (row s e os) =
       and (one of_expression (erase_expression e) _ _ _ _ refl (operands-words-erased os))
@@ -127,8 +127,8 @@ module _ {S : Type 0} where
       (within [] [] _ _ (λ x. selection tt x (erase_otherwise o)) (λ x. selection s x o) _ _ refl (ap (λ w. w ++ mark k.WordEndif) (otherwise-words-erased o)) (branches-children-erased bs k.WordIf))
       (within _ _ (mark k.WordEndif) _ (selection tt (erase_branches bs)) (selection s bs) _ _ (branches-words-erased bs k.WordIf) refl (otherwise-children-erased o))
   statement-children-erased (iteration s xs e b) =
-      and (one of_expression (erase_expression e) _ _ _ _ refl (ap (λ w. (new_line ∷ w) ++ mark k.WordEndforeach) (block-words-erased b)))
-      (and (one of_block (erase_block b) _ _ _ _ (ap (λ w. mark k.WordForeach ++ (names_words xs ++ (mark k.Colon ++ (w ++ new_line ∷ [])))) (expression-words-erased e)) refl) refl)
+      and (one of_expression (erase_expression e) _ _ _ _ (ap (λ w. mark k.WordForeach ++ (w ++ mark k.Colon)) (names-words-erased xs)) (ap (λ w. (new_line ∷ w) ++ mark k.WordEndforeach) (block-words-erased b)))
+      (and (one of_block (erase_block b) _ _ _ _ (ap₂ (λ v w. mark k.WordForeach ++ (v ++ (mark k.Colon ++ (w ++ new_line ∷ [])))) (names-words-erased xs) (expression-words-erased e)) refl) refl)
   statement-children-erased (breaks s) = refl
   statement-children-erased (continues s) = refl
 

@@ -102,7 +102,7 @@ module _ (S : Type 0) where
   statement-fits (assign s x a e) = (
     record {
       same = refl;
-      put = λ y. ap (λ w. (k.Identifier, x) ∷ (mark (assignment_kind a) ++ w)) (sym (append-nil (expression_words y)));
+      put = λ y. ap (λ w. (k.Identifier, x.text) ∷ (mark (assignment_kind a) ++ w)) (sym (append-nil (expression_words y)));
       like = λ y. tt;
       inside = λ l. l;
       outside = λ l y t ly. ly;

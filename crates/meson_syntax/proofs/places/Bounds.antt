@@ -113,7 +113,7 @@ mutual
   expression-ends (call s x l) d ts h =
       let p = h.1 in
       let l-ends = listing-ends l bracket.Round d p.back p.second in
-      then-bounded _ _ ts p (one-begins k.Identifier p.front identifier-own (says-one k.Identifier x p.front p.first)) l-ends.1
+      then-bounded _ _ ts p (one-begins k.Identifier p.front identifier-own (says-one k.Identifier x.text p.front p.first.1)) l-ends.1
   expression-ends (unary s o e) d ts h =
       let p = h.2 in
       let inner = expression-ends e d p.back p.second in
@@ -177,7 +177,7 @@ bounded-argument (named s x e) b seen d ts h =
     let p = h.2 in
     let q = p.second in
     let value = expression-ends e q.second.inner q.back q.second.spelled in
-    bounded ts (then-begins _ _ ts p (one-begins k.Identifier p.front identifier-own (says-one k.Identifier x p.front p.first))) (then-closes _ _ ts p (then-closes _ _ p.back q value.1))
+    bounded ts (then-begins _ _ ts p (one-begins k.Identifier p.front identifier-own (says-one k.Identifier x.text p.front p.first.1))) (then-closes _ _ ts p (then-closes _ _ p.back q value.1))
 bounded-argument (pair s e f) b seen d ts h =
     let p = h.2 in
     let q = p.second in
@@ -195,7 +195,7 @@ bounded-statement (assign s x a e) d ts h =
     let p = h.1 in
     let q = p.second in
     let value = expression-ends e d q.back q.second in
-    bounded ts (then-begins _ _ ts p (one-begins k.Identifier p.front identifier-own (says-one k.Identifier x p.front p.first))) (then-closes _ _ ts p (then-closes _ _ p.back q value.1))
+    bounded ts (then-begins _ _ ts p (one-begins k.Identifier p.front identifier-own (says-one k.Identifier x.text p.front p.first.1))) (then-closes _ _ ts p (then-closes _ _ p.back q value.1))
 bounded-statement (selection s bs o) d ts h =
     let p = h.2.spelled in
     let q = p.second in

@@ -10,7 +10,7 @@ use Rattle.meson_syntax.specs.Grammar.{comma_words, argument_words, arguments_wo
 use Rattle.meson_syntax.specs.Spelling.{Covers, One, SpellsExpression, SpellsListing, SpellsArguments, SpellsArgument}
 use Rattle.meson_syntax.specs.Paths.{ListIn, list_in, list_span, inner_words, ElementAt, elements_at, element_at}
 use Rattle.meson_syntax.proofs.parsing.Steps.{some-injective}
-use Rattle.meson_syntax.proofs.parsing.Words.{says-words, then-words, comma-words, argument-words, arguments-words}
+use Rattle.meson_syntax.proofs.parsing.Words.{name-words, then-words, comma-words, argument-words, arguments-words}
 use Rattle.meson_syntax.proofs.paths.Every.{Every, every-nth}
 use Rattle.meson_syntax.proofs.places.Inside.{join-words}
 
@@ -110,7 +110,7 @@ pub list-inside : (x : Expression Span) (l : ListIn Span) (d : ℕ) (ts : List T
 list-inside (array m) l d ts h sp = subst (λ l. ListInside l d ts) (some-injective _ _ h) (record { front = []; own = ts; parts = refl; is_front = refl; spelled = sp })
 list-inside (call s x m) l d ts h sp =
     let p = sp.1 in
-    subst (λ l. ListInside l d ts) (some-injective _ _ h) (record { front = p.front; own = p.back; parts = p.joined; is_front = says-words k.Identifier x p.front refl p.first; spelled = p.second })
+    subst (λ l. ListInside l d ts) (some-injective _ _ h) (record { front = p.front; own = p.back; parts = p.joined; is_front = name-words x p.front p.first; spelled = p.second })
 list-inside _ l d ts h sp = absurd cc
 
 -- ---- the words of an element and those around it are the words of its list

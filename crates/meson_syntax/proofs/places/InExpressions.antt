@@ -11,7 +11,7 @@ use Rattle.meson_syntax.specs.Grammar.{mark, comma_words, operator_words, expres
 use Rattle.meson_syntax.specs.Spelling.{SpellsExpression, SpellsOperands, SpellsTail, SpellsTails, SpellsListing, SpellsArguments, SpellsArgument}
 use Rattle.meson_syntax.specs.Paths.{argument_children, arguments_children, listing_children, operands_children, tail_children, tails_children, expression_children}
 use Rattle.meson_syntax.proofs.parsing.Marks.{opens-drops, closes-drops, unary-drops, operator-drops, rest-drops}
-use Rattle.meson_syntax.proofs.parsing.Words.{says-words, one-words, each-words, then-words, comma-words, expression-words, operands-words, tail-words, tails-words, argument-words, arguments-words}
+use Rattle.meson_syntax.proofs.parsing.Words.{name-words, one-words, each-words, then-words, comma-words, expression-words, operands-words, tail-words, tails-words, argument-words, arguments-words}
 use Rattle.meson_syntax.proofs.paths.Every.{Every, every-append}
 use Rattle.meson_syntax.proofs.places.Inside.{InHole, join-words, part-holes, last-part, whole-part, holds}
 
@@ -35,7 +35,7 @@ argument-inside (named s x e) b seen d ts h =
     let p = h.2 in
     let q = p.second in (
       holds e _ [] q.second.inner ts (p.front ++ q.front) q.back [] (third-of ts p.front p.back q.front q.back p.joined q.joined)
-          (join-words p.front q.front ((k.Identifier, x) ∷ []) (mark k.Colon) (says-words k.Identifier x p.front refl p.first) (one-words k.Colon q.front (λ y. refl) q.first)) refl q.second.spelled,
+          (join-words p.front q.front ((k.Identifier, x.text) ∷ []) (mark k.Colon) (name-words x p.front p.first) (one-words k.Colon q.front (λ y. refl) q.first)) refl q.second.spelled,
       tt,
     )
 argument-inside (pair s e f) b seen d ts h =
@@ -94,8 +94,8 @@ tail-inside : (t : Tail Span) (d : ℕ) (ts : List Token) → SpellsTail t d ts 
 tail-inside (method s x l) d ts h =
     let p = h.1 in
     let q = p.second in
-    part-holes (mark k.Dot ++ (k.Identifier, x) ∷ []) [] (method s x) ts (p.front ++ q.front) q.back [] (third-of ts p.front p.back q.front q.back p.joined q.joined)
-    (join-words p.front q.front (mark k.Dot) ((k.Identifier, x) ∷ []) (one-words k.Dot p.front (λ y. refl) p.first) (says-words k.Identifier x q.front refl q.first)) refl
+    part-holes (mark k.Dot ++ (k.Identifier, x.text) ∷ []) [] (method s x) ts (p.front ++ q.front) q.back [] (third-of ts p.front p.back q.front q.back p.joined q.joined)
+    (join-words p.front q.front (mark k.Dot) ((k.Identifier, x.text) ∷ []) (one-words k.Dot p.front (λ y. refl) p.first) (name-words x q.front q.first)) refl
     (listing_children l bracket.Round) (listing-inside l bracket.Round d q.back q.second)
 tail-inside (index s e) d ts h =
     let p = h.1 in
@@ -130,7 +130,7 @@ expression-inside (array l) d ts h = part-holes [] [] array ts [] ts [] (whole-p
 expression-inside (dictionary l) d ts h = part-holes [] [] dictionary ts [] ts [] (whole-part ts) refl refl (listing_children l bracket.Curly) (listing-inside l bracket.Curly d ts h)
 expression-inside (call s x l) d ts h =
     let p = h.1 in
-    part-holes ((k.Identifier, x) ∷ []) [] (call s x) ts p.front p.back [] (last-part ts p.front p.back p.joined) (says-words k.Identifier x p.front refl p.first) refl
+    part-holes ((k.Identifier, x.text) ∷ []) [] (call s x) ts p.front p.back [] (last-part ts p.front p.back p.joined) (name-words x p.front p.first) refl
     (listing_children l bracket.Round) (listing-inside l bracket.Round d p.back p.second)
 expression-inside (unary s o e) d ts h =
     let p = h.2 in

@@ -13,7 +13,7 @@ use Rattle.meson_syntax.specs.Spelling.{NewLine, SpellsStatement, SpellsBranches
 use Rattle.meson_syntax.specs.Paths.{Sort, of_expression, of_statement, of_block, Node, Hole, around, branches_children, otherwise_children, statement_children, statements_children, block_children, children, child, reach}
 use Rattle.meson_syntax.proofs.parsing.Steps.{some-injective}
 use Rattle.meson_syntax.proofs.parsing.Marks.{assignment-drops}
-use Rattle.meson_syntax.proofs.parsing.Words.{says-words, one-words, then-words, expression-words}
+use Rattle.meson_syntax.proofs.parsing.Words.{name-words, one-words, then-words, expression-words}
 use Rattle.meson_syntax.proofs.parsing.FileWords.{new-line-words, names-words, statement-words, branches-words, otherwise-words, statements-words, block-words}
 use Rattle.meson_syntax.proofs.paths.Every.{Every, every-append, every-nth}
 use Rattle.meson_syntax.proofs.paths.Reaching.{map-some, and-then-some}
@@ -71,7 +71,7 @@ statement-inside (assign s x a e) d ts h =
     let p = h.1 in
     let q = p.second in (
       holds e _ [] d ts (p.front ++ q.front) q.back [] (third-of ts p.front p.back q.front q.back p.joined q.joined)
-          (join-words p.front q.front ((k.Identifier, x) ∷ []) (mark (assignment_kind a)) (says-words k.Identifier x p.front refl p.first) (one-words (assignment_kind a) q.front (assignment-drops a) q.first)) refl q.second,
+          (join-words p.front q.front ((k.Identifier, x.text) ∷ []) (mark (assignment_kind a)) (name-words x p.front p.first) (one-words (assignment_kind a) q.front (assignment-drops a) q.first)) refl q.second,
       tt,
     )
 statement-inside (selection s bs o) d ts h =

@@ -107,7 +107,7 @@ module _ (S : Type 0) where
         (no-line-append (expression_words e) (mark k.CloseRound) (expression-no-line e) (mark-no-line k.CloseRound (λ e. absurd cc)))
     expression-no-line (array l) = listing-no-line l bracket.Square
     expression-no-line (dictionary l) = listing-no-line l bracket.Curly
-    expression-no-line (call s x l) = no-line-append ((k.Identifier, x) ∷ []) (listing_words l bracket.Round) (name-no-line x) (listing-no-line l bracket.Round)
+    expression-no-line (call s x l) = no-line-append ((k.Identifier, x.text) ∷ []) (listing_words l bracket.Round) (name-no-line x.text) (listing-no-line l bracket.Round)
     expression-no-line (unary s o e) = no-line-append (mark (unary_kind o)) (expression_words e) (mark-no-line (unary_kind o) (unary-own o)) (expression-no-line e)
     expression-no-line (row s e os) = no-line-append (expression_words e) (operands_words os) (expression-no-line e) (operands-no-line os)
     expression-no-line (postfix s e ts) = no-line-append (expression_words e) (tails_words ts) (expression-no-line e) (tails-no-line ts)
@@ -123,8 +123,8 @@ module _ (S : Type 0) where
 
     tail-no-line : (t : Tail S) → NoLine (tail_words t)
     tail-no-line (method s x l) =
-        no-line-append (mark k.Dot) ((k.Identifier, x) ∷ listing_words l bracket.Round) (mark-no-line k.Dot (λ e. absurd cc))
-        (no-line-append ((k.Identifier, x) ∷ []) (listing_words l bracket.Round) (name-no-line x) (listing-no-line l bracket.Round))
+        no-line-append (mark k.Dot) ((k.Identifier, x.text) ∷ listing_words l bracket.Round) (mark-no-line k.Dot (λ e. absurd cc))
+        (no-line-append ((k.Identifier, x.text) ∷ []) (listing_words l bracket.Round) (name-no-line x.text) (listing-no-line l bracket.Round))
     tail-no-line (index s e) =
         no-line-append (mark k.OpenSquare) (expression_words e ++ mark k.CloseSquare) (mark-no-line k.OpenSquare (λ e. absurd cc))
         (no-line-append (expression_words e) (mark k.CloseSquare) (expression-no-line e) (mark-no-line k.CloseSquare (λ e. absurd cc)))
@@ -141,7 +141,7 @@ module _ (S : Type 0) where
     pub argument-no-line : (a : Argument S) → NoLine (argument_words a)
     argument-no-line (plain e) = expression-no-line e
     argument-no-line (named s x e) =
-        no-line-append ((k.Identifier, x) ∷ []) (mark k.Colon ++ expression_words e) (name-no-line x) (no-line-append (mark k.Colon) (expression_words e) colon-mark (expression-no-line e))
+        no-line-append ((k.Identifier, x.text) ∷ []) (mark k.Colon ++ expression_words e) (name-no-line x.text) (no-line-append (mark k.Colon) (expression_words e) colon-mark (expression-no-line e))
     argument-no-line (pair s e f) =
         no-line-append (expression_words e) (mark k.Colon ++ expression_words f) (expression-no-line e) (no-line-append (mark k.Colon) (expression_words f) colon-mark (expression-no-line f))
 

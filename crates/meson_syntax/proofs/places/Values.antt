@@ -9,7 +9,7 @@ use Rattle.meson_syntax.specs.Grammar.{mark, expression_words, argument_words}
 use Rattle.meson_syntax.specs.Spelling.{SpellsExpression, SpellsArgument}
 use Rattle.meson_syntax.specs.Paths.{value_of, words_ahead}
 use Rattle.meson_syntax.proofs.parsing.Steps.{some-injective}
-use Rattle.meson_syntax.proofs.parsing.Words.{says-words, one-words}
+use Rattle.meson_syntax.proofs.parsing.Words.{name-words, one-words}
 use Rattle.meson_syntax.proofs.places.Inside.{join-words}
 use Rattle.meson_syntax.proofs.places.Spoken.{NoLine, front-no-line, argument-no-line}
 
@@ -33,7 +33,7 @@ value-spelled (named s x e) v b seen d ts h sp =
       ahead = name.front ++ colon.front;
       own = colon.back;
       parts = name.joined ∙ ap (λ z. name.front ++ z) colon.joined ∙ sym (append_assoc name.front colon.front colon.back);
-      is_ahead = join-words name.front colon.front ((k.Identifier, x) ∷ []) (mark k.Colon) (says-words k.Identifier x name.front refl name.first) (one-words k.Colon colon.front (λ y. refl) colon.first);
+      is_ahead = join-words name.front colon.front ((k.Identifier, x.text) ∷ []) (mark k.Colon) (name-words x name.front name.first) (one-words k.Colon colon.front (λ y. refl) colon.first);
       spelled = colon.second.spelled;
     })
 value-spelled (pair s e f) v b seen d ts h sp = absurd cc
@@ -42,7 +42,7 @@ value-spelled (pair s e f) v b seen d ts h sp = absurd cc
 
 value-words : (S : Type 0) (a : Argument S) (v : Expression S) → value_of a ≡ Some v → argument_words a ≡ words_ahead a ++ expression_words v
 value-words S (plain e) v h = ap expression_words (some-injective _ _ h)
-value-words S (named s x e) v h = ap (λ v. (k.Identifier, x) ∷ (mark k.Colon ++ expression_words v)) (some-injective _ _ h)
+value-words S (named s x e) v h = ap (λ v. (k.Identifier, x.text) ∷ (mark k.Colon ++ expression_words v)) (some-injective _ _ h)
 value-words S (pair s e f) v h = absurd cc
 
 -- the words before a value are no line ends

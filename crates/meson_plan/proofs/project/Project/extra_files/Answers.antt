@@ -1,6 +1,6 @@
 use Rattle.std.proofs.Common.{◌≡◌, ◌≢◌, Some, length, ◌∙◌, sym, ap, subst}
 use Rattle.std.specs.Prelude.{Ok, Err, IfOk, IfErr}
-use Rattle.meson_syntax.specs.View.{list_view, text_at}
+use Rattle.meson_syntax.specs.View.{list_view, name_at, text_at}
 use Rattle.meson_calls.specs.declared.refusal.Refusal.TheVariants.{OutOfMemory}
 use Rattle.meson_calls.specs.Loading.{named_trees, views, project}
 use Rattle.meson_calls.specs.Notes.{notes, note_views}
@@ -41,7 +41,7 @@ returns-clause-found c =
     ap (λ fs. named_trees fs (views fs c.in_ok-variables.variables.trees.now)) c.in_ok-variables.ensures.files
     ∙ ap (λ ts. named_trees files (views files ts)) (c.in_ok-variables.ensures.trees ∙ c.as_slice-trees.ensures.value) in
     let here = subst (λ q. IfOk r (λ s. extra_of_call q it ≡ Ok s)) same (c.extra_files_of.ensures.found text) in
-    let there = found_there (extra_files p call) (extra_of_call p it) (extra_there call called.span text list p at) r here in
+    let there = found_there (extra_files p call) (extra_of_call p it) (extra_there call called.span (name_at called.source.now called.name) list p at) r here in
     subst (λ l. IfOk r (λ s. extra_files (project l) call ≡ Some (Ok s))) c.self.view_is there
 
 pub returns-clause-refused : goal.returns-clause-refused
@@ -59,5 +59,5 @@ returns-clause-refused c =
     ap (λ fs. named_trees fs (views fs c.in_ok-variables.variables.trees.now)) c.in_ok-variables.ensures.files
     ∙ ap (λ ts. named_trees files (views files ts)) (c.in_ok-variables.ensures.trees ∙ c.as_slice-trees.ensures.value) in
     let here = subst (λ q. IfErr r (λ e. e ≢ OutOfMemory → extra_of_call q it ≡ Err e)) same (c.extra_files_of.ensures.refused text) in
-    let there = refused_there (extra_files p call) (extra_of_call p it) (extra_there call called.span text list p at) r here in
+    let there = refused_there (extra_files p call) (extra_of_call p it) (extra_there call called.span (name_at called.source.now called.name) list p at) r here in
     subst (λ l. IfErr r (λ e. e ≢ OutOfMemory → extra_files (project l) call ≡ Some (Err e))) c.self.view_is there
