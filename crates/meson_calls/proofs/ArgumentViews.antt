@@ -6,7 +6,7 @@ use Rattle.meson_syntax.specs.declared.tree.Arg.TheVariants as arg
 use Rattle.meson_syntax.specs.declared.tree.Arg.TheFolds.{the_lemmas}
 use Rattle.meson_syntax.specs.declared.tree.Expr.{Expr}
 use Rattle.meson_syntax.specs.Paths.{nth}
-use Rattle.meson_syntax.specs.Tree.{plain, named}
+use Rattle.meson_syntax.specs.Tree.{plain, named, pair}
 use Rattle.meson_syntax.specs.View.{arg_view, args_view, expr_view, name_at}
 
 pub plain_view : (source : List ℕ) (e : Expr) → arg_view source (arg.Plain e) ≡ plain (expr_view source e)
@@ -14,6 +14,9 @@ plain_view source e = search (rules, the_lemmas)
 
 pub named_view : (source : List ℕ) (s x : Span) (e : Expr) → arg_view source (arg.Named s x e) ≡ named s (name_at source x) (expr_view source e)
 named_view source s x e = search (rules, the_lemmas)
+
+pub pair_view : (source : List ℕ) (s : Span) (k v : Expr) → arg_view source (arg.Pair s k v) ≡ pair s (expr_view source k) (expr_view source v)
+pair_view source s k v = search (rules, the_lemmas)
 
 pub nth_there : (source : List ℕ) (args : List Arg) (n : ℕ) (d : Arg) → n < length args → nth (args_view source args) n ≡ Some (arg_view source (get_or args n d))
 nth_there source [] n d within = absurd (omega (arith, within))

@@ -10,15 +10,12 @@ use Rattle.meson_syntax.specs.Tree.{Name, Expression, plain, named, pair}
 use Rattle.meson_syntax.specs.View.{arg_view, expr_view, name_at}
 use Rattle.meson_syntax.proofs.parsing.Steps.{some-injective}
 use Rattle.meson_calls.specs.Calls.{value_with_name}
-use Rattle.meson_calls.proofs.ArgumentViews.{nth_there, named_view, plain_view}
+use Rattle.meson_calls.proofs.ArgumentViews.{nth_there, named_view, pair_view, plain_view}
 use Rattle.meson_syntax.specs.Grammar.{argument_words, expression_words}
 use Rattle.meson_calls.specs.GoodLists.{GoodArgs}
 use Rattle.meson_calls.specs.Keywords.{IsFirstNamed}
 use Rattle.meson_calls.specs.Strings.{AreGood}
 use Rattle.meson_calls.proofs.Nested.{good_arg}
-
-pair_view : (source : List ℕ) (s : Span) (k v : Expr) → arg_view source (arg.Pair s k v) ≡ pair s (expr_view source k) (expr_view source v)
-pair_view source s k v = search (rules, the_lemmas)
 
 of_named : (key : List ℕ) (s : Span) (x : Name Span) (e v : Expression Span) → value_with_name key (named s x e) ≡ Some v → v ≡ e
 of_named key s x e v is = go (bytes_eq x.text key) is

@@ -39,11 +39,11 @@ with_elements (listing s trailing list) elements = listing s (if is_empty elemen
 abbrev pub elements : {S : Type 0} → Listing S → List (Argument S)
 elements (listing s trailing list) = argument_list list
 
--- an element of an array or of a call with another value
+-- an element with another value
 abbrev pub with_value : {S : Type 0} → Expression S → Argument S → Argument S
 with_value v (plain e) = plain v
 with_value v (named s x e) = named s x v
-with_value v (pair s e f) = pair s e f
+with_value v (pair s e f) = pair s e v
 
 -- the array of one expression
 abbrev pub array_of : Expression Nowhere → Expression Nowhere

@@ -14,6 +14,7 @@ use Rattle.meson_keywords.specs.Changing.{CallStands, LeavesCall}
 use Rattle.meson_keywords.specs.declared.keys.ElementKind.{ElementKind}
 use Rattle.meson_keywords.specs.KeywordEdits.{all_behind, behind_all}
 use Rattle.meson_keywords.specs.Keys.{element_bytes, element_node, written_element}
+use Rattle.meson_syntax.proofs.parsing.Steps.{some-injective}
 use Rattle.meson_steps.specs.ListSteps.{MayStand}
 use Rattle.meson_steps.specs.OtherValues.{with_one}
 use Rattle.meson_calls.specs.Project.{child}
@@ -32,10 +33,10 @@ array_depth (listing s trailing list) ys = omega arith
 list_depth : (l : Listing Nowhere) → listing_depth l ≡ depth_of (elements l) + 1
 list_depth (listing s trailing list) = omega (arith, ap arguments_depth (list-of-arguments list))
 
-old_depth : (a : Argument Nowhere) (v : Expression Nowhere) → value_of a ≡ Some v → argument_depth a ≡ expression_depth v
-old_depth (plain e) v is = ap argument_depth (ap plain (let same : e ≡ v = cc in same))
-old_depth (named s x e) v is = let same : e ≡ v = cc in ap expression_depth same
-old_depth (pair s e f) v is = absurd cc
+old_depth : (a : Argument Nowhere) (v : Expression Nowhere) → value_of a ≡ Some v → expression_depth v ≤ argument_depth a
+old_depth (plain e) v is = let same = ap expression_depth (some-injective e v is) in omega (arith, same)
+old_depth (named s x e) v is = let same = ap expression_depth (some-injective e v is) in omega (arith, same)
+old_depth (pair s e f) v is = let same = ap expression_depth (some-injective f v is) in omega (arith, same)
 
 module _ (c : CallRef) (trees : List Plain) (all : All MayStand trees) (s : CallStands c trees) (n : ℕ) (a : Argument Nowhere) (l : Listing Nowhere) (there : nth (xs c trees all s) n ≡ Some a) (value : value_of a ≡ Some (array l)) where
   abbrev outer : List (Argument Nowhere)
@@ -59,7 +60,7 @@ module _ (c : CallRef) (trees : List Plain) (all : All MayStand trees) (s : Call
         depth_append (take n outer) (new ∷ drop (suc n) outer),
         depth_take n outer,
         depth_drop (suc n) outer,
-        value_depth a (array (with_elements l ys)) (array l) value,
+        value_depth a (array (with_elements l ys)),
         array_depth l ys,
         small,
         list_depth l,
@@ -95,7 +96,7 @@ module _ (c : CallRef) (trees : List Plain) (all : All MayStand trees) (s : Call
       (ap (λ k. option_and_then (exchanged m (λ v. e) (elements k)) (nth (elements k) m)) p.list ∙ ap (option_and_then (exchanged m (λ v. e) (elements l))) is
       ∙ ap (option_map (λ v. take m (elements l) ++ with_value e it ∷ drop (suc m) (elements l))) is_value) in
       array_step (Replace path m new) ys writes made (replacements-keep-levels path m new level s.tree (p.place.back (with_elements p.place.list ys)) (tree_level c trees all s) made)
-      (omega (arith, depth_append (take m (elements l)) (with_value e it ∷ drop (suc m) (elements l)), depth_take m (elements l), depth_drop (suc m) (elements l), value_depth it e old is_value, flat))
+      (omega (arith, depth_append (take m (elements l)) (with_value e it ∷ drop (suc m) (elements l)), depth_take m (elements l), depth_drop (suc m) (elements l), value_depth it e, depth_nth (elements l) m it is, flat))
 
   -- an element in which nothing nests goes behind all others
   module _ (bytes : List ℕ) (e : Expression Nowhere) (writes : IsWritten bytes (expression_words e)) (level : LevelExpression e) (flat : expression_depth e ≡ 0) where
@@ -149,7 +150,7 @@ nth_put (y ∷ ys) (suc n) it b is = nth_put ys n it b is
 pub value_put : (a : Argument Nowhere) (v w : Expression Nowhere) → value_of a ≡ Some v → value_of (with_value w a) ≡ Some w
 value_put (plain e) v w is = refl
 value_put (named s x e) v w is = refl
-value_put (pair s e f) v w is = absurd cc
+value_put (pair s e f) v w is = refl
 
 pub puts_leave : (c : CallRef) (k : ElementKind) (ts : List (List ℕ)) → AreElements k ts → (trees : List Plain) (all : All MayStand trees) (s : CallStands c trees) (n : ℕ) (a : Argument Nowhere) (l : Listing Nowhere)
     → nth (xs c trees all s) n ≡ Some a → value_of a ≡ Some (array l) → LeavesCall c (all_behind (child c n) (length (elements l)) (map (written_element k) ts)) trees

@@ -49,16 +49,16 @@ depth_nth [] n x is = absurd cc
 depth_nth (y ∷ ys) zero x is = subst (λ z. argument_depth z ≤ depth_of (y ∷ ys)) (some-injective y x is) (omega arith)
 depth_nth (y ∷ ys) (suc n) x is = omega (arith, depth_nth ys n x is)
 
-depth_put : (n m : ℕ) (xs : List (Argument Nowhere)) (a : Argument Nowhere) → argument_depth a ≤ 1 → depth_of (take n xs ++ a ∷ drop m xs) ≤ max (depth_of xs) 1
+depth_put : (n m : ℕ) (xs : List (Argument Nowhere)) (a : Argument Nowhere) → argument_depth a ≤ max (depth_of xs) 1 → depth_of (take n xs ++ a ∷ drop m xs) ≤ max (depth_of xs) 1
 depth_put n m xs a small = omega (arith, depth_append (take n xs) (a ∷ drop m xs), depth_take n xs, depth_drop m xs, small)
 
 depth_gone : (n m : ℕ) (xs : List (Argument Nowhere)) → depth_of (take n xs ++ drop m xs) ≤ max (depth_of xs) 1
 depth_gone n m xs = omega (arith, depth_append (take n xs) (drop m xs), depth_take n xs, depth_drop m xs)
 
-pub value_depth : (a : Argument Nowhere) (v w : Expression Nowhere) → value_of a ≡ Some w → argument_depth (with_value v a) ≡ expression_depth v
-value_depth (plain e) v w is = refl
-value_depth (named s x e) v w is = refl
-value_depth (pair s e f) v w is = absurd cc
+pub value_depth : (a : Argument Nowhere) (v : Expression Nowhere) → argument_depth (with_value v a) ≤ max (argument_depth a) (expression_depth v)
+value_depth (plain e) v = omega arith
+value_depth (named s x e) v = omega arith
+value_depth (pair s e f) v = omega arith
 
 list_fits : (l : Listing Nowhere) (xs : List (Argument Nowhere)) (limit : ℕ) → 2 ≤ limit → listing_depth l ≤ limit → depth_of xs ≤ max (depth_of (elements l)) 1 → listing_depth (with_elements l xs) ≤ limit
 list_fits (listing s trailing list) xs limit array_fits fits small = omega (arith, ap arguments_depth (list-of-arguments list), array_fits, fits, small)
@@ -125,7 +125,7 @@ module _ (c : CallRef) (trees : List Plain) (all : All MayStand trees) (s : Call
       let made = edited_there s.tree path s.place s.is_place (Replace path n new) ys
       (ap (option_and_then (exchanged n (λ w. new.node) xs)) is ∙ ap (option_map (λ w. take n xs ++ with_value new.node it ∷ drop (suc n) xs)) is_value) in
       call_step (Replace path n new) ys writes made (replacements-keep-levels path n new level s.tree (s.place.back (with_elements s.place.list ys)) tree_level made)
-      (depth_put n (suc n) xs (with_value new.node it) (omega (arith, value_depth it new.node v is_value, small)))
+      (depth_put n (suc n) xs (with_value new.node it) (omega (arith, value_depth it new.node, depth_nth xs n it is, small)))
 
   -- or the array of it, where nothing nests in it
   pub wrap_step : (n : ℕ) (it : Argument Nowhere) (v : Expression Nowhere) → nth xs n ≡ Some it → value_of it ≡ Some v → expression_depth v ≡ 0 → CallStep (Wrap path n) (take n xs ++ with_value (array_of v) it ∷ drop (suc n) xs)
@@ -134,7 +134,7 @@ module _ (c : CallRef) (trees : List Plain) (all : All MayStand trees) (s : Call
       let made = edited_there s.tree path s.place s.is_place (Wrap path n) ys
       (ap (option_and_then (exchanged n array_of xs)) is ∙ ap (option_map (λ w. take n xs ++ with_value (array_of w) it ∷ drop (suc n) xs)) is_value) in
       call_step (Wrap path n) ys tt made (wraps-keep-levels path n s.tree (s.place.back (with_elements s.place.list ys)) tree_level made)
-      (depth_put n (suc n) xs (with_value (array_of v) it) (omega (arith, value_depth it (array_of v) v is_value, flat)))
+      (depth_put n (suc n) xs (with_value (array_of v) it) (omega (arith, value_depth it (array_of v), depth_nth xs n it is, flat)))
 
   -- ---- a keyword argument behind all others
 
@@ -173,7 +173,7 @@ module _ (c : CallRef) (trees : List Plain) (all : All MayStand trees) (s : Call
         let follows : MayFollow bracket.Round last.0 (drop (suc m) xs) it.node = (last.2, level) in
         call_step (After path m it) ys writes made
         (insertions-keep-levels path m it s.tree (s.place.back (with_elements s.place.list ys)) s.place s.is_place last.0 last.1 (subst (λ b. MayFollow b last.0 (drop (suc m) xs) it.node) (sym s.is_round) follows) tree_level made)
-        (depth_put (suc m) (suc m) xs it.node small)
+        (depth_put (suc m) (suc m) xs it.node (omega (arith, small)))
 
     pub insert_step : InsertStep (behind_all c (length xs) it)
     insert_step = go (length xs) refl

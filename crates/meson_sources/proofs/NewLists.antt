@@ -40,7 +40,7 @@ nth_put (x ∷ xs) (suc n) it a is = nth_put xs n it a is
 value_put : (a : Argument Nowhere) (v w : Expression Nowhere) → value_of a ≡ Some v → value_of (with_value w a) ≡ Some w
 value_put (plain e) v w is = refl
 value_put (named s x e) v w is = refl
-value_put (pair s e f) v w is = absurd cc
+value_put (pair s e f) v w is = refl
 
 -- ---- one tree
 

@@ -11,7 +11,7 @@ use Rattle.meson_syntax.specs.Places.{expression_span, argument_span}
 use Rattle.meson_syntax.specs.Tree.{Expression, Argument, Listing, File, plain, named, pair, arguments_of, argument_list}
 use Rattle.meson_syntax.specs.View.{arg_view, args_view, expr_view, list_view}
 use Rattle.meson_calls.specs.Calls.{value_with_name}
-use Rattle.meson_calls.proofs.ArgumentViews.{plain_view, named_view, nth_there, nth_past}
+use Rattle.meson_calls.proofs.ArgumentViews.{plain_view, named_view, pair_view, nth_there, nth_past}
 use Rattle.meson_calls.proofs.Listed.{list_is}
 use Rattle.meson_edit.specs.Edits.{elements}
 use Rattle.meson_edit.specs.Places.{value_span, element_there, element_span, bracket_offset}
@@ -21,6 +21,9 @@ plain_span source e = ap (λ a. option_map expression_span (value_of a)) (plain_
 
 pub named_span : (source : List ℕ) (s x : Span) (e : Expr) → option_map expression_span (value_of (arg_view source (arg.Named s x e))) ≡ Some (expression_span (expr_view source e))
 named_span source s x e = ap (λ a. option_map expression_span (value_of a)) (named_view source s x e)
+
+pub pair_span : (source : List ℕ) (s : Span) (k e : Expr) → option_map expression_span (value_of (arg_view source (arg.Pair s k e))) ≡ Some (expression_span (expr_view source e))
+pair_span source s k e = ap (λ a. option_map expression_span (value_of a)) (pair_view source s k e)
 
 -- the value of an argument of a name
 pub named_value : (key : List ℕ) (a : Argument Span) (v : Expression Span) → value_with_name key a ≡ Some v → value_of a ≡ Some v

@@ -74,7 +74,7 @@ empty_erased l is = erased_elements l ∙ ap (map erase_argument) is
 pub value_erased : (a : Argument Span) (v : Expression Span) → value_of a ≡ Some v → value_of (erase_argument a) ≡ Some (erase_expression v)
 value_erased (plain e) v is = ap (option_map erase_expression) is
 value_erased (named s x e) v is = ap (option_map erase_expression) is
-value_erased (pair s e f) v is = absurd cc
+value_erased (pair s e f) v is = ap (option_map erase_expression) is
 
 -- ---- places
 

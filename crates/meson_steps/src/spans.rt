@@ -37,7 +37,7 @@ fn span_in(arg: &Arg) -> Option<Span>
     match arg {
         Arg::Plain(value) => Some(span_of(value)),
         Arg::Named { value, .. } => Some(span_of(value)),
-        Arg::Pair { .. } => None,
+        Arg::Pair { value, .. } => Some(span_of(value.get())),
     }
 }
 

@@ -221,13 +221,13 @@ elements_at (argument a more) trailing =
 abbrev pub element_at : {S : Type 0} → Listing S → ℕ → Option (ElementAt S)
 element_at (listing s trailing list) n = nth (elements_at list trailing) n
 
--- the value of an element of an array or of a call, and the words before it in the element
+-- the value of an element (of a pair what stands behind its colon), and the words before it in the element
 abbrev pub value_of : {S : Type 0} → Argument S → Option (Expression S)
 value_of (plain e) = Some e
 value_of (named s x e) = Some e
-value_of (pair s e f) = None
+value_of (pair s e f) = Some f
 
 abbrev pub words_ahead : {S : Type 0} → Argument S → List Word
 words_ahead (plain e) = []
 words_ahead (named s x e) = (k.Identifier, x.text) ∷ mark k.Colon
-words_ahead (pair s e f) = []
+words_ahead (pair s e f) = expression_words e ++ mark k.Colon

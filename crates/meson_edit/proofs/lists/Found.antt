@@ -66,4 +66,4 @@ valued change n list now is =
 pub value-there : (a : Argument Span) (v : Expression Nowhere) → value_of (erase_argument a) ≡ Some v → (w : Expression Span) × (value_of a ≡ Some w) × (erase_expression w ≡ v)
 value-there (plain e) v h = (e, refl, some-injective _ _ h)
 value-there (named s x e) v h = (e, refl, some-injective _ _ h)
-value-there (pair s e f) v h = absurd cc
+value-there (pair s e f) v h = (f, refl, some-injective _ _ h)

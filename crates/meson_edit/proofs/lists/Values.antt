@@ -33,12 +33,13 @@ use Rattle.meson_edit.proofs.lists.LaidOut.{Lays}
 value-words : (a : Argument Span) (w : Expression Span) → value_of a ≡ Some w → (v : Expression Nowhere) → argument_words (with_value v (erase_argument a)) ≡ words_ahead a ++ expression_words v
 value-words (plain e) w h v = refl
 value-words (named s x e) w h v = refl
-value-words (pair s e f) w h v = absurd cc
+value-words (pair s e f) w h v =
+    ap (λ u. u ++ ((k.Colon, []) ∷ expression_words v)) (expression-words-erased e) ∙ sym (append_assoc (expression_words e) ((k.Colon, []) ∷ []) (expression_words v))
 
 before-value : (a : Argument Span) (before : List Word) → IsBeforeElement before → IsBeforeValue (before ++ words_ahead a)
 before-value (plain e) before h = subst IsBeforeValue (sym (append-nil before)) (inl h)
 before-value (named s x e) before h = inr (before ++ (k.Identifier, x.text) ∷ [], sym (append_assoc before ((k.Identifier, x.text) ∷ []) ((k.Colon, []) ∷ [])))
-before-value (pair s e f) before h = subst IsBeforeValue (sym (append-nil before)) (inl h)
+before-value (pair s e f) before h = inr (before ++ expression_words e, sym (append_assoc before (expression_words e) ((k.Colon, []) ∷ [])))
 
 array-words : (v : Expression Nowhere) (behind : List Word) → expression_words (array_of v) ++ behind ≡ (k.OpenSquare, []) ∷ (expression_words v ++ (k.CloseSquare, []) ∷ behind)
 array-words v behind = ap (λ w. (k.OpenSquare, []) ∷ ((w ++ (k.CloseSquare, []) ∷ []) ++ behind)) (append-nil (expression_words v)) ∙ ap (λ w. (k.OpenSquare, []) ∷ w) (append_assoc (expression_words v) ((k.CloseSquare, []) ∷ []) behind)

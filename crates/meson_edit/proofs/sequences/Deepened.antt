@@ -49,10 +49,11 @@ depth-put n m k xs a deep = omega (arith, depth-append (take n xs) (a ∷ drop m
 depth-without : (n m : ℕ) (xs : Elements) → depth_of (take n xs ++ drop m xs) ≤ depth_of xs + 0
 depth-without n m xs = omega (arith, depth-append (take n xs) (drop m xs), depth-take n xs, depth-drop m xs)
 
-value-depth : (a : Argument Nowhere) (v w : Expression Nowhere) → value_of a ≡ Some w → (argument_depth (with_value v a) ≡ expression_depth v) × (argument_depth a ≡ expression_depth w)
-value-depth (plain e) v w is = (refl, ap expression_depth (some-injective e w is))
-value-depth (named s x e) v w is = (refl, ap expression_depth (some-injective e w is))
-value-depth (pair s e f) v w is = absurd cc
+-- (a pair is as deep as its key too)
+value-depth : (a : Argument Nowhere) (v w : Expression Nowhere) → value_of a ≡ Some w → (argument_depth (with_value v a) ≤ max (argument_depth a) (expression_depth v)) × (expression_depth w ≤ argument_depth a)
+value-depth (plain e) v w is = let same = ap expression_depth (some-injective e w is) in (omega arith, omega (arith, same))
+value-depth (named s x e) v w is = let same = ap expression_depth (some-injective e w is) in (omega arith, omega (arith, same))
+value-depth (pair s e f) v w is = let same = ap expression_depth (some-injective f w is) in (omega arith, omega (arith, same))
 
 first-depth : (a : Argument Nowhere) (xs now : Elements) → first_element a xs ≡ Some now → depth_of now ≤ depth_of xs + argument_depth a
 first-depth a [] now is = subst (λ ys. depth_of ys ≤ 0 + argument_depth a) (some-injective _ _ is) (omega arith)
@@ -70,7 +71,7 @@ elements-deepen (Replace path n new) xs now is =
     let v = valued (λ w. new.node) n xs now is in
     let d = value-depth v.it new.node v.value v.is_value in
     subst (λ ys. depth_of ys ≤ depth_of xs + expression_depth new.node) v.is_now
-    (depth-put n (suc n) (expression_depth new.node) xs (with_value new.node v.it) (omega (arith, d.0)))
+    (depth-put n (suc n) (expression_depth new.node) xs (with_value new.node v.it) (omega (arith, d.0, depth-nth xs n v.it v.is_it)))
 elements-deepen (Wrap path n) xs now is =
     let v = valued array_of n xs now is in
     let d = value-depth v.it (array_of v.value) v.value v.is_value in

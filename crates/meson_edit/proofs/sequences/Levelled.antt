@@ -52,7 +52,7 @@ named-same (pair s e f) v = refl
 value-levels : (a : Argument Nowhere) (v w : Expression Nowhere) (b : Bracket) (seen : Bool) → value_of a ≡ Some w → (LevelExpression w → LevelExpression v) → LevelArgument a b seen → LevelArgument (with_value v a) b seen
 value-levels (plain e) v w b seen is level l = (l.0, l.1, level (subst LevelExpression (some-injective e w is) l.2))
 value-levels (named s x e) v w b seen is level l = (l.0, level (subst LevelExpression (some-injective e w is) l.1))
-value-levels (pair s e f) v w b seen is level l = absurd cc
+value-levels (pair s e f) v w b seen is level l = (l.0, l.1, level (subst LevelExpression (some-injective f w is) l.2))
 
 with-another : (xs : Elements) (n : ℕ) (it : Argument Nowhere) (v w : Expression Nowhere) (b : Bracket) (seen : Bool) → nth xs n ≡ Some it → value_of it ≡ Some w
     → (LevelExpression w → LevelExpression v) → Levelled xs b seen → Levelled (take n xs ++ with_value v it ∷ drop (suc n) xs) b seen

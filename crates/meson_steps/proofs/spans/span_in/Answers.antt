@@ -2,8 +2,8 @@ use Rattle.std.proofs.Common.{ap, ◌∙◌, sym}
 use Rattle.std.specs.Prelude.{Some, option_map}
 use Rattle.meson_syntax.specs.Paths.{value_of}
 use Rattle.meson_syntax.specs.Places.{expression_span}
-use Rattle.meson_syntax.specs.View.{arg_view}
-use Rattle.meson_steps.proofs.ArgumentValues.{plain_span, named_span}
+use Rattle.meson_syntax.specs.View.{arg_view, expr_view}
+use Rattle.meson_steps.proofs.ArgumentValues.{plain_span, named_span, pair_span}
 use Rattle.meson_steps.proofs.spans.span_in.Goals as goal
 
 pub returns-in-Plain : goal.returns-in-Plain
@@ -13,3 +13,8 @@ pub returns-in-Named : goal.returns-in-Named
 returns-in-Named c = λ source.
     ap Some (c.span_of-in-Named.ensures source)
     ∙ sym (ap (λ a. option_map expression_span (value_of (arg_view source a))) c.in-Named.is ∙ named_span source c.in-Named.span c.in-Named.name c.in-Named.value)
+
+pub returns-in-Pair : goal.returns-in-Pair
+returns-in-Pair c = λ source.
+    ap Some (c.span_of-in-Pair.ensures source ∙ ap (λ e. expression_span (expr_view source e)) c.get.ensures)
+    ∙ sym (ap (λ a. option_map expression_span (value_of (arg_view source a))) c.in-Pair.is ∙ pair_span source c.in-Pair.span c.in-Pair.key c.in-Pair.value)
