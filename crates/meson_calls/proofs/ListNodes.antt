@@ -1,20 +1,32 @@
--- The array or call whose list a path names, and the nodes below it.
-use Rattle.std.proofs.Common.{◌≡◌, ℕ, false, List, [], ◌∷◌, ◌++◌, Option, Some, None, refl, sym, ap, ◌∙◌, subst}
+-- What a list holds by its bracket; the array or call whose list a path names, and the nodes below it.
+use Rattle.std.proofs.Common.{◌≡◌, ℕ, zero, suc, Bool, true, false, List, [], ◌∷◌, ◌++◌, Option, Some, None, refl, sym, ap, ◌∙◌, subst}
 use Rattle.std.specs.Prelude.{option_map, option_and_then}
 use Rattle.meson_lex.specs.Significant.{Word}
-use Rattle.meson_syntax.specs.Operators.{holds_pairs}
-use Rattle.meson_syntax.specs.Tree.{Expression, array, call, Block, File}
+use Rattle.meson_syntax.specs.declared.operator.Bracket.{Bracket}
+use Rattle.meson_syntax.specs.declared.operator.Bracket.TheVariants as bracket
+use Rattle.meson_syntax.specs.Operators.{holds_values, holds_pairs}
+use Rattle.meson_syntax.specs.Tree.{Expression, Argument, plain, named, pair, is_named, Arguments, no_arguments, argument, argument_list, Block, File}
+use Rattle.meson_syntax.specs.Grammar.{LevelArguments}
 use Rattle.meson_syntax.specs.Parts.{Any, an_expression, a_statement, a_block, expression_parts, expression_any, parts, node_at}
 use Rattle.meson_syntax.specs.Paths.{Sort, of_expression, of_statement, of_block, Node, Hole, nth, reach, block_of, expression_of, expression_at, ListIn, list_in, ListAt, list_within, list_of_node, list_at}
 use Rattle.meson_syntax.proofs.PathNodes.{expression-reached}
 use Rattle.meson_syntax.proofs.parsing.Steps.{some-injective}
 use Rattle.meson_syntax.proofs.paths.Reaching.{map-some, and-then-some}
 
--- an array or a call has no pairs
-no_pairs : {S : Type 0} (e : Expression S) (l : ListIn S) → list_in e ≡ Some l → holds_pairs l.bracket ≡ false
-no_pairs {S} (array l) m is = subst (λ (x : ListIn S). holds_pairs x.bracket ≡ false) (some-injective _ _ is) refl
-no_pairs {S} (call s x l) m is = subst (λ (x : ListIn S). holds_pairs x.bracket ≡ false) (some-injective _ _ is) refl
-no_pairs _ m is = absurd cc
+-- ---- what a list holds
+
+pub values_no_pairs : (b : Bracket) → holds_values b ≡ true → holds_pairs b ≡ false
+values_no_pairs bracket.Square holds = refl
+values_no_pairs bracket.Round holds = refl
+values_no_pairs bracket.Curly holds = absurd cc
+
+-- where an element without a name stands, values may
+pub plain_holds : {S : Type 0} (list : Arguments S) (b : Bracket) (seen : Bool) (n : ℕ) (e : Expression S) → LevelArguments list b seen → nth (argument_list list) n ≡ Some (plain e) → holds_values b ≡ true
+plain_holds no_arguments b seen n e level is = absurd cc
+plain_holds (argument (plain x) more) b seen zero e level is = level.0.0
+plain_holds (argument (named s x f) more) b seen zero e level is = absurd cc
+plain_holds (argument (pair s x f) more) b seen zero e level is = absurd cc
+plain_holds (argument a more) b seen (suc n) e level is = plain_holds more b (is_named a) n e level.1 is
 
 -- ---- the array or call
 
@@ -75,10 +87,6 @@ module _ (S : Type 0) (f : File S) where
       let h = o.0 in
       let w = within_of h.sort h.inside h.before h.behind h.back e l o.2 in_it in
       record { place = w.place; is_place = ap (option_and_then (λ (g : Hole S (Block S)). list_of_node S g.sort g.inside f g.before g.behind g.back)) o.1 ∙ w.is_place; list = w.list; bracket = w.bracket }
-
--- the brackets of a list that a path names hold no pairs
-pub place_no_pairs : {S : Type 0} (f : File S) (path : List ℕ) (q : ListAt S) → list_at f path ≡ Some q → holds_pairs q.bracket ≡ false
-place_no_pairs {S} f path q is = let at = list_node S f path q is in subst (λ b. holds_pairs b ≡ false) at.bracket (no_pairs at.node at.inner at.is_inner)
 
 -- ---- an element of it
 

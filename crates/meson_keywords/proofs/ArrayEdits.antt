@@ -26,6 +26,7 @@ use Rattle.meson_keywords.proofs.CallEdits.{CallStep, call_step, last_there, mor
 use Rattle.meson_keywords.proofs.InnerPlaces.{InnerPlace, exchanged_at, inner_place}
 use Rattle.meson_steps.proofs.Insertable.{edited_there, elements_with, first_there}
 use Rattle.meson_keywords.proofs.WrittenElements.{element_flat, element_level, element_written}
+use Rattle.meson_syntax.specs.Operators.{holds_pairs}
 
 array_depth : (l : Listing Nowhere) (ys : List (Argument Nowhere)) → listing_depth (with_elements l ys) ≡ depth_of ys + 1
 array_depth (listing s trailing list) ys = omega arith
@@ -50,7 +51,7 @@ module _ (c : CallRef) (trees : List Plain) (all : All MayStand trees) (s : Call
   path = c.path.steps ++ n ∷ []
 
   abbrev p : InnerPlace s.tree c.path.steps s.place n a l
-  p = inner_place s.tree c.path.steps s.place s.is_place (tree_level c trees all s) n a l there value
+  p = inner_place s.tree c.path.steps s.place s.is_place (ap holds_pairs s.is_round) (tree_level c trees all s) n a l there value
 
   arrayed_depth : (ys : List (Argument Nowhere)) → depth_of ys ≤ depth_of (elements l) → depth_of (arrayed ys) ≤ max (depth_of outer) 1
   arrayed_depth ys small =

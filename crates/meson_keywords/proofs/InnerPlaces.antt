@@ -97,21 +97,21 @@ listed_child (listing s trailing list) b n a v fails level is value =
     some_elements [] x ys = refl
     some_elements (z ∷ xs) x ys = refl
 
-node_child : (e : Expression Nowhere) (l : ListIn Nowhere) (n : ℕ) (a : Argument Nowhere) (v : Expression Nowhere) → list_in e ≡ Some l → LevelListing l.list l.bracket → nth (elements l.list) n ≡ Some a → value_of a ≡ Some v
+node_child : (e : Expression Nowhere) (l : ListIn Nowhere) (n : ℕ) (a : Argument Nowhere) (v : Expression Nowhere) → list_in e ≡ Some l → holds_pairs l.bracket ≡ false → LevelListing l.list l.bracket → nth (elements l.list) n ≡ Some a → value_of a ≡ Some v
     → Child (child Nowhere of_expression e n) v (λ y. l.back (with_elements l.list (exchanged_at n a (elements l.list) y)))
-node_child (array m) l n a v is level there value =
+node_child (array m) l n a v is none level there value =
     subst (λ (k : ListIn Nowhere). LevelListing k.list k.bracket → nth (elements k.list) n ≡ Some a → Child (child Nowhere of_expression (array m) n) v (λ y. k.back (with_elements k.list (exchanged_at n a (elements k.list) y)))) (some-injective _ _ is)
     (λ low here.
     let c = listed_child m bracket.Square n a v refl low here value in
     record { before = _; behind = _; back = λ y. array (c.back y); is = nth_map _ (listing_children m bracket.Square) n ∙ ap (option_map _) c.is; back_is = λ y. ap array (c.back_is y) })
     level there
-node_child (call s f m) l n a v is level there value =
+node_child (call s f m) l n a v is none level there value =
     subst (λ (k : ListIn Nowhere). LevelListing k.list k.bracket → nth (elements k.list) n ≡ Some a → Child (child Nowhere of_expression (call s f m) n) v (λ y. k.back (with_elements k.list (exchanged_at n a (elements k.list) y)))) (some-injective _ _ is)
     (λ low here.
     let c = listed_child m bracket.Round n a v refl low here value in
     record { before = _; behind = _; back = λ y. call s f (c.back y); is = nth_map _ (listing_children m bracket.Round) n ∙ ap (option_map _) c.is; back_is = λ y. ap (call s f) (c.back_is y) })
     level there
-node_child _ l n a v is level there value = absurd cc
+node_child _ l n a v is none level there value = absurd cc
 
 -- ---- along a path
 
@@ -147,16 +147,16 @@ pub record InnerPlace (t : Plain) (path : List ℕ) (q : ListAt Nowhere) (n : �
   pub back : (m : Listing Nowhere) → place.back m ≡ q.back (with_elements q.list (exchanged_at n a (elements q.list) (array m)))
 
 inner_by : (t : Plain) (path : List ℕ) (q : ListAt Nowhere) (n : ℕ) (a : Argument Nowhere) (l : Listing Nowhere) (sort : Sort) (x : Node sort Nowhere) (before behind : List Word) (back : Node sort Nowhere → Block Nowhere)
-    → list_of_node Nowhere sort x t before behind back ≡ Some q → LevelListing q.list q.bracket → nth (elements q.list) n ≡ Some a → value_of a ≡ Some (array l)
+    → list_of_node Nowhere sort x t before behind back ≡ Some q → holds_pairs q.bracket ≡ false → LevelListing q.list q.bracket → nth (elements q.list) n ≡ Some a → value_of a ≡ Some (array l)
     → ((put : Expression Nowhere → Node sort Nowhere) → Child (child Nowhere sort x n) (array l) put → Child (reach Nowhere of_block (block_of t) (path ++ n ∷ [])) (array l) (λ y. back (put y)))
     → InnerPlace t path q n a l
-inner_by t path q n a l of_expression x before behind back is level there value down =
+inner_by t path q n a l of_expression x before behind back is none level there value down =
     let o = map-some (list_within t before behind back) (list_in x) q is in
     let i = o.0 in
     let list = ap (λ (p : ListAt Nowhere). p.list) o.2 in
     let low = subst (λ m. LevelListing m i.bracket) (sym list) (subst (λ b. LevelListing q.list b) (sym (ap (λ (p : ListAt Nowhere). p.bracket) o.2)) level) in
     let here = subst (λ m. nth (elements m) n ≡ Some a) (sym list) there in
-    let c = down (λ y. i.back (with_elements i.list (exchanged_at n a (elements i.list) y))) (node_child x i n a (array l) o.1 low here value) in
+    let c = down (λ y. i.back (with_elements i.list (exchanged_at n a (elements i.list) y))) (node_child x i n a (array l) o.1 (ap holds_pairs (ap (λ (p : ListAt Nowhere). p.bracket) o.2) ∙ none) low here value) in
     record {
       place = list_within t c.before c.behind c.back (record { list = l; bracket = bracket.Square; ahead = []; back = array });
       is_place = ap (option_and_then (λ h. list_of_node Nowhere h.sort h.inside t h.before h.behind h.back)) c.is;
@@ -164,12 +164,12 @@ inner_by t path q n a l of_expression x before behind back is level there value 
       square = refl;
       back = λ m. ap (with_block t) (c.back_is (array m)) ∙ ap (λ (p : ListAt Nowhere). p.back (with_elements p.list (exchanged_at n a (elements p.list) (array m)))) o.2;
     }
-inner_by t path q n a l of_statement x before behind back is level there value down = absurd cc
-inner_by t path q n a l of_block x before behind back is level there value down = absurd cc
+inner_by t path q n a l of_statement x before behind back is none level there value down = absurd cc
+inner_by t path q n a l of_block x before behind back is none level there value down = absurd cc
 
-pub inner_place : (t : Plain) (path : List ℕ) (q : ListAt Nowhere) → list_at t path ≡ Some q → LevelFile t → (n : ℕ) (a : Argument Nowhere) (l : Listing Nowhere) → nth (elements q.list) n ≡ Some a → value_of a ≡ Some (array l)
+pub inner_place : (t : Plain) (path : List ℕ) (q : ListAt Nowhere) → list_at t path ≡ Some q → holds_pairs q.bracket ≡ false → LevelFile t → (n : ℕ) (a : Argument Nowhere) (l : Listing Nowhere) → nth (elements q.list) n ≡ Some a → value_of a ≡ Some (array l)
     → InnerPlace t path q n a l
-inner_place t path q is level n a l there value =
+inner_place t path q is none level n a l there value =
     let o = and-then-some (λ h. list_of_node Nowhere h.sort h.inside t h.before h.behind h.back) (reach Nowhere of_block (block_of t) path) q is in
     let h = o.0 in
-    inner_by t path q n a l h.sort h.inside h.before h.behind h.back o.2 ((list-fits Nowhere t path q is).level level) there value (below of_block (block_of t) path n (array l) h o.1)
+    inner_by t path q n a l h.sort h.inside h.before h.behind h.back o.2 none ((list-fits Nowhere t path q is).level level) there value (below of_block (block_of t) path n (array l) h o.1)

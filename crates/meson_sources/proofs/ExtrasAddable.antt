@@ -33,6 +33,7 @@ use Rattle.meson_sources.proofs.PlainCounts.{plain_count, elements_are}
 use Rattle.meson_steps.proofs.PlainTrees.{parsed_shallow, element_erased, value_erased, plain_place}
 use Rattle.meson_steps.proofs.WentWell.{then_was, once_was}
 use Rattle.meson_steps.proofs.WithOne.{all_nth}
+use Rattle.meson_syntax.specs.Operators.{holds_pairs}
 
 -- ---- as many elements without their spans
 
@@ -85,7 +86,7 @@ module _ (old : Loaded) (are : AreParsed old.files old.parsed) (c : Placed (Call
       let q = plain_place t.there.file.tree path t.there.list t.there.is_list in
       let in_list : nth (elements t.there.list.list) v.number ≡ Some k.it = ap (λ l. nth (elements l) v.number) t.is_list ∙ k.is_it in
       let there : nth (elements q.place.list) v.number ≡ Some (erase_argument k.it) = ap (λ l. nth (elements l) v.number) q.list ∙ element_erased t.there.list.list v.number k.it in_list in
-      let g = wrapped_grown tree path q.place q.is_place tree_level v.number (erase_argument k.it) (erase_expression v.value) there (value_erased k.it v.value k.is_value) in
+      let g = wrapped_grown tree path q.place q.is_place tree_level (ap holds_pairs (q.bracket ∙ t.is_round)) v.number (erase_argument k.it) (erase_expression v.value) there (value_erased k.it v.value k.is_value) in
       array_doable c.place v.number (Wrap path v.number) names utf8 (plain_trees old) tree (tree_is old c.place t.there) (all_stand old are c.place) tree_shallow tt g
 
   value_doable : (v : Numbered (Expression Span)) (others : List (Numbered (Expression Span))) → keyword extra_key c.it ≡ v ∷ others → (text : Option (List ℕ)) (names : List (List ℕ)) → All IsUtf8 names

@@ -1,5 +1,5 @@
 -- The list to which further strings go: it holds nothing, or an element without a name; strings may be put into it.
-use Rattle.std.proofs.Common.{◌≡◌, ℕ, zero, suc, ◌<◌, false, List, [], ◌∷◌, Option, Some, None, sym, ap, ◌∙◌, subst, arith, inl, inr, IsUtf8}
+use Rattle.std.proofs.Common.{◌≡◌, ℕ, zero, suc, ◌<◌, true, false, List, [], ◌∷◌, Option, Some, None, sym, ap, ◌∙◌, subst, arith, inl, inr, IsUtf8}
 use Rattle.std.specs.Prelude.{◌⊎◌, All}
 use Rattle.std.proofs.lemmas.List.Elements.{All-head, All-tail}
 use Rattle.meson_lex.specs.declared.kinds.Span.{Span}
@@ -20,21 +20,23 @@ use Rattle.meson_calls.specs.Sources.{first_list, first_empty, list_of_slot, or_
 use Rattle.meson_calls.specs.CallPlaces.{ListThere}
 use Rattle.meson_sources.specs.Standings.{StringThere, NothingThere, SlotStands, MarkStands}
 use Rattle.meson_steps.proofs.Insertable.{Room}
-use Rattle.meson_calls.proofs.ListNodes.{place_no_pairs}
+use Rattle.meson_calls.proofs.ListNodes.{values_no_pairs}
 use Rattle.meson_sources.proofs.PlainCounts.{plain_count, plain_count_is, count_erased, some_plain, last_plain, elements_are}
 use Rattle.meson_steps.proofs.PlainTrees.{empty_erased, plain_place, tree_is, trees_stand}
 use Rattle.meson_sources.proofs.StringsDoable.{behind_doable, first_doable}
 use Rattle.meson_steps.proofs.WithOne.{all_nth}
+use Rattle.meson_syntax.specs.Operators.{holds_values}
 
 -- the list is there, and holds nothing or an element without a name
 pub record Home (p : Project Span) (c : CallRef) : Type 0 where
   pub there : ListThere p c
   pub holds : (elements there.list.list ≡ []) ⊎ (0 < plain_count (elements there.list.list))
+  pub values : holds_values there.list.bracket ≡ true
 
 -- ---- by the marks
 
 string_home : (p : Project Span) (c : CallRef) (n : ℕ) → StringThere p c n → Home p c
-string_home p c n s = record { there = s.there; holds = inr (some_plain (elements s.there.list.list) n _ s.is_string) }
+string_home p c n s = record { there = s.there; holds = inr (some_plain (elements s.there.list.list) n _ s.is_string); values = s.values }
 
 slot_home : (p : Project Span) (s : Slot) (more : Option CallRef) (c : CallRef) → SlotStands p s → (more ≡ Some c → Home p c) → or_option (list_of_slot s) more ≡ Some c → Home p c
 slot_home p (in_list l n) more c stands later is = let same : l ≡ c = cc in subst (Home p) same (string_home p l n stands)
@@ -54,7 +56,7 @@ empty_home p (opaque ∷ ms) c stand is = empty_home p ms c (All-tail (MarkStand
 empty_home p (empty l ∷ ms) c stand is =
     let same : l ≡ c = cc in
     let n : NothingThere p l = All-head (MarkStands p) (empty l) ms stand in
-    subst (Home p) same (record { there = n.there; holds = inl n.is_empty })
+    subst (Home p) same (record { there = n.there; holds = inl n.is_empty; values = n.values })
 
 pub marked_home : (p : Project Span) (ms : List (Mark Span)) (c : CallRef) → All (MarkStands p) ms → or_option (first_list ms) (first_empty ms) ≡ Some c → Home p c
 marked_home p ms c stand is = go (first_list ms) (λ l found. listed_home p ms l stand found) is
@@ -77,15 +79,16 @@ module _ (old : Loaded) (are : AreParsed old.files old.parsed) (c : CallRef) whe
   all_stand = trees_stand old.files old.parsed are
 
   -- room behind the last element without a name
-  pub room_there : (there : ListThere (project old) c) (k : ℕ) → plain_count (elements there.list.list) ≡ suc k → Room (tree there) c.path.steps k
-  room_there there k many =
+  pub room_there : (there : ListThere (project old) c) → holds_values there.list.bracket ≡ true → (k : ℕ) → plain_count (elements there.list.list) ≡ suc k → Room (tree there) c.path.steps k
+  room_there there values k many =
       let path = c.path.steps in
       let q = plain_place there.file.tree path there.list there.is_list in
       let level : LevelFile (tree there) = (all_nth MayStand (plain_trees old) c.file (tree there) all_stand (tree_is old c there)).0 in
       let low = (list-fits Nowhere (tree there) path q.place q.is_place).level level in
       let count = ap (λ l. plain_count (elements l)) q.list ∙ count_erased there.list.list ∙ many in
-      let last = last_plain q.place.bracket (place_no_pairs (tree there) path q.place q.is_place) (elements q.place.list) false k (list_levels q.place.list q.place.bracket low) count in
-      record { place = q.place; is_place = q.is_place; it = last.0; is_it = last.1; no_name = last.2 }
+      let holds = ap holds_values q.bracket ∙ values in
+      let last = last_plain q.place.bracket (values_no_pairs q.place.bracket holds) (elements q.place.list) false k (list_levels q.place.list q.place.bracket low) count in
+      record { place = q.place; is_place = q.is_place; it = last.0; is_it = last.1; no_name = last.2; holds = holds }
 
   pub home_doable : Home (project old) c → (names : List (List ℕ)) → All IsUtf8 names → AreDoable (inserted_in (project old) c names) (plain_trees old)
   home_doable h names utf8 = go (plain_len (project old) c) count
@@ -102,5 +105,5 @@ module _ (old : Loaded) (are : AreParsed old.files old.parsed) (c : CallRef) whe
           let path = c.path.steps in
           let q = plain_place h.there.file.tree path h.there.list h.there.is_list in
           let none = nothing h.holds zero_left in
-          first_doable c names utf8 (plain_trees old) (tree h.there) (tree_is old c h.there) all_stand q.place q.is_place (ap elements q.list ∙ empty_erased h.there.list.list none)
-      go (suc k) many = behind_doable c names utf8 k (plain_trees old) (tree h.there) (tree_is old c h.there) all_stand (room_there h.there k many)
+          first_doable c names utf8 (plain_trees old) (tree h.there) (tree_is old c h.there) all_stand q.place q.is_place (ap holds_values q.bracket ∙ h.values) (ap elements q.list ∙ empty_erased h.there.list.list none)
+      go (suc k) many = behind_doable c names utf8 k (plain_trees old) (tree h.there) (tree_is old c h.there) all_stand (room_there h.there h.values k many)

@@ -4,7 +4,7 @@ use Rattle.std.specs.Prelude.{Bool, true, false, ◌&&◌, if◌then◌else◌}
 use Rattle.meson_lex.specs.declared.kinds.Span.{Span}
 use Rattle.meson_lex.specs.Literals.{value}
 use Rattle.meson_syntax.specs.declared.operator.StringKind.{StringKind}
-use Rattle.meson_syntax.specs.Operators.{string_kind}
+use Rattle.meson_syntax.specs.Operators.{string_kind, holds_values}
 use Rattle.meson_syntax.specs.Paths.{ListIn, list_in, nth}
 use Rattle.meson_syntax.specs.Parts.{an_expression, operands_parts}
 use Rattle.meson_syntax.specs.Tree.{Expression, identifier, string, array, call, row, Operands, no_operands, operand, Listing, listing, Argument, plain, named, pair, Arguments, no_arguments, argument, argument_list}
@@ -18,18 +18,20 @@ use Rattle.meson_calls.specs.CallPlaces.{ListThere}
 use Rattle.meson_sources.specs.Standings.{SlotStands, MarkStands}
 use Rattle.meson_calls.proofs.ExpressionsAt.{list_here, child_stands}
 use Rattle.meson_sources.proofs.ElementsAt.{AreLevel, value_stands}
+use Rattle.meson_calls.proofs.ListNodes.{values_no_pairs}
 
 -- the element of this number of the list at a place is this expression
 pub record ElementThere (p : Project Span) (c : CallRef) (n : ℕ) (e : Expression Span) : Type 0 where
   pub there : ListThere p c
   pub is_element : nth (elements there.list.list) n ≡ Some (plain e)
+  pub values : holds_values there.list.bracket ≡ true
 
 abbrev pub SlotOf : Project Span → Slot → Expression Span → Type 0
 SlotOf p (in_list c n) e = ElementThere p c n e
 SlotOf p fixed e = Unit {0}
 
 slot_stands : (p : Project Span) (slot : Slot) (at : Span) (q : StringKind) (x : List ℕ) → SlotOf p slot (string at q x) → SlotStands p slot
-slot_stands p (in_list c n) at q x h = record { there = h.there; span = at; kind = q; text = x; is_string = h.is_element }
+slot_stands p (in_list c n) at q x h = record { there = h.there; span = at; kind = q; text = x; is_string = h.is_element; values = h.values }
 slot_stands p fixed at q x h = tt
 
 -- an expression and its slot
@@ -50,11 +52,11 @@ record Within (p : Project Span) (es : List (Argument Span)) (ms : List (Mark Sp
   each : Every (MarkStands p) ms
   none : ms ≡ [] → es ≡ []
 
-within_met : (p : Project Span) (c : CallRef) (e : Expression Span) (l : ListIn Span) → expression_at p c ≡ Some e → list_in e ≡ Some l → (ms : List (Mark Span)) → Within p (elements l.list) ms → Met p (or_empty c ms)
-within_met p c e l is is_list [] w =
+within_met : (p : Project Span) (c : CallRef) (e : Expression Span) (l : ListIn Span) → expression_at p c ≡ Some e → list_in e ≡ Some l → holds_values l.bracket ≡ true → (ms : List (Mark Span)) → Within p (elements l.list) ms → Met p (or_empty c ms)
+within_met p c e l is is_list values [] w =
     let h = list_here p c e l is is_list in
-    record { each = (record { there = h.there; is_empty = ap elements h.same_list ∙ w.none refl }, tt); some = λ none. cc }
-within_met p c e l is is_list (m ∷ ms) w = record { each = w.each; some = λ none. cc }
+    record { each = (record { there = h.there; is_empty = ap elements h.same_list ∙ w.none refl; values = ap holds_values h.same_bracket ∙ values }, tt); some = λ none. cc }
+within_met p c e l is is_list values (m ∷ ms) w = record { each = w.each; some = λ none. cc }
 
 -- the elements without a name stand at their numbers, of which the first is n
 abbrev Elements : Project Span → CallRef → ℕ → List (Argument Span) → Type 0
@@ -79,13 +81,13 @@ row_stands p c at e os is =
     operands_stand p c os 1 (λ j x is_child. let k : suc j ≡ 1 + j = omega arith in subst (λ i. expression_at p (child c i) ≡ Some x) k (child_stands p c (row at e os) is (suc j) x is_child))
 
 module _ (p : Project Span) (levels : AreLevel p) where
-  elements_stand : (c : CallRef) (e : Expression Span) (l : ListIn Span) → expression_at p c ≡ Some e → list_in e ≡ Some l → Elements p c 0 (elements l.list)
-  elements_stand c e l is is_list = λ j x is_element.
+  elements_stand : (c : CallRef) (e : Expression Span) (l : ListIn Span) → expression_at p c ≡ Some e → list_in e ≡ Some l → holds_values l.bracket ≡ true → Elements p c 0 (elements l.list)
+  elements_stand c e l is is_list values = λ j x is_element.
       let k : j ≡ 0 + j = omega arith in
       let h = list_here p c e l is is_list in
       let there : nth (elements h.there.list.list) j ≡ Some (plain x) = ap (λ m. nth (elements m) j) h.same_list ∙ is_element in
       subst (λ i. StandsAs p (record { place = child c i; slot = in_list c i; variable = None }) x) k
-      (record { is_at = value_stands p levels c e l is is_list j (plain x) x is_element refl; slot = record { there = h.there; is_element = there } })
+      (record { is_at = value_stands p levels c e l is is_list (values_no_pairs l.bracket values) j (plain x) x is_element refl; slot = record { there = h.there; is_element = there; values = ap holds_values h.same_bracket ∙ values } })
 
   module _ (lists : Expression Span → Bool) (follow : List ℕ → List (List ℕ) → Expansion Span) (follows : (x : List ℕ) (followed : List (List ℕ)) → Met p (follow x followed).marks) where
     literal_met : (at : Span) (q : StringKind) (x : List ℕ) (s : Stand) (followed : List (List ℕ)) (o : Option (List ℕ)) → SlotOf p s.slot (string at q x) → Met p (literal_item at s followed o).marks
@@ -118,10 +120,10 @@ module _ (p : Project Span) (levels : AreLevel p) where
       pub expression_met : (e : Expression Span) (s : Stand) (followed : List (List ℕ)) → StandsAs p s e → Met p (expand_by lists follow e s followed).marks
       expression_met (string at q x) s followed h = literal_met at q x s followed (value (string_kind q) x) h.slot
       expression_met (array l) s followed h =
-          within_met p s.place (array l) _ h.is_at refl (expand_listing lists follow l s followed).marks (listing_met l s followed (elements_stand s.place (array l) _ h.is_at refl))
+          within_met p s.place (array l) _ h.is_at refl refl (expand_listing lists follow l s followed).marks (listing_met l s followed (elements_stand s.place (array l) _ h.is_at refl refl))
       expression_met (call at f l) s followed h =
           call_met (is_files f.text l) s.place (expand_listing lists follow l s followed) followed
-          (within_met p s.place (call at f l) _ h.is_at refl (expand_listing lists follow l s followed).marks (listing_met l s followed (elements_stand s.place (call at f l) _ h.is_at refl)))
+          (within_met p s.place (call at f l) _ h.is_at refl refl (expand_listing lists follow l s followed).marks (listing_met l s followed (elements_stand s.place (call at f l) _ h.is_at refl refl)))
       expression_met (identifier at x) s followed h = variable_met (one_of followed x) x followed
       expression_met (row at e os) s followed h =
           let first = expand_by lists follow e (operand_at s 0) followed in

@@ -1,5 +1,5 @@
 -- A new list in a call, and a lone value in its array: strings may be put behind the first.
-use Rattle.std.proofs.Common.{◌≡◌, ℕ, zero, suc, ◌+◌, ◌≤◌, false, List, [], ◌∷◌, ◌++◌, length, take, drop, Some, refl, sym, ap, ◌∙◌, subst, arith, IsUtf8}
+use Rattle.std.proofs.Common.{◌≡◌, ℕ, zero, suc, ◌+◌, ◌≤◌, false, List, [], ◌∷◌, ◌++◌, length, take, drop, Some, refl, sym, ap, ◌∙◌, subst, arith, IsUtf8, true}
 use Rattle.std.specs.Prelude.{All, option_map, option_and_then}
 use Rattle.meson_syntax.specs.declared.operator.Bracket.TheVariants as bracket
 use Rattle.meson_syntax.specs.Tree.{Nowhere, Plain, Expression, listing, Argument, plain, named, pair, arguments_of}
@@ -23,6 +23,7 @@ use Rattle.meson_steps.proofs.ListParts.{array_below}
 use Rattle.meson_steps.proofs.StepsDoable.{step_doable}
 use Rattle.meson_sources.proofs.StringsDoable.{behind_doable}
 use Rattle.meson_steps.proofs.WithOne.{changed_there, all_with}
+use Rattle.meson_syntax.specs.Operators.{holds_values, holds_pairs}
 
 -- ---- elements
 
@@ -55,13 +56,13 @@ pub record Arrayed (t : Plain) (path : List ℕ) (n : ℕ) (e : Edit) : Type 0 w
 module _ (t : Plain) (path : List ℕ) (q : ListAt Nowhere) (is_q : list_at t path ≡ Some q) (level : LevelFile t) where
   -- an array of one element is there as the value of an element
   array_room : (xs : List (Argument Nowhere)) (n : ℕ) (a : Argument Nowhere) (e : Expression Nowhere) → LevelFile (q.back (with_elements q.list xs)) → nth xs n ≡ Some a → value_of a ≡ Some (array_of e)
-      → Room (q.back (with_elements q.list xs)) (path ++ n ∷ []) 0
-  array_room xs n a e low is value =
+      → holds_pairs q.bracket ≡ false → Room (q.back (with_elements q.list xs)) (path ++ n ∷ []) 0
+  array_room xs n a e low is value none =
       let now = q.back (with_elements q.list xs) in
       let again = there_again t path q is_q xs in
       let here : nth (elements again.there.list) n ≡ Some a = ap (λ l. nth (elements l) n) again.list ∙ ap (λ l. nth l n) (elements_with q.list xs) ∙ is in
-      let l = array_below Nowhere now path again.there again.is_there low n a (listing tt false (arguments_of (plain e ∷ []))) here value in
-      record { place = l.place; is_place = l.is_place; it = plain e; is_it = ap (λ m. nth (elements m) 0) l.list; no_name = refl }
+      let l = array_below Nowhere now path again.there again.is_there (ap holds_pairs again.bracket ∙ none) low n a (listing tt false (arguments_of (plain e ∷ []))) here value in
+      record { place = l.place; is_place = l.is_place; it = plain e; is_it = ap (λ m. nth (elements m) 0) l.list; no_name = refl; holds = ap holds_values l.bracket }
 
   pub keyword_grown : q.bracket ≡ bracket.Round → (m : ℕ) → length (elements q.list) ≡ suc m → (name : List ℕ) → Arrayed t path (suc m) (After path m (written_keyword name))
   keyword_grown round m many name =
@@ -77,11 +78,11 @@ module _ (t : Plain) (path : List ℕ) (q : ListAt Nowhere) (is_q : list_at t pa
         is = is;
         level = low;
         depth = edits-deepen-by-one (After path m new) path refl (omega arith) t now is;
-        room = array_room xs (suc m) new.node (string_of name) low (nth_inserted (elements q.list) m last.0 new.node last.1) refl;
+        room = array_room xs (suc m) new.node (string_of name) low (nth_inserted (elements q.list) m last.0 new.node last.1) refl (ap holds_pairs round);
       }
 
-  pub wrapped_grown : (n : ℕ) (a : Argument Nowhere) (v : Expression Nowhere) → nth (elements q.list) n ≡ Some a → value_of a ≡ Some v → Arrayed t path n (Wrap path n)
-  wrapped_grown n a v there value =
+  pub wrapped_grown : holds_pairs q.bracket ≡ false → (n : ℕ) (a : Argument Nowhere) (v : Expression Nowhere) → nth (elements q.list) n ≡ Some a → value_of a ≡ Some v → Arrayed t path n (Wrap path n)
+  wrapped_grown none n a v there value =
       let put = with_value (array_of v) a in
       let xs = take n (elements q.list) ++ put ∷ drop (suc n) (elements q.list) in
       let now = q.back (with_elements q.list xs) in
@@ -93,7 +94,7 @@ module _ (t : Plain) (path : List ℕ) (q : ListAt Nowhere) (is_q : list_at t pa
         is = is;
         level = low;
         depth = edits-deepen-by-one (Wrap path n) path refl (omega arith) t now is;
-        room = array_room xs n put v low (nth_put (elements q.list) n a put there) (value_put a v (array_of v) value);
+        room = array_room xs n put v low (nth_put (elements q.list) n a put there) (value_put a v (array_of v) value) none;
       }
 
 -- ---- trees of a project

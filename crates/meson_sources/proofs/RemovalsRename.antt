@@ -1,9 +1,9 @@
 -- The law of renaming on trees: an element that goes moves the strings elsewhere to their new spots.
 use Rattle.std.specs.Prelude.{false, option_and_then}
-use Rattle.std.proofs.Common.{◌≡◌, ℕ, List, [], ◌∷◌, Some, refl, sym, ap, ◌∙◌, subst}
+use Rattle.std.proofs.Common.{◌≡◌, ℕ, List, [], ◌∷◌, Some, refl, sym, ap, ◌∙◌, subst, true}
 use Rattle.meson_syntax.specs.declared.operator.Bracket.{Bracket}
-use Rattle.meson_syntax.specs.Operators.{holds_pairs}
-use Rattle.meson_syntax.specs.Tree.{Nowhere, Plain, array, call, Listing, listing, Argument, arguments_of, argument_list}
+use Rattle.meson_syntax.specs.Operators.{holds_pairs, holds_values}
+use Rattle.meson_syntax.specs.Tree.{Nowhere, Plain, array, call, Listing, listing, Argument, arguments_of, argument_list, string}
 use Rattle.meson_syntax.specs.Grammar.{LevelListing, LevelFile}
 use Rattle.meson_syntax.specs.Paths.{ListAt, nth}
 use Rattle.meson_syntax.specs.Parts.{Any, an_expression, a_statement, a_block, arguments_parts, listing_parts, parts}
@@ -16,7 +16,7 @@ use Rattle.meson_edit.proofs.sequences.Changed.{changed}
 use Rattle.meson_sources.specs.Renaming.{StandsIn, IsString, RemovalsRename, number_after}
 use Rattle.meson_sources.specs.SourceEdits.{path_after}
 use Rattle.meson_sources.proofs.ElementsThere.{root, stands_at, at_stands}
-use Rattle.meson_calls.proofs.ListNodes.{place_no_pairs}
+use Rattle.meson_calls.proofs.ListNodes.{plain_holds, values_no_pairs}
 use Rattle.meson_sources.proofs.OneGone.{without, every_without, HasOnePart, one_part_each, parts_of_each}
 use Rattle.meson_sources.proofs.PutAlong.{PutAt, list_put}
 use Rattle.meson_sources.proofs.RenamedStrings.{LosesString, NotThrough, strings_move, stands_apart}
@@ -62,6 +62,10 @@ module _ (old new : Any Nowhere) (l : Listing Nowhere) (gone : ℕ) (is_old : li
     is_string = here ∙ ap Some s.is;
   }
 
+-- where a string stands, values may
+string_holds : (l : Listing Nowhere) (b : Bracket) (n : ℕ) (it : Argument Nowhere) → IsString it → nth (elements l) n ≡ Some it → LevelListing l b → holds_values b ≡ true
+string_holds (listing s trailing list) b n it is_string is level = plain_holds list b false n (string tt is_string.kind is_string.text) level.1 (is ∙ ap Some is_string.is)
+
 -- how a string goes from its list
 record Goes (t now : Plain) (list : List ℕ) (gone : ℕ) : Type 0 where
   old : Any Nowhere
@@ -85,7 +89,7 @@ goes t now level list gone it here is_string is =
       old = p.old_node;
       new = p.new_node;
       xs = xs;
-      loses = loses p.old_node p.new_node q.list gone p.old_list new_list it here_too is_string (one_part q.list q.bracket (place_no_pairs t list q c.is_place) (fits.level level));
+      loses = loses p.old_node p.new_node q.list gone p.old_list new_list it here_too is_string (one_part q.list q.bracket (values_no_pairs q.bracket (string_holds q.list q.bracket gone it is_string here_too (fits.level level))) (fits.level level));
       put = subst (λ u. PutAt Nowhere p.old_node p.new_node list (root t) (root u)) c.is_now p.put;
     }
 

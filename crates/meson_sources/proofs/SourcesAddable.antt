@@ -1,5 +1,5 @@
 -- Sources may be put into the list where they go, one after another.
-use Rattle.std.proofs.Common.{◌≡◌, ℕ, ◌+◌, ◌<◌, List, [], Option, Some, None, refl, sym, subst, arith, inr, IsUtf8}
+use Rattle.std.proofs.Common.{◌≡◌, ℕ, ◌+◌, ◌<◌, List, [], Option, Some, None, refl, sym, subst, arith, inr, IsUtf8, ap}
 use Rattle.std.specs.Prelude.{not, option_map, All}
 use Rattle.std.specs.List.{filter_map}
 use Rattle.std.proofs.lemmas.List.Elements.{All-filter}
@@ -21,6 +21,7 @@ use Rattle.meson_sources.proofs.Homes.{Home, marked_home, home_doable}
 use Rattle.meson_sources.proofs.PlainCounts.{plain_count}
 use Rattle.meson_steps.proofs.Distincts.{distinct_texts}
 use Rattle.meson_steps.proofs.WentWell.{then_was, once_was}
+use Rattle.meson_syntax.specs.Operators.{holds_values}
 
 -- ---- new names are among the names
 
@@ -43,7 +44,7 @@ some_first c e is = go c.arguments is
     go (listing s trailing list) h = first_plain list 0 e h
 
 pub target_home : (p : Project Span) (c : Placed (Call Span)) → TargetThere p c → Home p c.place
-target_home p c t = record { there = t.there; holds = inr (subst (λ l. 0 < plain_count (elements l)) (sym t.is_list) (some_first c.it t.first t.is_first)) }
+target_home p c t = record { there = t.there; holds = inr (subst (λ l. 0 < plain_count (elements l)) (sym t.is_list) (some_first c.it t.first t.is_first)); values = ap holds_values t.is_round }
 
 -- ---- sources
 

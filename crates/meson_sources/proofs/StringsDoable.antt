@@ -1,5 +1,5 @@
 -- Strings may be put into a list, one after another.
-use Rattle.std.proofs.Common.{◌≡◌, ℕ, suc, ◌≤◌, List, [], ◌∷◌, Some, refl, arith}
+use Rattle.std.proofs.Common.{◌≡◌, ℕ, suc, ◌≤◌, List, [], ◌∷◌, Some, refl, arith, true}
 use Rattle.std.specs.Prelude.{All}
 use Rattle.std.specs.Str.{IsUtf8}
 use Rattle.std.proofs.lemmas.List.Elements.{All-head, All-tail}
@@ -17,6 +17,7 @@ use Rattle.meson_sources.specs.SourceEdits.{inserted, written_source}
 use Rattle.meson_steps.proofs.Insertable.{Room, grown_behind, grown_first}
 use Rattle.meson_steps.proofs.WithOne.{changed_there, all_nth, all_with}
 use Rattle.meson_steps.proofs.StepsDoable.{step_doable, text_written}
+use Rattle.meson_syntax.specs.Operators.{holds_values}
 
 -- a tree that is no deeper stands too
 grown_stands : (t now : Plain) → MayStand t → LevelFile now → file_depth now ≤ file_depth t → MayStand now
@@ -36,12 +37,12 @@ behind_doable list (name ∷ names) utf8 n trees t is all room =
 
 -- strings in a list that holds nothing
 pub first_doable : (list : CallRef) (names : List (List ℕ)) → All IsUtf8 names → (trees : List Plain) (t : Plain) → nth trees list.file ≡ Some t → All MayStand trees
-    → (q : ListAt Nowhere) → list_at t list.path.steps ≡ Some q → elements q.list ≡ [] → AreDoable (inserted list 0 names) trees
-first_doable list [] utf8 trees t is all q is_q empty = none trees
-first_doable list (name ∷ names) utf8 trees t is all q is_q empty =
+    → (q : ListAt Nowhere) → list_at t list.path.steps ≡ Some q → holds_values q.bracket ≡ true → elements q.list ≡ [] → AreDoable (inserted list 0 names) trees
+first_doable list [] utf8 trees t is all q is_q holds empty = none trees
+first_doable list (name ∷ names) utf8 trees t is all q is_q holds empty =
     let stands = all_nth MayStand trees list.file t all is in
     let path = list.path.steps in
-    let g = grown_first t path stands.0 (literal name) (string_of name) tt refl q is_q empty in
+    let g = grown_first t path stands.0 (literal name) (string_of name) tt refl q is_q holds empty in
     let now_stands = grown_stands t g.now stands g.level g.depth in
     step_doable (step_in list (First path (written_source name))) (inserted list 1 names) trees t g.now is g.is (text_written name (All-head IsUtf8 name names utf8)) all now_stands
     (behind_doable list names (All-tail IsUtf8 name names utf8) 0 (with_one list.file g.now trees) g.now (changed_there trees list.file t g.now is) (all_with MayStand trees list.file g.now all now_stands) g.room)

@@ -1,5 +1,5 @@
 -- What a target of files that are read holds stands where its slot says.
-use Rattle.std.proofs.Common.{◌≡◌, ℕ, suc, ◌+◌, List, [], ◌∷◌, ◌++◌, Option, Some, None, refl, sym, ap, ◌∙◌, subst, arith}
+use Rattle.std.proofs.Common.{◌≡◌, ℕ, suc, ◌+◌, List, [], ◌∷◌, ◌++◌, Option, Some, None, refl, sym, ap, ◌∙◌, subst, arith, false}
 use Rattle.std.specs.Prelude.{All, option_map, option_and_then}
 use Rattle.std.specs.List.{filter_map, cons_option}
 use Rattle.std.proofs.lemmas.List.Elements.{All-cons, All-nil}
@@ -21,6 +21,8 @@ use Rattle.meson_sources.specs.Standings.{TargetThere, MarkStands, SourcesStand,
 use Rattle.meson_sources.proofs.ElementsAt.{AreLevel, value_stands, parsed_level}
 use Rattle.meson_steps.proofs.ArgumentValues.{named_value}
 use Rattle.meson_sources.proofs.MarksThere.{ArgumentAt, arguments_met}
+use Rattle.meson_syntax.specs.Operators.{holds_pairs, holds_values}
+use Rattle.meson_calls.proofs.ListNodes.{list_node}
 
 -- ---- the arguments of a call, by their numbers
 
@@ -62,31 +64,30 @@ module _ (p : Project Span) (levels : AreLevel p) (c : Placed (Call Span)) (t : 
     is_at : expression_at p c.place ≡ Some value
     is_list : list_in value ≡ Some list
     same : list.list ≡ c.it.arguments
+    none : holds_pairs list.bracket ≡ false
 
   standing : Standing
   standing =
-      let f = t.there.file.tree in
       let path = c.place.path.steps in
-      let both = sym (list-reached Span f path) ∙ ap (option_map (λ (m : ListAt Span). m.list)) t.there.is_list in
-      let o = and-then-some (λ e. option_map (λ (l : ListIn Span). l.list) (list_in e)) (paths.expression_at f path) t.there.list.list both in
-      let l = map-some (λ (l : ListIn Span). l.list) (list_in o.0) t.there.list.list o.2 in
+      let at = list_node Span t.there.file.tree path t.there.list t.there.is_list in
       record {
-        value = o.0;
-        list = l.0;
-        is_at = ap (option_and_then (λ (g : BuildFile Span). paths.expression_at g.tree path)) t.there.is_file ∙ o.1;
-        is_list = l.1;
-        same = l.2 ∙ t.is_list;
+        value = at.node;
+        list = at.inner;
+        is_at = ap (option_and_then (λ (g : BuildFile Span). paths.expression_at g.tree path)) t.there.is_file ∙ at.is_node;
+        is_list = at.is_inner;
+        same = at.list ∙ t.is_list;
+        none = ap holds_pairs (at.bracket ∙ t.is_round);
       }
 
   value_at : (j : ℕ) (a : Argument Span) (x : Expression Span) → nth (elements c.it.arguments) j ≡ Some a → value_of a ≡ Some x → expression_at p (child c.place j) ≡ Some x
   value_at j a x is is_value =
       let s = standing in
-      value_stands p levels c.place s.value s.list s.is_at s.is_list j a x (ap (λ m. nth (elements m) j) s.same ∙ is) is_value
+      value_stands p levels c.place s.value s.list s.is_at s.is_list s.none j a x (ap (λ m. nth (elements m) j) s.same ∙ is) is_value
 
   positional_at : Every (ArgumentAt p levels c.place (in_list c.place)) (positional c.it)
   positional_at = listed_each value_without_name (ArgumentAt p levels c.place (in_list c.place)) c.it.arguments (λ j a x is chosen.
       let there : nth (elements c.it.arguments) j ≡ Some (plain x) = is ∙ ap (λ b. Some b) (nameless a x chosen) in
-      record { is_at = value_at j (plain x) x there refl; slot = record { there = t.there; is_element = ap (λ m. nth (elements m) j) t.is_list ∙ there } })
+      record { is_at = value_at j (plain x) x there refl; slot = record { there = t.there; is_element = ap (λ m. nth (elements m) j) t.is_list ∙ there; values = ap holds_values t.is_round } })
 
   keyword_at : (key : List ℕ) → Every (ArgumentAt p levels c.place (λ n. fixed)) (keyword key c.it)
   keyword_at key = listed_each (value_with_name key) (ArgumentAt p levels c.place (λ n. fixed)) c.it.arguments (λ j a x is chosen. record { is_at = value_at j a x is (named_value key a x chosen); slot = tt })

@@ -1,5 +1,5 @@
 -- Where what a target holds stands in the trees of its project, and that the steps of commands on it may be done.
-use Rattle.std.specs.Prelude.{◌≡◌, ℕ, List, [], All, Some, Result, Ok}
+use Rattle.std.specs.Prelude.{◌≡◌, ℕ, List, [], All, Some, Result, Ok, true}
 use Rattle.std.specs.Str.{IsUtf8}
 use Rattle.meson_lex.specs.declared.kinds.Span.{Span}
 use Rattle.meson_syntax.specs.declared.operator.Bracket.TheVariants as bracket
@@ -21,6 +21,7 @@ use Rattle.meson_calls.specs.CallPlaces.{ListThere}
 use Rattle.meson_steps.specs.Results.{plain_trees}
 use Rattle.meson_steps.specs.ListSteps.{AreDoable}
 use Rattle.meson_steps.specs.Steps.{Step}
+use Rattle.meson_syntax.specs.Operators.{holds_values}
 
 -- ---- places
 
@@ -31,11 +32,13 @@ pub record StringThere (p : Project Span) (c : CallRef) (n : ℕ) : Type 0 where
   pub kind : StringKind
   pub text : List ℕ
   pub is_string : nth (elements there.list.list) n ≡ Some (plain (string span kind text))
+  pub values : holds_values there.list.bracket ≡ true
 
--- it holds nothing
+-- it holds nothing, and could hold values
 pub record NothingThere (p : Project Span) (c : CallRef) : Type 0 where
   pub there : ListThere p c
   pub is_empty : elements there.list.list ≡ []
+  pub values : holds_values there.list.bracket ≡ true
 
 -- the call of a target, which has an argument without a name
 pub record TargetThere (p : Project Span) (c : Placed (Call Span)) : Type 0 where

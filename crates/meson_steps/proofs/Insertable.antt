@@ -1,9 +1,9 @@
 -- A list with an element without a name, behind which strings are put one after another.
-use Rattle.std.proofs.Common.{◌≡◌, ℕ, zero, suc, ◌≤◌, false, List, [], ◌∷◌, ◌++◌, take, drop, Some, refl, ap, ◌∙◌}
+use Rattle.std.proofs.Common.{◌≡◌, ℕ, zero, suc, ◌≤◌, false, List, [], ◌∷◌, ◌++◌, take, drop, Some, refl, ap, ◌∙◌, true}
 use Rattle.std.specs.Prelude.{option_map, option_and_then}
 use Rattle.meson_syntax.specs.declared.operator.Bracket.{Bracket}
 use Rattle.meson_syntax.specs.declared.operator.Bracket.TheVariants as bracket
-use Rattle.meson_syntax.specs.Operators.{holds_pairs}
+use Rattle.meson_syntax.specs.Operators.{holds_values}
 use Rattle.meson_syntax.specs.Tree.{Nowhere, Plain, Expression, Listing, listing, Argument, plain, is_named, argument_list, arguments_of}
 use Rattle.meson_syntax.specs.Grammar.{LevelExpression, LevelArgument, LevelFile, argument_depth, file_depth}
 use Rattle.meson_syntax.specs.Paths.{ListAt, list_at, nth}
@@ -12,7 +12,6 @@ use Rattle.meson_edit.specs.Sequences.{MayFollow, StaysThere}
 use Rattle.meson_edit.proofs.paths.PutThere.{lists-stay}
 use Rattle.meson_edit.proofs.sequences.Deepened.{firsts-stay-within, insertions-stay-within}
 use Rattle.meson_edit.proofs.sequences.Levelled.{firsts-keep-levels, insertions-keep-levels}
-use Rattle.meson_calls.proofs.ListNodes.{place_no_pairs}
 
 -- ---- lists
 
@@ -53,16 +52,17 @@ pub record Room (t : Plain) (path : List ℕ) (n : ℕ) : Type 0 where
   pub it : Argument Nowhere
   pub is_it : nth (elements place.list) n ≡ Some it
   pub no_name : is_named it ≡ false
+  pub holds : holds_values place.bracket ≡ true
 
-may_follow : (b : Bracket) (it : Argument Nowhere) (behind : List (Argument Nowhere)) (e : Expression Nowhere) → holds_pairs b ≡ false → is_named it ≡ false → LevelExpression e → MayFollow b it behind (plain e)
-may_follow bracket.Square it behind e none no_name level = level
-may_follow bracket.Round it behind e none no_name level = (no_name, level)
-may_follow bracket.Curly it behind e none no_name level = absurd cc
+may_follow : (b : Bracket) (it : Argument Nowhere) (behind : List (Argument Nowhere)) (e : Expression Nowhere) → holds_values b ≡ true → is_named it ≡ false → LevelExpression e → MayFollow b it behind (plain e)
+may_follow bracket.Square it behind e holds no_name level = level
+may_follow bracket.Round it behind e holds no_name level = (no_name, level)
+may_follow bracket.Curly it behind e holds no_name level = absurd cc
 
-level_first : (b : Bracket) (e : Expression Nowhere) → holds_pairs b ≡ false → LevelExpression e → LevelArgument (plain e) b false
-level_first bracket.Square e none level = (refl, refl, level)
-level_first bracket.Round e none level = (refl, refl, level)
-level_first bracket.Curly e none level = absurd cc
+level_first : (b : Bracket) (e : Expression Nowhere) → holds_values b ≡ true → LevelExpression e → LevelArgument (plain e) b false
+level_first bracket.Square e holds level = (refl, refl, level)
+level_first bracket.Round e holds level = (refl, refl, level)
+level_first bracket.Curly e holds level = absurd cc
 
 -- a tree after an edit that puts a string at number n of a list
 pub record Grown (t : Plain) (path : List ℕ) (n : ℕ) (e : Edit) : Type 0 where
@@ -83,7 +83,7 @@ module _ (t : Plain) (path : List ℕ) (level : LevelFile t) (bytes : List ℕ) 
       let is : edited (After path n new) t ≡ Some (q.back (with_elements q.list xs)) =
       edited_there t path q r.is_place (After path n new) xs (ap (option_map (inserted n (plain e) (elements q.list))) r.is_it) in
       let again = there_again t path q r.is_place xs in
-      let follows = may_follow q.bracket r.it (drop (suc n) (elements q.list)) e (place_no_pairs t path q r.is_place) r.no_name low in
+      let follows = may_follow q.bracket r.it (drop (suc n) (elements q.list)) e r.holds r.no_name low in
       record {
         now = q.back (with_elements q.list xs);
         is = is;
@@ -95,18 +95,19 @@ module _ (t : Plain) (path : List ℕ) (level : LevelFile t) (bytes : List ℕ) 
           it = plain e;
           is_it = ap (λ l. nth (elements l) (suc n)) again.list ∙ ap (λ l. nth l (suc n)) (elements_with q.list xs) ∙ nth_inserted (elements q.list) n r.it (plain e) r.is_it;
           no_name = refl;
+          holds = ap holds_values again.bracket ∙ r.holds;
         };
       }
 
-  pub grown_first : (q : ListAt Nowhere) → list_at t path ≡ Some q → elements q.list ≡ [] → Grown t path 0 (First path new)
-  grown_first q is_q none =
+  pub grown_first : (q : ListAt Nowhere) → list_at t path ≡ Some q → holds_values q.bracket ≡ true → elements q.list ≡ [] → Grown t path 0 (First path new)
+  grown_first q is_q holds none =
       let xs : List (Argument Nowhere) = plain e ∷ [] in
       let is : edited (First path new) t ≡ Some (q.back (with_elements q.list xs)) = edited_there t path q is_q (First path new) xs (first_there (plain e) (elements q.list) none) in
       let again = there_again t path q is_q xs in
       record {
         now = q.back (with_elements q.list xs);
         is = is;
-        level = firsts-keep-levels path new t _ q is_q (level_first q.bracket e (place_no_pairs t path q is_q) low) level is;
+        level = firsts-keep-levels path new t _ q is_q (level_first q.bracket e holds low) level is;
         depth = firsts-stay-within path new flat t _ is;
         room = record {
           place = again.there;
@@ -114,5 +115,6 @@ module _ (t : Plain) (path : List ℕ) (level : LevelFile t) (bytes : List ℕ) 
           it = plain e;
           is_it = ap (λ l. nth (elements l) 0) again.list ∙ ap (λ l. nth l 0) (elements_with q.list xs);
           no_name = refl;
+          holds = ap holds_values again.bracket ∙ holds;
         };
       }

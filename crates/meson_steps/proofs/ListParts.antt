@@ -24,27 +24,27 @@ module _ (S : Type 0) where
   value_part (argument (plain e) more) b seen (suc n) a v none level is value = value_part more b false n a v none level.1 is value
   value_part (argument (named s x e) more) b seen (suc n) a v none level is value = value_part more b true n a v none level.1 is value
 
-  pub list_part : (e : Expression S) (l : ListIn S) (n : ℕ) (a : Argument S) (v : Expression S) → list_in e ≡ Some l → LevelListing l.list l.bracket → nth (elements l.list) n ≡ Some a → value_of a ≡ Some v
+  pub list_part : (e : Expression S) (l : ListIn S) (n : ℕ) (a : Argument S) (v : Expression S) → list_in e ≡ Some l → holds_pairs l.bracket ≡ false → LevelListing l.list l.bracket → nth (elements l.list) n ≡ Some a → value_of a ≡ Some v
       → nth (expression_parts e) n ≡ Some (an_expression v)
-  list_part (array (listing s trailing list)) l n a v is level there value =
+  list_part (array (listing s trailing list)) l n a v is none level there value =
       let same = some-injective _ _ is in
       let low = subst (λ (x : ListIn S). LevelListing x.list x.bracket) (sym same) level in
       value_part list bracket.Square false n a v refl low.1 (ap (λ (x : ListIn S). nth (elements x.list) n) same ∙ there) value
-  list_part (call t x (listing s trailing list)) l n a v is level there value =
+  list_part (call t x (listing s trailing list)) l n a v is none level there value =
       let same = some-injective _ _ is in
       let low = subst (λ (x : ListIn S). LevelListing x.list x.bracket) (sym same) level in
       value_part list bracket.Round false n a v refl low.1 (ap (λ (x : ListIn S). nth (elements x.list) n) same ∙ there) value
-  list_part _ l n a v is level there value = absurd cc
+  list_part _ l n a v is none level there value = absurd cc
 
   abbrev pub array_in : Listing S → ListIn S
   array_in l = record { list = l; bracket = bracket.Square; ahead = []; back = array }
 
   -- the array that is the value of an element
-  pub array_below : (f : File S) (path : List ℕ) (q : ListAt S) → list_at f path ≡ Some q → LevelFile f → (n : ℕ) (a : Argument S) (l : Listing S) → nth (elements q.list) n ≡ Some a
+  pub array_below : (f : File S) (path : List ℕ) (q : ListAt S) → list_at f path ≡ Some q → holds_pairs q.bracket ≡ false → LevelFile f → (n : ℕ) (a : Argument S) (l : Listing S) → nth (elements q.list) n ≡ Some a
       → value_of a ≡ Some (array l) → ListOf S f (path ++ n ∷ []) (array_in l)
-  array_below f path q is level n a l there value =
+  array_below f path q is none level n a l there value =
       let at = list_node S f path q is in
       let low = (list-fits S f path q is).level level in
       let inner_low = subst (λ b. LevelListing at.inner.list b) (sym at.bracket) (subst (λ m. LevelListing m q.bracket) (sym at.list) low) in
-      let part = list_part at.node at.inner n a (array l) at.is_inner inner_low (ap (λ m. nth (elements m) n) at.list ∙ there) value in
+      let part = list_part at.node at.inner n a (array l) at.is_inner (ap holds_pairs at.bracket ∙ none) inner_low (ap (λ m. nth (elements m) n) at.list ∙ there) value in
       list_of S f (path ++ n ∷ []) (array l) (array_in l) (value_below S f path at.node n (array l) at.is_node part) refl
