@@ -7,7 +7,7 @@ ghost use Rattle.meson_syntax.specs.LendsInside.{LendsInside};
 use std::alloc::{AllocError, Global};
 use std::marker::Model;
 
-/// A `Box` that contracts see as its value, so that a tree made of such boxes is plain data.
+/// One value on the heap. Contracts see the value and not where it lies, so a tree that owns its parts through it is plain data.
 #[derive(Debug, Drop)]
 pub struct Boxed<T> {
     inner: Box<T>,
