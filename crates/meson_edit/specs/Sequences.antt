@@ -31,6 +31,10 @@ abbrev pub DepthsGrow : Type 0
 DepthsGrow = (t : Plain) (path : List ℕ) (q : ListAt Nowhere) → list_at t path ≡ Some q → (l : Listing Nowhere) (k : ℕ) → listing_depth l ≤ listing_depth q.list + k
     → file_depth (q.back l) ≤ file_depth t + k
 
+-- No list is deeper than its tree.
+abbrev pub ListsAreShallow : Type 0
+ListsAreShallow = (t : Plain) (path : List ℕ) (q : ListAt Nowhere) → list_at t path ≡ Some q → listing_depth q.list ≤ file_depth t
+
 -- how deep is what an edit of a list puts in
 abbrev pub new_depth : Edit → ℕ
 new_depth (First path new) = argument_depth new.node

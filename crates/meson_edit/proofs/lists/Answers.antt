@@ -1,8 +1,8 @@
 -- The laws of edits of lists.
 use Rattle.std.proofs.Common.{ℕ, List, sym, subst}
 use Rattle.meson_edit.specs.Edits.{Edit, First, After, Remove, Replace, Wrap, RemoveStatement, Append}
-use Rattle.meson_edit.specs.Laws.{FirstsSpell, InsertionsSpell, RemovalsSpell, ReplacementsSpell, WrapsSpell, IsEditOf, ListEditsKeep}
-use Rattle.meson_edit.proofs.lists.LaidOut.{Lays, spelled, kept}
+use Rattle.meson_edit.specs.Laws.{FirstsSpell, InsertionsSpell, RemovalsSpell, ReplacementsSpell, WrapsSpell, IsEditOf, ListEditsWrite}
+use Rattle.meson_edit.proofs.lists.LaidOut.{Lays, spelled, written}
 use Rattle.meson_edit.proofs.lists.Elements.{first-lays, after-lays, remove-lays}
 use Rattle.meson_edit.proofs.lists.Values.{replace-lays, wrap-lays}
 
@@ -31,5 +31,5 @@ list-lays (Wrap list n) path is = subst (Lays (Wrap list n)) (sym is) (wrap-lays
 list-lays (RemoveStatement block n) path is = absurd is
 list-lays (Append new) path is = absurd is
 
-pub list-edits-keep : ListEditsKeep
-list-edits-keep e limits bytes f s items are name writes t is path names = kept e path (list-lays e path names) limits bytes f s items are name writes t is
+pub list-edits-write : ListEditsWrite
+list-edits-write e limits bytes f s items are name writes t is path names = written e path (list-lays e path names) limits bytes f s items are name writes t is

@@ -1,7 +1,9 @@
 -- An edit of a list, laid out: what its splices leave, and what follows from that.
-use Rattle.std.proofs.Common.{◌≡◌, ℕ, List, ◌++◌, Some, Result, Ok, sym, ap, subst, ◌∙◌}
+use Rattle.std.specs.Str.{IsUtf8}
+use Rattle.std.proofs.Common.{◌≡◌, ℕ, List, [], ◌∷◌, ◌++◌, Some, Result, Ok, sym, ap, subst, ◌∙◌, append_assoc}
 use Rattle.meson_lex.specs.declared.kinds.Span.{Span}
-use Rattle.meson_lex.specs.Items.{Lexeme, joined, IsItemList}
+use Rattle.meson_lex.specs.Items.{Lexeme, joined, AreItems, IsItemList}
+use Rattle.meson_lex.proofs.Seams.{AreItems-split}
 use Rattle.meson_lex.proofs.OneList.{one_list}
 use Rattle.meson_layout.specs.declared.primitive.Primitive.{Primitive}
 use Rattle.meson_layout.specs.Layout.{layout_of, IsPlaced}
@@ -16,10 +18,13 @@ use Rattle.meson_syntax.specs.Paths.{ListAt, list_at, inner_words}
 use Rattle.meson_syntax.specs.Places.{ListStands}
 use Rattle.meson_syntax.specs.Exchange.{IsListText}
 use Rattle.meson_syntax.proofs.parsing.Steps.{some-injective}
-use Rattle.meson_syntax.proofs.exchange.Lists.{lists-exchange}
+use Rattle.meson_syntax.proofs.exchange.Brackets.{open-bracket, close-bracket}
+use Rattle.meson_syntax.proofs.exchange.Cuts.{utf8-cut}
+use Rattle.meson_syntax.proofs.exchange.Items.{listed, exchanged-items}
+use Rattle.meson_syntax.proofs.exchange.Lists.{joined-list, lists-exchange}
 use Rattle.meson_edit.specs.Edits.{Edit, edited}
 use Rattle.meson_edit.specs.Places.{primitive_of, Writes}
-use Rattle.meson_edit.specs.Laws.{Makes, Spelled, KeepsOutside}
+use Rattle.meson_edit.specs.Laws.{Makes, Spelled, WritesList}
 use Rattle.meson_edit.proofs.Coding.{coding-law, texts-law}
 use Rattle.meson_edit.proofs.lists.Found.{Found, now_list}
 use Rattle.meson_edit.proofs.lists.Places.{list_among, cut-out}
@@ -45,7 +50,23 @@ Lays e path =
 
 -- ---- the new text
 
--- the text reads again: between the same brackets stands the text of another list
+-- between the same brackets stands the text of another list
+list-text : (bytes : List ℕ) (f : File Span) (items : List Lexeme) (name : List ℕ) (e : Edit) (path : List ℕ) (t : Plain) (o : LaidOut bytes f items name e path t)
+    → IsListText o.edited.text o.place.q.bracket (inner_words (now_list f e path t o.place))
+list-text bytes f items name e path t o =
+    let x = o.place in
+    let d = o.edited in
+    record {
+      open_item = o.stands.open_item;
+      inner = d.inner;
+      close_item = o.stands.close_item;
+      are_items = d.are_items;
+      is_open = o.stands.is_open ∙ ap opens (sym x.same_bracket);
+      is_close = o.stands.is_close ∙ ap closes (sym x.same_bracket);
+      is_inner = d.says;
+    }
+
+-- the text reads again
 makes : (limits : Limits) (bytes : List ℕ) (f : File Span) (s : IsSpannedWithin limits bytes f) (name : List ℕ) (e : Edit) (path : List ℕ) (t : Plain)
     → LaidOut bytes f s.reads.spells.items name e path t → LevelFile t → Makes bytes f s.reads.spells.items name e t
 makes limits bytes f s name e path t o level =
@@ -53,20 +74,12 @@ makes limits bytes f s name e path t o level =
     let are = s.reads.spells.are_items in
     let x = o.place in
     let d = o.edited in
-    let l = list_among items x.p o.stands in
     let c = cut-out items x.p o.stands bytes are in
     let front = joined o.stands.left in
     let back = joined o.stands.right in
-    let is_list : IsListText d.text x.q.bracket (inner_words (now_list f e path t x)) = record {
-      open_item = l.open_item;
-      inner = d.inner;
-      close_item = l.close_item;
-      are_items = d.are_items;
-      is_open = o.stands.is_open ∙ ap opens (sym x.same_bracket);
-      is_close = o.stands.is_close ∙ ap closes (sym x.same_bracket);
-      is_inner = d.says;
-    } in
-    let spells = lists-exchange limits bytes f s path x.p x.is_p x.q x.is_q (now_list f e path t x) d.text is_list (subst LevelFile (sym x.is_t) level) front c.was back c.parts c.from c.to in
+    let spells =
+    lists-exchange limits bytes f s path x.p x.is_p x.q x.is_q (now_list f e path t x) d.text (list-text bytes f items name e path t o) (subst LevelFile (sym x.is_t) level)
+    front c.was back c.parts c.from c.to in
     record {
       primitive = o.primitive;
       is_primitive = o.is_primitive;
@@ -83,24 +96,42 @@ spelled e path lays limits bytes f s items are name writes t is level =
     subst (λ xs. Makes bytes f xs name e t) (one_list bytes s.reads.spells.items items s.reads.spells.are_items are)
     (makes limits bytes f s name e path t (lays limits bytes f s name writes t is) level)
 
--- ---- what is kept
+-- ---- what is written
 
 -- an answer is one value
 one-answer : {A B : Type 0} (r : Result A B) (x y : A) → r ≡ Ok x → r ≡ Ok y → x ≡ y
 one-answer r x y h g = let same : Ok x ≡ r = sym h in let both = same ∙ g in cc
 
+-- the text of a list that stands between items of a text in UTF-8 is in UTF-8
+list-coded : (bytes : List ℕ) (f : File Span) (items : List Lexeme) → IsItemList bytes items → (name : List ℕ) (e : Edit) (path : List ℕ) (t : Plain) (o : LaidOut bytes f items name e path t)
+    → IsUtf8 (joined o.stands.left ++ (o.edited.text ++ joined o.stands.right)) → IsUtf8 o.edited.text
+list-coded bytes f items are name e path t o utf8 =
+    let l = o.stands in
+    let d = o.edited in
+    let b = o.place.p.bracket in
+    let own = listed l.open_item d.inner l.close_item [] in
+    let whole : joined (l.left ++ listed l.open_item d.inner l.close_item l.right) ≡ joined l.left ++ (d.text ++ joined l.right) =
+    joined-list l.left l.open_item d.inner l.close_item l.right ∙ ap (λ text. joined l.left ++ (text ++ joined l.right)) d.are_items.joins in
+    let each =
+    exchanged-items (opens b) (closes b) (open-bracket b) (close-bracket b) l.left l.inner l.right d.inner l.open_item l.close_item l.open_item l.close_item l.is_open l.is_close l.is_open l.is_close
+    (subst (λ xs. AreItems xs []) l.parts are.each) d.are_items.each in
+    let behind = utf8-cut l.left (listed l.open_item d.inner l.close_item l.right) each (subst IsUtf8 (sym whole) utf8) in
+    let apart : listed l.open_item d.inner l.close_item l.right ≡ own ++ l.right = ap (λ xs. l.open_item ∷ xs) (sym (append_assoc d.inner (l.close_item ∷ []) l.right)) in
+    let cut = utf8-cut own l.right (subst (λ xs. AreItems xs []) apart (AreItems-split l.left (listed l.open_item d.inner l.close_item l.right) [] each).1) (subst (λ xs. IsUtf8 (joined xs)) apart behind.1) in
+    subst IsUtf8 d.are_items.joins cut.0
+
 -- what the edit leaves of the text
-abbrev Kept : Edit → List ℕ → Type 0
-Kept e path =
+abbrev Written : Edit → List ℕ → Type 0
+Written e path =
     (limits : Limits) (bytes : List ℕ) (f : File Span) → IsSpannedWithin limits bytes f → (items : List Lexeme) → IsItemList bytes items → (name : List ℕ)
     → Writes e → (t : Plain) → edited e (erase f) ≡ Some t → (p : ListAt Span) → list_at f path ≡ Some p
     → (primitive : Primitive) → primitive_of f e ≡ Some primitive → (text : List ℕ) → patched_by bytes (layout_of name items primitive) ≡ Ok text
-    → KeepsOutside bytes text p
+    → WritesList bytes text f path p t
 
-kept-here : (bytes : List ℕ) (f : File Span) (items : List Lexeme) → IsItemList bytes items → (name : List ℕ) (e : Edit) (path : List ℕ) (t : Plain) → LaidOut bytes f items name e path t
+written-here : (bytes : List ℕ) → IsUtf8 bytes → (f : File Span) (items : List Lexeme) → IsItemList bytes items → (name : List ℕ) (e : Edit) (path : List ℕ) (t : Plain) → LaidOut bytes f items name e path t
     → (p : ListAt Span) → list_at f path ≡ Some p → (primitive : Primitive) → primitive_of f e ≡ Some primitive
-    → (text : List ℕ) → patched_by bytes (layout_of name items primitive) ≡ Ok text → KeepsOutside bytes text p
-kept-here bytes f items are name e path t o p is_p primitive is_primitive text patches =
+    → (text : List ℕ) → patched_by bytes (layout_of name items primitive) ≡ Ok text → WritesList bytes text f path p t
+written-here bytes utf8 f items are name e path t o p is_p primitive is_primitive text patches =
     let x = o.place in
     let c = cut-out items x.p o.stands bytes are in
     let d = o.edited in
@@ -108,7 +139,12 @@ kept-here bytes f items are name e path t o p is_p primitive is_primitive text p
     let same_primitive : o.primitive ≡ primitive = some-injective o.primitive primitive (sym o.is_primitive ∙ is_primitive) in
     let now : List ℕ = joined o.stands.left ++ (d.text ++ joined o.stands.right) in
     let result : text ≡ now = one-answer (patched_by bytes (layout_of name items primitive)) text now patches (ap (λ x. patched_by bytes (layout_of name items x)) (sym same_primitive) ∙ d.patches) in
-    subst (KeepsOutside bytes text) same (record {
+    subst (λ p. WritesList bytes text f path p t) same (record {
+      q = x.q;
+      is_q = x.is_q;
+      bracket = x.same_bracket;
+      list = now_list f e path t x;
+      is_tree = x.is_t;
       front = joined o.stands.left;
       was = c.was;
       now = d.text;
@@ -117,10 +153,12 @@ kept-here bytes f items are name e path t o p is_p primitive is_primitive text p
       new = result;
       from = c.from;
       to = c.to;
+      is_text = list-text bytes f items name e path t o;
+      utf8 = list-coded bytes f items are name e path t o (coding-law name bytes items are utf8 o.primitive o.writes now d.patches);
     })
 
-pub kept : (e : Edit) (path : List ℕ) → Lays e path → Kept e path
-kept e path lays limits bytes f s items are name writes t is p is_p primitive is_primitive text patches =
+pub written : (e : Edit) (path : List ℕ) → Lays e path → Written e path
+written e path lays limits bytes f s items are name writes t is p is_p primitive is_primitive text patches =
     let same : s.reads.spells.items ≡ items = one_list bytes s.reads.spells.items items s.reads.spells.are_items are in
     let o = subst (λ xs. LaidOut bytes f xs name e path t) same (lays limits bytes f s name writes t is) in
-    kept-here bytes f items are name e path t o p is_p primitive is_primitive text patches
+    written-here bytes s.reads.source.utf8 f items are name e path t o p is_p primitive is_primitive text patches
