@@ -1,17 +1,69 @@
--- What an edit of a whole statement leaves as it is: all bytes but the statement's own and the blanks and line ends that go with it.
-use Rattle.std.specs.Prelude.{◌≡◌, ℕ, ◌==◌, ◌||◌, Bool, true, List, ◌++◌, length, Some, Ok}
+-- What an edit leaves as it is. Of a list: what stands left and right of what the edit touches, but for commas, blanks and line ends, so that every
+-- comment stays. Of statements: all bytes but the statement's own and the blanks and line ends that go with it.
+use Rattle.std.specs.Prelude.{◌≡◌, ℕ, ◌==◌, ◌||◌, Bool, true, List, [], ◌∷◌, ◌++◌, length, Some, Ok}
 use Rattle.std.specs.List.{list_all}
 use Rattle.meson_lex.specs.declared.kinds.Span.{Span}
 use Rattle.meson_lex.specs.Bytes.{is_blank}
-use Rattle.meson_lex.specs.Items.{Lexeme, IsItemList}
+use Rattle.meson_lex.specs.Items.{Lexeme, joined, IsItemList}
+use Rattle.meson_layout.specs.declared.primitive.Primitive.{Primitive}
 use Rattle.meson_layout.specs.declared.primitive.Primitive.TheVariants as layout
 use Rattle.meson_layout.specs.Layout.{layout_of}
-use Rattle.meson_layout.specs.Edited.{patched_by}
+use Rattle.meson_layout.specs.Words.{remarks}
+use Rattle.meson_layout.specs.Edited.{Keeps, patched_by}
 use Rattle.meson_syntax.specs.declared.source.Limits.{Limits}
-use Rattle.meson_syntax.specs.Tree.{Nowhere, Plain, Statement, File, erase}
+use Rattle.meson_syntax.specs.Tree.{Nowhere, Plain, Expression, Statement, File, erase}
+use Rattle.meson_syntax.specs.Paths.{ListAt, list_at, ElementAt, element_at, value_of}
+use Rattle.meson_syntax.specs.Places.{ListStands, ElementStands, ValueStands}
 use Rattle.meson_syntax.specs.Reads.{IsSpannedWithin}
-use Rattle.meson_edit.specs.Edits.{Written, RemoveStatement, Append, edited}
-use Rattle.meson_edit.specs.Places.{Writes, span_of_statement}
+use Rattle.meson_edit.specs.Edits.{Written, Edit, First, After, Remove, Replace, Wrap, RemoveStatement, Append, edited}
+use Rattle.meson_edit.specs.Places.{primitive_of, Writes, span_of_statement}
+use Rattle.meson_edit.specs.Laws.{IsEditOf}
+
+-- ---- lists
+
+-- What an edit of the list `p` touches: no item, where an element comes, else the items of an element or of its value. `left` and `right` are the
+-- items of the list left and right of that, and `notes` the comments and continuations that it may not take away.
+abbrev pub Touches : (items : List Lexeme) (p : ListAt Span) → ListStands items p → Edit → (left right notes : List Lexeme) → Type 0
+Touches items p l (First path new) left right notes = (left ≡ []) × (right ≡ l.inner) × (notes ≡ remarks l.inner)
+Touches items p l (After path n new) left right notes =
+    (x : ElementAt Span) × (element_at p.list n ≡ Some x)
+    × (part : ElementStands items p l x) × (left ≡ part.left ++ part.own) × (right ≡ part.right) × (notes ≡ remarks l.inner)
+Touches items p l (Remove path n) left right notes =
+    (x : ElementAt Span) × (element_at p.list n ≡ Some x)
+    × (part : ElementStands items p l x) × (left ≡ part.left) × (right ≡ part.right) × (notes ≡ remarks left ++ remarks right)
+Touches items p l (Replace path n new) left right notes =
+    (x : ElementAt Span) × (element_at p.list n ≡ Some x) × (v : Expression Span) × (value_of x.element ≡ Some v)
+    × (part : ValueStands items p l x v) × (left ≡ part.left) × (right ≡ part.right) × (notes ≡ remarks left ++ remarks right)
+Touches items p l (Wrap path n) left right notes =
+    (x : ElementAt Span) × (element_at p.list n ≡ Some x) × (v : Expression Span) × (value_of x.element ≡ Some v)
+    × (part : ValueStands items p l x v) × (left ≡ part.left) × (right ≡ part.right) × (notes ≡ remarks l.inner)
+Touches items p l (RemoveStatement path n) left right notes = ⊥
+Touches items p l (Append new) left right notes = ⊥
+
+-- The new text is the old one but for the items between the brackets of the list. Of these all bytes left and right of what is touched stay, but for at
+-- most a comma, blanks and line ends beside it, and every comment and continuation stays, in order.
+pub record KeepsList (bytes text : List ℕ) (items : List Lexeme) (e : Edit) (p : ListAt Span) : Type 0 where
+  pub list : ListStands items p
+  pub left : List Lexeme
+  pub right : List Lexeme
+  pub notes : List Lexeme
+  pub touches : Touches items p list e left right notes
+  pub inner : List Lexeme
+  pub now : List ℕ
+  pub are_items : IsItemList now (list.open_item ∷ (inner ++ list.close_item ∷ []))
+  pub is_text : text ≡ joined list.left ++ (now ++ joined list.right)
+  pub keeps : Keeps left right (joined inner)
+  pub comments : remarks inner ≡ notes
+
+-- Each edit of a list does so.
+abbrev pub ListEditsKeep : Type 0
+ListEditsKeep =
+    (e : Edit) (limits : Limits) (bytes : List ℕ) (f : File Span) → IsSpannedWithin limits bytes f → (items : List Lexeme) → IsItemList bytes items → (name : List ℕ)
+    → Writes e → (t : Plain) → edited e (erase f) ≡ Some t → (path : List ℕ) → IsEditOf path e → (p : ListAt Span) → list_at f path ≡ Some p
+    → (primitive : Primitive) → primitive_of f e ≡ Some primitive → (text : List ℕ) → patched_by bytes (layout_of name items primitive) ≡ Ok text
+    → KeepsList bytes text items e p
+
+-- ---- statements
 
 -- a byte of a blank or of a line end
 abbrev pub is_white_byte : ℕ → Bool

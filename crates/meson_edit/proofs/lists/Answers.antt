@@ -2,7 +2,8 @@
 use Rattle.std.proofs.Common.{ℕ, List, sym, subst}
 use Rattle.meson_edit.specs.Edits.{Edit, First, After, Remove, Replace, Wrap, RemoveStatement, Append}
 use Rattle.meson_edit.specs.Laws.{FirstsSpell, InsertionsSpell, RemovalsSpell, ReplacementsSpell, WrapsSpell, IsEditOf, ListEditsWrite}
-use Rattle.meson_edit.proofs.lists.LaidOut.{Lays, spelled, written}
+use Rattle.meson_edit.specs.Kept.{ListEditsKeep}
+use Rattle.meson_edit.proofs.lists.LaidOut.{Lays, spelled, written, kept}
 use Rattle.meson_edit.proofs.lists.Elements.{first-lays, after-lays, remove-lays}
 use Rattle.meson_edit.proofs.lists.Values.{replace-lays, wrap-lays}
 
@@ -33,3 +34,6 @@ list-lays (Append new) path is = absurd is
 
 pub list-edits-write : ListEditsWrite
 list-edits-write e limits bytes f s items are name writes t is path names = written e path (list-lays e path names) limits bytes f s items are name writes t is
+
+pub list-edits-keep : ListEditsKeep
+list-edits-keep e limits bytes f s items are name writes t is path names = kept e path (list-lays e path names) limits bytes f s items are name writes t is

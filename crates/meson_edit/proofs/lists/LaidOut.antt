@@ -25,6 +25,7 @@ use Rattle.meson_syntax.proofs.exchange.Lists.{joined-list, lists-exchange}
 use Rattle.meson_edit.specs.Edits.{Edit, edited}
 use Rattle.meson_edit.specs.Places.{primitive_of, Writes}
 use Rattle.meson_edit.specs.Laws.{Makes, Spelled, WritesList}
+use Rattle.meson_edit.specs.Kept.{Touches, KeepsList}
 use Rattle.meson_edit.proofs.Coding.{coding-law, texts-law}
 use Rattle.meson_edit.proofs.lists.Found.{Found, now_list}
 use Rattle.meson_edit.proofs.lists.Places.{list_among, cut-out}
@@ -40,6 +41,7 @@ pub record LaidOut (bytes : List ℕ) (f : File Span) (items : List Lexeme) (nam
   pub left : List Lexeme
   pub right : List Lexeme
   pub notes : List Lexeme
+  pub touches : Touches items place.p stands e left right notes
   pub edited : Edited bytes items (list_among items place.p stands) left right (layout_of name items primitive) (inner_words (now_list f e path t place)) notes
 
 -- An edit of this form can be laid out wherever it has its place.
@@ -121,25 +123,49 @@ list-coded bytes f items are name e path t o utf8 =
     subst IsUtf8 d.are_items.joins cut.0
 
 -- what the edit leaves of the text
-abbrev Written : Edit → List ℕ → Type 0
-Written e path =
+abbrev Leaves : Edit → List ℕ → ((bytes text : List ℕ) → File Span → List Lexeme → ListAt Span → Plain → Type 0) → Type 0
+Leaves e path P =
     (limits : Limits) (bytes : List ℕ) (f : File Span) → IsSpannedWithin limits bytes f → (items : List Lexeme) → IsItemList bytes items → (name : List ℕ)
     → Writes e → (t : Plain) → edited e (erase f) ≡ Some t → (p : ListAt Span) → list_at f path ≡ Some p
     → (primitive : Primitive) → primitive_of f e ≡ Some primitive → (text : List ℕ) → patched_by bytes (layout_of name items primitive) ≡ Ok text
-    → WritesList bytes text f path p t
+    → P bytes text f items p t
 
-written-here : (bytes : List ℕ) → IsUtf8 bytes → (f : File Span) (items : List Lexeme) → IsItemList bytes items → (name : List ℕ) (e : Edit) (path : List ℕ) (t : Plain) → LaidOut bytes f items name e path t
+-- what is laid out is the text, and its list is the one that the path names
+record Left (bytes text : List ℕ) (f : File Span) (items : List Lexeme) (name : List ℕ) (e : Edit) (path : List ℕ) (t : Plain) (p : ListAt Span) : Type 0 where
+  laid : LaidOut bytes f items name e path t
+  same : laid.place.p ≡ p
+  result : text ≡ joined laid.stands.left ++ (laid.edited.text ++ joined laid.stands.right)
+
+left-there : (bytes : List ℕ) (f : File Span) (items : List Lexeme) (name : List ℕ) (e : Edit) (path : List ℕ) (t : Plain) (o : LaidOut bytes f items name e path t)
     → (p : ListAt Span) → list_at f path ≡ Some p → (primitive : Primitive) → primitive_of f e ≡ Some primitive
-    → (text : List ℕ) → patched_by bytes (layout_of name items primitive) ≡ Ok text → WritesList bytes text f path p t
-written-here bytes utf8 f items are name e path t o p is_p primitive is_primitive text patches =
+    → (text : List ℕ) → patched_by bytes (layout_of name items primitive) ≡ Ok text → Left bytes text f items name e path t p
+left-there bytes f items name e path t o p is_p primitive is_primitive text patches =
+    let same_primitive : o.primitive ≡ primitive = some-injective o.primitive primitive (sym o.is_primitive ∙ is_primitive) in
+    let now : List ℕ = joined o.stands.left ++ (o.edited.text ++ joined o.stands.right) in
+    record {
+      laid = o;
+      same = some-injective o.place.p p (sym o.place.is_p ∙ is_p);
+      result = one-answer (patched_by bytes (layout_of name items primitive)) text now patches (ap (λ x. patched_by bytes (layout_of name items x)) (sym same_primitive) ∙ o.edited.patches);
+    }
+
+left-by : (e : Edit) (path : List ℕ) → Lays e path → (limits : Limits) (bytes : List ℕ) (f : File Span) → IsSpannedWithin limits bytes f → (items : List Lexeme) → IsItemList bytes items
+    → (name : List ℕ) → Writes e → (t : Plain) → edited e (erase f) ≡ Some t → (p : ListAt Span) → list_at f path ≡ Some p
+    → (primitive : Primitive) → primitive_of f e ≡ Some primitive → (text : List ℕ) → patched_by bytes (layout_of name items primitive) ≡ Ok text
+    → Left bytes text f items name e path t p
+left-by e path lays limits bytes f s items are name writes t is p is_p primitive is_primitive text patches =
+    let same : s.reads.spells.items ≡ items = one_list bytes s.reads.spells.items items s.reads.spells.are_items are in
+    let o = subst (λ xs. LaidOut bytes f xs name e path t) same (lays limits bytes f s name writes t is) in
+    left-there bytes f items name e path t o p is_p primitive is_primitive text patches
+
+pub written : (e : Edit) (path : List ℕ) → Lays e path → Leaves e path (λ bytes text f items p t. WritesList bytes text f path p t)
+written e path lays limits bytes f s items are name writes t is p is_p primitive is_primitive text patches =
+    let there = left-by e path lays limits bytes f s items are name writes t is p is_p primitive is_primitive text patches in
+    let o = there.laid in
     let x = o.place in
     let c = cut-out items x.p o.stands bytes are in
     let d = o.edited in
-    let same : x.p ≡ p = some-injective x.p p (sym x.is_p ∙ is_p) in
-    let same_primitive : o.primitive ≡ primitive = some-injective o.primitive primitive (sym o.is_primitive ∙ is_primitive) in
     let now : List ℕ = joined o.stands.left ++ (d.text ++ joined o.stands.right) in
-    let result : text ≡ now = one-answer (patched_by bytes (layout_of name items primitive)) text now patches (ap (λ x. patched_by bytes (layout_of name items x)) (sym same_primitive) ∙ d.patches) in
-    subst (λ p. WritesList bytes text f path p t) same (record {
+    subst (λ p. WritesList bytes text f path p t) there.same (record {
       q = x.q;
       is_q = x.is_q;
       bracket = x.same_bracket;
@@ -150,15 +176,27 @@ written-here bytes utf8 f items are name e path t o p is_p primitive is_primitiv
       now = d.text;
       back = joined o.stands.right;
       old = c.parts;
-      new = result;
+      new = there.result;
       from = c.from;
       to = c.to;
       is_text = list-text bytes f items name e path t o;
-      utf8 = list-coded bytes f items are name e path t o (coding-law name bytes items are utf8 o.primitive o.writes now d.patches);
+      utf8 = list-coded bytes f items are name e path t o (coding-law name bytes items are s.reads.source.utf8 o.primitive o.writes now d.patches);
     })
 
-pub written : (e : Edit) (path : List ℕ) → Lays e path → Written e path
-written e path lays limits bytes f s items are name writes t is p is_p primitive is_primitive text patches =
-    let same : s.reads.spells.items ≡ items = one_list bytes s.reads.spells.items items s.reads.spells.are_items are in
-    let o = subst (λ xs. LaidOut bytes f xs name e path t) same (lays limits bytes f s name writes t is) in
-    written-here bytes s.reads.source.utf8 f items are name e path t o p is_p primitive is_primitive text patches
+pub kept : (e : Edit) (path : List ℕ) → Lays e path → Leaves e path (λ bytes text f items p t. KeepsList bytes text items e p)
+kept e path lays limits bytes f s items are name writes t is p is_p primitive is_primitive text patches =
+    let there = left-by e path lays limits bytes f s items are name writes t is p is_p primitive is_primitive text patches in
+    let o = there.laid in
+    subst (KeepsList bytes text items e) there.same (record {
+      list = o.stands;
+      left = o.left;
+      right = o.right;
+      notes = o.notes;
+      touches = o.touches;
+      inner = o.edited.inner;
+      now = o.edited.text;
+      are_items = o.edited.are_items;
+      is_text = there.result;
+      keeps = o.edited.keeps;
+      comments = o.edited.noted;
+    })
