@@ -1,6 +1,6 @@
 -- What an edit leaves as it is. Of a list: what stands left and right of what the edit touches, but for commas, blanks and line ends, so that every
 -- comment stays. Of statements: all bytes but the statement's own and the blanks and line ends that go with it.
-use Rattle.std.specs.Prelude.{◌≡◌, ℕ, ◌==◌, ◌||◌, Bool, true, List, [], ◌∷◌, ◌++◌, length, Some, Ok}
+use Rattle.std.specs.Prelude.{◌≡◌, ℕ, ◌<◌, ◌≤◌, ◌==◌, ◌||◌, Bool, true, List, [], ◌∷◌, ◌++◌, length, Some, Ok}
 use Rattle.std.specs.List.{list_all}
 use Rattle.meson_lex.specs.declared.kinds.Span.{Span}
 use Rattle.meson_lex.specs.Bytes.{is_blank}
@@ -13,7 +13,7 @@ use Rattle.meson_layout.specs.Edited.{Keeps, patched_by}
 use Rattle.meson_syntax.specs.declared.source.Limits.{Limits}
 use Rattle.meson_syntax.specs.Tree.{Nowhere, Plain, Expression, Statement, File, erase}
 use Rattle.meson_syntax.specs.Paths.{ListAt, list_at, ElementAt, element_at, value_of}
-use Rattle.meson_syntax.specs.Places.{ListStands, ElementStands, ValueStands}
+use Rattle.meson_syntax.specs.Places.{argument_span, ListStands, ElementStands, ValueStands, ListPlaces}
 use Rattle.meson_syntax.specs.Reads.{IsSpannedWithin}
 use Rattle.meson_edit.specs.Edits.{Written, Edit, First, After, Remove, Replace, Wrap, RemoveStatement, Append, edited}
 use Rattle.meson_edit.specs.Places.{primitive_of, Writes, span_of_statement}
@@ -43,15 +43,15 @@ Touches items p l (Append new) left right notes = ⊥
 -- The new text is the old one but for the items between the brackets of the list. Of these all bytes left and right of what is touched stay, but for at
 -- most a comma, blanks and line ends beside it, and every comment and continuation stays, in order.
 pub record KeepsList (bytes text : List ℕ) (items : List Lexeme) (e : Edit) (p : ListAt Span) : Type 0 where
-  pub list : ListStands items p
+  pub places : ListPlaces items p
   pub left : List Lexeme
   pub right : List Lexeme
   pub notes : List Lexeme
-  pub touches : Touches items p list e left right notes
+  pub touches : Touches items p places.list e left right notes
   pub inner : List Lexeme
   pub now : List ℕ
-  pub are_items : IsItemList now (list.open_item ∷ (inner ++ list.close_item ∷ []))
-  pub is_text : text ≡ joined list.left ++ (now ++ joined list.right)
+  pub are_items : IsItemList now (places.list.open_item ∷ (inner ++ places.list.close_item ∷ []))
+  pub is_text : text ≡ joined places.list.left ++ (now ++ joined places.list.right)
   pub keeps : Keeps left right (joined inner)
   pub comments : remarks inner ≡ notes
 
@@ -62,6 +62,53 @@ ListEditsKeep =
     → Writes e → (t : Plain) → edited e (erase f) ≡ Some t → (path : List ℕ) → IsEditOf path e → (p : ListAt Span) → list_at f path ≡ Some p
     → (primitive : Primitive) → primitive_of f e ≡ Some primitive → (text : List ℕ) → patched_by bytes (layout_of name items primitive) ≡ Ok text
     → KeepsList bytes text items e p
+
+-- whether the element of this number stands before what an edit touches, and whether behind it
+abbrev pub IsBefore : Edit → ℕ → Type 0
+IsBefore (First path new) m = ⊥
+IsBefore (After path n new) m = m ≤ n
+IsBefore (Remove path n) m = m < n
+IsBefore (Replace path n new) m = m < n
+IsBefore (Wrap path n) m = m < n
+IsBefore (RemoveStatement path n) m = ⊥
+IsBefore (Append new) m = ⊥
+
+abbrev pub IsBehind : Edit → ℕ → Type 0
+IsBehind (First path new) m = ⊥
+IsBehind (After path n new) m = n < m
+IsBehind (Remove path n) m = n < m
+IsBehind (Replace path n new) m = n < m
+IsBehind (Wrap path n) m = n < m
+IsBehind (RemoveStatement path n) m = ⊥
+IsBehind (Append new) m = ⊥
+
+-- up to this offset the texts are one
+pub record SameUpTo (to : ℕ) (bytes text : List ℕ) : Type 0 where
+  pub front : List ℕ
+  pub was : List ℕ
+  pub now : List ℕ
+  pub old : bytes ≡ front ++ was
+  pub new : text ≡ front ++ now
+  pub is : length front ≡ to
+
+-- from this offset of the old text on they are one
+pub record SameFrom (from : ℕ) (bytes text : List ℕ) : Type 0 where
+  pub was : List ℕ
+  pub now : List ℕ
+  pub back : List ℕ
+  pub old : bytes ≡ was ++ back
+  pub new : text ≡ now ++ back
+  pub is : length was ≡ from
+
+-- An edit of a list keeps every other element byte for byte: the text up to the end of each element before what is touched, and from the beginning of
+-- each element behind it.
+abbrev pub ElementsStay : Type 0
+ElementsStay =
+    (e : Edit) (limits : Limits) (bytes : List ℕ) (f : File Span) → IsSpannedWithin limits bytes f → (items : List Lexeme) → IsItemList bytes items → (name : List ℕ)
+    → Writes e → (t : Plain) → edited e (erase f) ≡ Some t → (path : List ℕ) → IsEditOf path e → (p : ListAt Span) → list_at f path ≡ Some p
+    → (primitive : Primitive) → primitive_of f e ≡ Some primitive → (text : List ℕ) → patched_by bytes (layout_of name items primitive) ≡ Ok text
+    → (m : ℕ) (x : ElementAt Span) → element_at p.list m ≡ Some x
+    → (IsBefore e m → SameUpTo (argument_span x.element).to bytes text) × (IsBehind e m → SameFrom (argument_span x.element).from bytes text)
 
 -- ---- statements
 

@@ -1,11 +1,12 @@
 //! Laws of edits. The functions do nothing: what they ensure is the law.
 
-ghost use Rattle.meson_edit.specs.Kept.{AppendedKeep, ListEditsKeep, StatementRemovalsKeep};
+ghost use Rattle.meson_edit.specs.Kept.{AppendedKeep, ElementsStay, ListEditsKeep, StatementRemovalsKeep};
 ghost use Rattle.meson_edit.specs.Laws.{AppendedSpell, FirstsSpell, InsertionsSpell, ListEditsWrite, RemovalsSpell, ReplacementsSpell, StatementRemovalsSpell, WrapsSpell};
 ghost use Rattle.meson_edit.specs.Sequences.{DepthsGrow, EditsDeepen, EditsDeepenByOne, FirstsKeepLevels, FirstsStayWithin, InsertionsKeepLevels, InsertionsStayWithin, ListsAreShallow, ListsStay, RemovalsKeepLevels, RemovalsStayWithin, ReplacementsKeepLevels, WrapsKeepLevels};
 
 /// An element put in, removed, exchanged or wrapped: the new text spells the tree so edited. No byte outside the list changes,
-/// and in its place stands the text of the edited list, which keeps each comment and continuation but those of what is touched.
+/// and in its place stands the text of the edited list, which keeps each comment and continuation but those of what is touched,
+/// and each other element byte for byte.
 pub fn lists()
     ensures firsts { FirstsSpell }
     ensures insertions { InsertionsSpell }
@@ -14,6 +15,7 @@ pub fn lists()
     ensures wraps { WrapsSpell }
     ensures write { ListEditsWrite }
     ensures keep { ListEditsKeep }
+    ensures elements { ElementsStay }
 {}
 
 /// A statement removed or appended: the new text spells the tree so edited.

@@ -2,9 +2,10 @@
 use Rattle.std.proofs.Common.{ℕ, List, sym, subst}
 use Rattle.meson_edit.specs.Edits.{Edit, First, After, Remove, Replace, Wrap, RemoveStatement, Append}
 use Rattle.meson_edit.specs.Laws.{FirstsSpell, InsertionsSpell, RemovalsSpell, ReplacementsSpell, WrapsSpell, IsEditOf, ListEditsWrite}
-use Rattle.meson_edit.specs.Kept.{ListEditsKeep}
+use Rattle.meson_edit.specs.Kept.{ListEditsKeep, ElementsStay}
 use Rattle.meson_edit.proofs.lists.LaidOut.{Lays, spelled, written, kept}
 use Rattle.meson_edit.proofs.lists.Elements.{first-lays, after-lays, remove-lays}
+use Rattle.meson_edit.proofs.lists.Others.{stays-before, stays-behind}
 use Rattle.meson_edit.proofs.lists.Values.{replace-lays, wrap-lays}
 
 pub firsts-spell : FirstsSpell
@@ -37,3 +38,8 @@ list-edits-write e limits bytes f s items are name writes t is path names = writ
 
 pub list-edits-keep : ListEditsKeep
 list-edits-keep e limits bytes f s items are name writes t is path names = kept e path (list-lays e path names) limits bytes f s items are name writes t is
+
+pub elements-stay : ElementsStay
+elements-stay e limits bytes f s items are name writes t is path names p is_p primitive is_primitive text patches m x is_x =
+    let k = list-edits-keep e limits bytes f s items are name writes t is path names p is_p primitive is_primitive text patches in
+    (stays-before bytes text items are e p k m x is_x, stays-behind bytes text items are e p k m x is_x)

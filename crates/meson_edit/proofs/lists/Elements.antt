@@ -20,7 +20,7 @@ use Rattle.meson_syntax.specs.Tree.{Nowhere, Plain, Listing, listing, Argument, 
 use Rattle.meson_syntax.specs.Grammar.{argument_words, LevelListing}
 use Rattle.meson_syntax.specs.Reads.{IsSpannedWithin}
 use Rattle.meson_syntax.specs.Paths.{nth, list_span, inner_words}
-use Rattle.meson_syntax.specs.Places.{argument_span, ListStands, ElementStands}
+use Rattle.meson_syntax.specs.Places.{argument_span, ElementStands, ListPlaces}
 use Rattle.meson_syntax.proofs.parsing.Steps.{some-injective}
 use Rattle.meson_syntax.proofs.paths.Reaching.{map-some, list-fits}
 use Rattle.meson_syntax.proofs.places.Standing.{lists-stand}
@@ -35,10 +35,10 @@ use Rattle.meson_edit.proofs.lists.LaidOut.{LaidOut, Lays}
 
 -- the n-th element among the items, cut there
 record ElementIn (f : File Span) (items : List Lexeme) (path : List ℕ) (n : ℕ) (e : Edit) (t : Plain) (o : Found f e path t) (it : Argument Nowhere) : Type 0 where
-  stands : ListStands items o.p
+  places : ListPlaces items o.p
   cut : CutAt o.p.list n it
   is_span : element_span f path n ≡ Some (argument_span cut.at.element)
-  part : ElementStands items o.p stands cut.at
+  part : ElementStands items o.p places.list cut.at
 
 element-in : (limits : Limits) (bytes : List ℕ) (f : File Span) (s : IsSpannedWithin limits bytes f) (path : List ℕ) (n : ℕ) (e : Edit) (t : Plain) (o : Found f e path t)
     → (it : Argument Nowhere) → nth (elements (erase_listing o.p.list)) n ≡ Some it → ElementIn f s.reads.spells.items path n e t o it
@@ -47,7 +47,7 @@ element-in limits bytes f s path n e t o it is =
     let c = cut-at o.p.list n it is in
     let places = lists-stand limits bytes f s path o.p o.is_p in
     record {
-      stands = places.list;
+      places = places;
       cut = c;
       is_span = rw (o.is_p, c.there) refl;
       part = places.elements n c.at c.is_at;
@@ -55,8 +55,8 @@ element-in limits bytes f s path n e t o it is =
 
 -- the element as the layout wants it
 abbrev among : (f : File Span) (items : List Lexeme) (path : List ℕ) (n : ℕ) (e : Edit) (t : Plain) (o : Found f e path t) (it : Argument Nowhere) (v : ElementIn f items path n e t o it)
-    → PartIn items (list_among items o.p v.stands) (argument_span v.cut.at.element)
-among f items path n e t o it v = let at = v.cut.at in part_among items o.p v.stands (argument_span at.element) at.before (argument_words at.element) at.behind v.part
+    → PartIn items (list_among items o.p v.places.list) (argument_span v.cut.at.element)
+among f items path n e t o it v = let at = v.cut.at in part_among items o.p v.places.list (argument_span at.element) at.before (argument_words at.element) at.behind v.part
 
 -- ---- an element behind another one
 
@@ -78,14 +78,14 @@ after-laid bytes f items are name path n new writes t o it v now =
     let c = v.cut in
     let p = v.part in
     let span = argument_span c.at.element in
-    let l = list_among items o.p v.stands in
+    let l = list_among items o.p v.places.list in
     let part = among f items path n (After path n new) t o it v in
     let ss = layout_of name items (layout.After span new.bytes) in
     let law = insertion-law name bytes items are l span part (subst IsBehindElement (sym p.is_right) c.begins) new.bytes writes.items writes.is_new in
     let words = after-words o.p.list n it c new.node (spoken p.left) (spoken p.own) (spoken writes.items) (spoken p.right) p.is_left p.is_own writes.is_words p.is_right o.list now in
     record {
       place = o;
-      stands = v.stands;
+      places = v.places;
       primitive = layout.After span new.bytes;
       is_primitive = ap (option_map (λ x. layout.After x new.bytes)) v.is_span;
       placed = span-there items l span part;
@@ -113,7 +113,7 @@ remove-laid bytes f items are name path n t o it v now =
     let c = v.cut in
     let p = v.part in
     let span = argument_span c.at.element in
-    let l = list_among items o.p v.stands in
+    let l = list_among items o.p v.places.list in
     let part = among f items path n (Remove path n) t o it v in
     let words = inner_words (now_list f (Remove path n) path t o) in
     let gone : IsWithout c.at.before c.at.behind words = subst (λ xs. IsWithout c.at.before c.at.behind (inner_words (with_elements (erase_listing o.p.list) xs))) now c.removed in
@@ -121,7 +121,7 @@ remove-laid bytes f items are name path n t o it v now =
     subst (λ w. IsWithout w (spoken p.right) words) (sym p.is_left) (subst (λ w. IsWithout c.at.before w words) (sym p.is_right) gone) in
     record {
       place = o;
-      stands = v.stands;
+      places = v.places;
       primitive = layout.Remove span;
       is_primitive = ap (option_map layout.Remove) v.is_span;
       placed = span-there items l span part;
@@ -172,7 +172,7 @@ first-lays path new limits bytes f s name writes t is =
     let law = first-law name bytes items s.reads.spells.are_items l (stands.is_inner ∙ empty.none) at stands.from new.bytes writes.items writes.is_new in
     record {
       place = o;
-      stands = stands;
+      places = places;
       primitive = layout.First at new.bytes;
       is_primitive = rw o.is_p refl;
       placed = bracket-there items l at stands.from;

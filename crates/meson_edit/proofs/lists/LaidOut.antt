@@ -15,7 +15,7 @@ use Rattle.meson_syntax.specs.Tree.{Plain, File, erase}
 use Rattle.meson_syntax.specs.Grammar.{LevelFile}
 use Rattle.meson_syntax.specs.Reads.{Spells, IsSpannedWithin}
 use Rattle.meson_syntax.specs.Paths.{ListAt, list_at, inner_words}
-use Rattle.meson_syntax.specs.Places.{ListStands}
+use Rattle.meson_syntax.specs.Places.{ListPlaces}
 use Rattle.meson_syntax.specs.Exchange.{IsListText}
 use Rattle.meson_syntax.proofs.parsing.Steps.{some-injective}
 use Rattle.meson_syntax.proofs.exchange.Brackets.{open-bracket, close-bracket}
@@ -33,7 +33,7 @@ use Rattle.meson_edit.proofs.lists.Places.{list_among, cut-out}
 -- The edit stands at a place among the items, and its splices leave, between the brackets of its list, the words of the list after the edit.
 pub record LaidOut (bytes : List ℕ) (f : File Span) (items : List Lexeme) (name : List ℕ) (e : Edit) (path : List ℕ) (t : Plain) : Type 0 where
   pub place : Found f e path t
-  pub stands : ListStands items place.p
+  pub places : ListPlaces items place.p
   pub primitive : Primitive
   pub is_primitive : primitive_of f e ≡ Some primitive
   pub placed : IsPlaced primitive items
@@ -41,8 +41,8 @@ pub record LaidOut (bytes : List ℕ) (f : File Span) (items : List Lexeme) (nam
   pub left : List Lexeme
   pub right : List Lexeme
   pub notes : List Lexeme
-  pub touches : Touches items place.p stands e left right notes
-  pub edited : Edited bytes items (list_among items place.p stands) left right (layout_of name items primitive) (inner_words (now_list f e path t place)) notes
+  pub touches : Touches items place.p places.list e left right notes
+  pub edited : Edited bytes items (list_among items place.p places.list) left right (layout_of name items primitive) (inner_words (now_list f e path t place)) notes
 
 -- An edit of this form can be laid out wherever it has its place.
 abbrev pub Lays : Edit → List ℕ → Type 0
@@ -59,12 +59,12 @@ list-text bytes f items name e path t o =
     let x = o.place in
     let d = o.edited in
     record {
-      open_item = o.stands.open_item;
+      open_item = o.places.list.open_item;
       inner = d.inner;
-      close_item = o.stands.close_item;
+      close_item = o.places.list.close_item;
       are_items = d.are_items;
-      is_open = o.stands.is_open ∙ ap opens (sym x.same_bracket);
-      is_close = o.stands.is_close ∙ ap closes (sym x.same_bracket);
+      is_open = o.places.list.is_open ∙ ap opens (sym x.same_bracket);
+      is_close = o.places.list.is_close ∙ ap closes (sym x.same_bracket);
       is_inner = d.says;
     }
 
@@ -76,9 +76,9 @@ makes limits bytes f s name e path t o level =
     let are = s.reads.spells.are_items in
     let x = o.place in
     let d = o.edited in
-    let c = cut-out items x.p o.stands bytes are in
-    let front = joined o.stands.left in
-    let back = joined o.stands.right in
+    let c = cut-out items x.p o.places.list bytes are in
+    let front = joined o.places.list.left in
+    let back = joined o.places.list.right in
     let spells =
     lists-exchange limits bytes f s path x.p x.is_p x.q x.is_q (now_list f e path t x) d.text (list-text bytes f items name e path t o) (subst LevelFile (sym x.is_t) level)
     front c.was back c.parts c.from c.to in
@@ -106,9 +106,9 @@ one-answer r x y h g = let same : Ok x ≡ r = sym h in let both = same ∙ g in
 
 -- the text of a list that stands between items of a text in UTF-8 is in UTF-8
 list-coded : (bytes : List ℕ) (f : File Span) (items : List Lexeme) → IsItemList bytes items → (name : List ℕ) (e : Edit) (path : List ℕ) (t : Plain) (o : LaidOut bytes f items name e path t)
-    → IsUtf8 (joined o.stands.left ++ (o.edited.text ++ joined o.stands.right)) → IsUtf8 o.edited.text
+    → IsUtf8 (joined o.places.list.left ++ (o.edited.text ++ joined o.places.list.right)) → IsUtf8 o.edited.text
 list-coded bytes f items are name e path t o utf8 =
-    let l = o.stands in
+    let l = o.places.list in
     let d = o.edited in
     let b = o.place.p.bracket in
     let own = listed l.open_item d.inner l.close_item [] in
@@ -134,14 +134,14 @@ Leaves e path P =
 record Left (bytes text : List ℕ) (f : File Span) (items : List Lexeme) (name : List ℕ) (e : Edit) (path : List ℕ) (t : Plain) (p : ListAt Span) : Type 0 where
   laid : LaidOut bytes f items name e path t
   same : laid.place.p ≡ p
-  result : text ≡ joined laid.stands.left ++ (laid.edited.text ++ joined laid.stands.right)
+  result : text ≡ joined laid.places.list.left ++ (laid.edited.text ++ joined laid.places.list.right)
 
 left-there : (bytes : List ℕ) (f : File Span) (items : List Lexeme) (name : List ℕ) (e : Edit) (path : List ℕ) (t : Plain) (o : LaidOut bytes f items name e path t)
     → (p : ListAt Span) → list_at f path ≡ Some p → (primitive : Primitive) → primitive_of f e ≡ Some primitive
     → (text : List ℕ) → patched_by bytes (layout_of name items primitive) ≡ Ok text → Left bytes text f items name e path t p
 left-there bytes f items name e path t o p is_p primitive is_primitive text patches =
     let same_primitive : o.primitive ≡ primitive = some-injective o.primitive primitive (sym o.is_primitive ∙ is_primitive) in
-    let now : List ℕ = joined o.stands.left ++ (o.edited.text ++ joined o.stands.right) in
+    let now : List ℕ = joined o.places.list.left ++ (o.edited.text ++ joined o.places.list.right) in
     record {
       laid = o;
       same = some-injective o.place.p p (sym o.place.is_p ∙ is_p);
@@ -162,19 +162,19 @@ written e path lays limits bytes f s items are name writes t is p is_p primitive
     let there = left-by e path lays limits bytes f s items are name writes t is p is_p primitive is_primitive text patches in
     let o = there.laid in
     let x = o.place in
-    let c = cut-out items x.p o.stands bytes are in
+    let c = cut-out items x.p o.places.list bytes are in
     let d = o.edited in
-    let now : List ℕ = joined o.stands.left ++ (d.text ++ joined o.stands.right) in
+    let now : List ℕ = joined o.places.list.left ++ (d.text ++ joined o.places.list.right) in
     subst (λ p. WritesList bytes text f path p t) there.same (record {
       q = x.q;
       is_q = x.is_q;
       bracket = x.same_bracket;
       list = now_list f e path t x;
       is_tree = x.is_t;
-      front = joined o.stands.left;
+      front = joined o.places.list.left;
       was = c.was;
       now = d.text;
-      back = joined o.stands.right;
+      back = joined o.places.list.right;
       old = c.parts;
       new = there.result;
       from = c.from;
@@ -188,7 +188,7 @@ kept e path lays limits bytes f s items are name writes t is p is_p primitive is
     let there = left-by e path lays limits bytes f s items are name writes t is p is_p primitive is_primitive text patches in
     let o = there.laid in
     subst (KeepsList bytes text items e) there.same (record {
-      list = o.stands;
+      places = o.places;
       left = o.left;
       right = o.right;
       notes = o.notes;

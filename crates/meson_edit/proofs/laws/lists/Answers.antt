@@ -1,4 +1,4 @@
-use Rattle.meson_edit.proofs.lists.Answers.{firsts-spell, insertions-spell, removals-spell, replacements-spell, wraps-spell, list-edits-write, list-edits-keep}
+use Rattle.meson_edit.proofs.lists.Answers.{firsts-spell, insertions-spell, removals-spell, replacements-spell, wraps-spell, list-edits-write, list-edits-keep, elements-stay}
 use Rattle.meson_edit.proofs.laws.lists.Goals as goal
 
 pub returns : goal.returns
@@ -10,4 +10,5 @@ returns c = record {
   wraps = wraps-spell;
   write = list-edits-write;
   keep = list-edits-keep;
+  elements = elements-stay;
 }
