@@ -1,23 +1,21 @@
--- What an edit leaves as it is. Of a list: what stands left and right of what the edit touches, but for commas, blanks and line ends, so that every
--- comment stays. Of statements: all bytes but the statement's own and the blanks and line ends that go with it.
-use Rattle.std.specs.Prelude.{◌≡◌, ℕ, ◌<◌, ◌≤◌, ◌==◌, ◌||◌, Bool, true, List, [], ◌∷◌, ◌++◌, length, Some, Ok}
-use Rattle.std.specs.List.{list_all}
+-- What an edit keeps. In a list: what stands left and right of what the edit touches, but for commas, blanks and line ends, so every comment and every
+-- other element. Of statements: all but the statement's own items and the blanks and the line end that go with it.
+use Rattle.std.specs.Prelude.{◌≡◌, ℕ, ◌<◌, ◌≤◌, true, List, [], ◌∷◌, ◌++◌, length, Some, Ok}
 use Rattle.meson_lex.specs.declared.kinds.Span.{Span}
-use Rattle.meson_lex.specs.Bytes.{is_blank}
 use Rattle.meson_lex.specs.Items.{Lexeme, joined, IsItemList}
 use Rattle.meson_layout.specs.declared.primitive.Primitive.{Primitive}
-use Rattle.meson_layout.specs.declared.primitive.Primitive.TheVariants as layout
 use Rattle.meson_layout.specs.Layout.{layout_of}
 use Rattle.meson_layout.specs.Words.{remarks}
+use Rattle.meson_layout.specs.Looks.{at_most_blank}
 use Rattle.meson_layout.specs.Edited.{Keeps, patched_by}
+use Rattle.meson_layout.specs.FileLaws.{IsItsLineEnd}
 use Rattle.meson_syntax.specs.declared.source.Limits.{Limits}
-use Rattle.meson_syntax.specs.Tree.{Nowhere, Plain, Expression, Statement, File, erase}
+use Rattle.meson_syntax.specs.Tree.{Plain, Expression, File, erase}
 use Rattle.meson_syntax.specs.Paths.{ListAt, list_at, ElementAt, element_at, value_of}
 use Rattle.meson_syntax.specs.Places.{argument_span, ListStands, ElementStands, ValueStands, ListPlaces}
 use Rattle.meson_syntax.specs.Reads.{IsSpannedWithin}
-use Rattle.meson_edit.specs.Edits.{Written, Edit, First, After, Remove, Replace, Wrap, RemoveStatement, Append, edited}
+use Rattle.meson_edit.specs.Edits.{Edit, First, After, Remove, Replace, Wrap, RemoveStatement, Append, edited}
 use Rattle.meson_edit.specs.Places.{primitive_of, Writes, span_of_statement}
-use Rattle.meson_edit.specs.Laws.{IsEditOf}
 
 -- ---- lists
 
@@ -54,14 +52,6 @@ pub record KeepsList (bytes text : List ℕ) (items : List Lexeme) (e : Edit) (p
   pub is_text : text ≡ joined places.list.left ++ (now ++ joined places.list.right)
   pub keeps : Keeps left right (joined inner)
   pub comments : remarks inner ≡ notes
-
--- Each edit of a list does so.
-abbrev pub ListEditsKeep : Type 0
-ListEditsKeep =
-    (e : Edit) (limits : Limits) (bytes : List ℕ) (f : File Span) → IsSpannedWithin limits bytes f → (items : List Lexeme) → IsItemList bytes items → (name : List ℕ)
-    → Writes e → (t : Plain) → edited e (erase f) ≡ Some t → (path : List ℕ) → IsEditOf path e → (p : ListAt Span) → list_at f path ≡ Some p
-    → (primitive : Primitive) → primitive_of f e ≡ Some primitive → (text : List ℕ) → patched_by bytes (layout_of name items primitive) ≡ Ok text
-    → KeepsList bytes text items e p
 
 -- whether the element of this number stands before what an edit touches, and whether behind it
 abbrev pub IsBefore : Edit → ℕ → Type 0
@@ -100,49 +90,52 @@ pub record SameFrom (from : ℕ) (bytes text : List ℕ) : Type 0 where
   pub new : text ≡ now ++ back
   pub is : length was ≡ from
 
--- An edit of a list keeps every other element byte for byte: the text up to the end of each element before what is touched, and from the beginning of
--- each element behind it.
-abbrev pub ElementsStay : Type 0
-ElementsStay =
-    (e : Edit) (limits : Limits) (bytes : List ℕ) (f : File Span) → IsSpannedWithin limits bytes f → (items : List Lexeme) → IsItemList bytes items → (name : List ℕ)
-    → Writes e → (t : Plain) → edited e (erase f) ≡ Some t → (path : List ℕ) → IsEditOf path e → (p : ListAt Span) → list_at f path ≡ Some p
-    → (primitive : Primitive) → primitive_of f e ≡ Some primitive → (text : List ℕ) → patched_by bytes (layout_of name items primitive) ≡ Ok text
-    → (m : ℕ) (x : ElementAt Span) → element_at p.list m ≡ Some x
+-- Every other element keeps its bytes: the text stays up to the end of each element before what is touched, and from the beginning of each behind it.
+abbrev pub OthersStay : (bytes text : List ℕ) → Edit → ListAt Span → Type 0
+OthersStay bytes text e p =
+    (m : ℕ) (x : ElementAt Span) → element_at p.list m ≡ Some x
     → (IsBefore e m → SameUpTo (argument_span x.element).to bytes text) × (IsBehind e m → SameFrom (argument_span x.element).from bytes text)
 
 -- ---- statements
 
--- a byte of a blank or of a line end
-abbrev pub is_white_byte : ℕ → Bool
-is_white_byte b = is_blank b || b == 10 || b == 13
+-- Of the items around the statement there go the blank directly before it, the one directly behind it, and behind that the line end of a statement that
+-- began its line. All else stays.
+pub record KeepsAround (bytes text : List ℕ) (items : List Lexeme) (s : Span) : Type 0 where
+  pub front : List Lexeme
+  pub before : List Lexeme
+  pub own : List Lexeme
+  pub blank : List Lexeme
+  pub line : List Lexeme
+  pub back : List Lexeme
+  pub old : items ≡ front ++ (before ++ (own ++ (blank ++ (line ++ back))))
+  pub new : text ≡ joined front ++ joined back
+  pub from : s.from ≡ length (joined (front ++ before))
+  pub to : s.to ≡ length (joined (front ++ (before ++ own)))
+  pub before_is : at_most_blank before ≡ true
+  pub blank_is : at_most_blank blank ≡ true
+  pub line_is : IsItsLineEnd front line
 
-abbrev pub are_white : List ℕ → Bool
-are_white bytes = list_all is_white_byte bytes
+-- ---- every edit
 
--- Of the bytes around the span only blanks and line ends go.
-pub record KeepsAround (bytes text : List ℕ) (s : Span) : Type 0 where
-  pub front : List ℕ
-  pub before : List ℕ
-  pub own : List ℕ
-  pub behind : List ℕ
-  pub back : List ℕ
-  pub old : bytes ≡ front ++ (before ++ (own ++ (behind ++ back)))
-  pub new : text ≡ front ++ back
-  pub from : length (front ++ before) ≡ s.from
-  pub to : length (front ++ (before ++ own)) ≡ s.to
-  pub white_before : are_white before ≡ true
-  pub white_behind : are_white behind ≡ true
+-- in the list that the path names
+pub record KeepsIn (bytes text : List ℕ) (f : File Span) (items : List Lexeme) (e : Edit) (path : List ℕ) : Type 0 where
+  pub p : ListAt Span
+  pub is_p : list_at f path ≡ Some p
+  pub list : KeepsList bytes text items e p
+  pub others : OthersStay bytes text e p
 
--- So does a removed statement.
-abbrev pub StatementRemovalsKeep : Type 0
-StatementRemovalsKeep =
-    (path : List ℕ) (n : ℕ) (limits : Limits) (bytes : List ℕ) (f : File Span) → IsSpannedWithin limits bytes f → (items : List Lexeme) → IsItemList bytes items → (name : List ℕ)
-    → (t : Plain) → edited (RemoveStatement path n) (erase f) ≡ Some t → (s : Span) → span_of_statement f path n ≡ Some s
-    → (text : List ℕ) → patched_by bytes (layout_of name items (layout.RemoveStatement s)) ≡ Ok text → KeepsAround bytes text s
+-- What an edit of the file keeps; an appended statement comes behind all bytes.
+abbrev pub EditKeeps : (bytes text : List ℕ) → File Span → List Lexeme → Edit → Type 0
+EditKeeps bytes text f items (First path new) = KeepsIn bytes text f items (First path new) path
+EditKeeps bytes text f items (After path n new) = KeepsIn bytes text f items (After path n new) path
+EditKeeps bytes text f items (Remove path n) = KeepsIn bytes text f items (Remove path n) path
+EditKeeps bytes text f items (Replace path n new) = KeepsIn bytes text f items (Replace path n new) path
+EditKeeps bytes text f items (Wrap path n) = KeepsIn bytes text f items (Wrap path n) path
+EditKeeps bytes text f items (RemoveStatement path n) = (s : Span) × (span_of_statement f path n ≡ Some s) × KeepsAround bytes text items s
+EditKeeps bytes text f items (Append new) = (come : List ℕ) × (text ≡ bytes ++ come)
 
--- An appended statement comes behind all bytes of the file.
-abbrev pub AppendedKeep : Type 0
-AppendedKeep =
-    (new : Written (Statement Nowhere)) (limits : Limits) (bytes : List ℕ) (f : File Span) → IsSpannedWithin limits bytes f → (items : List Lexeme) → IsItemList bytes items → (name : List ℕ)
-    → Writes (Append new) → (text : List ℕ) → patched_by bytes (layout_of name items (layout.Append new.bytes)) ≡ Ok text
-    → (come : List ℕ) × (text ≡ bytes ++ come)
+abbrev pub EditsKeep : Type 0
+EditsKeep =
+    (e : Edit) (limits : Limits) (bytes : List ℕ) (f : File Span) → IsSpannedWithin limits bytes f → (items : List Lexeme) → IsItemList bytes items → (name : List ℕ)
+    → Writes e → (t : Plain) → edited e (erase f) ≡ Some t → (primitive : Primitive) → primitive_of f e ≡ Some primitive
+    → (text : List ℕ) → patched_by bytes (layout_of name items primitive) ≡ Ok text → EditKeeps bytes text f items e

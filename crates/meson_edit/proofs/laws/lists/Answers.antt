@@ -1,4 +1,4 @@
-use Rattle.meson_edit.proofs.lists.Answers.{firsts-spell, insertions-spell, removals-spell, replacements-spell, wraps-spell, list-edits-write, list-edits-keep, elements-stay}
+use Rattle.meson_edit.proofs.lists.Answers.{firsts-spell, insertions-spell, removals-spell, replacements-spell, wraps-spell, list-edits-write}
 use Rattle.meson_edit.proofs.laws.lists.Goals as goal
 
 pub returns : goal.returns
@@ -9,6 +9,4 @@ returns c = record {
   replacements = replacements-spell;
   wraps = wraps-spell;
   write = list-edits-write;
-  keep = list-edits-keep;
-  elements = elements-stay;
 }
