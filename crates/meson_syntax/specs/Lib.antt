@@ -25,4 +25,5 @@ pub mod Messages
 pub mod Laws
 pub mod LendsInside
 pub mod LendsItems
+pub mod Moves
 pub mod formers
