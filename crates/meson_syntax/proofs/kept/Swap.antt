@@ -87,7 +87,8 @@ node-swaps f len d ts sp of_expression x before behind back p i is =
           let ends = same-ends (list_span l.list) w.own new (listing-covers l.list l.bracket u.depth w.own w.spelled) covers in
           let other = w.swap m new ends (λ fits. listing_in m l.bracket c u.depth new spelled fits) in
           let all = i.swap (l.back m) (w.front ++ (new ++ [])) (ends-around u.own w.front w.own [] new w.parts ends) other in
-          subst (SpellsFile (with_block f (back (l.back m))) len d) (group u.front w.front new u.back) (with-spelled f (back (l.back m)) len d ts _ sp all room);
+          let b = back (l.back m) in
+          subst (SpellsFile (with_block f b) len d) (group u.front w.front new u.back) (with-spelled f b len d ts _ sp all room);
     })
 node-swaps f len d ts sp of_statement x before behind back p i is = absurd cc
 node-swaps f len d ts sp of_block x before behind back p i is = absurd cc

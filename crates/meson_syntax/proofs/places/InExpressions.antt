@@ -74,7 +74,8 @@ argument-inside (named s x e) b seen d ts h =
     let w = q.second in
     let parts = third-of ts p.front p.back q.front q.back p.joined q.joined in (
       holds e _ [] w.inner ts (p.front ++ q.front) q.back [] parts
-          (join-words p.front q.front ((k.Identifier, x.text) ∷ []) (mark k.Colon) (name-words x p.front p.first) (one-words k.Colon q.front (λ y. refl) q.first)) refl w.spelled
+          (join-words p.front q.front ((k.Identifier, x.text) ∷ []) (mark k.Colon) (name-words x p.front p.first) (one-words k.Colon q.front (λ y. refl) q.first))
+          refl w.spelled
           (λ y new ends sp room.
           let z = sp (omega (arith, room, w.less)) in
           (refl, (cover _ new ends s ts _ [] parts h.0, h.1, next-third p.front q.front new p.first q.first (deeper w new z.1)))),
@@ -111,20 +112,23 @@ arguments-inside (argument a more) trailing b seen d ts h =
     let here = argument-words a b seen d h.front h.first in
     let rest = arguments-words more trailing b (is_named a) d q.back q.second in
     every-append (InHole (Arguments Span) (OtherArguments (argument a more) trailing b seen d) ts) _ _
-    (part-holes (OtherArgument a b seen d) _ [] (comma_words more trailing ++ arguments_words more trailing) (λ x. argument x more) ts [] h.front h.back h.joined refl (then-words _ _ h.back _ _ q comma rest)
+    (part-holes (OtherArgument a b seen d) _ [] (comma_words more trailing ++ arguments_words more trailing) (λ x. argument x more) ts [] h.front h.back h.joined
+    refl (then-words _ _ h.back _ _ q comma rest)
     (λ z new ends sp room.
     let w = sp (omega (arith, room)) in
     let others = subst (λ t. SpellsArguments more trailing b t d q.back) (sym w.0) q.second in
     (record { comma = λ t us c. c; flag = λ t g. tt }, next new h.back w.1 (both q q.first others)))
     (argument_children a) (argument-inside a b seen d h.front h.first))
-    (part-holes (OtherArguments more trailing b (is_named a) d) _ (argument_words a ++ comma_words more trailing) [] (argument a) ts (h.front ++ q.front) q.back [] (third-of ts h.front h.back q.front q.back h.joined q.joined)
+    (part-holes (OtherArguments more trailing b (is_named a) d) _ (argument_words a ++ comma_words more trailing) [] (argument a)
+    ts (h.front ++ q.front) q.back [] (third-of ts h.front h.back q.front q.back h.joined q.joined)
     (join-words h.front q.front (argument_words a) (comma_words more trailing) here comma) refl
     (λ z new ends sp room.
     let w = sp (omega (arith, room)) in
     (record { comma = λ t us c. c; flag = λ t g. tt }, next-third h.front q.front new h.first (w.0.comma trailing q.front q.first) w.1))
     (arguments_children more trailing) (arguments-inside more trailing b (is_named a) d q.back q.second))
 
-pub listing-inside : (l : Listing Span) (b : Bracket) (d : ℕ) (ts : List Token) → SpellsListing l b d ts → Every (InHole (Listing Span) (OtherListing b d) ts) (listing_children l b)
+pub listing-inside : (l : Listing Span) (b : Bracket) (d : ℕ) (ts : List Token) → SpellsListing l b d ts
+    → Every (InHole (Listing Span) (OtherListing b d) ts) (listing_children l b)
 listing-inside (listing s trailing list) b d ts h =
     let p = h.3 in
     let q = p.second in
@@ -138,7 +142,8 @@ listing-inside (listing s trailing list) b d ts h =
 
 -- ---- operands and tails
 
-operands-inside : (os : Operands Span) (n d : ℕ) (ts : List Token) → SpellsOperands os n d ts → Every (InHole (Operands Span) (OtherOperands os n d) ts) (operands_children os)
+operands-inside : (os : Operands Span) (n d : ℕ) (ts : List Token) → SpellsOperands os n d ts
+    → Every (InHole (Operands Span) (OtherOperands os n d) ts) (operands_children os)
 operands-inside no_operands n d ts h = tt
 operands-inside (operand o e more) n d ts h =
     let p = h.2 in
@@ -201,7 +206,8 @@ tails-inside (tail t more) d ts h =
 
 -- ---- expressions
 
-pub expression-inside : (e : Expression Span) (d : ℕ) (ts : List Token) → SpellsExpression e d ts → Every (InHole (Expression Span) (OtherExpression e d) ts) (expression_children e)
+pub expression-inside : (e : Expression Span) (d : ℕ) (ts : List Token) → SpellsExpression e d ts
+    → Every (InHole (Expression Span) (OtherExpression e d) ts) (expression_children e)
 expression-inside (identifier s x) d ts h = tt
 expression-inside (boolean s b) d ts h = tt
 expression-inside (integer s x) d ts h = tt
@@ -220,10 +226,12 @@ expression-inside (paren s e) d ts h =
     )
 expression-inside (array l) d ts h =
     part-holes (OtherListing bracket.Square d) _ [] [] array ts [] ts [] (whole-part ts) refl refl
-    (λ z new ends sp room. (omega arith, alone (SpellsListing z bracket.Square d) new (sp room))) (listing_children l bracket.Square) (listing-inside l bracket.Square d ts h)
+    (λ z new ends sp room. (omega arith, alone (SpellsListing z bracket.Square d) new (sp room)))
+    (listing_children l bracket.Square) (listing-inside l bracket.Square d ts h)
 expression-inside (dictionary l) d ts h =
     part-holes (OtherListing bracket.Curly d) _ [] [] dictionary ts [] ts [] (whole-part ts) refl refl
-    (λ z new ends sp room. (omega arith, alone (SpellsListing z bracket.Curly d) new (sp room))) (listing_children l bracket.Curly) (listing-inside l bracket.Curly d ts h)
+    (λ z new ends sp room. (omega arith, alone (SpellsListing z bracket.Curly d) new (sp room)))
+    (listing_children l bracket.Curly) (listing-inside l bracket.Curly d ts h)
 expression-inside (call s x l) d ts h =
     let p = h.1 in
     let parts = last-part ts p.front p.back p.joined in
@@ -286,8 +294,8 @@ expression-inside (conditional s c y n) d ts h =
     let head : ts ≡ (p.front ++ q.front) ++ q.back = p.joined ∙ ap (λ x. p.front ++ x) q.joined ∙ sym (append_assoc p.front q.front q.back) in
     let rest : q.back ≡ (r.front ++ u.front) ++ u.back = r.joined ∙ ap (λ x. r.front ++ x) u.joined ∙ sym (append_assoc r.front u.front u.back) in
     let second = second-of ts (p.front ++ q.front) q.back r.front r.back head r.joined in
-    let third =
-    last-part ts _ u.back (p.joined ∙ ap (λ x. p.front ++ x) (q.joined ∙ ap (λ x. q.front ++ x) rest) ∙ tail_group p.front q.front (r.front ++ u.front) u.back) in (
+    let apart = p.joined ∙ ap (λ x. p.front ++ x) (q.joined ∙ ap (λ x. q.front ++ x) rest) ∙ tail_group p.front q.front (r.front ++ u.front) u.back in
+    let third = last-part ts _ u.back apart in (
       holds c [] _ d ts [] p.front p.back p.joined refl (then-words _ _ p.back _ _ q sign (then-words _ _ q.back _ _ r so behind)) p.first
           (λ x new ends sp room.
           let z = sp (omega (arith, room)) in
@@ -302,11 +310,13 @@ expression-inside (conditional s c y n) d ts h =
         (
           holds n _ [] w.inner ts (p.front ++ (q.front ++ (r.front ++ u.front))) u.back [] third
               (join-words p.front (q.front ++ (r.front ++ u.front)) (expression_words c) (mark k.Question ++ (expression_words y ++ mark k.Colon)) asked
-              (join-words q.front (r.front ++ u.front) (mark k.Question) (expression_words y ++ mark k.Colon) sign (join-words r.front u.front (expression_words y) (mark k.Colon) so colon))) refl w.spelled
+              (join-words q.front (r.front ++ u.front) (mark k.Question) (expression_words y ++ mark k.Colon) sign
+              (join-words r.front u.front (expression_words y) (mark k.Colon) so colon))) refl w.spelled
               (λ x new ends sp room.
               let z = sp (omega (arith, room, w.less)) in
               let all = next p.front _ p.first (next q.front _ q.first (next-third r.front u.front new r.first u.first (deeper w new z.1))) in
-              (omega arith, (cover _ new ends s ts _ [] third h.0, h.1, regrouped _ _ (sym (tail_group p.front q.front (r.front ++ u.front) (new ++ []))) all))),
+              let parts = sym (tail_group p.front q.front (r.front ++ u.front) (new ++ [])) in
+              (omega arith, (cover _ new ends s ts _ [] third h.0, h.1, regrouped _ _ parts all))),
           tt,
         ),
       ),

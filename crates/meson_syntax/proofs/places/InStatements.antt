@@ -59,7 +59,8 @@ branches-inside (branch e b more) word d ts drops h =
     let asked = expression-words e d p.front p.first in
     let body = new-line-words _ q.front _ line (block-words b d line.token.to line.rest line.second) in
     let rest = branches-words more k.WordElif d q.back (λ x. refl) q.second in (
-      holds e (mark word) _ d ts h.front p.front p.back (second-of ts h.front h.back p.front p.back h.joined p.joined) sign (then-words _ _ p.back _ _ q body rest) p.first
+      holds e (mark word) _ d ts h.front p.front p.back (second-of ts h.front h.back p.front p.back h.joined p.joined) sign
+          (then-words _ _ p.back _ _ q body rest) p.first
           (λ y new ends sp room. let z = sp (omega (arith, room)) in (tt, next h.front (new ++ p.back) h.first (next new p.back z.1 q))),
       (
         holds-block b _ (branches_words more k.WordElif) d line.token.to ts (h.front ++ (p.front ++ line.token ∷ [])) line.rest q.back
@@ -70,7 +71,8 @@ branches-inside (branch e b more) word d ts drops h =
             let z = sp (omega (arith, room)) in
             let all = next h.front _ h.first (next p.front _ p.first (next (line.token ∷ new) q.back (line-again line new z.1) q.second)) in
             (tt, regrouped _ _ (sym (body_group h.front p.front line.token new q.back)) all)),
-        part-holes (OtherBranches k.WordElif d) _ (mark word ++ (expression_words e ++ (new_line ∷ block_words b))) [] (branch e b) ts (h.front ++ (p.front ++ q.front)) q.back []
+        part-holes (OtherBranches k.WordElif d) _ (mark word ++ (expression_words e ++ (new_line ∷ block_words b))) [] (branch e b)
+            ts (h.front ++ (p.front ++ q.front)) q.back []
             (last-part ts _ q.back (h.joined ∙ ap (λ x. h.front ++ x) (p.joined ∙ ap (λ x. p.front ++ x) q.joined) ∙ three h.front p.front q.front q.back))
             (join-words h.front (p.front ++ q.front) (mark word) (expression_words e ++ (new_line ∷ block_words b)) sign (join-words p.front q.front (expression_words e) (new_line ∷ block_words b) asked body)) refl
             (λ z new ends sp room.
@@ -81,12 +83,14 @@ branches-inside (branch e b more) word d ts drops h =
       ),
     )
 
-otherwise-inside : (o : Otherwise Span) (d : ℕ) (ts : List Token) → SpellsOtherwise o d ts → Every (InHole (Otherwise Span) (OtherOtherwise d) ts) (otherwise_children o)
+otherwise-inside : (o : Otherwise Span) (d : ℕ) (ts : List Token) → SpellsOtherwise o d ts
+    → Every (InHole (Otherwise Span) (OtherOtherwise d) ts) (otherwise_children o)
 otherwise-inside nothing_else d ts h = tt
 otherwise-inside (otherwise b) d ts h =
     let line = h.second in (
       holds-block b (mark k.WordElse ++ new_line ∷ []) [] d line.token.to ts (h.front ++ line.token ∷ []) line.rest [] (third-of ts h.front h.back (line.token ∷ []) line.rest h.joined line.joined)
-          (join-words h.front (line.token ∷ []) (mark k.WordElse) (new_line ∷ []) (one-words k.WordElse h.front (λ x. refl) h.first) (line-words _ h.back line)) refl line.second
+          (join-words h.front (line.token ∷ []) (mark k.WordElse) (new_line ∷ []) (one-words k.WordElse h.front (λ x. refl) h.first) (line-words _ h.back line))
+          refl line.second
           (λ y new ends sp room.
           let z = sp room in
           let all = next h.front _ h.first (line-again line (new ++ []) (alone (SpellsBlock y d line.token.to) new z.1)) in
@@ -94,7 +98,8 @@ otherwise-inside (otherwise b) d ts h =
       tt,
     )
 
-statement-inside : (s : Statement Span) (d : ℕ) (ts : List Token) → SpellsStatement s d ts → Every (InHole (Statement Span) (SpellsOther of_statement s d 0) ts) (statement_children s)
+statement-inside : (s : Statement Span) (d : ℕ) (ts : List Token) → SpellsStatement s d ts
+    → Every (InHole (Statement Span) (SpellsOther of_statement s d 0) ts) (statement_children s)
 statement-inside (evaluate e) d ts h =
     (holds e [] [] d ts [] ts [] (whole-part ts) refl refl h (λ y new ends sp room. let z = sp room in (tt, alone (SpellsExpression y d) new z.1)), tt)
 statement-inside (assign s x a e) d ts h =
@@ -102,7 +107,8 @@ statement-inside (assign s x a e) d ts h =
     let q = p.second in
     let parts = third-of ts p.front p.back q.front q.back p.joined q.joined in (
       holds e _ [] d ts (p.front ++ q.front) q.back [] parts
-          (join-words p.front q.front ((k.Identifier, x.text) ∷ []) (mark (assignment_kind a)) (name-words x p.front p.first) (one-words (assignment_kind a) q.front (assignment-drops a) q.first)) refl q.second
+          (join-words p.front q.front ((k.Identifier, x.text) ∷ []) (mark (assignment_kind a)) (name-words x p.front p.first)
+          (one-words (assignment_kind a) q.front (assignment-drops a) q.first)) refl q.second
           (λ y new ends sp room. let z = sp room in (tt, (cover _ new ends s ts _ [] parts h.0, next-third p.front q.front new p.first q.first z.1))),
       tt,
     )
@@ -115,7 +121,8 @@ statement-inside (selection s bs o) d ts h =
     let end = one-words k.WordEndif q.back (λ x. refl) q.second in
     let parts = second-of ts p.front p.back q.front q.back p.joined q.joined in
     every-append (InHole (Statement Span) (SpellsOther of_statement (selection s bs o) d 0) ts) _ _
-    (part-holes (OtherBranches k.WordIf inner) _ [] (otherwise_words o ++ mark k.WordEndif) (λ x. selection s x o) ts [] p.front p.back p.joined refl (then-words _ _ p.back _ _ q other end)
+    (part-holes (OtherBranches k.WordIf inner) _ [] (otherwise_words o ++ mark k.WordEndif) (λ x. selection s x o) ts [] p.front p.back p.joined
+    refl (then-words _ _ p.back _ _ q other end)
     (λ z new ends sp room.
     let w = sp (omega (arith, room, v.less)) in
     (tt, (cover _ new ends s ts [] p.back p.joined h.0, w.0, deeper v _ (next new p.back w.1 q))))
@@ -171,7 +178,8 @@ statement-inside (iteration s xs e b) d ts h =
 statement-inside (breaks s) d ts h = tt
 statement-inside (continues s) d ts h = tt
 
-statements-inside : (list : Statements Span) (d : ℕ) (ts : List Token) → SpellsStatements list d ts → Every (InHole (Statements Span) (OtherStatements d) ts) (statements_children list)
+statements-inside : (list : Statements Span) (d : ℕ) (ts : List Token) → SpellsStatements list d ts
+    → Every (InHole (Statements Span) (OtherStatements d) ts) (statements_children list)
 statements-inside no_statements d ts h = tt
 statements-inside (statement s more) d ts h =
     let q = h.second in
@@ -190,13 +198,15 @@ statements-inside (statement s more) d ts h =
         };
         swap = λ y new ends sp room. let z = sp (omega (arith, room)) in next new h.back z.1 q;
       },
-      part-holes (OtherStatements d) _ (statement_words s ++ new_line ∷ []) [] (statement s) ts (h.front ++ q.front) q.back [] (third-of ts h.front h.back q.front q.back h.joined q.joined)
+      part-holes (OtherStatements d) _ (statement_words s ++ new_line ∷ []) [] (statement s) ts (h.front ++ q.front) q.back []
+          (third-of ts h.front h.back q.front q.back h.joined q.joined)
           (join-words h.front q.front (statement_words s) (new_line ∷ []) (statement-words s d h.front h.first) line) refl
           (λ z new ends sp room. next-third h.front q.front new h.first q.first (sp (omega (arith, room))))
           (statements_children more) (statements-inside more d q.back q.second),
     )
 
-block-inside : (b : Block Span) (d last : ℕ) (ts : List Token) → SpellsBlock b d last ts → Every (InHole (Block Span) (SpellsOther of_block b d last) ts) (block_children b)
+block-inside : (b : Block Span) (d last : ℕ) (ts : List Token) → SpellsBlock b d last ts
+    → Every (InHole (Block Span) (SpellsOther of_block b d last) ts) (block_children b)
 block-inside (block s list) d last ts h =
     part-holes (OtherStatements d) _ [] [] (block s) ts [] ts [] (whole-part ts) refl refl
     (λ z new ends sp room. (tt, (ends.block last s [] [] (subst (CoversBlock last s) (whole-part ts) h.0), alone (SpellsStatements z d) new (sp room))))
@@ -207,17 +217,20 @@ block-inside (block s list) d last ts h =
 abbrev HoldsNode : (sort : Sort) → Node sort Span → ℕ → ℕ → List Token → Hole Span (Node sort Span) → Type 0
 HoldsNode sort x d last = InHole (Node sort Span) (SpellsOther sort x d last)
 
-children-inside : (sort : Sort) (x : Node sort Span) (d last : ℕ) (ts : List Token) → SpellsNode sort x d last ts → Every (HoldsNode sort x d last ts) (children Span sort x)
+children-inside : (sort : Sort) (x : Node sort Span) (d last : ℕ) (ts : List Token) → SpellsNode sort x d last ts
+    → Every (HoldsNode sort x d last ts) (children Span sort x)
 children-inside of_expression e d last ts h = expression-inside e d ts h
 children-inside of_statement s d last ts h = statement-inside s d ts h
 children-inside of_block b d last ts h = block-inside b d last ts h
 
-child-inside : (sort : Sort) (x : Node sort Span) (n d last : ℕ) (ts : List Token) (h : Hole Span (Node sort Span)) → child Span sort x n ≡ Some h → SpellsNode sort x d last ts
+child-inside : (sort : Sort) (x : Node sort Span) (n d last : ℕ) (ts : List Token) (h : Hole Span (Node sort Span)) → child Span sort x n ≡ Some h
+    → SpellsNode sort x d last ts
     → HoldsNode sort x d last ts h
 child-inside sort x n d last ts h is sp = every-nth (HoldsNode sort x d last ts) (children Span sort x) n h (children-inside sort x d last ts sp) is
 
 -- the tokens of the node that a path names, and another node there
-pub reach-holds : (sort : Sort) (x : Node sort Span) (path : List ℕ) (d last : ℕ) (ts : List Token) (h : Hole Span (Node sort Span)) → reach Span sort x path ≡ Some h
+pub reach-holds : (sort : Sort) (x : Node sort Span) (path : List ℕ) (d last : ℕ) (ts : List Token) (h : Hole Span (Node sort Span))
+    → reach Span sort x path ≡ Some h
     → SpellsNode sort x d last ts → InHole (Node sort Span) (SpellsOther sort x d last) ts h
 reach-holds sort x [] d last ts h is sp =
     subst (HoldsNode sort x d last ts) (some-injective _ _ is) (record {
@@ -232,7 +245,8 @@ reach-holds sort x (n ∷ path) d last ts h is sp =
     let i = u.inside in
     let v = reach-holds g.sort g.inside path i.depth i.last i.own m.0 m.1 i.spelled in
     subst (HoldsNode sort x d last ts) m.2
-    (hole-part (SpellsOther g.sort g.inside i.depth i.last) (SpellsOther sort x d last) g.before g.behind g.back ts i.front i.own i.back i.parts i.is_front i.is_back u.swap m.0 v)
+    (hole-part (SpellsOther g.sort g.inside i.depth i.last) (SpellsOther sort x d last) g.before g.behind g.back
+    ts i.front i.own i.back i.parts i.is_front i.is_back u.swap m.0 v)
 
 pub reach-inside : (sort : Sort) (x : Node sort Span) (path : List ℕ) (d last : ℕ) (ts : List Token) (h : Hole Span (Node sort Span)) → reach Span sort x path ≡ Some h
     → SpellsNode sort x d last ts → Inside h.sort h.inside h.before h.behind ts

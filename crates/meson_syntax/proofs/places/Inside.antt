@@ -70,8 +70,8 @@ inside-part sort n before behind w v ts front own back parts f b i = record {
   spelled = i.spelled;
 }
 
-pub hole-part : {T U : Type 0} (Part : T → List Token → Type 0) (Whole : U → List Token → Type 0) (before behind : List Word) (make : T → U) (ts front own back : List Token)
-    → ts ≡ front ++ (own ++ back) → words front ≡ before → words back ≡ behind → Rebuilds Part Whole make front own back
+pub hole-part : {T U : Type 0} (Part : T → List Token → Type 0) (Whole : U → List Token → Type 0) (before behind : List Word) (make : T → U)
+    (ts front own back : List Token) → ts ≡ front ++ (own ++ back) → words front ≡ before → words back ≡ behind → Rebuilds Part Whole make front own back
     → (h : Hole Span T) → InHole T Part own h → InHole U Whole ts (around before behind make h)
 unfolding inside-part
 hole-part Part Whole before behind make ts front own back parts f b rebuild h i = record {
@@ -83,11 +83,12 @@ hole-part Part Whole before behind make ts front own back parts f b rebuild h i 
 }
 
 -- so for all holes
-pub part-holes : {T U : Type 0} (Part : T → List Token → Type 0) (Whole : U → List Token → Type 0) (before behind : List Word) (make : T → U) (ts front own back : List Token)
-    → ts ≡ front ++ (own ++ back) → words front ≡ before → words back ≡ behind → Rebuilds Part Whole make front own back
+pub part-holes : {T U : Type 0} (Part : T → List Token → Type 0) (Whole : U → List Token → Type 0) (before behind : List Word) (make : T → U)
+    (ts front own back : List Token) → ts ≡ front ++ (own ++ back) → words front ≡ before → words back ≡ behind → Rebuilds Part Whole make front own back
     → (hs : List (Hole Span T)) → Every (InHole T Part own) hs → Every (InHole U Whole ts) (all_around before behind make hs)
 part-holes {T} {U} Part Whole before behind make ts front own back parts f b rebuild hs every =
-    every-around (InHole T Part own) (InHole U Whole ts) before behind make (hole-part Part Whole before behind make ts front own back parts f b rebuild) hs every
+    every-around (InHole T Part own) (InHole U Whole ts) before behind make
+    (hole-part Part Whole before behind make ts front own back parts f b rebuild) hs every
 
 -- where nothing stands behind the part, or nothing before it
 pub last-part : (ts front own : List Token) → ts ≡ front ++ own → ts ≡ front ++ (own ++ [])
@@ -97,16 +98,16 @@ pub whole-part : (ts : List Token) → ts ≡ [] ++ (ts ++ [])
 whole-part ts = sym (append-nil ts)
 
 -- an expression, and a block
-pub holds : {T : Type 0} {Whole : T → List Token → Type 0} {make : Expression Span → T} (e : Expression Span) (before behind : List Word) (d : ℕ) (ts front own back : List Token)
-    → ts ≡ front ++ (own ++ back) → words front ≡ before → words back ≡ behind → SpellsExpression e d own
+pub holds : {T : Type 0} {Whole : T → List Token → Type 0} {make : Expression Span → T} (e : Expression Span)
+    (before behind : List Word) (d : ℕ) (ts front own back : List Token) → ts ≡ front ++ (own ++ back) → words front ≡ before → words back ≡ behind → SpellsExpression e d own
     → Rebuilds (SpellsOther of_expression e d 0) Whole make front own back → InHole T Whole ts (expression_in before e behind make)
 holds e before behind d ts front own back parts f b sp rebuild = record {
   inside = record { depth = d; last = 0; front = front; own = own; back = back; parts = parts; is_front = f; is_back = b; spelled = sp };
   swap = rebuild;
 }
 
-pub holds-block : {T : Type 0} {Whole : T → List Token → Type 0} {make : Block Span → T} (b : Block Span) (before behind : List Word) (d last : ℕ) (ts front own back : List Token)
-    → ts ≡ front ++ (own ++ back) → words front ≡ before → words back ≡ behind → SpellsBlock b d last own
+pub holds-block : {T : Type 0} {Whole : T → List Token → Type 0} {make : Block Span → T} (b : Block Span)
+    (before behind : List Word) (d last : ℕ) (ts front own back : List Token) → ts ≡ front ++ (own ++ back) → words front ≡ before → words back ≡ behind → SpellsBlock b d last own
     → Rebuilds (SpellsOther of_block b d last) Whole make front own back → InHole T Whole ts (block_in before b behind make)
 holds-block b before behind d last ts front own back parts f k sp rebuild = record {
   inside = record { depth = d; last = last; front = front; own = own; back = back; parts = parts; is_front = f; is_back = k; spelled = sp };

@@ -31,7 +31,8 @@ same-ends s (t ∷ own) (u ∷ new) c d = record { covers = covered; block = λ 
   covered s [] back h = (h.0 ∙ from, h.1 ∙ behind 0 [] back)
   covered s (x ∷ front) back h = (h.0, h.1 ∙ behind x.to front back)
 
-  blocked : (last : ℕ) (s : Span) (front back : List Token) → CoversBlock last s (front ++ ((t ∷ own) ++ back)) → CoversBlock last s (front ++ ((u ∷ new) ++ back))
+  blocked : (last : ℕ) (s : Span) (front back : List Token) → CoversBlock last s (front ++ ((t ∷ own) ++ back))
+      → CoversBlock last s (front ++ ((u ∷ new) ++ back))
   blocked last s [] back h = covered s [] back h
   blocked last s (x ∷ front) back h = covered s (x ∷ front) back h
 
@@ -42,11 +43,13 @@ group a b c d e = simp append_assoc
 pub ends-around : (ts front own back new : List Token) → ts ≡ front ++ (own ++ back) → SameEnds own new → SameEnds ts (front ++ (new ++ back))
 ends-around ts front own back new parts e = record {
   covers = λ s f b c. subst (Covers s) (sym (group f front new back b)) (e.covers s (f ++ front) (back ++ b) (subst (Covers s) (all f b) c));
-  block = λ last s f b c. subst (CoversBlock last s) (sym (group f front new back b)) (e.block last s (f ++ front) (back ++ b) (subst (CoversBlock last s) (all f b) c));
+  block = λ last s f b c.
+      subst (CoversBlock last s) (sym (group f front new back b)) (e.block last s (f ++ front) (back ++ b) (subst (CoversBlock last s) (all f b) c));
 } where
   all : (f b : List Token) → f ++ (ts ++ b) ≡ (f ++ front) ++ (own ++ (back ++ b))
   all f b = ap (λ x. f ++ (x ++ b)) parts ∙ group f front own back b
 
 -- the span, or the block, of all
-pub cover : (own new : List Token) → SameEnds own new → (s : Span) (ts front back : List Token) → ts ≡ front ++ (own ++ back) → Covers s ts → Covers s (front ++ (new ++ back))
+pub cover : (own new : List Token) → SameEnds own new → (s : Span) (ts front back : List Token) → ts ≡ front ++ (own ++ back) → Covers s ts
+    → Covers s (front ++ (new ++ back))
 cover own new e s ts front back parts c = e.covers s front back (subst (Covers s) parts c)
