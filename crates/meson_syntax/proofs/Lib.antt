@@ -10,5 +10,6 @@ pub mod Gathered
 pub mod parsing
 pub mod paths
 pub mod places
+pub mod kept
 pub mod exchange
 pub mod lists

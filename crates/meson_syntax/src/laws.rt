@@ -4,6 +4,7 @@ ghost use Rattle.meson_syntax.specs.Exchange.{ListsExchange, ListsLevel, ListsRe
 ghost use Rattle.meson_syntax.specs.ExchangeStatements.{AppendedReadAgain, AppendingLevels, RemovalsLevel, RemovalsReadAgain, StatementsCome, StatementsGo};
 ghost use Rattle.meson_syntax.specs.Lines.{AppendedWords, CutsAreUtf8, FilesEnd, LinesAreTexts, SpelledReads, StatementsAreTexts, StatementsEnd, StatementsStand};
 ghost use Rattle.meson_syntax.specs.Laws.{BlocksErase, HasSpans, HolesFit, ListsErase, ListsFit, ListsStand, NodesErase, NodesStand, OneSpannedTree, OneTree};
+ghost use Rattle.meson_syntax.specs.Swap.{ListsSwap};
 
 /// A text reads as at most one tree, whose nodes stand in it in one way.
 pub fn one_tree()
@@ -63,4 +64,10 @@ pub fn lines()
     ensures appended_words { AppendedWords }
     ensures cuts_are_utf8 { CutsAreUtf8 }
     ensures spelled_reads { SpelledReads }
+{}
+
+/// In a file that located tokens spell, the tokens of a list may be exchanged for those of another list with the same span,
+/// where the depth allows it: they spell the file with the other list in that place.
+pub fn swapping()
+    ensures lists_swap { ListsSwap }
 {}

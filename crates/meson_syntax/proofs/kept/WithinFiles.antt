@@ -10,7 +10,7 @@ use Rattle.meson_syntax.specs.Spelling.{Then, NewLine, One, SpellsExpression, Sp
 use Rattle.meson_syntax.specs.Grammar.{expression_depth, statement_depth, branches_depth, otherwise_depth, statements_depth, block_depth, file_depth}
 use Rattle.meson_syntax.specs.Reads.{IsSourceWithin, IsSpannedWithin}
 use Rattle.meson_syntax.proofs.parsing.FileErased.{file-depth-erased}
-use Rattle.meson_steps.proofs.WithinExpressions.{deeper_in, both, new_line, expression_in}
+use Rattle.meson_syntax.proofs.kept.WithinExpressions.{deeper_in, both, new_line, expression_in}
 
 mutual
   statement_in : (s : Statement Span) (d m : ℕ) (ts : List Token) → SpellsStatement s d ts → statement_depth s ≤ m → SpellsStatement s m ts
@@ -81,7 +81,7 @@ mutual
   block_in : (b : Block Span) (d m last : ℕ) (ts : List Token) → SpellsBlock b d last ts → block_depth b ≤ m → SpellsBlock b m last ts
   block_in (block s list) d m last ts h room = (h.0, statements_in list d m ts h.1 room)
 
-file_in : (f : File Span) (len d m : ℕ) (ts : List Token) → SpellsFile f len d ts → file_depth f ≤ m → SpellsFile f len m ts
+pub file_in : (f : File Span) (len d m : ℕ) (ts : List Token) → SpellsFile f len d ts → file_depth f ≤ m → SpellsFile f len m ts
 file_in (file s b) len d m ts h room = (h.0, h.1, block_in b d m 0 ts h.2 room)
 
 -- a file that reads within some limits reads within others that its length and its depth fit

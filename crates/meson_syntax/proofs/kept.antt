@@ -1,0 +1,3 @@
+pub mod WithinExpressions
+pub mod WithinFiles
+pub mod Swap
