@@ -3,6 +3,7 @@
 ghost use Rattle.meson_syntax.specs.Exchange.{ListsExchange, ListsLevel, ListsReadAgain};
 ghost use Rattle.meson_syntax.specs.ExchangeStatements.{AppendedReadAgain, AppendingLevels, RemovalsLevel, RemovalsReadAgain, StatementsCome, StatementsGo};
 ghost use Rattle.meson_syntax.specs.Lines.{AppendedWords, CutsAreUtf8, FilesEnd, LinesAreTexts, SpelledReads, StatementsAreTexts, StatementsEnd, StatementsStand};
+ghost use Rattle.meson_syntax.specs.ExchangedTokens.{TokensMove};
 ghost use Rattle.meson_syntax.specs.Laws.{BlocksErase, HasSpans, HolesFit, ListsErase, ListsFit, ListsStand, NodesErase, NodesStand, OneSpannedTree, OneTree};
 
 /// A text reads as at most one tree, whose nodes stand in it in one way.
@@ -63,4 +64,10 @@ pub fn lines()
     ensures appended_words { AppendedWords }
     ensures cuts_are_utf8 { CutsAreUtf8 }
     ensures spelled_reads { SpelledReads }
+{}
+
+/// Where a list is exchanged for another one, the tokens before it stay where they are, and those behind it move by the difference
+/// of the lengths.
+pub fn tokens()
+    ensures tokens_move { TokensMove }
 {}

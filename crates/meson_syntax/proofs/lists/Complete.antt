@@ -50,7 +50,7 @@ end-spots s e p (x ∷ xs) =
 closes-end : (r : Role) (x : Lexeme) (e p : ℕ) → r ≡ Closes → end_by r x e p ≡ p + length x.text
 closes-end r x e p is = rw is refl
 
-last-end : (e p : ℕ) (xs : List Lexeme) (c : Lexeme) → role c.kind ≡ Closes → end_after e p (xs ++ c ∷ []) ≡ p + length (joined (xs ++ c ∷ []))
+pub last-end : (e p : ℕ) (xs : List Lexeme) (c : Lexeme) → role c.kind ≡ Closes → end_after e p (xs ++ c ∷ []) ≡ p + length (joined (xs ++ c ∷ []))
 last-end e p [] c is = let n = length-append c.text [] in let z : length {A = ℕ} [] ≡ 0 = refl in closes-end (role c.kind) c e p is ∙ omega arith
 last-end e p (x ∷ xs) c is =
     let n = length-append x.text (joined (xs ++ c ∷ [])) in
