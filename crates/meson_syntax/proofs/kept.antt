@@ -1,2 +1,5 @@
 pub mod Spots
 pub mod Tokens
+pub mod EachErased
+pub mod EachChildren
+pub mod Each

@@ -27,4 +27,5 @@ pub mod LendsInside
 pub mod LendsItems
 pub mod Moves
 pub mod ExchangedTokens
+pub mod MappedPaths
 pub mod formers

@@ -3,6 +3,7 @@
 ghost use Rattle.meson_syntax.specs.Exchange.{ListsExchange, ListsLevel, ListsReadAgain};
 ghost use Rattle.meson_syntax.specs.ExchangeStatements.{AppendedReadAgain, AppendingLevels, RemovalsLevel, RemovalsReadAgain, StatementsCome, StatementsGo};
 ghost use Rattle.meson_syntax.specs.Lines.{AppendedWords, CutsAreUtf8, FilesEnd, LinesAreTexts, SpelledReads, StatementsAreTexts, StatementsEnd, StatementsStand};
+ghost use Rattle.meson_syntax.specs.MappedPaths.{ListsMap, NodesMap};
 ghost use Rattle.meson_syntax.specs.ExchangedTokens.{TokensMove};
 ghost use Rattle.meson_syntax.specs.Laws.{BlocksErase, HasSpans, HolesFit, ListsErase, ListsFit, ListsStand, NodesErase, NodesStand, OneSpannedTree, OneTree};
 
@@ -70,4 +71,10 @@ pub fn lines()
 /// of the lengths.
 pub fn tokens()
     ensures tokens_move { TokensMove }
+{}
+
+/// A path names the same in a tree and in that tree with its spans mapped by one function: a node or a list between the same words.
+pub fn mapped()
+    ensures nodes_map { NodesMap }
+    ensures lists_map { ListsMap }
 {}
