@@ -5,13 +5,15 @@ ghost use Rattle.meson_syntax.specs.ExchangeStatements.{AppendedReadAgain, Appen
 ghost use Rattle.meson_syntax.specs.Lines.{AppendedWords, CutsAreUtf8, FilesEnd, LinesAreTexts, SpelledReads, StatementsAreTexts, StatementsEnd, StatementsStand};
 ghost use Rattle.meson_syntax.specs.MappedPaths.{ListsMap, NodesMap};
 ghost use Rattle.meson_syntax.specs.ExchangedTokens.{TokensMove};
-ghost use Rattle.meson_syntax.specs.Laws.{BlocksErase, HasSpans, HolesFit, ListsErase, ListsFit, ListsStand, NodesErase, NodesStand, OneSpannedTree, OneTree};
+ghost use Rattle.meson_syntax.specs.Laws.{BlocksErase, HasSpans, HolesFit, ListsErase, ListsFit, ListsStand, NodesErase, NodesStand, OneSpannedList, OneSpannedTree, OneSpannedTreeWithin, OneTree};
 
-/// A text reads as at most one tree, whose nodes stand in it in one way.
+/// A text reads as at most one tree, whose nodes stand in it in one way, whatever the limits; and so does a text that is one list.
 pub fn one_tree()
     ensures one_tree { OneTree }
     ensures has_spans { HasSpans }
     ensures one_spanned_tree { OneSpannedTree }
+    ensures one_spanned_tree_within { OneSpannedTreeWithin }
+    ensures one_spanned_list { OneSpannedList }
 {}
 
 /// A span names its node's place among the items of the text: for each expression and statement that a path names, and for
