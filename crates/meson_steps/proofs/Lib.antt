@@ -5,8 +5,6 @@ pub mod WithOne
 pub mod OtherBytes
 mod Spliced
 mod WorkTrees
-mod WithinExpressions
-mod WithinFiles
 mod PatchedFiles
 pub mod WorkKnown
 mod StepPlaces

@@ -14,7 +14,7 @@ use Rattle.meson_calls.specs.Loading.{AreParsed, views}
 use Rattle.meson_steps.specs.Results.{AreShallow, AreSmall}
 use Rattle.meson_steps.specs.Working.{AreKnown, HasDeep, HasLarge, IsShallow}
 use Rattle.meson_steps.specs.OtherValues.{with_some}
-use Rattle.meson_steps.proofs.WithinFiles.{other_limits}
+use Rattle.meson_syntax.proofs.kept.WithinFiles.{other_limits}
 
 abbrev Shallow : Plain → Type 0
 Shallow t = file_depth t ≤ max_depth

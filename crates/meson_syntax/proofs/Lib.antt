@@ -10,6 +10,7 @@ pub mod Gathered
 pub mod parsing
 pub mod paths
 pub mod places
+pub mod kept
 pub mod exchange
 pub mod lists
 pub mod kept

@@ -6,3 +6,4 @@ pub mod EachErased
 pub mod EachChildren
 pub mod Each
 pub mod OneSpanned
+pub mod Swap

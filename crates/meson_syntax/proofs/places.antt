@@ -1,3 +1,5 @@
+pub mod SameEnds
+pub mod Joined
 pub mod Inside
 pub mod InExpressions
 pub mod InStatements

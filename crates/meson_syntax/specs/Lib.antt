@@ -28,4 +28,5 @@ pub mod LendsItems
 pub mod Moves
 pub mod ExchangedTokens
 pub mod MappedPaths
+pub mod Swap
 pub mod formers

@@ -6,6 +6,7 @@ ghost use Rattle.meson_syntax.specs.Lines.{AppendedWords, CutsAreUtf8, FilesEnd,
 ghost use Rattle.meson_syntax.specs.MappedPaths.{ListsMap, NodesMap};
 ghost use Rattle.meson_syntax.specs.ExchangedTokens.{TokensMove};
 ghost use Rattle.meson_syntax.specs.Laws.{BlocksErase, HasSpans, HolesFit, ListsErase, ListsFit, ListsStand, NodesErase, NodesStand, OneSpannedList, OneSpannedTree, OneSpannedTreeWithin, OneTree};
+ghost use Rattle.meson_syntax.specs.Swap.{ListsSwap};
 
 /// A text reads as at most one tree, whose nodes stand in it in one way, whatever the limits; and so does a text that is one list.
 pub fn one_tree()
@@ -79,4 +80,10 @@ pub fn tokens()
 pub fn mapped()
     ensures nodes_map { NodesMap }
     ensures lists_map { ListsMap }
+{}
+
+/// In a file that located tokens spell, the tokens of a list may be exchanged for those of another list with the same span,
+/// where the depth allows it: they spell the file with the other list in that place.
+pub fn swapping()
+    ensures lists_swap { ListsSwap }
 {}
