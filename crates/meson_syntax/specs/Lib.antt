@@ -26,4 +26,5 @@ pub mod Laws
 pub mod LendsInside
 pub mod LendsItems
 pub mod Moves
+pub mod Kept
 pub mod formers
