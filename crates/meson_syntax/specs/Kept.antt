@@ -3,8 +3,11 @@ use Rattle.std.specs.Prelude.{◌≡◌, ℕ, List}
 use Rattle.meson_lex.specs.declared.kinds.Span.{Span}
 use Rattle.meson_lex.specs.Located.{Token}
 use Rattle.meson_syntax.specs.declared.operator.Bracket.{Bracket}
+use Rattle.meson_syntax.specs.declared.tree.List as rust
+use Rattle.meson_syntax.specs.declared.tree.Parsed.{Parsed}
 use Rattle.meson_syntax.specs.Tree.{Listing, File}
 use Rattle.meson_syntax.specs.Spelling.{SpellsFile, SpellsListing}
+use Rattle.meson_syntax.specs.View.{list_view, view}
 use Rattle.meson_syntax.specs.Moves.{each_file, each_listing, span_by, tokens_by}
 
 -- Where tokens spell a tree, the moved tokens spell the moved tree, however borders move, if the first one stays.
@@ -16,3 +19,13 @@ FilesMove = (g : ℕ → ℕ) → g 0 ≡ 0 → (f : File Span) (len depth : ℕ
 abbrev pub ListsMove : Type 0
 ListsMove = (g : ℕ → ℕ) (l : Listing Span) (b : Bracket) (depth : ℕ) (ts : List Token) → SpellsListing l b depth ts
     → SpellsListing (each_listing (span_by g) l) b depth (tokens_by g ts)
+
+-- ---- views
+
+-- The view of a value of the code tells the value.
+abbrev pub ViewsTell : Type 0
+ViewsTell = (source : List ℕ) (t u : Parsed) → view source t ≡ view source u → t ≡ u
+
+-- So does that of a list.
+abbrev pub ListViewsTell : Type 0
+ListViewsTell = (source : List ℕ) (l m : rust.List) → list_view source l ≡ list_view source m → l ≡ m

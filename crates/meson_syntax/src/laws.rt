@@ -2,7 +2,7 @@
 
 ghost use Rattle.meson_syntax.specs.Exchange.{ListsExchange, ListsLevel, ListsReadAgain};
 ghost use Rattle.meson_syntax.specs.ExchangeStatements.{AppendedReadAgain, AppendingLevels, RemovalsLevel, RemovalsReadAgain, StatementsCome, StatementsGo};
-ghost use Rattle.meson_syntax.specs.Kept.{FilesMove, ListsMove};
+ghost use Rattle.meson_syntax.specs.Kept.{FilesMove, ListViewsTell, ListsMove, ViewsTell};
 ghost use Rattle.meson_syntax.specs.Lines.{AppendedWords, CutsAreUtf8, FilesEnd, LinesAreTexts, SpelledReads, StatementsAreTexts, StatementsEnd, StatementsStand};
 ghost use Rattle.meson_syntax.specs.Laws.{BlocksErase, HasSpans, HolesFit, ListsErase, ListsFit, ListsStand, NodesErase, NodesStand, OneSpannedTree, OneTree};
 
@@ -70,4 +70,10 @@ pub fn lines()
 pub fn moving()
     ensures files_move { FilesMove }
     ensures lists_move { ListsMove }
+{}
+
+/// Two trees that look alike over one source are the same value, and so are two lists.
+pub fn views_tell()
+    ensures views_tell { ViewsTell }
+    ensures list_views_tell { ListViewsTell }
 {}

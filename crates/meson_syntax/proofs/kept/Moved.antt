@@ -42,13 +42,25 @@ module _ (g : ℕ → ℕ) where
   says κ x ts o = record { token = token_by g o.token; alone = ap (tokens_by g) o.alone; is = o.is; says = o.says }
 
   both : {P Q R S : List Token → Type 0} → Moves P R → Moves Q S → Moves (Then P Q) (Then R S)
-  both p q ts t = record { front = tokens_by g t.front; back = tokens_by g t.back; joined = ap (tokens_by g) t.joined ∙ append t.front t.back; first = p t.front t.first; second = q t.back t.second }
+  both p q ts t = record {
+    front = tokens_by g t.front;
+    back = tokens_by g t.back;
+    joined = ap (tokens_by g) t.joined ∙ append t.front t.back;
+    first = p t.front t.first;
+    second = q t.back t.second;
+  }
 
   deeper : {P Q : ℕ → List Token → Type 0} → ((inner : ℕ) → Moves (P inner) (Q inner)) → (d : ℕ) → Moves (Deeper P d) (Deeper Q d)
   deeper p d ts w = record { inner = w.inner; less = w.less; spelled = p w.inner ts w.spelled }
 
   new_line : {P Q : ℕ → List Token → Type 0} → ((last : ℕ) → Moves (P last) (Q (g last))) → Moves (NewLine P) (NewLine Q)
-  new_line p ts n = record { token = token_by g n.token; rest = tokens_by g n.rest; joined = ap (tokens_by g) n.joined; is = n.is; second = p n.token.to n.rest n.second }
+  new_line p ts n = record {
+    token = token_by g n.token;
+    rest = tokens_by g n.rest;
+    joined = ap (tokens_by g) n.joined;
+    is = n.is;
+    second = p n.token.to n.rest n.second;
+  }
 
   nothing : Moves Nothing Nothing
   nothing ts h = ap (tokens_by g) h
@@ -130,9 +142,11 @@ module _ (g : ℕ → ℕ) where
       covers s ts h.0,
       has_operand os h.1,
       subst (λ n. looseness (moved e) < 2 + n) (rows os) (subst (λ n. n < 2 + row_level os) (loose e) h.2),
-      both (expression e d) (subst (λ n. Moves (SpellsOperands os (row_level os) d) (SpellsOperands (each_operands (span_by g) os) n d)) (rows os) (operands os (row_level os) d)) ts h.3,
+      both (expression e d)
+          (subst (λ n. Moves (SpellsOperands os (row_level os) d) (SpellsOperands (each_operands (span_by g) os) n d)) (rows os) (operands os (row_level os) d)) ts h.3,
     )
-    expression (postfix s e tails) d ts h = (covers s ts h.0, has_tail tails h.1, subst (λ n. n ≤ 0) (loose e) h.2, both (expression e d) (the_tails tails d) ts h.3)
+    expression (postfix s e tails) d ts h =
+        (covers s ts h.0, has_tail tails h.1, subst (λ n. n ≤ 0) (loose e) h.2, both (expression e d) (the_tails tails d) ts h.3)
     expression (conditional s c y n) d ts h = (
       covers s ts h.0,
       subst (λ m. m ≤ 8) (loose c) h.1,
@@ -167,11 +181,12 @@ module _ (g : ℕ → ℕ) where
         → Moves (SpellsArguments items trailing b seen d) (SpellsArguments (each_arguments (span_by g) items) trailing b seen d)
     arguments no_arguments trailing b seen d ts h = nothing ts h
     arguments (argument a more) trailing b seen d ts h =
-        both (the_argument a b seen d)
-        (both (comma more trailing)
-        (subst (λ s. Moves (SpellsArguments more trailing b (is_named a) d) (SpellsArguments (each_arguments (span_by g) more) trailing b s d)) (is_same a) (arguments more trailing b (is_named a) d))) ts h
+        both (the_argument a b seen d) (both (comma more trailing)
+        (subst (λ s. Moves (SpellsArguments more trailing b (is_named a) d) (SpellsArguments (each_arguments (span_by g) more) trailing b s d))
+        (is_same a) (arguments more trailing b (is_named a) d))) ts h
 
-    the_argument : (a : Argument Span) (b : Bracket) (seen : Bool) (d : ℕ) → Moves (SpellsArgument a b seen d) (SpellsArgument (each_argument (span_by g) a) b seen d)
+    the_argument : (a : Argument Span) (b : Bracket) (seen : Bool) (d : ℕ)
+        → Moves (SpellsArgument a b seen d) (SpellsArgument (each_argument (span_by g) a) b seen d)
     the_argument (plain e) b seen d ts h = (h.0, h.1, deeper (expression e) d ts h.2)
     the_argument (named s x e) b seen d ts h = (covers s ts h.0, h.1, both (name x) (both (one k.Colon) (deeper (expression e) d)) ts h.2)
     the_argument (pair s e f) b seen d ts h = (covers s ts h.0, h.1, both (deeper (expression e) d) (both (one k.Colon) (deeper (expression f) d)) ts h.2)
@@ -184,7 +199,8 @@ module _ (g : ℕ → ℕ) where
         (covers s ts h.0, has_branch bs h.1, deeper (λ inner. both (branches bs k.WordIf inner) (both (the_otherwise o inner) (one k.WordEndif))) d ts h.2)
     the_statement (iteration s xs e b) d ts h = (
       covers s ts h.0,
-      both (one k.WordForeach) (both (names xs) (both (one k.Colon) (deeper (λ inner. both (expression e inner) (both (new_line (the_block b inner)) (one k.WordEndforeach))) d))) ts h.1,
+      both (one k.WordForeach) (both (names xs) (both (one k.Colon)
+          (deeper (λ inner. both (expression e inner) (both (new_line (the_block b inner)) (one k.WordEndforeach))) d))) ts h.1,
     )
     the_statement (breaks s) d ts h = (covers s ts h.0, one k.WordBreak ts h.1)
     the_statement (continues s) d ts h = (covers s ts h.0, one k.WordContinue ts h.1)
