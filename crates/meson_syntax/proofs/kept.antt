@@ -7,3 +7,7 @@ pub mod EachChildren
 pub mod Each
 pub mod OneSpanned
 pub mod Swap
+pub mod Moved
+pub mod Codes
+pub mod Told
+pub mod ToldFiles

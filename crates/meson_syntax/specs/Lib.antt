@@ -29,4 +29,5 @@ pub mod Moves
 pub mod ExchangedTokens
 pub mod MappedPaths
 pub mod Swap
+pub mod Kept
 pub mod formers
