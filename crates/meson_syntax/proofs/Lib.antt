@@ -13,4 +13,3 @@ pub mod places
 pub mod kept
 pub mod exchange
 pub mod lists
-pub mod kept
