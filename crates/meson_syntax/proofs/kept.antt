@@ -1,3 +1,13 @@
 pub mod WithinExpressions
 pub mod WithinFiles
+pub mod Spots
+pub mod Tokens
+pub mod EachErased
+pub mod EachChildren
+pub mod Each
+pub mod OneSpanned
 pub mod Swap
+pub mod Moved
+pub mod Codes
+pub mod Told
+pub mod ToldFiles

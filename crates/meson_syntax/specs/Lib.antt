@@ -26,5 +26,8 @@ pub mod Laws
 pub mod LendsInside
 pub mod LendsItems
 pub mod Moves
+pub mod ExchangedTokens
+pub mod MappedPaths
 pub mod Swap
+pub mod Kept
 pub mod formers

@@ -2,15 +2,20 @@
 
 ghost use Rattle.meson_syntax.specs.Exchange.{ListsExchange, ListsLevel, ListsReadAgain};
 ghost use Rattle.meson_syntax.specs.ExchangeStatements.{AppendedReadAgain, AppendingLevels, RemovalsLevel, RemovalsReadAgain, StatementsCome, StatementsGo};
+ghost use Rattle.meson_syntax.specs.Kept.{FilesMove, ListViewsTell, ListsMove, ViewsTell};
 ghost use Rattle.meson_syntax.specs.Lines.{AppendedWords, CutsAreUtf8, FilesEnd, LinesAreTexts, SpelledReads, StatementsAreTexts, StatementsEnd, StatementsStand};
-ghost use Rattle.meson_syntax.specs.Laws.{BlocksErase, HasSpans, HolesFit, ListsErase, ListsFit, ListsStand, NodesErase, NodesStand, OneSpannedTree, OneTree};
+ghost use Rattle.meson_syntax.specs.MappedPaths.{ListsMap, NodesMap};
+ghost use Rattle.meson_syntax.specs.ExchangedTokens.{TokensMove};
+ghost use Rattle.meson_syntax.specs.Laws.{BlocksErase, HasSpans, HolesFit, ListsErase, ListsFit, ListsStand, NodesErase, NodesStand, OneSpannedList, OneSpannedTree, OneSpannedTreeWithin, OneTree};
 ghost use Rattle.meson_syntax.specs.Swap.{ListsSwap};
 
-/// A text reads as at most one tree, whose nodes stand in it in one way.
+/// A text reads as at most one tree, whose nodes stand in it in one way, whatever the limits; and so does a text that is one list.
 pub fn one_tree()
     ensures one_tree { OneTree }
     ensures has_spans { HasSpans }
     ensures one_spanned_tree { OneSpannedTree }
+    ensures one_spanned_tree_within { OneSpannedTreeWithin }
+    ensures one_spanned_list { OneSpannedList }
 {}
 
 /// A span names its node's place among the items of the text: for each expression and statement that a path names, and for
@@ -66,8 +71,32 @@ pub fn lines()
     ensures spelled_reads { SpelledReads }
 {}
 
+/// Where a list is exchanged for another one, the tokens before it stay where they are, and those behind it move by the difference
+/// of the lengths.
+pub fn tokens()
+    ensures tokens_move { TokensMove }
+{}
+
+/// A path names the same in a tree and in that tree with its spans mapped by one function: a node or a list between the same words.
+pub fn mapped()
+    ensures nodes_map { NodesMap }
+    ensures lists_map { ListsMap }
+{}
+
 /// In a file that located tokens spell, the tokens of a list may be exchanged for those of another list with the same span,
 /// where the depth allows it: they spell the file with the other list in that place.
 pub fn swapping()
     ensures lists_swap { ListsSwap }
+{}
+
+/// Where all borders of a tree and of the tokens that spell it move alike, the tokens spell it as before.
+pub fn moving()
+    ensures files_move { FilesMove }
+    ensures lists_move { ListsMove }
+{}
+
+/// Two trees that look alike over one source are the same value, and so are two lists.
+pub fn views_tell()
+    ensures views_tell { ViewsTell }
+    ensures list_views_tell { ListViewsTell }
 {}
