@@ -26,4 +26,7 @@ pub mod Laws
 pub mod LendsInside
 pub mod LendsItems
 pub mod Moves
+pub mod MovedCode
+pub mod Furthest
+pub mod Moving
 pub mod formers
