@@ -13,3 +13,4 @@ pub mod paths
 pub mod places
 pub mod exchange
 pub mod lists
+pub mod kept

@@ -29,4 +29,5 @@ pub mod Moves
 pub mod MovedCode
 pub mod Furthest
 pub mod Moving
+pub mod Kept
 pub mod formers

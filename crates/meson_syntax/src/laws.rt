@@ -2,6 +2,7 @@
 
 ghost use Rattle.meson_syntax.specs.Exchange.{ListsExchange, ListsLevel, ListsReadAgain};
 ghost use Rattle.meson_syntax.specs.ExchangeStatements.{AppendedReadAgain, AppendingLevels, RemovalsLevel, RemovalsReadAgain, StatementsCome, StatementsGo};
+ghost use Rattle.meson_syntax.specs.Kept.{FilesMove, ListViewsTell, ListsMove, ViewsTell};
 ghost use Rattle.meson_syntax.specs.Lines.{AppendedWords, CutsAreUtf8, FilesEnd, LinesAreTexts, SpelledReads, StatementsAreTexts, StatementsEnd, StatementsStand};
 ghost use Rattle.meson_syntax.specs.Laws.{BlocksErase, HasSpans, HolesFit, ListsErase, ListsFit, ListsStand, NodesErase, NodesStand, OneSpannedTree, OneTree};
 
@@ -63,4 +64,16 @@ pub fn lines()
     ensures appended_words { AppendedWords }
     ensures cuts_are_utf8 { CutsAreUtf8 }
     ensures spelled_reads { SpelledReads }
+{}
+
+/// Where all borders of a tree and of the tokens that spell it move alike, the tokens spell it as before.
+pub fn moving()
+    ensures files_move { FilesMove }
+    ensures lists_move { ListsMove }
+{}
+
+/// Two trees that look alike over one source are the same value, and so are two lists.
+pub fn views_tell()
+    ensures views_tell { ViewsTell }
+    ensures list_views_tell { ListViewsTell }
 {}

@@ -1,0 +1,4 @@
+pub mod Moved
+pub mod Codes
+pub mod Told
+pub mod ToldFiles

@@ -1,0 +1,5 @@
+use Rattle.meson_syntax.proofs.kept.ToldFiles.{views-tell, list-views-tell}
+use Rattle.meson_syntax.proofs.laws.views_tell.Goals as goal
+
+pub returns : goal.returns
+returns c = record { views_tell = views-tell; list_views_tell = list-views-tell }
