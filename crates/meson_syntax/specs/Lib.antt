@@ -29,5 +29,9 @@ pub mod Moves
 pub mod ExchangedTokens
 pub mod MappedPaths
 pub mod Swap
+pub mod MovedCode
+pub mod Furthest
+pub mod Moving
+pub mod Texts
 pub mod Kept
 pub mod formers
