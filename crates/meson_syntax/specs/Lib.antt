@@ -29,5 +29,6 @@ pub mod Moves
 pub mod MovedCode
 pub mod Furthest
 pub mod Moving
+pub mod Borders
 pub mod Kept
 pub mod formers
