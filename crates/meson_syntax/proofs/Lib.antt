@@ -14,3 +14,4 @@ pub mod places
 pub mod kept
 pub mod exchange
 pub mod lists
+pub mod borders

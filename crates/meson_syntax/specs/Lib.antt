@@ -33,5 +33,6 @@ pub mod MovedCode
 pub mod Furthest
 pub mod Moving
 pub mod Texts
+pub mod Borders
 pub mod Kept
 pub mod formers

@@ -1,5 +1,6 @@
 //! Laws of build files and their trees. The functions do nothing: what they ensure is the law.
 
+ghost use Rattle.meson_syntax.specs.Borders.{ListsEnd, TreesEnd};
 ghost use Rattle.meson_syntax.specs.Exchange.{ListsExchange, ListsLevel, ListsReadAgain};
 ghost use Rattle.meson_syntax.specs.ExchangeStatements.{AppendedReadAgain, AppendingLevels, RemovalsLevel, RemovalsReadAgain, StatementsCome, StatementsGo};
 ghost use Rattle.meson_syntax.specs.Kept.{FilesMove, ListSpannedTexts, ListSpelledTexts, ListViewsMove, ListViewsTell, ListViewsText, ListsMove, SpannedTexts, SpelledTexts, TokensAreSlices, ViewsMove, ViewsTell, ViewsText};
@@ -114,4 +115,10 @@ pub fn texts()
     ensures list_spelled_texts { ListSpelledTexts }
     ensures spanned_texts { SpannedTexts }
     ensures list_spanned_texts { ListSpannedTexts }
+{}
+
+/// No border of a tree lies behind its text, which ends where the tree does, and none of a list that is read alone.
+pub fn borders()
+    ensures trees_end { TreesEnd }
+    ensures lists_end { ListsEnd }
 {}
