@@ -29,7 +29,7 @@ mod tree;
 pub use boxed::Boxed;
 pub use fault::ParseFault;
 pub use file::{parse, parse_wide, parse_within};
-pub use list_text::parse_list;
+pub use list_text::{parse_list, parse_list_within};
 pub use many::Many;
 pub use operator::{Assignment, Bracket, Operator, StringKind, UnaryOperator};
 pub use path::Path;
