@@ -35,4 +35,5 @@ pub mod Moving
 pub mod Texts
 pub mod Borders
 pub mod Kept
+pub mod Putting
 pub mod formers

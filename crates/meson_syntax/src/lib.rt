@@ -10,6 +10,7 @@ mod file;
 mod grammar;
 pub mod laws;
 mod list;
+mod list_mut;
 mod list_text;
 mod many;
 mod moving;
