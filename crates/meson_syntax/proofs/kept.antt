@@ -11,3 +11,5 @@ pub mod Moved
 pub mod Codes
 pub mod Told
 pub mod ToldFiles
+pub mod EachNothing
+pub mod Kept

@@ -2,8 +2,8 @@
 use Rattle.std.specs.Prelude.{◌≡◌, ℕ, ◌+◌, List, [], ◌∷◌, ◌++◌, length}
 use Rattle.meson_lex.specs.declared.kinds.Span.{Span}
 use Rattle.meson_lex.specs.Items.{Lexeme, IsItemList}
-use Rattle.meson_lex.specs.Significant.{start}
-use Rattle.meson_lex.specs.Located.{Token, spots, located}
+use Rattle.meson_lex.specs.Significant.{start, after, emitted, closing}
+use Rattle.meson_lex.specs.Located.{Token, words, spots, located}
 use Rattle.meson_syntax.specs.Tree.{Nowhere, Listing}
 use Rattle.meson_syntax.specs.Paths.{ListAt, list_span, inner_words}
 use Rattle.meson_syntax.specs.Places.{ListStands}
@@ -20,6 +20,7 @@ pub record TokensExchanged (left right : List Lexeme) (o c : Lexeme) (inner : Li
   pub behind : List Token
   pub old : located (left ++ o ∷ (inner ++ c ∷ right)) ≡ spots start 0 0 left ++ (list_tokens from o inner c ++ behind)
   pub new : located (left ++ q ∷ (other ++ d ∷ right)) ≡ spots start 0 0 left ++ (list_tokens from q other d ++ tokens_by g behind)
+  pub is_behind : words behind ≡ emitted (after start (left ++ o ∷ (inner ++ c ∷ []))) right ++ closing (after start (left ++ o ∷ (inner ++ c ∷ right))).fresh
   pub stay : tokens_by g (spots start 0 0 left) ≡ spots start 0 0 left
 
 -- Where a list of `was` bytes is exchanged for the text of another one, all behind it moves by the difference of the lengths.

@@ -29,5 +29,6 @@ pub mod Moves
 pub mod ExchangedTokens
 pub mod MappedPaths
 pub mod Swap
+pub mod KeptLists
 pub mod Kept
 pub mod formers

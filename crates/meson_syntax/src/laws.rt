@@ -3,6 +3,7 @@
 ghost use Rattle.meson_syntax.specs.Exchange.{ListsExchange, ListsLevel, ListsReadAgain};
 ghost use Rattle.meson_syntax.specs.ExchangeStatements.{AppendedReadAgain, AppendingLevels, RemovalsLevel, RemovalsReadAgain, StatementsCome, StatementsGo};
 ghost use Rattle.meson_syntax.specs.Kept.{FilesMove, ListViewsTell, ListsMove, ViewsTell};
+ghost use Rattle.meson_syntax.specs.KeptLists.{ListsKept, ListsPutErase};
 ghost use Rattle.meson_syntax.specs.Lines.{AppendedWords, CutsAreUtf8, FilesEnd, LinesAreTexts, SpelledReads, StatementsAreTexts, StatementsEnd, StatementsStand};
 ghost use Rattle.meson_syntax.specs.MappedPaths.{ListsMap, NodesMap};
 ghost use Rattle.meson_syntax.specs.ExchangedTokens.{TokensMove};
@@ -99,4 +100,11 @@ pub fn moving()
 pub fn views_tell()
     ensures views_tell { ViewsTell }
     ensures list_views_tell { ListViewsTell }
+{}
+
+/// Where a list's bytes are exchanged for the text of another list, the tree of the new text is the old one, with its borders behind the
+/// list moved by the difference of the lengths, and the other list in that place, moved to it.
+pub fn kept()
+    ensures lists_kept { ListsKept }
+    ensures lists_put_erase { ListsPutErase }
 {}

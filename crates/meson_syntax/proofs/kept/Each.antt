@@ -1,11 +1,12 @@
 -- A path names the same in a tree and in the mapped tree.
 use Rattle.std.specs.Prelude.{option_map, option_and_then}
-use Rattle.std.proofs.Common.{◌≡◌, ℕ, List, [], ◌∷◌, ◌++◌, Option, refl, ap, ap₂, ◌∙◌}
+use Rattle.std.proofs.Common.{◌≡◌, ℕ, List, [], ◌∷◌, ◌++◌, Option, Some, refl, ap, ap₂, subst, ◌∙◌}
 use Rattle.meson_lex.specs.Significant.{Word}
 use Rattle.meson_syntax.specs.Tree.{Expression, identifier, boolean, integer, string, paren, array, dictionary, call, unary, row, postfix, conditional, Listing, Block, File, file}
 use Rattle.meson_syntax.specs.Paths.{Sort, of_expression, of_statement, of_block, Node, Hole, around, children, child, reach, block_of, with_block, ListIn, list_in, list_within, list_of_node, list_at}
 use Rattle.meson_syntax.specs.Moves.{each_expression, each_listing, each_block, each_file}
 use Rattle.meson_syntax.specs.MappedPaths.{each_node, MapsHole, maps, MapsList, InBoth, neither, both}
+use Rattle.meson_syntax.proofs.parsing.Steps.{some-injective}
 use Rattle.meson_syntax.proofs.kept.EachChildren.{maps-around, nth-maps, children-map}
 
 -- what is found in both, and what is made of it
@@ -18,6 +19,11 @@ then-both : {A B C D : Type 0} {P : A → B → Type 0} {Q : C → D → Type 0}
     → InBoth Q (option_and_then f o) (option_and_then g u)
 then-both f g q o u neither = neither
 then-both f g q o u (both x y p) = q x y p
+
+-- what is found in both is to one another as said
+pub in-both : {A B : Type 0} {R : A → B → Type 0} (o : Option A) (u : Option B) → InBoth R o u → (x : A) (y : B) → o ≡ Some x → u ≡ Some y → R x y
+in-both {R} o u neither x y p q = absurd cc
+in-both {R} o u (both a b m) x y p q = subst (λ z. R z y) (some-injective a x p) (subst (R a) (some-injective b y q) m)
 
 module _ {S T : Type 0} (h : S → T) where
   -- ---- nodes
