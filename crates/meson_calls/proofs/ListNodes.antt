@@ -1,4 +1,4 @@
--- What a list holds by its bracket; the array or call whose list a path names, and the nodes below it.
+-- What a list holds by its bracket; the array, dictionary or call whose list a path names, and the nodes below it.
 use Rattle.std.proofs.Common.{◌≡◌, ℕ, zero, suc, Bool, true, false, List, [], ◌∷◌, ◌++◌, Option, Some, None, refl, sym, ap, ◌∙◌, subst}
 use Rattle.std.specs.Prelude.{option_map, option_and_then}
 use Rattle.meson_lex.specs.Significant.{Word}
@@ -28,7 +28,7 @@ plain_holds (argument (named s x f) more) b seen zero e level is = absurd cc
 plain_holds (argument (pair s x f) more) b seen zero e level is = absurd cc
 plain_holds (argument a more) b seen (suc n) e level is = plain_holds more b (is_named a) n e level.1 is
 
--- ---- the array or call
+-- ---- the array, dictionary or call
 
 pub record ListNode (S : Type 0) (f : File S) (path : List ℕ) (q : ListAt S) : Type 0 where
   pub node : Expression S

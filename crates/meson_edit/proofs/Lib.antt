@@ -6,3 +6,4 @@ pub mod paths
 pub mod sequences
 pub mod Fitting
 pub mod DeepViews
+pub mod Keeping

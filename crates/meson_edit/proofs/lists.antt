@@ -6,3 +6,5 @@ pub mod LaidOut
 pub mod Values
 pub mod Elements
 pub mod Answers
+pub mod LastWords
+pub mod Others

@@ -4,3 +4,4 @@ pub mod InStatements
 pub mod PutThere
 pub mod Depths
 pub mod DeepLists
+pub mod Shallow

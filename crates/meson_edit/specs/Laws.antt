@@ -8,9 +8,10 @@ use Rattle.meson_layout.specs.Layout.{layout_of, IsPlaced}
 use Rattle.meson_layout.specs.Edited.{patched_by}
 use Rattle.meson_layout.specs.Laws.{AreTexts}
 use Rattle.meson_syntax.specs.declared.source.Limits.{Limits}
-use Rattle.meson_syntax.specs.Tree.{Nowhere, Plain, Argument, Expression, Statement, File, erase}
+use Rattle.meson_syntax.specs.Tree.{Nowhere, Plain, Listing, Argument, Expression, Statement, File, erase}
 use Rattle.meson_syntax.specs.Grammar.{LevelFile}
-use Rattle.meson_syntax.specs.Paths.{ListAt, list_at, list_span}
+use Rattle.meson_syntax.specs.Paths.{ListAt, list_at, list_span, inner_words}
+use Rattle.meson_syntax.specs.Exchange.{IsListText}
 use Rattle.meson_syntax.specs.Reads.{Spells, IsSpannedWithin}
 use Rattle.meson_edit.specs.Edits.{Written, Edit, First, After, Remove, Replace, Wrap, RemoveStatement, Append, edited}
 use Rattle.meson_edit.specs.Places.{primitive_of, Writes}
@@ -53,10 +54,17 @@ StatementRemovalsSpell = (path : List ℕ) (n : ℕ) → Spelled (RemoveStatemen
 abbrev pub AppendedSpell : Type 0
 AppendedSpell = (new : Written (Statement Nowhere)) → Spelled (Append new)
 
--- ---- what is kept
+-- ---- what is written
 
--- outside a list no byte changes
-pub record KeepsOutside (bytes text : List ℕ) (p : ListAt Span) : Type 0 where
+-- Of the text only the bytes of a list become others: those of the list that the tree `t` has there.
+pub record WritesList (bytes text : List ℕ) (f : File Span) (path : List ℕ) (p : ListAt Span) (t : Plain) : Type 0 where
+  -- the list in the tree without spans, and the one that takes its place
+  pub q : ListAt Nowhere
+  pub is_q : list_at (erase f) path ≡ Some q
+  pub bracket : q.bracket ≡ p.bracket
+  pub list : Listing Nowhere
+  pub is_tree : q.back list ≡ t
+  -- the bytes before the list, of the old list, of the new one, and behind it
   pub front : List ℕ
   pub was : List ℕ
   pub now : List ℕ
@@ -65,6 +73,8 @@ pub record KeepsOutside (bytes text : List ℕ) (p : ListAt Span) : Type 0 where
   pub new : text ≡ front ++ (now ++ back)
   pub from : length front ≡ (list_span p.list).from
   pub to : length (front ++ was) ≡ (list_span p.list).to
+  pub is_text : IsListText now q.bracket (inner_words list)
+  pub utf8 : IsUtf8 now
 
 -- the list that an edit changes
 abbrev pub IsEditOf : List ℕ → Edit → Type 0
@@ -76,10 +86,10 @@ IsEditOf path (Wrap list n) = path ≡ list
 IsEditOf path (RemoveStatement block n) = ⊥
 IsEditOf path (Append new) = ⊥
 
--- An edit of a list changes no byte outside that list.
-abbrev pub ListEditsKeep : Type 0
-ListEditsKeep =
+-- An edit of a list changes no byte outside that list, and in its place writes the text of the edited list.
+abbrev pub ListEditsWrite : Type 0
+ListEditsWrite =
     (e : Edit) (limits : Limits) (bytes : List ℕ) (f : File Span) → IsSpannedWithin limits bytes f → (items : List Lexeme) → IsItemList bytes items → (name : List ℕ)
     → Writes e → (t : Plain) → edited e (erase f) ≡ Some t → (path : List ℕ) → IsEditOf path e → (p : ListAt Span) → list_at f path ≡ Some p
     → (primitive : Primitive) → primitive_of f e ≡ Some primitive → (text : List ℕ) → patched_by bytes (layout_of name items primitive) ≡ Ok text
-    → KeepsOutside bytes text p
+    → WritesList bytes text f path p t

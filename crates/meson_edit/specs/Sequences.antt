@@ -2,7 +2,7 @@
 use Rattle.std.specs.Prelude.{◌≡◌, ℕ, suc, ◌+◌, ◌≤◌, false, List, [], drop, Some}
 use Rattle.meson_syntax.specs.declared.operator.Bracket.{Bracket}
 use Rattle.meson_syntax.specs.declared.operator.Bracket.TheVariants as bracket
-use Rattle.meson_syntax.specs.Tree.{Nowhere, Plain, Expression, Listing, Argument, plain, named, is_named}
+use Rattle.meson_syntax.specs.Tree.{Nowhere, Plain, Expression, Listing, Argument, plain, named, pair, is_named}
 use Rattle.meson_syntax.specs.Grammar.{LevelExpression, LevelArgument, LevelFile, expression_depth, listing_depth, argument_depth, file_depth}
 use Rattle.meson_syntax.specs.Paths.{ListAt, list_at, nth}
 use Rattle.meson_edit.specs.Edits.{Written, Edit, First, After, Remove, Replace, Wrap, RemoveStatement, Append, elements, edited}
@@ -30,6 +30,10 @@ ListsStay = (t : Plain) (path : List ℕ) (q : ListAt Nowhere) → list_at t pat
 abbrev pub DepthsGrow : Type 0
 DepthsGrow = (t : Plain) (path : List ℕ) (q : ListAt Nowhere) → list_at t path ≡ Some q → (l : Listing Nowhere) (k : ℕ) → listing_depth l ≤ listing_depth q.list + k
     → file_depth (q.back l) ≤ file_depth t + k
+
+-- No list is deeper than its tree.
+abbrev pub ListsAreShallow : Type 0
+ListsAreShallow = (t : Plain) (path : List ℕ) (q : ListAt Nowhere) → list_at t path ≡ Some q → listing_depth q.list ≤ file_depth t
 
 -- how deep is what an edit of a list puts in
 abbrev pub new_depth : Edit → ℕ
@@ -81,9 +85,11 @@ abbrev pub FirstsKeepLevels : Type 0
 FirstsKeepLevels = (path : List ℕ) (new : Written (Argument Nowhere)) (t now : Plain) (q : ListAt Nowhere) → list_at t path ≡ Some q → LevelArgument new.node q.bracket false
     → LevelFile t → edited (First path new) t ≡ Some now → LevelFile now
 
--- Whether an element may follow another one, before these: in an array without a name; in a call without a name behind one without, or with a name behind the last.
+-- Whether an element may follow another one, before these: in an array without a name; in a dictionary with a key;
+-- in a call without a name behind one without, or with a name behind the last.
 abbrev pub MayFollow : Bracket → (it : Argument Nowhere) → (behind : List (Argument Nowhere)) → (new : Argument Nowhere) → Type 0
 MayFollow bracket.Square it behind (plain e) = LevelExpression e
+MayFollow bracket.Curly it behind (pair s k v) = LevelExpression k × LevelExpression v
 MayFollow bracket.Round it behind (plain e) = (is_named it ≡ false) × LevelExpression e
 MayFollow bracket.Round it behind (named s x e) = (behind ≡ []) × LevelExpression e
 MayFollow b it behind new = ⊥

@@ -1,17 +1,18 @@
 //! Laws of edits. The functions do nothing: what they ensure is the law.
 
-ghost use Rattle.meson_edit.specs.Kept.{AppendedKeep, StatementRemovalsKeep};
-ghost use Rattle.meson_edit.specs.Laws.{AppendedSpell, FirstsSpell, InsertionsSpell, ListEditsKeep, RemovalsSpell, ReplacementsSpell, StatementRemovalsSpell, WrapsSpell};
-ghost use Rattle.meson_edit.specs.Sequences.{DepthsGrow, EditsDeepen, EditsDeepenByOne, FirstsKeepLevels, FirstsStayWithin, InsertionsKeepLevels, InsertionsStayWithin, ListsStay, RemovalsKeepLevels, RemovalsStayWithin, ReplacementsKeepLevels, WrapsKeepLevels};
+ghost use Rattle.meson_edit.specs.Kept.{EditsKeep};
+ghost use Rattle.meson_edit.specs.Laws.{AppendedSpell, FirstsSpell, InsertionsSpell, ListEditsWrite, RemovalsSpell, ReplacementsSpell, StatementRemovalsSpell, WrapsSpell};
+ghost use Rattle.meson_edit.specs.Sequences.{DepthsGrow, EditsDeepen, EditsDeepenByOne, FirstsKeepLevels, FirstsStayWithin, InsertionsKeepLevels, InsertionsStayWithin, ListsAreShallow, ListsStay, RemovalsKeepLevels, RemovalsStayWithin, ReplacementsKeepLevels, WrapsKeepLevels};
 
-/// An element put in, removed, exchanged or wrapped: the new text spells the tree so edited, and no byte outside the list changes.
+/// An element put in, removed, exchanged or wrapped: the new text spells the tree so edited. No byte outside the list changes,
+/// and in its place stands the text of the edited list.
 pub fn lists()
     ensures firsts { FirstsSpell }
     ensures insertions { InsertionsSpell }
     ensures removals { RemovalsSpell }
     ensures replacements { ReplacementsSpell }
     ensures wraps { WrapsSpell }
-    ensures keep { ListEditsKeep }
+    ensures write { ListEditsWrite }
 {}
 
 /// A statement removed or appended: the new text spells the tree so edited.
@@ -20,16 +21,18 @@ pub fn statements()
     ensures appended { AppendedSpell }
 {}
 
-/// A statement removed or appended: of the bytes around it only blanks and line ends change.
+/// What an edit keeps. In a list each comment and continuation but those of what is touched, and each other element, byte for byte;
+/// around a removed statement all but a blank on each side and the line end of its line; before an appended one all.
 pub fn kept()
-    ensures removals { StatementRemovalsKeep }
-    ensures appended { AppendedKeep }
+    ensures edits { EditsKeep }
 {}
 
-/// What one edit leaves to the next: a list stands where it was put and all around it as before, the tree is no deeper than what was put in makes it, and it keeps its levels.
+/// What one edit leaves to the next: a list stands where it was put and all around it as before, the tree is no deeper than what
+/// was put in makes it, no list is deeper than its tree, and the tree keeps its levels.
 pub fn sequences()
     ensures stay { ListsStay }
     ensures depths { DepthsGrow }
+    ensures shallow { ListsAreShallow }
     ensures deepen { EditsDeepen }
     ensures removals_within { RemovalsStayWithin }
     ensures firsts_within { FirstsStayWithin }

@@ -5,7 +5,7 @@ use Rattle.meson_lex.specs.Significant.{Word}
 use Rattle.meson_syntax.specs.declared.operator.Bracket.{Bracket}
 use Rattle.meson_syntax.specs.declared.operator.Bracket.TheVariants as bracket
 use Rattle.meson_syntax.specs.Operators.{holds_pairs}
-use Rattle.meson_syntax.specs.Tree.{Nowhere, Plain, Expression, array, call, Listing, listing, Argument, plain, named, pair, Arguments, no_arguments, argument, argument_list, arguments_of, Block}
+use Rattle.meson_syntax.specs.Tree.{Nowhere, Plain, Expression, array, dictionary, call, Listing, listing, Argument, plain, named, pair, Arguments, no_arguments, argument, argument_list, arguments_of, Block}
 use Rattle.meson_syntax.specs.Grammar.{LevelArguments, LevelListing, LevelFile}
 use Rattle.meson_syntax.specs.Paths.{Sort, of_expression, of_statement, of_block, Node, Hole, around, expression_in, arguments_children, listing_children, child, nth, reach, block_of, with_block, ListIn, list_in, ListAt, list_within, list_of_node, list_at, value_of}
 use Rattle.meson_syntax.proofs.parsing.Complete.{list-of-arguments}
@@ -111,6 +111,8 @@ node_child (call s f m) l n a v is none level there value =
     let c = listed_child m bracket.Round n a v refl low here value in
     record { before = _; behind = _; back = λ y. call s f (c.back y); is = nth_map _ (listing_children m bracket.Round) n ∙ ap (option_map _) c.is; back_is = λ y. ap (call s f) (c.back_is y) })
     level there
+node_child (dictionary m) l n a v is none level there value =
+    let both : true ≡ false = ap (λ (k : ListIn Nowhere). holds_pairs k.bracket) (some-injective _ _ is) ∙ none in absurd cc
 node_child _ l n a v is none level there value = absurd cc
 
 -- ---- along a path

@@ -1,6 +1,6 @@
 -- The laws of statements removed and appended.
-use Rattle.std.proofs.Common.{◌≡◌, ℕ, ◌+◌, true, false, ◌&&◌, List, [], ◌∷◌, ◌++◌, Ok, take, drop, refl, sym, ap, ap₂, ◌∙◌, subst, append_assoc}
-use Rattle.std.proofs.lemmas.Bool.{cond_both, and_parts, and_from}
+use Rattle.std.proofs.Common.{◌≡◌, ℕ, ◌+◌, true, false, ◌&&◌, List, [], ◌∷◌, ◌++◌, Ok, take, drop, refl, sym, ap, ap₂, ◌∙◌, subst, inl, inr, append_assoc}
+use Rattle.std.proofs.lemmas.Bool.{cond_both, and_parts}
 use Rattle.std.proofs.lemmas.List.{append-nil, take-append-drop}
 use Rattle.std.proofs.Math.Seq.{take-add}
 use Rattle.std.specs.Prelude.{reverse}
@@ -15,7 +15,7 @@ use Rattle.meson_lex.specs.Words.{IsTight}
 use Rattle.meson_layout.specs.Pieces.{Piece, old_items, new_items, splices, line_feed}
 use Rattle.meson_layout.specs.Layout.{Parts}
 use Rattle.meson_layout.specs.Statements.{at_line_start, statement_gone, statement_removed}
-use Rattle.meson_layout.specs.FileLaws.{line_start, behind_token, StatementIn, EditedFile, StatementGone, StatementRemovalLaw}
+use Rattle.meson_layout.specs.FileLaws.{line_start, behind_token, StatementIn, EditedFile, IsItsLineEnd, StatementGone, StatementRemovalLaw}
 use Rattle.meson_layout.proofs.Near.{Follow, AllGood, IsLoose, last, items-good, items-follow, follow-join, follow-front, follow-rest, good-join, good-front, good-rest}
 use Rattle.meson_layout.proofs.Seams.{near-loose, loose, no-comment, speaks-no-line, reloose}
 use Rattle.meson_layout.proofs.Merge.{merge, merge-joined, merge-run, merge-items}
@@ -117,15 +117,22 @@ file-edited file source items list ps text tokens old new fits good says =
       says = ap₂ (λ u (v : State). u ++ closing v.fresh) run.0 run.1 ∙ says;
     }
 
-white-all : (xs : List Lexeme) → AllOf look.is_white xs → look.all_white xs ≡ true
-white-all [] h = refl
-white-all (x ∷ xs) h = and_from (look.is_white x.kind) (look.all_white xs) h.0 (white-all xs h.1)
-
 -- the blank at the end
 last-blank : (left : List Lexeme) → AllOf look.is_blank (look.last_few (look.one look.is_blank (reverse left)) left)
 last-blank left = cond_both (look.begins look.is_blank (reverse left)) _ _ (λ n. AllOf look.is_blank (look.last_few n left))
     (λ h. let b = begun look.is_blank (reverse left) h in let p = back-parts left (reverse b.more) (b.first ∷ []) 1 (last-one left b.first b.more b.is) refl in subst (AllOf look.is_blank) (sym p.1) (b.passes, tt))
     (λ h. let p = back-parts left left [] 0 (sym (append-nil left)) refl in subst (AllOf look.is_blank) (sym p.1) tt)
+
+at-most-last : (left : List Lexeme) → look.at_most_blank (look.last_few (look.one look.is_blank (reverse left)) left) ≡ true
+at-most-last left = cond_both (look.begins look.is_blank (reverse left)) _ _ (λ n. look.at_most_blank (look.last_few n left) ≡ true)
+    (λ h. let b = begun look.is_blank (reverse left) h in let p = back-parts left (reverse b.more) (b.first ∷ []) 1 (last-one left b.first b.more b.is) refl in ap look.at_most_blank p.1 ∙ b.passes)
+    (λ h. let p = back-parts left left [] 0 (sym (append-nil left)) refl in ap look.at_most_blank p.1)
+
+-- the blank at the beginning
+at-most-first : (right : List Lexeme) → look.at_most_blank (take (look.one look.is_blank right) right) ≡ true
+at-most-first right = cond_both (look.begins look.is_blank right) _ _ (λ m. look.at_most_blank (take m right) ≡ true)
+    (λ h. let b = begun look.is_blank right h in ap (λ xs. look.at_most_blank (take 1 xs)) b.is ∙ b.passes)
+    (λ h. refl)
 
 module _ (file source : List ℕ) (items : List Lexeme) (list : IsItemList source items) (s : Span) (more : List Word) (p : StatementIn items s more) where
   good : AllGood (p.left ++ (p.own ++ p.right))
@@ -140,8 +147,10 @@ module _ (file source : List ℕ) (items : List Lexeme) (list : IsItemList sourc
       let whole : after start items ≡ after behind_token p.right = ap (after start) (p.parts ∙ sym (append_assoc p.left p.own p.right)) ∙ after-append start (p.left ++ p.own) p.right ∙ ap (λ (v : State). after v p.right) p.ends in
       drop-line p.right more (ap₂ (λ (u v : State). emitted u p.right ++ closing v.fresh) (sym p.ends) (sym whole) ∙ p.is_right)
 
-  gone-by : (n m : ℕ) → AllOf look.is_blank (look.last_few n p.left) → AllOf look.is_white (take m p.right) → StatementGone source p.left p.right (splices file 0 (statement_gone n m p.left p.own p.right)) (emitted start p.left ++ more)
-  gone-by n m blanks white =
+  gone-by : (n m : ℕ) → AllOf look.is_blank (look.last_few n p.left) → look.at_most_blank (look.last_few n p.left) ≡ true → (blank line : List Lexeme) → take m p.right ≡ blank ++ line
+      → AllOf look.is_white (take m p.right) → look.at_most_blank blank ≡ true → IsItsLineEnd (look.but_last n p.left) line
+      → StatementGone source p.left p.right (splices file 0 (statement_gone n m p.left p.own p.right)) (emitted start p.left ++ more)
+  gone-by n m blanks one_blank blank line lost_is white blank_is line_is =
       let front = look.but_last n p.left in
       let gone = look.last_few n p.left in
       let lost = take m p.right in
@@ -169,12 +178,14 @@ module _ (file source : List ℕ) (items : List Lexeme) (list : IsItemList sourc
       record {
         front = front;
         gone = gone;
-        lost = lost;
+        blank = blank;
+        line = line;
         rest = rest;
         left_is = left_is;
-        right_is = right_is;
-        gone_is = white-all gone (blank-white gone blanks);
-        lost_is = white-all lost white;
+        right_is = right_is ∙ ap (λ xs. xs ++ rest) lost_is ∙ append_assoc blank line rest;
+        gone_is = one_blank;
+        blank_is = blank_is;
+        line_is = line_is;
         edited = file-edited file source items list (statement_gone n m p.left p.own p.right) (joined front ++ joined rest) (emitted start p.left ++ more)
             (regroup front gone p.own lost rest ∙ ap₂ (λ u v. u ++ (p.own ++ v)) (sym left_is) (sym right_is) ∙ sym p.parts)
             (ap joined new ∙ joined-append front rest)
@@ -207,9 +218,14 @@ module _ (file source : List ℕ) (items : List Lexeme) (list : IsItemList sourc
       let m = look.one look.is_blank p.right in
       let blank = one-all look.is_blank p.right in
       cond_both (at_line_start (reverse (look.but_last n p.left)) && look.begins look.is_line_end (drop m p.right)) _ _ (λ ps. StatementGone source p.left p.right (splices file 0 ps) (emitted start p.left ++ more))
-      (λ h. let e = begun look.is_line_end (drop m p.right) (and_parts (at_line_start (reverse (look.but_last n p.left))) (look.begins look.is_line_end (drop m p.right)) h).1 in
-      gone-by n (m + 1) (last-blank p.left) (subst (AllOf look.is_white) (sym (take-add m 1 p.right ∙ ap (λ xs. take m p.right ++ take 1 xs) e.is)) (white-join (take m p.right) (e.first ∷ []) (blank-white (take m p.right) blank) (line-white (e.first ∷ []) (e.passes, tt)))))
-      (λ h. gone-by n m (last-blank p.left) (blank-white (take m p.right) blank))
+      (λ h.
+      let both = and_parts (at_line_start (reverse (look.but_last n p.left))) (look.begins look.is_line_end (drop m p.right)) h in
+      let e = begun look.is_line_end (drop m p.right) both.1 in
+      let lost : take (m + 1) p.right ≡ take m p.right ++ e.first ∷ [] = take-add m 1 p.right ∙ ap (λ xs. take m p.right ++ take 1 xs) e.is in
+      gone-by n (m + 1) (last-blank p.left) (at-most-last p.left) (take m p.right) (e.first ∷ []) lost
+      (subst (AllOf look.is_white) (sym lost) (white-join (take m p.right) (e.first ∷ []) (blank-white (take m p.right) blank) (line-white (e.first ∷ []) (e.passes, tt))))
+      (at-most-first p.right) (inr (both.0, e.first, e.passes, refl)))
+      (λ h. gone-by n m (last-blank p.left) (at-most-last p.left) (take m p.right) [] (sym (append-nil (take m p.right))) (blank-white (take m p.right) blank) (at-most-first p.right) (inl refl))
 
 pub statement-removal-law : StatementRemovalLaw
 statement-removal-law file source items list s more p =

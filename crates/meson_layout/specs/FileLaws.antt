@@ -1,11 +1,12 @@
 -- What the splices of a removed and of an appended statement make of a text.
-use Rattle.std.specs.Prelude.{◌≡◌, ℕ, true, false, List, [], ◌∷◌, ◌++◌, length, Ok}
+use Rattle.std.specs.Prelude.{◌≡◌, ℕ, true, false, List, [], ◌∷◌, ◌++◌, ◌⊎◌, length, reverse, Ok}
 use Rattle.meson_lex.specs.declared.kinds.Span.{Span}
 use Rattle.meson_lex.specs.Items.{Lexeme, joined, IsItemList}
 use Rattle.meson_lex.specs.Significant.{Word, State, start, after, emitted, closing, new_line, significant}
 use Rattle.meson_splice.specs.declared.splice.Splice.{Splice}
 use Rattle.meson_layout.specs.declared.primitive.Primitive.TheVariants.{RemoveStatement, Append}
-use Rattle.meson_layout.specs.Looks.{all_white}
+use Rattle.meson_layout.specs.Looks.{is_line_end, at_most_blank}
+use Rattle.meson_layout.specs.Statements.{at_line_start}
 use Rattle.meson_layout.specs.Layout.{layout_of}
 use Rattle.meson_lex.specs.Words.{IsTight}
 use Rattle.meson_layout.specs.Edited.{patched_by}
@@ -37,16 +38,23 @@ pub record EditedFile (source : List ℕ) (ss : List Splice) (text : List ℕ) (
   pub are_items : IsItemList text items
   pub says : significant items ≡ tokens
 
--- A removed statement: its tokens and those of its line end go. All before it and all behind it stays, but for blanks and line ends.
+-- where the statement began its line, the line end behind it
+abbrev pub IsItsLineEnd : (front line : List Lexeme) → Type 0
+IsItsLineEnd front line = (line ≡ []) ⊎ ((at_line_start (reverse front) ≡ true) × (x : Lexeme) × (is_line_end x.kind ≡ true) × (line ≡ x ∷ []))
+
+-- A removed statement: its tokens and those of its line end go. All before it and all behind it stays, but for the blank directly before it, the one
+-- directly behind it, and behind that the line end of a statement that began its line.
 pub record StatementGone (source : List ℕ) (left right : List Lexeme) (ss : List Splice) (tokens : List Word) : Type 0 where
   pub front : List Lexeme
   pub gone : List Lexeme
-  pub lost : List Lexeme
+  pub blank : List Lexeme
+  pub line : List Lexeme
   pub rest : List Lexeme
   pub left_is : left ≡ front ++ gone
-  pub right_is : right ≡ lost ++ rest
-  pub gone_is : all_white gone ≡ true
-  pub lost_is : all_white lost ≡ true
+  pub right_is : right ≡ blank ++ (line ++ rest)
+  pub gone_is : at_most_blank gone ≡ true
+  pub blank_is : at_most_blank blank ≡ true
+  pub line_is : IsItsLineEnd front line
   pub edited : EditedFile source ss (joined front ++ joined rest) tokens
 
 abbrev pub StatementRemovalLaw : Type 0

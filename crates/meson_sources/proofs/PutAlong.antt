@@ -2,7 +2,7 @@
 use Rattle.std.specs.Prelude.{option_map}
 use Rattle.std.proofs.Common.{◌≡◌, ℕ, List, [], ◌∷◌, Some, refl, ap, subst, arith}
 use Rattle.meson_lex.specs.Significant.{Word}
-use Rattle.meson_syntax.specs.Tree.{Nowhere, Plain, Expression, array, call, Listing, Block, file}
+use Rattle.meson_syntax.specs.Tree.{Nowhere, Plain, Expression, array, dictionary, call, Listing, Block, file}
 use Rattle.meson_syntax.specs.Paths.{Sort, of_expression, of_statement, of_block, Node, Hole, around, children, child, reach, block_of, ListIn, list_in, ListAt, list_at, list_within, list_of_node}
 use Rattle.meson_syntax.specs.Parts.{Any, an_expression, a_block, any_of, parts}
 use Rattle.meson_syntax.proofs.parsing.Steps.{some-injective}
@@ -55,6 +55,7 @@ pub record ListPut (t now : Plain) (path : List ℕ) (list new : Listing Nowhere
 
 in_list : (e : Expression Nowhere) (l : ListIn Nowhere) → list_in e ≡ Some l → (m : Listing Nowhere) → list_any (an_expression (l.back m)) ≡ Some m
 in_list (array l) o is m = subst (λ (u : ListIn Nowhere). list_any (an_expression (u.back m)) ≡ Some m) (some-injective _ _ is) refl
+in_list (dictionary l) o is m = subst (λ (u : ListIn Nowhere). list_any (an_expression (u.back m)) ≡ Some m) (some-injective _ _ is) refl
 in_list (call s x l) o is m = subst (λ (u : ListIn Nowhere). list_any (an_expression (u.back m)) ≡ Some m) (some-injective _ _ is) refl
 in_list _ o is m = absurd cc
 

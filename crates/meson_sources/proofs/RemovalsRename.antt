@@ -3,7 +3,7 @@ use Rattle.std.specs.Prelude.{false, option_and_then}
 use Rattle.std.proofs.Common.{◌≡◌, ℕ, List, [], ◌∷◌, Some, refl, sym, ap, ◌∙◌, subst, true}
 use Rattle.meson_syntax.specs.declared.operator.Bracket.{Bracket}
 use Rattle.meson_syntax.specs.Operators.{holds_pairs, holds_values}
-use Rattle.meson_syntax.specs.Tree.{Nowhere, Plain, array, call, Listing, listing, Argument, arguments_of, argument_list, string}
+use Rattle.meson_syntax.specs.Tree.{Nowhere, Plain, array, dictionary, call, Listing, listing, Argument, arguments_of, argument_list, string}
 use Rattle.meson_syntax.specs.Grammar.{LevelListing, LevelFile}
 use Rattle.meson_syntax.specs.Paths.{ListAt, nth}
 use Rattle.meson_syntax.specs.Parts.{Any, an_expression, a_statement, a_block, arguments_parts, listing_parts, parts}
@@ -22,15 +22,15 @@ use Rattle.meson_sources.proofs.PutAlong.{PutAt, list_put}
 use Rattle.meson_sources.proofs.RenamedStrings.{LosesString, NotThrough, strings_move, stands_apart}
 use Rattle.meson_sources.proofs.StringsStay.{list_any}
 
--- ---- a list of an array or a call
+-- ---- a list of an array, a dictionary or a call
+
+parts_of_list : (m l : Listing Nowhere) → m ≡ l → listing_parts m ≡ arguments_parts (arguments_of (elements l))
+parts_of_list (listing s trailing list) l same = sym (ap arguments_parts (list-of-arguments list)) ∙ ap (λ u. arguments_parts (arguments_of (elements u))) same
 
 list_parts : (x : Any Nowhere) (l : Listing Nowhere) → list_any x ≡ Some l → parts x ≡ arguments_parts (arguments_of (elements l))
-list_parts (an_expression (array m)) l is = of_list m l (some-injective _ _ is) where
-  of_list : (m l : Listing Nowhere) → m ≡ l → listing_parts m ≡ arguments_parts (arguments_of (elements l))
-  of_list (listing s trailing list) l same = sym (ap arguments_parts (list-of-arguments list)) ∙ ap (λ u. arguments_parts (arguments_of (elements u))) same
-list_parts (an_expression (call s x m)) l is = of_list m l (some-injective _ _ is) where
-  of_list : (m l : Listing Nowhere) → m ≡ l → listing_parts m ≡ arguments_parts (arguments_of (elements l))
-  of_list (listing s trailing list) l same = sym (ap arguments_parts (list-of-arguments list)) ∙ ap (λ u. arguments_parts (arguments_of (elements u))) same
+list_parts (an_expression (array m)) l is = parts_of_list m l (some-injective _ _ is)
+list_parts (an_expression (dictionary m)) l is = parts_of_list m l (some-injective _ _ is)
+list_parts (an_expression (call s x m)) l is = parts_of_list m l (some-injective _ _ is)
 list_parts (an_expression e) l is = absurd cc
 list_parts (a_statement s) l is = absurd cc
 list_parts (a_block b) l is = absurd cc

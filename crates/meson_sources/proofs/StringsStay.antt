@@ -7,14 +7,14 @@ use Rattle.meson_syntax.specs.declared.operator.Bracket.TheVariants as bracket
 use Rattle.meson_lex.specs.declared.kinds.Kind.TheVariants as k
 use Rattle.meson_syntax.specs.declared.operator.StringKind.{StringKind}
 use Rattle.meson_syntax.specs.Operators.{opens, closes}
-use Rattle.meson_syntax.specs.Tree.{Expression, string, array, call, Listing, listing, Argument, plain, named, pair, Arguments, no_arguments, argument, argument_list}
+use Rattle.meson_syntax.specs.Tree.{Expression, string, array, dictionary, call, Listing, listing, Argument, plain, named, pair, Arguments, no_arguments, argument, argument_list}
 use Rattle.meson_syntax.specs.Grammar.{mark, comma_words, argument_words, arguments_words}
 use Rattle.meson_syntax.specs.Paths.{Sort, of_expression, of_statement, of_block, Node, Hole, all_around, nth, children, argument_children, arguments_children, listing_children, expression_children, list_in, ListIn}
 use Rattle.meson_syntax.specs.Parts.{Any, an_expression, a_statement, a_block, any_of}
 use Rattle.meson_syntax.proofs.paths.Every.{Every, every-append, every-around}
 use Rattle.meson_edit.specs.Edits.{elements}
 
--- the list of an array or a call, and its element of a number
+-- the list of an array, a dictionary or a call, and its element of a number
 abbrev pub list_any : {S : Type 0} → Any S → Option (Listing S)
 list_any (an_expression e) = option_map (λ (l : ListIn _). l.list) (list_in e)
 list_any (a_statement s) = None
@@ -99,6 +99,7 @@ module _ (S : Type 0) where
 
   expressions_stay : (e : Expression S) → Every (StaysAmong of_expression e) (expression_children e)
   expressions_stay (array l) = some_list l bracket.Square [] array (λ z. refl)
+  expressions_stay (dictionary l) = some_list l bracket.Curly [] dictionary (λ z. refl)
   expressions_stay (call s x l) = some_list l bracket.Round ((k.Identifier, x.text) ∷ []) (call s x) (λ z. refl)
   expressions_stay e = no_list of_expression e refl
 

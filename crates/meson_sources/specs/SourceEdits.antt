@@ -53,7 +53,7 @@ is_plain (plain e) = true
 is_plain (named s x e) = false
 is_plain (pair s e f) = false
 
--- the elements of the array or call at a place
+-- the elements of the list at a place
 abbrev pub elements_of : {S : Type 0} → Option (ListIn S) → List (Argument S)
 elements_of None = []
 elements_of (Some l) = elements l.list

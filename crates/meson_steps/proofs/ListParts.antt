@@ -3,7 +3,7 @@ use Rattle.std.proofs.Common.{◌≡◌, ℕ, zero, suc, Bool, true, false, List
 use Rattle.meson_syntax.specs.declared.operator.Bracket.{Bracket}
 use Rattle.meson_syntax.specs.declared.operator.Bracket.TheVariants as bracket
 use Rattle.meson_syntax.specs.Operators.{holds_pairs}
-use Rattle.meson_syntax.specs.Tree.{Expression, array, call, Listing, listing, Argument, plain, named, pair, Arguments, no_arguments, argument, argument_list, File}
+use Rattle.meson_syntax.specs.Tree.{Expression, array, dictionary, call, Listing, listing, Argument, plain, named, pair, Arguments, no_arguments, argument, argument_list, File}
 use Rattle.meson_syntax.specs.Grammar.{LevelArguments, LevelListing, LevelFile}
 use Rattle.meson_syntax.specs.Parts.{an_expression, arguments_parts, expression_parts}
 use Rattle.meson_syntax.specs.Paths.{nth, ListIn, list_in, ListAt, list_at, value_of}
@@ -34,6 +34,7 @@ module _ (S : Type 0) where
       let same = some-injective _ _ is in
       let low = subst (λ (x : ListIn S). LevelListing x.list x.bracket) (sym same) level in
       value_part list bracket.Round false n a v refl low.1 (ap (λ (x : ListIn S). nth (elements x.list) n) same ∙ there) value
+  list_part (dictionary m) l n a v is none level there value = let both : true ≡ false = ap (λ (x : ListIn S). holds_pairs x.bracket) (some-injective _ _ is) ∙ none in absurd cc
   list_part _ l n a v is none level there value = absurd cc
 
   abbrev pub array_in : Listing S → ListIn S

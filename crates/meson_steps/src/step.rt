@@ -25,7 +25,7 @@ pub enum ListEdit {
     Append(Bytes),
 }
 
-/// An edit of the list of the array or call at a place, or of the block there.
+/// An edit of the list of the array, dictionary or call at a place, or of the block there.
 #[derive(Debug, Drop)]
 pub struct ListStep {
     pub list: CallRef,

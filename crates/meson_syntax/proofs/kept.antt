@@ -11,5 +11,11 @@ pub mod Moved
 pub mod Codes
 pub mod Told
 pub mod ToldFiles
+pub mod Texts
+pub mod MovedCodes
+pub mod Views
+pub mod Spelled
+pub mod TokenSlices
+pub mod Spanned
 pub mod EachNothing
 pub mod Kept

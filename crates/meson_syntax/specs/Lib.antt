@@ -29,6 +29,11 @@ pub mod Moves
 pub mod ExchangedTokens
 pub mod MappedPaths
 pub mod Swap
+pub mod MovedCode
+pub mod Furthest
+pub mod Moving
+pub mod Texts
+pub mod Borders
 pub mod KeptLists
 pub mod Kept
 pub mod formers

@@ -165,7 +165,7 @@ expression_at {S} f path = option_and_then (λ h. expression_of S h.sort h.insid
 
 -- ---- lists
 
--- the list of an array or a call: its brackets, the words before it, and the array or call with another list
+-- the list of an array, a dictionary or a call: its brackets, the words before it, and that expression with another list
 pub record ListIn (S : Type 0) : Type 0 where
   pub list : Listing S
   pub bracket : Bracket
@@ -174,10 +174,11 @@ pub record ListIn (S : Type 0) : Type 0 where
 
 abbrev pub list_in : {S : Type 0} → Expression S → Option (ListIn S)
 list_in (array l) = Some (record { list = l; bracket = bracket.Square; ahead = []; back = array })
+list_in (dictionary l) = Some (record { list = l; bracket = bracket.Curly; ahead = []; back = dictionary })
 list_in (call s x l) = Some (record { list = l; bracket = bracket.Round; ahead = (k.Identifier, x.text) ∷ []; back = call s x })
 list_in _ = None
 
--- the list of the array or call that a path names, in its file
+-- the list of the array, dictionary or call that a path names, in its file
 pub record ListAt (S : Type 0) : Type 0 where
   pub list : Listing S
   pub bracket : Bracket

@@ -1,8 +1,9 @@
 //! Laws of build files and their trees. The functions do nothing: what they ensure is the law.
 
+ghost use Rattle.meson_syntax.specs.Borders.{ListsEnd, TreesEnd};
 ghost use Rattle.meson_syntax.specs.Exchange.{ListsExchange, ListsLevel, ListsReadAgain};
 ghost use Rattle.meson_syntax.specs.ExchangeStatements.{AppendedReadAgain, AppendingLevels, RemovalsLevel, RemovalsReadAgain, StatementsCome, StatementsGo};
-ghost use Rattle.meson_syntax.specs.Kept.{FilesMove, ListViewsTell, ListsMove, ViewsTell};
+ghost use Rattle.meson_syntax.specs.Kept.{FilesMove, ListSpannedTexts, ListSpelledTexts, ListViewsMove, ListViewsTell, ListViewsText, ListsMove, SpannedTexts, SpelledTexts, TokensAreSlices, ViewsMove, ViewsTell, ViewsText};
 ghost use Rattle.meson_syntax.specs.KeptLists.{ListsKept, ListsPutErase};
 ghost use Rattle.meson_syntax.specs.Lines.{AppendedWords, CutsAreUtf8, FilesEnd, LinesAreTexts, SpelledReads, StatementsAreTexts, StatementsEnd, StatementsStand};
 ghost use Rattle.meson_syntax.specs.MappedPaths.{ListsMap, NodesMap};
@@ -90,16 +91,37 @@ pub fn swapping()
     ensures lists_swap { ListsSwap }
 {}
 
-/// Where all borders of a tree and of the tokens that spell it move alike, the tokens spell it as before.
+/// Where the borders of a tree and of the tokens that spell it move alike, the tokens spell it as before; and what a tree looks like
+/// once the code's value has its borders moved.
 pub fn moving()
     ensures files_move { FilesMove }
     ensures lists_move { ListsMove }
+    ensures views_move { ViewsMove }
+    ensures list_views_move { ListViewsMove }
 {}
 
-/// Two trees that look alike over one source are the same value, and so are two lists.
+/// Two trees that look alike over one source are the same value, and so are two lists. Over two sources one tree looks alike but
+/// for its texts.
 pub fn views_tell()
     ensures views_tell { ViewsTell }
     ensures list_views_tell { ListViewsTell }
+    ensures views_text { ViewsText }
+    ensures list_views_text { ListViewsText }
+{}
+
+/// A tree that stands in a source has the texts that the source has at its spans.
+pub fn texts()
+    ensures tokens_are_slices { TokensAreSlices }
+    ensures spelled_texts { SpelledTexts }
+    ensures list_spelled_texts { ListSpelledTexts }
+    ensures spanned_texts { SpannedTexts }
+    ensures list_spanned_texts { ListSpannedTexts }
+{}
+
+/// No border of a tree lies behind its text, which ends where the tree does, and none of a list that is read alone.
+pub fn borders()
+    ensures trees_end { TreesEnd }
+    ensures lists_end { ListsEnd }
 {}
 
 /// Where a list's bytes are exchanged for the text of another list, the tree of the new text is the old one, with its borders behind the

@@ -325,12 +325,13 @@ impl<'t> Node<'t> {
     }
 }
 
-/// The list of an array or a call.
+/// The list of an array, a dictionary or a call.
 fn list_of(expr: &Expr) -> Option<&List>
     ensures { (source : Bytes) → option_map (λ l. list_view source l.now) result ≡ option_map (λ l. l.list) (list_in (expr_view source expr.now)) }
 {
     match expr {
         Expr::Array(list) => Some(list),
+        Expr::Dictionary(list) => Some(list),
         Expr::Call {
             span: _,
             name: _,
@@ -366,7 +367,7 @@ impl Parsed {
         }
     }
 
-    /// The list of the array or call that the path names.
+    /// The list of the array, dictionary or call that the path names.
     pub fn list_at(&self, path: &Path) -> Option<&List>
         ensures { (source : Bytes) → option_map (λ l. list_view source l.now) result ≡ option_map (λ p. p.list) (list_at (view source self.now) path.now.steps) }
     {

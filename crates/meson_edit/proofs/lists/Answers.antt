@@ -1,9 +1,21 @@
 -- The laws of edits of lists.
-use Rattle.std.proofs.Common.{ℕ, List, sym, subst}
-use Rattle.meson_edit.specs.Edits.{Edit, First, After, Remove, Replace, Wrap, RemoveStatement, Append}
-use Rattle.meson_edit.specs.Laws.{FirstsSpell, InsertionsSpell, RemovalsSpell, ReplacementsSpell, WrapsSpell, IsEditOf, ListEditsKeep}
-use Rattle.meson_edit.proofs.lists.LaidOut.{Lays, spelled, kept}
+use Rattle.std.proofs.Common.{◌≡◌, ℕ, List, Some, Ok, sym, subst}
+use Rattle.meson_lex.specs.declared.kinds.Span.{Span}
+use Rattle.meson_lex.specs.Items.{Lexeme, IsItemList}
+use Rattle.meson_layout.specs.declared.primitive.Primitive.{Primitive}
+use Rattle.meson_layout.specs.Layout.{layout_of}
+use Rattle.meson_layout.specs.Edited.{patched_by}
+use Rattle.meson_syntax.specs.declared.source.Limits.{Limits}
+use Rattle.meson_syntax.specs.Tree.{Plain, File, erase}
+use Rattle.meson_syntax.specs.Reads.{IsSpannedWithin}
+use Rattle.meson_edit.specs.Places.{primitive_of, Writes}
+use Rattle.meson_edit.proofs.lists.Found.{found}
+use Rattle.meson_edit.specs.Edits.{Edit, First, After, Remove, Replace, Wrap, RemoveStatement, Append, edited, edited_list}
+use Rattle.meson_edit.specs.Laws.{FirstsSpell, InsertionsSpell, RemovalsSpell, ReplacementsSpell, WrapsSpell, IsEditOf, ListEditsWrite}
+use Rattle.meson_edit.specs.Kept.{KeepsIn}
+use Rattle.meson_edit.proofs.lists.LaidOut.{Lays, spelled, written, kept}
 use Rattle.meson_edit.proofs.lists.Elements.{first-lays, after-lays, remove-lays}
+use Rattle.meson_edit.proofs.lists.Others.{stays-before, stays-behind}
 use Rattle.meson_edit.proofs.lists.Values.{replace-lays, wrap-lays}
 
 pub firsts-spell : FirstsSpell
@@ -31,5 +43,14 @@ list-lays (Wrap list n) path is = subst (Lays (Wrap list n)) (sym is) (wrap-lays
 list-lays (RemoveStatement block n) path is = absurd is
 list-lays (Append new) path is = absurd is
 
-pub list-edits-keep : ListEditsKeep
-list-edits-keep e limits bytes f s items are name writes t is path names = kept e path (list-lays e path names) limits bytes f s items are name writes t is
+pub list-edits-write : ListEditsWrite
+list-edits-write e limits bytes f s items are name writes t is path names = written e path (list-lays e path names) limits bytes f s items are name writes t is
+
+-- what an edit of a list keeps
+pub list-edit-keeps : (e : Edit) (limits : Limits) (bytes : List ℕ) (f : File Span) → IsSpannedWithin limits bytes f → (items : List Lexeme) → IsItemList bytes items → (name : List ℕ)
+    → Writes e → (t : Plain) → edited e (erase f) ≡ Some t → (path : List ℕ) → IsEditOf path e → edited_list e path (erase f) ≡ Some t → (primitive : Primitive) → primitive_of f e ≡ Some primitive
+    → (text : List ℕ) → patched_by bytes (layout_of name items primitive) ≡ Ok text → KeepsIn bytes text f items e path
+list-edit-keeps e limits bytes f s items are name writes t is path names there primitive is_primitive text patches =
+    let o = found f e path t there in
+    let k = kept e path (list-lays e path names) limits bytes f s items are name writes t is o.p o.is_p primitive is_primitive text patches in
+    record { p = o.p; is_p = o.is_p; list = k; others = λ m x is_x. (stays-before bytes text items are e o.p k m x is_x, stays-behind bytes text items are e o.p k m x is_x) }

@@ -20,7 +20,7 @@ use Rattle.meson_syntax.specs.Tree.{Nowhere, Plain, Listing, listing, Argument, 
 use Rattle.meson_syntax.specs.Grammar.{argument_words, LevelListing}
 use Rattle.meson_syntax.specs.Reads.{IsSpannedWithin}
 use Rattle.meson_syntax.specs.Paths.{nth, list_span, inner_words}
-use Rattle.meson_syntax.specs.Places.{argument_span, ListStands}
+use Rattle.meson_syntax.specs.Places.{argument_span, ElementStands, ListPlaces}
 use Rattle.meson_syntax.proofs.parsing.Steps.{some-injective}
 use Rattle.meson_syntax.proofs.paths.Reaching.{map-some, list-fits}
 use Rattle.meson_syntax.proofs.places.Standing.{lists-stand}
@@ -35,13 +35,10 @@ use Rattle.meson_edit.proofs.lists.LaidOut.{LaidOut, Lays}
 
 -- the n-th element among the items, cut there
 record ElementIn (f : File Span) (items : List Lexeme) (path : List ℕ) (n : ℕ) (e : Edit) (t : Plain) (o : Found f e path t) (it : Argument Nowhere) : Type 0 where
-  stands : ListStands items o.p
+  places : ListPlaces items o.p
   cut : CutAt o.p.list n it
   is_span : element_span f path n ≡ Some (argument_span cut.at.element)
-  part : PartIn items (list_among items o.p stands) (argument_span cut.at.element)
-  is_left : spoken part.left ≡ cut.at.before
-  is_own : spoken part.own ≡ argument_words cut.at.element
-  is_right : spoken part.right ≡ cut.at.behind
+  part : ElementStands items o.p places.list cut.at
 
 element-in : (limits : Limits) (bytes : List ℕ) (f : File Span) (s : IsSpannedWithin limits bytes f) (path : List ℕ) (n : ℕ) (e : Edit) (t : Plain) (o : Found f e path t)
     → (it : Argument Nowhere) → nth (elements (erase_listing o.p.list)) n ≡ Some it → ElementIn f s.reads.spells.items path n e t o it
@@ -49,16 +46,17 @@ element-in limits bytes f s path n e t o it is =
     let items = s.reads.spells.items in
     let c = cut-at o.p.list n it is in
     let places = lists-stand limits bytes f s path o.p o.is_p in
-    let part = places.elements n c.at c.is_at in
     record {
-      stands = places.list;
+      places = places;
       cut = c;
       is_span = rw (o.is_p, c.there) refl;
-      part = part_among items o.p places.list (argument_span c.at.element) c.at.before (argument_words c.at.element) c.at.behind part;
-      is_left = part.is_left;
-      is_own = part.is_own;
-      is_right = part.is_right;
+      part = places.elements n c.at c.is_at;
     }
+
+-- the element as the layout wants it
+abbrev among : (f : File Span) (items : List Lexeme) (path : List ℕ) (n : ℕ) (e : Edit) (t : Plain) (o : Found f e path t) (it : Argument Nowhere) (v : ElementIn f items path n e t o it)
+    → PartIn items (list_among items o.p v.places.list) (argument_span v.cut.at.element)
+among f items path n e t o it v = let at = v.cut.at in part_among items o.p v.places.list (argument_span at.element) at.before (argument_words at.element) at.behind v.part
 
 -- ---- an element behind another one
 
@@ -80,20 +78,22 @@ after-laid bytes f items are name path n new writes t o it v now =
     let c = v.cut in
     let p = v.part in
     let span = argument_span c.at.element in
-    let l = list_among items o.p v.stands in
+    let l = list_among items o.p v.places.list in
+    let part = among f items path n (After path n new) t o it v in
     let ss = layout_of name items (layout.After span new.bytes) in
-    let law = insertion-law name bytes items are l span p (subst IsBehindElement (sym v.is_right) c.begins) new.bytes writes.items writes.is_new in
-    let words = after-words o.p.list n it c new.node (spoken p.left) (spoken p.own) (spoken writes.items) (spoken p.right) v.is_left v.is_own writes.is_words v.is_right o.list now in
+    let law = insertion-law name bytes items are l span part (subst IsBehindElement (sym p.is_right) c.begins) new.bytes writes.items writes.is_new in
+    let words = after-words o.p.list n it c new.node (spoken p.left) (spoken p.own) (spoken writes.items) (spoken p.right) p.is_left p.is_own writes.is_words p.is_right o.list now in
     record {
       place = o;
-      stands = v.stands;
+      places = v.places;
       primitive = layout.After span new.bytes;
       is_primitive = ap (option_map (λ x. layout.After x new.bytes)) v.is_span;
-      placed = span-there items l span p;
+      placed = span-there items l span part;
       writes = writes.utf8;
       left = p.left ++ p.own;
       right = p.right;
       notes = remarks l.inner;
+      touches = (c.at, c.is_at, p, refl, refl, refl);
       edited = subst (λ ws. Edited bytes items l (p.left ++ p.own) p.right ss ws (remarks l.inner)) words law;
     }
 
@@ -113,22 +113,24 @@ remove-laid bytes f items are name path n t o it v now =
     let c = v.cut in
     let p = v.part in
     let span = argument_span c.at.element in
-    let l = list_among items o.p v.stands in
+    let l = list_among items o.p v.places.list in
+    let part = among f items path n (Remove path n) t o it v in
     let words = inner_words (now_list f (Remove path n) path t o) in
     let gone : IsWithout c.at.before c.at.behind words = subst (λ xs. IsWithout c.at.before c.at.behind (inner_words (with_elements (erase_listing o.p.list) xs))) now c.removed in
     let without : IsWithout (spoken p.left) (spoken p.right) words =
-    subst (λ w. IsWithout w (spoken p.right) words) (sym v.is_left) (subst (λ w. IsWithout c.at.before w words) (sym v.is_right) gone) in
+    subst (λ w. IsWithout w (spoken p.right) words) (sym p.is_left) (subst (λ w. IsWithout c.at.before w words) (sym p.is_right) gone) in
     record {
       place = o;
-      stands = v.stands;
+      places = v.places;
       primitive = layout.Remove span;
       is_primitive = ap (option_map layout.Remove) v.is_span;
-      placed = span-there items l span p;
+      placed = span-there items l span part;
       writes = tt;
       left = p.left;
       right = p.right;
       notes = remarks p.left ++ remarks p.right;
-      edited = removal-law name bytes items are l span p (subst IsBeforeElement (sym v.is_left) c.ends) (subst IsBehindElement (sym v.is_right) c.begins) words without;
+      touches = (c.at, c.is_at, p, refl, refl, refl);
+      edited = removal-law name bytes items are l span part (subst IsBeforeElement (sym p.is_left) c.ends) (subst IsBehindElement (sym p.is_right) c.begins) words without;
     }
 
 pub remove-lays : (path : List ℕ) (n : ℕ) → Lays (Remove path n) path
@@ -170,7 +172,7 @@ first-lays path new limits bytes f s name writes t is =
     let law = first-law name bytes items s.reads.spells.are_items l (stands.is_inner ∙ empty.none) at stands.from new.bytes writes.items writes.is_new in
     record {
       place = o;
-      stands = stands;
+      places = places;
       primitive = layout.First at new.bytes;
       is_primitive = rw o.is_p refl;
       placed = bracket-there items l at stands.from;
@@ -178,5 +180,6 @@ first-lays path new limits bytes f s name writes t is =
       left = [];
       right = l.inner;
       notes = remarks l.inner;
+      touches = (refl, refl, refl);
       edited = subst (λ ws. Edited bytes items l [] l.inner ss ws (remarks l.inner)) (writes.is_words ∙ sym (empty.words level)) law;
     }

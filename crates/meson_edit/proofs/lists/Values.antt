@@ -16,8 +16,8 @@ use Rattle.meson_syntax.specs.declared.source.Limits.{Limits}
 use Rattle.meson_syntax.specs.Tree.{Nowhere, Plain, Expression, Argument, plain, named, pair, File, erase_expression, erase_argument, erase_listing}
 use Rattle.meson_syntax.specs.Grammar.{expression_words, argument_words}
 use Rattle.meson_syntax.specs.Reads.{IsSpannedWithin}
-use Rattle.meson_syntax.specs.Paths.{value_of, words_ahead, inner_words}
-use Rattle.meson_syntax.specs.Places.{expression_span, ListStands}
+use Rattle.meson_syntax.specs.Paths.{ElementAt, element_at, value_of, words_ahead, inner_words}
+use Rattle.meson_syntax.specs.Places.{expression_span, ValueStands, ListPlaces}
 use Rattle.meson_syntax.proofs.parsing.Erased.{expression-words-erased}
 use Rattle.meson_syntax.proofs.places.Standing.{lists-stand}
 use Rattle.meson_edit.specs.Edits.{Written, Edit, Replace, Wrap, elements, with_elements, with_value, array_of}
@@ -48,10 +48,13 @@ array-words v behind = ap (λ w. (k.OpenSquare, []) ∷ ((w ++ (k.CloseSquare, [
 
 -- the value of the n-th element among the items, and the words of the list with another value there
 record ValueAt (f : File Span) (items : List Lexeme) (path : List ℕ) (n : ℕ) (change : Expression Nowhere → Expression Nowhere) (e : Edit) (t : Plain) (o : Found f e path t) : Type 0 where
-  stands : ListStands items o.p
+  places : ListPlaces items o.p
+  at : ElementAt Span
+  is_at : element_at o.p.list n ≡ Some at
   value : Expression Span
+  is_value : value_of at.element ≡ Some value
   is_span : value_span f path n ≡ Some (expression_span value)
-  part : PartIn items (list_among items o.p stands) (expression_span value)
+  part : ValueStands items o.p places.list at value
   ends : IsBeforeValue (spoken part.left)
   begins : IsBehindElement (spoken part.right)
   is_own : spoken part.own ≡ expression_words (erase_expression value)
@@ -76,10 +79,13 @@ value-at limits bytes f s path n change e t o v =
     ap (λ it. argument_words (with_value (change v.value) it)) (sym c.same) ∙ value-words at.element w there.1 (change v.value)
     ∙ ap (λ x. words_ahead at.element ++ expression_words (change x)) (sym there.2) in
     record {
-      stands = places.list;
+      places = places;
+      at = at;
+      is_at = c.is_at;
       value = w;
+      is_value = there.1;
       is_span = rw (o.is_p, c.there, there.1) refl;
-      part = part_among items o.p places.list (expression_span w) (at.before ++ words_ahead at.element) (expression_words w) at.behind part;
+      part = part;
       ends = subst IsBeforeValue (sym part.is_left) (before-value at.element at.before c.ends);
       begins = subst IsBehindElement (sym part.is_right) c.begins;
       is_own = part.is_own ∙ sym (expression-words-erased w);
@@ -90,6 +96,11 @@ value-at limits bytes f s path n change e t o v =
           ∙ ap (λ xs. inner_words (with_elements (erase_listing o.p.list) xs)) v.is_now;
     }
 
+-- the value as the layout wants it
+abbrev among : (f : File Span) (items : List Lexeme) (path : List ℕ) (n : ℕ) (change : Expression Nowhere → Expression Nowhere) (e : Edit) (t : Plain) (o : Found f e path t)
+    → (v : ValueAt f items path n change e t o) → PartIn items (list_among items o.p v.places.list) (expression_span v.value)
+among f items path n change e t o v = part_among items o.p v.places.list (expression_span v.value) (v.at.before ++ words_ahead v.at.element) (expression_words v.value) v.at.behind v.part
+
 -- ---- the edits
 
 pub replace-lays : (path : List ℕ) (n : ℕ) (new : Written (Expression Nowhere)) → Lays (Replace path n new) path
@@ -99,20 +110,22 @@ replace-lays path n new limits bytes f s name writes t is =
     let o = found f e path t is in
     let v = value-at limits bytes f s path n (λ x. new.node) e t o (valued (λ x. new.node) n (elements (erase_listing o.p.list)) o.list o.is_list) in
     let span = expression_span v.value in
-    let l = list_among items o.p v.stands in
+    let l = list_among items o.p v.places.list in
+    let part = among f items path n (λ x. new.node) e t o v in
     let ss = layout_of name items (layout.Replace span new.bytes) in
     let notes = remarks v.part.left ++ remarks v.part.right in
-    let law = replacement-law name bytes items s.reads.spells.are_items l span v.part v.ends v.begins new.bytes writes.items writes.is_new in
+    let law = replacement-law name bytes items s.reads.spells.are_items l span part v.ends v.begins new.bytes writes.items writes.is_new in
     record {
       place = o;
-      stands = v.stands;
+      places = v.places;
       primitive = layout.Replace span new.bytes;
       is_primitive = ap (option_map (λ x. layout.Replace x new.bytes)) v.is_span;
-      placed = span-there items l span v.part;
+      placed = span-there items l span part;
       writes = writes.utf8;
       left = v.part.left;
       right = v.part.right;
       notes = notes;
+      touches = (v.at, v.is_at, v.value, v.is_value, v.part, refl, refl, refl);
       edited = subst (λ ws. Edited bytes items l v.part.left v.part.right ss ws notes) (ap (λ w. spoken v.part.left ++ (w ++ spoken v.part.right)) writes.is_words ∙ v.words) law;
     }
 
@@ -123,20 +136,22 @@ wrap-lays path n limits bytes f s name writes t is =
     let o = found f e path t is in
     let v = value-at limits bytes f s path n array_of e t o (valued array_of n (elements (erase_listing o.p.list)) o.list o.is_list) in
     let span = expression_span v.value in
-    let l = list_among items o.p v.stands in
+    let l = list_among items o.p v.places.list in
+    let part = among f items path n array_of e t o v in
     let ss = layout_of name items (layout.Wrap span) in
-    let law = wrap-law name bytes items s.reads.spells.are_items l span v.part v.ends v.begins in
+    let law = wrap-law name bytes items s.reads.spells.are_items l span part v.ends v.begins in
     let words = ap (λ w. spoken v.part.left ++ ((k.OpenSquare, []) ∷ (w ++ (k.CloseSquare, []) ∷ spoken v.part.right))) v.is_own
     ∙ ap (λ w. spoken v.part.left ++ w) (sym (array-words (erase_expression v.value) (spoken v.part.right))) ∙ v.words in
     record {
       place = o;
-      stands = v.stands;
+      places = v.places;
       primitive = layout.Wrap span;
       is_primitive = ap (option_map layout.Wrap) v.is_span;
-      placed = span-there items l span v.part;
+      placed = span-there items l span part;
       writes = tt;
       left = v.part.left;
       right = v.part.right;
       notes = remarks l.inner;
+      touches = (v.at, v.is_at, v.value, v.is_value, v.part, refl, refl, refl);
       edited = subst (λ ws. Edited bytes items l v.part.left v.part.right ss ws (remarks l.inner)) words law;
     }

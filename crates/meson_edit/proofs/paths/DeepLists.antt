@@ -2,7 +2,7 @@
 use Rattle.std.specs.Prelude.{option_map}
 use Rattle.std.proofs.Common.{◌≡◌, ℕ, ◌+◌, ◌≤◌, List, [], ◌∷◌, Some, subst}
 use Rattle.meson_lex.specs.Significant.{Word}
-use Rattle.meson_syntax.specs.Tree.{Nowhere, Expression, array, call, Listing, Block, File, file}
+use Rattle.meson_syntax.specs.Tree.{Nowhere, Expression, array, dictionary, call, Listing, Block, File, file}
 use Rattle.meson_syntax.specs.Grammar.{expression_depth, listing_depth, file_depth}
 use Rattle.meson_syntax.specs.Paths.{Sort, of_expression, of_statement, of_block, Node, Hole, around, child, reach, ListIn, list_in, ListAt, list_within, list_of_node}
 use Rattle.meson_syntax.proofs.parsing.Steps.{some-injective}
@@ -32,6 +32,7 @@ module _ (S : Type 0) where
 list-in-grows : (e : Expression Nowhere) (l : ListIn Nowhere) → list_in e ≡ Some l → (m : Listing Nowhere) (k : ℕ) → listing_depth m ≤ listing_depth l.list + k
     → expression_depth (l.back m) ≤ expression_depth e + k
 list-in-grows (array l) o is = subst (λ (u : ListIn Nowhere). (m : Listing Nowhere) (k : ℕ) → listing_depth m ≤ listing_depth u.list + k → expression_depth (u.back m) ≤ listing_depth l + k) (some-injective _ _ is) (λ m k g. g)
+list-in-grows (dictionary l) o is = subst (λ (u : ListIn Nowhere). (m : Listing Nowhere) (k : ℕ) → listing_depth m ≤ listing_depth u.list + k → expression_depth (u.back m) ≤ listing_depth l + k) (some-injective _ _ is) (λ m k g. g)
 list-in-grows (call s x l) o is = subst (λ (u : ListIn Nowhere). (m : Listing Nowhere) (k : ℕ) → listing_depth m ≤ listing_depth u.list + k → expression_depth (u.back m) ≤ listing_depth l + k) (some-injective _ _ is) (λ m k g. g)
 list-in-grows _ o is = absurd cc
 

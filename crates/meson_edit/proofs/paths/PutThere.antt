@@ -2,7 +2,7 @@
 use Rattle.std.specs.Prelude.{option_map, option_and_then}
 use Rattle.std.proofs.Common.{◌≡◌, ℕ, List, [], ◌∷◌, Some, refl, ap, subst, ◌∙◌, arith}
 use Rattle.meson_lex.specs.Significant.{Word}
-use Rattle.meson_syntax.specs.Tree.{Nowhere, Expression, array, call, Listing, Block, file}
+use Rattle.meson_syntax.specs.Tree.{Nowhere, Expression, array, dictionary, call, Listing, Block, file}
 use Rattle.meson_syntax.specs.Paths.{Sort, of_expression, of_statement, of_block, Node, Hole, around, children, child, reach, ListIn, list_in, ListAt, list_within, list_of_node}
 use Rattle.meson_syntax.proofs.parsing.Steps.{some-injective}
 use Rattle.meson_syntax.proofs.paths.Reaching.{map-some, and-then-some}
@@ -43,12 +43,13 @@ module _ (S : Type 0) where
 
 -- ---- lists
 
--- the list of an array or a call that has another list
+-- the list of an array, a dictionary or a call that has another list
 abbrev with_list : ListIn Nowhere → Listing Nowhere → ListIn Nowhere
 with_list l m = record { list = m; bracket = l.bracket; ahead = l.ahead; back = l.back }
 
 list-in-stays : (e : Expression Nowhere) (l : ListIn Nowhere) → list_in e ≡ Some l → (m : Listing Nowhere) → list_in (l.back m) ≡ Some (with_list l m)
 list-in-stays (array l) o is m = subst (λ (u : ListIn Nowhere). list_in (u.back m) ≡ Some (with_list u m)) (some-injective _ _ is) refl
+list-in-stays (dictionary l) o is m = subst (λ (u : ListIn Nowhere). list_in (u.back m) ≡ Some (with_list u m)) (some-injective _ _ is) refl
 list-in-stays (call s x l) o is m = subst (λ (u : ListIn Nowhere). list_in (u.back m) ≡ Some (with_list u m)) (some-injective _ _ is) refl
 list-in-stays _ o is m = absurd cc
 

@@ -1,6 +1,6 @@
 -- A list after an edit is no deeper than before by more than what the edit puts in.
 use Rattle.std.specs.Prelude.{max}
-use Rattle.std.proofs.Common.{◌≡◌, ℕ, zero, suc, ◌+◌, ◌≤◌, List, [], ◌∷◌, ◌++◌, take, drop, Some, refl, ap, subst, arith}
+use Rattle.std.proofs.Common.{◌≡◌, ℕ, zero, suc, ◌+◌, ◌≤◌, List, [], ◌∷◌, ◌++◌, take, drop, Some, ap, subst, arith}
 use Rattle.meson_syntax.specs.Tree.{Nowhere, Plain, Expression, Listing, listing, Argument, plain, named, pair, arguments_of}
 use Rattle.meson_syntax.specs.Grammar.{expression_depth, listing_depth, argument_depth, arguments_depth, file_depth}
 use Rattle.meson_syntax.specs.Paths.{nth, value_of}

@@ -3,6 +3,7 @@ use Rattle.std.specs.Prelude.{if◌then◌else◌}
 use Rattle.std.proofs.Common.{◌≡◌, ℕ, zero, suc, Bool, true, false, List, [], ◌∷◌, ◌++◌, take, drop, Some, refl, sym, ap, subst, ◌∙◌}
 use Rattle.meson_syntax.specs.declared.operator.Bracket.{Bracket}
 use Rattle.meson_syntax.specs.declared.operator.Bracket.TheVariants as bracket
+use Rattle.meson_syntax.specs.Operators.{holds_names}
 use Rattle.meson_syntax.specs.Tree.{Nowhere, Plain, Expression, Listing, listing, Argument, plain, named, pair, is_named, arguments_of}
 use Rattle.meson_syntax.specs.Grammar.{LevelExpression, LevelArgument, LevelArguments, LevelListing, LevelFile, Flagged}
 use Rattle.meson_syntax.specs.Paths.{ListAt, list_at, nth, value_of}
@@ -64,16 +65,16 @@ with-another (x ∷ xs) (suc n) it v w b seen is value level l = (l.0, with-anot
 
 -- ---- one element more
 
--- in an array no element has a name
-array-names : (a : Argument Nowhere) (seen : Bool) → LevelArgument a bracket.Square seen → is_named a ≡ false
-array-names (plain e) seen l = refl
-array-names (named s x e) seen l = absurd cc
-array-names (pair s e f) seen l = refl
+-- in an array or a dictionary no element has a name
+no-names : (b : Bracket) → holds_names b ≡ false → (a : Argument Nowhere) (seen : Bool) → LevelArgument a b seen → is_named a ≡ false
+no-names b none (plain e) seen l = refl
+no-names b none (named s x e) seen l = let both : true ≡ false = sym l.0 ∙ none in absurd cc
+no-names b none (pair s e f) seen l = refl
 
 between : (b : Bracket) (x : Argument Nowhere) (behind : Elements) (a : Argument Nowhere) (seen : Bool) → MayFollow b x behind a → LevelArgument x b seen → Levelled behind b (is_named x)
     → LevelArgument a b (is_named x) × Levelled behind b (is_named a)
 between bracket.Square x behind (plain e) seen may l m =
-    let no = array-names x seen l in
+    let no = no-names bracket.Square refl x seen l in
     ((refl, no, may), subst (Levelled behind bracket.Square) no m)
 between bracket.Round x behind (plain e) seen may l m = ((refl, may.0, may.1), subst (Levelled behind bracket.Round) may.0 m)
 between bracket.Round x behind (named s y e) seen may l m = ((refl, may.1), subst (λ ys. Levelled ys bracket.Round true) (sym may.0) tt)
@@ -82,7 +83,8 @@ between bracket.Square x behind (pair s e f) seen may l m = absurd may
 between bracket.Round x behind (pair s e f) seen may l m = absurd may
 between bracket.Curly x behind (plain e) seen may l m = absurd may
 between bracket.Curly x behind (named s y e) seen may l m = absurd may
-between bracket.Curly x behind (pair s e f) seen may l m = absurd may
+between bracket.Curly x behind (pair s e f) seen may l m =
+    ((refl, may.0, may.1), subst (Levelled behind bracket.Curly) (no-names bracket.Curly refl x seen l) m)
 
 with-one : (xs : Elements) (n : ℕ) (it a : Argument Nowhere) (b : Bracket) (seen : Bool) → nth xs n ≡ Some it → MayFollow b it (drop (suc n) xs) a
     → Levelled xs b seen → Levelled (take (suc n) xs ++ a ∷ drop (suc n) xs) b seen

@@ -55,13 +55,13 @@ module _ {S T : Type 0} (h : S → T) where
 
   list-in : (e : Expression S) → InBoth MapsIn (list_in e) (list_in (each_expression h e))
   list-in (array l) = both _ _ (record { list = refl; bracket = refl; ahead = refl; back = λ m. refl })
+  list-in (dictionary l) = both _ _ (record { list = refl; bracket = refl; ahead = refl; back = λ m. refl })
   list-in (call s x l) = both _ _ (record { list = refl; bracket = refl; ahead = refl; back = λ m. refl })
   list-in (identifier s x) = neither
   list-in (boolean s b) = neither
   list-in (integer s x) = neither
   list-in (string s q x) = neither
   list-in (paren s e) = neither
-  list-in (dictionary l) = neither
   list-in (unary s o e) = neither
   list-in (row s e os) = neither
   list-in (postfix s e ts) = neither

@@ -143,7 +143,8 @@ module _ (g : ℕ → ℕ) where
       has_operand os h.1,
       subst (λ n. looseness (moved e) < 2 + n) (rows os) (subst (λ n. n < 2 + row_level os) (loose e) h.2),
       both (expression e d)
-          (subst (λ n. Moves (SpellsOperands os (row_level os) d) (SpellsOperands (each_operands (span_by g) os) n d)) (rows os) (operands os (row_level os) d)) ts h.3,
+          (subst (λ n. Moves (SpellsOperands os (row_level os) d) (SpellsOperands (each_operands (span_by g) os) n d))
+          (rows os) (operands os (row_level os) d)) ts h.3,
     )
     expression (postfix s e tails) d ts h =
         (covers s ts h.0, has_tail tails h.1, subst (λ n. n ≤ 0) (loose e) h.2, both (expression e d) (the_tails tails d) ts h.3)

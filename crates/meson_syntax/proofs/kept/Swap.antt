@@ -5,7 +5,7 @@ use Rattle.meson_lex.specs.declared.kinds.Span.{Span}
 use Rattle.meson_lex.specs.Significant.{Word}
 use Rattle.meson_lex.specs.Located.{Token, words}
 use Rattle.meson_syntax.specs.declared.operator.Bracket.TheVariants as bracket
-use Rattle.meson_syntax.specs.Tree.{Expression, array, call, Block, File, file, erase}
+use Rattle.meson_syntax.specs.Tree.{Expression, array, dictionary, call, Block, File, file, erase}
 use Rattle.meson_syntax.specs.Grammar.{file_depth}
 use Rattle.meson_syntax.specs.Spelling.{Covers, SpellsExpression, SpellsListing, SpellsFile}
 use Rattle.meson_syntax.specs.Paths.{Sort, of_expression, of_statement, of_block, Node, reach, block_of, with_block, ListIn, list_in, list_span, ListAt, list_within, list_of_node}
@@ -40,6 +40,14 @@ list-holds (array m) l d ts is sp = subst (λ l. ListHolds (array m) l d ts) (so
   is_front = refl;
   spelled = sp;
   swap = λ z new ends other room. (omega arith, alone (SpellsListing z bracket.Square d) new (other room));
+})
+list-holds (dictionary m) l d ts is sp = subst (λ l. ListHolds (dictionary m) l d ts) (some-injective _ _ is) (record {
+  front = [];
+  own = ts;
+  parts = whole-part ts;
+  is_front = refl;
+  spelled = sp;
+  swap = λ z new ends other room. (omega arith, alone (SpellsListing z bracket.Curly d) new (other room));
 })
 list-holds (call s x m) l d ts is sp =
     let p = sp.1 in

@@ -3,7 +3,7 @@ use Rattle.std.specs.Prelude.{option_map, option_and_then}
 use Rattle.std.proofs.Common.{◌≡◌, ℕ, ◌≤◌, List, [], ◌∷◌, ◌++◌, Option, Some, None, refl, ap, sym, subst, ◌∙◌, append_assoc, arith}
 use Rattle.std.proofs.lemmas.List.{append-nil}
 use Rattle.meson_lex.specs.Significant.{Word}
-use Rattle.meson_syntax.specs.Tree.{Expression, array, call, Listing, Block, File, file}
+use Rattle.meson_syntax.specs.Tree.{Expression, array, dictionary, call, Listing, Block, File, file}
 use Rattle.meson_syntax.specs.Grammar.{expression_words, listing_words, block_words, file_words, looseness, LevelExpression, LevelListing, LevelBlock, LevelFile}
 use Rattle.meson_syntax.specs.Paths.{Sort, of_expression, of_statement, of_block, Node, node_words, Hole, around, child, reach, block_of, with_block, ListIn, list_in, ListAt, list_within, list_of_node, list_at}
 use Rattle.meson_syntax.proofs.parsing.Steps.{some-injective}
@@ -70,6 +70,7 @@ module _ (S : Type 0) where
 
   list-in-fits : (e : Expression S) (l : ListIn S) → list_in e ≡ Some l → ListInFits e l
   list-in-fits (array l) m is = subst (ListInFits (array l)) (some-injective _ _ is) (record { same = refl; put = λ n. refl; tight = λ n. omega arith; level = λ g. g; outside = λ n g. g })
+  list-in-fits (dictionary l) m is = subst (ListInFits (dictionary l)) (some-injective _ _ is) (record { same = refl; put = λ n. refl; tight = λ n. omega arith; level = λ g. g; outside = λ n g. g })
   list-in-fits (call s x l) m is = subst (ListInFits (call s x l)) (some-injective _ _ is) (record { same = refl; put = λ n. refl; tight = λ n. omega arith; level = λ g. g; outside = λ n g. g })
   list-in-fits _ m is = absurd cc
 

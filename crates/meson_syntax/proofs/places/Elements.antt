@@ -5,7 +5,7 @@ use Rattle.meson_lex.specs.declared.kinds.Span.{Span}
 use Rattle.meson_lex.specs.Located.{Token, words}
 use Rattle.meson_syntax.specs.declared.operator.Bracket.{Bracket}
 use Rattle.meson_syntax.specs.Operators.{opens, closes}
-use Rattle.meson_syntax.specs.Tree.{Expression, array, call, Listing, listing, Argument, is_named, Arguments, no_arguments, argument}
+use Rattle.meson_syntax.specs.Tree.{Expression, array, dictionary, call, Listing, listing, Argument, is_named, Arguments, no_arguments, argument}
 use Rattle.meson_syntax.specs.Grammar.{comma_words, argument_words, arguments_words}
 use Rattle.meson_syntax.specs.Spelling.{Covers, One, SpellsExpression, SpellsListing, SpellsArguments, SpellsArgument}
 use Rattle.meson_syntax.specs.Paths.{ListIn, list_in, list_span, inner_words, ElementAt, elements_at, element_at}
@@ -98,7 +98,7 @@ list-spelled (listing s trailing list) b d ts h =
       elements = λ n e found. every-nth (ElementSpelled b d q.front) (elements_at list trailing) n e (elements-spelled list trailing b false d q.front q.first) found;
     }
 
--- The tokens of the list of an array or call.
+-- The tokens of the list of an array, a dictionary or a call.
 pub record ListInside (l : ListIn Span) (d : ℕ) (ts : List Token) : Type 0 where
   pub front : List Token
   pub own : List Token
@@ -108,6 +108,7 @@ pub record ListInside (l : ListIn Span) (d : ℕ) (ts : List Token) : Type 0 whe
 
 pub list-inside : (x : Expression Span) (l : ListIn Span) (d : ℕ) (ts : List Token) → list_in x ≡ Some l → SpellsExpression x d ts → ListInside l d ts
 list-inside (array m) l d ts h sp = subst (λ l. ListInside l d ts) (some-injective _ _ h) (record { front = []; own = ts; parts = refl; is_front = refl; spelled = sp })
+list-inside (dictionary m) l d ts h sp = subst (λ l. ListInside l d ts) (some-injective _ _ h) (record { front = []; own = ts; parts = refl; is_front = refl; spelled = sp })
 list-inside (call s x m) l d ts h sp =
     let p = sp.1 in
     subst (λ l. ListInside l d ts) (some-injective _ _ h) (record { front = p.front; own = p.back; parts = p.joined; is_front = name-words x p.front p.first; spelled = p.second })

@@ -1,4 +1,4 @@
-use Rattle.meson_edit.proofs.lists.Answers.{firsts-spell, insertions-spell, removals-spell, replacements-spell, wraps-spell, list-edits-keep}
+use Rattle.meson_edit.proofs.lists.Answers.{firsts-spell, insertions-spell, removals-spell, replacements-spell, wraps-spell, list-edits-write}
 use Rattle.meson_edit.proofs.laws.lists.Goals as goal
 
 pub returns : goal.returns
@@ -8,5 +8,5 @@ returns c = record {
   removals = removals-spell;
   replacements = replacements-spell;
   wraps = wraps-spell;
-  keep = list-edits-keep;
+  write = list-edits-write;
 }

@@ -1,5 +1,6 @@
 use Rattle.meson_edit.proofs.paths.PutThere.{lists-stay}
 use Rattle.meson_edit.proofs.paths.DeepLists.{depths-grow}
+use Rattle.meson_edit.proofs.paths.Shallow.{lists-are-shallow}
 use Rattle.meson_edit.proofs.sequences.Deepened.{edits-deepen, edits-deepen-by-one, removals-stay-within, firsts-stay-within, insertions-stay-within}
 use Rattle.meson_edit.proofs.sequences.Levelled.{removals-keep-levels, wraps-keep-levels, replacements-keep-levels, firsts-keep-levels, insertions-keep-levels}
 use Rattle.meson_edit.proofs.laws.sequences.Goals as goal
@@ -8,6 +9,7 @@ pub returns : goal.returns
 returns c = record {
   stay = lists-stay;
   depths = depths-grow;
+  shallow = lists-are-shallow;
   deepen = edits-deepen;
   removals_within = removals-stay-within;
   firsts_within = firsts-stay-within;
