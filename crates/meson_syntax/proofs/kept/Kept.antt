@@ -42,14 +42,15 @@ words-length (t ∷ ts) = let n = words-length ts in omega arith
 same-length : (a b : List Token) → words a ≡ words b → length a ≡ length b
 same-length a b e = sym (words-length a) ∙ ap length e ∙ words-length b
 
-three-ways : (a b c x y z : List Token) → a ++ (b ++ c) ≡ x ++ (y ++ z) → words a ≡ words x → words c ≡ words z → (a ≡ x) × (c ≡ z)
+pub three-ways : (a b c x y z : List Token) → a ++ (b ++ c) ≡ x ++ (y ++ z) → words a ≡ words x → words c ≡ words z → (a ≡ x) × (b ≡ y) × (c ≡ z)
 three-ways a b c x y z e p q =
     let first = same-cut a (b ++ c) x (y ++ z) e (same-length a x p) in
     let n = ap length first.1 in
     let m = same-length c z q in
     let i = length-append b c in
     let j = length-append y z in
-    (first.0, (same-cut b c y z first.1 (omega arith)).1)
+    let second = same-cut b c y z first.1 (omega arith) in
+    (first.0, second.0, second.1)
 
 -- ---- the old tree, moved, with the other list
 
@@ -65,7 +66,7 @@ module _ (g : ℕ → ℕ) (zero_stays : g 0 ≡ 0) (f : File Span) (len new_len
       let ways = three-ways w.front w.own w.back before (tokens_by g own) (tokens_by g behind) cut (w.is_front ∙ sym is-before) (w.is_back ∙ sym (words-moved g behind ∙ is-behind)) in
       subst (λ n. SpellsFile (r.back m) n depth (before ++ (new ++ tokens_by g behind))) is-len
       (subst (λ a. SpellsFile (r.back m) (g len) depth (a ++ (new ++ tokens_by g behind))) ways.0
-      (subst (λ c. SpellsFile (r.back m) (g len) depth (w.front ++ (new ++ c))) ways.1 (w.swap m d new spelled same room)))
+      (subst (λ c. SpellsFile (r.back m) (g len) depth (w.front ++ (new ++ c))) ways.2 (w.swap m d new spelled same room)))
 
 -- ---- spans of lists
 

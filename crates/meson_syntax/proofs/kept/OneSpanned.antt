@@ -1,5 +1,5 @@
 -- A text has one place for each node, whatever limits it is read within.
-use Rattle.std.proofs.Common.{ℕ, ◌≤◌, max, List, [], length, refl, sym, ap, subst, ◌∙◌, arith}
+use Rattle.std.proofs.Common.{◌≡◌, ℕ, ◌≤◌, max, List, [], length, refl, sym, ap, subst, ◌∙◌, arith}
 use Rattle.std.proofs.lemmas.List.{append-nil}
 use Rattle.meson_lex.specs.declared.kinds.Span.{Span}
 use Rattle.meson_lex.specs.Significant.{start}
@@ -44,6 +44,15 @@ one-spanned-within limits others bytes f g p q =
 all-passes : (P : List Token → Type 0) (ts : List Token) → P ts → Passes P (record { last = 0; rest = ts }) (record { last = end_of 0 ts; rest = [] })
 all-passes P ts h = record { used = ts; fits = h; took = record { rest = sym (append-nil ts); last = refl } }
 
+-- tokens spell one list
+pub one-spelled-list : (b : Bracket) (depth : ℕ) (l m : Listing Span) (ts : List Token) → SpellsListing l b depth ts → SpellsListing m b depth ts → l ≡ m
+one-spelled-list b depth l m ts p q =
+    let i : Input = record { last = 0; rest = ts } in
+    let j : Input = record { last = end_of 0 ts; rest = [] } in
+    let first = complete-listed depth l b i j (all-passes (SpellsListing l b depth) ts p) in
+    let second = complete-listed depth m b i j (all-passes (SpellsListing m b depth) ts q) in
+    ap (λ r. r.0) (some-injective (l, j) (m, j) (sym first ∙ second))
+
 list-at-depth : (most : ℕ) (b : Bracket) (bytes : List ℕ) (l : Listing Span) (s : IsSpannedListWithin most b bytes l) (depth : ℕ) → most ≤ depth
     → SpellsListing l b depth (spots start 0 0 (list_items s.reads.text))
 list-at-depth most b bytes l s depth h =
@@ -59,8 +68,4 @@ one-spanned-list b bytes most other l m p q =
     let ts = spots start 0 0 items in
     let same = one_list bytes others items q.reads.text.are_items p.reads.text.are_items in
     let stands : SpellsListing m b depth ts = subst (λ xs. SpellsListing m b depth (spots start 0 0 xs)) same (list-at-depth other b bytes m q depth (omega arith)) in
-    let i : Input = record { last = 0; rest = ts } in
-    let j : Input = record { last = end_of 0 ts; rest = [] } in
-    let first = complete-listed depth l b i j (all-passes (SpellsListing l b depth) ts (list-at-depth most b bytes l p depth (omega arith))) in
-    let second = complete-listed depth m b i j (all-passes (SpellsListing m b depth) ts stands) in
-    ap (λ r. r.0) (some-injective (l, j) (m, j) (sym first ∙ second))
+    one-spelled-list b depth l m ts (list-at-depth most b bytes l p depth (omega arith)) stands
