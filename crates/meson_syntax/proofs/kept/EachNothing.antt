@@ -31,7 +31,9 @@ module _ {S : Type 0} where
     expression-nothing (unary s o e) = ap (unary tt o) (expression-nothing e)
     expression-nothing (row s e os) = ap₂ (row tt) (expression-nothing e) (operands-nothing os)
     expression-nothing (postfix s e ts) = ap₂ (postfix tt) (expression-nothing e) (tails-nothing ts)
-    expression-nothing (conditional s c y n) = ap₂ (λ c y. conditional tt c y (each_expression nothing n)) (expression-nothing c) (expression-nothing y) ∙ ap (conditional tt (erase_expression c) (erase_expression y)) (expression-nothing n)
+    expression-nothing (conditional s c y n) =
+        ap₂ (λ c y. conditional tt c y (each_expression nothing n)) (expression-nothing c) (expression-nothing y)
+        ∙ ap (conditional tt (erase_expression c) (erase_expression y)) (expression-nothing n)
 
     operands-nothing : (os : Operands S) → each_operands nothing os ≡ erase_operands os
     operands-nothing no_operands = refl
@@ -63,14 +65,16 @@ module _ {S : Type 0} where
     statement-nothing (assign s x a e) = ap (assign tt (erase_name x) a) (expression-nothing e)
     statement-nothing (selection s bs o) = ap₂ (selection tt) (branches-nothing bs) (otherwise-nothing o)
     statement-nothing (iteration s xs e b) =
-        ap₂ (λ x e. iteration tt x e (each_block nothing b)) (names-nothing xs) (expression-nothing e) ∙ ap (iteration tt (erase_names xs) (erase_expression e)) (block-nothing b)
+        ap₂ (λ x e. iteration tt x e (each_block nothing b)) (names-nothing xs) (expression-nothing e)
+        ∙ ap (iteration tt (erase_names xs) (erase_expression e)) (block-nothing b)
     statement-nothing (breaks s) = refl
     statement-nothing (continues s) = refl
 
     branches-nothing : (bs : Branches S) → each_branches nothing bs ≡ erase_branches bs
     branches-nothing no_branches = refl
     branches-nothing (branch e b more) =
-        ap₂ (λ e b. branch e b (each_branches nothing more)) (expression-nothing e) (block-nothing b) ∙ ap (branch (erase_expression e) (erase_block b)) (branches-nothing more)
+        ap₂ (λ e b. branch e b (each_branches nothing more)) (expression-nothing e) (block-nothing b)
+        ∙ ap (branch (erase_expression e) (erase_block b)) (branches-nothing more)
 
     otherwise-nothing : (o : Otherwise S) → each_otherwise nothing o ≡ erase_otherwise o
     otherwise-nothing nothing_else = refl
@@ -89,6 +93,7 @@ module _ {S : Type 0} where
 pub lists-put-erase : ListsPutErase
 lists-put-erase h f path r is-r q is-q l =
     let g = each_file h f in
-    let found = subst (λ t. InBoth (MapsList (nothing {S = Span})) (list_at g path) (list_at t path)) (file-nothing g ∙ file-each h f) (lists-map nothing g path) in
+    let found = subst (λ t. InBoth (MapsList (nothing {S = Span})) (list_at g path) (list_at t path)) (file-nothing g ∙ file-each h f)
+    (lists-map nothing g path) in
     let m = in-both (list_at g path) (list_at (erase f) path) found r q is-r is-q in
     sym (file-nothing (r.back l)) ∙ sym (m.back l) ∙ ap q.back (listing-nothing l)

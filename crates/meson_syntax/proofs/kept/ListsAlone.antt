@@ -1,23 +1,20 @@
 -- A list of a tree is the list that its own bytes are, moved to its place.
 use Rattle.std.specs.Str.{IsUtf8}
-use Rattle.std.proofs.Common.{◌≡◌, ℕ, ◌+◌, ◌-◌, ◌≤◌, List, [], ◌∷◌, ◌++◌, length, Some, refl, sym, ap, ap₂, subst, ◌∙◌, length-append, arith}
+use Rattle.std.proofs.Common.{◌≡◌, ℕ, ◌+◌, ◌-◌, ◌≤◌, List, [], ◌∷◌, ◌++◌, length, refl, sym, ap, ap₂, subst, ◌∙◌, length-append, arith}
 use Rattle.std.proofs.lemmas.List.{append_cancel_left, append_cancel_right}
 use Rattle.meson_lex.specs.declared.kinds.Span.{Span}
 use Rattle.meson_lex.specs.Items.{Lexeme, joined, AreItems, IsItemList}
 use Rattle.meson_lex.specs.Significant.{Word, start, after, emitted, closing}
-use Rattle.meson_lex.specs.Located.{Token, words, spots, located}
+use Rattle.meson_lex.specs.Located.{Token, spots, located}
 use Rattle.meson_lex.proofs.Seams.{AreItems-split}
 use Rattle.meson_lex.proofs.TokenWords.{words-spots}
-use Rattle.meson_syntax.specs.declared.operator.Bracket.{Bracket}
-use Rattle.meson_syntax.specs.declared.source.Limits.{Limits}
-use Rattle.meson_syntax.specs.Tree.{Listing, File, erase_listing}
+use Rattle.meson_syntax.specs.Tree.{erase_listing}
 use Rattle.meson_syntax.specs.Grammar.{listing_depth}
 use Rattle.meson_syntax.specs.Spelling.{SpellsListing}
-use Rattle.meson_syntax.specs.Paths.{ListAt, list_at, list_span, inner_words}
+use Rattle.meson_syntax.specs.Paths.{ListAt, list_span, inner_words}
 use Rattle.meson_syntax.specs.Places.{ListStands}
 use Rattle.meson_syntax.specs.Exchange.{IsListText}
-use Rattle.meson_syntax.specs.Moves.{each_listing, span_by, token_by, tokens_by}
-use Rattle.meson_syntax.specs.Reads.{IsSpannedWithin}
+use Rattle.meson_syntax.specs.Moves.{each_listing, span_by, tokens_by}
 use Rattle.meson_syntax.specs.ReadsList.{ReadsListWithin}
 use Rattle.meson_syntax.specs.ExchangedTokens.{list_tokens}
 use Rattle.meson_syntax.specs.KeptLists.{ListsAlone}
@@ -51,11 +48,13 @@ same-middle : (a b c x y z : List ℕ) → a ++ (b ++ c) ≡ x ++ (y ++ z) → a
 same-middle a b c x y z e p q =
     append_cancel_right b y z (append_cancel_left x (b ++ z) (y ++ z) (sym (ap₂ (λ u v. u ++ (b ++ v)) p q) ∙ e))
 
-own-text : (bytes : List ℕ) (items : List Lexeme) (are : IsItemList bytes items) (p : ListAt Span) (at : ListStands items p) (was : List ℕ) → joined (listed at.open_item at.inner at.close_item []) ≡ was
+own-text : (bytes : List ℕ) (items : List Lexeme) (are : IsItemList bytes items) (p : ListAt Span) (at : ListStands items p) (was : List ℕ)
+    → joined (listed at.open_item at.inner at.close_item []) ≡ was
     → (w : List Word) → inner_words p.list ≡ w → IsListText was p.bracket w
 own-text bytes items are p at was joins w is-w =
     let own = listed at.open_item at.inner at.close_item [] in
-    let all : AreItems (at.left ++ (own ++ at.right)) [] = subst (λ xs. AreItems xs []) (at.parts ∙ ap (λ l. at.left ++ l) (own-first at.open_item at.inner at.close_item at.right)) are.each in
+    let all : AreItems (at.left ++ (own ++ at.right)) [] = subst (λ xs. AreItems xs [])
+    (at.parts ∙ ap (λ l. at.left ++ l) (own-first at.open_item at.inner at.close_item at.right)) are.each in
     let each = (AreItems-split own at.right [] (AreItems-split at.left (own ++ at.right) [] all).1).0 in
     record {
       open_item = at.open_item;
@@ -67,7 +66,8 @@ own-text bytes items are p at was joins w is-w =
       is_inner = at.is_inner ∙ is-w;
     }
 
-own-utf8 : (bytes : List ℕ) (items : List Lexeme) (are : IsItemList bytes items) (p : ListAt Span) (at : ListStands items p) → IsUtf8 bytes → IsUtf8 (joined (listed at.open_item at.inner at.close_item []))
+own-utf8 : (bytes : List ℕ) (items : List Lexeme) (are : IsItemList bytes items) (p : ListAt Span) (at : ListStands items p) → IsUtf8 bytes
+    → IsUtf8 (joined (listed at.open_item at.inner at.close_item []))
 own-utf8 bytes items are p at u =
     let own = listed at.open_item at.inner at.close_item [] in
     let parts : items ≡ at.left ++ (own ++ at.right) = at.parts ∙ ap (λ l. at.left ++ l) (own-first at.open_item at.inner at.close_item at.right) in
@@ -89,12 +89,16 @@ lists-alone limits bytes f s path p is front was back parts from to depth room =
     (sym (joined-list at.left at.open_item at.inner at.close_item at.right) ∙ ap joined (sym at.parts) ∙ are.joins ∙ parts) (sym cut.0) (sym cut.1) in
     let n0 = length-append front was in
     let plain_words = inner_words (erase_listing p.list) in
-    let x = tokens-move bytes items are p at (erase_listing p.list) was (own-text bytes items are p at was joins plain_words (sym (inner-erased p.list))) (length was) (omega arith) in
+    let x = tokens-move bytes items are p at (erase_listing p.list) was (own-text bytes items are p at was joins plain_words (sym (inner-erased p.list)))
+    (length was) (omega arith) in
     let w = lists-swap f path p is (length bytes) limits.depth (located items) s.stands in
-    let ways = three-ways w.front w.own w.back (spots start 0 0 at.left) (list_tokens (list_span p.list).from at.open_item at.inner at.close_item) x.behind (sym w.parts ∙ ap located at.parts ∙ x.old)
+    let ways = three-ways w.front w.own w.back (spots start 0 0 at.left) (list_tokens (list_span p.list).from at.open_item at.inner at.close_item) x.behind
+    (sym w.parts ∙ ap located at.parts ∙ x.old)
     (w.is_front ∙ sym (words-spots at.left start 0 0 ∙ at.is_left))
-    (w.is_back ∙ sym (x.is_behind ∙ ap (λ xs. emitted (after start (at.left ++ own)) at.right ++ closing (after start xs).fresh) (sym at.parts) ∙ at.is_right)) in
-    let here = subst (λ k. SpellsListing p.list p.bracket w.inner (tokens_by (λ n. n + k) ts)) (sym from) (subst (SpellsListing p.list p.bracket w.inner) ways.1 w.spelled) in
+    (w.is_back ∙ sym (x.is_behind ∙ ap (λ xs. emitted (after start (at.left ++ own)) at.right ++ closing (after start xs).fresh) (sym at.parts)
+    ∙ at.is_right)) in
+    let here = subst (λ k. SpellsListing p.list p.bracket w.inner (tokens_by (λ n. n + k) ts)) (sym from)
+    (subst (SpellsListing p.list p.bracket w.inner) ways.1 w.spelled) in
     let l = each_listing (span_by (λ n. n - length front)) p.list in
     let alone = subst (SpellsListing l p.bracket w.inner) (forth-and-back (length front) ts)
     (lists-move (λ n. n - length front) p.list p.bracket w.inner (tokens_by (λ n. n + length front) ts) here) in
@@ -106,8 +110,7 @@ lists-alone limits bytes f s path p is front was back parts from to depth room =
       text = own-text bytes items are p at was joins (inner_words (erase_listing l)) (sym (inner-erased p.list) ∙ ap inner_words (sym bare));
       level = subst (λ A. A) (sym (listing-level-erased l p.bracket)) (listing-level l p.bracket w.inner ts alone).0;
       depth = deep;
-    } in
-    (
+    } in (
       l,
       record { reads = reads; stands = listing_in l p.bracket w.inner depth ts alone (subst (λ n. n ≤ depth) (listing-depth-erased l) deep) },
       one-spelled-list p.bracket w.inner (each_listing (span_by (λ n. n + length front)) l) p.list (tokens_by (λ n. n + length front) ts) again here,

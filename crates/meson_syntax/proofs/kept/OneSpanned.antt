@@ -24,7 +24,8 @@ use Rattle.meson_syntax.proofs.kept.WithinFiles.{file_in}
 -- ---- files
 
 -- what is read within limits is spelled at any depth that is no less
-at-depth : (limits : Limits) (bytes : List ℕ) (f : File Span) (s : IsSpannedWithin limits bytes f) (depth : ℕ) → limits.depth ≤ depth → SpellsFile f (length bytes) depth (located s.reads.spells.items)
+at-depth : (limits : Limits) (bytes : List ℕ) (f : File Span) (s : IsSpannedWithin limits bytes f) (depth : ℕ) → limits.depth ≤ depth
+    → SpellsFile f (length bytes) depth (located s.reads.spells.items)
 at-depth limits bytes f s depth h =
     let n = file-depth-erased f in
     let room = s.reads.depth in
@@ -36,8 +37,10 @@ one-spanned-within limits others bytes f g p q =
     let depth = max limits.depth others.depth in
     let items = p.reads.spells.items in
     let same = one_list bytes q.reads.spells.items items q.reads.spells.are_items p.reads.spells.are_items in
-    let stands : SpellsFile g len depth (located items) = subst (λ xs. SpellsFile g len depth (located xs)) same (at-depth others bytes g q depth (omega arith)) in
-    some-injective _ _ (sym (whole-complete depth len (located items) f (at-depth limits bytes f p depth (omega arith))) ∙ whole-complete depth len (located items) g stands)
+    let stands : SpellsFile g len depth (located items) = subst (λ xs. SpellsFile g len depth (located xs)) same
+    (at-depth others bytes g q depth (omega arith)) in
+    some-injective _ _ (sym (whole-complete depth len (located items) f (at-depth limits bytes f p depth (omega arith)))
+    ∙ whole-complete depth len (located items) g stands)
 
 -- ---- lists
 
@@ -67,5 +70,6 @@ one-spanned-list b bytes most other l m p q =
     let others = list_items q.reads.text in
     let ts = spots start 0 0 items in
     let same = one_list bytes others items q.reads.text.are_items p.reads.text.are_items in
-    let stands : SpellsListing m b depth ts = subst (λ xs. SpellsListing m b depth (spots start 0 0 xs)) same (list-at-depth other b bytes m q depth (omega arith)) in
+    let stands : SpellsListing m b depth ts = subst (λ xs. SpellsListing m b depth (spots start 0 0 xs)) same
+    (list-at-depth other b bytes m q depth (omega arith)) in
     one-spelled-list b depth l m ts (list-at-depth most b bytes l p depth (omega arith)) stands

@@ -46,7 +46,8 @@ on-carries end was now q h n k a b =
     let two = moved-on end was now n (omega arith) in
     omega arith
 
-still-spots : (end was now : ℕ) (s : State) (left : List Lexeme) → length (joined left) < end → tokens_by (moved end was now) (spots s 0 0 left) ≡ spots s 0 0 left
+still-spots : (end was now : ℕ) (s : State) (left : List Lexeme) → length (joined left) < end
+    → tokens_by (moved end was now) (spots s 0 0 left) ≡ spots s 0 0 left
 still-spots end was now s left h =
     let zero_still = moved-still end was now 0 (omega arith) in
     sym (spots-moved (moved end was now) s 0 0 (length (joined left)) left (still-carries end was now (length (joined left)) h) (omega arith))
@@ -55,7 +56,8 @@ still-spots end was now s left h =
 -- ---- the tokens of a list
 
 module _ (o c : Lexeme) (inner : List Lexeme) (is-o : role o.kind ≡ Opens) (is-c : role c.kind ≡ Closes) (flat : nest 0 (spoken inner) ≡ Some 0) where
-  first-spots : (s : State) (e p : ℕ) (rest : List Lexeme) → spots s e p (o ∷ rest) ≡ token_at o p ∷ spots (step_by Opens s) (p + length o.text) (p + length o.text) rest
+  first-spots : (s : State) (e p : ℕ) (rest : List Lexeme)
+      → spots s e p (o ∷ rest) ≡ token_at o p ∷ spots (step_by Opens s) (p + length o.text) (p + length o.text) rest
   first-spots s e p rest = ap (λ (r : Role). spot_by r s o e p ++ spots (step_by r s) (end_by r o e p) (p + length o.text) rest) is-o
 
   last-spots : (s : State) (e p : ℕ) → spots s e p (c ∷ []) ≡ token_at c p ∷ []
@@ -72,7 +74,8 @@ module _ (o c : Lexeme) (inner : List Lexeme) (is-o : role o.kind ≡ Opens) (is
       first-spots s e p (inner ++ c ∷ [])
       ∙ ap (λ ts. token_at o p ∷ ts)
       (spots-append one q q inner (c ∷ [])
-      ∙ ap₂ (λ a b. a ++ b) (inside-spots inner s.depth 0 q q one two refl refl flat) (last-spots (after one inner) here end ∙ sym (last-spots (after two inner) here end))
+      ∙ ap₂ (λ a b. a ++ b) (inside-spots inner s.depth 0 q q one two refl refl flat)
+      (last-spots (after one inner) here end ∙ sym (last-spots (after two inner) here end))
       ∙ sym (spots-append two q q inner (c ∷ [])))
       ∙ sym (first-spots start p p (inner ++ c ∷ []))
 
@@ -89,7 +92,8 @@ module _ (o c : Lexeme) (inner : List Lexeme) (is-o : role o.kind ≡ Opens) (is
 abbrev rest_tokens : State → ℕ → List Lexeme → List Token
 rest_tokens s n right = spots s n n right ++ closing_at (after s right).fresh (end_after n n right)
 
-rest-moved : (g : ℕ → ℕ) (s : State) (n q : ℕ) (right : List Lexeme) → Carries g n q → n + length (joined right) ≤ q → rest_tokens s (g n) right ≡ tokens_by g (rest_tokens s n right)
+rest-moved : (g : ℕ → ℕ) (s : State) (n q : ℕ) (right : List Lexeme) → Carries g n q → n + length (joined right) ≤ q
+    → rest_tokens s (g n) right ≡ tokens_by g (rest_tokens s n right)
 rest-moved g s n q right carries inside =
     ap₂ (λ a b. a ++ b) (spots-moved g s n n q right carries inside)
     (ap (closing_at (after s right).fresh) (end_after-moved g n n q right carries inside) ∙ closing-moved g (after s right).fresh (end_after n n right))
@@ -97,22 +101,24 @@ rest-moved g s n q right carries inside =
 
 rest-words : (s : State) (n : ℕ) (right : List Lexeme) → words (rest_tokens s n right) ≡ emitted s right ++ closing (after s right).fresh
 rest-words s n right =
-    words-append (spots s n n right) (closing_at (after s right).fresh (end_after n n right)) ∙ ap₂ (λ a b. a ++ b) (words-spots right s n n) (closing-words (after s right).fresh (end_after n n right))
+    words-append (spots s n n right) (closing_at (after s right).fresh (end_after n n right))
+    ∙ ap₂ (λ a b. a ++ b) (words-spots right s n n) (closing-words (after s right).fresh (end_after n n right))
 
 -- ---- a list among the items of a text
 
 four : {A : Type 0} (a b r z : List A) → (a ++ (b ++ r)) ++ z ≡ a ++ (b ++ (r ++ z))
 four a b r z = simp append_assoc
 
-module _ (κ ι : Kind) (begins : IsBracket κ Opens) (ends : IsBracket ι Closes) (left right : List Lexeme) (o c : Lexeme) (inner : List Lexeme) (is-o : o.kind ≡ κ) (is-c : c.kind ≡ ι)
-    (flat : nest 0 (spoken inner) ≡ Some 0) where
+module _ (κ ι : Kind) (begins : IsBracket κ Opens) (ends : IsBracket ι Closes) (left right : List Lexeme) (o c : Lexeme) (inner : List Lexeme)
+    (is-o : o.kind ≡ κ) (is-c : c.kind ≡ ι) (flat : nest 0 (spoken inner) ≡ Some 0) where
   opens-here : role o.kind ≡ Opens
   opens-here = ap role is-o ∙ begins.is_role
 
   closes-here : role c.kind ≡ Closes
   closes-here = ap role is-c ∙ ends.is_role
 
-  list-spots : (s : State) (e p end : ℕ) → end ≡ p + length (joined (listed o inner c [])) → spots s e p (listed o inner c right) ≡ list_tokens p o inner c ++ spots (behind s) end end right
+  list-spots : (s : State) (e p end : ℕ) → end ≡ p + length (joined (listed o inner c []))
+      → spots s e p (listed o inner c right) ≡ list_tokens p o inner c ++ spots (behind s) end end right
   list-spots s e p end is =
       let own = listed o inner c [] in
       let last : end_after e p own ≡ end = own-end o c inner opens-here closes-here flat e p ∙ sym is in
@@ -134,8 +140,10 @@ module _ (κ ι : Kind) (begins : IsBracket κ Opens) (ends : IsBracket ι Close
   behind-state rest = after-append start left (listed o inner c rest) ∙ list-after κ ι begins ends inner o c is-o is-c flat (after start left) rest
 
   pub list-behind : (n : ℕ)
-      → words (rest_tokens (behind (after start left)) n right) ≡ emitted (after start (left ++ listed o inner c [])) right ++ closing (after start (left ++ listed o inner c right)).fresh
-  list-behind n = rest-words (behind (after start left)) n right ∙ sym (ap₂ (λ (a z : State). emitted a right ++ closing z.fresh) (behind-state []) (behind-state right))
+      → words (rest_tokens (behind (after start left)) n right)
+      ≡ emitted (after start (left ++ listed o inner c [])) right ++ closing (after start (left ++ listed o inner c right)).fresh
+  list-behind n =
+      rest-words (behind (after start left)) n right ∙ sym (ap₂ (λ (a z : State). emitted a right ++ closing z.fresh) (behind-state []) (behind-state right))
 
   pub list-located : (from end : ℕ) → from ≡ length (joined left) → end ≡ from + length (joined (listed o inner c []))
       → located (left ++ listed o inner c right) ≡ spots start 0 0 left ++ (list_tokens from o inner c ++ rest_tokens (behind (after start left)) end right)
@@ -144,16 +152,20 @@ module _ (κ ι : Kind) (begins : IsBracket κ Opens) (ends : IsBracket ι Close
       let e = end_after 0 0 left in
       let all = listed o inner c right in
       let here : 0 + length (joined left) ≡ from = omega arith in
-      let told = spots-append start 0 0 left all ∙ ap (λ n. spots start 0 0 left ++ spots s e n all) here ∙ ap (λ ts. spots start 0 0 left ++ ts) (list-spots s e from end is-end) in
+      let told = spots-append start 0 0 left all ∙ ap (λ n. spots start 0 0 left ++ spots s e n all) here
+      ∙ ap (λ ts. spots start 0 0 left ++ ts) (list-spots s e from end is-end) in
       let last = end_after-append 0 0 left all ∙ ap (λ n. end_after e n all) here ∙ list-end e from end is-end in
       ap₂ (λ a b. a ++ b) told (ap₂ (λ (z : State) (n : ℕ). closing_at z.fresh n) (behind-state right) last)
-      ∙ four (spots start 0 0 left) (list_tokens from o inner c) (spots (behind s) end end right) (closing_at (after (behind s) right).fresh (end_after end end right))
+      ∙ four (spots start 0 0 left) (list_tokens from o inner c) (spots (behind s) end end right)
+      (closing_at (after (behind s) right).fresh (end_after end end right))
 
 -- ---- one list for another
 
-module _ (b : Bracket) (left right : List Lexeme) (o c : Lexeme) (inner : List Lexeme) (is-o : o.kind ≡ opens b) (is-c : c.kind ≡ closes b) (flat : nest 0 (spoken inner) ≡ Some 0)
-    (q d : Lexeme) (other : List Lexeme) (is-q : q.kind ≡ opens b) (is-d : d.kind ≡ closes b) (other-flat : nest 0 (spoken other) ≡ Some 0) where
-  pub exchanged : (from end was now : ℕ) → from ≡ length (joined left) → was ≡ length (joined (listed o inner c [])) → now ≡ length (joined (listed q other d [])) → end ≡ from + was → 1 ≤ was
+module _ (b : Bracket) (left right : List Lexeme) (o c : Lexeme) (inner : List Lexeme) (is-o : o.kind ≡ opens b) (is-c : c.kind ≡ closes b)
+    (flat : nest 0 (spoken inner) ≡ Some 0) (q d : Lexeme) (other : List Lexeme) (is-q : q.kind ≡ opens b) (is-d : d.kind ≡ closes b)
+    (other-flat : nest 0 (spoken other) ≡ Some 0) where
+  pub exchanged : (from end was now : ℕ) → from ≡ length (joined left) → was ≡ length (joined (listed o inner c []))
+      → now ≡ length (joined (listed q other d [])) → end ≡ from + was → 1 ≤ was
       → TokensExchanged left right o c inner q d other from (moved end was now)
   exchanged from end was now is-from is-was is-now is-end some =
       let g = moved end was now in
@@ -172,7 +184,8 @@ module _ (b : Bracket) (left right : List Lexeme) (o c : Lexeme) (inner : List L
       }
 
 -- an opening bracket is one byte long
-pub open-long : (b : Bracket) (left right inner : List Lexeme) (o c : Lexeme) → o.kind ≡ opens b → AreItems (left ++ listed o inner c right) [] → 1 ≤ length (joined (listed o inner c []))
+pub open-long : (b : Bracket) (left right inner : List Lexeme) (o c : Lexeme) → o.kind ≡ opens b → AreItems (left ++ listed o inner c right) []
+    → 1 ≤ length (joined (listed o inner c []))
 open-long b left right inner o c is h =
     let first = open-bracket b in
     let here = (AreItems-split left (listed o inner c right) [] h).1.0 in
