@@ -5,7 +5,7 @@ use Rattle.meson_calls.specs.Loading.{Loaded}
 use Rattle.meson_plan.specs.Performing.{MayRefuse, Performs}
 use Rattle.meson_steps.specs.OtherValues.{with_some}
 use Rattle.meson_plan.proofs.Performed.{may_refuse, performed}
-use Rattle.meson_plan.proofs.SplicesDone.{performs-patch, performs-text}
+use Rattle.meson_plan.proofs.SplicesDone.{performs-keep, performs-patch, performs-text}
 use Rattle.meson_plan.proofs.project.Project.perform.Goals as goal
 
 pub returns-in-Err-clause-refused : goal.returns-in-Err-clause-refused
@@ -27,6 +27,9 @@ returns-clause-done c =
     subst (λ l. Performs l k done (record { files = work.files; parsed = c.put_trees.new.trees.items })) is
     (subst (λ ts. Performs old k done (record { files = work.files; parsed = ts })) put
     (performed old k work c.in-Ok.ensures.done done (ap (λ x. x.splices) c.untitled.ensures ∙ c.of.ensures) (ap (λ x. x.title) c.untitled.ensures) refl))
+
+pub returns-clause-untouched : goal.returns-clause-untouched
+returns-clause-untouched c = performs-keep _ _ _ _ (returns-clause-done c)
 
 pub returns-clause-patched : goal.returns-clause-patched
 returns-clause-patched c = performs-patch _ _ _ _ (returns-clause-done c)
