@@ -27,6 +27,11 @@ pub in-both : {A B : Type 0} {R : A → B → Type 0} (o : Option A) (u : Option
 in-both {R} o u neither x y p q = absurd cc
 in-both {R} o u (both a b m) x y p q = subst (λ z. R z y) (some-injective a x p) (subst (R a) (some-injective b y q) m)
 
+-- what is there in the one is there in the other
+pub in-other : {A B : Type 0} {R : A → B → Type 0} (o : Option A) (u : Option B) → InBoth R o u → (x : A) → o ≡ Some x → (y : B) × (u ≡ Some y) × R x y
+in-other {R} o u neither x p = absurd cc
+in-other {R} o u (both a b m) x p = (b, refl, subst (λ z. R z b) (some-injective a x p) m)
+
 module _ {S T : Type 0} (h : S → T) where
   -- ---- nodes
 

@@ -1,6 +1,6 @@
 -- A tree without its spans is the tree with each of them mapped to nothing.
 use Rattle.std.specs.Prelude.{map}
-use Rattle.std.proofs.Common.{◌≡◌, List, [], ◌∷◌, refl, sym, ap, ap₂, subst, ◌∙◌}
+use Rattle.std.proofs.Common.{◌≡◌, ℕ, List, [], ◌∷◌, refl, sym, ap, ap₂, subst, ◌∙◌}
 use Rattle.meson_lex.specs.declared.kinds.Span.{Span}
 use Rattle.meson_syntax.specs.Tree.{Name, Nowhere, Expression, identifier, boolean, integer, string, paren, array, dictionary, call, unary, row, postfix, conditional, Operands, no_operands, operand, Tail, method, index, Tails, no_tails, tail, Listing, listing, Argument, plain, named, pair, Arguments, no_arguments, argument, Statement, evaluate, assign, selection, iteration, breaks, continues, Branches, no_branches, branch, Otherwise, nothing_else, otherwise, Statements, no_statements, statement, Block, block, File, file, bare, erase, erase_name, erase_names, erase_expression, erase_operands, erase_tail, erase_tails, erase_listing, erase_argument, erase_arguments, erase_statement, erase_branches, erase_otherwise, erase_statements, erase_block}
 use Rattle.meson_syntax.specs.Paths.{list_at}
@@ -11,7 +11,7 @@ use Rattle.meson_syntax.proofs.kept.EachErased.{file-each}
 use Rattle.meson_syntax.proofs.kept.Each.{in-both, lists-map}
 
 module _ {S : Type 0} where
-  abbrev nothing : S → Nowhere
+  abbrev pub nothing : S → Nowhere
   nothing s = tt
 
   names-nothing : (xs : List (Name S)) → map (each_name nothing) xs ≡ erase_names xs
@@ -89,6 +89,10 @@ module _ {S : Type 0} where
 
   pub file-nothing : (f : File S) → each_file nothing f ≡ erase f
   file-nothing (file s b) = ap (file tt) (block-nothing b)
+
+-- a path names a list in a tree and in the tree without its spans
+pub lists-without : {S : Type 0} (f : File S) (path : List ℕ) → InBoth (MapsList (nothing {S = S})) (list_at f path) (list_at (erase f) path)
+lists-without {S} f path = subst (λ t. InBoth (MapsList (nothing {S = S})) (list_at f path) (list_at t path)) (file-nothing f) (lists-map nothing f path)
 
 pub lists-put-erase : ListsPutErase
 lists-put-erase h f path r is-r q is-q l =

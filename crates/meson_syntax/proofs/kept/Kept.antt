@@ -78,18 +78,24 @@ mapped-span h (listing s trailing list) = refl
 span-is : (s : Span) (a b : ℕ) → s.from ≡ a → s.to ≡ b → s ≡ record { from = a; to = b }
 span-is s a b p q = ap₂ (λ (a b : ℕ). record { from = a; to = b }) p q
 
+-- where a list stands that is moved to some place
+pub moved-place : (b : Bracket) (depth : ℕ) (now : List ℕ) (l : Listing Span) → IsSpannedListWithin depth b now l → (from : ℕ)
+    → list_span (each_listing (span_by (λ n. n + from)) l) ≡ record { from = from; to = length now + from }
+moved-place b depth now l t from =
+    let whole = whole-span now b (inner_words (erase_listing l)) t.reads.text (list_span l)
+    (listing-covers l b depth (spots start 0 0 (list_items t.reads.text)) t.stands) in
+    mapped-span (span_by (λ n. n + from)) l
+    ∙ span-is (span_by (λ n. n + from) (list_span l)) from (length now + from) (omega (arith, whole.0)) (omega (arith, whole.1))
+
 -- the moved list and the other one stand at the same place
 same-spans : (b : Bracket) (depth : ℕ) (now : List ℕ) (l m : Listing Span) → IsSpannedListWithin depth b now l → (from end was : ℕ)
     → from ≡ (list_span m).from → end ≡ (list_span m).to → end ≡ from + was → 1 ≤ was
     → list_span (each_listing (span_by (λ n. n + from)) l) ≡ list_span (each_listing (span_by (moved end was (length now))) m)
 same-spans b depth now l m t from end was is-from is-end sum some =
     let g = moved end was (length now) in
-    let whole = whole-span now b (inner_words (erase_listing l)) t.reads.text (list_span l)
-    (listing-covers l b depth (spots start 0 0 (list_items t.reads.text)) t.stands) in
     let start_stays = moved-still end was (length now) from (omega arith) in
     let end_moves = moved-on end was (length now) end (omega arith) in
-    mapped-span (span_by (λ n. n + from)) l
-    ∙ span-is (span_by (λ n. n + from) (list_span l)) from (length now + from) (omega (arith, whole.0)) (omega (arith, whole.1))
+    moved-place b depth now l t from
     ∙ sym (span-is (span_by g (list_span m)) from (length now + from) (ap g (sym is-from) ∙ start_stays) (ap g (sym is-end) ∙ end_moves ∙ omega arith))
     ∙ sym (mapped-span (span_by g) m)
 
