@@ -34,5 +34,6 @@ pub mod Furthest
 pub mod Moving
 pub mod Texts
 pub mod Borders
+pub mod KeptLists
 pub mod Kept
 pub mod formers
