@@ -16,7 +16,7 @@ map-both : {A B C D : Type 0} {P : A → B → Type 0} {Q : C → D → Type 0} 
 map-both f g q o u neither = neither
 map-both f g q o u (both x y p) = both (f x) (g y) (q x y p)
 
-then-both : {A B C D : Type 0} {P : A → B → Type 0} {Q : C → D → Type 0} (f : A → Option C) (g : B → Option D)
+pub then-both : {A B C D : Type 0} {P : A → B → Type 0} {Q : C → D → Type 0} (f : A → Option C) (g : B → Option D)
     → ((x : A) (y : B) → P x y → InBoth Q (f x) (g y)) → (o : Option A) (u : Option B) → InBoth P o u
     → InBoth Q (option_and_then f o) (option_and_then g u)
 then-both f g q o u neither = neither

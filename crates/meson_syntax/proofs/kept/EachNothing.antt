@@ -60,7 +60,7 @@ module _ {S : Type 0} where
     arguments-nothing (argument a more) = ap₂ argument (argument-nothing a) (arguments-nothing more)
 
   mutual
-    statement-nothing : (s : Statement S) → each_statement nothing s ≡ erase_statement s
+    pub statement-nothing : (s : Statement S) → each_statement nothing s ≡ erase_statement s
     statement-nothing (evaluate e) = ap evaluate (expression-nothing e)
     statement-nothing (assign s x a e) = ap (assign tt (erase_name x) a) (expression-nothing e)
     statement-nothing (selection s bs o) = ap₂ (selection tt) (branches-nothing bs) (otherwise-nothing o)
