@@ -2,6 +2,7 @@
 #![tactic(auto)]
 
 pub mod command;
+pub mod journal;
 pub mod literals;
 pub mod names;
 pub mod spans;
