@@ -6,7 +6,7 @@ ghost use Rattle.meson_layout.specs.Laws.{AreTexts};
 ghost use Rattle.meson_calls.specs.Loading.{IsProject, MayNotLoad, project};
 ghost use Rattle.meson_steps.specs.Outcomes.{IsDone, MayNotBeDone};
 ghost use Rattle.meson_steps.specs.Working.{IsFresh, restored, so_far};
-ghost use Rattle.meson_plan.specs.Performing.{MayRefuse, Performs};
+ghost use Rattle.meson_plan.specs.Performing.{KeepsUntouched, MayRefuse, Performs};
 ghost use Rattle.meson_plan.specs.Planning.{planned};
 ghost use Rattle.meson_calls.specs.Roles.{targets, found, is_target, places};
 ghost use Rattle.meson_calls.specs.Finding.{the_call};
@@ -216,6 +216,7 @@ impl Project {
     /// The first refusal that holds, or want of memory.
     pub fn perform(&mut self, alloc: Global, command: &Command) -> Result<Done, Refusal>
         ensures done { IfOk result (λ done. Performs self.old command.now done self.new) }
+        ensures untouched { IfOk result (λ done. KeepsUntouched self.old command.now self.new) }
         ensures patched { IfOk result (λ done. patched_all self.old.files done.change.splices ≡ Ok self.new.files) }
         ensures texts { IfOk result (λ done. AreTexts done.change.splices) }
         ensures refused { IfErr result (λ e. e ≢ Refusal.OutOfMemory → MayRefuse self.old command.now e) }

@@ -23,3 +23,4 @@ pub mod StepsDoable
 pub mod WentWell
 pub mod Spellings
 pub mod OneMaking
+pub mod Keeping

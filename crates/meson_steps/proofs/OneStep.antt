@@ -138,9 +138,6 @@ module _ (old : Loaded) (w : Work) (before rest : List Step) (s : Step) (r : Rea
       splices_are p laid splices are = are items are_items ∙ ap (λ q. effective (layout_of name items q)) (some-injective _ _ (laid ∙ laid_is))
 
     module _ (splices : List Splice) (are : splices ≡ effective (layout_of name items made.primitive)) where
-      laid : Laid files s splices
-      laid = record { file = f; limits = limits; spanned = spanned; items = items; are_items = are_items; primitive = made.primitive; is_primitive = made.is_primitive; is_layout = are; texts = subst AreTexts (sym are) (effective_texts (layout_of name items made.primitive) made.texts) }
-
       patches : patched_by bytes splices ≡ Ok made.text
       patches = ap (patched_by bytes) are ∙ effective_patches bytes made.text (layout_of name items made.primitive) made.patches
 
@@ -149,6 +146,25 @@ module _ (old : Loaded) (w : Work) (before rest : List Step) (s : Step) (r : Rea
 
       all_made : patched_all files splices ≡ Ok (with_bytes i made.text files)
       all_made = all_patched files i made.text splices r.distinct in_files one_file patches
+
+      laid : Laid files s splices
+      laid = record {
+        file = f;
+        limits = limits;
+        spanned = spanned;
+        writes = next.writes;
+        now = changed.new;
+        is_now = edited_is;
+        items = items;
+        are_items = are_items;
+        primitive = made.primitive;
+        is_primitive = made.is_primitive;
+        is_layout = are;
+        text = made.text;
+        is_text = made.patches;
+        made = all_made;
+        texts = subst AreTexts (sym are) (effective_texts (layout_of name items made.primitive) made.texts);
+      }
 
       pub may_change : MayChange w i splices
       may_change =

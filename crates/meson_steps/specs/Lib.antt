@@ -1,5 +1,6 @@
 pub mod Results
 pub mod Steps
+pub mod Keeping
 pub mod ListSteps
 pub mod Journal
 pub mod Plans

@@ -3,6 +3,7 @@
 
 pub mod command;
 pub mod journal;
+pub mod laws;
 pub mod literals;
 pub mod names;
 pub mod spans;

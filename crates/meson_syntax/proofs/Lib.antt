@@ -6,6 +6,7 @@ pub mod Alone
 pub mod Turns
 pub mod Views
 pub mod Slices
+pub mod InPlace
 pub mod Gathered
 pub mod parsing
 pub mod paths
@@ -13,3 +14,4 @@ pub mod places
 pub mod kept
 pub mod exchange
 pub mod lists
+pub mod borders

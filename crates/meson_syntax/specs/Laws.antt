@@ -8,6 +8,7 @@ use Rattle.meson_syntax.specs.Tree.{Listing, Block, File, Plain, erase, erase_ex
 use Rattle.meson_syntax.specs.Grammar.{block_words, file_words, listing_words}
 use Rattle.meson_syntax.specs.Tree.{Nowhere}
 use Rattle.meson_syntax.specs.Reads.{Reads, IsSpanned, IsSpannedWithin}
+use Rattle.meson_syntax.specs.ReadsList.{IsSpannedListWithin}
 use Rattle.meson_syntax.specs.Paths.{Sort, of_expression, of_statement, of_block, Node, node_words, Hole, reach, block_of, ListAt, list_at}
 use Rattle.meson_syntax.specs.Places.{NodeStands, ListPlaces}
 use Rattle.meson_syntax.specs.ExchangeStatements.{block_at}
@@ -23,6 +24,14 @@ HasSpans = (bytes : List ℕ) (t : Plain) → Reads bytes t → (f : File Span) 
 -- And each node stands at one place.
 abbrev pub OneSpannedTree : Type 0
 OneSpannedTree = (bytes : List ℕ) (f g : File Span) → IsSpanned bytes f → IsSpanned bytes g → f ≡ g
+
+-- So it is within any limits, and of two limits as well.
+abbrev pub OneSpannedTreeWithin : Type 0
+OneSpannedTreeWithin = (limits others : Limits) (bytes : List ℕ) (f g : File Span) → IsSpannedWithin limits bytes f → IsSpannedWithin others bytes g → f ≡ g
+
+-- And of a text that is one list.
+abbrev pub OneSpannedList : Type 0
+OneSpannedList = (b : Bracket) (bytes : List ℕ) (most other : ℕ) (l m : Listing Span) → IsSpannedListWithin most b bytes l → IsSpannedListWithin other b bytes m → l ≡ m
 
 -- Each expression and statement that a path names stands at its span: the items of the text are those left of it, its own, and those right of it.
 abbrev pub NodesStand : Type 0

@@ -26,5 +26,14 @@ pub mod Laws
 pub mod LendsInside
 pub mod LendsItems
 pub mod Moves
+pub mod ExchangedTokens
+pub mod MappedPaths
 pub mod Swap
+pub mod MovedCode
+pub mod Furthest
+pub mod Moving
+pub mod Texts
+pub mod Borders
+pub mod KeptLists
+pub mod Kept
 pub mod formers

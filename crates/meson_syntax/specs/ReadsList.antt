@@ -20,21 +20,29 @@ use Rattle.meson_syntax.specs.Reads.{max_depth, IsUnreadableWithin}
 abbrev pub of_lists : Limits
 of_lists = record { len = None; depth = max_depth }
 
--- The text is the list: an opening bracket, the words of the list's elements, and a closing bracket.
-pub record ReadsList (b : Bracket) (bytes : List ℕ) (l : Listing Nowhere) : Type 0 where
+-- The text is the list, in which so many constructs stand inside one another at most: an opening bracket, the words of the list's
+-- elements, and a closing bracket.
+pub record ReadsListWithin (most : ℕ) (b : Bracket) (bytes : List ℕ) (l : Listing Nowhere) : Type 0 where
   pub utf8 : IsUtf8 bytes
   pub text : IsListText bytes b (inner_words l)
   pub level : LevelListing l b
-  pub depth : listing_depth l ≤ max_depth
+  pub depth : listing_depth l ≤ most
 
 -- all items of a list's text
 abbrev pub list_items : {bytes : List ℕ} {b : Bracket} {words : List Word} → IsListText bytes b words → List Lexeme
 list_items t = t.open_item ∷ (t.inner ++ t.close_item ∷ [])
 
 -- The text is the list without its spans, and each node stands at its span.
-pub record IsSpannedList (b : Bracket) (bytes : List ℕ) (l : Listing Span) : Type 0 where
-  pub reads : ReadsList b bytes (erase_listing l)
-  pub stands : SpellsListing l b max_depth (spots start 0 0 (list_items reads.text))
+pub record IsSpannedListWithin (most : ℕ) (b : Bracket) (bytes : List ℕ) (l : Listing Span) : Type 0 where
+  pub reads : ReadsListWithin most b bytes (erase_listing l)
+  pub stands : SpellsListing l b most (spots start 0 0 (list_items reads.text))
+
+-- the same within the depth of files
+abbrev pub ReadsList : Bracket → List ℕ → Listing Nowhere → Type 0
+ReadsList = ReadsListWithin max_depth
+
+abbrev pub IsSpannedList : Bracket → List ℕ → Listing Span → Type 0
+IsSpannedList = IsSpannedListWithin max_depth
 
 -- no list is read
 abbrev pub HasNoList : Bracket → List ℕ → Type 0

@@ -15,7 +15,7 @@ use Rattle.meson_syntax.proofs.exchange.Nesting.{nest, inside-emitted, inside-de
 -- ---- brackets
 
 module _ (κ : Kind) (r : Role) (b : IsBracket κ r) (x : Lexeme) (is : x.kind ≡ κ) where
-  bracket-text : (rest : List ℕ) → IsItem x rest → x.text ≡ b.byte ∷ []
+  pub bracket-text : (rest : List ℕ) → IsItem x rest → x.text ≡ b.byte ∷ []
   bracket-text rest h = b.is_text x.text (subst (λ κ. OfKind κ x.text) is h.0)
 
   bracket-before : (rest other : List ℕ) → IsItem x rest → IsItem x other

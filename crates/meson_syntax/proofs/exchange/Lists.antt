@@ -45,7 +45,7 @@ joined-three : (left own right : List Lexeme) → joined (left ++ (own ++ right)
 joined-three left own right = joined-append left (own ++ right) ∙ ap (λ t. joined left ++ t) (joined-append own right)
 
 -- the items of a list, and those behind it
-own-first : (o : Lexeme) (inner : List Lexeme) (c : Lexeme) (right : List Lexeme) → listed o inner c right ≡ listed o inner c [] ++ right
+pub own-first : (o : Lexeme) (inner : List Lexeme) (c : Lexeme) (right : List Lexeme) → listed o inner c right ≡ listed o inner c [] ++ right
 own-first o inner c right = ap (λ l. o ∷ l) (sym (append_assoc inner (c ∷ []) right))
 
 pub joined-list : (left : List Lexeme) (o : Lexeme) (inner : List Lexeme) (c : Lexeme) (right : List Lexeme)

@@ -170,7 +170,7 @@ record Given (s : State) (xs : List Lexeme) (m outer : ℕ) : Type 0 where
 abbrev Gives : List Lexeme → Type 0
 Gives xs = (n m outer : ℕ) (s : State) → s.depth ≡ n + suc outer → nest n (spoken xs) ≡ Some m → Given s xs m outer
 
-quiet-line : (depth n outer : ℕ) (fresh : Bool) → depth ≡ n + suc outer → ends_line depth fresh ≡ false
+pub quiet-line : (depth n outer : ℕ) (fresh : Bool) → depth ≡ n + suc outer → ends_line depth fresh ≡ false
 quiet-line zero n outer fresh e = absurd (omega arith)
 quiet-line (suc d) n outer fresh e = refl
 

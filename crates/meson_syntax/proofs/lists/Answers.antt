@@ -29,7 +29,7 @@ use Rattle.meson_syntax.proofs.exchange.Brackets.{open-bracket}
 use Rattle.meson_syntax.proofs.lists.Sound.{whole_list-sound, all-items}
 use Rattle.meson_syntax.proofs.lists.Complete.{whole_list-complete}
 
-inner-erased : (l : Listing Span) → inner_words (erase_listing l) ≡ inner_words l
+pub inner-erased : (l : Listing Span) → inner_words (erase_listing l) ≡ inner_words l
 inner-erased (listing s trailing list) = arguments-words-erased list trailing
 
 -- ---- a list's text begins with no byte order mark
@@ -129,12 +129,12 @@ module _ (source : List ℕ) (b : Bracket) where
     gives-reads (Err e) h = tt
 
     none-found : whole_list 64 b (length source) (located items) ≡ None → HasNoList b source
-    none-found h l r = let f = whole_list-complete source items are b l r in absurd cc
+    none-found h l r = let f = whole_list-complete source items are 64 b l r in absurd cc
 
     pub gives-finds : (result : Result rust.List ParseFault) → GivesAll (list_view source) (whole_list 64 b (length source) (located items)) result
         → (l : Listing Nowhere) → ReadsList b source l → Is (λ x. erase_listing (list_view source x)) result l
     gives-finds (Ok x) h l r =
-        let f = whole_list-complete source items are b l r in
+        let f = whole_list-complete source items are 64 b l r in
         ap erase_listing (some-injective _ _ (sym h ∙ f.2)) ∙ f.1
     gives-finds (Err OutOfMemory) h l r = refl
     gives-finds (Err TooLarge) h l r = absurd (none-found (h (λ e. absurd cc)) l r)

@@ -5,7 +5,7 @@ use Rattle.meson_steps.specs.Working.{so_far}
 use Rattle.meson_calls.specs.Loading.{Loaded}
 use Rattle.meson_plan.specs.Performing.{MayRefuse, Performs}
 use Rattle.meson_plan.proofs.Performed.{may_refuse, performed}
-use Rattle.meson_plan.proofs.SplicesDone.{performs-patch, performs-text}
+use Rattle.meson_plan.proofs.SplicesDone.{performs-keep, performs-patch, performs-text}
 use Rattle.meson_plan.proofs.project.Project.perform.Goals as goal
 
 pub returns-in-Err-clause-refused : goal.returns-in-Err-clause-refused
@@ -25,6 +25,9 @@ returns-in-Ok-ended-clause-done c =
     let done : Done = record { change = c.untitled.result; relexed = work.relexed } in
     subst (λ l. Performs l k done (so_far work)) is
     (performed (so_far c.start-work.result) k work c.in-Ok-ended.ensures.done done (ap (λ x. x.splices) c.untitled.ensures ∙ c.of.ensures) (ap (λ x. x.title) c.untitled.ensures) refl)
+
+pub returns-in-Ok-ended-clause-untouched : goal.returns-in-Ok-ended-clause-untouched
+returns-in-Ok-ended-clause-untouched c = performs-keep _ _ _ _ (returns-in-Ok-ended-clause-done c)
 
 pub returns-in-Ok-ended-clause-patched : goal.returns-in-Ok-ended-clause-patched
 returns-in-Ok-ended-clause-patched c = performs-patch _ _ _ _ (returns-in-Ok-ended-clause-done c)
