@@ -8,3 +8,4 @@ pub mod Elements
 pub mod Answers
 pub mod LastWords
 pub mod Others
+pub mod ReadAlone

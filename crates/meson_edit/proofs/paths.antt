@@ -5,3 +5,4 @@ pub mod PutThere
 pub mod Depths
 pub mod DeepLists
 pub mod Shallow
+pub mod PutBack

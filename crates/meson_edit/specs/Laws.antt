@@ -1,6 +1,6 @@
 -- The splices of an edit make of the text of a tree the text of the edited tree.
 use Rattle.std.specs.Str.{IsUtf8}
-use Rattle.std.specs.Prelude.{◌≡◌, ℕ, List, ◌++◌, length, Some, Ok}
+use Rattle.std.specs.Prelude.{◌≡◌, ◌≤◌, ℕ, List, ◌++◌, length, Some, Ok}
 use Rattle.meson_lex.specs.declared.kinds.Span.{Span}
 use Rattle.meson_lex.specs.Items.{Lexeme, IsItemList}
 use Rattle.meson_layout.specs.declared.primitive.Primitive.{Primitive}
@@ -9,9 +9,10 @@ use Rattle.meson_layout.specs.Edited.{patched_by}
 use Rattle.meson_layout.specs.Laws.{AreTexts}
 use Rattle.meson_syntax.specs.declared.source.Limits.{Limits}
 use Rattle.meson_syntax.specs.Tree.{Nowhere, Plain, Listing, Argument, Expression, Statement, File, erase}
-use Rattle.meson_syntax.specs.Grammar.{LevelFile}
+use Rattle.meson_syntax.specs.Grammar.{LevelFile, file_depth}
 use Rattle.meson_syntax.specs.Paths.{ListAt, list_at, list_span, inner_words}
 use Rattle.meson_syntax.specs.Exchange.{IsListText}
+use Rattle.meson_syntax.specs.ReadsList.{ReadsListWithin}
 use Rattle.meson_syntax.specs.Reads.{Spells, IsSpannedWithin}
 use Rattle.meson_edit.specs.Edits.{Written, Edit, First, After, Remove, Replace, Wrap, RemoveStatement, Append, edited}
 use Rattle.meson_edit.specs.Places.{primitive_of, Writes}
@@ -93,3 +94,8 @@ ListEditsWrite =
     → Writes e → (t : Plain) → edited e (erase f) ≡ Some t → (path : List ℕ) → IsEditOf path e → (p : ListAt Span) → list_at f path ≡ Some p
     → (primitive : Primitive) → primitive_of f e ≡ Some primitive → (text : List ℕ) → patched_by bytes (layout_of name items primitive) ≡ Ok text
     → WritesList bytes text f path p t
+
+-- What an edit writes in the place of a list reads by itself as the edited list, within the depth of the edited file.
+abbrev pub WrittenListsRead : Type 0
+WrittenListsRead = (bytes text : List ℕ) (f : File Span) (path : List ℕ) (p : ListAt Span) (t : Plain) (w : WritesList bytes text f path p t) → LevelFile t
+    → (depth : ℕ) → file_depth t ≤ depth → ReadsListWithin depth w.q.bracket w.now w.list

@@ -5,3 +5,4 @@ pub mod Laws
 pub mod Sequences
 pub mod Depths
 pub mod Kept
+pub mod PutBack

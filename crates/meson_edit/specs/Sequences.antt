@@ -11,14 +11,14 @@ use Rattle.meson_edit.specs.Laws.{IsEditOf}
 -- ---- places
 
 -- The path names the list in the tree that has it there, and all else of the place is as it was.
-pub record StaysThere (path : List ℕ) (q : ListAt Nowhere) (l : Listing Nowhere) : Type 0 where
-  pub there : ListAt Nowhere
+pub record StaysThere {S : Type 0} (path : List ℕ) (q : ListAt S) (l : Listing S) : Type 0 where
+  pub there : ListAt S
   pub is_there : list_at (q.back l) path ≡ Some there
   pub list : there.list ≡ l
   pub bracket : there.bracket ≡ q.bracket
   pub before : there.before ≡ q.before
   pub behind : there.behind ≡ q.behind
-  pub back : (x : Listing Nowhere) → there.back x ≡ q.back x
+  pub back : (x : Listing S) → there.back x ≡ q.back x
 
 -- A list put where a path names one is found there.
 abbrev pub ListsStay : Type 0

@@ -1,11 +1,12 @@
 //! Laws of edits. The functions do nothing: what they ensure is the law.
 
 ghost use Rattle.meson_edit.specs.Kept.{EditsKeep};
-ghost use Rattle.meson_edit.specs.Laws.{AppendedSpell, FirstsSpell, InsertionsSpell, ListEditsWrite, RemovalsSpell, ReplacementsSpell, StatementRemovalsSpell, WrapsSpell};
+ghost use Rattle.meson_edit.specs.Laws.{AppendedSpell, FirstsSpell, InsertionsSpell, ListEditsWrite, RemovalsSpell, ReplacementsSpell, StatementRemovalsSpell, WrapsSpell, WrittenListsRead};
+ghost use Rattle.meson_edit.specs.PutBack.{ListsPutBack};
 ghost use Rattle.meson_edit.specs.Sequences.{DepthsGrow, EditsDeepen, EditsDeepenByOne, FirstsKeepLevels, FirstsStayWithin, InsertionsKeepLevels, InsertionsStayWithin, ListsAreShallow, ListsStay, RemovalsKeepLevels, RemovalsStayWithin, ReplacementsKeepLevels, WrapsKeepLevels};
 
 /// An element put in, removed, exchanged or wrapped: the new text spells the tree so edited. No byte outside the list changes,
-/// and in its place stands the text of the edited list.
+/// and in its place stands the text of the edited list, which reads by itself.
 pub fn lists()
     ensures firsts { FirstsSpell }
     ensures insertions { InsertionsSpell }
@@ -13,6 +14,7 @@ pub fn lists()
     ensures replacements { ReplacementsSpell }
     ensures wraps { WrapsSpell }
     ensures write { ListEditsWrite }
+    ensures written_read { WrittenListsRead }
 {}
 
 /// A statement removed or appended: the new text spells the tree so edited.
@@ -43,4 +45,9 @@ pub fn sequences()
     ensures replacements_level { ReplacementsKeepLevels }
     ensures firsts_level { FirstsKeepLevels }
     ensures insertions_level { InsertionsKeepLevels }
+{}
+
+/// A list that was exchanged for another one and is put back from its old bytes leaves the tree as it was, to the last border.
+pub fn put_back()
+    ensures lists { ListsPutBack }
 {}

@@ -1,6 +1,7 @@
 //! A case on a text.
 
 use crate::edits::{edit_of, lay_out, put_splices};
+use crate::moved::{put_moved, put_shifted};
 use crate::nodes::{put_elements, put_expression};
 use crate::texts::{
     put_copied, put_depth, put_first_fault, put_identifier, put_items, put_list, put_literal,
@@ -57,6 +58,8 @@ impl TextCase {
                 put_within(self.alloc, text, rest, to);
                 Ok(())
             }
+            "moved" => put_moved(self.alloc, text, rest, to),
+            "shifted" => put_shifted(self.alloc, text, rest, to),
             "splices" => self.splices(rest, to),
             _ => self.edit(word, rest, to),
         }

@@ -51,7 +51,7 @@ fn primitive_at(edit: Edit, span: Span, new: Bytes) -> Primitive {
 }
 
 /// The first place of a part in a text.
-fn place_of(text: &[u8], part: &[u8]) -> Option<Span> {
+pub fn place_of(text: &[u8], part: &[u8]) -> Option<Span> {
     let text = str::from_utf8(text).ok()?;
     let part = str::from_utf8(part).ok()?;
     let from = text.find(part)?;

@@ -3,6 +3,7 @@
 
 mod case;
 mod edits;
+mod moved;
 mod nodes;
 mod readiness;
 mod texts;

@@ -4,8 +4,8 @@ use crate::nodes::{slice, span_of};
 use meson_case_files::Transcript;
 use meson_lex::Span;
 use meson_syntax::{
-    Arg, Assignment, Block, Expr, List, Operand, Operator, Stmt, StringKind, Tail, UnaryOperator,
-    parse,
+    Arg, Assignment, Block, Expr, List, Operand, Operator, Parsed, Stmt, StringKind, Tail,
+    UnaryOperator, parse,
 };
 use std::alloc::Global;
 
@@ -17,14 +17,16 @@ struct Shaper<'a> {
 }
 
 /// The tree of a file: its statements, with a space between them.
+fn put_file(shaper: Shaper<'_>, file: &Parsed, to: &mut Transcript) {
+    to.put("  ");
+    shaper.mark(file.span, to);
+    shaper.block(&file.block, to);
+    to.put("\n");
+}
+
 fn put_shape(alloc: Global, shaper: Shaper<'_>, to: &mut Transcript) {
     match parse(alloc, shaper.source) {
-        Ok(file) => {
-            to.put("  ");
-            shaper.mark(file.span, to);
-            shaper.block(&file.block, to);
-            to.put("\n");
-        }
+        Ok(file) => put_file(shaper, &file, to),
         Err(fault) => to.show_line(&fault),
     }
 }
@@ -37,6 +39,22 @@ pub fn put_tree(alloc: Global, source: &[u8], to: &mut Transcript) {
 pub fn put_spans(alloc: Global, source: &[u8], to: &mut Transcript) {
     let has_spans = true;
     put_shape(alloc, Shaper { source, has_spans }, to);
+}
+
+/// The tree of a file, with its spans, over some source.
+pub fn put_file_spans(source: &[u8], file: &Parsed, to: &mut Transcript) {
+    let has_spans = true;
+    put_file(Shaper { source, has_spans }, file, to);
+}
+
+/// A list and its elements, with their spans, over some source.
+pub fn put_list_spans(source: &[u8], list: &List, to: &mut Transcript) {
+    let has_spans = true;
+    let shaper = Shaper { source, has_spans };
+    to.put("  ");
+    shaper.mark(list.span, to);
+    shaper.list(list, to);
+    to.put("\n");
 }
 
 fn sign(operator: Operator) -> &'static str {

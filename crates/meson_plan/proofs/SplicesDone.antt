@@ -9,7 +9,9 @@ use Rattle.meson_calls.specs.Loading.{Loaded}
 use Rattle.meson_steps.specs.declared.command.Command.{Command}
 use Rattle.meson_steps.specs.declared.command.Done.{Done}
 use Rattle.meson_steps.specs.Steps.{Step, StepsMake, none, step}
-use Rattle.meson_plan.specs.Performing.{Performs}
+use Rattle.meson_plan.specs.Performing.{KeepsUntouched, Performs}
+use Rattle.meson_steps.specs.Keeping.{StepsKeep}
+use Rattle.meson_steps.proofs.Keeping.{making_keeps}
 
 -- splices one after another
 pub joined : (files between last : List File) (here later : List Splice) → patched_all files here ≡ Ok between → patched_all between later ≡ Ok last → patched_all files (here ++ later) ≡ Ok last
@@ -33,3 +35,10 @@ module _ (old : Loaded) (c : Command) (done : Done) (new : Loaded) (p : Performs
 
   pub performs-text : AreTexts done.change.splices
   performs-text = subst AreTexts (sym p.is_change) (steps-text old.files p.made.steps p.made.splices p.made.files p.made.bytes p.made.are_done)
+
+  pub performs-keep : KeepsUntouched old c new
+  performs-keep = record {
+    steps = p.made.steps;
+    are_planned = p.made.are_planned;
+    keep = subst (StepsKeep old.files p.made.steps) (sym p.are_files) (making_keeps old.files p.made.steps p.made.splices p.made.files p.made.bytes p.made.are_done);
+  }

@@ -9,6 +9,7 @@ use Rattle.meson_calls.specs.declared.refusal.Refusal.{Refusal}
 use Rattle.meson_calls.specs.declared.refusal.Refusal.TheVariants.{TooDeep, TooLarge}
 use Rattle.meson_calls.specs.Loading.{Loaded, project}
 use Rattle.meson_steps.specs.Steps.{Step, all_stepped, StepsMake}
+use Rattle.meson_steps.specs.Keeping.{StepsKeep}
 use Rattle.meson_plan.specs.Planning.{planned}
 use Rattle.meson_steps.specs.Results.{AreShallow, AreSmall, plain_trees, saturated}
 
@@ -35,6 +36,12 @@ pub record Performs (old : Loaded) (c : Command) (done : Done) (new : Loaded) : 
   pub is_relexed : done.relexed ≡ saturated made.bytes
   pub are_files : new.files ≡ made.files
   pub are_trees : plain_trees new ≡ made.trees
+
+-- Each step that the command means changes one file, and keeps in it all that the step's edit does not touch.
+pub record KeepsUntouched (old : Loaded) (c : Command) (new : Loaded) : Type 0 where
+  pub steps : List Step
+  pub are_planned : planned (project old) c ≡ Ok steps
+  pub keep : StepsKeep old.files steps new.files
 
 -- Why a command is refused: it means no edits, or what it makes passes a limit.
 pub data MayRefuse (old : Loaded) (c : Command) : Refusal → Type 0 where

@@ -5,17 +5,18 @@ use Rattle.meson_lex.specs.declared.kinds.Span.{Span}
 use Rattle.meson_lex.specs.Items.{Lexeme, IsItemList}
 use Rattle.meson_splice.specs.declared.file_set.File.{File}
 use Rattle.meson_splice.specs.declared.splice.Splice.{Splice}
-use Rattle.meson_splice.specs.Files.{bytes_at}
+use Rattle.meson_splice.specs.Files.{bytes_at, with_bytes}
 use Rattle.meson_splice.specs.Patch.{patched_all}
 use Rattle.meson_layout.specs.declared.primitive.Primitive.{Primitive}
 use Rattle.meson_layout.specs.Layout.{layout_of}
+use Rattle.meson_layout.specs.Edited.{patched_by}
 use Rattle.meson_layout.specs.Laws.{AreTexts}
 use Rattle.meson_syntax.specs.declared.source.Limits.{Limits}
 use Rattle.meson_syntax.specs.Tree.{Plain}
 use Rattle.meson_syntax.specs.Tree as tree
 use Rattle.meson_syntax.specs.Reads.{IsSpannedWithin}
 use Rattle.meson_edit.specs.Edits.{Edit, edited}
-use Rattle.meson_edit.specs.Places.{primitive_of}
+use Rattle.meson_edit.specs.Places.{primitive_of, Writes}
 use Rattle.meson_calls.specs.declared.call.CallRef.{CallRef}
 use Rattle.meson_calls.specs.Loading.{name_at}
 
@@ -50,16 +51,22 @@ all_stepped (s ∷ steps) trees = option_and_then (all_stepped steps) (stepped s
 abbrev pub effective : List Splice → List Splice
 effective splices = filter (λ s. not (bytes_eq s.was s.now)) splices
 
--- The splices of a step are the layout of its edit in the file as it stands; what they take away and put in is text.
+-- The splices of a step are the layout of its edit in the file as it stands, and give that file another text; what they take away and put in is text.
 pub record Laid (files : List File) (s : Step) (splices : List Splice) : Type 0 where
   pub file : tree.File Span
   pub limits : Limits
   pub spanned : IsSpannedWithin limits (bytes_at s.file files) file
+  pub writes : Writes s.edit
+  pub now : Plain
+  pub is_now : edited s.edit (tree.erase file) ≡ Some now
   pub items : List Lexeme
   pub are_items : IsItemList (bytes_at s.file files) items
   pub primitive : Primitive
   pub is_primitive : primitive_of file s.edit ≡ Some primitive
   pub is_layout : splices ≡ effective (layout_of (name_at s.file files) items primitive)
+  pub text : List ℕ
+  pub is_text : patched_by (bytes_at s.file files) (layout_of (name_at s.file files) items primitive) ≡ Ok text
+  pub made : patched_all files splices ≡ Ok (with_bytes s.file text files)
   pub texts : AreTexts splices
 
 -- how many bytes are read again after splices of a file: all of it

@@ -24,6 +24,9 @@ next_exchanged f xs ys i d y within same so_far is =
     let here = get_or_default ys i d x (omega (arith, within, same)) in
     ap (λ z. slice_set ys i z) is ∙ map_over_more f xs ys i x within so_far here
 
--- no number of a list is more than the greatest of them
-pub at_most_greatest : {A : Type 0} (f : A → ℕ) (xs : List A) (i : ℕ) (d : A) → i < length xs → f (get_or xs i d) ≤ greatest (map f xs)
-at_most_greatest f = max_bounds (λ xs. greatest (map f xs)) f refl (λ x xs. refl)
+-- an element that still stands there has no more than the greatest number
+pub at_most_greatest : {A : Type 0} (f : A → ℕ) (xs ys : List A) (i : ℕ) (d : A) → i < length xs → get_or ys i d ≡ get_or xs i d
+    → f (get_or ys i d) ≤ greatest (map f xs)
+at_most_greatest f xs ys i d within here =
+    let most = max_bounds (λ xs. greatest (map f xs)) f refl (λ x xs. refl) xs i d within in
+    omega (arith, most, ap f here)

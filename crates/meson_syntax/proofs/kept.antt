@@ -17,3 +17,6 @@ pub mod Views
 pub mod Spelled
 pub mod TokenSlices
 pub mod Spanned
+pub mod EachNothing
+pub mod Kept
+pub mod ListsAlone

@@ -34,6 +34,7 @@ pub mod Furthest
 pub mod Moving
 pub mod Texts
 pub mod Borders
+pub mod KeptLists
 pub mod Kept
 pub mod Putting
 pub mod formers

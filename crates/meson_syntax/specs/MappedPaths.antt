@@ -17,7 +17,8 @@ module _ {S T : Type 0} (h : S → T) where
   pub data MapsHole {A B : Type 0} (each : A → B) : Hole S A → Hole T B → Type 0 where
     maps : (sort : Sort) (x : Node sort S) (before before' behind behind' : List Word) (back : Node sort S → A) (back' : Node sort T → B)
         → before' ≡ before → behind' ≡ behind → ((y : Node sort S) → back' (each_node sort y) ≡ each (back y))
-        → MapsHole each (record { sort = sort; inside = x; before = before; behind = behind; back = back }) (record { sort = sort; inside = each_node sort x; before = before'; behind = behind'; back = back' })
+        → MapsHole each (record { sort = sort; inside = x; before = before; behind = behind; back = back })
+        (record { sort = sort; inside = each_node sort x; before = before'; behind = behind'; back = back' })
 
   -- So of a list.
   pub record MapsList (p : ListAt S) (r : ListAt T) : Type 0 where
@@ -34,7 +35,9 @@ pub data InBoth {A B : Type 0} (related : A → B → Type 0) : Option A → Opt
 
 -- A path names a node in both trees or in neither, and so it does a list.
 abbrev pub NodesMap : Type 0
-NodesMap = (h : Span → Span) (f : File Span) (path : List ℕ) → InBoth (MapsHole h (each_block h)) (reach Span of_block (block_of f) path) (reach Span of_block (block_of (each_file h f)) path)
+NodesMap =
+    (h : Span → Span) (f : File Span) (path : List ℕ) → InBoth (MapsHole h (each_block h)) (reach Span of_block (block_of f) path)
+    (reach Span of_block (block_of (each_file h f)) path)
 
 abbrev pub ListsMap : Type 0
 ListsMap = (h : Span → Span) (f : File Span) (path : List ℕ) → InBoth (MapsList h) (list_at f path) (list_at (each_file h f) path)

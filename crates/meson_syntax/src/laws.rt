@@ -4,6 +4,7 @@ ghost use Rattle.meson_syntax.specs.Borders.{ListsEnd, TreesEnd};
 ghost use Rattle.meson_syntax.specs.Exchange.{ListsExchange, ListsLevel, ListsReadAgain};
 ghost use Rattle.meson_syntax.specs.ExchangeStatements.{AppendedReadAgain, AppendingLevels, RemovalsLevel, RemovalsReadAgain, StatementsCome, StatementsGo};
 ghost use Rattle.meson_syntax.specs.Kept.{FilesMove, ListSpannedTexts, ListSpelledTexts, ListViewsMove, ListViewsTell, ListViewsText, ListsMove, SpannedTexts, SpelledTexts, TokensAreSlices, ViewsMove, ViewsTell, ViewsText};
+ghost use Rattle.meson_syntax.specs.KeptLists.{ListsAlone, ListsKept, ListsPutErase};
 ghost use Rattle.meson_syntax.specs.Lines.{AppendedWords, CutsAreUtf8, FilesEnd, LinesAreTexts, SpelledReads, StatementsAreTexts, StatementsEnd, StatementsStand};
 ghost use Rattle.meson_syntax.specs.MappedPaths.{ListsMap, NodesMap};
 ghost use Rattle.meson_syntax.specs.ExchangedTokens.{TokensMove};
@@ -121,4 +122,13 @@ pub fn texts()
 pub fn borders()
     ensures trees_end { TreesEnd }
     ensures lists_end { ListsEnd }
+{}
+
+/// Where a list's bytes are exchanged for the text of another list, the tree of the new text is the old one, with its borders behind the
+/// list moved by the difference of the lengths, and the other list in that place, moved to it. And each list of a tree is
+/// what is read of its own bytes, moved.
+pub fn kept()
+    ensures lists_kept { ListsKept }
+    ensures lists_put_erase { ListsPutErase }
+    ensures lists_alone { ListsAlone }
 {}

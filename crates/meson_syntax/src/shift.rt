@@ -11,8 +11,10 @@ use crate::tree::{Arg, Block, Branch, Expr, List, Operand, Parsed, Stmt, Tail};
 use meson_lex::Span;
 
 impl Parsed {
-    /// Moves each border at `from + was_len` or behind it, as it moves in the bytes where `was_len` of them at `from` become
-    /// `now_len`. Takes no memory.
+    /// Moves the borders of all nodes and names as they move in the file where the `was_len` bytes at `from` become `now_len` bytes:
+    /// each at `from + was_len` or behind it by the difference, the others not. Takes no memory.
+    ///
+    /// The bytes lie in the file, and are one at least; no border lies behind the file's end; the new file's length is a `usize`.
     pub fn shift(&mut self, from: usize, was_len: usize, now_len: usize)
         requires some { 1 ≤ was_len }
         requires inside { from + was_len ≤ self.old.span.to }
@@ -33,7 +35,9 @@ impl Parsed {
 }
 
 impl List {
-    /// Moves each border by so many bytes. Takes no memory.
+    /// Moves the borders of the list and of all nodes and names in it so many bytes further. Takes no memory.
+    ///
+    /// Each sum is a `usize`.
     pub fn move_by(&mut self, by: usize)
         requires { furthest_list self.old + by < 2 ^ 64 }
         ensures { self.new ≡ moved_list (λ n. n + by) self.old }
@@ -56,9 +60,9 @@ fn shift_expr(expr: &mut Expr, by: Move)
 {
     match expr {
         Expr::Identifier(span) => by.shift(span),
-        Expr::Boolean { span, value: _ } => by.shift(span),
+        Expr::Boolean { span, .. } => by.shift(span),
         Expr::Integer(span) => by.shift(span),
-        Expr::String { span, kind: _ } => by.shift(span),
+        Expr::String { span, .. } => by.shift(span),
         Expr::Paren { span, inside } => {
             by.shift(span);
             shift_expr(inside.get_mut(), by);
@@ -74,11 +78,7 @@ fn shift_expr(expr: &mut Expr, by: Move)
             by.shift(name);
             shift_list(arguments, by);
         }
-        Expr::Unary {
-            span,
-            operator: _,
-            operand,
-        } => {
+        Expr::Unary { span, operand, .. } => {
             by.shift(span);
             shift_expr(operand.get_mut(), by);
         }
@@ -226,8 +226,8 @@ fn shift_stmt(stmt: &mut Stmt, by: Move)
         Stmt::Assign {
             span,
             name,
-            assignment: _,
             value,
+            ..
         } => {
             by.shift(span);
             by.shift(name);

@@ -2,8 +2,8 @@
 use Rattle.std.specs.Prelude.{option_map, option_and_then}
 use Rattle.std.proofs.Common.{◌≡◌, ℕ, List, [], ◌∷◌, Some, refl, ap, subst, ◌∙◌, arith}
 use Rattle.meson_lex.specs.Significant.{Word}
-use Rattle.meson_syntax.specs.Tree.{Nowhere, Expression, array, dictionary, call, Listing, Block, file}
-use Rattle.meson_syntax.specs.Paths.{Sort, of_expression, of_statement, of_block, Node, Hole, around, children, child, reach, ListIn, list_in, ListAt, list_within, list_of_node}
+use Rattle.meson_syntax.specs.Tree.{Nowhere, Expression, array, dictionary, call, Listing, Block, File, file}
+use Rattle.meson_syntax.specs.Paths.{Sort, of_expression, of_statement, of_block, Node, Hole, around, children, child, reach, ListIn, list_in, ListAt, list_within, list_of_node, list_at}
 use Rattle.meson_syntax.proofs.parsing.Steps.{some-injective}
 use Rattle.meson_syntax.proofs.paths.Reaching.{map-some, and-then-some}
 use Rattle.meson_edit.specs.Sequences.{StaysThere, ListsStay}
@@ -41,43 +41,46 @@ module _ (S : Type 0) where
       ap (option_and_then (λ c. option_map (into sort c) (reach S c.sort c.inside path))) (child-stays sort x n g o.1 (i.back y))
       ∙ ap (option_map (into sort g)) (reach-stays g.sort g.inside path i m.1 y))
 
--- ---- lists
+  -- ---- lists
 
--- the list of an array, a dictionary or a call that has another list
-abbrev with_list : ListIn Nowhere → Listing Nowhere → ListIn Nowhere
-with_list l m = record { list = m; bracket = l.bracket; ahead = l.ahead; back = l.back }
+  -- the list of an array, a dictionary or a call that has another list
+  abbrev with_list : ListIn S → Listing S → ListIn S
+  with_list l m = record { list = m; bracket = l.bracket; ahead = l.ahead; back = l.back }
 
-list-in-stays : (e : Expression Nowhere) (l : ListIn Nowhere) → list_in e ≡ Some l → (m : Listing Nowhere) → list_in (l.back m) ≡ Some (with_list l m)
-list-in-stays (array l) o is m = subst (λ (u : ListIn Nowhere). list_in (u.back m) ≡ Some (with_list u m)) (some-injective _ _ is) refl
-list-in-stays (dictionary l) o is m = subst (λ (u : ListIn Nowhere). list_in (u.back m) ≡ Some (with_list u m)) (some-injective _ _ is) refl
-list-in-stays (call s x l) o is m = subst (λ (u : ListIn Nowhere). list_in (u.back m) ≡ Some (with_list u m)) (some-injective _ _ is) refl
-list-in-stays _ o is m = absurd cc
+  list-in-stays : (e : Expression S) (l : ListIn S) → list_in e ≡ Some l → (m : Listing S) → list_in (l.back m) ≡ Some (with_list l m)
+  list-in-stays (array l) o is m = subst (λ (u : ListIn S). list_in (u.back m) ≡ Some (with_list u m)) (some-injective _ _ is) refl
+  list-in-stays (dictionary l) o is m = subst (λ (u : ListIn S). list_in (u.back m) ≡ Some (with_list u m)) (some-injective _ _ is) refl
+  list-in-stays (call s x l) o is m = subst (λ (u : ListIn S). list_in (u.back m) ≡ Some (with_list u m)) (some-injective _ _ is) refl
+  list-in-stays _ o is m = absurd cc
 
--- a list of a file that stays in its place
-list-there : (s : Nowhere) (b : Block Nowhere) (path : List ℕ) (h : Hole Nowhere (Block Nowhere)) → PutThere Nowhere of_block path h
-    → (q : ListAt Nowhere) → list_of_node Nowhere h.sort h.inside (file s b) h.before h.behind h.back ≡ Some q → (m : Listing Nowhere) → StaysThere path q m
-list-there s b path h put q is m = go h.sort h.inside h.before h.behind h.back put is where
-  go : (sort : Sort) (x : Node sort Nowhere) (before behind : List Word) (back : Node sort Nowhere → Block Nowhere)
-      → PutThere Nowhere of_block path (record { sort = sort; inside = x; before = before; behind = behind; back = back })
-      → list_of_node Nowhere sort x (file s b) before behind back ≡ Some q → StaysThere path q m
-  go of_expression x before behind back there found =
-      let o = map-some (list_within (file s b) before behind back) (list_in x) q found in
-      let l = o.0 in
-      subst (λ u. StaysThere path u m) o.2 (record {
-        there = list_within (file s b) before behind back (with_list l m);
-        is_there =
-            ap (option_and_then (λ (g : Hole Nowhere (Block Nowhere)). list_of_node Nowhere g.sort g.inside (file s (back (l.back m))) g.before g.behind g.back)) (there (l.back m))
-            ∙ ap (option_map (list_within (file s b) before behind back)) (list-in-stays x l o.1 m);
-        list = refl;
-        bracket = refl;
-        before = refl;
-        behind = refl;
-        back = λ y. refl;
-      })
-  go of_statement x before behind back there found = absurd cc
-  go of_block x before behind back there found = absurd cc
+  -- a list of a file that stays in its place
+  list-there : (s : S) (b : Block S) (path : List ℕ) (h : Hole S (Block S)) → PutThere of_block path h
+      → (q : ListAt S) → list_of_node S h.sort h.inside (file s b) h.before h.behind h.back ≡ Some q → (m : Listing S) → StaysThere path q m
+  list-there s b path h put q is m = go h.sort h.inside h.before h.behind h.back put is where
+    go : (sort : Sort) (x : Node sort S) (before behind : List Word) (back : Node sort S → Block S)
+        → PutThere of_block path (record { sort = sort; inside = x; before = before; behind = behind; back = back })
+        → list_of_node S sort x (file s b) before behind back ≡ Some q → StaysThere path q m
+    go of_expression x before behind back there found =
+        let o = map-some (list_within (file s b) before behind back) (list_in x) q found in
+        let l = o.0 in
+        subst (λ u. StaysThere path u m) o.2 (record {
+          there = list_within (file s b) before behind back (with_list l m);
+          is_there =
+              ap (option_and_then (λ (g : Hole S (Block S)). list_of_node S g.sort g.inside (file s (back (l.back m))) g.before g.behind g.back)) (there (l.back m))
+              ∙ ap (option_map (list_within (file s b) before behind back)) (list-in-stays x l o.1 m);
+          list = refl;
+          bracket = refl;
+          before = refl;
+          behind = refl;
+          back = λ y. refl;
+        })
+    go of_statement x before behind back there found = absurd cc
+    go of_block x before behind back there found = absurd cc
+
+  pub lists-there : (f : File S) (path : List ℕ) (q : ListAt S) → list_at f path ≡ Some q → (l : Listing S) → StaysThere path q l
+  lists-there (file s b) path q is m =
+      let o = and-then-some (λ h. list_of_node S h.sort h.inside (file s b) h.before h.behind h.back) (reach S of_block b path) q is in
+      list-there s b path o.0 (reach-stays of_block b path o.0 o.1) q o.2 m
 
 pub lists-stay : ListsStay
-lists-stay (file s b) path q is m =
-    let o = and-then-some (λ h. list_of_node Nowhere h.sort h.inside (file s b) h.before h.behind h.back) (reach Nowhere of_block b path) q is in
-    list-there s b path o.0 (reach-stays Nowhere of_block b path o.0 o.1) q o.2 m
+lists-stay t path q is l = lists-there Nowhere t path q is l

@@ -17,26 +17,34 @@ module _ {S T : Type 0} (h : S → T) where
   -- holes one after another, and each mapped
   pub data MapsHoles {A B : Type 0} (each : A → B) : List (Hole S A) → List (Hole T B) → Type 0 where
     none : MapsHoles each [] []
-    also : {x : Hole S A} {z : Hole T B} {xs : List (Hole S A)} {zs : List (Hole T B)} → MapsHole h each x z → MapsHoles each xs zs → MapsHoles each (x ∷ xs) (z ∷ zs)
+    also : {x : Hole S A} {z : Hole T B} {xs : List (Hole S A)} {zs : List (Hole T B)} → MapsHole h each x z → MapsHoles each xs zs
+        → MapsHoles each (x ∷ xs) (z ∷ zs)
 
   -- a hole in a part, in the whole
-  pub maps-around : {A B A' B' : Type 0} (each : A → B) (each' : A' → B') (before before' behind behind' : List Word) (make : A → A') (make' : B → B') → before' ≡ before → behind' ≡ behind
-      → ((y : A) → make' (each y) ≡ each' (make y)) → (x : Hole S A) (z : Hole T B) → MapsHole h each x z → MapsHole h each' (around before behind make x) (around before' behind' make' z)
+  pub maps-around : {A B A' B' : Type 0} (each : A → B) (each' : A' → B') (before before' behind behind' : List Word) (make : A → A') (make' : B → B')
+      → before' ≡ before → behind' ≡ behind
+      → ((y : A) → make' (each y) ≡ each' (make y)) → (x : Hole S A) (z : Hole T B) → MapsHole h each x z
+      → MapsHole h each' (around before behind make x) (around before' behind' make' z)
   maps-around each each' before before' behind behind' make make' p q same x z (maps sort inside b b' c c' back back' p' q' agree) =
-      maps sort inside (before ++ b) (before' ++ b') (c ++ behind) (c' ++ behind') (λ y. make (back y)) (λ y. make' (back' y)) (ap₂ (λ u v. u ++ v) p p') (ap₂ (λ u v. u ++ v) q' q)
+      maps sort inside (before ++ b) (before' ++ b') (c ++ behind) (c' ++ behind') (λ y. make (back y)) (λ y. make' (back' y)) (ap₂ (λ u v. u ++ v) p p')
+      (ap₂ (λ u v. u ++ v) q' q)
       (λ y. ap make' (agree y) ∙ same (back y))
 
-  within : {A B A' B' : Type 0} {each : A → B} {each' : A' → B'} {xs : List (Hole S A)} {zs : List (Hole T B)} (before before' behind behind' : List Word) (make : A → A') (make' : B → B')
-      → before' ≡ before → behind' ≡ behind → ((y : A) → make' (each y) ≡ each' (make y)) → MapsHoles each xs zs → MapsHoles each' (all_around before behind make xs) (all_around before' behind' make' zs)
+  within : {A B A' B' : Type 0} {each : A → B} {each' : A' → B'} {xs : List (Hole S A)} {zs : List (Hole T B)}
+      (before before' behind behind' : List Word) (make : A → A') (make' : B → B')
+      → before' ≡ before → behind' ≡ behind → ((y : A) → make' (each y) ≡ each' (make y)) → MapsHoles each xs zs
+      → MapsHoles each' (all_around before behind make xs) (all_around before' behind' make' zs)
   within before before' behind behind' make make' p q same none = none
   within {each} {each'} before before' behind behind' make make' p q same (also {x} {z} m ms) =
       also (maps-around each each' before before' behind behind' make make' p q same x z m) (within before before' behind behind' make make' p q same ms)
 
-  then : {A B : Type 0} {each : A → B} {xs ys : List (Hole S A)} {zs ws : List (Hole T B)} → MapsHoles each xs zs → MapsHoles each ys ws → MapsHoles each (xs ++ ys) (zs ++ ws)
+  then : {A B : Type 0} {each : A → B} {xs ys : List (Hole S A)} {zs ws : List (Hole T B)} → MapsHoles each xs zs → MapsHoles each ys ws
+      → MapsHoles each (xs ++ ys) (zs ++ ws)
   then none n = n
   then (also m ms) n = also m (then ms n)
 
-  pub nth-maps : {A B : Type 0} (each : A → B) (xs : List (Hole S A)) (zs : List (Hole T B)) → MapsHoles each xs zs → (n : ℕ) → InBoth (MapsHole h each) (nth xs n) (nth zs n)
+  pub nth-maps : {A B : Type 0} (each : A → B) (xs : List (Hole S A)) (zs : List (Hole T B)) → MapsHoles each xs zs → (n : ℕ)
+      → InBoth (MapsHole h each) (nth xs n) (nth zs n)
   nth-maps each xs zs none n = neither
   nth-maps each xs zs (also {x} {z} m ms) zero = both x z m
   nth-maps each xs zs (also {xs = more} {zs = rest} m ms) (suc n) = nth-maps each more rest ms n
@@ -50,24 +58,31 @@ module _ {S T : Type 0} (h : S → T) where
       also (maps of_expression e _ _ _ _ _ _ refl (ap (λ w. mark k.Colon ++ w) (expression-words-each h f)) (λ y. refl))
       (also (maps of_expression f _ _ _ _ _ _ (ap (λ w. w ++ mark k.Colon) (expression-words-each h e)) refl (λ y. refl)) none)
 
-  arguments-maps : (list : Arguments S) (trailing : Bool) → MapsHoles (each_arguments h) (arguments_children list trailing) (arguments_children (each_arguments h list) trailing)
+  arguments-maps : (list : Arguments S) (trailing : Bool)
+      → MapsHoles (each_arguments h) (arguments_children list trailing) (arguments_children (each_arguments h list) trailing)
   arguments-maps no_arguments trailing = none
   arguments-maps (argument a more) trailing =
       then
-      (within [] [] _ _ (λ x. argument x more) (λ x. argument x (each_arguments h more)) refl (ap₂ (λ u v. u ++ v) (comma-each h more trailing) (arguments-words-each h more trailing)) (λ y. refl) (argument-maps a))
-      (within _ _ [] [] (argument a) (argument (each_argument h a)) (ap₂ (λ u v. u ++ v) (argument-words-each h a) (comma-each h more trailing)) refl (λ y. refl) (arguments-maps more trailing))
+      (within [] [] _ _ (λ x. argument x more) (λ x. argument x (each_arguments h more)) refl
+      (ap₂ (λ u v. u ++ v) (comma-each h more trailing) (arguments-words-each h more trailing)) (λ y. refl) (argument-maps a))
+      (within _ _ [] [] (argument a) (argument (each_argument h a)) (ap₂ (λ u v. u ++ v) (argument-words-each h a) (comma-each h more trailing)) refl
+      (λ y. refl) (arguments-maps more trailing))
 
   listing-maps : (l : Listing S) (b : Bracket) → MapsHoles (each_listing h) (listing_children l b) (listing_children (each_listing h l) b)
-  listing-maps (listing s trailing list) b = within (mark (opens b)) _ (mark (closes b)) _ (listing s trailing) (listing (h s) trailing) refl refl (λ y. refl) (arguments-maps list trailing)
+  listing-maps (listing s trailing list) b =
+      within (mark (opens b)) _ (mark (closes b)) _ (listing s trailing) (listing (h s) trailing) refl refl (λ y. refl) (arguments-maps list trailing)
 
   operands-maps : (os : Operands S) → MapsHoles (each_operands h) (operands_children os) (operands_children (each_operands h os))
   operands-maps no_operands = none
   operands-maps (operand o e more) =
       also (maps of_expression e _ _ _ _ _ _ refl (operands-words-each h more) (λ y. refl))
-      (within _ _ [] [] (operand o e) (operand o (each_expression h e)) (ap (λ w. operator_words o ++ w) (expression-words-each h e)) refl (λ y. refl) (operands-maps more))
+      (within _ _ [] [] (operand o e) (operand o (each_expression h e)) (ap (λ w. operator_words o ++ w) (expression-words-each h e)) refl (λ y. refl)
+      (operands-maps more))
 
   tail-maps : (t : Tail S) → MapsHoles (each_tail h) (tail_children t) (tail_children (each_tail h t))
-  tail-maps (method s x l) = within (mark k.Dot ++ (k.Identifier, x.text) ∷ []) _ [] [] (method s x) (method (h s) (each_name h x)) refl refl (λ y. refl) (listing-maps l bracket.Round)
+  tail-maps (method s x l) =
+      within (mark k.Dot ++ (k.Identifier, x.text) ∷ []) _ [] [] (method s x) (method (h s) (each_name h x)) refl refl (λ y. refl)
+      (listing-maps l bracket.Round)
   tail-maps (index s e) = also (maps of_expression e _ _ _ _ _ _ refl refl (λ y. refl)) none
 
   tails-maps : (ts : Tails S) → MapsHoles (each_tails h) (tails_children ts) (tails_children (each_tails h ts))
@@ -85,7 +100,8 @@ module _ {S T : Type 0} (h : S → T) where
   expression-maps (paren s e) = also (maps of_expression e _ _ _ _ _ _ refl refl (λ y. refl)) none
   expression-maps (array l) = within [] [] [] [] array array refl refl (λ y. refl) (listing-maps l bracket.Square)
   expression-maps (dictionary l) = within [] [] [] [] dictionary dictionary refl refl (λ y. refl) (listing-maps l bracket.Curly)
-  expression-maps (call s x l) = within ((k.Identifier, x.text) ∷ []) _ [] [] (call s x) (call (h s) (each_name h x)) refl refl (λ y. refl) (listing-maps l bracket.Round)
+  expression-maps (call s x l) =
+      within ((k.Identifier, x.text) ∷ []) _ [] [] (call s x) (call (h s) (each_name h x)) refl refl (λ y. refl) (listing-maps l bracket.Round)
   expression-maps (unary s o e) = also (maps of_expression e _ _ _ _ _ _ refl refl (λ y. refl)) none
   expression-maps (row s e os) =
       also (maps of_expression e _ _ _ _ _ _ refl (operands-words-each h os) (λ y. refl))
@@ -94,9 +110,12 @@ module _ {S T : Type 0} (h : S → T) where
       also (maps of_expression e _ _ _ _ _ _ refl (tails-words-each h ts) (λ y. refl))
       (within _ _ [] [] (postfix s e) (postfix (h s) (each_expression h e)) (expression-words-each h e) refl (λ y. refl) (tails-maps ts))
   expression-maps (conditional s c y n) =
-      also (maps of_expression c _ _ _ _ _ _ refl (ap₂ (λ u v. mark k.Question ++ (u ++ (mark k.Colon ++ v))) (expression-words-each h y) (expression-words-each h n)) (λ z. refl))
-      (also (maps of_expression y _ _ _ _ _ _ (ap (λ w. w ++ mark k.Question) (expression-words-each h c)) (ap (λ w. mark k.Colon ++ w) (expression-words-each h n)) (λ z. refl))
-      (also (maps of_expression n _ _ _ _ _ _ (ap₂ (λ u v. u ++ (mark k.Question ++ (v ++ mark k.Colon))) (expression-words-each h c) (expression-words-each h y)) refl (λ z. refl)) none))
+      also (maps of_expression c _ _ _ _ _ _ refl
+      (ap₂ (λ u v. mark k.Question ++ (u ++ (mark k.Colon ++ v))) (expression-words-each h y) (expression-words-each h n)) (λ z. refl))
+      (also (maps of_expression y _ _ _ _ _ _ (ap (λ w. w ++ mark k.Question) (expression-words-each h c))
+      (ap (λ w. mark k.Colon ++ w) (expression-words-each h n)) (λ z. refl))
+      (also (maps of_expression n _ _ _ _ _ _
+      (ap₂ (λ u v. u ++ (mark k.Question ++ (v ++ mark k.Colon))) (expression-words-each h c) (expression-words-each h y)) refl (λ z. refl)) none))
 
   -- ---- statements
 
@@ -104,8 +123,10 @@ module _ {S T : Type 0} (h : S → T) where
   branches-maps no_branches word = none
   branches-maps (branch e b more) word =
       also (maps of_expression e _ _ _ _ _ _ refl (ap₂ (λ u v. (new_line ∷ u) ++ v) (block-words-each h b) (branches-words-each h more k.WordElif)) (λ y. refl))
-      (also (maps of_block b _ _ _ _ _ _ (ap (λ w. mark word ++ (w ++ new_line ∷ [])) (expression-words-each h e)) (branches-words-each h more k.WordElif) (λ y. refl))
-      (within _ _ [] [] (branch e b) (branch (each_expression h e) (each_block h b)) (ap₂ (λ u v. mark word ++ (u ++ (new_line ∷ v))) (expression-words-each h e) (block-words-each h b)) refl (λ y. refl)
+      (also (maps of_block b _ _ _ _ _ _ (ap (λ w. mark word ++ (w ++ new_line ∷ [])) (expression-words-each h e)) (branches-words-each h more k.WordElif)
+      (λ y. refl))
+      (within _ _ [] [] (branch e b) (branch (each_expression h e) (each_block h b))
+      (ap₂ (λ u v. mark word ++ (u ++ (new_line ∷ v))) (expression-words-each h e) (block-words-each h b)) refl (λ y. refl)
       (branches-maps more k.WordElif)))
 
   otherwise-maps : (o : Otherwise S) → MapsHoles (each_otherwise h) (otherwise_children o) (otherwise_children (each_otherwise h o))
@@ -117,11 +138,16 @@ module _ {S T : Type 0} (h : S → T) where
   statement-maps (assign s x a e) = also (maps of_expression e _ _ _ _ _ _ refl refl (λ y. refl)) none
   statement-maps (selection s bs o) =
       then
-      (within [] [] _ _ (λ x. selection s x o) (λ x. selection (h s) x (each_otherwise h o)) refl (ap (λ w. w ++ mark k.WordEndif) (otherwise-words-each h o)) (λ y. refl) (branches-maps bs k.WordIf))
-      (within _ _ (mark k.WordEndif) _ (selection s bs) (selection (h s) (each_branches h bs)) (branches-words-each h bs k.WordIf) refl (λ y. refl) (otherwise-maps o))
+      (within [] [] _ _ (λ x. selection s x o) (λ x. selection (h s) x (each_otherwise h o)) refl
+      (ap (λ w. w ++ mark k.WordEndif) (otherwise-words-each h o)) (λ y. refl) (branches-maps bs k.WordIf))
+      (within _ _ (mark k.WordEndif) _ (selection s bs) (selection (h s) (each_branches h bs)) (branches-words-each h bs k.WordIf) refl (λ y. refl)
+      (otherwise-maps o))
   statement-maps (iteration s xs e b) =
-      also (maps of_expression e _ _ _ _ _ _ (ap (λ w. mark k.WordForeach ++ (w ++ mark k.Colon)) (names-words-each h xs)) (ap (λ w. (new_line ∷ w) ++ mark k.WordEndforeach) (block-words-each h b)) (λ y. refl))
-      (also (maps of_block b _ _ _ _ _ _ (ap₂ (λ v w. mark k.WordForeach ++ (v ++ (mark k.Colon ++ (w ++ new_line ∷ [])))) (names-words-each h xs) (expression-words-each h e)) refl (λ y. refl)) none)
+      also (maps of_expression e _ _ _ _ _ _ (ap (λ w. mark k.WordForeach ++ (w ++ mark k.Colon)) (names-words-each h xs))
+      (ap (λ w. (new_line ∷ w) ++ mark k.WordEndforeach) (block-words-each h b)) (λ y. refl))
+      (also (maps of_block b _ _ _ _ _ _
+      (ap₂ (λ v w. mark k.WordForeach ++ (v ++ (mark k.Colon ++ (w ++ new_line ∷ [])))) (names-words-each h xs) (expression-words-each h e)) refl
+      (λ y. refl)) none)
   statement-maps (breaks s) = none
   statement-maps (continues s) = none
 
@@ -129,7 +155,8 @@ module _ {S T : Type 0} (h : S → T) where
   statements-maps no_statements = none
   statements-maps (statement s more) =
       also (maps of_statement s _ _ _ _ _ _ refl (ap (λ w. new_line ∷ w) (statements-words-each h more)) (λ y. refl))
-      (within _ _ [] [] (statement s) (statement (each_statement h s)) (ap (λ w. w ++ new_line ∷ []) (statement-words-each h s)) refl (λ y. refl) (statements-maps more))
+      (within _ _ [] [] (statement s) (statement (each_statement h s)) (ap (λ w. w ++ new_line ∷ []) (statement-words-each h s)) refl (λ y. refl)
+      (statements-maps more))
 
   block-maps : (b : Block S) → MapsHoles (each_block h) (block_children b) (block_children (each_block h b))
   block-maps (block s list) = within [] [] [] [] (block s) (block (h s)) refl refl (λ y. refl) (statements-maps list)

@@ -26,7 +26,9 @@ module _ {S T : Type 0} (h : S → T) where
     expression-each (unary s o e) = ap (unary tt o) (expression-each e)
     expression-each (row s e os) = ap₂ (row tt) (expression-each e) (operands-each os)
     expression-each (postfix s e ts) = ap₂ (postfix tt) (expression-each e) (tails-each ts)
-    expression-each (conditional s c y n) = ap₂ (λ c y. conditional tt c y (erase_expression (each_expression h n))) (expression-each c) (expression-each y) ∙ ap (conditional tt (erase_expression c) (erase_expression y)) (expression-each n)
+    expression-each (conditional s c y n) =
+        ap₂ (λ c y. conditional tt c y (erase_expression (each_expression h n))) (expression-each c) (expression-each y)
+        ∙ ap (conditional tt (erase_expression c) (erase_expression y)) (expression-each n)
 
     operands-each : (os : Operands S) → erase_operands (each_operands h os) ≡ erase_operands os
     operands-each no_operands = refl
@@ -58,14 +60,16 @@ module _ {S T : Type 0} (h : S → T) where
     statement-each (assign s x a e) = ap (assign tt (erase_name x) a) (expression-each e)
     statement-each (selection s bs o) = ap₂ (selection tt) (branches-each bs) (otherwise-each o)
     statement-each (iteration s xs e b) =
-        ap₂ (λ x e. iteration tt x e (erase_block (each_block h b))) (names-each xs) (expression-each e) ∙ ap (iteration tt (erase_names xs) (erase_expression e)) (block-each b)
+        ap₂ (λ x e. iteration tt x e (erase_block (each_block h b))) (names-each xs) (expression-each e)
+        ∙ ap (iteration tt (erase_names xs) (erase_expression e)) (block-each b)
     statement-each (breaks s) = refl
     statement-each (continues s) = refl
 
     branches-each : (bs : Branches S) → erase_branches (each_branches h bs) ≡ erase_branches bs
     branches-each no_branches = refl
     branches-each (branch e b more) =
-        ap₂ (λ e b. branch e b (erase_branches (each_branches h more))) (expression-each e) (block-each b) ∙ ap (branch (erase_expression e) (erase_block b)) (branches-each more)
+        ap₂ (λ e b. branch e b (erase_branches (each_branches h more))) (expression-each e) (block-each b)
+        ∙ ap (branch (erase_expression e) (erase_block b)) (branches-each more)
 
     otherwise-each : (o : Otherwise S) → erase_otherwise (each_otherwise h o) ≡ erase_otherwise o
     otherwise-each nothing_else = refl
@@ -87,7 +91,8 @@ module _ {S T : Type 0} (h : S → T) where
   names-words-each xs = sym (names-words-erased (map (each_name h) xs)) ∙ ap names_words (names-each xs) ∙ names-words-erased xs
 
   pub comma-each : (list : Arguments S) (trailing : Bool) → comma_words (each_arguments h list) trailing ≡ comma_words list trailing
-  comma-each list trailing = sym (comma-erased (each_arguments h list) trailing) ∙ ap (λ l. comma_words l trailing) (arguments-each list) ∙ comma-erased list trailing
+  comma-each list trailing =
+      sym (comma-erased (each_arguments h list) trailing) ∙ ap (λ l. comma_words l trailing) (arguments-each list) ∙ comma-erased list trailing
 
   pub expression-words-each : (e : Expression S) → expression_words (each_expression h e) ≡ expression_words e
   expression-words-each e = sym (expression-words-erased (each_expression h e)) ∙ ap expression_words (expression-each e) ∙ expression-words-erased e
@@ -105,19 +110,23 @@ module _ {S T : Type 0} (h : S → T) where
   argument-words-each a = sym (argument-words-erased (each_argument h a)) ∙ ap argument_words (argument-each a) ∙ argument-words-erased a
 
   pub arguments-words-each : (list : Arguments S) (trailing : Bool) → arguments_words (each_arguments h list) trailing ≡ arguments_words list trailing
-  arguments-words-each list trailing = sym (arguments-words-erased (each_arguments h list) trailing) ∙ ap (λ l. arguments_words l trailing) (arguments-each list) ∙ arguments-words-erased list trailing
+  arguments-words-each list trailing =
+      sym (arguments-words-erased (each_arguments h list) trailing) ∙ ap (λ l. arguments_words l trailing) (arguments-each list)
+      ∙ arguments-words-erased list trailing
 
   pub statement-words-each : (s : Statement S) → statement_words (each_statement h s) ≡ statement_words s
   statement-words-each s = sym (statement-words-erased (each_statement h s)) ∙ ap statement_words (statement-each s) ∙ statement-words-erased s
 
   pub branches-words-each : (bs : Branches S) (word : Kind) → branches_words (each_branches h bs) word ≡ branches_words bs word
-  branches-words-each bs word = sym (branches-words-erased (each_branches h bs) word) ∙ ap (λ b. branches_words b word) (branches-each bs) ∙ branches-words-erased bs word
+  branches-words-each bs word =
+      sym (branches-words-erased (each_branches h bs) word) ∙ ap (λ b. branches_words b word) (branches-each bs) ∙ branches-words-erased bs word
 
   pub otherwise-words-each : (o : Otherwise S) → otherwise_words (each_otherwise h o) ≡ otherwise_words o
   otherwise-words-each o = sym (otherwise-words-erased (each_otherwise h o)) ∙ ap otherwise_words (otherwise-each o) ∙ otherwise-words-erased o
 
   pub statements-words-each : (list : Statements S) → statements_words (each_statements h list) ≡ statements_words list
-  statements-words-each list = sym (statements-words-erased (each_statements h list)) ∙ ap statements_words (statements-each list) ∙ statements-words-erased list
+  statements-words-each list =
+      sym (statements-words-erased (each_statements h list)) ∙ ap statements_words (statements-each list) ∙ statements-words-erased list
 
   pub block-words-each : (b : Block S) → block_words (each_block h b) ≡ block_words b
   block-words-each b = sym (block-words-erased (each_block h b)) ∙ ap block_words (block-each b) ∙ block-words-erased b

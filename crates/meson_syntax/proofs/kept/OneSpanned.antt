@@ -1,5 +1,5 @@
 -- A text has one place for each node, whatever limits it is read within.
-use Rattle.std.proofs.Common.{ℕ, ◌≤◌, max, List, [], length, refl, sym, ap, subst, ◌∙◌, arith}
+use Rattle.std.proofs.Common.{◌≡◌, ℕ, ◌≤◌, max, List, [], length, refl, sym, ap, subst, ◌∙◌, arith}
 use Rattle.std.proofs.lemmas.List.{append-nil}
 use Rattle.meson_lex.specs.declared.kinds.Span.{Span}
 use Rattle.meson_lex.specs.Significant.{start}
@@ -24,7 +24,8 @@ use Rattle.meson_syntax.proofs.kept.WithinFiles.{file_in}
 -- ---- files
 
 -- what is read within limits is spelled at any depth that is no less
-at-depth : (limits : Limits) (bytes : List ℕ) (f : File Span) (s : IsSpannedWithin limits bytes f) (depth : ℕ) → limits.depth ≤ depth → SpellsFile f (length bytes) depth (located s.reads.spells.items)
+at-depth : (limits : Limits) (bytes : List ℕ) (f : File Span) (s : IsSpannedWithin limits bytes f) (depth : ℕ) → limits.depth ≤ depth
+    → SpellsFile f (length bytes) depth (located s.reads.spells.items)
 at-depth limits bytes f s depth h =
     let n = file-depth-erased f in
     let room = s.reads.depth in
@@ -36,13 +37,24 @@ one-spanned-within limits others bytes f g p q =
     let depth = max limits.depth others.depth in
     let items = p.reads.spells.items in
     let same = one_list bytes q.reads.spells.items items q.reads.spells.are_items p.reads.spells.are_items in
-    let stands : SpellsFile g len depth (located items) = subst (λ xs. SpellsFile g len depth (located xs)) same (at-depth others bytes g q depth (omega arith)) in
-    some-injective _ _ (sym (whole-complete depth len (located items) f (at-depth limits bytes f p depth (omega arith))) ∙ whole-complete depth len (located items) g stands)
+    let stands : SpellsFile g len depth (located items) = subst (λ xs. SpellsFile g len depth (located xs)) same
+    (at-depth others bytes g q depth (omega arith)) in
+    some-injective _ _ (sym (whole-complete depth len (located items) f (at-depth limits bytes f p depth (omega arith)))
+    ∙ whole-complete depth len (located items) g stands)
 
 -- ---- lists
 
 all-passes : (P : List Token → Type 0) (ts : List Token) → P ts → Passes P (record { last = 0; rest = ts }) (record { last = end_of 0 ts; rest = [] })
 all-passes P ts h = record { used = ts; fits = h; took = record { rest = sym (append-nil ts); last = refl } }
+
+-- tokens spell one list
+pub one-spelled-list : (b : Bracket) (depth : ℕ) (l m : Listing Span) (ts : List Token) → SpellsListing l b depth ts → SpellsListing m b depth ts → l ≡ m
+one-spelled-list b depth l m ts p q =
+    let i : Input = record { last = 0; rest = ts } in
+    let j : Input = record { last = end_of 0 ts; rest = [] } in
+    let first = complete-listed depth l b i j (all-passes (SpellsListing l b depth) ts p) in
+    let second = complete-listed depth m b i j (all-passes (SpellsListing m b depth) ts q) in
+    ap (λ r. r.0) (some-injective (l, j) (m, j) (sym first ∙ second))
 
 list-at-depth : (most : ℕ) (b : Bracket) (bytes : List ℕ) (l : Listing Span) (s : IsSpannedListWithin most b bytes l) (depth : ℕ) → most ≤ depth
     → SpellsListing l b depth (spots start 0 0 (list_items s.reads.text))
@@ -58,9 +70,6 @@ one-spanned-list b bytes most other l m p q =
     let others = list_items q.reads.text in
     let ts = spots start 0 0 items in
     let same = one_list bytes others items q.reads.text.are_items p.reads.text.are_items in
-    let stands : SpellsListing m b depth ts = subst (λ xs. SpellsListing m b depth (spots start 0 0 xs)) same (list-at-depth other b bytes m q depth (omega arith)) in
-    let i : Input = record { last = 0; rest = ts } in
-    let j : Input = record { last = end_of 0 ts; rest = [] } in
-    let first = complete-listed depth l b i j (all-passes (SpellsListing l b depth) ts (list-at-depth most b bytes l p depth (omega arith))) in
-    let second = complete-listed depth m b i j (all-passes (SpellsListing m b depth) ts stands) in
-    ap (λ r. r.0) (some-injective (l, j) (m, j) (sym first ∙ second))
+    let stands : SpellsListing m b depth ts = subst (λ xs. SpellsListing m b depth (spots start 0 0 xs)) same
+    (list-at-depth other b bytes m q depth (omega arith)) in
+    one-spelled-list b depth l m ts (list-at-depth most b bytes l p depth (omega arith)) stands

@@ -10,7 +10,8 @@ use Rattle.meson_syntax.proofs.exchange.Nesting.{nest, quiet-line}
 
 -- ---- one after another
 
-pub spots-append : (s : State) (e p : ℕ) (xs ys : List Lexeme) → spots s e p (xs ++ ys) ≡ spots s e p xs ++ spots (after s xs) (end_after e p xs) (p + length (joined xs)) ys
+pub spots-append : (s : State) (e p : ℕ) (xs ys : List Lexeme)
+    → spots s e p (xs ++ ys) ≡ spots s e p xs ++ spots (after s xs) (end_after e p xs) (p + length (joined xs)) ys
 spots-append s e p [] ys = let here : p ≡ p + length {A = ℕ} [] = omega arith in ap (λ n. spots s e n ys) here
 spots-append s e p (x ∷ xs) ys =
     let z = step s x in
@@ -44,7 +45,8 @@ module _ (g : ℕ → ℕ) where
   token-moved : (x : Lexeme) (p : ℕ) → g (p + length x.text) ≡ g p + length x.text → token_at x (g p) ≡ token_by g (token_at x p)
   token-moved x p to = ap (λ n. record { kind = x.kind; text = x.text; from = g p; to = n }) (sym to)
 
-  spot-moved : (r : Role) (s : State) (x : Lexeme) (e p : ℕ) → g (p + length x.text) ≡ g p + length x.text → spot_by r s x (g e) (g p) ≡ tokens_by g (spot_by r s x e p)
+  spot-moved : (r : Role) (s : State) (x : Lexeme) (e p : ℕ) → g (p + length x.text) ≡ g p + length x.text
+      → spot_by r s x (g e) (g p) ≡ tokens_by g (spot_by r s x e p)
   spot-moved Gap s x e p to = refl
   spot-moved Ends s x e p to = line-moved (ends_line s.depth s.fresh) e
   spot-moved Opens s x e p to = ap (λ t. t ∷ []) (token-moved x p to)
@@ -58,7 +60,8 @@ module _ (g : ℕ → ℕ) where
   end-moved Closes x e p to = sym to
   end-moved Other x e p to = sym to
 
-  pub spots-moved : (s : State) (e p q : ℕ) (xs : List Lexeme) → Carries g p q → p + length (joined xs) ≤ q → spots s (g e) (g p) xs ≡ tokens_by g (spots s e p xs)
+  pub spots-moved : (s : State) (e p q : ℕ) (xs : List Lexeme) → Carries g p q → p + length (joined xs) ≤ q
+      → spots s (g e) (g p) xs ≡ tokens_by g (spots s e p xs)
   spots-moved s e p q [] carries inside = refl
   spots-moved s e p q (x ∷ xs) carries inside =
       let n = length-append x.text (joined xs) in
@@ -87,9 +90,11 @@ module _ (g : ℕ → ℕ) where
 abbrev Alike : List Lexeme → Type 0
 Alike xs = (n m a b e p : ℕ) (s z : State) → s.depth ≡ n + suc a → z.depth ≡ n + suc b → nest n (spoken xs) ≡ Some m → spots s e p xs ≡ spots z e p xs
 
-alike-by : (r : Role) (x : Lexeme) (w : Word) → role w.0 ≡ r → (xs : List Lexeme) → Alike xs → (n m a b e p : ℕ) (s z : State) → s.depth ≡ n + suc a → z.depth ≡ n + suc b
+alike-by : (r : Role) (x : Lexeme) (w : Word) → role w.0 ≡ r → (xs : List Lexeme) → Alike xs → (n m a b e p : ℕ) (s z : State) → s.depth ≡ n + suc a
+    → z.depth ≡ n + suc b
     → nest n (spoken_by r w ++ spoken xs) ≡ Some m
-    → spot_by r s x e p ++ spots (step_by r s) (end_by r x e p) (p + length x.text) xs ≡ spot_by r z x e p ++ spots (step_by r z) (end_by r x e p) (p + length x.text) xs
+    → spot_by r s x e p ++ spots (step_by r s) (end_by r x e p) (p + length x.text) xs
+    ≡ spot_by r z x e p ++ spots (step_by r z) (end_by r x e p) (p + length x.text) xs
 alike-by Gap x w is xs ih n m a b e p s z d f h = ih n m a b e (p + length x.text) s z d f h
 alike-by Ends x w is xs ih n m a b e p s z d f h =
     let q = p + length x.text in
@@ -97,12 +102,14 @@ alike-by Ends x w is xs ih n m a b e p s z d f h =
     ∙ ih n m a b e q (step_by Ends s) (step_by Ends z) d f h
     ∙ sym (ap (λ (b : Bool). only_if b (line_end_at e) ++ spots (step_by Ends z) e q xs) (quiet-line z.depth n b z.fresh f))
 alike-by Opens x w is xs ih n m a b e p s z d f h =
-    ap (λ l. token_at x p ∷ l) (ih (suc n) m a b (p + length x.text) (p + length x.text) (step_by Opens s) (step_by Opens z) (omega arith) (omega arith) (rw is at h))
+    ap (λ l. token_at x p ∷ l) (ih (suc n) m a b (p + length x.text) (p + length x.text) (step_by Opens s) (step_by Opens z) (omega arith) (omega arith)
+    (rw is at h))
 alike-by Closes x w is xs ih zero m a b e p s z d f h = let no-close : None ≡ Some m = rw is at h in absurd cc
 alike-by Closes x w is xs ih (suc n) m a b e p s z d f h =
     let one : s.depth ≡ suc (n + suc a) = omega arith in
     let two : z.depth ≡ suc (n + suc b) = omega arith in
-    ap (λ l. token_at x p ∷ l) (ih n m a b (p + length x.text) (p + length x.text) (step_by Closes s) (step_by Closes z) (ap pred one) (ap pred two) (rw is at h))
+    ap (λ l. token_at x p ∷ l) (ih n m a b (p + length x.text) (p + length x.text) (step_by Closes s) (step_by Closes z) (ap pred one) (ap pred two)
+    (rw is at h))
 alike-by Other x w is xs ih n m a b e p s z d f h =
     ap (λ l. token_at x p ∷ l) (ih n m a b (p + length x.text) (p + length x.text) (step_by Other s) (step_by Other z) d f (rw is at h))
 
@@ -110,5 +117,6 @@ alike : (xs : List Lexeme) → Alike xs
 alike [] n m a b e p s z d f h = refl
 alike (x ∷ xs) n m a b e p s z d f h = alike-by (role x.kind) x (x.kind, kept x.kind x.text) refl xs (alike xs) n m a b e p s z d f h
 
-pub inside-spots : (xs : List Lexeme) (a b e p : ℕ) (s z : State) → s.depth ≡ suc a → z.depth ≡ suc b → nest 0 (spoken xs) ≡ Some 0 → spots s e p xs ≡ spots z e p xs
+pub inside-spots : (xs : List Lexeme) (a b e p : ℕ) (s z : State) → s.depth ≡ suc a → z.depth ≡ suc b → nest 0 (spoken xs) ≡ Some 0
+    → spots s e p xs ≡ spots z e p xs
 inside-spots xs a b e p s z d f h = alike xs 0 0 a b e p s z (omega arith) (omega arith) h

@@ -29,7 +29,7 @@ use Rattle.meson_syntax.proofs.exchange.Brackets.{open-bracket}
 use Rattle.meson_syntax.proofs.lists.Sound.{whole_list-sound, all-items}
 use Rattle.meson_syntax.proofs.lists.Complete.{whole_list-complete}
 
-inner-erased : (l : Listing Span) → inner_words (erase_listing l) ≡ inner_words l
+pub inner-erased : (l : Listing Span) → inner_words (erase_listing l) ≡ inner_words l
 inner-erased (listing s trailing list) = arguments-words-erased list trailing
 
 -- ---- a list's text begins with no byte order mark

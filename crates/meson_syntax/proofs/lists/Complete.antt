@@ -1,9 +1,9 @@
 -- What a text reads as, as one list, is read.
-use Rattle.std.proofs.Common.{◌≡◌, ℕ, ◌+◌, Bool, true, false, List, [], ◌∷◌, ◌++◌, length, Some, refl, sym, ap, ◌∙◌, length-append, arith, rules}
+use Rattle.std.proofs.Common.{◌≡◌, ℕ, ◌+◌, Bool, true, false, List, [], ◌∷◌, ◌++◌, length, Some, refl, sym, ap, subst, ◌∙◌, length-append, arith, rules}
 use Rattle.std.specs.Prelude.{◌==◌, ◌&&◌}
 use Rattle.meson_lex.specs.declared.kinds.Span.{Span}
 use Rattle.meson_lex.specs.Items.{Lexeme, joined, IsItemList}
-use Rattle.meson_lex.specs.Significant.{Role, Gap, Ends, Opens, Closes, Other, role, State, start, step, after, emitted, ends_line, only_if}
+use Rattle.meson_lex.specs.Significant.{Word, Role, Gap, Ends, Opens, Closes, Other, role, State, start, step, after, emitted, ends_line, only_if}
 use Rattle.meson_lex.specs.Located.{line_end_at, token_at, spot_by, end_by, spots, end_after, closing_at, located}
 use Rattle.meson_lex.proofs.OneList.{one_list}
 use Rattle.meson_lex.proofs.TokenWords.{words-spots}
@@ -12,9 +12,10 @@ use Rattle.meson_syntax.specs.Operators.{opens, closes}
 use Rattle.meson_syntax.specs.Tree.{Nowhere, Listing, erase_listing}
 use Rattle.meson_syntax.specs.Grammar.{mark, listing_words}
 use Rattle.meson_syntax.specs.Input.{Input, sees}
-use Rattle.meson_syntax.specs.Spelling.{end_of, SpellsListing}
-use Rattle.meson_syntax.specs.Paths.{list_span}
+use Rattle.meson_syntax.specs.Spelling.{end_of, Covers, SpellsListing}
+use Rattle.meson_syntax.specs.Paths.{list_span, inner_words}
 use Rattle.meson_lex.specs.Words.{spoken}
+use Rattle.meson_syntax.specs.Exchange.{IsListText}
 use Rattle.meson_syntax.specs.ReadsList.{ReadsListWithin, list_items}
 use Rattle.meson_syntax.specs.ReadingLists.{bracketed, list_of, whole_list}
 use Rattle.meson_syntax.proofs.parsing.Steps.{Passes, end_of-append}
@@ -62,6 +63,20 @@ opens-first o rest is = ap (λ r. spot_by r start o 0 0 ++ spots (step start o) 
 covers-yes : (a n m : ℕ) → a ≡ 0 → n ≡ m → ((a == 0) && (n == m)) ≡ true
 covers-yes a n m e f = search rules
 
+-- what covers all tokens of a list's text goes from its begin to its end
+pub whole-span : (source : List ℕ) (b : Bracket) (words : List Word) (t : IsListText source b words) (s : Span) → Covers s (spots start 0 0 (list_items t)) → (s.from ≡ 0) × (s.to ≡ length source)
+whole-span source b words t s cover =
+    let o = t.open_item in
+    let c = t.close_item in
+    let own = list_items t in
+    let used = spots start 0 0 own in
+    let rest = t.inner ++ c ∷ [] in
+    let first = opens-first o rest (ap role t.is_open ∙ opens-role b) in
+    let n = last-end 0 0 (o ∷ t.inner) c (ap role t.is_close ∙ closes-role b) in
+    let m = ap length t.are_items.joins in
+    let last = covers-end s used cover ∙ end-spots start 0 0 own in
+    (covers-from s used (token_at o 0) (spots (step start o) (end_by (role o.kind) o 0 0) (0 + length o.text) rest) cover first, omega arith)
+
 -- ---- the list is read
 
 pub whole_list-complete : (source : List ℕ) (items : List Lexeme) → IsItemList source items → (depth : ℕ) (b : Bracket) (p : Listing Nowhere) → ReadsListWithin depth b source p
@@ -86,15 +101,9 @@ whole_list-complete source items are depth b p r =
     let read = complete-listed depth l b i j passes in
     let begins = yes-sees (opens b) i (first-listing l b depth i j passes) in
     let cover = listing-covers l b depth used placed.2 in
-    let rest = t.inner ++ c ∷ [] in
-    let first = ap (spots start 0 0) (sym is) ∙ opens-first o rest (ap role t.is_open ∙ opens-role b) in
-    let from : (list_span l).from ≡ 0 = covers-from (list_span l) used (token_at o 0) (spots (step start o) (end_by (role o.kind) o 0 0) (0 + length o.text) rest) cover first in
-    let n = last-end 0 0 (o ∷ t.inner) c (ap role t.is_close ∙ closes-role b) in
-    let m = ap length t.are_items.joins in
-    let last = covers-end (list_span l) used cover ∙ ap (λ xs. end_of 0 (spots start 0 0 xs)) (sym is) ∙ end-spots start 0 0 own in
-    let to : (list_span l).to ≡ length source = omega arith in (
+    let whole = whole-span source b (inner_words p) t (list_span l) (subst (λ xs. Covers (list_span l) (spots start 0 0 xs)) (sym is) cover) in (
       l,
       placed.1,
       ap (list_of (length source)) (yes-at (sees (opens b) i) _ _ i _ begins read)
-          ∙ rw (covers-yes (list_span l).from (list_span l).to (length source) from to) refl,
+          ∙ rw (covers-yes (list_span l).from (list_span l).to (length source) whole.0 whole.1) refl,
     )

@@ -1,4 +1,5 @@
 use Rattle.meson_edit.proofs.lists.Answers.{firsts-spell, insertions-spell, removals-spell, replacements-spell, wraps-spell, list-edits-write}
+use Rattle.meson_edit.proofs.lists.ReadAlone.{written-lists-read}
 use Rattle.meson_edit.proofs.laws.lists.Goals as goal
 
 pub returns : goal.returns
@@ -9,4 +10,5 @@ returns c = record {
   replacements = replacements-spell;
   wraps = wraps-spell;
   write = list-edits-write;
+  written_read = written-lists-read;
 }

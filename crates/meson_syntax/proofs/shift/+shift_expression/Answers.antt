@@ -18,19 +18,17 @@ shift_args-shift_arg-requires t c =
     let within : i < length list = search rules in
     let deep = at_most args.the_size list i d within in
     let size = ap args.the_size here in
-    let far = at_most_greatest furthest_arg list i d within in
-    let same = ap furthest_arg here in
-    let falls = c.decreases in
-    let fits = c.requires in
-    (omega (arith, deep, size, falls), omega (arith, far, same, fits))
+    let far = at_most_greatest furthest_arg list c.loop-i.args i d within here in
+    (omega (arith, deep, size, c.decreases), omega (arith, far, c.requires))
 
 pub shift_args-loop-i-preserved : goal.shift_args-loop-i-preserved
 shift_args-loop-i-preserved t c =
+    let list = c.args.args.now in
     let i = c.loop-i.i in
-    let within : i < length c.args.args.now = search rules in
-    let as_many : length c.loop-i.args ≡ length c.args.args.now = search rules in
+    let within : i < length list = search rules in
+    let as_many : length c.loop-i.args ≡ length list = search rules in
     let move = moved_arg (border_by c.args.by) in
-    (search rules, next_exchanged move c.args.args.now c.loop-i.args i c.index-args-i.result c.shift_arg.new.arg within as_many c.loop-i.invariant.1 c.shift_arg.ensures)
+    (search rules, next_exchanged move list c.loop-i.args i c.index-args-i.result _ within as_many c.loop-i.invariant.1 c.shift_arg.ensures)
 
 pub shift_operands-shift_operand-requires : goal.shift_operands-shift_operand-requires
 shift_operands-shift_operand-requires t c =
@@ -41,19 +39,17 @@ shift_operands-shift_operand-requires t c =
     let within : i < length list = search rules in
     let deep = at_most operands.the_size list i d within in
     let size = ap operands.the_size here in
-    let far = at_most_greatest furthest_operand list i d within in
-    let same = ap furthest_operand here in
-    let falls = c.decreases in
-    let fits = c.requires in
-    (omega (arith, deep, size, falls), omega (arith, far, same, fits))
+    let far = at_most_greatest furthest_operand list c.loop-i.operands i d within here in
+    (omega (arith, deep, size, c.decreases), omega (arith, far, c.requires))
 
 pub shift_operands-loop-i-preserved : goal.shift_operands-loop-i-preserved
 shift_operands-loop-i-preserved t c =
+    let list = c.args.operands.now in
     let i = c.loop-i.i in
-    let within : i < length c.args.operands.now = search rules in
-    let as_many : length c.loop-i.operands ≡ length c.args.operands.now = search rules in
+    let within : i < length list = search rules in
+    let as_many : length c.loop-i.operands ≡ length list = search rules in
     let move = moved_operand (border_by c.args.by) in
-    (search rules, next_exchanged move c.args.operands.now c.loop-i.operands i c.index-operands-i.result c.shift_operand.new.operand within as_many c.loop-i.invariant.1 c.shift_operand.ensures)
+    (search rules, next_exchanged move list c.loop-i.operands i c.index-operands-i.result _ within as_many c.loop-i.invariant.1 c.shift_operand.ensures)
 
 pub shift_tails-shift_tail-requires : goal.shift_tails-shift_tail-requires
 shift_tails-shift_tail-requires t c =
@@ -64,16 +60,14 @@ shift_tails-shift_tail-requires t c =
     let within : i < length list = search rules in
     let deep = at_most tails.the_size list i d within in
     let size = ap tails.the_size here in
-    let far = at_most_greatest furthest_tail list i d within in
-    let same = ap furthest_tail here in
-    let falls = c.decreases in
-    let fits = c.requires in
-    (omega (arith, deep, size, falls), omega (arith, far, same, fits))
+    let far = at_most_greatest furthest_tail list c.loop-i.tails i d within here in
+    (omega (arith, deep, size, c.decreases), omega (arith, far, c.requires))
 
 pub shift_tails-loop-i-preserved : goal.shift_tails-loop-i-preserved
 shift_tails-loop-i-preserved t c =
+    let list = c.args.tails.now in
     let i = c.loop-i.i in
-    let within : i < length c.args.tails.now = search rules in
-    let as_many : length c.loop-i.tails ≡ length c.args.tails.now = search rules in
+    let within : i < length list = search rules in
+    let as_many : length c.loop-i.tails ≡ length list = search rules in
     let move = moved_tail (border_by c.args.by) in
-    (search rules, next_exchanged move c.args.tails.now c.loop-i.tails i c.index-tails-i.result c.shift_tail.new.tail within as_many c.loop-i.invariant.1 c.shift_tail.ensures)
+    (search rules, next_exchanged move list c.loop-i.tails i c.index-tails-i.result _ within as_many c.loop-i.invariant.1 c.shift_tail.ensures)

@@ -17,19 +17,17 @@ shift_stmts-shift_stmt-requires t c =
     let within : i < length list = search rules in
     let deep = at_most stmts.the_size list i d within in
     let size = ap stmts.the_size here in
-    let far = at_most_greatest furthest_stmt list i d within in
-    let same = ap furthest_stmt here in
-    let falls = c.decreases in
-    let fits = c.requires in
-    (omega (arith, deep, size, falls), omega (arith, far, same, fits))
+    let far = at_most_greatest furthest_stmt list c.loop-i.stmts i d within here in
+    (omega (arith, deep, size, c.decreases), omega (arith, far, c.requires))
 
 pub shift_stmts-loop-i-preserved : goal.shift_stmts-loop-i-preserved
 shift_stmts-loop-i-preserved t c =
+    let list = c.args.stmts.now in
     let i = c.loop-i.i in
-    let within : i < length c.args.stmts.now = search rules in
-    let as_many : length c.loop-i.stmts ≡ length c.args.stmts.now = search rules in
+    let within : i < length list = search rules in
+    let as_many : length c.loop-i.stmts ≡ length list = search rules in
     let move = moved_stmt (border_by c.args.by) in
-    (search rules, next_exchanged move c.args.stmts.now c.loop-i.stmts i c.index-stmts-i.result c.shift_stmt.new.stmt within as_many c.loop-i.invariant.1 c.shift_stmt.ensures)
+    (search rules, next_exchanged move list c.loop-i.stmts i c.index-stmts-i.result _ within as_many c.loop-i.invariant.1 c.shift_stmt.ensures)
 
 pub shift_branches-shift_branch-requires : goal.shift_branches-shift_branch-requires
 shift_branches-shift_branch-requires t c =
@@ -40,16 +38,14 @@ shift_branches-shift_branch-requires t c =
     let within : i < length list = search rules in
     let deep = at_most branches.the_size list i d within in
     let size = ap branches.the_size here in
-    let far = at_most_greatest furthest_branch list i d within in
-    let same = ap furthest_branch here in
-    let falls = c.decreases in
-    let fits = c.requires in
-    (omega (arith, deep, size, falls), omega (arith, far, same, fits))
+    let far = at_most_greatest furthest_branch list c.loop-i.branches i d within here in
+    (omega (arith, deep, size, c.decreases), omega (arith, far, c.requires))
 
 pub shift_branches-loop-i-preserved : goal.shift_branches-loop-i-preserved
 shift_branches-loop-i-preserved t c =
+    let list = c.args.branches.now in
     let i = c.loop-i.i in
-    let within : i < length c.args.branches.now = search rules in
-    let as_many : length c.loop-i.branches ≡ length c.args.branches.now = search rules in
+    let within : i < length list = search rules in
+    let as_many : length c.loop-i.branches ≡ length list = search rules in
     let move = moved_branch (border_by c.args.by) in
-    (search rules, next_exchanged move c.args.branches.now c.loop-i.branches i c.index-branches-i.result c.shift_branch.new.branch within as_many c.loop-i.invariant.1 c.shift_branch.ensures)
+    (search rules, next_exchanged move list c.loop-i.branches i c.index-branches-i.result _ within as_many c.loop-i.invariant.1 c.shift_branch.ensures)

@@ -13,15 +13,15 @@ shift-requires c =
     let d : Span = record { from = 0; to = 0 } in
     let within : i < length list = search rules in
     let here = ap (λ xs. get_or xs i d) c.loop-i.invariant ∙ still_there (span_by (border_by c.args.by)) list i d in
-    let far = at_most_greatest furthest_span list i d within in
-    let same = ap furthest_span here in
-    let fits = c.requires in
-    omega (arith, far, same, fits)
+    let far = at_most_greatest furthest_span list c.loop-i.spans i d within here in
+    omega (arith, far, c.requires)
 
 pub loop-i-preserved : goal.loop-i-preserved
 loop-i-preserved c =
     let list = c.args.spans.now in
     let i = c.loop-i.i in
+    let d : Span = record { from = 0; to = 0 } in
     let within : i < length list = search rules in
     let as_many : length c.loop-i.spans ≡ length list = search rules in
-    next_exchanged (span_by (border_by c.args.by)) list c.loop-i.spans i (record { from = 0; to = 0 }) c.shift.new.span within as_many c.loop-i.invariant c.shift.ensures
+    let move = span_by (border_by c.args.by) in
+    next_exchanged move list c.loop-i.spans i d _ within as_many c.loop-i.invariant c.shift.ensures
