@@ -1,9 +1,9 @@
 -- What a file becomes where a list is put in its block.
 use Rattle.std.specs.Prelude.{option_map, option_and_then}
-use Rattle.std.proofs.Common.{◌≡◌, ℕ, List, [], ◌∷◌, ◌++◌, Option, Some, None, refl, sym, ap, subst, ◌∙◌}
+use Rattle.std.proofs.Common.{◌≡◌, ℕ, List, [], ◌∷◌, Option, Some, None, refl, ap, ◌∙◌}
 use Rattle.meson_lex.specs.Significant.{Word}
-use Rattle.meson_syntax.specs.Tree.{Expression, Listing, Block, File, file}
-use Rattle.meson_syntax.specs.Paths.{Sort, of_expression, of_statement, of_block, Node, Hole, around, children, child, nth, reach, block_of, with_block, ListIn, list_in, ListAt, list_within, list_of_node, list_at}
+use Rattle.meson_syntax.specs.Tree.{Listing, Block, File}
+use Rattle.meson_syntax.specs.Paths.{Sort, of_expression, of_statement, of_block, Node, Hole, around, child, reach, block_of, with_block, ListIn, list_in, ListAt, list_within, list_of_node, list_at}
 use Rattle.meson_syntax.specs.Putting.{put_own, put_here, in_hole, put_in}
 use Rattle.meson_syntax.proofs.parsing.Steps.{some-injective}
 use Rattle.meson_syntax.proofs.paths.Reaching.{map-some, and-then-some, reach-fits}
@@ -51,7 +51,8 @@ module _ (S : Type 0) (new : Listing S) where
     into_none g None e = refl
     into_none g (Some i) e = absurd cc
 
-    each : ((g : Hole S (Node sort S)) → reach S g.sort g.inside path ≡ None → put_in S g.sort g.inside path new ≡ (new, g.inside)) → (o : Option (Hole S (Node sort S))) → child S sort x n ≡ o
+    each : ((g : Hole S (Node sort S)) → reach S g.sort g.inside path ≡ None → put_in S g.sort g.inside path new ≡ (new, g.inside))
+        → (o : Option (Hole S (Node sort S))) → child S sort x n ≡ o
         → option_and_then (λ g. option_map (around g.before g.behind g.back) (reach S g.sort g.inside path)) o ≡ None
         → in_hole (λ s y. put_in S s y path new) (new, x) o ≡ (new, x)
     each deeper None same e = refl
@@ -71,7 +72,8 @@ module _ (S : Type 0) (new : Listing S) where
   pub none-put : (f : File S) (path : List ℕ) → list_at f path ≡ None → put_in S of_block (block_of f) path new ≡ (new, block_of f)
   none-put f path is = each (reach S of_block (block_of f) path) refl is where
     each : (o : Option (Hole S (Block S))) → reach S of_block (block_of f) path ≡ o
-        → option_and_then (λ h. list_of_node S h.sort h.inside f h.before h.behind h.back) o ≡ None → put_in S of_block (block_of f) path new ≡ (new, block_of f)
+        → option_and_then (λ h. list_of_node S h.sort h.inside f h.before h.behind h.back) o ≡ None → put_in S of_block (block_of f) path new
+        ≡ (new, block_of f)
     each None same e = nowhere of_block (block_of f) path same
     each (Some h) same e =
         reached of_block (block_of f) path h same ∙ ap (λ q. (q.0, h.back q.1)) (here-none f h.sort h.inside h.before h.behind h.back e)

@@ -1,10 +1,9 @@
 -- Lists put among the children of the code's trees.
-use Rattle.std.proofs.Common.{◌≡◌, ℕ, zero, suc, ◌-◌, ◌<◌, ◌≤◌, List, [], ◌∷◌, ◌++◌, length, take, drop, get_or, refl, sym, ap, subst, ◌∙◌, arith}
+use Rattle.std.proofs.Common.{◌≡◌, ℕ, zero, suc, ◌-◌, ◌<◌, ◌≤◌, List, [], ◌∷◌, ◌++◌, length, take, drop, get_or, refl, sym, ap, ◌∙◌, arith}
 use Rattle.std.proofs.lemmas.List.{take_all}
 use Rattle.meson_lex.specs.declared.kinds.Span.{Span}
 use Rattle.meson_lex.specs.Significant.{Word}
 use Rattle.meson_syntax.specs.declared.operator.Bracket.{Bracket}
-use Rattle.meson_syntax.specs.declared.tree.Arg.{Arg}
 use Rattle.meson_syntax.specs.declared.tree.Expr.{Expr}
 use Rattle.meson_syntax.specs.declared.tree.Arg.TheOpen.{Arg-F, Expr-F, Tail-F}
 use Rattle.meson_syntax.specs.declared.tree.Arg.TheFolds.{fold-roll-Arg, fold-roll-Expr, fold-roll-Tail}
@@ -16,7 +15,7 @@ use Rattle.meson_syntax.specs.declared.tree.Tail as rust_tails
 use Rattle.meson_syntax.specs.declared.tree.Operand.{Operand}
 use Rattle.meson_syntax.specs.declared.operator.UnaryOperator.{UnaryOperator}
 use Rattle.meson_syntax.specs.Tree.{Expression, paren, array, dictionary, call, unary, row, postfix, conditional, operands_of, tails_of, Listing, plain, named, pair, method, index}
-use Rattle.meson_syntax.specs.Paths.{Sort, of_expression, Node, Hole, children, all_around, expression_in, argument_children, listing_children, operands_children, tail_children, tails_children, expression_children}
+use Rattle.meson_syntax.specs.Paths.{Sort, of_expression, Node, Hole, children, all_around, expression_in, listing_children}
 use Rattle.meson_syntax.specs.Putting.{put_among, put_here, put_in, only_child}
 use Rattle.meson_syntax.specs.View.{name_at, expr_view, arg_view, tail_view, list_view, operands_view, tails_view}
 use Rattle.meson_syntax.proofs.Putting.{made, put-around, put-only, put-past-holes}
@@ -70,7 +69,8 @@ module _ (source : List ℕ) where
 
 module _ {X T : Type 0} (view : X → T) (children : T → List (Hole Span T)) (path : List ℕ) (new l : Listing Span) (n : ℕ) (x x' : X) where
   -- by the parts of its views
-  pub put-seen : (t t' : T) → view x ≡ t → view x' ≡ t' → (l, t') ≡ put_among path new t (children t) n → (l, view x') ≡ put_among path new (view x) (children (view x)) n
+  pub put-seen : (t t' : T) → view x ≡ t → view x' ≡ t' → (l, t') ≡ put_among path new t (children t) n → (l, view x')
+      ≡ put_among path new (view x) (children (view x)) n
   put-seen t t' is is' h = ap (λ z. (l, z)) is' ∙ h ∙ ap (λ z. put_among path new z (children z) n) (sym is)
 
   -- its one child
@@ -79,7 +79,8 @@ module _ {X T : Type 0} (view : X → T) (children : T → List (Hole Span T)) (
       → (l, e') ≡ put_among path new e₀ (only_child e₀) n → (l, view x') ≡ put_among path new (view x) (children (view x)) n
   put-one before behind make e₀ e e' same is is' one h =
       put-seen (make e) (make e') is is'
-      (ap (made make) (h ∙ ap (λ z. put_among path new z (only_child z) n) same) ∙ sym (put-only path new before behind make e n) ∙ ap (λ hs. put_among path new (make e) hs n) (sym one))
+      (ap (made make) (h ∙ ap (λ z. put_among path new z (only_child z) n) same) ∙ sym (put-only path new before behind make e n)
+      ∙ ap (λ hs. put_among path new (make e) hs n) (sym one))
 
   -- its list
   pub put-list : (before behind : List Word) (make : Listing Span → T) (b : Bracket) (m₀ m m' : Listing Span) → m₀ ≡ m → view x ≡ make m → view x' ≡ make m'
@@ -87,11 +88,13 @@ module _ {X T : Type 0} (view : X → T) (children : T → List (Hole Span T)) (
       → (l, m') ≡ put_among path new m₀ (listing_children m₀ b) n → (l, view x') ≡ put_among path new (view x) (children (view x)) n
   put-list before behind make b m₀ m m' same is is' listed h =
       put-seen (make m) (make m') is is'
-      (ap (made make) (h ∙ ap (λ z. put_among path new z (listing_children z b) n) same) ∙ sym (put-around path new before behind make m (listing_children m b) n)
+      (ap (made make) (h ∙ ap (λ z. put_among path new z (listing_children z b) n) same)
+      ∙ sym (put-around path new before behind make m (listing_children m b) n)
       ∙ ap (λ hs. put_among path new (make m) hs n) (sym listed))
 
   -- its first child
-  pub put-head : (before behind : List Word) (make : Expression Span → T) (others : List (Hole Span T)) (e₀ e e' : Expression Span) → e₀ ≡ e → view x ≡ make e → view x' ≡ make e'
+  pub put-head : (before behind : List Word) (make : Expression Span → T) (others : List (Hole Span T)) (e₀ e e' : Expression Span) → e₀ ≡ e → view x
+      ≡ make e → view x' ≡ make e'
       → children (make e) ≡ expression_in before e behind make ∷ others → n ≡ 0
       → (l, e') ≡ put_in Span of_expression e₀ path new → (l, view x') ≡ put_among path new (view x) (children (view x)) n
   put-head before behind make others e₀ e e' same is is' parts first h =
@@ -100,7 +103,8 @@ module _ {X T : Type 0} (view : X → T) (children : T → List (Hole Span T)) (
       ∙ ap (λ hs. put_among path new (make e) hs 0) (sym parts) ∙ ap (put_among path new (make e) (children (make e))) (sym first))
 
   -- its second child
-  pub put-second : (sort : Sort) (before behind : List Word) (make : Node sort Span → T) (one : Hole Span T) (others : List (Hole Span T)) (e₀ e e' : Node sort Span) → e₀ ≡ e
+  pub put-second : (sort : Sort) (before behind : List Word) (make : Node sort Span → T) (one : Hole Span T) (others : List (Hole Span T))
+      (e₀ e e' : Node sort Span) → e₀ ≡ e
       → view x ≡ make e → view x' ≡ make e'
       → children (make e) ≡ one ∷ record { sort = sort; inside = e; before = before; behind = behind; back = make } ∷ others → n ≡ 1
       → (l, e') ≡ put_in Span sort e₀ path new → (l, view x') ≡ put_among path new (view x) (children (view x)) n
@@ -116,8 +120,10 @@ module _ {X T : Type 0} (view : X → T) (children : T → List (Hole Span T)) (
       → (l, e') ≡ put_among path new e₀ (only_child e₀) (n - length first) → (l, view x') ≡ put_among path new (view x) (children (view x)) n
   put-last before behind make first e₀ e e' same is is' parts past h =
       put-seen (make e) (make e') is is'
-      (ap (made make) (h ∙ ap (λ z. put_among path new z (only_child z) (n - length first)) same) ∙ sym (put-only path new before behind make e (n - length first))
-      ∙ sym (put-past-holes path new T (make e) first (expression_in before e behind make ∷ []) n past) ∙ ap (λ hs. put_among path new (make e) hs n) (sym parts))
+      (ap (made make) (h ∙ ap (λ z. put_among path new z (only_child z) (n - length first)) same)
+      ∙ sym (put-only path new before behind make e (n - length first))
+      ∙ sym (put-past-holes path new T (make e) first (expression_in before e behind make ∷ []) n past)
+      ∙ ap (λ hs. put_among path new (make e) hs n) (sym parts))
 
   -- its other children
   pub put-behind : {R : Type 0} (before behind : List Word) (make : R → T) (one : Hole Span T) (others : R → List (Hole Span R)) (r₀ r r' : R) → r₀ ≡ r
@@ -127,7 +133,8 @@ module _ {X T : Type 0} (view : X → T) (children : T → List (Hole Span T)) (
   put-behind before behind make one others r₀ r r' same is is' parts past h =
       put-seen (make r) (make r') is is'
       (ap (made make) (h ∙ ap (λ z. put_among path new z (others z) (n - 1)) same) ∙ sym (put-around path new before behind make r (others r) (n - 1))
-      ∙ sym (put-past-holes path new T (make r) (one ∷ []) (all_around before behind make (others r)) n past) ∙ ap (λ hs. put_among path new (make r) hs n) (sym parts))
+      ∙ sym (put-past-holes path new T (make r) (one ∷ []) (all_around before behind make (others r)) n past)
+      ∙ ap (λ hs. put_among path new (make r) hs n) (sym parts))
 
 -- no child of so high a number
 beyond : {T : Type 0} (path : List ℕ) (new : Listing Span) (t : T) (hs : List (Hole Span T)) (n : ℕ) → length hs ≤ n → (new, t) ≡ put_among path new t hs n
@@ -142,7 +149,8 @@ put-beyond view children path new n x t is past =
 
 -- ---- one step of a path
 
-pub put-end : (S : Type 0) (sort : Sort) (x : Node sort S) (steps : List ℕ) (new : Listing S) → length steps < 1 → put_here sort x new ≡ put_in S sort x steps new
+pub put-end : (S : Type 0) (sort : Sort) (x : Node sort S) (steps : List ℕ) (new : Listing S) → length steps < 1 → put_here sort x new
+    ≡ put_in S sort x steps new
 put-end S sort x [] new small = refl
 put-end S sort x (n ∷ path) new small = absurd (omega arith)
 

@@ -1,8 +1,8 @@
 -- Lists put among the children of a tree.
-use Rattle.std.proofs.Common.{◌≡◌, ℕ, zero, suc, ◌+◌, ◌-◌, ◌<◌, ◌≤◌, List, [], ◌∷◌, ◌++◌, length, get_or, slice_set, Some, None, refl, sym, ap, ◌∙◌, arith}
+use Rattle.std.proofs.Common.{◌≡◌, ℕ, zero, suc, ◌+◌, ◌-◌, ◌<◌, ◌≤◌, List, [], ◌∷◌, ◌++◌, length, get_or, slice_set, refl, sym, ap, ◌∙◌, arith}
 use Rattle.meson_lex.specs.Significant.{Word}
 use Rattle.meson_syntax.specs.Tree.{Listing, Expression}
-use Rattle.meson_syntax.specs.Paths.{Hole, around, all_around, expression_in}
+use Rattle.meson_syntax.specs.Paths.{Hole, all_around, expression_in}
 use Rattle.meson_syntax.specs.LendsItems.{with_all}
 use Rattle.meson_syntax.specs.Parts.{Found, found, left, look}
 use Rattle.meson_syntax.specs.Putting.{put_among, ahead, only_child}
@@ -21,7 +21,8 @@ module _ {S : Type 0} (path : List ℕ) (new : Listing S) where
   put-around before behind make x (h ∷ hs) (suc n) = put-around before behind make x hs n
 
   -- among the first, and among the others
-  pub put-first : {T U : Type 0} (before behind : List Word) (make : T → U) (x : T) (y : U) (hs : List (Hole S T)) (gs : List (Hole S U)) (k : ℕ) → k < length hs
+  pub put-first : {T U : Type 0} (before behind : List Word) (make : T → U) (x : T) (y : U) (hs : List (Hole S T)) (gs : List (Hole S U)) (k : ℕ)
+      → k < length hs
       → put_among path new y (all_around before behind make hs ++ gs) k ≡ made make (put_among path new x hs k)
   put-first before behind make x y [] gs k small = absurd (omega arith)
   put-first before behind make x y (h ∷ hs) gs zero small = refl
@@ -33,7 +34,8 @@ module _ {S : Type 0} (path : List ℕ) (new : Listing S) where
   put-later before behind make y (h ∷ hs) gs zero m is = absurd (omega arith)
   put-later before behind make y (h ∷ hs) gs (suc n) m is = put-later before behind make y hs gs n m (omega arith)
 
-  pub put-past-holes : (U : Type 0) (y : U) (hs gs : List (Hole S U)) (n : ℕ) → length hs ≤ n → put_among path new y (hs ++ gs) n ≡ put_among path new y gs (n - length hs)
+  pub put-past-holes : (U : Type 0) (y : U) (hs gs : List (Hole S U)) (n : ℕ) → length hs ≤ n → put_among path new y (hs ++ gs) n
+      ≡ put_among path new y gs (n - length hs)
   put-past-holes U y [] gs n past = let same : n ≡ n - length {A = Hole S U} [] = omega arith in ap (put_among path new y gs) same
   put-past-holes U y (h ∷ hs) gs zero past = absurd (omega arith)
   put-past-holes U y (h ∷ hs) gs (suc n) past =
@@ -51,13 +53,16 @@ module _ {S : Type 0} (path : List ℕ) (new : Listing S) where
 module _ {A S V T P : Type 0} (one : A → V) (count : V → ℕ) (parts : V → List (Hole S V)) (all : List A → T) (cons : V → T → T)
     (children : P → T → List (Hole S T)) (next : P → P) (path : List ℕ) (new : Listing S)
     (step : (a : A) (more : List A) → all (a ∷ more) ≡ cons (one a) (all more))
-    (first : (p : P) (v : V) (t : T) (k : ℕ) → k < count v → put_among path new (cons v t) (children p (cons v t)) k ≡ made (λ x. cons x t) (put_among path new v (parts v) k))
-    (later : (p : P) (v : V) (t : T) (n m : ℕ) → n ≡ count v + m → put_among path new (cons v t) (children p (cons v t)) n ≡ made (cons v) (put_among path new t (children (next p) t) m))
+    (first : (p : P) (v : V) (t : T) (k : ℕ) → k < count v → put_among path new (cons v t) (children p (cons v t)) k
+    ≡ made (λ x. cons x t) (put_among path new v (parts v) k))
+    (later : (p : P) (v : V) (t : T) (n m : ℕ) → n ≡ count v + m → put_among path new (cons v t) (children p (cons v t)) n
+    ≡ made (cons v) (put_among path new t (children (next p) t) m))
     (none : (p : P) (n : ℕ) → put_among path new (all []) (children p (all [])) n ≡ (new, all [])) where
   here : P → T → ℕ → Listing S × T
   here p t n = put_among path new t (children p t) n
 
-  pub put-at : (p : P) (xs : List A) (i k n : ℕ) (d y : A) (l : Listing S) → n ≡ ahead (λ a. count (one a)) xs i + k → i < length xs → k < count (one (get_or xs i d))
+  pub put-at : (p : P) (xs : List A) (i k n : ℕ) (d y : A) (l : Listing S) → n ≡ ahead (λ a. count (one a)) xs i + k → i < length xs
+      → k < count (one (get_or xs i d))
       → (l, one y) ≡ put_among path new (one (get_or xs i d)) (parts (one (get_or xs i d))) k
       → (l, all (slice_set xs i y)) ≡ put_among path new (all xs) (children p (all xs)) n
   unfolding here
@@ -72,7 +77,8 @@ module _ {A S V T P : Type 0} (one : A → V) (count : V → ℕ) (parts : V →
       ap (λ t. (l, t)) (step x (slice_set xs i y)) ∙ ap (made (cons (one x))) (put-at (next p) xs i k m d y l refl (omega arith) inside is)
       ∙ sym (later p (one x) (all xs) n m there) ∙ ap (λ t. here p t n) (sym (step x xs))
 
-  pub put-past : (p : P) (xs : List A) (k n : ℕ) → n ≡ ahead (λ a. count (one a)) xs (length xs) + k → (new, all xs) ≡ put_among path new (all xs) (children p (all xs)) n
+  pub put-past : (p : P) (xs : List A) (k n : ℕ) → n ≡ ahead (λ a. count (one a)) xs (length xs) + k → (new, all xs)
+      ≡ put_among path new (all xs) (children p (all xs)) n
   unfolding here
   put-past p [] k n number = sym (none p n)
   put-past p (x ∷ xs) k n number =
@@ -83,7 +89,8 @@ module _ {A S V T P : Type 0} (one : A → V) (count : V → ℕ) (parts : V →
 
 -- ---- parts counted on
 
-pub ahead-more : {A : Type 0} (count : A → ℕ) (xs : List A) (i j : ℕ) (d : A) → i < length xs → j ≡ i + 1 → ahead count xs j ≡ ahead count xs i + count (get_or xs i d)
+pub ahead-more : {A : Type 0} (count : A → ℕ) (xs : List A) (i j : ℕ) (d : A) → i < length xs → j ≡ i + 1 → ahead count xs j
+    ≡ ahead count xs i + count (get_or xs i d)
 ahead-more count [] i j d small is = absurd (omega arith)
 ahead-more count (x ∷ xs) i zero d small is = absurd (omega arith)
 ahead-more count (x ∷ xs) zero (suc j) d small is = let at_zero : j ≡ 0 = omega arith in let none = ap (ahead count xs) at_zero in omega (arith, none)

@@ -359,7 +359,8 @@ impl Parsed {
     /// Puts a list where the path names one, of an array, a dictionary or a call, and gives the one that stood there. Where the
     /// path names none, the tree stays, and the list comes back. Takes no memory.
     pub fn put_list(&mut self, path: &Path, list: List) -> List
-        ensures put { (source : Bytes) (p : ListAt Span) → list_at (view source self.old) path.now.steps ≡ Some p → view source self.new ≡ p.back (list_view source list) }
+        ensures put { (source : Bytes) (p : ListAt Span) → list_at (view source self.old) path.now.steps ≡ Some p
+            → view source self.new ≡ p.back (list_view source list) }
         ensures gives { (source : Bytes) (p : ListAt Span) → list_at (view source self.old) path.now.steps ≡ Some p → list_view source result ≡ p.list }
         ensures stays { (source : Bytes) → list_at (view source self.old) path.now.steps ≡ None → view source self.new ≡ view source self.old }
         ensures returns { (source : Bytes) → list_at (view source self.old) path.now.steps ≡ None → list_view source result ≡ list_view source list }

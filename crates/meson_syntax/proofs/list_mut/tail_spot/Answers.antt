@@ -1,4 +1,4 @@
-use Rattle.std.proofs.Common.{◌≡◌, ◌+◌, ◌∙◌, ℕ, length, get_or, refl, ap, arith}
+use Rattle.std.proofs.Common.{◌+◌, ◌∙◌, length, refl, ap, arith}
 use Rattle.std.proofs.lemmas.List.{get_or_default}
 use Rattle.meson_syntax.specs.Parts.{tail_parts, look}
 use Rattle.meson_syntax.specs.View.{tail_view}
