@@ -7,6 +7,11 @@ pub mod Turns
 pub mod Views
 pub mod Slices
 pub mod InPlace
+pub mod Putting
+pub mod PutViews
+pub mod PutElements
+pub mod PutStatements
+pub mod PutFiles
 pub mod Gathered
 pub mod parsing
 pub mod paths

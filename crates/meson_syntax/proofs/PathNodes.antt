@@ -1,6 +1,7 @@
 -- The node that a path names is the one inside the hole that it reaches.
 use Rattle.std.specs.Prelude.{option_map, option_and_then}
-use Rattle.std.proofs.Common.{◌≡◌, ℕ, zero, suc, Bool, List, [], ◌∷◌, ◌++◌, map, Option, Some, None, refl, sym, ap, ap₂, ◌∙◌}
+use Rattle.std.proofs.Common.{◌≡◌, ℕ, zero, suc, Bool, List, [], ◌∷◌, ◌++◌, length, map, Option, Some, None, refl, sym, ap, ap₂, ◌∙◌}
+use Rattle.std.proofs.lemmas.List.{length-map}
 use Rattle.meson_lex.specs.declared.kinds.Kind.{Kind}
 use Rattle.meson_lex.specs.Significant.{Word, new_line}
 use Rattle.meson_syntax.specs.Operators.{opens, closes}
@@ -59,6 +60,10 @@ module _ (S : Type 0) where
   unfolding inside_of insides
   tail-insides (method s x l) = insides-around (mark k.Dot ++ (k.Identifier, x.text) ∷ []) [] (method s x) (listing_children l bracket.Round) ∙ listing-insides l bracket.Round
   tail-insides (index s e) = refl
+
+  pub tail-count : (t : Tail S) → length (tail_children t) ≡ length (tail_parts t)
+  unfolding inside_of insides
+  tail-count t = sym (length-map (tail_children t) inside_of) ∙ ap length (tail-insides t)
 
   tails-insides : (ts : Tails S) → insides (tails_children ts) ≡ tails_parts ts
   unfolding inside_of insides

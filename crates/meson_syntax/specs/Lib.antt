@@ -36,4 +36,5 @@ pub mod Texts
 pub mod Borders
 pub mod KeptLists
 pub mod Kept
+pub mod Putting
 pub mod formers

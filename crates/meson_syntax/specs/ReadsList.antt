@@ -16,9 +16,9 @@ use Rattle.meson_syntax.specs.Paths.{inner_words}
 use Rattle.meson_syntax.specs.Exchange.{IsListText}
 use Rattle.meson_syntax.specs.Reads.{max_depth, IsUnreadableWithin}
 
--- the limits of a list: it may have any length, and its depth counts from its own bracket
-abbrev pub of_lists : Limits
-of_lists = record { len = None; depth = max_depth }
+-- the limits of a list of at most this depth: it may have any length, and its depth counts from its own bracket
+abbrev pub of_lists_within : ℕ → Limits
+of_lists_within most = record { len = None; depth = most }
 
 -- The text is the list, in which so many constructs stand inside one another at most: an opening bracket, the words of the list's
 -- elements, and a closing bracket.
@@ -37,20 +37,30 @@ pub record IsSpannedListWithin (most : ℕ) (b : Bracket) (bytes : List ℕ) (l 
   pub reads : ReadsListWithin most b bytes (erase_listing l)
   pub stands : SpellsListing l b most (spots start 0 0 (list_items reads.text))
 
--- the same within the depth of files
+-- no list is read
+abbrev pub HasNoListWithin : ℕ → Bracket → List ℕ → Type 0
+HasNoListWithin most b bytes = (l : Listing Nowhere) → ReadsListWithin most b bytes l → ⊥
+
+-- Which refusals a text may get: the first that comes before the grammar, or else one of the grammar, where it is no such list.
+abbrev pub MayRefuseListWithin : ℕ → Bracket → List ℕ → ParseFault → Type 0
+MayRefuseListWithin most b bytes (Unexpected at) = ((e : ParseFault) → IsUnreadableWithin (of_lists_within most) bytes e → ⊥) × HasNoListWithin most b bytes
+MayRefuseListWithin most b bytes (TooDeep at) = ((e : ParseFault) → IsUnreadableWithin (of_lists_within most) bytes e → ⊥) × HasNoListWithin most b bytes
+MayRefuseListWithin most b bytes OutOfMemory = Unit {0}
+MayRefuseListWithin most b bytes fault = IsUnreadableWithin (of_lists_within most) bytes fault
+
+-- ---- within the depth of files
+
+abbrev pub of_lists : Limits
+of_lists = of_lists_within max_depth
+
 abbrev pub ReadsList : Bracket → List ℕ → Listing Nowhere → Type 0
 ReadsList = ReadsListWithin max_depth
 
 abbrev pub IsSpannedList : Bracket → List ℕ → Listing Span → Type 0
 IsSpannedList = IsSpannedListWithin max_depth
 
--- no list is read
 abbrev pub HasNoList : Bracket → List ℕ → Type 0
-HasNoList b bytes = (l : Listing Nowhere) → ReadsList b bytes l → ⊥
+HasNoList = HasNoListWithin max_depth
 
--- Which refusals a text may get: the first that comes before the grammar, or else one of the grammar, where it is no such list.
 abbrev pub MayRefuseList : Bracket → List ℕ → ParseFault → Type 0
-MayRefuseList b bytes (Unexpected at) = ((e : ParseFault) → IsUnreadableWithin of_lists bytes e → ⊥) × HasNoList b bytes
-MayRefuseList b bytes (TooDeep at) = ((e : ParseFault) → IsUnreadableWithin of_lists bytes e → ⊥) × HasNoList b bytes
-MayRefuseList b bytes OutOfMemory = Unit {0}
-MayRefuseList b bytes fault = IsUnreadableWithin of_lists bytes fault
+MayRefuseList = MayRefuseListWithin max_depth

@@ -1,10 +1,10 @@
 //! A text that is one list.
 
-ghost use Rattle.std.specs.Prelude.{◌≡◌, IfErr, IfOk, length};
+ghost use Rattle.std.specs.Prelude.{◌≡◌, ◌+◌, ◌<◌, ◌^◌, IfErr, IfOk, length};
 ghost use Rattle.meson_syntax.specs.Input.{GivesAll};
 ghost use Rattle.meson_syntax.specs.Nests.{IsGrammatical};
 ghost use Rattle.meson_syntax.specs.Reads.{Is, IsUnreadableWithin, Refuses};
-ghost use Rattle.meson_syntax.specs.ReadsList.{IsSpannedList, MayRefuseList, ReadsList, of_lists};
+ghost use Rattle.meson_syntax.specs.ReadsList.{IsSpannedList, IsSpannedListWithin, MayRefuseList, MayRefuseListWithin, ReadsList, ReadsListWithin, of_lists, of_lists_within};
 ghost use Rattle.meson_syntax.specs.ReadingLists as spec;
 ghost use Rattle.meson_syntax.specs.Tokens.{tokens_of};
 ghost use Rattle.meson_syntax.specs.Tree.{Listing, Nowhere, erase_listing};
@@ -36,15 +36,28 @@ pub fn parse_list(alloc: Global, source: &[u8], bracket: Bracket) -> Result<List
     // A refusal says why.
     ensures refused { IfErr result (MayRefuseList bracket source.now) }
 {
-    let limits = Limits {
-        len: None,
-        depth: MAX_DEPTH,
-    };
+    parse_list_within(alloc, source, bracket, MAX_DEPTH)
+}
+
+/// The list that a text is, in which so many constructs may stand inside one another, counted from its own bracket.
+pub fn parse_list_within(
+    alloc: Global,
+    source: &[u8],
+    bracket: Bracket,
+    depth: usize,
+) -> Result<List, ParseFault>
+    requires { depth + 1 < 2 ^ 64 }
+    ensures reads { IfOk result (λ l. IsSpannedListWithin depth bracket source.now (list_view source.now l)) }
+    ensures finds { (l : Listing Nowhere) → ReadsListWithin depth bracket source.now l → Is (λ x. erase_listing (list_view source.now x)) result l }
+    ensures unreadable { (e : ParseFault) → IsUnreadableWithin (of_lists_within depth) source.now e → Refuses result e }
+    ensures refused { IfErr result (MayRefuseListWithin depth bracket source.now) }
+{
+    let limits = Limits { len: None, depth };
     if let Err(fault) = check_source(source, limits) {
         return Err(fault);
     }
     match tokens(alloc, source) {
-        Ok(tokens) => read_list(alloc, source, tokens.as_slice(), bracket),
+        Ok(tokens) => read_list(alloc, source, tokens.as_slice(), bracket, depth),
         Err(fault) => Err(fault),
     }
 }
@@ -56,8 +69,10 @@ fn read_list(
     source: &[u8],
     tokens: &[Token],
     bracket: Bracket,
+    depth: usize,
 ) -> Result<List, ParseFault>
-    ensures gives { GivesAll (list_view source.now) (spec.whole_list 64 bracket (length source.now) (tokens_of source.now tokens.now)) result }
+    requires { depth + 1 < 2 ^ 64 }
+    ensures gives { GivesAll (list_view source.now) (spec.whole_list depth bracket (length source.now) (tokens_of source.now tokens.now)) result }
     // A refusal is one of the grammar.
     ensures refused { IfErr result IsGrammatical }
 {
@@ -65,7 +80,7 @@ fn read_list(
     let grammar = Grammar {
         alloc,
         source,
-        depth: MAX_DEPTH,
+        depth,
         deeper: read_expression,
     };
     if !grammar.sees(&left, opens(bracket)) {

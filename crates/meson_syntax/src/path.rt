@@ -65,7 +65,7 @@ fn either<'t>(first: Node<'t>, second: Node<'t>, n: usize) -> Found<'t>
 }
 
 /// A child of an element of a list.
-fn in_arg(arg: &Arg, n: usize) -> Found<'_>
+pub(crate) fn in_arg(arg: &Arg, n: usize) -> Found<'_>
     ensures { (source : Bytes) → found_view source result ≡ look (argument_parts (arg_view source arg.now)) n }
 {
     match arg {
@@ -98,7 +98,7 @@ fn in_args(args: &[Arg], n: usize) -> Found<'_>
 }
 
 /// A child of a method call or an index.
-fn in_tail(tail: &Tail, n: usize) -> Found<'_>
+pub(crate) fn in_tail(tail: &Tail, n: usize) -> Found<'_>
     ensures { (source : Bytes) → found_view source result ≡ look (tail_parts (tail_view source tail.now)) n }
 {
     match tail {

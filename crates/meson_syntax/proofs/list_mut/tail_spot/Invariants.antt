@@ -1,0 +1,9 @@
+use Rattle.std.proofs.Common.{◌≡◌, ◌+◌, ℕ, List, length}
+use Rattle.meson_syntax.specs.Parts.{tail_parts}
+use Rattle.meson_syntax.specs.Putting.{ahead}
+use Rattle.meson_syntax.specs.View.{tail_view}
+use Rattle.meson_syntax.proofs.list_mut.tail_spot.Given as goal
+
+-- the parts of the elements so far, and what is left of the number
+abbrev pub invariant-loop-i : goal.invariant-loop-i
+invariant-loop-i l = (source : List ℕ) → l.n ≡ ahead (λ x. length (tail_parts (tail_view source x))) l.tails l.i + l.left
