@@ -3,9 +3,10 @@
 use crate::edits::{edit_of, lay_out, put_splices};
 use crate::moved::{put_moved, put_shifted};
 use crate::nodes::{put_elements, put_expression};
+use crate::putting::put_put;
 use crate::texts::{
-    put_copied, put_depth, put_first_fault, put_identifier, put_items, put_list, put_literal,
-    put_read, put_value, put_wide, put_within,
+    put_copied, put_depth, put_first_fault, put_identifier, put_items, put_list, put_list_within,
+    put_literal, put_read, put_value, put_wide, put_within,
 };
 use crate::tree::{put_spans, put_tree};
 use meson_case_files::{Case, Transcript, bytes_of, line_of};
@@ -58,6 +59,11 @@ impl TextCase {
                 put_within(self.alloc, text, rest, to);
                 Ok(())
             }
+            "round-within" | "square-within" | "curly-within" => {
+                put_list_within(self.alloc, word, text, rest, to);
+                Ok(())
+            }
+            "put" => put_put(self.alloc, text, rest, to),
             "moved" => put_moved(self.alloc, text, rest, to),
             "shifted" => put_shifted(self.alloc, text, rest, to),
             "splices" => self.splices(rest, to),

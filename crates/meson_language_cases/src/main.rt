@@ -5,6 +5,7 @@ mod case;
 mod edits;
 mod moved;
 mod nodes;
+mod putting;
 mod readiness;
 mod texts;
 mod tree;

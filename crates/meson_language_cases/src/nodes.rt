@@ -6,7 +6,7 @@ use meson_syntax::{Expr, Many, Path, parse};
 use std::alloc::{AllocError, Global};
 
 /// A path of numbers with blanks between them.
-fn path_of(alloc: Global, words: &str) -> Result<Path, AllocError> {
+pub fn path_of(alloc: Global, words: &str) -> Result<Path, AllocError> {
     let mut steps = Vec::new(alloc);
     for word in words.split_whitespace() {
         if let Ok(step) = word.parse::<usize>() {

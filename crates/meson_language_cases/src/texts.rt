@@ -3,7 +3,9 @@
 use meson_case_files::Transcript;
 use meson_edit::nests_within;
 use meson_lex::{Kind, is_identifier, items, literal_value, text, write_literal};
-use meson_syntax::{Bracket, Limits, ParseFault, parse, parse_list, parse_wide, parse_within};
+use meson_syntax::{
+    Bracket, Limits, ParseFault, parse, parse_list, parse_list_within, parse_wide, parse_within,
+};
 use std::alloc::{AllocError, Global};
 
 /// Each item's kind, and where it ends.
@@ -56,14 +58,27 @@ pub fn put_wide(alloc: Global, source: &[u8], to: &mut Transcript) {
     put_fault(parse_wide(alloc, source).err(), to);
 }
 
-/// Whether the text is a list in these brackets.
-pub fn put_list(alloc: Global, bracket: &str, source: &[u8], to: &mut Transcript) {
-    let bracket = match bracket {
-        "round" => Bracket::Round,
-        "square" => Bracket::Square,
+/// The brackets that a word names.
+fn bracket_of(word: &str) -> Bracket {
+    match word {
+        "round" | "round-within" => Bracket::Round,
+        "square" | "square-within" => Bracket::Square,
         _ => Bracket::Curly,
-    };
-    put_fault(parse_list(alloc, source, bracket).err(), to);
+    }
+}
+
+/// Whether the text is a list in these brackets.
+pub fn put_list(alloc: Global, word: &str, source: &[u8], to: &mut Transcript) {
+    put_fault(parse_list(alloc, source, bracket_of(word)).err(), to);
+}
+
+/// Whether it is one of at most some depth.
+pub fn put_list_within(alloc: Global, word: &str, source: &[u8], depth: &str, to: &mut Transcript) {
+    let depth = depth.parse::<u16>().unwrap_or(0) as usize;
+    put_fault(
+        parse_list_within(alloc, source, bracket_of(word), depth).err(),
+        to,
+    );
 }
 
 /// Whether a text reads within limits: its greatest length, if any, and its greatest depth.

@@ -41,6 +41,16 @@ pub fn put_spans(alloc: Global, source: &[u8], to: &mut Transcript) {
     put_shape(alloc, Shaper { source, has_spans }, to);
 }
 
+/// The tree of a file, and then a list, without their spans.
+pub fn put_file_and_list(source: &[u8], file: &Parsed, list: &List, to: &mut Transcript) {
+    let has_spans = false;
+    let shaper = Shaper { source, has_spans };
+    put_file(shaper, file, to);
+    to.put(" ");
+    shaper.list(list, to);
+    to.put("\n");
+}
+
 /// The tree of a file, with its spans, over some source.
 pub fn put_file_spans(source: &[u8], file: &Parsed, to: &mut Transcript) {
     let has_spans = true;
