@@ -1,6 +1,6 @@
 -- One edit of an array or a dictionary that is the value of an argument of a call that stands: it may be done, and the call stands with it so edited.
 use Rattle.std.proofs.Common.{◌≡◌, ℕ, zero, suc, ◌+◌, ◌≤◌, List, [], ◌∷◌, ◌++◌, length, length-append, map, take, drop, Some, refl, sym, ap, ap₂, ◌∙◌, subst, arith, false}
-use Rattle.std.specs.Prelude.{All, max, option_and_then, option_map}
+use Rattle.std.specs.Prelude.{All, max, option_and_then, option_map, slice_set}
 use Rattle.meson_syntax.specs.Tree.{Nowhere, Plain, Expression, array, Listing, listing, Argument, plain, named, pair, arguments_of}
 use Rattle.meson_syntax.specs.Grammar.{LevelArgument, LevelExpression, LevelFile, argument_depth, argument_words, arguments_depth, expression_words, expression_depth, listing_depth}
 use Rattle.meson_syntax.specs.Paths.{nth, value_of}
@@ -16,7 +16,6 @@ use Rattle.meson_keywords.specs.KeywordEdits.{all_behind, behind_all}
 use Rattle.meson_keywords.specs.Keys.{element_node, written_element}
 use Rattle.meson_syntax.proofs.parsing.Steps.{some-injective}
 use Rattle.meson_steps.specs.ListSteps.{MayStand}
-use Rattle.meson_steps.specs.OtherValues.{with_one}
 use Rattle.meson_calls.specs.Project.{child}
 use Rattle.meson_steps.specs.Steps.{step_in}
 use Rattle.meson_steps.specs.Steps.{Step}
@@ -166,11 +165,11 @@ puts_leave c k (t ∷ ts) are trees all s n a l there value =
     let b = with_value (array now) a in
     let st = put.step in
     let here = ap (λ ys. nth ys n) st.are ∙ nth_put (xs c trees all s) n a b there in
-    let later = puts_leave c k ts are.1 (with_one c.file st.now trees) st.all_stand st.stands n b now here (value_put a (array l) (array now) value) in
+    let later = puts_leave c k ts are.1 (slice_set trees c.file st.now) st.all_stand st.stands n b now here (value_put a (array l) (array now) value) in
     let long : length (elements now) ≡ suc (length (elements l)) = omega (arith, ap length (elements_with l more), length-append (elements l) (plain e ∷ [])) in
     let rest = map (written_element k) ts in
     subst (λ x. LeavesCall c (x ∷ all_behind (child c n) (suc (length (elements l))) rest) trees) (sym put.is)
-    (more_leaves c trees all s put.edit _ st (all_behind (child c n) (suc (length (elements l))) rest) (subst (λ m. LeavesCall c (all_behind (child c n) m rest) (with_one c.file st.now trees)) long later))
+    (more_leaves c trees all s put.edit _ st (all_behind (child c n) (suc (length (elements l))) rest) (subst (λ m. LeavesCall c (all_behind (child c n) m rest) (slice_set trees c.file st.now)) long later))
 
 -- a lone value is wrapped, and elements go behind it
 pub wrap_leaves : (c : CallRef) (k : ElementKind) (ts : List (List ℕ)) → AreElements k ts → (trees : List Plain) (all : All MayStand trees) (s : CallStands c trees) (n : ℕ) (a : Argument Nowhere) (v : Expression Nowhere)
@@ -180,4 +179,4 @@ wrap_leaves c k ts are trees all s n a v there value flat =
     let l = listing tt false (arguments_of (plain v ∷ [])) in
     let here = ap (λ ys. nth ys n) st.are ∙ nth_put (xs c trees all s) n a (with_value (array l) a) there in
     more_leaves c trees all s (Wrap c.path.steps n) _ st (all_behind (child c n) 1 (map (written_element k) ts))
-    (puts_leave c k ts are (with_one c.file st.now trees) st.all_stand st.stands n (with_value (array l) a) l here (value_put a v (array l) value))
+    (puts_leave c k ts are (slice_set trees c.file st.now) st.all_stand st.stands n (with_value (array l) a) l here (value_put a v (array l) value))

@@ -1,6 +1,7 @@
 -- One edit of the list of a call that stands: it may be done, and the call stands.
 use Rattle.std.proofs.Common.{◌≡◌, ℕ, zero, suc, ◌≤◌, List, [], ◌∷◌, ◌++◌, length, take, drop, Some, refl, sym, ap, ◌∙◌, subst, arith, false}
-use Rattle.std.specs.Prelude.{All, max, option_and_then, option_map}
+use Rattle.std.specs.Prelude.{All, max, option_and_then, option_map, slice_set}
+use Rattle.std.proofs.lemmas.List.Elements.{All-set}
 use Rattle.meson_syntax.specs.declared.operator.Bracket.TheVariants as bracket
 use Rattle.meson_syntax.specs.Tree.{Nowhere, Plain, Expression, Listing, listing, Argument, plain, named, pair, arguments_of}
 use Rattle.meson_syntax.specs.Grammar.{LevelArgument, LevelExpression, LevelFile, argument_words, argument_depth, arguments_depth, expression_depth, file_depth, listing_depth}
@@ -16,14 +17,12 @@ use Rattle.meson_keywords.specs.Changing.{CallStands, LeavesCall}
 use Rattle.meson_keywords.specs.Keys.{written_named}
 use Rattle.meson_keywords.specs.KeywordEdits.{behind_all}
 use Rattle.meson_steps.specs.ListSteps.{AreDoable, MayStand, none, one, wide_depth}
-use Rattle.meson_steps.specs.OtherValues.{with_one}
 use Rattle.meson_steps.specs.Steps.{step_in}
 use Rattle.meson_steps.specs.Steps.{Step, all_stepped, stepped}
 use Rattle.meson_keywords.specs.TaskSteps.{elements_in, list_elements, or_same}
 use Rattle.meson_steps.proofs.Insertable.{edited_there, elements_with, first_there, there_again}
 use Rattle.meson_steps.proofs.StepsDoable.{step_doable}
 use Rattle.meson_steps.proofs.WithOne.{all_nth, change_there, changed_there}
-use Rattle.meson_steps.proofs.WithOne.{all_with}
 
 -- ---- depth
 
@@ -68,10 +67,10 @@ list_fits (listing s trailing list) xs limit array_fits fits small = omega (arit
 module _ (c : CallRef) (trees : List Plain) (all : All MayStand trees) (s : CallStands c trees) where
   pub record CallStep (e : Edit) (ys : List (Argument Nowhere)) : Type 0 where
     pub now : Plain
-    pub is_stepped : stepped (step_in c e) trees ≡ Some (with_one c.file now trees)
-    pub doable : (steps : List Step) → AreDoable steps (with_one c.file now trees) → AreDoable (step_in c e ∷ steps) trees
-    pub stands : CallStands c (with_one c.file now trees)
-    pub all_stand : All MayStand (with_one c.file now trees)
+    pub is_stepped : stepped (step_in c e) trees ≡ Some (slice_set trees c.file now)
+    pub doable : (steps : List Step) → AreDoable steps (slice_set trees c.file now) → AreDoable (step_in c e ∷ steps) trees
+    pub stands : CallStands c (slice_set trees c.file now)
+    pub all_stand : All MayStand (slice_set trees c.file now)
     pub are : elements stands.place.list ≡ ys
 
   abbrev pub xs : List (Argument Nowhere)
@@ -106,7 +105,7 @@ module _ (c : CallRef) (trees : List Plain) (all : All MayStand trees) (s : Call
           call_fits = subst (λ m. listing_depth m ≤ s.limit) (sym again.list) fits;
           file_fits = λ m within. subst (λ t. file_depth t ≤ wide_depth) (sym (again.back m)) (s.file_fits m within);
         };
-        all_stand = all_with MayStand trees c.file now all now_stands;
+        all_stand = All-set MayStand trees c.file now now_stands all;
         are = ap elements again.list ∙ elements_with s.place.list ys;
       }
 
@@ -190,7 +189,7 @@ module _ (c : CallRef) (trees : List Plain) (all : All MayStand trees) (s : Call
   pub one_leaves : (e : Edit) (ys : List (Argument Nowhere)) → CallStep e ys → LeavesCall c (step_in c e ∷ []) trees
   one_leaves e ys k =
       let after = ap (λ o. or_same trees (option_and_then (all_stepped []) o)) k.is_stepped in
-      record { doable = k.doable [] (none (with_one c.file k.now trees)); stands = subst (CallStands c) (sym after) k.stands }
+      record { doable = k.doable [] (none (slice_set trees c.file k.now)); stands = subst (CallStands c) (sym after) k.stands }
 
   pub inserted_leaves : (st : Step) → InsertStep st → LeavesCall c (st ∷ []) trees
   inserted_leaves st i = subst (λ x. LeavesCall c (x ∷ []) trees) (sym i.is) (one_leaves i.edit i.ys i.step)
@@ -201,10 +200,10 @@ module _ (c : CallRef) (trees : List Plain) (all : All MayStand trees) (s : Call
       let r = stepped_on more between rest in
       (r.0, ap (option_and_then (all_stepped more)) is ∙ r.1)
 
-  pub more_leaves : (e : Edit) (ys : List (Argument Nowhere)) (k : CallStep e ys) (steps : List Step) → LeavesCall c steps (with_one c.file k.now trees) → LeavesCall c (step_in c e ∷ steps) trees
+  pub more_leaves : (e : Edit) (ys : List (Argument Nowhere)) (k : CallStep e ys) (steps : List Step) → LeavesCall c steps (slice_set trees c.file k.now) → LeavesCall c (step_in c e ∷ steps) trees
   more_leaves e ys k steps r =
-      let there = stepped_on steps (with_one c.file k.now trees) r.doable in
-      let after = ap (λ o. or_same trees (option_and_then (all_stepped steps) o)) k.is_stepped ∙ ap (or_same trees) there.1 ∙ sym (ap (or_same (with_one c.file k.now trees)) there.1) in
+      let there = stepped_on steps (slice_set trees c.file k.now) r.doable in
+      let after = ap (λ o. or_same trees (option_and_then (all_stepped steps) o)) k.is_stepped ∙ ap (or_same trees) there.1 ∙ sym (ap (or_same (slice_set trees c.file k.now)) there.1) in
       record { doable = k.doable steps r.doable; stands = subst (CallStands c) (sym after) r.stands }
 
   pub elements_are : elements_in c trees ≡ xs

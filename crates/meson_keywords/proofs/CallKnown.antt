@@ -1,7 +1,6 @@
 -- A call that stands in known files: its tree, its list with spans, and the strings in that.
-use Rattle.std.proofs.Common.{◌≡◌, ℕ, zero, suc, ◌<◌, List, [], ◌∷◌, ◌++◌, length, map, get_or, Option, Some, None, sym, ap, ◌∙◌, subst, arith}
-use Rattle.std.specs.Prelude.{All, option_map}
-use Rattle.std.proofs.lemmas.List.Elements.{All-cons, All-nil}
+use Rattle.std.proofs.Common.{◌≡◌, ℕ, zero, suc, ◌<◌, List, [], ◌∷◌, ◌++◌, length, map, get_or, Some, sym, ap, ◌∙◌, subst, arith}
+use Rattle.std.specs.Prelude.{◌≤◌, All, Bool, true, false, if◌then◌else◌, option_map}
 use Rattle.meson_lex.specs.declared.kinds.Span.{Span}
 use Rattle.meson_splice.specs.declared.file_set.File.{File}
 use Rattle.meson_splice.specs.Files.{bytes_at}
@@ -9,6 +8,7 @@ use Rattle.meson_syntax.specs.declared.tree.Parsed.{Parsed}
 use Rattle.meson_syntax.specs.Grammar.{file_words, listing_words}
 use Rattle.meson_syntax.specs.Laws.{ListFront, list_front, erase_list_front}
 use Rattle.meson_syntax.specs.Paths.{ListAt, list_at, nth}
+use Rattle.meson_syntax.specs.Reads.{of_files, wide}
 use Rattle.meson_syntax.specs.Tree as tree
 use Rattle.meson_syntax.specs.Tree.{Nowhere, Plain, erase, erase_argument, erase_listing}
 use Rattle.meson_syntax.specs.View.{view}
@@ -20,9 +20,10 @@ use Rattle.meson_edit.specs.Edits.{elements}
 use Rattle.meson_calls.specs.declared.call.CallRef.{CallRef}
 use Rattle.meson_keywords.specs.Changing.{CallStands}
 use Rattle.meson_calls.specs.GoodLists.{GoodListing}
-use Rattle.meson_steps.specs.ListSteps.{MayStand}
+use Rattle.meson_steps.specs.declared.journal.Saved.{Saved}
+use Rattle.meson_steps.specs.Journal.{is_saved}
+use Rattle.meson_steps.specs.ListSteps.{MayStand, wide_depth}
 use Rattle.meson_calls.specs.Loading.{views}
-use Rattle.meson_steps.specs.OtherValues.{with_some}
 use Rattle.meson_calls.specs.Strings.{AreGood}
 use Rattle.meson_keywords.specs.TaskSteps.{elements_in}
 use Rattle.meson_steps.specs.Working.{AreKnown}
@@ -32,39 +33,26 @@ use Rattle.meson_calls.proofs.GoodTexts.{text_good}
 use Rattle.meson_calls.proofs.Nested.{good_listing}
 use Rattle.meson_steps.proofs.PlainTrees.{erased_elements, tree_there}
 use Rattle.meson_calls.proofs.Standing.{nth_there}
-use Rattle.meson_steps.proofs.WorkKnown.{as_many_known, known_at}
+use Rattle.meson_steps.proofs.OtherBytes.{as_many_plain}
+use Rattle.meson_steps.proofs.WorkLimits.{plain_all}
 
-abbrev pub known_trees : List File → List (Option Parsed) → List Parsed → List Plain
-known_trees files new old = map erase (views files (with_some new old))
+abbrev pub known_trees : List File → List Parsed → List Plain
+known_trees files trees = map erase (views files trees)
+
+within_wide : (saved : Bool) (n : ℕ) → n ≤ (if saved then wide else of_files).depth → n ≤ wide_depth
+within_wide true n within = within
+within_wide false n within = omega (arith, within)
 
 -- they have their levels and are not too deep
-pub known_stand : (files : List File) (new : List (Option Parsed)) (old : List Parsed) → AreKnown files new old → All MayStand (known_trees files new old)
-known_stand [] [] [] known = All-nil MayStand
-known_stand [] [] (u ∷ old) known = absurd known
-known_stand [] (o ∷ new) old known = absurd known
-known_stand (f ∷ files) [] old known = absurd known
-known_stand (f ∷ files) (Some t ∷ new) [] known = absurd known
-known_stand (f ∷ files) (None ∷ new) [] known = absurd known
-known_stand (f ∷ files) (Some t ∷ new) (u ∷ old) known =
-    let r = known.0.reads in
-    let d = r.depth in
-    All-cons MayStand (erase (view f.bytes t)) (known_trees files new old) (r.spells.level, omega (arith, d)) (known_stand files new old known.1)
-known_stand (f ∷ files) (None ∷ new) (u ∷ old) known =
-    let r = known.0.reads in
-    let d = r.depth in
-    All-cons MayStand (erase (view f.bytes u)) (known_trees files new old) (r.spells.level, omega (arith, d)) (known_stand files new old known.1)
+pub known_stand : (saved : List Saved) (files : List File) (trees : List Parsed) → AreKnown saved files trees → All MayStand (known_trees files trees)
+known_stand saved files trees known = plain_all MayStand files trees known.as_many (λ k d within.
+    let r = (known.each k d within).reads in
+    (r.spells.level, within_wide (is_saved k saved) _ r.depth))
 
-known_within : (files : List File) (new : List (Option Parsed)) (old : List Parsed) (i : ℕ) (t : Plain) → AreKnown files new old → nth (known_trees files new old) i ≡ Some t → i < length files
-known_within [] [] [] i t known is = absurd cc
-known_within [] [] (u ∷ old) i t known is = absurd known
-known_within [] (o ∷ new) old i t known is = absurd known
-known_within (f ∷ files) [] old i t known is = absurd known
-known_within (f ∷ files) (Some x ∷ new) [] i t known is = absurd known
-known_within (f ∷ files) (None ∷ new) [] i t known is = absurd known
-known_within (f ∷ files) (Some x ∷ new) (u ∷ old) zero t known is = omega arith
-known_within (f ∷ files) (None ∷ new) (u ∷ old) zero t known is = omega arith
-known_within (f ∷ files) (Some x ∷ new) (u ∷ old) (suc i) t known is = let below = known_within files new old i t known.1 is in omega (arith, below)
-known_within (f ∷ files) (None ∷ new) (u ∷ old) (suc i) t known is = let below = known_within files new old i t known.1 is in omega (arith, below)
+nth_within : (ts : List Plain) (i : ℕ) (t : Plain) → nth ts i ≡ Some t → i < length ts
+nth_within [] i t is = absurd cc
+nth_within (x ∷ ts) zero t is = omega arith
+nth_within (x ∷ ts) (suc i) t is = let below = nth_within ts i t is in omega (arith, below)
 
 -- the strings of a list in a tree whose strings are of their kinds
 list_good : (f : tree.File Span) (path : List ℕ) (p : ListAt Span) → list_at f path ≡ Some p → AreGood (file_words f) → GoodListing p.list
@@ -73,27 +61,23 @@ list_good f path p is good =
     let whole = subst AreGood (fits.put p.list) (subst (λ g. AreGood (file_words g)) (sym fits.same) good) in
     good_listing p.list p.bracket (good_left (listing_words p.list p.bracket) p.behind (good_right p.before (listing_words p.list p.bracket ++ p.behind) whole))
 
-module _ (files : List File) (new : List (Option Parsed)) (old : List Parsed) (known : AreKnown files new old) (c : CallRef) (s : CallStands c (known_trees files new old)) where
+module _ (saved : List Saved) (files : List File) (trees : List Parsed) (known : AreKnown saved files trees) (c : CallRef) (s : CallStands c (known_trees files trees)) where
+  pub within_trees : c.file < length trees
+  within_trees = let there = nth_within (known_trees files trees) c.file s.tree s.is_tree in omega (arith, there, as_many_plain files trees known.as_many)
+
   pub within_files : c.file < length files
-  within_files = known_within files new old c.file s.tree known s.is_tree
-
-  pub within_new : c.file < length new
-  within_new = let m = as_many_known files new old known in omega (arith, within_files, m.in_new)
-
-  pub within_old : c.file < length old
-  within_old = let m = as_many_known files new old known in omega (arith, within_files, m.in_old)
+  within_files = omega (arith, within_trees, known.as_many)
 
   module _ (d : Parsed) where
     abbrev bytes : List ℕ
     bytes = bytes_at c.file files
 
     abbrev pub tree_here : tree.File Span
-    tree_here = view bytes (get_or (with_some new old) c.file d)
+    tree_here = view bytes (get_or trees c.file d)
 
     same_tree : s.tree ≡ erase tree_here
     same_tree =
-        let m = as_many_known files new old known in
-        let there = tree_there files (with_some new old) c.file _ (nth_there files (with_some new old) c.file d m.in_all (omega (arith, within_files, m.in_all))) in
+        let there = tree_there files trees c.file _ (nth_there files trees c.file d known.as_many within_trees) in
         some-injective _ _ (sym s.is_tree ∙ there)
 
     -- the list of the call, with spans
@@ -101,7 +85,7 @@ module _ (files : List File) (new : List (Option Parsed)) (old : List Parsed) (k
       pub place : ListAt Span
       pub is_place : list_at tree_here c.path.steps ≡ Some place
       pub good : GoodListing place.list
-      pub are : elements_in c (known_trees files new old) ≡ map erase_argument (elements place.list)
+      pub are : elements_in c (known_trees files trees) ≡ map erase_argument (elements place.list)
 
     pub list_known : ListKnown
     list_known =
@@ -109,11 +93,11 @@ module _ (files : List File) (new : List (Option Parsed)) (old : List Parsed) (k
         let front = sym (lists-erase tree_here c.path.steps) ∙ ap (option_map list_front) plain_is in
         let o = map-some (λ (q : ListAt Span). erase_list_front (list_front q)) (list_at tree_here c.path.steps) (list_front s.place) front in
         let same : s.place.list ≡ erase_listing o.0.list = sym (ap (λ (u : ListFront Nowhere). u.list) o.2) in
-        let spanned = (known_at files new old c.file d known within_files).spanned in
+        let spanned = known.each c.file d within_files in
         let good = subst AreGood (file-words-erased tree_here) (text_good bytes (erase tree_here) spanned.reads.spells) in
         record {
           place = o.0;
           is_place = o.1;
           good = list_good tree_here c.path.steps o.0 o.1 good;
-          are = elements_are c (known_trees files new old) (known_stand files new old known) s ∙ ap elements same ∙ erased_elements o.0.list;
+          are = elements_are c (known_trees files trees) (known_stand saved files trees known) s ∙ ap elements same ∙ erased_elements o.0.list;
         }

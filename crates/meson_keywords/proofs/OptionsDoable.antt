@@ -1,6 +1,6 @@
 -- A default option set: this may be done where the project's call stands, and leaves it standing.
 use Rattle.std.proofs.Common.{◌≡◌, ℕ, zero, suc, ◌+◌, ◌-◌, true, false, List, [], ◌∷◌, ◌++◌, length, take, drop, codes, IsUtf8, Option, Some, None, refl, sym, ap, ◌∙◌, subst, arith}
-use Rattle.std.specs.Prelude.{All, Bool, if◌then◌else◌, Ok}
+use Rattle.std.specs.Prelude.{All, Bool, if◌then◌else◌, Ok, slice_set}
 use Rattle.std.specs.Char.{encode_utf8}
 use Rattle.meson_lex.specs.Literals.{literal}
 use Rattle.meson_splice.specs.Patch.{then_ok}
@@ -16,7 +16,6 @@ use Rattle.meson_keywords.specs.KeywordEdits.{all_known, behind_all, keyword_in,
 use Rattle.meson_keywords.specs.Keys.{written_list, written_named}
 use Rattle.meson_steps.specs.ListSteps.{MayStand}
 use Rattle.meson_keywords.specs.Options.{is_entry, is_entry_element, of_lone, option_text, options_key, set_by_shape, set_in_list, set_in_lone, set_option_steps, set_option_there}
-use Rattle.meson_steps.specs.OtherValues.{with_one}
 use Rattle.meson_calls.specs.Project.{child}
 use Rattle.meson_steps.specs.WrittenTexts.{string_of, written_text}
 use Rattle.meson_steps.specs.Steps.{Step}
@@ -94,7 +93,7 @@ module _ (name entry : List ℕ) (utf8 : IsUtf8 entry) (c : CallRef) (trees : Li
       (let len : 0 - 0 + length (elements l) ≡ length (elements l) = omega arith in subst (λ k. Left 0 k (m ∷ more)) len (subst (Left 0 (0 - 0 + length (elements l))) is (passing_left (is_entry_element name) (elements l) 0 0 (omega arith)))) in
       let many : length (elements l) ≡ length (elements now) = sym (ap length (elements_with l ys) ∙ as_many (elements l) m f.it (with_value (string_of entry) f.it) it) in
       more_leaves c trees all s (Replace (c.path.steps ++ n ∷ []) m (written_text entry)) _ st (removed_from (child c n) 0 more)
-      (removes_leave array_container c more 0 (with_one c.file st.now trees) st.all_stand st.stands n b now here (value_put a (array l) (array now) value)
+      (removes_leave array_container c more 0 (slice_set trees c.file st.now) st.all_stand st.stands n b now here (value_put a (array l) (array now) value)
       (subst (λ k. Left 0 k more) many (wider 0 (length (elements l)) more whole.1)))
 
   in_lone : (n : ℕ) (it : Argument Nowhere) (e : Expression Nowhere) → nth (xs c trees all s) n ≡ Some it → value_of it ≡ Some e → expression_depth e ≡ 0 → (b : Bool) → LeavesCall c (set_in_lone c n entry b) trees

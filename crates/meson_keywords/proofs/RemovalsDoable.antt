@@ -1,6 +1,6 @@
 -- Values removed from a keyword argument, and default options deleted: this may be done where the call stands, and leaves it standing.
 use Rattle.std.proofs.Common.{◌≡◌, ℕ, zero, suc, ◌+◌, ◌-◌, ◌<◌, ◌≤◌, true, false, List, [], ◌∷◌, ◌++◌, length, take, drop, Option, Some, None, refl, sym, ap, ◌∙◌, subst, arith}
-use Rattle.std.specs.Prelude.{All, Bool, bytes_eq, if◌then◌else◌, Result, Ok, Err}
+use Rattle.std.specs.Prelude.{All, Bool, bytes_eq, if◌then◌else◌, Result, Ok, Err, slice_set}
 use Rattle.meson_splice.specs.Patch.{then_ok}
 use Rattle.meson_syntax.specs.Tree.{Nowhere, Plain, Expression, array, Listing, Argument}
 use Rattle.meson_syntax.specs.Paths.{nth, value_of}
@@ -15,7 +15,6 @@ use Rattle.meson_keywords.specs.Changing.{CallStands, LeavesCall, TaskMayBeDone}
 use Rattle.meson_keywords.specs.KeywordEdits.{all_known, keyword_in, one_at_most, passing, remove_by_shape, remove_equal, remove_lone, remove_steps, remove_there, removed_from, says, shape, text_in}
 use Rattle.meson_steps.specs.ListSteps.{MayStand}
 use Rattle.meson_keywords.specs.Options.{delete_by_shape, delete_lone, delete_option_steps, delete_option_there, is_entry, is_entry_element, of_list, of_lone, options_key}
-use Rattle.meson_steps.specs.OtherValues.{with_one}
 use Rattle.meson_calls.specs.Project.{child}
 use Rattle.meson_steps.specs.Steps.{step_in}
 use Rattle.meson_steps.specs.Steps.{Step}
@@ -69,7 +68,7 @@ removes_leave k c (m ∷ ns) gone trees all s n a l there value left =
     let here = ap (λ zs. nth zs n) st.are ∙ nth_put (xs c trees all s) n a b there in
     let many : length (elements l) - 1 ≡ length (elements now) = sym (ap length (elements_with l ys) ∙ one_fewer (elements l) (m - gone) left.0) in
     more_leaves c trees all s (Remove (c.path.steps ++ n ∷ []) (m - gone)) _ st (removed_from (child c n) (suc gone) ns)
-    (removes_leave k c ns (suc gone) (with_one c.file st.now trees) st.all_stand st.stands n b now here (value_put a (k.make l) (k.make now) value) (subst (λ m. Left (suc gone) m ns) many left.1))
+    (removes_leave k c ns (suc gone) (slice_set trees c.file st.now) st.all_stand st.stands n b now here (value_put a (k.make l) (k.make now) value) (subst (λ m. Left (suc gone) m ns) many left.1))
 
 passing_leave : (k : Container) (test : Argument Nowhere → Bool) (c : CallRef) (trees : List Plain) (all : All MayStand trees) (s : CallStands c trees) (n : ℕ) (a : Argument Nowhere) (l : Listing Nowhere) → nth (xs c trees all s) n ≡ Some a
     → value_of a ≡ Some (k.make l) → LeavesCall c (removed_from (child c n) 0 (passing test 0 (elements l))) trees

@@ -30,6 +30,16 @@ use Rattle.meson_keywords.proofs.CallRoom.{stands_there, trees_are}
 use Rattle.meson_calls.proofs.CallsFound.{calls_stand}
 use Rattle.meson_calls.proofs.OneCall.{placed_at, call_there, call_refused}
 
+-- ---- trees that are read in another place
+
+pub of_trees : (P : Loaded → Type 0) (files : List File) {here there : List Parsed} → here ≡ there → P (record { files = files; parsed = here }) → P (record { files = files; parsed = there })
+of_trees P files same p = subst (λ ts. P (record { files = files; parsed = ts })) same p
+
+pub parsed_as : (files : List File) {here there : List Parsed} → here ≡ there → IsProject (record { files = files; parsed = there }) → AreParsed files here
+parsed_as files same p = subst (AreParsed files) (sym same) p.parsed
+
+-- ---- a request
+
 module _ (files : List File) (trees : List Parsed) (r : Role) (id : List ℕ) (asked : Asked) where
   abbrev old : Loaded
   old = record { files = files; parsed = trees }

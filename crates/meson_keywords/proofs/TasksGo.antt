@@ -18,7 +18,6 @@ use Rattle.meson_keywords.specs.Changing.{Between, CallStands, LeavesCall, TaskD
 use Rattle.meson_calls.specs.GoodLists.{GoodArgs, GoodListing}
 use Rattle.meson_steps.specs.ListSteps.{AreBare}
 use Rattle.meson_calls.specs.Loading.{Loaded}
-use Rattle.meson_steps.specs.OtherValues.{with_some}
 use Rattle.meson_steps.specs.Results.{plain_trees}
 use Rattle.meson_steps.specs.Steps.{Step, all_stepped}
 use Rattle.meson_keywords.specs.Tasking.{MayBeWritten}
@@ -36,17 +35,17 @@ module _ (old : Loaded) (c : CallRef) (w : Work) (before : List Step) (b : Betwe
   -- the arguments of the call in the code
   pub record ArgsKnown (source : List ℕ) (args : List Arg) : Type 0 where
     pub good : GoodArgs source args
-    pub steps : (t : Task) → steps_of_task old c t w ≡ task_steps t c (args_view source args)
+    pub steps : (t : Task) → steps_of_task c t w ≡ task_steps t c (args_view source args)
 
-  module _ (source : List ℕ) (parsed : Parsed) (is_source : source ≡ bytes_at c.file w.files) (is_parsed : (d : Parsed) → parsed ≡ get_or (with_some w.trees.items old.parsed) c.file d) where
+  module _ (source : List ℕ) (parsed : Parsed) (is_source : source ≡ bytes_at c.file w.files) (is_parsed : parsed ≡ get_or w.trees.items c.file parsed) where
     abbrev text : List ℕ
     text = bytes_at c.file w.files
 
-    abbrev known : ListKnown w.files w.trees.items old.parsed b.reached.known c b.stands parsed
-    known = list_known w.files w.trees.items old.parsed b.reached.known c b.stands parsed
+    abbrev known : ListKnown w.saved.items w.files w.trees.items b.reached.known c b.stands parsed
+    known = list_known w.saved.items w.files w.trees.items b.reached.known c b.stands parsed
 
     found : list_at (view text parsed) c.path.steps ≡ Some known.place
-    found = ap (λ p. list_at (view text p) c.path.steps) (is_parsed parsed) ∙ known.is_place
+    found = ap (λ p. list_at (view text p) c.path.steps) is_parsed ∙ known.is_place
 
     pub no_list : ((bytes : List ℕ) → None ≡ option_map (λ (p : ListAt Span). p.list) (list_at (view bytes parsed) c.path.steps)) → ⊥
     no_list none = let both = none text ∙ ap (option_map (λ (p : ListAt Span). p.list)) found in cc
@@ -63,12 +62,12 @@ module _ (old : Loaded) (c : CallRef) (w : Work) (before : List Step) (b : Betwe
               ∙ ap (task_steps t c) (ap elements (sym same) ∙ list_elements text l ∙ ap (args_view text) (sym are) ∙ ap (λ s. args_view s args) (sym is_source));
         }
 
-  module _ (t : Task) (may : MayBeWritten t) (steps : List Step) (are : steps_of_task old c t w ≡ Ok steps) where
+  module _ (t : Task) (may : MayBeWritten t) (steps : List Step) (are : steps_of_task c t w ≡ Ok steps) where
     abbrev here : List Plain
-    here = plain_trees (so_far old w)
+    here = plain_trees (so_far w)
 
     leaves : LeavesCall c steps here
-    leaves = task_may t may c here (known_stand w.files w.trees.items old.parsed b.reached.known) b.stands steps are
+    leaves = task_may t may c here (known_stand w.saved.items w.files w.trees.items b.reached.known) b.stands steps are
 
     pub task_under_way : (code : List ListStep) → AreBare steps code → IsUnderWay old (before ++ steps) code w
     task_under_way code bare = record {
@@ -86,7 +85,7 @@ module _ (old : Loaded) (c : CallRef) (w : Work) (before : List Step) (b : Betwe
       };
     }
 
-    pub trees_done : (new : Work) → Reached old (before ++ steps) [] new → trees_after steps here ≡ plain_trees (so_far old new)
+    pub trees_done : (new : Work) → Reached old (before ++ steps) [] new → trees_after steps here ≡ plain_trees (so_far new)
     trees_done new r =
         let on = sym (all_after before steps (plain_trees old)) ∙ r.made.are_trees in
         ap (or_same here) (sym (ap (option_and_then (all_stepped steps)) b.reached.made.are_trees) ∙ on)

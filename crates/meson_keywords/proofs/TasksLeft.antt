@@ -1,8 +1,7 @@
 -- Tasks of which some are done: from the start, over each task, to the end.
-use Rattle.std.proofs.Common.{◌≡◌, ◌≢◌, List, [], ◌∷◌, ◌++◌, length, refl, sym, ap, ◌∙◌, subst}
-use Rattle.std.specs.Prelude.{Result, Ok, Err, IfOk, IfErr, None, replicate}
+use Rattle.std.proofs.Common.{◌≡◌, ◌≢◌, List, [], ◌∷◌, ◌++◌, refl, sym, ap, ◌∙◌}
+use Rattle.std.specs.Prelude.{Result, Ok, Err, IfErr, OnOk}
 use Rattle.std.proofs.lemmas.List.{append-nil, append_assoc}
-use Rattle.meson_splice.specs.Files.{IsDistinct}
 use Rattle.meson_splice.specs.Patch.{then_ok}
 use Rattle.meson_syntax.specs.Tree.{Plain}
 use Rattle.meson_calls.specs.declared.call.CallRef.{CallRef}
@@ -13,16 +12,16 @@ use Rattle.meson_steps.specs.declared.work.Work.{Work}
 use Rattle.meson_keywords.specs.Changing.{Between, CallStands, IsNextTask, TaskDone, steps_of_task}
 use Rattle.meson_steps.specs.Done.{IsOutcome, MayNotBeMade}
 use Rattle.meson_steps.specs.ListSteps as doable
-use Rattle.meson_calls.specs.Loading.{IsProject, Loaded}
+use Rattle.meson_calls.specs.Loading.{Loaded}
 use Rattle.meson_steps.specs.Outcomes.{IsDone, MayNotBeDone, unmade, unmeant}
 use Rattle.meson_steps.specs.Results.{plain_trees}
 use Rattle.meson_steps.specs.Steps.{Step}
 use Rattle.meson_keywords.specs.Tasking.{MayBeWritten, TaskIs, TasksAre, none, one}
 use Rattle.meson_keywords.specs.Tasks.{Task}
 use Rattle.meson_keywords.specs.TaskSteps.{elements_in, task_steps, tasks_steps, trees_after}
-use Rattle.meson_steps.specs.Working.{so_far}
+use Rattle.meson_steps.specs.Working.{IsFresh, so_far}
 use Rattle.meson_keywords.proofs.TasksGo.{trees_done}
-use Rattle.meson_steps.proofs.UnderWay.{first_reached, same_trees}
+use Rattle.meson_steps.proofs.UnderWay.{first_reached}
 
 -- These tasks of the code are left, behind steps that are done.
 pub record TasksLeft (old : Loaded) (c : CallRef) (whole : Result (List Step) Refusal) (left : List code.Task) (w : Work) : Type 0 where
@@ -30,7 +29,7 @@ pub record TasksLeft (old : Loaded) (c : CallRef) (whole : Result (List Step) Re
   pub between : Between old c before w
   pub rest : List Task
   pub are : TasksAre left rest
-  pub joined : whole ≡ then_ok (tasks_steps c rest (plain_trees (so_far old w))) (λ later. Ok (before ++ later))
+  pub joined : whole ≡ then_ok (tasks_steps c rest (plain_trees (so_far w))) (λ later. Ok (before ++ later))
 
 -- ---- the start
 
@@ -38,21 +37,17 @@ all_left : (r : Result (List Step) Refusal) → r ≡ then_ok r (λ later. Ok ([
 all_left (Ok steps) = refl
 all_left (Err e) = refl
 
-module _ (old : Loaded) (w : Work) (whole : IsProject old) (are_files : w.files ≡ old.files) (are_trees : w.trees.items ≡ replicate (length old.files) None) (are_splices : w.splices.items ≡ []) (is_relexed : w.relexed ≡ 0)
-    (distinct : IsDistinct w.files) where
-  pub tasks_first : (c : CallRef) → CallStands c (plain_trees old) → (cs : List code.Task) (ts : List Task) → TasksAre cs ts → TasksLeft old c (tasks_steps c ts (plain_trees old)) cs w
-  tasks_first c stands cs ts are =
-      let same = same_trees old w whole are_files are_trees are_splices is_relexed distinct in
-      record {
-        before = [];
-        between = record {
-          reached = first_reached old w whole are_files are_trees are_splices is_relexed distinct [] (doable.none (plain_trees old));
-          stands = subst (CallStands c) (sym same) stands;
-        };
-        rest = ts;
-        are = are;
-        joined = ap (tasks_steps c ts) (sym same) ∙ all_left (tasks_steps c ts (plain_trees (so_far old w)));
-      }
+pub tasks_first : (w : Work) → IsFresh w → (c : CallRef) → CallStands c (plain_trees (so_far w)) → (cs : List code.Task) (ts : List Task) → TasksAre cs ts
+    → TasksLeft (so_far w) c (tasks_steps c ts (plain_trees (so_far w))) cs w
+tasks_first w fresh c stands cs ts are =
+    let trees = plain_trees (so_far w) in
+    record {
+      before = [];
+      between = record { reached = first_reached w fresh [] (doable.none trees); stands = stands };
+      rest = ts;
+      are = are;
+      joined = all_left (tasks_steps c ts trees);
+    }
 
 -- ---- a task
 
@@ -80,7 +75,7 @@ module _ (old : Loaded) (c : CallRef) (whole : Result (List Step) Refusal) (task
   next = first_task task left u.rest u.are
 
   abbrev here : List Plain
-  here = plain_trees (so_far old w)
+  here = plain_trees (so_far w)
 
   abbrev behind : List Step → Result (List Step) Refusal → Result (List Step) Refusal
   behind steps r = then_ok r (λ later. Ok (steps ++ later))
@@ -105,22 +100,22 @@ module _ (old : Loaded) (c : CallRef) (whole : Result (List Step) Refusal) (task
         joined =
             by_first (Ok d.steps) d.are
             ∙ ap (λ ts. behind u.before (behind d.steps (tasks_steps c next.more ts))) (trees_done old c w u.before u.between next.first next.may d.steps d.are new d.between.reached)
-            ∙ behind_first u.before d.steps (tasks_steps c next.more (plain_trees (so_far old new)));
+            ∙ behind_first u.before d.steps (tasks_steps c next.more (plain_trees (so_far new)));
       }
 
-  pub task_refused : (e : Refusal) → ((before : List Step) (t : Task) → Between old c before w → TaskIs task t → MayBeWritten t → steps_of_task old c t w ≡ Err e) → MayNotBeDone old whole e
+  pub task_refused : (e : Refusal) → ((before : List Step) (t : Task) → Between old c before w → TaskIs task t → MayBeWritten t → steps_of_task c t w ≡ Err e) → MayNotBeDone old whole e
   task_refused e refused = unmeant e (by_first (Err e) (refused u.before next.first u.between next.is next.may))
 
 -- ---- the end
 
 module _ (old : Loaded) (c : CallRef) (whole : Result (List Step) Refusal) (w : Work) (u : TasksLeft old c whole [] w) where
   whole_done : whole ≡ Ok u.before
-  whole_done = u.joined ∙ ap (λ ts. then_ok (tasks_steps c ts (plain_trees (so_far old w))) (λ later. Ok (u.before ++ later))) (no_task u.rest u.are) ∙ ap Ok (append-nil u.before)
+  whole_done = u.joined ∙ ap (λ ts. then_ok (tasks_steps c ts (plain_trees (so_far w))) (λ later. Ok (u.before ++ later))) (no_task u.rest u.are) ∙ ap Ok (append-nil u.before)
 
-  pub tasks_outcome : (r : Result Work Refusal) → IfOk r (λ n. IsOutcome old u.before n.splices.items (so_far old n) n.relexed) → IfOk r (IsDone old whole)
+  pub tasks_outcome : (r : Result (Unit {0}) Refusal) → OnOk r (IsOutcome old u.before w.splices.items (so_far w) w.relexed) → OnOk r (IsDone old whole w)
   tasks_outcome (Ok n) o = record { steps = u.before; is = whole_done; outcome = o }
   tasks_outcome (Err e) o = tt
 
-  pub tasks_unmade : (r : Result Work Refusal) → IfErr r (MayNotBeMade old u.before) → IfErr r (λ e. e ≢ OutOfMemory → MayNotBeDone old whole e)
+  pub tasks_unmade : (r : Result (Unit {0}) Refusal) → IfErr r (MayNotBeMade old u.before) → IfErr r (λ e. e ≢ OutOfMemory → MayNotBeDone old whole e)
   tasks_unmade (Ok n) o = tt
   tasks_unmade (Err e) o = λ other. unmade u.before whole_done e o

@@ -47,10 +47,10 @@ TaskMayBeDone t = (c : CallRef) (trees : List Plain) → All MayStand trees → 
 -- These steps are done, and the call stands.
 pub record Between (old : Loaded) (c : CallRef) (before : List Step) (w : Work) : Type 0 where
   pub reached : Reached old before [] w
-  pub stands : CallStands c (plain_trees (so_far old w))
+  pub stands : CallStands c (plain_trees (so_far w))
 
-abbrev pub steps_of_task : Loaded → CallRef → Task → Work → Result (List Step) Refusal
-steps_of_task old c t w = task_steps t c (elements_in c (plain_trees (so_far old w)))
+abbrev pub steps_of_task : CallRef → Task → Work → Result (List Step) Refusal
+steps_of_task c t w = task_steps t c (elements_in c (plain_trees (so_far w)))
 
 -- The next task may be done.
 pub record IsNextTask (old : Loaded) (c : CallRef) (task : code.Task) (w : Work) : Type 0 where
@@ -63,7 +63,7 @@ pub record IsNextTask (old : Loaded) (c : CallRef) (task : code.Task) (w : Work)
 -- The steps of a task are done behind those before.
 pub record TaskDone (old : Loaded) (c : CallRef) (before : List Step) (t : Task) (was now : Work) : Type 0 where
   pub steps : List Step
-  pub are : steps_of_task old c t was ≡ Ok steps
+  pub are : steps_of_task c t was ≡ Ok steps
   pub between : Between old c (before ++ steps) now
 
 -- ---- a command

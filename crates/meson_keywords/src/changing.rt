@@ -1,12 +1,13 @@
 //! Changes of one call, each made after the one before it.
 
-ghost use Rattle.std.specs.Prelude.{◌≡◌, ◌≢◌, Err, IfErr, IfOk, List, OnOk};
-ghost use Rattle.meson_splice.specs.declared.file_set.File.{File};
+ghost use Rattle.std.specs.Prelude.{◌≡◌, ◌≢◌, Err, IfErr, IfOk, List, Ok, OnOk};
 ghost use Rattle.meson_syntax.specs.View.{args_view};
 ghost use Rattle.meson_calls.specs.Calls.{value_with_name};
 ghost use Rattle.meson_keywords.specs.Changing.{Between, CallStands, IsNextTask, TaskDone, request_steps, steps_of_task};
 ghost use Rattle.meson_calls.specs.GoodLists.{GoodArgs};
-ghost use Rattle.meson_calls.specs.Loading.{IsProject, project};
+ghost use Rattle.meson_calls.specs.Loading.{AreParsed, Loaded, named_trees, project, views};
+ghost use Rattle.meson_calls.specs.Notes.{notes};
+ghost use Rattle.meson_calls.specs.OnePlace.{the_place};
 ghost use Rattle.meson_steps.specs.Outcomes.{IsDone, MayNotBeDone};
 ghost use Rattle.meson_steps.specs.Results.{plain_trees};
 ghost use Rattle.meson_calls.specs.Sources.{not_hidden};
@@ -14,6 +15,7 @@ ghost use Rattle.meson_calls.specs.Sourced.{kept_args};
 ghost use Rattle.meson_calls.specs.Sources.{kwargs_key};
 ghost use Rattle.meson_steps.specs.Steps as meant;
 ghost use Rattle.meson_steps.specs.Meanings.{AreMeant};
+ghost use Rattle.meson_steps.specs.Working.{IsFresh, restored, so_far};
 ghost use Rattle.meson_keywords.specs.Tasking.{MayBeWritten, TaskIs, TasksAre, request_view};
 ghost use Rattle.meson_keywords.specs.Tasks as changes;
 ghost use Rattle.meson_keywords.specs.TaskSteps.{task_steps, tasks_steps};
@@ -26,7 +28,7 @@ use crate::tasks::{Task, tasks_of};
 use meson_calls::arguments::count_named;
 use meson_calls::finding::{list_of_call, the_call};
 use meson_calls::notes::notes_of;
-use meson_calls::{CallRef, Refusal};
+use meson_calls::{CallRef, Refusal, Role};
 use meson_splice::FileSet;
 use meson_steps::step::ListStep;
 use meson_steps::work::Work;
@@ -53,27 +55,22 @@ fn task_steps(alloc: Global, subject: Subject<'_>, task: Task<'_>) -> Result<Vec
     }
 }
 
-/// Does a task on the call at a place, as the work so far leaves it.
+/// Does a task on the call at a place, as the steps so far leave it.
 ///
 /// # Errors
 /// The call can't be changed so, or memory is refused.
-fn do_task(
-    alloc: Global,
-    work: &mut Work,
-    old: &[Parsed],
-    call: &CallRef,
-    task: Task<'_>,
-) -> Result<(), Refusal>
-    requires { (first : List File) × IsNextTask (record { files = first; parsed = old.now }) call.now task work.old }
-    ensures done { (first : List File) (before : List meant.Step) (t : changes.Task) → Between (record { files = first; parsed = old.now }) call.now before work.old → TaskIs task.entry t → MayBeWritten t → OnOk result (TaskDone (record { files = first; parsed = old.now }) call.now before t work.old work.new) }
-    ensures refused { (first : List File) (before : List meant.Step) (t : changes.Task) → Between (record { files = first; parsed = old.now }) call.now before work.old → TaskIs task.entry t → MayBeWritten t → IfErr result (λ e. e ≢ Refusal.OutOfMemory → steps_of_task (record { files = first; parsed = old.now }) call.now t work.old ≡ Err e) }
+fn do_task(alloc: Global, work: &mut Work, call: &CallRef, task: Task<'_>) -> Result<(), Refusal>
+    requires { (old : Loaded) × IsNextTask old call.now task work.old }
+    ensures done { (old : Loaded) (before : List meant.Step) (t : changes.Task) → Between old call.now before work.old → TaskIs task.entry t → MayBeWritten t → OnOk result (TaskDone old call.now before t work.old work.new) }
+    ensures restores { restored work.new ≡ restored work.old }
+    ensures refused { (old : Loaded) (before : List meant.Step) (t : changes.Task) → Between old call.now before work.old → TaskIs task.entry t → MayBeWritten t → IfErr result (λ e. e ≢ Refusal.OutOfMemory → steps_of_task call.now t work.old ≡ Err e) }
 {
     let file = call.file;
-    if file >= old.len() || file >= work.trees.len() {
+    if file >= work.trees.len() {
         unreachable!();
     }
     let source = work.files.bytes(file);
-    let made = match work.tree(old, file).list_at(&call.path) {
+    let made = match work.trees[file].list_at(&call.path) {
         Some(list) => {
             let args = list.items.get();
             let subject = Subject { call, source, args };
@@ -82,7 +79,7 @@ fn do_task(
         None => unreachable!(),
     };
     match made {
-        Ok(steps) => work.do_steps(alloc, old, steps),
+        Ok(steps) => work.do_steps(alloc, steps),
         Err(refusal) => Err(refusal),
     }
 }
@@ -100,26 +97,25 @@ fn not_hidden(source: &[u8], args: &[Arg]) -> Result<(), Refusal>
     Ok(())
 }
 
-/// Does tasks on the call at a place, on a copy of the files.
+/// Does tasks on the call at a place.
 ///
 /// # Errors
 /// The call can't be changed so, or the result passes a limit, or memory is refused.
 fn tasks_done(
     alloc: Global,
-    files: &FileSet,
-    trees: &[Parsed],
+    work: &mut Work,
     call: &CallRef,
     tasks: Vec<Task<'_>>,
-) -> Result<Work, Refusal>
-    requires whole { IsProject (record { files = files.now; parsed = trees.now }) }
-    requires stands { CallStands call.now (plain_trees (record { files = files.now; parsed = trees.now })) }
+) -> Result<(), Refusal>
+    requires fresh { IsFresh work.old }
+    requires stands { CallStands call.now (plain_trees (so_far work.old)) }
     requires tasks { (ts : List changes.Task) × TasksAre tasks.items ts }
-    ensures done { (ts : List changes.Task) → TasksAre tasks.entry.items ts → IfOk result (IsDone (record { files = files.now; parsed = trees.now }) (tasks_steps call.now ts (plain_trees (record { files = files.now; parsed = trees.now })))) }
-    ensures refused { (ts : List changes.Task) → TasksAre tasks.entry.items ts → IfErr result (λ e. e ≢ Refusal.OutOfMemory → MayNotBeDone (record { files = files.now; parsed = trees.now }) (tasks_steps call.now ts (plain_trees (record { files = files.now; parsed = trees.now }))) e) }
+    ensures done { (ts : List changes.Task) → TasksAre tasks.entry.items ts → OnOk result (IsDone (so_far work.old) (tasks_steps call.now ts (plain_trees (so_far work.old))) work.new) }
+    ensures restores { restored work.new ≡ restored work.old }
+    ensures refused { (ts : List changes.Task) → TasksAre tasks.entry.items ts → IfErr result (λ e. e ≢ Refusal.OutOfMemory → MayNotBeDone (so_far work.old) (tasks_steps call.now ts (plain_trees (so_far work.old))) e) }
 {
-    let mut work = Work::start(alloc, files)?;
     for task in tasks {
-        match do_task(alloc, &mut work, trees, call, task) {
+        match do_task(alloc, work, call, task) {
             Ok(()) => {}
             Err(refusal) => return Err(refusal),
         }
@@ -127,23 +123,38 @@ fn tasks_done(
     work.within_limits()
 }
 
-/// Does what is asked, on a copy of the files.
+/// The place of the one call that an id names.
+///
+/// # Errors
+/// There is no project, no such call or more than one, or memory is refused.
+fn place_named(
+    alloc: Global,
+    files: &FileSet,
+    trees: &[Parsed],
+    role: Role,
+    id: &str,
+) -> Result<CallRef, Refusal>
+    requires { AreParsed files.now trees.now }
+    ensures found { IfOk result (λ c. the_place role id.now (notes (named_trees files.now (views files.now trees.now))) ≡ Ok c) }
+    ensures refused { IfErr result (λ e. e ≢ Refusal.OutOfMemory → the_place role id.now (notes (named_trees files.now (views files.now trees.now))) ≡ Err e) }
+{
+    let notes = notes_of(alloc, files, trees)?;
+    the_call(alloc, role, id, notes.as_slice())
+}
+
+/// Does what is asked.
 ///
 /// # Errors
 /// The call is not there or not one, or the words are none of such a request, or the call can't be changed so, or the result passes a limit, or memory is
 /// refused.
-pub fn changed(
-    alloc: Global,
-    files: &FileSet,
-    trees: &[Parsed],
-    request: Request<'_>,
-) -> Result<Work, Refusal>
-    requires { IsProject (record { files = files.now; parsed = trees.now }) }
-    ensures done { IfOk result (IsDone (record { files = files.now; parsed = trees.now }) (request_steps (project (record { files = files.now; parsed = trees.now })) (request_view request.entry))) }
-    ensures refused { IfErr result (λ e. e ≢ Refusal.OutOfMemory → MayNotBeDone (record { files = files.now; parsed = trees.now }) (request_steps (project (record { files = files.now; parsed = trees.now })) (request_view request.entry)) e) }
+pub fn changed(alloc: Global, work: &mut Work, request: Request<'_>) -> Result<(), Refusal>
+    requires { IsFresh work.old }
+    ensures done { OnOk result (IsDone (so_far work.old) (request_steps (project (so_far work.old)) (request_view request.entry)) work.new) }
+    ensures restores { restored work.new ≡ restored work.old }
+    ensures refused { IfErr result (λ e. e ≢ Refusal.OutOfMemory → MayNotBeDone (so_far work.old) (request_steps (project (so_far work.old)) (request_view request.entry)) e) }
 {
-    let notes = notes_of(alloc, files, trees)?;
-    let call = match the_call(alloc, request.role, request.id, notes.as_slice()) {
+    let trees = work.trees.as_slice();
+    let call = match place_named(alloc, &work.files, trees, request.role, request.id) {
         Ok(call) => call,
         Err(refusal) => return Err(refusal),
     };
@@ -152,8 +163,8 @@ pub fn changed(
         Err(refusal) => return Err(refusal),
     };
     let args = list_of_call(trees, &call).items.get();
-    match not_hidden(files.bytes(call.file), args) {
-        Ok(()) => tasks_done(alloc, files, trees, &call, tasks),
+    match not_hidden(work.files.bytes(call.file), args) {
+        Ok(()) => tasks_done(alloc, work, &call, tasks),
         Err(refusal) => Err(refusal),
     }
 }

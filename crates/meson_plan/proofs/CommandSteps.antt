@@ -1,6 +1,6 @@
 -- What a command means that is a request, and what is done of the steps that are meant.
 use Rattle.std.proofs.Common.{◌≡◌, ◌≢◌, ℕ, List, sym, ap}
-use Rattle.std.specs.Prelude.{Some, Result, Ok, Err, IfOk, IfErr}
+use Rattle.std.specs.Prelude.{Some, Result, Ok, Err, IfErr, OnOk}
 use Rattle.meson_lex.specs.declared.kinds.Span.{Span}
 use Rattle.meson_syntax.proofs.parsing.Steps.{some-injective}
 use Rattle.meson_calls.specs.declared.call.Role.{Role}
@@ -36,10 +36,10 @@ request_meant p (command.TargetInfo target) q is = absurd cc
 request_meant p (command.KwargsInfo r id) q is = absurd cc
 
 module _ (old : Loaded) (meant : Result (List Step) Refusal) (steps : List Step) (is : meant ≡ Ok steps) where
-  pub steps_done : (o : Result Work Refusal) → IfOk o (λ w. IsOutcome old steps w.splices.items (so_far old w) w.relexed) → IfOk o (IsDone old meant)
-  steps_done (Ok w) out = record { steps = steps; is = is; outcome = out }
-  steps_done (Err e) out = tt
+  pub steps_done : (w : Work) (o : Result (Unit {0}) Refusal) → OnOk o (IsOutcome old steps w.splices.items (so_far w) w.relexed) → OnOk o (IsDone old meant w)
+  steps_done w (Ok done) out = record { steps = steps; is = is; outcome = out }
+  steps_done w (Err e) out = tt
 
-  pub steps_refused : (o : Result Work Refusal) → IfErr o (λ e. e ≢ OutOfMemory → MayNotBeMade old steps e) → IfErr o (λ e. e ≢ OutOfMemory → MayNotBeDone old meant e)
-  steps_refused (Ok w) why = tt
+  pub steps_refused : (o : Result (Unit {0}) Refusal) → IfErr o (λ e. e ≢ OutOfMemory → MayNotBeMade old steps e) → IfErr o (λ e. e ≢ OutOfMemory → MayNotBeDone old meant e)
+  steps_refused (Ok done) why = tt
   steps_refused (Err e) why = λ other. unmade steps is e (why other)

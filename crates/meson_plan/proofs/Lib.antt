@@ -1,6 +1,5 @@
 mod Performed
 pub mod SplicesDone
-mod TreesPut
 mod Told
 mod CallsIn
 mod CommandSteps

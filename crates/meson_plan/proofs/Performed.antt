@@ -29,12 +29,12 @@ module _ (old : Loaded) (k : Command) where
   may_refuse e (outcome.unmeant refusal is) = performing.unplanned refusal is
   may_refuse e (outcome.unmade steps is refusal why) = unmade steps is refusal why
 
-  pub performed : (w : Work) → IsDone old (planned (project old) k) w → (d : Done) → d.change.splices ≡ w.splices.items → d.change.title ≡ [] → d.relexed ≡ w.relexed → Performs old k d (so_far old w)
+  pub performed : (w : Work) → IsDone old (planned (project old) k) w → (d : Done) → d.change.splices ≡ w.splices.items → d.change.title ≡ [] → d.relexed ≡ w.relexed → Performs old k d (so_far w)
   performed w out d is_change is_untitled is_relexed = record {
     made = record {
       steps = out.steps;
       are_planned = out.is;
-      trees = plain_trees (so_far old w);
+      trees = plain_trees (so_far w);
       are_trees = out.outcome.made.are_trees;
       splices = w.splices.items;
       files = w.files;

@@ -1,11 +1,11 @@
 //! A project: its files, and the tree of each.
 
-ghost use Rattle.std.specs.Prelude.{◌≡◌, ◌≢◌, Some, Ok, Err, IfErr, IfOk, IsTrue, OnErr};
+ghost use Rattle.std.specs.Prelude.{◌≡◌, ◌≢◌, Some, Ok, Err, IfErr, IfOk, IsTrue, OnErr, OnOk};
 ghost use Rattle.meson_splice.specs.Patch.{patched_all};
 ghost use Rattle.meson_layout.specs.Laws.{AreTexts};
 ghost use Rattle.meson_calls.specs.Loading.{IsProject, MayNotLoad, project};
-ghost use Rattle.meson_steps.specs.OtherValues.{with_some};
 ghost use Rattle.meson_steps.specs.Outcomes.{IsDone, MayNotBeDone};
+ghost use Rattle.meson_steps.specs.Working.{IsFresh, restored, so_far};
 ghost use Rattle.meson_plan.specs.Performing.{KeepsUntouched, MayRefuse, Performs};
 ghost use Rattle.meson_plan.specs.Planning.{planned};
 ghost use Rattle.meson_calls.specs.Roles.{targets, found, is_target, places};
@@ -32,10 +32,12 @@ use meson_keywords::request::request_of;
 use meson_sources::extras::extra_files_of;
 use meson_splice::{Change, FileSet, Many, Text};
 use meson_steps::command::{Command, Done};
+use meson_steps::journal::put_back;
 use meson_steps::work::{Work, done};
 use meson_syntax::Parsed;
 use std::alloc::Global;
 use std::marker::Model;
+use std::mem;
 
 /// Files that are a project. Contracts see the files and the tree of each.
 #[derive(Debug, Drop)]
@@ -220,60 +222,52 @@ impl Project {
         ensures refused { IfErr result (λ e. e ≢ Refusal.OutOfMemory → MayRefuse self.old command.now e) }
         ensures kept { OnErr result (self.new ≡ self.old) }
     {
-        let trees = self.trees.as_slice();
-        let work = match performed(alloc, &self.files, trees, command) {
-            Ok(work) => work,
-            Err(refusal) => return Err(refusal),
+        let Ok(files) = self.files.copy(alloc) else {
+            return Err(Refusal::OutOfMemory);
         };
+        let trees = mem::replace(&mut self.trees, Vec::new(alloc));
+        let mut work = Work::start(alloc, files, trees);
+        let ended = performed(alloc, &mut work, command);
         let Work {
             splices,
             files,
-            trees: new,
+            mut trees,
+            saved,
             relexed,
         } = work;
-        self.files = files;
-        put_trees(&mut self.trees, new);
-        Ok(Done {
-            change: Change::untitled(alloc, Many::of(splices)),
-            relexed,
-        })
+        match ended {
+            Ok(()) => {
+                self.files = files;
+                self.trees = trees;
+                Ok(Done {
+                    change: Change::untitled(alloc, Many::of(splices)),
+                    relexed,
+                })
+            }
+            Err(refusal) => {
+                put_back(&mut trees, saved);
+                self.trees = trees;
+                Err(refusal)
+            }
+        }
     }
 }
 
-/// Does a command on a copy of the files.
+/// Does a command.
 ///
 /// # Errors
 /// The first refusal that holds, or want of memory.
-fn performed(
-    alloc: Global,
-    files: &FileSet,
-    trees: &[Parsed],
-    command: &Command,
-) -> Result<Work, Refusal>
-    requires { IsProject (record { files = files.now; parsed = trees.now }) }
-    ensures done { IfOk result (IsDone (record { files = files.now; parsed = trees.now }) (planned (project (record { files = files.now; parsed = trees.now })) command.now)) }
-    ensures refused { IfErr result (λ e. e ≢ Refusal.OutOfMemory → MayNotBeDone (record { files = files.now; parsed = trees.now }) (planned (project (record { files = files.now; parsed = trees.now })) command.now) e) }
+fn performed(alloc: Global, work: &mut Work, command: &Command) -> Result<(), Refusal>
+    requires { IsFresh work.old }
+    ensures done { OnOk result (IsDone (so_far work.old) (planned (project (so_far work.old)) command.now) work.new) }
+    ensures restores { restored work.new ≡ restored work.old }
+    ensures refused { IfErr result (λ e. e ≢ Refusal.OutOfMemory → MayNotBeDone (so_far work.old) (planned (project (so_far work.old)) command.now) e) }
 {
     match request_of(command) {
-        Some(request) => changed(alloc, files, trees, request),
-        None => match planned(alloc, files, trees, command) {
-            Ok(steps) => done(alloc, files, trees, steps),
+        Some(request) => changed(alloc, work, request),
+        None => match planned(alloc, &work.files, work.trees.as_slice(), command) {
+            Ok(steps) => done(alloc, work, steps),
             Err(refusal) => Err(refusal),
         },
-    }
-}
-
-/// Puts the trees that are there into the places of the old ones.
-fn put_trees(trees: &mut Vec<Parsed>, new: Vec<Option<Parsed>>)
-    ensures { trees.new.items ≡ with_some new.items trees.old.items }
-{
-    let mut i = 0;
-    for tree in new {
-        if let Some(tree) = tree {
-            if i < trees.len() {
-                trees[i] = tree;
-            }
-        }
-        i += 1;
     }
 }

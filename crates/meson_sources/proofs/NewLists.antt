@@ -1,6 +1,7 @@
 -- A new list in a call, and a lone value in its array: strings may be put behind the first.
 use Rattle.std.proofs.Common.{◌≡◌, ℕ, zero, suc, ◌+◌, ◌≤◌, false, List, [], ◌∷◌, ◌++◌, length, take, drop, Some, refl, sym, ap, ◌∙◌, subst, arith, IsUtf8, true}
-use Rattle.std.specs.Prelude.{All, option_map, option_and_then}
+use Rattle.std.specs.Prelude.{All, option_map, option_and_then, slice_set}
+use Rattle.std.proofs.lemmas.List.Elements.{All-set}
 use Rattle.meson_syntax.specs.declared.operator.Bracket.TheVariants as bracket
 use Rattle.meson_syntax.specs.Tree.{Nowhere, Plain, Expression, listing, Argument, plain, named, pair, arguments_of}
 use Rattle.meson_syntax.specs.Grammar.{LevelFile, file_depth}
@@ -12,7 +13,6 @@ use Rattle.meson_edit.proofs.sequences.Deepened.{edits-deepen-by-one}
 use Rattle.meson_edit.proofs.sequences.Levelled.{insertions-keep-levels, wraps-keep-levels}
 use Rattle.meson_calls.specs.declared.call.CallRef.{CallRef}
 use Rattle.meson_steps.specs.ListSteps.{MayStand, AreDoable}
-use Rattle.meson_steps.specs.OtherValues.{with_one}
 use Rattle.meson_calls.specs.Project.{child}
 use Rattle.meson_steps.specs.WrittenTexts.{string_of}
 use Rattle.meson_sources.specs.SourceEdits as plan
@@ -22,7 +22,7 @@ use Rattle.meson_steps.proofs.Insertable.{Room, elements_with, nth_inserted, edi
 use Rattle.meson_steps.proofs.ListParts.{array_below}
 use Rattle.meson_steps.proofs.StepsDoable.{step_doable}
 use Rattle.meson_sources.proofs.StringsDoable.{behind_doable}
-use Rattle.meson_steps.proofs.WithOne.{changed_there, all_with}
+use Rattle.meson_steps.proofs.WithOne.{changed_there}
 use Rattle.meson_syntax.specs.Operators.{holds_values, holds_pairs}
 
 -- ---- elements
@@ -106,4 +106,4 @@ array_doable c n e names utf8 trees t is all shallow writes g =
     let deep = g.depth in
     let now_stands : MayStand g.now = (g.level, omega (arith, shallow, deep)) in
     step_doable (step_in c e) (plan.inserted (child c n) 1 names) trees t g.now is g.is writes all now_stands
-    (behind_doable (child c n) names utf8 0 (with_one c.file g.now trees) g.now (changed_there trees c.file t g.now is) (all_with MayStand trees c.file g.now all now_stands) g.room)
+    (behind_doable (child c n) names utf8 0 (slice_set trees c.file g.now) g.now (changed_there trees c.file t g.now is) (All-set MayStand trees c.file g.now now_stands all) g.room)

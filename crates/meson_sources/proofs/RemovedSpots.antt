@@ -1,8 +1,8 @@
 -- Strings that go one after another: each step may be done, and the strings that are left stand at their new spots.
-use Rattle.std.specs.Prelude.{All, nat_eq, if◌then◌else◌, option_map, option_and_then}
+use Rattle.std.specs.Prelude.{All, nat_eq, if◌then◌else◌, option_map, option_and_then, slice_set}
 use Rattle.std.proofs.Common.{◌≡◌, ℕ, zero, suc, ◌≤◌, Bool, true, false, List, [], ◌∷◌, length, Some, refl, sym, ap, ◌∙◌, subst, arith}
 use Rattle.std.proofs.lemmas.Bool.{eqb-true, eq-eqb}
-use Rattle.std.proofs.lemmas.List.Elements.{All-head, All-tail}
+use Rattle.std.proofs.lemmas.List.Elements.{All-head, All-tail, All-set}
 use Rattle.meson_syntax.specs.Grammar.{LevelFile, file_depth}
 use Rattle.meson_syntax.specs.Paths.{ListAt, nth}
 use Rattle.meson_syntax.specs.Tree.{Nowhere, Plain}
@@ -13,7 +13,6 @@ use Rattle.meson_edit.proofs.sequences.Deepened.{removals-stay-within}
 use Rattle.meson_edit.proofs.sequences.Levelled.{removals-keep-levels}
 use Rattle.meson_steps.specs.ListSteps.{AreDoable, none, one, MayStand}
 use Rattle.meson_calls.specs.Loading.{Loaded, project}
-use Rattle.meson_steps.specs.OtherValues.{with_one}
 use Rattle.meson_steps.specs.Results.{plain_trees}
 use Rattle.meson_calls.specs.Project.{place}
 use Rattle.meson_sources.specs.Renaming.{StandsIn}
@@ -25,7 +24,7 @@ use Rattle.meson_sources.proofs.StringsThere.{StringIn, spot_in}
 use Rattle.meson_steps.proofs.PlainTrees.{trees_stand}
 use Rattle.meson_sources.proofs.RemovalsRename.{removals_rename, removals_apart}
 use Rattle.meson_sources.proofs.SpotsApart.{Apart, Clear, apart_after}
-use Rattle.meson_steps.proofs.WithOne.{change_there, changed_there, others_there, all_nth, all_with}
+use Rattle.meson_steps.proofs.WithOne.{change_there, changed_there, others_there, all_nth}
 
 -- ---- one string goes
 
@@ -54,10 +53,10 @@ module _ (trees : List Plain) (all : All MayStand trees) (s : Spot) (there : Str
   gone = goes trees all s there
 
   abbrev between : List Plain
-  between = with_one s.list.file gone.now trees
+  between = slice_set trees s.list.file gone.now
 
   between_stand : All MayStand between
-  between_stand = all_with MayStand trees s.list.file gone.now all gone.may
+  between_stand = All-set MayStand trees s.list.file gone.now gone.may all
 
   level : LevelFile there.tree
   level = (all_nth MayStand trees s.list.file there.tree all there.is_tree).0

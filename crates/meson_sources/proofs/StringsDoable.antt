@@ -1,8 +1,8 @@
 -- Strings may be put into a list, one after another.
 use Rattle.std.proofs.Common.{◌≡◌, ℕ, suc, ◌≤◌, List, [], ◌∷◌, Some, refl, arith, true}
-use Rattle.std.specs.Prelude.{All}
+use Rattle.std.specs.Prelude.{All, slice_set}
 use Rattle.std.specs.Str.{IsUtf8}
-use Rattle.std.proofs.lemmas.List.Elements.{All-head, All-tail}
+use Rattle.std.proofs.lemmas.List.Elements.{All-head, All-tail, All-set}
 use Rattle.meson_lex.specs.Literals.{literal}
 use Rattle.meson_syntax.specs.Tree.{Nowhere, Plain}
 use Rattle.meson_syntax.specs.Grammar.{LevelFile, file_depth}
@@ -10,12 +10,11 @@ use Rattle.meson_syntax.specs.Paths.{ListAt, list_at, nth}
 use Rattle.meson_edit.specs.Edits.{First, After, elements}
 use Rattle.meson_calls.specs.declared.call.CallRef.{CallRef}
 use Rattle.meson_steps.specs.ListSteps.{MayStand, AreDoable, none}
-use Rattle.meson_steps.specs.OtherValues.{with_one}
 use Rattle.meson_steps.specs.WrittenTexts.{string_of}
 use Rattle.meson_steps.specs.Steps.{step_in}
 use Rattle.meson_sources.specs.SourceEdits.{inserted, written_source}
 use Rattle.meson_steps.proofs.Insertable.{Room, grown_behind, grown_first}
-use Rattle.meson_steps.proofs.WithOne.{changed_there, all_nth, all_with}
+use Rattle.meson_steps.proofs.WithOne.{changed_there, all_nth}
 use Rattle.meson_steps.proofs.StepsDoable.{step_doable, text_written}
 use Rattle.meson_syntax.specs.Operators.{holds_values}
 
@@ -33,7 +32,7 @@ behind_doable list (name ∷ names) utf8 n trees t is all room =
     let g = grown_behind t path stands.0 (literal name) (string_of name) tt refl n room in
     let now_stands = grown_stands t g.now stands g.level g.depth in
     step_doable (step_in list (After path n (written_source name))) (inserted list (suc (suc n)) names) trees t g.now is g.is (text_written name (All-head IsUtf8 name names utf8)) all now_stands
-    (behind_doable list names (All-tail IsUtf8 name names utf8) (suc n) (with_one list.file g.now trees) g.now (changed_there trees list.file t g.now is) (all_with MayStand trees list.file g.now all now_stands) g.room)
+    (behind_doable list names (All-tail IsUtf8 name names utf8) (suc n) (slice_set trees list.file g.now) g.now (changed_there trees list.file t g.now is) (All-set MayStand trees list.file g.now now_stands all) g.room)
 
 -- strings in a list that holds nothing
 pub first_doable : (list : CallRef) (names : List (List ℕ)) → All IsUtf8 names → (trees : List Plain) (t : Plain) → nth trees list.file ≡ Some t → All MayStand trees
@@ -45,4 +44,4 @@ first_doable list (name ∷ names) utf8 trees t is all q is_q holds empty =
     let g = grown_first t path stands.0 (literal name) (string_of name) tt refl q is_q holds empty in
     let now_stands = grown_stands t g.now stands g.level g.depth in
     step_doable (step_in list (First path (written_source name))) (inserted list 1 names) trees t g.now is g.is (text_written name (All-head IsUtf8 name names utf8)) all now_stands
-    (behind_doable list names (All-tail IsUtf8 name names utf8) 0 (with_one list.file g.now trees) g.now (changed_there trees list.file t g.now is) (all_with MayStand trees list.file g.now all now_stands) g.room)
+    (behind_doable list names (All-tail IsUtf8 name names utf8) 0 (slice_set trees list.file g.now) g.now (changed_there trees list.file t g.now is) (All-set MayStand trees list.file g.now now_stands all) g.room)

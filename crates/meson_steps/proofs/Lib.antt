@@ -4,16 +4,15 @@ pub mod ArgumentValues
 pub mod WithOne
 pub mod OtherBytes
 mod Spliced
-mod WorkTrees
+mod Restoring
 mod PatchedFiles
 pub mod WorkKnown
 mod StepPlaces
 pub mod OneMoreStep
 mod OneStep
 pub mod StepTaken
-mod WorkLimits
+pub mod WorkLimits
 pub mod UnderWay
-mod AllReached
 pub mod ListParts
 pub mod SameRead
 pub mod Distincts

@@ -1,7 +1,8 @@
 -- One step of those that may be done one after another.
 use Rattle.std.proofs.Common.{◌≡◌, ℕ, ◌+◌, ◌<◌, ◌≤◌, List, [], ◌∷◌, ◌++◌, length, get_or, append-nil, refl, sym, ap, ◌∙◌, subst, arith}
-use Rattle.std.specs.Prelude.{All, None, Some, Ok}
+use Rattle.std.specs.Prelude.{All, None, Some, Ok, slice_set}
 use Rattle.std.specs.Str.{IsUtf8}
+use Rattle.std.proofs.lemmas.List.{set-get_or}
 use Rattle.meson_lex.specs.declared.kinds.Span.{Span}
 use Rattle.meson_lex.specs.Items.{Lexeme, IsItemList}
 use Rattle.meson_layout.specs.declared.primitive.Primitive.{Primitive}
@@ -28,16 +29,15 @@ use Rattle.meson_steps.specs.declared.step.ListStep.{ListStep}
 use Rattle.meson_steps.specs.declared.work.Work.{Work}
 use Rattle.meson_steps.specs.ListSteps.{AreDoable, MayStand, bare}
 use Rattle.meson_calls.specs.Loading.{HasFileName, Loaded, max_files, name_at}
-use Rattle.meson_steps.specs.OtherValues.{with_one, with_some}
 use Rattle.meson_steps.specs.Results.{plain_trees, saturated}
 use Rattle.meson_steps.specs.Steps.{Step, StepsMake, Laid, effective, read_again}
-use Rattle.meson_steps.specs.Working.{AreKnown, IsChanged, MayChange, Reached, placed_edit, so_far}
+use Rattle.meson_steps.specs.Working.{AreKnown, IsChanged, MayChange, Reached, limits_of, placed_edit, so_far}
 use Rattle.meson_steps.proofs.PatchedFiles.{OfFile, all_patched, distinct_with, effective_of_file, effective_patches, effective_texts, of_file}
 use Rattle.meson_steps.proofs.StepPlaces.{every_edit, next_doable, step_code, NextDoable, IsCode}
 use Rattle.meson_steps.proofs.OneMoreStep.{saturated_more, stepped_more, steps_more}
 use Rattle.meson_steps.proofs.OtherBytes.{as_many_files, as_many_plain, bytes_there, named_with, plain_at, plain_with}
-use Rattle.meson_steps.proofs.WithOne.{ChangedAt, all_at, changed_from, with_same}
-use Rattle.meson_steps.proofs.WorkKnown.{AsMany, IsKnown, as_many_known, known_at, known_with, some_with}
+use Rattle.meson_steps.proofs.WithOne.{ChangedAt, all_at, changed_from}
+use Rattle.meson_steps.proofs.WorkKnown.{known_with}
 
 -- a text spells one tree, however deep it nests
 one_spelled : (bytes : List ℕ) (s t : Plain) → IsUtf8 bytes → Spells bytes s → Spells bytes t → s ≡ t
@@ -62,10 +62,10 @@ module _ (old : Loaded) (w : Work) (before rest : List Step) (s : Step) (r : Rea
   i = s.file
 
   abbrev pub parsed : List Parsed
-  parsed = with_some w.trees.items old.parsed
+  parsed = w.trees.items
 
   abbrev pub plain : List Plain
-  plain = plain_trees (so_far old w)
+  plain = plain_trees (so_far w)
 
   abbrev pub bytes : List ℕ
   bytes = bytes_at i files
@@ -73,8 +73,8 @@ module _ (old : Loaded) (w : Work) (before rest : List Step) (s : Step) (r : Rea
   abbrev pub name : List ℕ
   name = name_at i files
 
-  pub many : AsMany files w.trees.items old.parsed
-  many = as_many_known files w.trees.items old.parsed r.known
+  many : length parsed ≡ length files
+  many = r.known.as_many
 
   pub next : NextDoable s rest plain
   next = next_doable s rest plain r.doable
@@ -87,34 +87,30 @@ module _ (old : Loaded) (w : Work) (before rest : List Step) (s : Step) (r : Rea
   pub in_files : i < length files
   in_files =
       let within = changed.within in
-      let all = as_many_plain files parsed many.in_all in
-      let alike = many.in_all in
-      omega (arith, within, all, alike)
+      let all = as_many_plain files parsed many in
+      omega (arith, within, all, many)
 
-  pub in_trees : i < length w.trees.items
-  in_trees = let inside = in_files in let alike = many.in_new in omega (arith, inside, alike)
-
-  pub in_old : i < length old.parsed
-  in_old = let inside = in_files in let alike = many.in_old in omega (arith, inside, alike)
+  pub in_trees : i < length parsed
+  in_trees = let inside = in_files in omega (arith, inside, many)
 
   module _ (t : Parsed) (there : t ≡ get_or parsed i t) where
     abbrev pub f : tree.File Span
     f = view bytes t
 
-    pub is_known : IsKnown bytes f
-    is_known = subst (λ u. IsKnown bytes (view bytes u)) (sym there) (known_at files w.trees.items old.parsed i t r.known in_files)
+    abbrev pub limits : Limits
+    limits = limits_of w.saved.items i
+
+    pub spanned : IsSpannedWithin limits bytes f
+    spanned = subst (λ u. IsSpannedWithin limits bytes (view bytes u)) (sym there) (r.known.each i t in_files)
 
     abbrev pub items : List Lexeme
-    items = is_known.spanned.reads.spells.items
+    items = spanned.reads.spells.items
 
     are_items : IsItemList bytes items
-    are_items = is_known.spanned.reads.spells.are_items
-
-    in_all : i < length parsed
-    in_all = let inside = in_files in let alike = many.in_all in omega (arith, inside, alike)
+    are_items = spanned.reads.spells.are_items
 
     plain_is : get_or plain i (erase f) ≡ erase f
-    plain_is = plain_at files parsed i t (erase f) many.in_all in_all ∙ ap (λ u. erase (view bytes u)) (sym there)
+    plain_is = plain_at files parsed i t (erase f) many in_trees ∙ ap (λ u. erase (view bytes u)) (sym there)
 
     edited_is : edited s.edit (erase f) ≡ Some changed.new
     edited_is = ap (edited s.edit) (sym plain_is) ∙ changed.is (erase f)
@@ -123,7 +119,7 @@ module _ (old : Loaded) (w : Work) (before rest : List Step) (s : Step) (r : Rea
     stands = all_at MayStand plain i changed.new changed.within (subst (All MayStand) changed.are next.stand)
 
     pub made : Makes bytes f items name s.edit changed.new
-    made = every_edit s.edit is_known.limits bytes f is_known.spanned items are_items name next.writes changed.new edited_is stands.0
+    made = every_edit s.edit limits bytes f spanned items are_items name next.writes changed.new edited_is stands.0
 
     -- ---- the layout
 
@@ -154,8 +150,8 @@ module _ (old : Loaded) (w : Work) (before rest : List Step) (s : Step) (r : Rea
       laid : Laid files s splices
       laid = record {
         file = f;
-        limits = is_known.limits;
-        spanned = is_known.spanned;
+        limits = limits;
+        spanned = spanned;
         writes = next.writes;
         now = changed.new;
         is_now = edited_is;
@@ -181,8 +177,8 @@ module _ (old : Loaded) (w : Work) (before rest : List Step) (s : Step) (r : Rea
       same_reached empty =
           let text_same : made.text ≡ bytes = let h = sym patches ∙ ap (patched_by bytes) empty in cc in
           let spells = subst (λ b. Spells b changed.new) text_same made.spells in
-          let tree_same : changed.new ≡ erase f = one_spelled bytes changed.new (erase f) is_known.spanned.reads.source.utf8 spells is_known.spanned.reads.spells in
-          let back : next.between ≡ plain = changed.are ∙ ap (λ t. with_one i t plain) (tree_same ∙ sym plain_is) ∙ with_same plain i (erase f) in
+          let tree_same : changed.new ≡ erase f = one_spelled bytes changed.new (erase f) spanned.reads.source.utf8 spells spanned.reads.spells in
+          let back : next.between ≡ plain = changed.are ∙ ap (λ t. slice_set plain i t) (tree_same ∙ sym plain_is) ∙ set-get_or plain i (erase f) in
           let none = subst (Laid files s) empty laid in
           let count : r.made.bytes + 0 ≡ r.made.bytes = omega arith in
           let done = steps_more old.files files files before s w.splices.items [] r.made.bytes r.made.are_done none refl in record {
@@ -214,14 +210,11 @@ module _ (old : Loaded) (w : Work) (before rest : List Step) (s : Step) (r : Rea
         tree_is : changed.new ≡ erase (view made.text c.tree)
         tree_is = one_spelled made.text changed.new (erase (view made.text c.tree)) made.utf8 made.spells read.reads.spells
 
-        parsed_are : with_some new.trees.items old.parsed ≡ with_one i c.tree parsed
-        parsed_are = ap (λ ts. with_some ts old.parsed) c.are_trees ∙ some_with w.trees.items old.parsed i c.tree (many.in_new ∙ sym many.in_old)
-
-        plain_are : next.between ≡ plain_trees (so_far old new)
+        plain_are : next.between ≡ plain_trees (so_far new)
         plain_are =
-            changed.are ∙ ap (λ t. with_one i t plain) tree_is ∙ sym (plain_with files parsed i made.text c.tree many.in_all)
-            ∙ ap (λ fs. plain_trees (record { files = fs; parsed = with_one i c.tree parsed })) (sym files_are)
-            ∙ ap (λ ts. plain_trees (record { files = new.files; parsed = ts })) (sym parsed_are)
+            changed.are ∙ ap (λ t. slice_set plain i t) tree_is ∙ sym (plain_with files parsed i made.text c.tree many)
+            ∙ ap (λ fs. plain_trees (record { files = fs; parsed = slice_set parsed i c.tree })) (sym files_are)
+            ∙ ap (λ ts. plain_trees (record { files = new.files; parsed = ts })) (sym c.are_trees)
 
         relexed_is : new.relexed ≡ saturated (r.made.bytes + read_again splices i new.files)
         relexed_is =
@@ -232,14 +225,15 @@ module _ (old : Loaded) (w : Work) (before rest : List Step) (s : Step) (r : Rea
         new_reached = record {
           made = record {
             bytes = r.made.bytes + read_again splices i new.files;
-            are_trees = stepped_more before s (plain_trees old) plain (plain_trees (so_far old new)) r.made.are_trees (next.is ∙ ap Some plain_are);
+            are_trees = stepped_more before s (plain_trees old) plain (plain_trees (so_far new)) r.made.are_trees (next.is ∙ ap Some plain_are);
             are_done = subst (λ ss. StepsMake old.files (before ++ s ∷ []) ss new.files (r.made.bytes + read_again splices i new.files)) (sym c.are_splices)
                 (steps_more old.files files new.files before s w.splices.items splices r.made.bytes r.made.are_done laid c.are_files);
             is_relexed = relexed_is;
           };
           doable = subst (AreDoable rest) plain_are next.doable;
-          known = subst (λ fs. AreKnown fs new.trees.items old.parsed) (sym files_are)
-              (subst (λ ts. AreKnown (with_bytes i made.text files) ts old.parsed) (sym c.are_trees) (known_with files w.trees.items old.parsed i made.text c.tree r.known in_files read));
+          known = subst (λ fs. AreKnown new.saved.items fs new.trees.items) (sym files_are)
+              (subst (AreKnown new.saved.items (with_bytes i made.text files)) (sym c.are_trees)
+              (known_with w.saved.items new.saved.items files parsed i made.text c.tree r.known in_files c.are_saved read));
           distinct = subst IsDistinct (sym files_are) (distinct_with files i made.text r.distinct);
           few = subst (λ fs. length fs ≤ max_files) (sym files_are) (subst (λ n. n ≤ max_files) (sym (as_many_files files i made.text)) r.few);
           named = subst (All HasFileName) (sym files_are) (named_with files i made.text r.named);

@@ -1,6 +1,6 @@
 -- Files of which one has other bytes, and their trees of which one is another one.
-use Rattle.std.proofs.Common.{◌≡◌, ℕ, zero, suc, ◌<◌, List, [], ◌∷◌, map, length, get_or, refl, ap, arith}
-use Rattle.std.specs.Prelude.{All}
+use Rattle.std.proofs.Common.{◌≡◌, ◌≢◌, ℕ, zero, suc, ◌<◌, List, [], ◌∷◌, map, length, get_or, refl, ap, arith}
+use Rattle.std.specs.Prelude.{All, slice_set}
 use Rattle.std.proofs.lemmas.List.Elements.{All-cons, All-head, All-tail}
 use Rattle.meson_splice.specs.declared.file_set.File.{File}
 use Rattle.meson_splice.specs.Files.{bytes_at, with_bytes}
@@ -8,7 +8,6 @@ use Rattle.meson_syntax.specs.declared.tree.Parsed.{Parsed}
 use Rattle.meson_syntax.specs.Tree.{Plain, erase}
 use Rattle.meson_syntax.specs.View.{view}
 use Rattle.meson_calls.specs.Loading.{HasFileName, views}
-use Rattle.meson_steps.specs.OtherValues.{with_one}
 
 -- ---- files
 
@@ -16,6 +15,13 @@ pub bytes_there : (files : List File) (i : ℕ) (text : List ℕ) → i < length
 bytes_there [] i text within = absurd (omega (arith, within))
 bytes_there (f ∷ files) zero text within = refl
 bytes_there (f ∷ files) (suc i) text within = let below : i < length files = omega (arith, within) in bytes_there files i text below
+
+pub bytes_elsewhere : (files : List File) (i k : ℕ) (text : List ℕ) → k ≢ i → bytes_at k (with_bytes i text files) ≡ bytes_at k files
+bytes_elsewhere [] i k text other = refl
+bytes_elsewhere (f ∷ files) zero zero text other = absurd (other refl)
+bytes_elsewhere (f ∷ files) zero (suc k) text other = refl
+bytes_elsewhere (f ∷ files) (suc i) zero text other = refl
+bytes_elsewhere (f ∷ files) (suc i) (suc k) text other = bytes_elsewhere files i k text (λ same. other (ap suc same))
 
 pub as_many_files : (files : List File) (i : ℕ) (text : List ℕ) → length (with_bytes i text files) ≡ length files
 as_many_files [] i text = refl
@@ -46,7 +52,7 @@ as_many_plain (f ∷ files) [] many = refl
 as_many_plain (f ∷ files) (t ∷ trees) many = let alike : length trees ≡ length files = omega (arith, many) in ap suc (as_many_plain files trees alike)
 
 pub plain_with : (files : List File) (trees : List Parsed) (i : ℕ) (text : List ℕ) (tree : Parsed) → length trees ≡ length files
-    → map erase (views (with_bytes i text files) (with_one i tree trees)) ≡ with_one i (erase (view text tree)) (map erase (views files trees))
+    → map erase (views (with_bytes i text files) (slice_set trees i tree)) ≡ slice_set (map erase (views files trees)) i (erase (view text tree))
 plain_with [] [] i text tree many = refl
 plain_with [] (t ∷ trees) i text tree many = absurd (omega (arith, many))
 plain_with (f ∷ files) [] i text tree many = absurd (omega (arith, many))

@@ -18,9 +18,8 @@ use Rattle.meson_calls.specs.Loading.{Loaded, name_at}
 use Rattle.meson_calls.specs.Project.{place}
 use Rattle.meson_steps.specs.Steps.{Step, effective}
 use Rattle.meson_steps.specs.Working.{IsChanged, MayChange, Reached, placed_edit}
-use Rattle.meson_steps.specs.OtherValues.{with_some}
 use Rattle.meson_calls.proofs.Loads.{nth_name}
-use Rattle.meson_steps.proofs.OneStep.{in_files, in_trees, in_old, is_ready, items, laid_is, made, may_change, new_reached, same_reached, splices_are}
+use Rattle.meson_steps.proofs.OneStep.{in_files, in_trees, is_ready, items, laid_is, made, may_change, new_reached, same_reached, splices_are}
 
 pub when_ok : {X E P Q : Type 0} (r : Result X E) → (P → Q) → OnOk r P → OnOk r Q
 when_ok (Ok x) then p = then p
@@ -48,12 +47,9 @@ module _ (old : Loaded) (w : Work) (step : ListStep) (before rest : List Step) (
   pub code_in_trees : step.list.file < length w.trees.items
   code_in_trees = subst (λ i. i < length w.trees.items) (sym file_is) (in_trees old w before rest s r)
 
-  pub code_in_old : step.list.file < length old.parsed
-  code_in_old = subst (λ i. i < length old.parsed) (sym file_is) (in_old old w before rest s r)
-
-  module _ (t : Parsed) (there : t ≡ get_or (with_some w.trees.items old.parsed) step.list.file t) where
-    at : t ≡ get_or (with_some w.trees.items old.parsed) s.file t
-    at = there ∙ ap (λ i. get_or (with_some w.trees.items old.parsed) i t) file_is
+  module _ (t : Parsed) (there : t ≡ get_or w.trees.items step.list.file t) where
+    at : t ≡ get_or w.trees.items s.file t
+    at = there ∙ ap (λ i. get_or w.trees.items i t) file_is
 
     abbrev made_here : Primitive
     made_here = (made old w before rest s r t at).primitive

@@ -1,7 +1,8 @@
 -- Steps that may be done one after another in the trees of a project: one that changes a tree; and that a string is written.
 use Rattle.std.proofs.Common.{◌≡◌, ℕ, List, ◌∷◌, Some, refl, sym, ap, subst}
-use Rattle.std.specs.Prelude.{All, Ok}
+use Rattle.std.specs.Prelude.{All, Ok, slice_set}
 use Rattle.std.specs.Str.{IsUtf8}
+use Rattle.std.proofs.lemmas.List.Elements.{All-set}
 use Rattle.meson_lex.specs.Literals.{literal}
 use Rattle.meson_syntax.specs.Tree.{Nowhere, Plain, Expression}
 use Rattle.meson_syntax.specs.Grammar.{expression_words}
@@ -9,20 +10,19 @@ use Rattle.meson_syntax.specs.Paths.{nth}
 use Rattle.meson_edit.specs.Edits.{Written, edited}
 use Rattle.meson_edit.specs.Places.{IsWritten, Writes}
 use Rattle.meson_steps.specs.ListSteps.{MayStand, AreDoable, one}
-use Rattle.meson_steps.specs.OtherValues.{with_one}
 use Rattle.meson_steps.specs.WrittenValues.{IsSet}
 use Rattle.meson_steps.specs.WrittenTexts.{string_of, written_text}
 use Rattle.meson_steps.specs.Steps.{Step}
 use Rattle.meson_steps.proofs.SetLiterals.{text_set}
-use Rattle.meson_steps.proofs.WithOne.{change_there, all_with}
+use Rattle.meson_steps.proofs.WithOne.{change_there}
 
 -- ---- one step
 
 -- the trees after a step that makes one of them another one
 pub step_doable : (s : Step) (steps : List Step) (trees : List Plain) (t now : Plain) → nth trees s.file ≡ Some t → edited s.edit t ≡ Some now → Writes s.edit → All MayStand trees → MayStand now
-    → AreDoable steps (with_one s.file now trees) → AreDoable (s ∷ steps) trees
+    → AreDoable steps (slice_set trees s.file now) → AreDoable (s ∷ steps) trees
 step_doable s steps trees t now is made writes all stands rest =
-    one s steps trees (with_one s.file now trees) writes (change_there (edited s.edit) trees s.file t now is made) (all_with MayStand trees s.file now all stands) rest
+    one s steps trees (slice_set trees s.file now) writes (change_there (edited s.edit) trees s.file t now is made) (All-set MayStand trees s.file now stands all) rest
 
 -- ---- strings
 

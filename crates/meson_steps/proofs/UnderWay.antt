@@ -1,52 +1,47 @@
 -- Steps of which some are done: from the start, over each step, to the end.
-use Rattle.std.proofs.Common.{◌≡◌, ℕ, ◌<◌, ◌≤◌, List, [], ◌∷◌, ◌++◌, length, get_or, append-nil, refl, sym, ap, ◌∙◌, subst}
-use Rattle.std.specs.Prelude.{All, Some, None, replicate}
+use Rattle.std.proofs.Common.{◌≡◌, ℕ, ◌<◌, ◌≤◌, List, [], ◌∷◌, ◌++◌, length, append-nil, refl, sym, ap, ◌∙◌, subst}
+use Rattle.std.specs.Prelude.{IfErr, Result, Ok, Err, Some}
 use Rattle.std.proofs.lemmas.List.{append_assoc}
-use Rattle.meson_splice.specs.Files.{IsDistinct, bytes_at}
+use Rattle.meson_splice.specs.declared.file_set.File.{File}
+use Rattle.meson_splice.specs.Files.{bytes_at}
 use Rattle.meson_syntax.specs.Reads.{max_len}
+use Rattle.meson_calls.specs.declared.refusal.Refusal.{Refusal}
 use Rattle.meson_calls.specs.declared.refusal.Refusal.TheVariants.{TooDeep, TooLarge}
+use Rattle.meson_calls.specs.Loading.{Loaded}
 use Rattle.meson_steps.specs.declared.step.ListStep.{ListStep}
 use Rattle.meson_steps.specs.declared.work.Work.{Work}
-use Rattle.meson_steps.specs.Done.{IsMade, IsOutcome, MayNotBeMade, deep, large}
+use Rattle.meson_steps.specs.Done.{IsOutcome, MayNotBeMade, deep, large}
 use Rattle.meson_steps.specs.ListSteps.{AreBare, AreDoable, bare}
-use Rattle.meson_calls.specs.Loading.{HasFileName, IsProject, Loaded, max_files}
-use Rattle.meson_steps.specs.Results.{AreShallow, plain_trees}
 use Rattle.meson_steps.specs.Plans.{Doable}
+use Rattle.meson_steps.specs.Results.{AreShallow, plain_trees}
 use Rattle.meson_steps.specs.Steps.{Step, StepsMake, none}
-use Rattle.meson_steps.specs.Working.{AreKnown, HasDeep, HasLarge, IsNext, IsShallow, IsUnderWay, Reached, so_far}
-use Rattle.meson_steps.specs.OtherValues.{with_some}
-use Rattle.meson_calls.proofs.Loads.{as_many}
-use Rattle.meson_steps.proofs.WorkKnown.{known_first, nothing_new}
+use Rattle.meson_steps.specs.Working.{AreKnown, AreShallowSoFar, HasDeep, HasLarge, IsFresh, IsNext, IsUnderWay, Reached, so_far}
+use Rattle.meson_steps.proofs.WorkKnown.{known_first}
 use Rattle.meson_steps.proofs.WorkLimits.{all_small, known_parsed, known_shallow, not_shallow, not_small}
 
 -- ---- the start
 
-module _ (old : Loaded) (w : Work) (whole : IsProject old) (are_files : w.files ≡ old.files) (are_trees : w.trees.items ≡ replicate (length old.files) None) (are_splices : w.splices.items ≡ []) (is_relexed : w.relexed ≡ 0)
-    (distinct : IsDistinct w.files) where
-  same_parsed : with_some w.trees.items old.parsed ≡ old.parsed
-  same_parsed =
-      ap (λ ts. with_some ts old.parsed) are_trees ∙ ap (λ n. with_some (replicate n None) old.parsed) (sym (as_many old.files old.parsed whole.parsed)) ∙ nothing_new old.parsed
+module _ (w : Work) (fresh : IsFresh w) (steps : List Step) where
+  abbrev files : List File
+  files = w.files
 
-  pub same_trees : plain_trees (so_far old w) ≡ plain_trees old
-  same_trees = ap (λ fs. plain_trees (record { files = fs; parsed = with_some w.trees.items old.parsed })) are_files ∙ ap (λ ts. plain_trees (record { files = old.files; parsed = ts })) same_parsed
-
-  pub first_reached : (steps : List Step) → AreDoable steps (plain_trees old) → Reached old [] steps w
-  first_reached steps doable = record {
+  pub first_reached : AreDoable steps (plain_trees (so_far w)) → Reached (so_far w) [] steps w
+  first_reached doable = record {
     made = record {
       bytes = 0;
-      are_trees = ap Some (sym same_trees);
-      are_done = subst (λ ss. StepsMake old.files [] ss w.files 0) (sym are_splices) (subst (λ fs. StepsMake old.files [] [] fs 0) (sym are_files) (none old.files));
-      is_relexed = is_relexed;
+      are_trees = refl;
+      are_done = subst (λ ss. StepsMake files [] ss files 0) (sym fresh.no_splices) (none files);
+      is_relexed = fresh.none_relexed;
     };
-    doable = subst (AreDoable steps) (sym same_trees) doable;
-    known = subst (λ fs. AreKnown fs w.trees.items old.parsed) (sym are_files) (subst (λ ts. AreKnown old.files ts old.parsed) (sym are_trees) (known_first old.files old.parsed whole.parsed));
-    distinct = distinct;
-    few = subst (λ fs. length fs ≤ max_files) (sym are_files) whole.few;
-    named = subst (All HasFileName) (sym are_files) whole.named;
+    doable = doable;
+    known = subst (λ saved. AreKnown saved files w.trees.items) (sym fresh.none_saved) (known_first files w.trees.items fresh.project.parsed);
+    distinct = fresh.distinct;
+    few = fresh.project.few;
+    named = fresh.project.named;
   }
 
-  pub under_way_first : (steps : List Step) (code : List ListStep) → Doable old steps code → IsUnderWay old steps code w
-  under_way_first steps code d = record { before = []; rest = steps; joined = refl; bare = d.bare; reached = first_reached steps d.doable }
+  pub under_way_first : (code : List ListStep) → Doable (so_far w) steps code → IsUnderWay (so_far w) steps code w
+  under_way_first code d = record { before = []; rest = steps; joined = refl; bare = d.bare; reached = first_reached d.doable }
 
 -- ---- a step
 
@@ -84,23 +79,32 @@ none_left : (rest : List Step) → AreBare rest [] → rest ≡ []
 none_left [] are = refl
 none_left (s ∷ rest) are = absurd cc
 
-module _ (old : Loaded) (w : Work) (steps : List Step) (u : IsUnderWay old steps [] w) where
-  all_made : IsMade old steps w.splices.items (so_far old w) w.relexed
-  all_made =
-      let all : u.before ≡ steps = sym (u.joined ∙ ap (λ r. u.before ++ r) (none_left u.rest u.bare) ∙ simp append-nil) in
-      subst (λ ss. IsMade old ss w.splices.items (so_far old w) w.relexed) all u.reached.made
+pub all_reached : (old : Loaded) (w : Work) (steps : List Step) → IsUnderWay old steps [] w → Reached old steps [] w
+all_reached old w steps u =
+    let none = none_left u.rest u.bare in
+    let all : u.before ≡ steps = sym (u.joined ∙ ap (λ r. u.before ++ r) none ∙ simp append-nil) in
+    subst (λ ss. Reached old ss [] w) all (subst (λ r. Reached old u.before r w) none u.reached)
 
+module _ (old : Loaded) (w : Work) (steps : List Step) (r : Reached old steps [] w) where
   pub too_deep : HasDeep w.trees.items → MayNotBeMade old steps TooDeep
-  too_deep h = deep (so_far old w) w.splices.items w.relexed all_made (not_shallow w.files w.trees.items old.parsed u.reached.known h)
+  too_deep h = deep (so_far w) w.splices.items w.relexed r.made (not_shallow w.files w.trees.items r.known.as_many h)
 
-  module _ (shallow : (k : ℕ) → k < length w.trees.items → IsShallow (get_or w.trees.items k None)) where
-    are_shallow : AreShallow (plain_trees (so_far old w))
-    are_shallow = known_shallow w.files w.trees.items old.parsed u.reached.known shallow
+  module _ (shallow : AreShallowSoFar w.saved.items w.trees.items) where
+    are_shallow : AreShallow (plain_trees (so_far w))
+    are_shallow = known_shallow w.saved.items w.files w.trees.items r.known shallow
 
     pub too_large : HasLarge w.files → MayNotBeMade old steps TooLarge
-    too_large h = large (so_far old w) w.splices.items w.relexed all_made are_shallow (not_small w.files h)
+    too_large h = large (so_far w) w.splices.items w.relexed r.made are_shallow (not_small w.files h)
 
-    pub is_outcome : ((k : ℕ) → k < length w.files → length (bytes_at k w.files) ≤ max_len) → IsOutcome old steps w.splices.items (so_far old w) w.relexed
-    is_outcome small =
-        let all = all_small w.files small in
-        record { made = all_made; shallow = are_shallow; small = all; project = record { few = u.reached.few; named = u.reached.named; parsed = known_parsed w.files w.trees.items old.parsed u.reached.known shallow all } }
+    pub is_outcome : ((k : ℕ) → k < length w.files → length (bytes_at k w.files) ≤ max_len) → IsOutcome old steps w.splices.items (so_far w) w.relexed
+    is_outcome small = record {
+      made = r.made;
+      shallow = are_shallow;
+      small = all_small w.files small;
+      project = record { few = r.few; named = r.named; parsed = known_parsed w.saved.items w.files w.trees.items r.known shallow small };
+    }
+
+-- a refusal whatever else is asked of it
+pub refused_anyway : (P Q : Refusal → Type 0) (r : Result (Unit {0}) Refusal) → IfErr r P → IfErr r (λ e. Q e → P e)
+refused_anyway P Q (Ok done) why = tt
+refused_anyway P Q (Err e) why = λ asked. why

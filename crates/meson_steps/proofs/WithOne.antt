@@ -1,31 +1,26 @@
 -- Lists with another value in one place.
-use Rattle.std.specs.Prelude.{All, None, option_map}
+use Rattle.std.specs.Prelude.{All, None, option_map, slice_set}
 use Rattle.std.proofs.Common.{◌≡◌, ℕ, zero, suc, ◌<◌, List, [], ◌∷◌, length, get_or, Option, Some, refl, sym, ap, ◌∙◌, subst, arith}
-use Rattle.std.proofs.lemmas.List.Elements.{All-cons, All-head, All-tail, All-nil}
+use Rattle.std.proofs.lemmas.List.Elements.{All-head, All-tail}
+use Rattle.std.proofs.lemmas.List.{get_or-set_same, length-set}
 use Rattle.meson_syntax.specs.Paths.{nth}
 use Rattle.meson_syntax.proofs.parsing.Steps.{some-injective}
-use Rattle.meson_steps.specs.OtherValues.{with_one}
 use Rattle.meson_steps.specs.Steps.{changed_at}
 
 -- ---- what stands at a number
 
 module _ {X : Type 0} where
-  pub with_same : (xs : List X) (i : ℕ) (d : X) → with_one i (get_or xs i d) xs ≡ xs
-  with_same [] i d = refl
-  with_same (x ∷ xs) zero d = refl
-  with_same (x ∷ xs) (suc i) d = ap (λ zs. x ∷ zs) (with_same xs i d)
-
-  pub change_there : (change : X → Option X) (xs : List X) (i : ℕ) (x y : X) → nth xs i ≡ Some x → change x ≡ Some y → changed_at i change xs ≡ Some (with_one i y xs)
+  pub change_there : (change : X → Option X) (xs : List X) (i : ℕ) (x y : X) → nth xs i ≡ Some x → change x ≡ Some y → changed_at i change xs ≡ Some (slice_set xs i y)
   change_there change [] i x y here is = absurd cc
   change_there change (z ∷ xs) zero x y here is = ap (option_map (λ w. w ∷ xs)) (ap change (some-injective z x here) ∙ is)
   change_there change (z ∷ xs) (suc i) x y here is = ap (option_map (λ zs. z ∷ zs)) (change_there change xs i x y here is)
 
-  pub changed_there : (xs : List X) (i : ℕ) (x y : X) → nth xs i ≡ Some x → nth (with_one i y xs) i ≡ Some y
+  pub changed_there : (xs : List X) (i : ℕ) (x y : X) → nth xs i ≡ Some x → nth (slice_set xs i y) i ≡ Some y
   changed_there [] i x y here = absurd cc
   changed_there (z ∷ xs) zero x y here = refl
   changed_there (z ∷ xs) (suc i) x y here = changed_there xs i x y here
 
-  pub others_there : (xs : List X) (i k : ℕ) (y : X) → (i ≡ k → ⊥) → nth (with_one i y xs) k ≡ nth xs k
+  pub others_there : (xs : List X) (i k : ℕ) (y : X) → (i ≡ k → ⊥) → nth (slice_set xs i y) k ≡ nth xs k
   others_there [] i k y other = refl
   others_there (z ∷ xs) zero zero y other = absurd (other refl)
   others_there (z ∷ xs) zero (suc k) y other = refl
@@ -37,15 +32,8 @@ module _ {X : Type 0} where
   all_nth P (z ∷ xs) zero x all here = subst P (some-injective z x here) (All-head P z xs all)
   all_nth P (z ∷ xs) (suc i) x all here = all_nth P xs i x (All-tail P z xs all) here
 
-  pub all_with : (P : X → Type 0) (xs : List X) (i : ℕ) (y : X) → All P xs → P y → All P (with_one i y xs)
-  all_with P [] i y all one = All-nil P
-  all_with P (x ∷ xs) zero y all one = All-cons P y xs one (All-tail P x xs all)
-  all_with P (x ∷ xs) (suc i) y all one = All-cons P x (with_one i y xs) (All-head P x xs all) (all_with P xs i y (All-tail P x xs all) one)
-
-  pub all_at : (P : X → Type 0) (xs : List X) (i : ℕ) (y : X) → i < length xs → All P (with_one i y xs) → P y
-  all_at P [] i y within all = absurd (omega (arith, within))
-  all_at P (x ∷ xs) zero y within all = All-head P y xs all
-  all_at P (x ∷ xs) (suc i) y within all = let below : i < length xs = omega (arith, within) in all_at P xs i y below (All-tail P x (with_one i y xs) all)
+  pub all_at : (P : X → Type 0) (xs : List X) (i : ℕ) (y : X) → i < length xs → All P (slice_set xs i y) → P y
+  all_at P xs i y within all = let there : i < length (slice_set xs i y) = omega (arith, length-set xs i y, within) in subst P (get_or-set_same xs i y y within) (all i y there)
 
 -- ---- a value that a change makes
 
@@ -53,7 +41,7 @@ pub record ChangedAt {X : Type 0} (change : X → Option X) (i : ℕ) (xs ys : L
   pub within : i < length xs
   pub new : X
   pub is : (d : X) → change (get_or xs i d) ≡ Some new
-  pub are : ys ≡ with_one i new xs
+  pub are : ys ≡ slice_set xs i new
 
 module _ {X : Type 0} (change : X → Option X) where
   first_changed : (x : X) (xs ys : List X) (o : Option X) → change x ≡ o → option_map (λ y. y ∷ xs) o ≡ Some ys → ChangedAt change zero (x ∷ xs) ys

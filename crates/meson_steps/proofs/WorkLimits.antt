@@ -1,105 +1,97 @@
 -- Files that are known within the limits, and those that pass one.
-use Rattle.std.proofs.Common.{◌≡◌, ℕ, zero, suc, ◌<◌, ◌≤◌, List, [], ◌∷◌, length, get_or, map, sym, subst, arith}
-use Rattle.std.specs.Prelude.{Option, Some, None}
-use Rattle.std.proofs.lemmas.List.Elements.{All-cons, All-head, All-tail, All-nil}
+use Rattle.std.proofs.Common.{◌≡◌, ℕ, suc, ◌<◌, ◌≤◌, Bool, true, false, List, [], ◌∷◌, length, get_or, map, refl, sym, ap, ◌∙◌, subst, arith}
+use Rattle.std.specs.Prelude.{All, if◌then◌else◌, nat_le}
+use Rattle.std.proofs.lemmas.Bool.Decides.{nat_tests}
+use Rattle.meson_lex.specs.declared.kinds.Span.{Span}
 use Rattle.meson_splice.specs.declared.file_set.File.{File}
 use Rattle.meson_splice.specs.Files.{bytes_at}
 use Rattle.meson_syntax.specs.declared.tree.Parsed.{Parsed}
 use Rattle.meson_syntax.specs.Grammar.{file_depth}
 use Rattle.meson_syntax.specs.Reads.{IsSpanned, IsSpannedWithin, max_depth, max_len, of_files, wide}
+use Rattle.meson_syntax.specs.Tree as tree
 use Rattle.meson_syntax.specs.Tree.{Plain, erase}
 use Rattle.meson_syntax.specs.View.{view}
 use Rattle.meson_syntax.proofs.parsing.FileErased.{file-depth-erased}
-use Rattle.meson_calls.specs.Loading.{AreParsed, views}
-use Rattle.meson_steps.specs.Results.{AreShallow, AreSmall}
-use Rattle.meson_steps.specs.Working.{AreKnown, HasDeep, HasLarge, IsShallow}
-use Rattle.meson_steps.specs.OtherValues.{with_some}
 use Rattle.meson_syntax.proofs.kept.WithinFiles.{other_limits}
+use Rattle.meson_calls.specs.Loading.{AreParsed, views}
+use Rattle.meson_calls.proofs.Loads.{nth_bytes}
+use Rattle.meson_steps.specs.declared.journal.Saved.{Saved}
+use Rattle.meson_steps.specs.Journal.{is_saved}
+use Rattle.meson_steps.specs.Results.{AreShallow, AreSmall}
+use Rattle.meson_steps.specs.Working.{AreKnown, AreShallowSoFar, HasDeep, HasLarge}
+use Rattle.meson_steps.proofs.OtherBytes.{as_many_plain, plain_at}
 
-abbrev Shallow : Plain → Type 0
-Shallow t = file_depth t ≤ max_depth
+-- ---- from each file to all
 
-abbrev Small : File → Type 0
-Small f = length f.bytes ≤ max_len
+abbrev pub HoldsOf : (List ℕ → tree.File Span → Type 0) → List File → List Parsed → Type 0
+HoldsOf P files trees = (k : ℕ) (d : Parsed) → k < length files → P (bytes_at k files) (view (bytes_at k files) (get_or trees k d))
 
-abbrev NoneDeep : List (Option Parsed) → Type 0
-NoneDeep new = (k : ℕ) → k < length new → IsShallow (get_or new k None)
+pub plain_all : (P : Plain → Type 0) (files : List File) (trees : List Parsed) → length trees ≡ length files → HoldsOf (λ bytes f. P (erase f)) files trees → All P (map erase (views files trees))
+plain_all P files [] many each = λ k p within. let none = as_many_plain files [] many in absurd (omega (arith, none, within))
+plain_all P files (t ∷ trees) many each = λ k p within.
+    let alike = as_many_plain files (t ∷ trees) many in
+    let there : k < length (t ∷ trees) = omega (arith, alike, within) in
+    let inside : k < length files = omega (arith, many, there) in
+    subst P (sym (plain_at files (t ∷ trees) k t p many there)) (each k t inside)
 
-none_deep : (o : Option Parsed) (new : List (Option Parsed)) → NoneDeep (o ∷ new) → NoneDeep new
-none_deep o new all = λ k within. let next : suc k < length (o ∷ new) = omega (arith, within) in all (suc k) next
-
-first_shallow : (o : Option Parsed) (new : List (Option Parsed)) → NoneDeep (o ∷ new) → IsShallow o
-first_shallow o new all = let some : 0 < length (o ∷ new) = omega arith in all 0 some
-
-tree_shallow : (bytes : List ℕ) (t : Parsed) → IsShallow (Some t) → Shallow (erase (view bytes t))
-tree_shallow bytes t shallow = subst (λ n. n ≤ max_depth) (sym (file-depth-erased (view bytes t))) (shallow bytes)
-
-pub known_shallow : (files : List File) (new : List (Option Parsed)) (old : List Parsed) → AreKnown files new old → NoneDeep new → AreShallow (map erase (views files (with_some new old)))
-known_shallow [] [] [] known none = All-nil Shallow
-known_shallow [] [] (u ∷ old) known none = absurd known
-known_shallow [] (o ∷ new) old known none = absurd known
-known_shallow (f ∷ files) [] old known none = absurd known
-known_shallow (f ∷ files) (Some t ∷ new) [] known none = absurd known
-known_shallow (f ∷ files) (None ∷ new) [] known none = absurd known
-known_shallow (f ∷ files) (Some t ∷ new) (u ∷ old) known none =
-    All-cons Shallow (erase (view f.bytes t)) (map erase (views files (with_some new old))) (tree_shallow f.bytes t (first_shallow (Some t) new none)) (known_shallow files new old known.1 (none_deep (Some t) new none))
-known_shallow (f ∷ files) (None ∷ new) (u ∷ old) known none =
-    All-cons Shallow (erase (view f.bytes u)) (map erase (views files (with_some new old))) known.0.reads.depth (known_shallow files new old known.1 (none_deep None new none))
+parsed_all : (files : List File) (trees : List Parsed) → length trees ≡ length files → HoldsOf IsSpanned files trees → AreParsed files trees
+parsed_all [] [] many each = tt
+parsed_all [] (t ∷ trees) many each = absurd (omega (arith, many))
+parsed_all (f ∷ files) [] many each = absurd (omega (arith, many))
+parsed_all (f ∷ files) (t ∷ trees) many each =
+    let first : 0 < length (f ∷ files) = omega arith in
+    let alike : length trees ≡ length files = omega (arith, many) in
+    (each 0 t first, parsed_all files trees alike (λ k d within. let next : suc k < length (f ∷ files) = omega (arith, within) in each (suc k) d next))
 
 pub all_small : (files : List File) → ((k : ℕ) → k < length files → length (bytes_at k files) ≤ max_len) → AreSmall files
-all_small [] all = All-nil Small
-all_small (f ∷ files) all =
-    let some : 0 < length (f ∷ files) = omega arith in
-    All-cons Small f files (all 0 some) (all_small files (λ k within. let next : suc k < length (f ∷ files) = omega (arith, within) in all (suc k) next))
+all_small files small = λ k d within. subst (λ bytes. length bytes ≤ max_len) (nth_bytes files k d within) (small k within)
 
--- ---- a project
+-- ---- known files
 
-tree_spanned : (bytes : List ℕ) (t : Parsed) → IsSpannedWithin wide bytes (view bytes t) → Shallow (erase (view bytes t)) → length bytes ≤ max_len → IsSpanned bytes (view bytes t)
-tree_spanned bytes t s shallow small =
-    other_limits wide of_files bytes (view bytes t) s (record { fits = small; utf8 = s.reads.source.utf8; no_mark = s.reads.source.no_mark }) shallow
+shallow_by : (saved : Bool) (bytes : List ℕ) (f : tree.File Span) → IsSpannedWithin (if saved then wide else of_files) bytes f → (saved ≡ true → file_depth f ≤ max_depth) → file_depth (erase f) ≤ max_depth
+shallow_by true bytes f s shallow = subst (λ n. n ≤ max_depth) (sym (file-depth-erased f)) (shallow refl)
+shallow_by false bytes f s shallow = s.reads.depth
 
-pub known_parsed : (files : List File) (new : List (Option Parsed)) (old : List Parsed) → AreKnown files new old → NoneDeep new → AreSmall files → AreParsed files (with_some new old)
-known_parsed [] [] [] known none small = tt
-known_parsed [] [] (u ∷ old) known none small = absurd known
-known_parsed [] (o ∷ new) old known none small = absurd known
-known_parsed (f ∷ files) [] old known none small = absurd known
-known_parsed (f ∷ files) (Some t ∷ new) [] known none small = absurd known
-known_parsed (f ∷ files) (None ∷ new) [] known none small = absurd known
-known_parsed (f ∷ files) (Some t ∷ new) (u ∷ old) known none small = (
-  tree_spanned f.bytes t known.0 (tree_shallow f.bytes t (first_shallow (Some t) new none)) (All-head Small f files small),
-  known_parsed files new old known.1 (none_deep (Some t) new none) (All-tail Small f files small),
-)
-known_parsed (f ∷ files) (None ∷ new) (u ∷ old) known none small = (known.0, known_parsed files new old known.1 (none_deep None new none) (All-tail Small f files small))
+module _ (saved : List Saved) (files : List File) (trees : List Parsed) (known : AreKnown saved files trees) (shallow : AreShallowSoFar saved trees) where
+  each_shallow : HoldsOf (λ bytes f. file_depth (erase f) ≤ max_depth) files trees
+  each_shallow = λ k d within.
+      let many = known.as_many in
+      let there : k < length trees = omega (arith, many, within) in
+      let bytes = bytes_at k files in
+      shallow_by (is_saved k saved) bytes (view bytes (get_or trees k d)) (known.each k d within) (λ is. shallow k there is d bytes)
+
+  pub known_shallow : AreShallow (map erase (views files trees))
+  known_shallow = plain_all (λ t. file_depth t ≤ max_depth) files trees known.as_many each_shallow
+
+  pub known_parsed : ((k : ℕ) → k < length files → length (bytes_at k files) ≤ max_len) → AreParsed files trees
+  known_parsed small = parsed_all files trees known.as_many (λ k d within.
+      let bytes = bytes_at k files in
+      let s = known.each k d within in
+      other_limits _ of_files bytes (view bytes (get_or trees k d)) s (record { fits = small k within; utf8 = s.reads.source.utf8; no_mark = s.reads.source.no_mark }) (each_shallow k d within))
 
 -- ---- a limit is passed
 
-deep_at : (files : List File) (new : List (Option Parsed)) (old : List Parsed) (k : ℕ) (t : Parsed) → AreKnown files new old → k < length new → get_or new k None ≡ Some t → ((source : List ℕ) → max_depth < file_depth (view source t))
-    → AreShallow (map erase (views files (with_some new old))) → ⊥
-deep_at files [] old k t known there is deep all = absurd (omega (arith, there))
-deep_at [] (o ∷ new) old k t known there is deep all = absurd known
-deep_at (f ∷ files) (Some x ∷ new) [] k t known there is deep all = absurd known
-deep_at (f ∷ files) (None ∷ new) [] k t known there is deep all = absurd known
-deep_at (f ∷ files) (Some x ∷ new) (u ∷ old) zero t known there is deep all =
-    let same : x ≡ t = cc in
-    let shallow = All-head Shallow (erase (view f.bytes x)) (map erase (views files (with_some new old))) all in
-    let flat : file_depth (view f.bytes t) ≤ max_depth = subst (λ y. file_depth (view f.bytes y) ≤ max_depth) same (subst (λ n. n ≤ max_depth) (file-depth-erased (view f.bytes x)) shallow) in
-    let far = deep f.bytes in
+pub not_shallow : (files : List File) (trees : List Parsed) → length trees ≡ length files → HasDeep trees → AreShallow (map erase (views files trees)) → ⊥
+not_shallow files trees many h all =
+    let bytes = bytes_at h.place files in
+    let p = erase (view bytes h.tree) in
+    let within : h.place < length (map erase (views files trees)) = omega (arith, as_many_plain files trees many, h.there) in
+    let is = plain_at files trees h.place h.tree p many h.there ∙ ap (λ t. erase (view bytes t)) h.is in
+    let flat = subst (λ n. n ≤ max_depth) (ap file_depth is ∙ file-depth-erased (view bytes h.tree)) (all h.place p within) in
+    let far = h.deep bytes in
     absurd (omega (arith, flat, far))
-deep_at (f ∷ files) (None ∷ new) (u ∷ old) zero t known there is deep all = absurd cc
-deep_at (f ∷ files) (Some x ∷ new) (u ∷ old) (suc k) t known there is deep all =
-    let below : k < length new = omega (arith, there) in
-    deep_at files new old k t known.1 below is deep (All-tail Shallow (erase (view f.bytes x)) (map erase (views files (with_some new old))) all)
-deep_at (f ∷ files) (None ∷ new) (u ∷ old) (suc k) t known there is deep all =
-    let below : k < length new = omega (arith, there) in
-    deep_at files new old k t known.1 below is deep (All-tail Shallow (erase (view f.bytes u)) (map erase (views files (with_some new old))) all)
-
-pub not_shallow : (files : List File) (new : List (Option Parsed)) (old : List Parsed) → AreKnown files new old → HasDeep new → AreShallow (map erase (views files (with_some new old))) → ⊥
-not_shallow files new old known h all = deep_at files new old h.place h.tree known h.there h.is h.deep all
-
-large_at : (files : List File) (k : ℕ) → k < length files → max_len < length (bytes_at k files) → AreSmall files → ⊥
-large_at [] k there large all = absurd (omega (arith, there))
-large_at (f ∷ files) zero there large all = let small = All-head Small f files all in absurd (omega (arith, small, large))
-large_at (f ∷ files) (suc k) there large all = let below : k < length files = omega (arith, there) in large_at files k below large (All-tail Small f files all)
 
 pub not_small : (files : List File) → HasLarge files → AreSmall files → ⊥
-not_small files h all = large_at files h.place h.there h.large all
+not_small files h all =
+    let nobody : File = record { name = []; bytes = [] } in
+    let small = subst (λ bytes. length bytes ≤ max_len) (sym (nth_bytes files h.place nobody h.there)) (all h.place nobody h.there) in
+    let large = h.large in
+    absurd (omega (arith, small, large))
+
+-- ---- the test of one tree
+
+pub fits : (m n : ℕ) → nat_le m n ≡ true → m ≤ n
+fits m n is = grind (arith, nat_tests)
+
+pub passes : (m n : ℕ) → nat_le m n ≡ false → n < m
+passes m n is = grind (arith, nat_tests)

@@ -2,7 +2,7 @@ pub mod Results
 pub mod Steps
 pub mod Keeping
 pub mod ListSteps
-pub mod OtherValues
+pub mod Journal
 pub mod Plans
 pub mod Done
 pub mod Working

@@ -11,7 +11,7 @@ use Rattle.meson_steps.specs.Working.{so_far}
 pub record IsDone (old : Loaded) (meant : Result (List Step) Refusal) (w : Work) : Type 0 where
   pub steps : List Step
   pub is : meant ≡ Ok steps
-  pub outcome : IsOutcome old steps w.splices.items (so_far old w) w.relexed
+  pub outcome : IsOutcome old steps w.splices.items (so_far w) w.relexed
 
 -- None are meant, or those that are can't be made.
 pub data MayNotBeDone (old : Loaded) (meant : Result (List Step) Refusal) : Refusal → Type 0 where

@@ -1,5 +1,5 @@
 -- Where the work stands between two steps of a command.
-use Rattle.std.specs.Prelude.{◌≡◌, ℕ, ◌+◌, ◌<◌, ◌≤◌, List, [], ◌∷◌, ◌++◌, All, length, slice_index_or, slice_set, Option, Some, None, option_map, Ok}
+use Rattle.std.specs.Prelude.{◌≡◌, ℕ, ◌+◌, ◌<◌, ◌≤◌, List, [], ◌∷◌, ◌++◌, All, length, slice_index_or, slice_set, true, if◌then◌else◌, Option, Some, option_map, Ok}
 use Rattle.meson_lex.specs.declared.kinds.Span.{Span}
 use Rattle.meson_layout.specs.declared.primitive.Primitive.{Primitive}
 use Rattle.meson_layout.specs.declared.primitive.Primitive.TheVariants as layout
@@ -7,20 +7,22 @@ use Rattle.meson_splice.specs.declared.file_set.File.{File}
 use Rattle.meson_splice.specs.declared.splice.Splice.{Splice}
 use Rattle.meson_splice.specs.Files.{IsDistinct, bytes_at}
 use Rattle.meson_splice.specs.Patch.{patched_all}
+use Rattle.meson_syntax.specs.declared.source.Limits.{Limits}
 use Rattle.meson_syntax.specs.declared.tree.Parsed.{Parsed}
 use Rattle.meson_syntax.specs.Grammar.{file_depth}
 use Rattle.meson_syntax.specs.Tree as tree
-use Rattle.meson_syntax.specs.Reads.{IsSpanned, IsSpannedWithin, ReadsWithin, wide, max_depth, max_len}
+use Rattle.meson_syntax.specs.Reads.{IsSpannedWithin, ReadsWithin, of_files, wide, max_depth, max_len}
 use Rattle.meson_syntax.specs.View.{view}
 use Rattle.meson_edit.specs.Places.{bracket_offset, element_span, value_span, span_of_statement}
+use Rattle.meson_steps.specs.declared.journal.Saved.{Saved}
 use Rattle.meson_steps.specs.declared.step.ListStep.{ListStep}
 use Rattle.meson_steps.specs.declared.step.ListEdit.{ListEdit}
 use Rattle.meson_steps.specs.declared.step.ListEdit.TheVariants as code
 use Rattle.meson_steps.specs.declared.work.Work.{Work}
 use Rattle.meson_steps.specs.Done.{IsMade}
 use Rattle.meson_steps.specs.ListSteps.{AreBare, AreDoable, bare}
-use Rattle.meson_calls.specs.Loading.{Loaded, HasFileName, max_files}
-use Rattle.meson_steps.specs.OtherValues.{with_some}
+use Rattle.meson_calls.specs.Loading.{Loaded, HasFileName, IsProject, max_files}
+use Rattle.meson_steps.specs.Journal.{IsSavedToo, is_saved, put_back}
 use Rattle.meson_steps.specs.Results.{plain_trees, saturated}
 use Rattle.meson_steps.specs.Plans.{Doable}
 use Rattle.meson_steps.specs.Steps.{Step}
@@ -49,28 +51,43 @@ pub record IsChanged (old new : Work) (file : ℕ) (splices : List Splice) : Typ
   pub tree : Parsed
   pub are_files : patched_all old.files splices ≡ Ok new.files
   pub are_splices : new.splices.items ≡ old.splices.items ++ splices
-  pub are_trees : new.trees.items ≡ slice_set old.trees.items file (Some tree)
+  pub are_trees : new.trees.items ≡ slice_set old.trees.items file tree
+  pub are_saved : IsSavedToo file old.saved.items new.saved.items
   pub is_read : IsSpannedWithin wide (bytes_at file new.files) (view (bytes_at file new.files) tree)
   pub is_relexed : new.relexed ≡ saturated (old.relexed + length (bytes_at file new.files))
 
 -- ---- between two steps
 
 -- the files and trees so far
-abbrev pub so_far : Loaded → Work → Loaded
-so_far old w = record { files = w.files; parsed = with_some w.trees.items old.parsed }
+abbrev pub so_far : Work → Loaded
+so_far w = record { files = w.files; parsed = w.trees.items }
 
--- a changed file reads as its tree within wider limits, another one as its old tree
-abbrev pub AreKnown : List File → List (Option Parsed) → List Parsed → Type 0
-AreKnown (f ∷ files) (Some t ∷ new) (u ∷ old) = IsSpannedWithin wide f.bytes (view f.bytes t) × AreKnown files new old
-AreKnown (f ∷ files) (None ∷ new) (u ∷ old) = IsSpanned f.bytes (view f.bytes u) × AreKnown files new old
-AreKnown [] [] [] = Unit {0}
-AreKnown _ _ _ = ⊥
+-- the trees with what is saved put back
+abbrev pub restored : Work → List Parsed
+restored w = put_back w.saved.items w.trees.items
+
+-- Nothing is done so far, on the files and trees of a project.
+pub record IsFresh (w : Work) : Type 0 where
+  pub project : IsProject (so_far w)
+  pub distinct : IsDistinct w.files
+  pub no_splices : w.splices.items ≡ []
+  pub none_saved : w.saved.items ≡ []
+  pub none_relexed : w.relexed ≡ 0
+
+-- a file whose tree is exchanged reads within wider limits
+abbrev pub limits_of : List Saved → ℕ → Limits
+limits_of saved k = if is_saved k saved then wide else of_files
+
+-- Each file reads as its tree.
+pub record AreKnown (saved : List Saved) (files : List File) (trees : List Parsed) : Type 0 where
+  pub as_many : length trees ≡ length files
+  pub each : (k : ℕ) (d : Parsed) → k < length files → IsSpannedWithin (limits_of saved k) (bytes_at k files) (view (bytes_at k files) (slice_index_or trees k d))
 
 -- These steps are done, and those are left, which may be done.
 pub record Reached (old : Loaded) (before rest : List Step) (w : Work) : Type 0 where
-  pub made : IsMade old before w.splices.items (so_far old w) w.relexed
-  pub doable : AreDoable rest (plain_trees (so_far old w))
-  pub known : AreKnown w.files w.trees.items old.parsed
+  pub made : IsMade old before w.splices.items (so_far w) w.relexed
+  pub doable : AreDoable rest (plain_trees (so_far w))
+  pub known : AreKnown w.saved.items w.files w.trees.items
   pub distinct : IsDistinct w.files
   pub few : length w.files ≤ max_files
   pub named : All HasFileName w.files
@@ -98,16 +115,18 @@ pub record HasSteps (old : Loaded) (code : List ListStep) : Type 0 where
 
 -- ---- limits
 
--- the tree of a changed file nests no deeper than it may
-abbrev pub IsShallow : Option Parsed → Type 0
-IsShallow (Some t) = (source : List ℕ) → file_depth (view source t) ≤ max_depth
-IsShallow None = Unit {0}
+abbrev pub IsShallow : Parsed → Type 0
+IsShallow t = (source : List ℕ) → file_depth (view source t) ≤ max_depth
 
-pub record HasDeep (trees : List (Option Parsed)) : Type 0 where
+-- the trees that were exchanged nest no deeper than they may
+abbrev pub AreShallowSoFar : List Saved → List Parsed → Type 0
+AreShallowSoFar saved trees = (k : ℕ) → k < length trees → is_saved k saved ≡ true → (d : Parsed) → IsShallow (slice_index_or trees k d)
+
+pub record HasDeep (trees : List Parsed) : Type 0 where
   pub place : ℕ
   pub tree : Parsed
   pub there : place < length trees
-  pub is : slice_index_or trees place None ≡ Some tree
+  pub is : slice_index_or trees place tree ≡ tree
   pub deep : (source : List ℕ) → max_depth < file_depth (view source tree)
 
 pub record HasLarge (files : List File) : Type 0 where

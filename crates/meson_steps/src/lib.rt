@@ -2,6 +2,7 @@
 #![tactic(auto)]
 
 pub mod command;
+pub mod journal;
 pub mod laws;
 pub mod literals;
 pub mod names;

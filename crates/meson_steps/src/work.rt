@@ -1,22 +1,20 @@
-//! Steps done on a copy of the files of a project, one after another.
+//! Steps done on the files and trees of a project, one after another.
 
-ghost use Rattle.std.specs.Prelude.{[], ◌++◌, ◌<◌, ◌≡◌, ◌≢◌, ◌≤◌, ◌∷◌, IfErr, IfOk, List, None, OnOk, Some, length, replicate, slice_index_or, true, false, ℕ};
+ghost use Rattle.std.specs.Prelude.{[], ◌++◌, ◌<◌, ◌≡◌, ◌≢◌, ◌≤◌, ◌∷◌, IfErr, IfOk, List, OnOk, length, true, false, ℕ};
 ghost use Rattle.meson_layout.specs.Layout.{IsReady, layout_of};
 ghost use Rattle.meson_lex.specs.Items.{IsItemList, Lexeme};
-ghost use Rattle.meson_splice.specs.Files.{IsDistinct, bytes_at};
-ghost use Rattle.meson_splice.specs.declared.file_set.File.{File};
+ghost use Rattle.meson_splice.specs.Files.{bytes_at};
 ghost use Rattle.meson_syntax.specs.View.{view};
-ghost use Rattle.meson_syntax.specs.declared.tree.Parsed.{Parsed};
 ghost use Rattle.meson_steps.specs.Done.{IsOutcome, MayNotBeMade};
 ghost use Rattle.meson_calls.specs.Loading.{IsProject, Loaded};
-ghost use Rattle.meson_steps.specs.OtherValues.{with_some};
 ghost use Rattle.meson_calls.specs.Picking.{Source};
 ghost use Rattle.meson_steps.specs.Plans.{Doable};
 ghost use Rattle.meson_steps.specs.Steps as meant;
 ghost use Rattle.meson_steps.specs.Steps.{effective};
-ghost use Rattle.meson_steps.specs.Working.{HasDeep, HasLarge, HasSteps, IsChanged, IsNext, IsShallow, IsUnderWay, MayChange, Reached, placed_edit, so_far};
+ghost use Rattle.meson_steps.specs.Working.{AreShallowSoFar, HasDeep, HasLarge, HasSteps, IsChanged, IsFresh, IsNext, IsUnderWay, MayChange, Reached, placed_edit, restored, so_far};
 ghost use Rattle.meson_steps.specs.ListSteps.{bare};
 
+use crate::journal::{Saved, exchange, is_saved};
 use crate::spans::{bracket_offset, element_span, value_span};
 use crate::statements::statement_span;
 use crate::step::{ListEdit, ListStep};
@@ -30,12 +28,13 @@ use std::alloc::{AllocError, Global};
 /// So deep may the tree of a file nest.
 const MAX_DEPTH: usize = 64;
 
-/// The splices so far, the files that they make, the trees of those that were changed, and how many bytes were read again.
+/// Files and trees that steps change, the splices so far, the trees that were there before, and how many bytes were read again.
 #[derive(Drop)]
 pub struct Work {
     pub splices: Vec<Splice>,
     pub files: FileSet,
-    pub trees: Vec<Option<Parsed>>,
+    pub trees: Vec<Parsed>,
+    pub saved: Vec<Saved>,
     pub relexed: u64,
 }
 
@@ -124,39 +123,18 @@ fn unread(fault: ParseFault) -> Refusal
 }
 
 impl Work {
-    /// Nothing so far, on a copy of the files.
-    pub fn start(alloc: Global, files: &FileSet) -> Result<Work, Refusal>
-        ensures files { IfOk result (λ w. w.files ≡ files.now) }
-        ensures trees { IfOk result (λ w. w.trees.items ≡ replicate (length files.now) None) }
-        ensures splices { IfOk result (λ w. w.splices.items ≡ []) }
-        ensures relexed { IfOk result (λ w. w.relexed ≡ 0) }
-        ensures distinct { IfOk result (λ w. IsDistinct w.files) }
-        ensures refused { IfErr result (λ e. e ≡ Refusal.OutOfMemory) }
+    /// Nothing so far, on the files and trees of a project. Takes no memory.
+    pub fn start(alloc: Global, files: FileSet, trees: Vec<Parsed>) -> Work
+        requires { IsProject (record { files = files; parsed = trees.items }) }
+        ensures is { so_far result ≡ record { files = files; parsed = trees.items } }
+        ensures fresh { IsFresh result }
     {
-        let Ok(files) = files.copy(alloc) else {
-            return Err(Refusal::OutOfMemory);
-        };
-        let mut trees = Vec::new(alloc);
-        for i in 0..files.len() {
-            push_none(&mut trees)?;
-        }
-        Ok(Work {
+        Work {
             splices: Vec::new(alloc),
             files,
             trees,
+            saved: Vec::new(alloc),
             relexed: 0,
-        })
-    }
-
-    /// The tree of a file as the steps so far leave it.
-    pub fn tree<'w>(&'w self, old: &'w [Parsed], file: usize) -> &'w Parsed
-        requires new { file < length self.now.trees.items }
-        requires old { file < length old.now }
-        ensures { (d : Parsed) → result.now ≡ slice_index_or (with_some self.now.trees.items old.now) file d }
-    {
-        match &self.trees[file] {
-            Some(tree) => tree,
-            None => &old[file],
         }
     }
 
@@ -164,16 +142,17 @@ impl Work {
     ///
     /// # Errors
     /// Memory is refused.
-    fn step(&mut self, alloc: Global, old: &[Parsed], step: ListStep) -> Result<(), Refusal>
-        requires { (first : List File) × IsNext (record { files = first; parsed = old.now }) self.old step }
-        ensures done { (first : List File) (before rest : List meant.Step) (s : meant.Step) → bare s ≡ Some step → Reached (record { files = first; parsed = old.now }) before (s ∷ rest) self.old → OnOk result (Reached (record { files = first; parsed = old.now }) (before ++ s ∷ []) rest self.new) }
+    fn step(&mut self, alloc: Global, step: ListStep) -> Result<(), Refusal>
+        requires { (old : Loaded) × IsNext old self.old step }
+        ensures done { (old : Loaded) (before rest : List meant.Step) (s : meant.Step) → bare s ≡ Some step → Reached old before (s ∷ rest) self.old → OnOk result (Reached old (before ++ s ∷ []) rest self.new) }
+        ensures restores { restored self.new ≡ restored self.old }
         ensures refused { IfErr result (λ e. e ≡ Refusal.OutOfMemory) }
     {
         let file = step.list.file;
-        if file >= old.len() || file >= self.trees.len() {
+        if file >= self.trees.len() {
             unreachable!();
         }
-        let Some(primitive) = primitive_of(self.tree(old, file), step) else {
+        let Some(primitive) = primitive_of(&self.trees[file], step) else {
             unreachable!();
         };
         let splices = laid(
@@ -197,6 +176,7 @@ impl Work {
         requires files { file < length self.old.files }
         requires read { MayChange self.old file splices.items }
         ensures done { OnOk result (IsChanged self.old self.new file splices.items) }
+        ensures restores { restored self.new ≡ restored self.old }
         ensures refused { IfErr result (λ e. e ≡ Refusal.OutOfMemory) }
     {
         let change = Change::untitled(alloc, Many::of(splices));
@@ -207,7 +187,7 @@ impl Work {
         let bytes = self.files.bytes(file);
         self.relexed = self.relexed.saturating_add(bytes.len() as u64);
         match parse_wide(alloc, bytes) {
-            Ok(tree) => self.trees[file] = Some(tree),
+            Ok(tree) => exchange(&mut self.trees, &mut self.saved, file, tree)?,
             Err(fault) => return Err(unread(fault)),
         }
         let Change { splices, title: _ } = change;
@@ -219,29 +199,25 @@ impl Work {
     ///
     /// # Errors
     /// Memory is refused.
-    pub fn do_steps(
-        &mut self,
-        alloc: Global,
-        old: &[Parsed],
-        steps: Vec<ListStep>,
-    ) -> Result<(), Refusal>
-        requires { (first : List File) × ((ss : List meant.Step) × IsUnderWay (record { files = first; parsed = old.now }) ss steps.items self.old) }
-        ensures done { (first : List File) (ss : List meant.Step) → IsUnderWay (record { files = first; parsed = old.now }) ss steps.items self.old → OnOk result (Reached (record { files = first; parsed = old.now }) ss [] self.new) }
+    pub fn do_steps(&mut self, alloc: Global, steps: Vec<ListStep>) -> Result<(), Refusal>
+        requires { (old : Loaded) × (ss : List meant.Step) × IsUnderWay old ss steps.items self.old }
+        ensures done { (old : Loaded) (ss : List meant.Step) → IsUnderWay old ss steps.items self.old → OnOk result (Reached old ss [] self.new) }
+        ensures restores { restored self.new ≡ restored self.old }
         ensures refused { IfErr result (λ e. e ≡ Refusal.OutOfMemory) }
     {
         for step in steps {
-            self.step(alloc, old, step)?;
+            self.step(alloc, step)?;
         }
         Ok(())
     }
 
-    /// The work, where what it made passes no limit.
+    /// Refuses what was made where it passes a limit.
     ///
     /// # Errors
-    /// A limit is passed.
-    pub fn within_limits(self) -> Result<Work, Refusal>
-        ensures done { (old : Loaded) (ss : List meant.Step) → Reached old ss [] self → IfOk result (λ w. IsOutcome old ss w.splices.items (so_far old w) w.relexed) }
-        ensures refused { (old : Loaded) (ss : List meant.Step) → Reached old ss [] self → IfErr result (MayNotBeMade old ss) }
+    /// It does.
+    pub fn within_limits(&self) -> Result<(), Refusal>
+        ensures done { (old : Loaded) (ss : List meant.Step) → Reached old ss [] self.now → OnOk result (IsOutcome old ss self.now.splices.items (so_far self.now) self.now.relexed) }
+        ensures refused { (old : Loaded) (ss : List meant.Step) → Reached old ss [] self.now → IfErr result (MayNotBeMade old ss) }
     {
         if !self.is_shallow() {
             return Err(Refusal::TooDeep);
@@ -249,17 +225,17 @@ impl Work {
         if !self.is_small() {
             return Err(Refusal::TooLarge);
         }
-        Ok(self)
+        Ok(())
     }
 
-    /// Whether no changed tree nests too deep.
+    /// Whether no exchanged tree nests too deep.
     fn is_shallow(&self) -> bool
-        ensures yes { result ≡ true → (k : ℕ) → k < length self.now.trees.items → IsShallow (slice_index_or self.now.trees.items k None) }
+        ensures yes { result ≡ true → AreShallowSoFar self.now.saved.items self.now.trees.items }
         ensures no { result ≡ false → HasDeep self.now.trees.items }
     {
         for i in 0..self.trees.len() {
-            if let Some(tree) = &self.trees[i] {
-                if !nests_within(tree, MAX_DEPTH) {
+            if is_saved(self.saved.as_slice(), i) {
+                if !nests_within(&self.trees[i], MAX_DEPTH) {
                     return false;
                 }
             }
@@ -281,13 +257,6 @@ impl Work {
     }
 }
 
-fn push_none(trees: &mut Vec<Option<Parsed>>) -> Result<(), AllocError>
-    ensures { OnOk result (trees.new.items ≡ trees.old.items ++ None ∷ []) }
-{
-    trees.push(None)?;
-    Ok(())
-}
-
 fn push_all(to: &mut Vec<Splice>, from: Vec<Splice>) -> Result<(), AllocError>
     ensures { OnOk result (to.new.items ≡ to.old.items ++ from.items) }
 {
@@ -298,30 +267,17 @@ fn push_all(to: &mut Vec<Splice>, from: Vec<Splice>) -> Result<(), AllocError>
     Ok(())
 }
 
-/// Does steps on a copy of the files.
+/// Does steps, and asks the limits of what they made.
 ///
 /// # Errors
 /// The result passes a limit, or memory is refused.
-pub fn done(
-    alloc: Global,
-    files: &FileSet,
-    trees: &[Parsed],
-    steps: Vec<ListStep>,
-) -> Result<Work, Refusal>
-    requires whole { IsProject (record { files = files.now; parsed = trees.now }) }
-    requires doable { HasSteps (record { files = files.now; parsed = trees.now }) steps.items }
-    ensures done { (ss : List meant.Step) → Doable (record { files = files.now; parsed = trees.now }) ss steps.items → IfOk result (λ w. IsOutcome (record { files = files.now; parsed = trees.now }) ss w.splices.items (record { files = w.files; parsed = with_some w.trees.items trees.now }) w.relexed) }
-    ensures refused { (ss : List meant.Step) → Doable (record { files = files.now; parsed = trees.now }) ss steps.items → IfErr result (λ e. e ≢ Refusal.OutOfMemory → MayNotBeMade (record { files = files.now; parsed = trees.now }) ss e) }
+pub fn done(alloc: Global, work: &mut Work, steps: Vec<ListStep>) -> Result<(), Refusal>
+    requires fresh { IsFresh work.old }
+    requires doable { HasSteps (so_far work.old) steps.items }
+    ensures done { (ss : List meant.Step) → Doable (so_far work.old) ss steps.items → OnOk result (IsOutcome (so_far work.old) ss work.new.splices.items (so_far work.new) work.new.relexed) }
+    ensures restores { restored work.new ≡ restored work.old }
+    ensures refused { (ss : List meant.Step) → Doable (so_far work.old) ss steps.items → IfErr result (λ e. e ≢ Refusal.OutOfMemory → MayNotBeMade (so_far work.old) ss e) }
 {
-    let mut work = Work::start(alloc, files)?;
-    for step in steps {
-        work.step(alloc, trees, step)?;
-    }
-    if !work.is_shallow() {
-        return Err(Refusal::TooDeep);
-    }
-    if !work.is_small() {
-        return Err(Refusal::TooLarge);
-    }
-    Ok(work)
+    work.do_steps(alloc, steps)?;
+    work.within_limits()
 }

@@ -1,6 +1,7 @@
 -- A statement put at the end of a file or taken out of it leaves a tree with its levels, no deeper than before or than the statement: the step may be done.
 use Rattle.std.specs.Prelude.{All, option_map}
 use Rattle.std.proofs.Common.{◌≡◌, ℕ, zero, suc, ◌+◌, ◌≤◌, List, [], ◌∷◌, Some, refl, subst, arith}
+use Rattle.std.proofs.lemmas.List.Elements.{All-set}
 use Rattle.meson_lex.specs.Significant.{Word}
 use Rattle.meson_syntax.specs.Grammar.{statement_depth, statements_depth, block_depth, file_depth, LevelStatement, LevelBlock, LevelFile}
 use Rattle.meson_syntax.specs.Tree.{Nowhere, Plain, Statement, Statements, no_statements, statement, Block, block, file}
@@ -15,7 +16,7 @@ use Rattle.meson_edit.specs.Places.{Writes}
 use Rattle.meson_edit.proofs.paths.Depths.{node_depth, Grows}
 use Rattle.meson_edit.proofs.paths.DeepLists.{reach-grows}
 use Rattle.meson_steps.specs.ListSteps.{AreDoable, MayStand, one, none}
-use Rattle.meson_steps.proofs.WithOne.{all_with, change_there, all_nth}
+use Rattle.meson_steps.proofs.WithOne.{change_there, all_nth}
 
 -- ---- a statement that goes
 
@@ -83,7 +84,7 @@ come_depth (file s (block b list)) x most old new = last_depth list x most old n
 
 one_doable : (trees : List Plain) (i : ℕ) (e : Edit) (t now : Plain) → nth trees i ≡ Some t → All MayStand trees → Writes e → edited e t ≡ Some now → MayStand now → AreDoable (record { file = i; edit = e } ∷ []) trees
 one_doable trees i e t now there all writes is stands =
-    one (record { file = i; edit = e }) [] trees _ writes (change_there (edited e) trees i t now there is) (all_with MayStand trees i now all stands) (none _)
+    one (record { file = i; edit = e }) [] trees _ writes (change_there (edited e) trees i t now there is) (All-set MayStand trees i now stands all) (none _)
 
 pub removal_doable : (trees : List Plain) (i : ℕ) (path : List ℕ) (n : ℕ) (t now : Plain) → nth trees i ≡ Some t → All MayStand trees → edited (RemoveStatement path n) t ≡ Some now
     → AreDoable (record { file = i; edit = RemoveStatement path n } ∷ []) trees

@@ -1,68 +1,71 @@
-use Rattle.std.proofs.Common.{◌∙◌, sym, subst}
+use Rattle.std.proofs.Common.{◌∙◌, refl, sym, subst}
 use Rattle.std.specs.Vec.Iter.{into_iter_items}
 use Rattle.std.proofs.lemmas.List.{nil_from_length}
-use Rattle.meson_calls.specs.Loading.{Loaded}
 use Rattle.meson_steps.specs.Results.{plain_trees}
+use Rattle.meson_steps.specs.Working.{so_far}
 use Rattle.meson_keywords.specs.Tasking.{TasksAre}
 use Rattle.meson_keywords.specs.TaskSteps.{tasks_steps}
 use Rattle.meson_keywords.proofs.TasksLeft.{TasksLeft, next_task, task_refused, tasks_first, tasks_more, tasks_outcome, tasks_unmade}
 use Rattle.meson_keywords.proofs.changing.tasks_done.Goals as goal
 
 pub loop-task-init : goal.loop-task-init
-loop-task-init c = λ ts are.
-    let old : Loaded = record { files = c.args.files.now; parsed = c.args.trees.now } in
-    let w = c.in_ok-work.work in
-    let e = c.in_ok-work.ensures in
-    tasks_first old w c.requires.whole e.files e.trees e.splices e.relexed e.distinct c.args.call.now c.requires.stands (into_iter_items c.into_iter-task-iterator.result) ts
-    (subst (λ cs. TasksAre cs ts) (sym c.into_iter-task-iterator.ensures.into_iter_gives.0) are)
+loop-task-init c = record {
+  left = λ ts are.
+      tasks_first c.args.work.now c.requires.fresh c.args.call.now c.requires.stands (into_iter_items c.into_iter-task-iterator.result) ts
+      (subst (λ cs. TasksAre cs ts) (sym c.into_iter-task-iterator.ensures.into_iter_gives.0) are);
+  restores = refl;
+}
 
 pub do_task-requires : goal.do_task-requires
 do_task-requires c =
-    let old : Loaded = record { files = c.args.files.now; parsed = c.args.trees.now } in
+    let old = so_far c.args.work.now in
     let call = c.args.call.now in
     let w = c.loop-task.work in
     let ts = c.requires.tasks.0 in
     let whole = tasks_steps call ts (plain_trees old) in
     let more = into_iter_items c.next.new.self in
-    let u = subst (λ cs. TasksLeft old call whole cs w) c.in-Some.ensures.steps.0 (c.loop-task.invariant ts c.requires.tasks.1) in
-    (c.args.files.now, next_task old call whole c.in-Some.task more w u)
+    let u = subst (λ cs. TasksLeft old call whole cs w) c.in-Some.ensures.steps.0 (c.loop-task.invariant.left ts c.requires.tasks.1) in
+    (old, next_task old call whole c.in-Some.task more w u)
 
 pub loop-task-preserved : goal.loop-task-preserved
-loop-task-preserved c = λ ts are.
-    let old : Loaded = record { files = c.args.files.now; parsed = c.args.trees.now } in
-    let call = c.args.call.now in
-    let w = c.loop-task.work in
-    let whole = tasks_steps call ts (plain_trees old) in
-    let more = into_iter_items c.next.new.self in
-    let u = subst (λ cs. TasksLeft old call whole cs w) c.in-Some.ensures.steps.0 (c.loop-task.invariant ts are) in
-    tasks_more old call whole c.in-Some.task more w u c.do_task.new.work (c.in-Ok.ensures.done c.args.files.now)
+loop-task-preserved c = record {
+  left = λ ts are.
+      let old = so_far c.args.work.now in
+      let call = c.args.call.now in
+      let w = c.loop-task.work in
+      let whole = tasks_steps call ts (plain_trees old) in
+      let more = into_iter_items c.next.new.self in
+      let u = subst (λ cs. TasksLeft old call whole cs w) c.in-Some.ensures.steps.0 (c.loop-task.invariant.left ts are) in
+      tasks_more old call whole c.in-Some.task more w u c.do_task.new.work (c.in-Ok.ensures.done old);
+  restores = c.in-Ok.ensures.restores ∙ c.loop-task.invariant.restores;
+}
 
 pub returns-in-Err-clause-refused : goal.returns-in-Err-clause-refused
 returns-in-Err-clause-refused c = λ ts are other.
-    let old : Loaded = record { files = c.args.files.now; parsed = c.args.trees.now } in
+    let old = so_far c.args.work.now in
     let call = c.args.call.now in
     let w = c.loop-task.work in
     let whole = tasks_steps call ts (plain_trees old) in
     let more = into_iter_items c.next.new.self in
-    let u = subst (λ cs. TasksLeft old call whole cs w) c.in-Some.ensures.steps.0 (c.loop-task.invariant ts are) in
-    task_refused old call whole c.in-Some.task more w u c.in-Err.refusal (λ before t b is may. c.in-Err.ensures.refused c.args.files.now before t b is may other)
+    let u = subst (λ cs. TasksLeft old call whole cs w) c.in-Some.ensures.steps.0 (c.loop-task.invariant.left ts are) in
+    task_refused old call whole c.in-Some.task more w u c.in-Err.refusal (λ before t b is may. c.in-Err.ensures.refused old before t b is may other)
 
 pub returns-clause-done : goal.returns-clause-done
 returns-clause-done c = λ ts are.
-    let old : Loaded = record { files = c.args.files.now; parsed = c.args.trees.now } in
+    let old = so_far c.args.work.now in
     let call = c.args.call.now in
     let w = c.loop-task.work in
     let whole = tasks_steps call ts (plain_trees old) in
     let left = nil_from_length (into_iter_items c.loop-task.task-iterator) (sym c.loop-task.task-iterator.rest.ok.0 ∙ c.in-None.ensures.steps.0) in
-    let u = subst (λ cs. TasksLeft old call whole cs w) left (c.loop-task.invariant ts are) in
+    let u = subst (λ cs. TasksLeft old call whole cs w) left (c.loop-task.invariant.left ts are) in
     tasks_outcome old call whole w u c.within_limits.result (c.within_limits.ensures.done old u.before u.between.reached)
 
 pub returns-clause-refused : goal.returns-clause-refused
 returns-clause-refused c = λ ts are.
-    let old : Loaded = record { files = c.args.files.now; parsed = c.args.trees.now } in
+    let old = so_far c.args.work.now in
     let call = c.args.call.now in
     let w = c.loop-task.work in
     let whole = tasks_steps call ts (plain_trees old) in
     let left = nil_from_length (into_iter_items c.loop-task.task-iterator) (sym c.loop-task.task-iterator.rest.ok.0 ∙ c.in-None.ensures.steps.0) in
-    let u = subst (λ cs. TasksLeft old call whole cs w) left (c.loop-task.invariant ts are) in
+    let u = subst (λ cs. TasksLeft old call whole cs w) left (c.loop-task.invariant.left ts are) in
     tasks_unmade old call whole w u c.within_limits.result (c.within_limits.ensures.refused old u.before u.between.reached)

@@ -1,4 +1,4 @@
-use Rattle.std.proofs.Common.{◌+◌, ◌++◌, ap, ◌∙◌, refl, length, subst, sym, arith}
+use Rattle.std.proofs.Common.{◌+◌, ◌++◌, ap, ◌∙◌, length, subst, sym, arith}
 use Rattle.meson_splice.specs.Files.{bytes_at}
 use Rattle.meson_splice.specs.Patch.{patched_all}
 use Rattle.meson_syntax.specs.Reads.{IsSpannedWithin, ReadsWithin, wide}
@@ -18,7 +18,8 @@ returns-clause-done c = record {
   tree = c.in-Ok-parse_wide.tree;
   are_files = ap (patched_all c.args.self.now.files) (sym (ap (λ x. x.splices) c.untitled-change.ensures ∙ c.of.ensures)) ∙ c.in-Ok.ensures.done;
   are_splices = c.in_ok-push_all.ensures ∙ ap (λ ss. c.args.self.now.splices.items ++ ss) (c.take.ensures ∙ ap (λ x. x.splices) c.untitled-change.ensures ∙ c.of.ensures);
-  are_trees = refl;
+  are_trees = c.in_ok-exchange-in-Ok-parse_wide.ensures.done;
+  are_saved = c.in_ok-exchange-in-Ok-parse_wide.ensures.saved;
   is_read = subst (λ b. IsSpannedWithin wide b (view b c.in-Ok-parse_wide.tree)) c.bytes-bytes.ensures c.in-Ok-parse_wide.ensures.reads;
   is_relexed = c.saturating_add-self.ensures ∙ ap (λ b. saturated (c.args.self.now.relexed + length b)) c.bytes-bytes.ensures;
 }

@@ -1,14 +1,14 @@
 use Rattle.std.proofs.Common.{◌≡◌, ◌++◌, List}
 use Rattle.std.specs.Vec.Iter.{into_iter_items}
-use Rattle.meson_splice.specs.declared.file_set.File.{File}
+use Rattle.meson_calls.specs.Loading.{Loaded}
 use Rattle.meson_steps.specs.declared.step.ListStep.{ListStep}
 use Rattle.meson_steps.specs.Steps.{Step}
-use Rattle.meson_steps.specs.Working.{IsUnderWay}
+use Rattle.meson_steps.specs.Working.{IsUnderWay, restored}
 use Rattle.meson_steps.proofs.work.Work.do_steps.Given as goal
 
 abbrev pub invariant-loop-step : goal.invariant-loop-step
 invariant-loop-step l = record {
   joined : l.fn.steps.items ≡ l.yielded ++ into_iter_items l.step-iterator;
-  under_way : (first : List File) (steps : List Step) (left : List ListStep) → IsUnderWay (record { files = first; parsed = l.old }) steps (l.yielded ++ left) l.fn.self
-      → IsUnderWay (record { files = first; parsed = l.old }) steps left l.self;
+  under_way : (old : Loaded) (steps : List Step) (left : List ListStep) → IsUnderWay old steps (l.yielded ++ left) l.fn.self → IsUnderWay old steps left l.self;
+  restores : restored l.self ≡ restored l.fn.self;
 }

@@ -1,32 +1,41 @@
-use Rattle.std.proofs.Common.{◌<◌, ◌∙◌, length, get_or, refl, subst, sym, arith}
-use Rattle.std.specs.Prelude.{None, Some}
+use Rattle.std.proofs.Common.{◌≡◌, ◌<◌, ◌∙◌, ap, get_or, length, subst, sym, true, arith}
 use borrow.Author.Count.{below_more}
+use Rattle.meson_syntax.specs.declared.tree.Parsed.{Parsed}
 use Rattle.meson_syntax.specs.Grammar.{file_depth}
 use Rattle.meson_syntax.specs.Reads.{max_depth}
 use Rattle.meson_syntax.specs.View.{view}
+use Rattle.meson_steps.specs.Journal.{is_saved}
 use Rattle.meson_steps.specs.Working.{IsShallow}
-use Rattle.meson_steps.proofs.WorkTrees.{read_there, passes, some_shallow, none_shallow}
+use Rattle.meson_steps.proofs.SameRead.{same_read}
+use Rattle.meson_steps.proofs.WorkLimits.{fits, passes}
 use Rattle.meson_steps.proofs.work.Work.is_shallow.Goals as goal
-use Rattle.meson_steps.proofs.work.Work.is_shallow.Goals.{in-Some+else-not-nests_within, in_default}
+use Rattle.meson_steps.proofs.work.Work.is_shallow.Goals.{then-is_saved+else-not-nests_within, else-is_saved}
 
 pub returns-then-not-nests_within-clause-no : goal.returns-then-not-nests_within-clause-no
 returns-then-not-nests_within-clause-no c = λ _.
-    let trees = c.args.self.now.trees.items in
-    let there : c.loop-i.i < length trees = omega arith in record {
+    let tree = c.index.result.now in
+    record {
       place = c.loop-i.i;
-      tree = c.in-Some.tree;
-      there = there;
-      is = read_there trees c.loop-i.i there c.index.result.now c.index.ensures (Some c.in-Some.tree) c.in-Some.is;
-      deep = λ source. passes (file_depth (view source c.in-Some.tree)) max_depth (sym (c.nests_within.ensures source) ∙ c.if-not-nests_within.true);
+      tree = tree;
+      there = omega arith;
+      is = sym c.index.ensures;
+      deep = λ source. passes (file_depth (view source tree)) max_depth (sym (c.nests_within.ensures source) ∙ c.if-not-nests_within.true);
     }
 
 pub loop-i-preserved : goal.loop-i-preserved
 loop-i-preserved c =
+    let i = c.loop-i.i in
     let trees = c.args.self.now.trees.items in
-    let there : c.loop-i.i < length trees = omega arith in
-    let here : IsShallow c.index.result.now = elim c.match-index.branch [
-      | in-Some+else-not-nests_within w ↦ some_shallow w.in-Some.tree c.index.result.now w.in-Some.is (λ source. sym (w.nests_within.ensures source) ∙ w.if-not-nests_within.false)
-      | in_default w ↦ none_shallow c.index.result.now w.in_default.not-Some
+    let saved = c.args.self.now.saved.items in
+    let there : i < length trees = omega arith in
+    let here : is_saved i saved ≡ true → (d : Parsed) → IsShallow (get_or trees i d) = elim c.if-is_saved.branch [
+      | then-is_saved+else-not-nests_within w ↦ λ is d.
+          let tree = w.index.result.now in
+          subst IsShallow (w.index.ensures ∙ same_read trees i tree d there)
+          (λ source. fits (file_depth (view source tree)) max_depth (sym (w.nests_within.ensures source) ∙ w.if-not-nests_within.false))
+      | else-is_saved w ↦ λ is d. let not = w.if-is_saved.ensures ∙ ap (is_saved i) c.as_slice.ensures.value ∙ is in absurd cc
     ] in
-    let read = read_there trees c.loop-i.i there c.index.result.now c.index.ensures c.index.result.now refl in
-    below_more (λ k. IsShallow (get_or trees k None)) c.loop-i.i c.loop-i.invariant (subst IsShallow (sym read) here)
+    below_more (λ k. is_saved k saved ≡ true → (d : Parsed) → IsShallow (get_or trees k d)) i c.loop-i.invariant here
+
+pub returns-clause-yes : goal.returns-clause-yes
+returns-clause-yes c = λ _ k within. let below : k < c.loop-i.i = omega (arith, within, c.loop-i-test.false, c.len-i-end.ensures) in c.loop-i.invariant k below
