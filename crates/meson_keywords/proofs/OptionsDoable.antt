@@ -23,6 +23,7 @@ use Rattle.meson_keywords.specs.Tasks.{set_option}
 use Rattle.meson_keywords.proofs.ArrayEdits.{nth_put, puts_leave, swap_step, value_put, wrap_leaves}
 use Rattle.meson_keywords.proofs.CallEdits.{elements_are, insert_step, inserted_leaves, more_leaves, one_leaves, replace_step, xs}
 use Rattle.meson_keywords.proofs.IdentifierTexts.{identifier_true}
+use Rattle.meson_keywords.proofs.InnerPlaces.{array_container}
 use Rattle.meson_steps.proofs.Insertable.{elements_with}
 use Rattle.meson_keywords.proofs.KeywordPlaces.{value_there}
 use Rattle.meson_keywords.proofs.NamedWritten.{named_written}
@@ -83,7 +84,7 @@ module _ (name entry : List ℕ) (utf8 : IsUtf8 entry) (c : CallRef) (trees : Li
       let number : f.number ≡ m = (let h = f.is_number in omega (arith, h)) in
       let it : nth (elements l) m ≡ Some f.it = ap (nth (elements l)) (sym number) ∙ f.is_it in
       let old = entry_value name f.it f.passes in
-      let st = swap_step c trees all s n a l there value m f.it old.0 (literal entry) (string_of entry) it old.1 (text_written entry utf8) tt refl in
+      let st = swap_step array_container c trees all s n a l there value m f.it old.0 (literal entry) (string_of entry) it old.1 (text_written entry utf8) tt refl in
       let ys = take m (elements l) ++ with_value (string_of entry) f.it ∷ drop (suc m) (elements l) in
       let now = with_elements l ys in
       let b = with_value (array now) a in
@@ -92,7 +93,7 @@ module _ (name entry : List ℕ) (utf8 : IsUtf8 entry) (c : CallRef) (trees : Li
       (let len : 0 - 0 + length (elements l) ≡ length (elements l) = omega arith in subst (λ k. Left 0 k (m ∷ more)) len (subst (Left 0 (0 - 0 + length (elements l))) is (passing_left (is_entry_element name) (elements l) 0 0 (omega arith)))) in
       let many : length (elements l) ≡ length (elements now) = sym (ap length (elements_with l ys) ∙ as_many (elements l) m f.it (with_value (string_of entry) f.it) it) in
       more_leaves c trees all s (Replace (c.path.steps ++ n ∷ []) m (written_text entry)) _ st (removed_from (child c n) 0 more)
-      (removes_leave c more 0 (slice_set trees c.file st.now) st.all_stand st.stands n b now here (value_put a (array l) (array now) value)
+      (removes_leave array_container c more 0 (slice_set trees c.file st.now) st.all_stand st.stands n b now here (value_put a (array l) (array now) value)
       (subst (λ k. Left 0 k more) many (wider 0 (length (elements l)) more whole.1)))
 
   in_lone : (n : ℕ) (it : Argument Nowhere) (e : Expression Nowhere) → nth (xs c trees all s) n ≡ Some it → value_of it ≡ Some e → expression_depth e ≡ 0 → (b : Bool) → LeavesCall c (set_in_lone c n entry b) trees
