@@ -2,7 +2,7 @@
 use Rattle.std.proofs.Common.{◌≡◌, ℕ, zero, suc, ◌+◌, ◌-◌, ◌<◌, ◌≤◌, true, false, List, [], ◌∷◌, ◌++◌, length, take, drop, Option, Some, None, refl, sym, ap, ◌∙◌, subst, arith}
 use Rattle.std.specs.Prelude.{All, Bool, bytes_eq, if◌then◌else◌, Result, Ok, Err, slice_set}
 use Rattle.meson_splice.specs.Patch.{then_ok}
-use Rattle.meson_syntax.specs.Tree.{Nowhere, Plain, Expression, array, Listing, Argument}
+use Rattle.meson_syntax.specs.Tree.{Nowhere, Plain, Expression, array, dictionary, Listing, Argument}
 use Rattle.meson_syntax.specs.Paths.{nth, value_of}
 use Rattle.meson_edit.specs.Edits.{Remove, elements, removed, with_elements, with_value}
 use Rattle.meson_calls.specs.declared.call.CallRef.{CallRef}
@@ -14,14 +14,14 @@ use Rattle.meson_calls.specs.Calls.{Numbered}
 use Rattle.meson_keywords.specs.Changing.{CallStands, LeavesCall, TaskMayBeDone}
 use Rattle.meson_keywords.specs.KeywordEdits.{all_known, keyword_in, one_at_most, passing, remove_by_shape, remove_equal, remove_lone, remove_steps, remove_there, removed_from, says, shape, text_in}
 use Rattle.meson_steps.specs.ListSteps.{MayStand}
-use Rattle.meson_keywords.specs.Options.{delete_by_shape, delete_lone, delete_option_steps, delete_option_there, is_entry, is_entry_element, of_list, of_lone, options_key}
+use Rattle.meson_keywords.specs.Options.{delete_by_shape, delete_by_value, delete_lone, delete_option_steps, delete_option_there, entries, has_key, is_entry, is_entry_element, keys_known, of_list, of_lone, options_key}
 use Rattle.meson_calls.specs.Project.{child}
 use Rattle.meson_steps.specs.Steps.{step_in}
 use Rattle.meson_steps.specs.Steps.{Step}
 use Rattle.meson_keywords.specs.Tasks.{remove, delete_option}
 use Rattle.meson_keywords.proofs.ArrayEdits.{gone_step, nth_put, value_put}
 use Rattle.meson_keywords.proofs.CallEdits.{elements_are, more_leaves, none_leaves, one_leaves, remove_step, xs}
-use Rattle.meson_keywords.proofs.InnerPlaces.{Container, array_container}
+use Rattle.meson_keywords.proofs.InnerPlaces.{Container, array_container, dictionary_container}
 use Rattle.meson_steps.proofs.Insertable.{elements_with}
 use Rattle.meson_keywords.proofs.KeywordPlaces.{value_there}
 
@@ -138,9 +138,14 @@ module _ (name : List ℕ) (c : CallRef) (trees : List Plain) (all : All MayStan
   delete_value n it e there value h =
       of_lone_leaves (text_in element.Text e) (delete_lone c n (is_entry name (text_in element.Text e))) (lone_deleted n it there (is_entry name (text_in element.Text e))) h
 
+  delete_any : (n : ℕ) (it : Argument Nowhere) (e : Expression Nowhere) → nth (xs c trees all s) n ≡ Some it → value_of it ≡ Some e → delete_by_value c n name e (entries e) ≡ Ok steps → LeavesCall c steps trees
+  delete_any n it (dictionary l) there value h =
+      of_list_leaves (keys_known (elements l)) (removed_from (child c n) 0 (passing (has_key name) 0 (elements l))) (passing_leave dictionary_container (has_key name) c trees all s n it l there value) h
+  delete_any n it e there value h = delete_value n it e there value h
+
   delete_by : (vs : List (Numbered (Expression Nowhere))) → keyword_in options_key (xs c trees all s) ≡ vs → then_ok (one_at_most options_key vs) (delete_option_there c name) ≡ Ok steps → LeavesCall c steps trees
   delete_by [] there h = let same : [] ≡ steps = cc in subst (λ l. LeavesCall c l trees) same (none_leaves c trees all s)
-  delete_by (v ∷ []) there h = let t = value_there options_key (xs c trees all s) v [] there in delete_value v.number t.it v.value t.is_it t.is_value h
+  delete_by (v ∷ []) there h = let t = value_there options_key (xs c trees all s) v [] there in delete_any v.number t.it v.value t.is_it t.is_value h
   delete_by (v ∷ w ∷ more) there h = absurd cc
 
 pub delete_option_may : (name : List ℕ) → TaskMayBeDone (delete_option name)
