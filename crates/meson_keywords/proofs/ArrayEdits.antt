@@ -1,8 +1,8 @@
--- One edit of an array that is the value of an argument of a call that stands: it may be done, and the call stands with the array so edited.
+-- One edit of an array or a dictionary that is the value of an argument of a call that stands: it may be done, and the call stands with it so edited.
 use Rattle.std.proofs.Common.{◌≡◌, ℕ, zero, suc, ◌+◌, ◌≤◌, List, [], ◌∷◌, ◌++◌, length, length-append, map, take, drop, Some, refl, sym, ap, ap₂, ◌∙◌, subst, arith, false}
 use Rattle.std.specs.Prelude.{All, max, option_and_then, option_map, slice_set}
 use Rattle.meson_syntax.specs.Tree.{Nowhere, Plain, Expression, array, Listing, listing, Argument, plain, named, pair, arguments_of}
-use Rattle.meson_syntax.specs.Grammar.{LevelArgument, LevelExpression, LevelFile, argument_depth, arguments_depth, expression_words, expression_depth, listing_depth}
+use Rattle.meson_syntax.specs.Grammar.{LevelArgument, LevelExpression, LevelFile, argument_depth, argument_words, arguments_depth, expression_words, expression_depth, listing_depth}
 use Rattle.meson_syntax.specs.Paths.{nth, value_of}
 use Rattle.meson_syntax.proofs.parsing.Complete.{list-of-arguments}
 use Rattle.meson_edit.specs.Edits.{Written, Edit, First, After, Remove, Replace, Wrap, elements, with_elements, with_value, inserted, removed, exchanged, edited}
@@ -13,7 +13,7 @@ use Rattle.meson_calls.specs.declared.call.CallRef.{CallRef}
 use Rattle.meson_keywords.specs.Changing.{CallStands, LeavesCall}
 use Rattle.meson_keywords.specs.declared.keys.ElementKind.{ElementKind}
 use Rattle.meson_keywords.specs.KeywordEdits.{all_behind, behind_all}
-use Rattle.meson_keywords.specs.Keys.{element_bytes, element_node, written_element}
+use Rattle.meson_keywords.specs.Keys.{element_node, written_element}
 use Rattle.meson_syntax.proofs.parsing.Steps.{some-injective}
 use Rattle.meson_steps.specs.ListSteps.{MayStand}
 use Rattle.meson_calls.specs.Project.{child}
@@ -22,7 +22,7 @@ use Rattle.meson_steps.specs.Steps.{Step}
 use Rattle.meson_keywords.specs.Tasking.{AreElements}
 use Rattle.std.proofs.lemmas.List.{take_all}
 use Rattle.meson_keywords.proofs.CallEdits.{CallStep, call_step, last_there, more_leaves, no_elements, none_leaves, wrap_step, depth_append, depth_drop, depth_nth, depth_of, depth_take, tree_level, value_depth, xs}
-use Rattle.meson_keywords.proofs.InnerPlaces.{InnerPlace, exchanged_at, inner_place}
+use Rattle.meson_keywords.proofs.InnerPlaces.{Container, InnerPlace, array_container, exchanged_at, inner_place}
 use Rattle.meson_steps.proofs.Insertable.{edited_there, elements_with, first_there}
 use Rattle.meson_keywords.proofs.WrittenElements.{element_flat, element_level, element_written}
 use Rattle.meson_syntax.specs.Operators.{holds_pairs}
@@ -38,33 +38,35 @@ old_depth (plain e) v is = let same = ap expression_depth (some-injective e v is
 old_depth (named s x e) v is = let same = ap expression_depth (some-injective e v is) in omega (arith, same)
 old_depth (pair s e f) v is = let same = ap expression_depth (some-injective f v is) in omega (arith, same)
 
-module _ (c : CallRef) (trees : List Plain) (all : All MayStand trees) (s : CallStands c trees) (n : ℕ) (a : Argument Nowhere) (l : Listing Nowhere) (there : nth (xs c trees all s) n ≡ Some a) (value : value_of a ≡ Some (array l)) where
+module _ (k : Container) (c : CallRef) (trees : List Plain) (all : All MayStand trees) (s : CallStands c trees) (n : ℕ) (a : Argument Nowhere) (l : Listing Nowhere) (there : nth (xs c trees all s) n ≡ Some a) (value : value_of a ≡ Some (k.make l)) where
   abbrev outer : List (Argument Nowhere)
   outer = xs c trees all s
 
-  -- the elements of the call where the array has these
+  -- the elements of the call where the list has these
   abbrev pub arrayed : List (Argument Nowhere) → List (Argument Nowhere)
-  arrayed ys = exchanged_at n a outer (array (with_elements l ys))
+  arrayed ys = exchanged_at n a outer (k.make (with_elements l ys))
 
   abbrev path : List ℕ
   path = c.path.steps ++ n ∷ []
 
-  abbrev p : InnerPlace s.tree c.path.steps s.place n a l
-  p = inner_place s.tree c.path.steps s.place s.is_place (ap holds_pairs s.is_round) (tree_level c trees all s) n a l there value
+  abbrev p : InnerPlace k s.tree c.path.steps s.place n a l
+  p = inner_place k s.tree c.path.steps s.place s.is_place (ap holds_pairs s.is_round) (tree_level c trees all s) n a l there value
 
   arrayed_depth : (ys : List (Argument Nowhere)) → depth_of ys ≤ depth_of (elements l) → depth_of (arrayed ys) ≤ max (depth_of outer) 1
   arrayed_depth ys small =
-      let new = with_value (array (with_elements l ys)) a in
+      let new = with_value (k.make (with_elements l ys)) a in
       omega (
         arith,
         depth_append (take n outer) (new ∷ drop (suc n) outer),
         depth_take n outer,
         depth_drop (suc n) outer,
-        value_depth a (array (with_elements l ys)),
+        value_depth a (k.make (with_elements l ys)),
+        k.depth (with_elements l ys),
         array_depth l ys,
         small,
         list_depth l,
-        old_depth a (array l) value,
+        k.depth l,
+        old_depth a (k.make l) value,
         depth_nth outer n a there,
       )
 
@@ -72,17 +74,17 @@ module _ (c : CallRef) (trees : List Plain) (all : All MayStand trees) (s : Call
       → depth_of ys ≤ depth_of (elements l) → CallStep c trees all s e (arrayed ys)
   array_step e ys writes is level small =
       let same : p.place.back (with_elements p.place.list ys) ≡ s.place.back (with_elements s.place.list (arrayed ys)) =
-      p.back (with_elements p.place.list ys) ∙ ap (λ m. s.place.back (with_elements s.place.list (exchanged_at n a outer (array (with_elements m ys))))) p.list in
+      p.back (with_elements p.place.list ys) ∙ ap (λ m. s.place.back (with_elements s.place.list (exchanged_at n a outer (k.make (with_elements m ys))))) p.list in
       call_step c trees all s e (arrayed ys) writes (is ∙ ap Some same) (subst LevelFile same level) (arrayed_depth ys small)
 
   here : (m : ℕ) (it : Argument Nowhere) → nth (elements l) m ≡ Some it → nth (elements p.place.list) m ≡ Some it
-  here m it is = ap (λ k. nth (elements k) m) p.list ∙ is
+  here m it is = ap (λ x. nth (elements x) m) p.list ∙ is
 
   -- an element goes
   pub gone_step : (m : ℕ) (it : Argument Nowhere) → nth (elements l) m ≡ Some it → CallStep c trees all s (Remove path m) (arrayed (removed m (elements l) it))
   gone_step m it is =
       let ys = removed m (elements l) it in
-      let made = edited_there s.tree path p.place p.is_place (Remove path m) ys (ap (λ k. option_map (removed m (elements k)) (nth (elements k) m)) p.list ∙ ap (option_map (removed m (elements l))) is) in
+      let made = edited_there s.tree path p.place p.is_place (Remove path m) ys (ap (λ x. option_map (removed m (elements x)) (nth (elements x) m)) p.list ∙ ap (option_map (removed m (elements l))) is) in
       array_step (Remove path m) ys tt made (removals-keep-levels path m s.tree (p.place.back (with_elements p.place.list ys)) (tree_level c trees all s) made)
       (omega (arith, depth_append (take m (elements l)) (drop (suc m) (elements l)), depth_take m (elements l), depth_drop (suc m) (elements l)))
 
@@ -93,18 +95,16 @@ module _ (c : CallRef) (trees : List Plain) (all : All MayStand trees) (s : Call
       let ys = take m (elements l) ++ with_value e it ∷ drop (suc m) (elements l) in
       let new : Written (Expression Nowhere) = record { bytes = bytes; node = e } in
       let made = edited_there s.tree path p.place p.is_place (Replace path m new) ys
-      (ap (λ k. option_and_then (exchanged m (λ v. e) (elements k)) (nth (elements k) m)) p.list ∙ ap (option_and_then (exchanged m (λ v. e) (elements l))) is
+      (ap (λ x. option_and_then (exchanged m (λ v. e) (elements x)) (nth (elements x) m)) p.list ∙ ap (option_and_then (exchanged m (λ v. e) (elements l))) is
       ∙ ap (option_map (λ v. take m (elements l) ++ with_value e it ∷ drop (suc m) (elements l))) is_value) in
       array_step (Replace path m new) ys writes made (replacements-keep-levels path m new level s.tree (p.place.back (with_elements p.place.list ys)) (tree_level c trees all s) made)
       (omega (arith, depth_append (take m (elements l)) (with_value e it ∷ drop (suc m) (elements l)), depth_take m (elements l), depth_drop (suc m) (elements l), value_depth it e, depth_nth (elements l) m it is, flat))
 
   -- an element in which nothing nests goes behind all others
-  module _ (bytes : List ℕ) (e : Expression Nowhere) (writes : IsWritten bytes (expression_words e)) (level : LevelExpression e) (flat : expression_depth e ≡ 0) where
-    abbrev new : Written (Argument Nowhere)
-    new = record { bytes = bytes; node = plain e }
-
+  module _ (new : Written (Argument Nowhere)) (writes : IsWritten new.bytes (argument_words new.node)) (flat : argument_depth new.node ≡ 0) (first : LevelArgument new.node k.bracket false)
+      (follows : (it : Argument Nowhere) → MayFollow k.bracket it [] new.node) where
     abbrev more : List (Argument Nowhere)
-    more = elements l ++ plain e ∷ []
+    more = elements l ++ new.node ∷ []
 
     pub record PutStep (st : Step) : Type 0 where
       pub edit : Edit
@@ -112,26 +112,27 @@ module _ (c : CallRef) (trees : List Plain) (all : All MayStand trees) (s : Call
       pub step : CallStep c trees all s edit (arrayed more)
 
     more_depth : depth_of more ≤ depth_of (elements l)
-    more_depth = omega (arith, depth_append (elements l) (plain e ∷ []), flat)
+    more_depth = omega (arith, depth_append (elements l) (new.node ∷ []), flat)
 
     first_put : length (elements l) ≡ 0 → CallStep c trees all s (First path new) (arrayed more)
     first_put empty =
         let nothing = no_elements c trees all s (elements l) empty in
         let made = edited_there s.tree path p.place p.is_place (First path new) more
-        (first_there (plain e) (elements p.place.list) (ap elements p.list ∙ nothing) ∙ ap (λ ys. Some (ys ++ plain e ∷ [])) (sym nothing)) in
-        let low : LevelArgument (plain e) p.place.bracket false = subst (λ b. LevelArgument (plain e) b false) (sym p.square) (refl, refl, level) in
+        (first_there new.node (elements p.place.list) (ap elements p.list ∙ nothing) ∙ ap (λ ys. Some (ys ++ new.node ∷ [])) (sym nothing)) in
+        let low = subst (λ b. LevelArgument new.node b false) (sym p.bracket) first in
         array_step (First path new) more writes made (firsts-keep-levels path new s.tree (p.place.back (with_elements p.place.list more)) p.place p.is_place low (tree_level c trees all s) made) more_depth
 
     after_put : (m : ℕ) → length (elements l) ≡ suc m → CallStep c trees all s (After path m new) (arrayed more)
     after_put m many =
         let last = last_there c trees all s (elements l) m many in
         let all_of : take (suc m) (elements l) ≡ elements l = take_all (suc m) (elements l) (omega (arith, many)) in
-        let whole = ap₂ (λ front back. front ++ plain e ∷ back) all_of last.2 in
-        let is = ap (λ k. option_map (inserted m (plain e) (elements k)) (nth (elements k) m)) p.list ∙ ap (option_map (inserted m (plain e) (elements l))) last.1 ∙ ap Some whole in
+        let whole = ap₂ (λ front back. front ++ new.node ∷ back) all_of last.2 in
+        let is = ap (λ x. option_map (inserted m new.node (elements x)) (nth (elements x) m)) p.list ∙ ap (option_map (inserted m new.node (elements l))) last.1 ∙ ap Some whole in
         let made = edited_there s.tree path p.place p.is_place (After path m new) more is in
-        let follows : MayFollow p.place.bracket last.0 (drop (suc m) (elements p.place.list)) (plain e) = subst (λ b. MayFollow b last.0 (drop (suc m) (elements p.place.list)) (plain e)) (sym p.square) level in
+        let nothing : [] ≡ drop (suc m) (elements p.place.list) = sym (ap (λ x. drop (suc m) (elements x)) p.list ∙ last.2) in
+        let may = subst (λ b. MayFollow b last.0 (drop (suc m) (elements p.place.list)) new.node) (sym p.bracket) (subst (λ ys. MayFollow k.bracket last.0 ys new.node) nothing (follows last.0)) in
         array_step (After path m new) more writes made
-        (insertions-keep-levels path m new s.tree (p.place.back (with_elements p.place.list more)) p.place p.is_place last.0 (here m last.0 last.1) follows (tree_level c trees all s) made) more_depth
+        (insertions-keep-levels path m new s.tree (p.place.back (with_elements p.place.list more)) p.place p.is_place last.0 (here m last.0 last.1) may (tree_level c trees all s) made) more_depth
 
     pub put_step : PutStep (behind_all (child c n) (length (elements l)) new)
     put_step = go (length (elements l)) refl
@@ -157,7 +158,8 @@ pub puts_leave : (c : CallRef) (k : ElementKind) (ts : List (List ℕ)) → AreE
 puts_leave c k [] are trees all s n a l there value = none_leaves c trees all s
 puts_leave c k (t ∷ ts) are trees all s n a l there value =
     let e = element_node k t in
-    let put = put_step c trees all s n a l there value (element_bytes k t) e (element_written k t are.0) (element_level k t) (element_flat k t) in
+    let level = element_level k t in
+    let put = put_step array_container c trees all s n a l there value (written_element k t) (element_written k t are.0) (element_flat k t) (refl, refl, level) (λ it. level) in
     let more = elements l ++ plain e ∷ [] in
     let now = with_elements l more in
     let b = with_value (array now) a in

@@ -7,14 +7,17 @@ use Rattle.std.proofs.lemmas.List.{reverse-append}
 use Rattle.std.proofs.lemmas.List.Folds.{list_any-append}
 use Rattle.std.proofs.lemmas.List.Sorted.{list_any-IsPermutation, IsPermutation-reverse}
 use Rattle.std.proofs.lemmas.Slice.Eq.{bytes_eq-Decides}
+use Rattle.meson_lex.specs.declared.kinds.Kind.TheVariants as k
 use Rattle.meson_lex.specs.declared.kinds.Span.{Span}
 use Rattle.meson_syntax.specs.declared.tree.Arg.{Arg}
 use Rattle.meson_syntax.specs.declared.tree.Arg.TheVariants as arg
 use Rattle.meson_syntax.specs.declared.tree.Arg.TheFolds.{the_lemmas}
 use Rattle.meson_syntax.specs.declared.tree.Expr.{Expr}
-use Rattle.meson_syntax.specs.Grammar.{argument_words, expression_words}
-use Rattle.meson_syntax.specs.Tree.{Expression, Argument, pair}
-use Rattle.meson_syntax.specs.View.{arg_view, args_view, expr_view}
+use Rattle.meson_syntax.specs.declared.tree.Expr.TheVariants as expr
+use Rattle.meson_syntax.specs.declared.tree.List as rust
+use Rattle.meson_syntax.specs.Grammar.{argument_words, expression_words, mark}
+use Rattle.meson_syntax.specs.Tree.{Expression, Argument, dictionary, pair}
+use Rattle.meson_syntax.specs.View.{arg_view, args_view, expr_view, list_view}
 use Rattle.meson_keywords.specs.declared.keys.ElementKind.{ElementKind}
 use Rattle.meson_calls.specs.Calls as calls
 use Rattle.meson_calls.specs.Calls.{Numbered, value_with_name}
@@ -22,10 +25,12 @@ use Rattle.meson_calls.specs.Keywords.{IsFirstNamed}
 use Rattle.meson_calls.specs.Sourced.{kept_args}
 use Rattle.meson_calls.specs.GoodLists.{GoodArgs}
 use Rattle.meson_keywords.specs.KeywordEdits.{all_known, element_text, one_at_most, passing, says, the_value}
+use Rattle.meson_keywords.specs.Options.{key_text, keys_known}
 use Rattle.meson_calls.specs.Roles.{one_of}
 use Rattle.meson_steps.specs.Names.{distinct_by}
 use Rattle.meson_calls.specs.Strings.{AreGood}
 use Rattle.meson_calls.proofs.ArgumentViews.{plain_view}
+use Rattle.meson_calls.proofs.GoodParts.{good_left}
 use Rattle.meson_calls.proofs.Nested.{good_arg}
 
 -- ---- views
@@ -33,8 +38,15 @@ use Rattle.meson_calls.proofs.Nested.{good_arg}
 pub pair_view : (source : List ℕ) (s : Span) (k v : Expr) → arg_view source (arg.Pair s k v) ≡ pair s (expr_view source k) (expr_view source v)
 pair_view source s k v = search (rules, the_lemmas)
 
+pub dictionary_view : (source : List ℕ) (l : rust.List) → expr_view source (expr.Dictionary l) ≡ dictionary (list_view source l)
+dictionary_view source l = search (rules, the_lemmas)
+
 pub good_plain : (source : List ℕ) (args : List Arg) (i : ℕ) (d : Arg) (e : Expr) → i < length args → GoodArgs source args → get_or args i d ≡ arg.Plain e → AreGood (expression_words (expr_view source e))
 good_plain source args i d e within good is = subst (λ a. AreGood (argument_words a)) (ap (arg_view source) is ∙ plain_view source e) (good_arg source args i d within good)
+
+pub good_key : (source : List ℕ) (a : Arg) (s : Span) (key value : Expr) → AreGood (argument_words (arg_view source a)) → a ≡ arg.Pair s key value → AreGood (expression_words (expr_view source key))
+good_key source a s key value good is =
+    good_left (expression_words (expr_view source key)) (mark k.Colon ++ expression_words (expr_view source value)) (subst (λ x. AreGood (argument_words x)) (ap (arg_view source) is ∙ pair_view source s key value) good)
 
 module _ (source : List ℕ) (args : List Arg) (i : ℕ) (d : Arg) (within : i < length args) where
   pub rest_is : args_view source (drop i args) ≡ arg_view source (get_or args i d) ∷ args_view source (drop (i + 1) args)
@@ -48,6 +60,14 @@ module _ (source : List ℕ) (args : List Arg) (i : ℕ) (d : Arg) (within : i <
 
     pub known_not : is_some (element_text k (arg_view source (get_or args i d))) ≡ false → all_known k (args_view source (drop i args)) ≡ false
     known_not fails = ap (all_known k) rest_is ∙ ap (λ b. b && all_known k (args_view source (drop (i + 1) args))) fails
+
+  -- ---- all with a literal as the key
+
+  pub keys_more : is_some (key_text (arg_view source (get_or args i d))) ≡ true → keys_known (args_view source (drop i args)) ≡ keys_known (args_view source (drop (i + 1) args))
+  keys_more holds = ap keys_known rest_is ∙ ap (λ b. b && keys_known (args_view source (drop (i + 1) args))) holds
+
+  pub keys_not : is_some (key_text (arg_view source (get_or args i d))) ≡ false → keys_known (args_view source (drop i args)) ≡ false
+  keys_not fails = ap keys_known rest_is ∙ ap (λ b. b && keys_known (args_view source (drop (i + 1) args))) fails
 
   -- ---- those that pass
 

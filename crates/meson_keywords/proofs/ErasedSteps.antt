@@ -4,7 +4,7 @@ use Rattle.std.specs.Prelude.{Option, Some, None, option_map, if◌then◌else�
 use Rattle.std.specs.List.{cons_option, filter_map}
 use Rattle.meson_lex.specs.declared.kinds.Span.{Span}
 use Rattle.meson_splice.specs.Patch.{then_ok}
-use Rattle.meson_syntax.specs.Tree.{Nowhere, Expression, identifier, string, array, Argument, plain, named, pair, arguments_of, erase_argument, erase_expression}
+use Rattle.meson_syntax.specs.Tree.{Nowhere, Expression, identifier, string, array, dictionary, Argument, plain, named, pair, arguments_of, erase_argument, erase_expression}
 use Rattle.meson_calls.specs.declared.call.CallRef.{CallRef}
 use Rattle.meson_keywords.specs.declared.keys.ElementKind.{ElementKind}
 use Rattle.meson_keywords.specs.declared.keys.ElementKind.TheVariants as element
@@ -13,7 +13,7 @@ use Rattle.meson_calls.specs.Calls.{Numbered, numbered, kept_number, value_with_
 use Rattle.meson_calls.specs.Calls as calls
 use Rattle.meson_keywords.specs.Keys.{written_list, written_named}
 use Rattle.meson_keywords.specs.KeywordEdits.{Shape, an_array, no_array, add_by_shape, all_behind, all_known, behind_all, element_text, keyword_in, new_elements, one_at_most, passing, remove_by_shape, remove_equal, removed_from, says, shape, text_in, the_value}
-use Rattle.meson_keywords.specs.Options.{delete_by_shape, is_entry, is_entry_element, of_list, option_text, options_key, set_by_shape, set_in_list}
+use Rattle.meson_keywords.specs.Options.{delete_by_shape, delete_by_value, entries, has_key, is_entry, is_entry_element, key_text, keys_known, of_list, option_text, options_key, set_by_shape, set_by_value, set_in_dictionary, set_in_list}
 use Rattle.meson_calls.specs.Project.{child}
 use Rattle.meson_keywords.specs.Tasks.{Task, set, delete, add, remove, once, set_option, delete_option}
 use Rattle.meson_keywords.specs.TaskSteps.{task_steps}
@@ -129,6 +129,40 @@ option_gone_erased c n name t (an_array xs) =
     ap (λ b. of_list b (removed_from (child c n) 0 (passing (is_entry_element name) 0 (map erase_argument xs)))) (known_erased element.Text xs)
     ∙ ap (λ l. of_list (all_known element.Text xs) (removed_from (child c n) 0 l)) (passing_erased (is_entry_element name) (is_entry_element name) (entry_erased name) 0 xs)
 
+-- ---- a dictionary
+
+entries_erased : (e : Expression Span) → entries (erase_expression e) ≡ option_map (map erase_argument) (entries e)
+entries_erased (dictionary l) = ap Some (erased_elements l)
+entries_erased _ = refl
+
+key_erased : (x : Argument Span) → key_text (erase_argument x) ≡ key_text x
+key_erased (plain e) = refl
+key_erased (named s x e) = refl
+key_erased (pair s e f) = text_erased element.Text e
+
+keys_erased : (xs : List (Argument Span)) → keys_known (map erase_argument xs) ≡ keys_known xs
+keys_erased [] = refl
+keys_erased (x ∷ xs) = ap (λ o. is_some o && keys_known (map erase_argument xs)) (key_erased x) ∙ ap (λ b. is_some (key_text x) && b) (keys_erased xs)
+
+has_erased : (name : List ℕ) (x : Argument Span) → has_key name (erase_argument x) ≡ has_key name x
+has_erased name x = ap (calls.is name) (key_erased x)
+
+value_erased : (c : CallRef) (n : ℕ) (name value : List ℕ) (e : Expression Span) (o : Option (List (Argument Span)))
+    → set_by_value c n name value (erase_expression e) (option_map (map erase_argument) o) ≡ set_by_value c n name value e o
+value_erased c n name value e None =
+    let entry = option_text name value in
+    by_shape (set_by_shape c n name entry) (set_by_shape c n name entry) (option_erased c n name entry) element.Text e
+value_erased c n name value e (Some xs) =
+    ap (λ b. of_list b (set_in_dictionary (child c n) (length (map erase_argument xs)) name value (passing (has_key name) 0 (map erase_argument xs)))) (keys_erased xs)
+    ∙ ap (λ m. of_list (keys_known xs) (set_in_dictionary (child c n) m name value (passing (has_key name) 0 (map erase_argument xs)))) (many_erased xs)
+    ∙ ap (λ l. of_list (keys_known xs) (set_in_dictionary (child c n) (length xs) name value l)) (passing_erased (has_key name) (has_key name) (has_erased name) 0 xs)
+
+value_gone_erased : (c : CallRef) (n : ℕ) (name : List ℕ) (e : Expression Span) (o : Option (List (Argument Span))) → delete_by_value c n name (erase_expression e) (option_map (map erase_argument) o) ≡ delete_by_value c n name e o
+value_gone_erased c n name e None = by_shape (delete_by_shape c n name) (delete_by_shape c n name) (option_gone_erased c n name) element.Text e
+value_gone_erased c n name e (Some xs) =
+    ap (λ b. of_list b (removed_from (child c n) 0 (passing (has_key name) 0 (map erase_argument xs)))) (keys_erased xs)
+    ∙ ap (λ l. of_list (keys_known xs) (removed_from (child c n) 0 l)) (passing_erased (has_key name) (has_key name) (has_erased name) 0 xs)
+
 -- ---- tasks
 
 pub steps_erased : (t : Task) (c : CallRef) (xs : List (Argument Span)) → task_steps t c (map erase_argument xs) ≡ task_steps t c xs
@@ -143,6 +177,6 @@ steps_erased (once key) c xs = by_value key xs _ _ refl (λ v. refl)
 steps_erased (set_option name value) c xs =
     let entry = option_text name value in
     by_value options_key xs _ _ (ap (λ m. Ok (behind_all c m (written_named options_key (written_list element.Text (entry ∷ []))) ∷ [])) (many_erased xs))
-    (λ v. by_shape (set_by_shape c v.number name entry) (set_by_shape c v.number name entry) (option_erased c v.number name entry) element.Text v.value)
+    (λ v. ap (set_by_value c v.number name value (erase_expression v.value)) (entries_erased v.value) ∙ value_erased c v.number name value v.value (entries v.value))
 steps_erased (delete_option name) c xs =
-    by_value options_key xs _ _ refl (λ v. by_shape (delete_by_shape c v.number name) (delete_by_shape c v.number name) (option_gone_erased c v.number name) element.Text v.value)
+    by_value options_key xs _ _ refl (λ v. ap (delete_by_value c v.number name (erase_expression v.value)) (entries_erased v.value) ∙ value_gone_erased c v.number name v.value (entries v.value))

@@ -1,4 +1,4 @@
--- An array that is the value of an element of a list: where it stands, and that another array in its place is that value exchanged.
+-- An array or a dictionary that is the value of an element of a list: where it stands, and that another one in its place is that value exchanged.
 use Rattle.std.proofs.Common.{◌≡◌, ℕ, zero, suc, true, false, List, [], ◌∷◌, ◌++◌, map, take, drop, Option, Some, refl, sym, ap, ◌∙◌, subst}
 use Rattle.std.specs.Prelude.{Bool, if◌then◌else◌, option_map, option_and_then}
 use Rattle.meson_lex.specs.Significant.{Word}
@@ -6,7 +6,7 @@ use Rattle.meson_syntax.specs.declared.operator.Bracket.{Bracket}
 use Rattle.meson_syntax.specs.declared.operator.Bracket.TheVariants as bracket
 use Rattle.meson_syntax.specs.Operators.{holds_pairs}
 use Rattle.meson_syntax.specs.Tree.{Nowhere, Plain, Expression, array, dictionary, call, Listing, listing, Argument, plain, named, pair, Arguments, no_arguments, argument, argument_list, arguments_of, Block}
-use Rattle.meson_syntax.specs.Grammar.{LevelArguments, LevelListing, LevelFile}
+use Rattle.meson_syntax.specs.Grammar.{LevelArguments, LevelListing, LevelFile, expression_depth, listing_depth}
 use Rattle.meson_syntax.specs.Paths.{Sort, of_expression, of_statement, of_block, Node, Hole, around, expression_in, arguments_children, listing_children, child, nth, reach, block_of, with_block, ListIn, list_in, ListAt, list_within, list_of_node, list_at, value_of}
 use Rattle.meson_syntax.proofs.parsing.Complete.{list-of-arguments}
 use Rattle.meson_syntax.proofs.parsing.Steps.{some-injective}
@@ -139,39 +139,52 @@ below sort x (m ∷ path) n v h is =
       back_is = λ y. ap g.back (b.back_is y);
     })
 
--- ---- the array that is the value of an element
+-- ---- the list that is the value of an element
 
-pub record InnerPlace (t : Plain) (path : List ℕ) (q : ListAt Nowhere) (n : ℕ) (a : Argument Nowhere) (l : Listing Nowhere) : Type 0 where
+-- how a list is an expression: as an array, or as a dictionary
+pub record Container : Type 0 where
+  pub make : Listing Nowhere → Expression Nowhere
+  pub bracket : Bracket
+  pub form : (x : Listing Nowhere) → list_in (make x) ≡ Some (record { list = x; bracket = bracket; ahead = []; back = make })
+  pub depth : (x : Listing Nowhere) → expression_depth (make x) ≡ listing_depth x
+
+abbrev pub array_container : Container
+array_container = record { make = array; bracket = bracket.Square; form = λ x. refl; depth = λ x. refl }
+
+abbrev pub dictionary_container : Container
+dictionary_container = record { make = dictionary; bracket = bracket.Curly; form = λ x. refl; depth = λ x. refl }
+
+pub record InnerPlace (k : Container) (t : Plain) (path : List ℕ) (q : ListAt Nowhere) (n : ℕ) (a : Argument Nowhere) (l : Listing Nowhere) : Type 0 where
   pub place : ListAt Nowhere
   pub is_place : list_at t (path ++ n ∷ []) ≡ Some place
   pub list : place.list ≡ l
-  pub square : place.bracket ≡ bracket.Square
-  pub back : (m : Listing Nowhere) → place.back m ≡ q.back (with_elements q.list (exchanged_at n a (elements q.list) (array m)))
+  pub bracket : place.bracket ≡ k.bracket
+  pub back : (m : Listing Nowhere) → place.back m ≡ q.back (with_elements q.list (exchanged_at n a (elements q.list) (k.make m)))
 
-inner_by : (t : Plain) (path : List ℕ) (q : ListAt Nowhere) (n : ℕ) (a : Argument Nowhere) (l : Listing Nowhere) (sort : Sort) (x : Node sort Nowhere) (before behind : List Word) (back : Node sort Nowhere → Block Nowhere)
-    → list_of_node Nowhere sort x t before behind back ≡ Some q → holds_pairs q.bracket ≡ false → LevelListing q.list q.bracket → nth (elements q.list) n ≡ Some a → value_of a ≡ Some (array l)
-    → ((put : Expression Nowhere → Node sort Nowhere) → Child (child Nowhere sort x n) (array l) put → Child (reach Nowhere of_block (block_of t) (path ++ n ∷ [])) (array l) (λ y. back (put y)))
-    → InnerPlace t path q n a l
-inner_by t path q n a l of_expression x before behind back is none level there value down =
+inner_by : (k : Container) (t : Plain) (path : List ℕ) (q : ListAt Nowhere) (n : ℕ) (a : Argument Nowhere) (l : Listing Nowhere) (sort : Sort) (x : Node sort Nowhere) (before behind : List Word) (back : Node sort Nowhere → Block Nowhere)
+    → list_of_node Nowhere sort x t before behind back ≡ Some q → holds_pairs q.bracket ≡ false → LevelListing q.list q.bracket → nth (elements q.list) n ≡ Some a → value_of a ≡ Some (k.make l)
+    → ((put : Expression Nowhere → Node sort Nowhere) → Child (child Nowhere sort x n) (k.make l) put → Child (reach Nowhere of_block (block_of t) (path ++ n ∷ [])) (k.make l) (λ y. back (put y)))
+    → InnerPlace k t path q n a l
+inner_by k t path q n a l of_expression x before behind back is none level there value down =
     let o = map-some (list_within t before behind back) (list_in x) q is in
     let i = o.0 in
     let list = ap (λ (p : ListAt Nowhere). p.list) o.2 in
     let low = subst (λ m. LevelListing m i.bracket) (sym list) (subst (λ b. LevelListing q.list b) (sym (ap (λ (p : ListAt Nowhere). p.bracket) o.2)) level) in
     let here = subst (λ m. nth (elements m) n ≡ Some a) (sym list) there in
-    let c = down (λ y. i.back (with_elements i.list (exchanged_at n a (elements i.list) y))) (node_child x i n a (array l) o.1 (ap holds_pairs (ap (λ (p : ListAt Nowhere). p.bracket) o.2) ∙ none) low here value) in
+    let c = down (λ y. i.back (with_elements i.list (exchanged_at n a (elements i.list) y))) (node_child x i n a (k.make l) o.1 (ap holds_pairs (ap (λ (p : ListAt Nowhere). p.bracket) o.2) ∙ none) low here value) in
     record {
-      place = list_within t c.before c.behind c.back (record { list = l; bracket = bracket.Square; ahead = []; back = array });
-      is_place = ap (option_and_then (λ h. list_of_node Nowhere h.sort h.inside t h.before h.behind h.back)) c.is;
+      place = list_within t c.before c.behind c.back (record { list = l; bracket = k.bracket; ahead = []; back = k.make });
+      is_place = ap (option_and_then (λ h. list_of_node Nowhere h.sort h.inside t h.before h.behind h.back)) c.is ∙ ap (option_map (list_within t c.before c.behind c.back)) (k.form l);
       list = refl;
-      square = refl;
-      back = λ m. ap (with_block t) (c.back_is (array m)) ∙ ap (λ (p : ListAt Nowhere). p.back (with_elements p.list (exchanged_at n a (elements p.list) (array m)))) o.2;
+      bracket = refl;
+      back = λ m. ap (with_block t) (c.back_is (k.make m)) ∙ ap (λ (p : ListAt Nowhere). p.back (with_elements p.list (exchanged_at n a (elements p.list) (k.make m)))) o.2;
     }
-inner_by t path q n a l of_statement x before behind back is none level there value down = absurd cc
-inner_by t path q n a l of_block x before behind back is none level there value down = absurd cc
+inner_by k t path q n a l of_statement x before behind back is none level there value down = absurd cc
+inner_by k t path q n a l of_block x before behind back is none level there value down = absurd cc
 
-pub inner_place : (t : Plain) (path : List ℕ) (q : ListAt Nowhere) → list_at t path ≡ Some q → holds_pairs q.bracket ≡ false → LevelFile t → (n : ℕ) (a : Argument Nowhere) (l : Listing Nowhere) → nth (elements q.list) n ≡ Some a → value_of a ≡ Some (array l)
-    → InnerPlace t path q n a l
-inner_place t path q is none level n a l there value =
+pub inner_place : (k : Container) (t : Plain) (path : List ℕ) (q : ListAt Nowhere) → list_at t path ≡ Some q → holds_pairs q.bracket ≡ false → LevelFile t → (n : ℕ) (a : Argument Nowhere) (l : Listing Nowhere) → nth (elements q.list) n ≡ Some a → value_of a ≡ Some (k.make l)
+    → InnerPlace k t path q n a l
+inner_place k t path q is none level n a l there value =
     let o = and-then-some (λ h. list_of_node Nowhere h.sort h.inside t h.before h.behind h.back) (reach Nowhere of_block (block_of t) path) q is in
     let h = o.0 in
-    inner_by t path q n a l h.sort h.inside h.before h.behind h.back o.2 none ((list-fits Nowhere t path q is).level level) there value (below of_block (block_of t) path n (array l) h o.1)
+    inner_by k t path q n a l h.sort h.inside h.before h.behind h.back o.2 none ((list-fits Nowhere t path q is).level level) there value (below of_block (block_of t) path n (k.make l) h o.1)

@@ -12,5 +12,5 @@ task_may (delete key) w = delete_may key
 task_may (add key k values) w = add_may key k values w.0.0 w.0.1 w.1
 task_may (remove key k value) w = remove_may key k value
 task_may (once key) w = once_may key
-task_may (set_option name value) w = set_option_may name value w
+task_may (set_option name value) w = set_option_may name value w.0 w.1
 task_may (delete_option name) w = delete_option_may name

@@ -27,7 +27,7 @@ use Rattle.meson_keywords.specs.declared.tasks.Task as code
 use Rattle.meson_keywords.specs.declared.tasks.Task.TheVariants as code_task
 use Rattle.meson_calls.specs.Calls.{Numbered}
 use Rattle.meson_keywords.specs.KeywordEdits.{says}
-use Rattle.meson_keywords.specs.Options.{is_entry_element, option_text}
+use Rattle.meson_keywords.specs.Options.{has_key, is_entry_element}
 use Rattle.meson_steps.specs.WrittenValues.{WrittenFor, written}
 use Rattle.meson_keywords.specs.Tasks.{Task, set, delete, add, remove, once, set_option, delete_option, each_made, set_entry, delete_entry, add_entry, remove_entry, set_option_entry, delete_option_entry}
 
@@ -104,7 +104,7 @@ MayBeWritten (delete key) = Unit {0}
 MayBeWritten (add key k values) = IsKey key × AreElements k values
 MayBeWritten (remove key k value) = Unit {0}
 MayBeWritten (once key) = Unit {0}
-MayBeWritten (set_option name value) = IsUtf8 (option_text name value)
+MayBeWritten (set_option name value) = IsUtf8 name × IsUtf8 value
 MayBeWritten (delete_option name) = Unit {0}
 
 -- ---- tasks of the code
@@ -149,3 +149,4 @@ found_view source f = record { number = f.number; value = expr_view source f.val
 abbrev pub test_of : {S : Type 0} → Test → Argument S → Bool
 test_of (test.Says kind text) x = says kind text.now x
 test_of (test.IsEntry name) x = is_entry_element name.now x
+test_of (test.HasKey name) x = has_key name.now x

@@ -7,7 +7,7 @@ ghost use Rattle.meson_syntax.specs.View.{arg_view, args_view, expr_view};
 ghost use Rattle.meson_calls.specs.Calls.{is, literal};
 ghost use Rattle.meson_calls.specs.GoodLists.{GoodArgs};
 ghost use Rattle.meson_keywords.specs.KeywordEdits.{all_known, an_array, element_text, name_of, no_array, passing, says, shape, text_in, the_value};
-ghost use Rattle.meson_keywords.specs.Options.{is_entry};
+ghost use Rattle.meson_keywords.specs.Options.{entries, is_entry, keys_known};
 ghost use Rattle.meson_calls.specs.Picking.{Source};
 ghost use Rattle.meson_steps.specs.Names.{distinct_by};
 ghost use Rattle.meson_calls.specs.Strings.{AreGood};
@@ -83,6 +83,19 @@ pub(crate) fn array_in(value: &Expr) -> Option<&[Arg]>
 {
     match value {
         Expr::Array(list) => Some(list.items.get()),
+        _ => None,
+    }
+}
+
+/// The entries of a value that is a dictionary.
+pub(crate) fn entries_in(value: &Expr) -> Option<&[Arg]>
+    ensures entries { (source : Source) → MatchOption result
+        (entries (expr_view source value.now) ≡ None)
+        (λ args. entries (expr_view source value.now) ≡ Some (args_view source args.now)) }
+    ensures good { (source : Source) → AreGood (expression_words (expr_view source value.now)) → MatchOption result (Unit {0}) (λ args. GoodArgs source args.now) }
+{
+    match value {
+        Expr::Dictionary(list) => Some(list.items.get()),
         _ => None,
     }
 }
@@ -168,6 +181,8 @@ pub(crate) enum Test<'c> {
     Says(ElementKind, &'c Text),
     /// An entry of the option.
     IsEntry(&'c Text),
+    /// An entry of a dictionary with this key.
+    HasKey(&'c Text),
 }
 
 /// Whether an element passes.
@@ -179,9 +194,14 @@ fn passes(alloc: Global, source: &[u8], test: Test<'_>, element: &Arg) -> Result
         Arg::Plain(value) => match test {
             Test::Says(kind, text) => says(alloc, source, kind, text, value),
             Test::IsEntry(name) => is_entry(alloc, source, name, value),
+            Test::HasKey(_) => Ok(false),
         },
         Arg::Named { .. } => Ok(false),
-        Arg::Pair { .. } => Ok(false),
+        Arg::Pair { key, .. } => match test {
+            Test::Says(_, _) => Ok(false),
+            Test::IsEntry(_) => Ok(false),
+            Test::HasKey(name) => says(alloc, source, ElementKind::Text, name, key.get()),
+        },
     }
 }
 
@@ -223,6 +243,25 @@ pub(crate) fn all_known(
             }
             Arg::Named { .. } => return Ok(false),
             Arg::Pair { .. } => return Ok(false),
+        }
+    }
+    Ok(true)
+}
+
+/// Whether all elements are entries of a dictionary whose keys are literals.
+pub(crate) fn keys_known(alloc: Global, source: &[u8], elements: &[Arg]) -> Result<bool, AllocError>
+    requires { GoodArgs source.now elements.now }
+    ensures { IfOk result (λ b. b ≡ keys_known (args_view source.now elements.now)) }
+{
+    for i in 0..elements.len() {
+        match &elements[i] {
+            Arg::Pair { key, .. } => {
+                if !is_element(alloc, source, ElementKind::Text, key.get())? {
+                    return Ok(false);
+                }
+            }
+            Arg::Plain(_) => return Ok(false),
+            Arg::Named { .. } => return Ok(false),
         }
     }
     Ok(true)

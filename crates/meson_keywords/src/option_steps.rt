@@ -7,16 +7,17 @@ ghost use Rattle.meson_calls.specs.Calls.{literal};
 ghost use Rattle.meson_calls.specs.GoodLists.{GoodArgs};
 ghost use Rattle.meson_keywords.specs.KeywordEdits.{all_known, passing, shape};
 ghost use Rattle.meson_steps.specs.ListSteps.{bare};
-ghost use Rattle.meson_keywords.specs.Options.{delete_by_shape, delete_option_steps, is_entry, is_entry_element, option_text, options_key, set_by_shape, set_in_list, set_in_lone, set_option_steps};
+ghost use Rattle.meson_keywords.specs.Options.{delete_by_shape, delete_by_value, delete_option_steps, entries, has_key, is_entry, is_entry_element, keys_known, option_text, options_key, set_by_shape, set_by_value, set_in_dictionary, set_in_list, set_in_lone, set_option_steps};
 ghost use Rattle.meson_calls.specs.Strings.{AreGood};
 ghost use Rattle.meson_steps.specs.Meanings.{AreBehind, AreMeant};
 
 use crate::elements::{
-    Found, Subject, Test, all_known, array_in, is_element, is_entry, passing, the_value,
+    Found, Subject, Test, all_known, array_in, entries_in, is_element, is_entry, keys_known,
+    passing, the_value,
 };
 use crate::keys::ElementKind;
 use crate::keyword_steps::{not_literal, push_edit, put_behind, remove_all};
-use crate::writing::{written_element, written_list, written_named};
+use crate::writing::{written_element, written_list, written_literal, written_named, written_pair};
 use meson_calls::place::value_place;
 use meson_calls::{CallRef, Refusal};
 use meson_splice::Text;
@@ -104,7 +105,49 @@ fn only_literals(alloc: Global, source: &[u8], elements: &[Arg]) -> Result<(), R
     Ok(())
 }
 
-/// Sets an option in the value of `default_options:`.
+/// The value of the first entry of the option in a dictionary becomes the new one and later entries go; without one a new one goes behind all others.
+fn set_in_dictionary(
+    alloc: Global,
+    source: &[u8],
+    list: &CallRef,
+    pairs: &[Arg],
+    name: &Text,
+    value: &str,
+    steps: &mut Vec<ListStep>,
+) -> Result<(), Refusal>
+    requires { GoodArgs source.now pairs.now }
+    ensures done { OnOk result (map Some steps.new.items ≡ map Some steps.old.items ++ map bare (set_in_dictionary list.now (length pairs.now) name.now value.now (passing (has_key name.now) 0 (args_view source.now pairs.now)))) }
+    ensures refused { IfErr result (λ e. e ≡ Refusal.OutOfMemory) }
+{
+    let same = passing(alloc, source, Test::HasKey(name), pairs)?;
+    let same = same.as_slice();
+    if same.is_empty() {
+        let new = written_pair(alloc, name, value)?;
+        put_behind(alloc, list, pairs.len(), new, steps)?;
+        return Ok(());
+    }
+    let new = written_literal(alloc, value)?;
+    push_edit(alloc, list, ListEdit::Replace(same[0], new), steps)?;
+    remove_all(alloc, list, &same[1..], steps)?;
+    Ok(())
+}
+
+/// Refuses a dictionary with a key that is no literal.
+///
+/// # Errors
+/// It has one, or memory is refused.
+fn only_literal_keys(alloc: Global, source: &[u8], pairs: &[Arg]) -> Result<(), Refusal>
+    requires { GoodArgs source.now pairs.now }
+    ensures all { OnOk result (keys_known (args_view source.now pairs.now) ≡ true) }
+    ensures refused { IfErr result (λ e. e ≢ Refusal.OutOfMemory → (e ≡ Refusal.NotLiteral options_key) × (keys_known (args_view source.now pairs.now) ≡ false)) }
+{
+    if !keys_known(alloc, source, pairs)? {
+        return Err(not_literal(alloc, OPTIONS.as_bytes()));
+    }
+    Ok(())
+}
+
+/// Sets an option in the value of `default_options:`, which is no dictionary.
 ///
 /// # Errors
 /// It is neither a literal nor a list of literals, or memory is refused.
@@ -139,6 +182,38 @@ fn set_in_value(
     }
 }
 
+/// Sets an option in the value of `default_options:`.
+///
+/// # Errors
+/// It is neither a literal, nor a list of literals, nor a dictionary with literals as its keys, or memory is refused.
+fn set_by_value(
+    alloc: Global,
+    subject: Subject<'_>,
+    found: Found<'_>,
+    name: &Text,
+    value: &str,
+    steps: &mut Vec<ListStep>,
+) -> Result<(), Refusal>
+    requires { AreGood (expression_words (expr_view subject.source.now found.value.now)) }
+    ensures done { OnOk result (AreBehind (set_by_value subject.entry.call.now found.entry.number name.now value.now (expr_view subject.entry.source.now found.entry.value.now) (entries (expr_view subject.entry.source.now found.entry.value.now))) steps.old.items steps.new.items) }
+    ensures refused { IfErr result (λ e. e ≢ Refusal.OutOfMemory → set_by_value subject.entry.call.now found.entry.number name.now value.now (expr_view subject.entry.source.now found.entry.value.now) (entries (expr_view subject.entry.source.now found.entry.value.now)) ≡ Err e) }
+{
+    match entries_in(found.value) {
+        Some(pairs) => {
+            match only_literal_keys(alloc, subject.source, pairs) {
+                Ok(()) => {}
+                Err(refusal) => return Err(refusal),
+            }
+            let list = value_place(alloc, subject.call, found.number)?;
+            set_in_dictionary(alloc, subject.source, &list, pairs, name, value, steps)
+        }
+        None => {
+            let entry = option_text(alloc, name, value)?;
+            set_in_value(alloc, subject, found, name, &entry, steps)
+        }
+    }
+}
+
 /// The steps by which a default option is set.
 ///
 /// # Errors
@@ -153,18 +228,18 @@ pub(crate) fn set_option_steps(
     ensures meant { IfOk result (λ steps. AreMeant (set_option_steps subject.entry.call.now (args_view subject.entry.source.now subject.entry.args.now) name.now value.now) steps.items) }
     ensures refused { IfErr result (λ e. e ≢ Refusal.OutOfMemory → set_option_steps subject.entry.call.now (args_view subject.entry.source.now subject.entry.args.now) name.now value.now ≡ Err e) }
 {
-    let entry = option_text(alloc, name, value)?;
     let found = match the_value(alloc, subject, OPTIONS.as_bytes()) {
         Ok(found) => found,
         Err(refusal) => return Err(refusal),
     };
     let mut steps = Vec::new(alloc);
     match found {
-        Some(found) => match set_in_value(alloc, subject, found, name, &entry, &mut steps) {
+        Some(found) => match set_by_value(alloc, subject, found, name, value, &mut steps) {
             Ok(()) => {}
             Err(refusal) => return Err(refusal),
         },
         None => {
+            let entry = option_text(alloc, name, value)?;
             let list = written_list(alloc, ElementKind::Text, &[&entry])?;
             let new = written_named(alloc, OPTIONS.as_bytes(), &list)?;
             put_behind(alloc, subject.call, subject.args.len(), new, &mut steps)?;
@@ -173,7 +248,7 @@ pub(crate) fn set_option_steps(
     Ok(steps)
 }
 
-/// Deletes an option from the value of `default_options:`.
+/// Deletes an option from the value of `default_options:`, which is no dictionary.
 ///
 /// # Errors
 /// It is neither a literal nor a list of literals, or memory is refused.
@@ -212,6 +287,36 @@ fn delete_in_value(
     Ok(())
 }
 
+/// Deletes an option from the value of `default_options:`.
+///
+/// # Errors
+/// It is neither a literal, nor a list of literals, nor a dictionary with literals as its keys, or memory is refused.
+fn delete_by_value(
+    alloc: Global,
+    subject: Subject<'_>,
+    found: Found<'_>,
+    name: &Text,
+    steps: &mut Vec<ListStep>,
+) -> Result<(), Refusal>
+    requires { AreGood (expression_words (expr_view subject.source.now found.value.now)) }
+    ensures done { OnOk result (AreBehind (delete_by_value subject.entry.call.now found.entry.number name.now (expr_view subject.entry.source.now found.entry.value.now) (entries (expr_view subject.entry.source.now found.entry.value.now))) steps.old.items steps.new.items) }
+    ensures refused { IfErr result (λ e. e ≢ Refusal.OutOfMemory → delete_by_value subject.entry.call.now found.entry.number name.now (expr_view subject.entry.source.now found.entry.value.now) (entries (expr_view subject.entry.source.now found.entry.value.now)) ≡ Err e) }
+{
+    match entries_in(found.value) {
+        Some(pairs) => {
+            match only_literal_keys(alloc, subject.source, pairs) {
+                Ok(()) => {}
+                Err(refusal) => return Err(refusal),
+            }
+            let gone = passing(alloc, subject.source, Test::HasKey(name), pairs)?;
+            let list = value_place(alloc, subject.call, found.number)?;
+            remove_all(alloc, &list, gone.as_slice(), steps)?;
+            Ok(())
+        }
+        None => delete_in_value(alloc, subject, found, name, steps),
+    }
+}
+
 /// The steps by which a default option is deleted.
 ///
 /// # Errors
@@ -231,7 +336,7 @@ pub(crate) fn delete_option_steps(
     };
     let mut steps = Vec::new(alloc);
     if let Some(found) = found {
-        match delete_in_value(alloc, subject, found, name, &mut steps) {
+        match delete_by_value(alloc, subject, found, name, &mut steps) {
             Ok(()) => {}
             Err(refusal) => return Err(refusal),
         }

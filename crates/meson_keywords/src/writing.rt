@@ -2,6 +2,7 @@
 
 ghost use Rattle.std.specs.Prelude.{◌≡◌, ◌≢◌, ◌++◌, ◌∷◌, [], All, Err, IfErr, IfOk, Ok, OnOk, codes, map, option_map};
 ghost use Rattle.std.specs.Str.{IsUtf8};
+ghost use Rattle.meson_lex.specs.Literals.{literal};
 ghost use Rattle.meson_keywords.specs.Keys.{element_bytes, list_values, texts_of, truth, truth_of, written_value};
 ghost use Rattle.meson_steps.specs.WrittenValues.{IsSet};
 ghost use Rattle.meson_steps.specs.WrittenTexts.{comma_between};
@@ -80,6 +81,28 @@ pub(crate) fn written_named(alloc: Global, key: &[u8], value: &Bytes) -> Result<
     out.extend_from_slice(key)?;
     out.extend_from_slice(b": ")?;
     out.extend_from_slice(value.get())?;
+    Ok(Bytes::of(out))
+}
+
+/// `'TEXT'`.
+pub(crate) fn written_literal(alloc: Global, text: &str) -> Result<Bytes, Refusal>
+    ensures done { IfOk result (λ b. b ≡ literal text.now) }
+    ensures refused { IfErr result (λ e. e ≡ Refusal.OutOfMemory) }
+{
+    let mut out = Vec::new(alloc);
+    push_literal(alloc, &mut out, text)?;
+    Ok(Bytes::of(out))
+}
+
+/// `'NAME': 'VALUE'`.
+pub(crate) fn written_pair(alloc: Global, name: &Text, value: &str) -> Result<Bytes, Refusal>
+    ensures done { IfOk result (λ b. b ≡ literal name.now ++ (codes ": " ++ literal value.now)) }
+    ensures refused { IfErr result (λ e. e ≡ Refusal.OutOfMemory) }
+{
+    let mut out = Vec::new(alloc);
+    push_literal(alloc, &mut out, name.get())?;
+    out.extend_from_slice(b": ")?;
+    push_literal(alloc, &mut out, value)?;
     Ok(Bytes::of(out))
 }
 

@@ -1,19 +1,17 @@
 use Rattle.std.proofs.Common.{[], refl, sym, ap, ◌∙◌, subst}
 use Rattle.std.specs.Prelude.{Ok}
 use Rattle.meson_syntax.specs.View.{expr_view}
-use Rattle.meson_calls.specs.Calls.{literal}
-use Rattle.meson_keywords.specs.KeywordEdits.{shape}
-use Rattle.meson_keywords.specs.Options.{delete_by_shape, delete_option_there, options_key}
+use Rattle.meson_keywords.specs.Options.{delete_by_value, delete_option_there, entries, options_key}
 use Rattle.meson_steps.specs.Meanings.{AreBehind}
 use Rattle.meson_keywords.proofs.StepsBehind.{all_meant, behind_is, by_none, by_some, none_more}
 use Rattle.meson_keywords.proofs.option_steps.delete_option_steps.Goals as goal
-use Rattle.meson_keywords.proofs.option_steps.delete_option_steps.Goals.{in-Some+in-Ok-delete_in_value, in_default}
+use Rattle.meson_keywords.proofs.option_steps.delete_option_steps.Goals.{in-Some+in-Ok-delete_by_value, in_default}
 
-pub returns-in-Err-delete_in_value-clause-refused : goal.returns-in-Err-delete_in_value-clause-refused
-returns-in-Err-delete_in_value-clause-refused c = λ other.
+pub returns-in-Err-delete_by_value-clause-refused : goal.returns-in-Err-delete_by_value-clause-refused
+returns-in-Err-delete_by_value-clause-refused c = λ other.
     let s = c.args.subject in
     by_some (delete_option_there s.call.now c.args.name.now) options_key c.as_bytes.result.now s.source.now c.as_bytes.ensures.value s.args.now c.in-Ok.found c.in-Ok.ensures.found c.in-Some.found c.in-Some.is
-    ∙ c.in-Err-delete_in_value.ensures.refused other
+    ∙ c.in-Err-delete_by_value.ensures.refused other
 
 pub returns-clause-meant : goal.returns-clause-meant
 returns-clause-meant c =
@@ -22,13 +20,13 @@ returns-clause-meant c =
     let start = c.new-steps.result.items in
     let after = c.match-found.steps.items in
     elim c.match-found.branch [
-      | in-Some+in-Ok-delete_in_value w ↦
+      | in-Some+in-Ok-delete_by_value w ↦
           (let v = expr_view s.source.now w.in-Some.found.value.now in
-          let meant = delete_by_shape s.call.now w.in-Some.found.number c.args.name.now (literal v) (shape v) in
+          let meant = delete_by_value s.call.now w.in-Some.found.number c.args.name.now v (entries v) in
           all_meant _ meant start after
           (by_some f options_key c.as_bytes.result.now s.source.now c.as_bytes.ensures.value s.args.now c.in-Ok.found c.in-Ok.ensures.found w.in-Some.found w.in-Some.is)
           c.new-steps.ensures.items
-          (subst (λ x. AreBehind meant start x.items) (sym w.steps-is) w.in-Ok-delete_in_value.ensures.done))
+          (subst (λ x. AreBehind meant start x.items) (sym w.steps-is) w.in-Ok-delete_by_value.ensures.done))
       | in_default w ↦
           all_meant _ (Ok []) start after
           (by_none f options_key c.as_bytes.result.now s.source.now c.as_bytes.ensures.value s.args.now c.in-Ok.found c.in-Ok.ensures.found w.in_default.is)

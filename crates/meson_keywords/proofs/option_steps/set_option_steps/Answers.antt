@@ -6,52 +6,48 @@ use Rattle.meson_syntax.specs.Tree.{Argument, Nowhere}
 use Rattle.meson_syntax.specs.View.{arg_view, args_view, expr_view}
 use Rattle.meson_edit.specs.Edits.{Written}
 use Rattle.meson_keywords.specs.declared.keys.ElementKind.TheVariants as element
-use Rattle.meson_calls.specs.Calls.{literal}
 use Rattle.meson_keywords.specs.Keys.{written_list, written_named}
-use Rattle.meson_keywords.specs.KeywordEdits.{behind_all, shape, the_value}
-use Rattle.meson_keywords.specs.Options.{option_text, options_key, set_by_shape, set_option_there}
+use Rattle.meson_keywords.specs.KeywordEdits.{behind_all, the_value}
+use Rattle.meson_keywords.specs.Options.{entries, option_text, options_key, set_by_value, set_option_there}
 use Rattle.meson_steps.specs.Meanings.{AreBehind}
 use Rattle.meson_keywords.proofs.StepsBehind.{all_meant, behind_is, by_none, by_some}
 use Rattle.meson_keywords.proofs.option_steps.set_option_steps.Goals as goal
-use Rattle.meson_keywords.proofs.option_steps.set_option_steps.Goals.{in-Some+in-Ok-set_in_value, in-None+in_ok-list-in-None+in_ok-new-in-None+in_ok-put_behind-in-None}
+use Rattle.meson_keywords.proofs.option_steps.set_option_steps.Goals.{in-Some+in-Ok-set_by_value, in-None+in_ok-entry-in-None+in_ok-list-in-None+in_ok-new-in-None+in_ok-put_behind-in-None}
 
 pub returns-in-Err-clause-refused : goal.returns-in-Err-clause-refused
 returns-in-Err-clause-refused c = λ other.
     let s = c.args.subject in
     let xs = args_view s.source.now s.args.now in
-    ap (λ r. then_ok r (set_option_there s.call.now (length xs) c.args.name.now (option_text c.args.name.now c.args.value.now)))
+    ap (λ r. then_ok r (set_option_there s.call.now (length xs) c.args.name.now c.args.value.now))
     (ap (λ key. the_value key xs) (sym c.as_bytes.ensures.value) ∙ c.in-Err.ensures.refused other)
 
-pub returns-in-Err-set_in_value-clause-refused : goal.returns-in-Err-set_in_value-clause-refused
-returns-in-Err-set_in_value-clause-refused c = λ other.
+pub returns-in-Err-set_by_value-clause-refused : goal.returns-in-Err-set_by_value-clause-refused
+returns-in-Err-set_by_value-clause-refused c = λ other.
     let s = c.args.subject in
-    let v = expr_view s.source.now c.in-Some.found.value.now in
-    by_some (set_option_there s.call.now (length (args_view s.source.now s.args.now)) c.args.name.now (option_text c.args.name.now c.args.value.now)) options_key c.as_bytes.result.now s.source.now c.as_bytes.ensures.value s.args.now
+    by_some (set_option_there s.call.now (length (args_view s.source.now s.args.now)) c.args.name.now c.args.value.now) options_key c.as_bytes.result.now s.source.now c.as_bytes.ensures.value s.args.now
     c.in-Ok.found c.in-Ok.ensures.found c.in-Some.found c.in-Some.is
-    ∙ ap (λ entry. set_by_shape s.call.now c.in-Some.found.number c.args.name.now entry (literal v) (shape v)) (sym c.in_ok-entry.ensures)
-    ∙ c.in-Err-set_in_value.ensures.refused other
+    ∙ c.in-Err-set_by_value.ensures.refused other
 
 pub returns-clause-meant : goal.returns-clause-meant
 returns-clause-meant c =
     let s = c.args.subject in
     let name = c.args.name.now in
     let entry = option_text name c.args.value.now in
-    let f = set_option_there s.call.now (length (args_view s.source.now s.args.now)) name entry in
+    let f = set_option_there s.call.now (length (args_view s.source.now s.args.now)) name c.args.value.now in
     let start = c.new-steps.result.items in
     let after = c.match-found.steps.items in
     elim c.match-found.branch [
-      | in-Some+in-Ok-set_in_value w ↦
+      | in-Some+in-Ok-set_by_value w ↦
           (let v = expr_view s.source.now w.in-Some.found.value.now in
-          let meant = set_by_shape s.call.now w.in-Some.found.number name c.in_ok-entry.entry (literal v) (shape v) in
+          let meant = set_by_value s.call.now w.in-Some.found.number name c.args.value.now v (entries v) in
           all_meant _ meant start after
-          (by_some f options_key c.as_bytes.result.now s.source.now c.as_bytes.ensures.value s.args.now c.in-Ok.found c.in-Ok.ensures.found w.in-Some.found w.in-Some.is
-          ∙ ap (λ x. set_by_shape s.call.now w.in-Some.found.number name x (literal v) (shape v)) (sym c.in_ok-entry.ensures))
+          (by_some f options_key c.as_bytes.result.now s.source.now c.as_bytes.ensures.value s.args.now c.in-Ok.found c.in-Ok.ensures.found w.in-Some.found w.in-Some.is)
           c.new-steps.ensures.items
-          (subst (λ x. AreBehind meant start x.items) (sym w.steps-is) w.in-Ok-set_in_value.ensures.done))
-      | in-None+in_ok-list-in-None+in_ok-new-in-None+in_ok-put_behind-in-None w ↦
+          (subst (λ x. AreBehind meant start x.items) (sym w.steps-is) w.in-Ok-set_by_value.ensures.done))
+      | in-None+in_ok-entry-in-None+in_ok-list-in-None+in_ok-new-in-None+in_ok-put_behind-in-None w ↦
           (let new : Written (Argument Nowhere) = written_named options_key (written_list element.Text (entry ∷ [])) in
           let bytes =
-          w.in_ok-new-in-None.ensures ∙ ap₂ (λ key l. key ++ (codes ": " ++ l)) w.as_bytes-in-None.ensures.value (w.in_ok-list-in-None.ensures.done ∙ ap (λ x. (written_list element.Text (x ∷ [])).bytes) c.in_ok-entry.ensures) in
+          w.in_ok-new-in-None.ensures ∙ ap₂ (λ key l. key ++ (codes ": " ++ l)) w.as_bytes-in-None.ensures.value (w.in_ok-list-in-None.ensures.done ∙ ap (λ x. (written_list element.Text (x ∷ [])).bytes) w.in_ok-entry-in-None.ensures) in
           let steps = behind_all s.call.now (length s.args.now) new ∷ [] in
           all_meant _ (Ok steps) start after
           (by_none f options_key c.as_bytes.result.now s.source.now c.as_bytes.ensures.value s.args.now c.in-Ok.found c.in-Ok.ensures.found w.in-None.is

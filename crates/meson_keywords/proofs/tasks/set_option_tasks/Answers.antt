@@ -1,7 +1,7 @@
 -- Each option and its value become one task.
 use Rattle.std.proofs.Common.{◌+◌, drop, sym, ap, ◌∙◌, subst}
 use Rattle.std.specs.Str.{IsUtf8}
-use Rattle.meson_keywords.proofs.TasksSoFar.{none_so_far, one_is, one_made, option_may, set_option_made}
+use Rattle.meson_keywords.proofs.TasksSoFar.{none_so_far, one_is, one_made, set_option_made}
 use Rattle.meson_keywords.specs.Tasks.{each_made, set_option, set_option_entry}
 use Rattle.meson_keywords.specs.Tasking.{TasksSoFar}
 use Rattle.meson_keywords.proofs.tasks.set_option_tasks.Goals as goal
@@ -15,4 +15,4 @@ loop-i-preserved c =
     let pair = c.index-pairs-i.result in
     let here = set_option_made c.index-pairs-i.result (sym c.checked_option.ensures.checked ∙ c.in-Ok.is) in
     subst (TasksSoFar whole (each_made set_option_entry (drop (c.loop-i.i + 1) c.args.pairs.now))) (sym c.in_ok-push_task.ensures)
-    (one_made set_option_entry c.args.pairs.now whole c.loop-i.tasks.items c.loop-i.i c.loop-i.invariant c.index-pairs-i.result c.loop-i-test.true _ _ (ap set_option_entry (sym c.index-pairs-i.is) ∙ here) (one_is _ _ (ap (set_option pair.0) (sym c.get.ensures)) (option_may pair.0 pair.1 c.checked_option.ensures.utf8 (subst IsUtf8 c.get.ensures c.get.utf8))))
+    (one_made set_option_entry c.args.pairs.now whole c.loop-i.tasks.items c.loop-i.i c.loop-i.invariant c.index-pairs-i.result c.loop-i-test.true _ _ (ap set_option_entry (sym c.index-pairs-i.is) ∙ here) (one_is _ _ (ap (set_option pair.0) (sym c.get.ensures)) (c.checked_option.ensures.utf8, subst IsUtf8 c.get.ensures c.get.utf8)))

@@ -1,0 +1,52 @@
+use Rattle.std.proofs.Common.{sym, ap, ap₂, ◌∙◌, subst}
+use Rattle.std.specs.Prelude.{Err, IfErr, Ok, OnOk, ◌≢◌, ◌≡◌}
+use Rattle.meson_syntax.specs.View.{args_view, expr_view}
+use Rattle.meson_calls.specs.declared.refusal.Refusal.TheVariants.{OutOfMemory}
+use Rattle.meson_calls.specs.Project.{child}
+use Rattle.meson_steps.specs.Meanings.{AreBehind}
+use Rattle.meson_keywords.specs.KeywordEdits.{passing, removed_from}
+use Rattle.meson_keywords.specs.Options.{delete_by_value, has_key, keys_known}
+use Rattle.meson_keywords.proofs.StepsBehind.{behind_is, list_refused, list_taken}
+use Rattle.meson_keywords.proofs.option_steps.delete_by_value.Goals as goal
+
+pub only_literal_keys-requires : goal.only_literal_keys-requires
+only_literal_keys-requires c = c.in-Some.ensures.good c.args.subject.source.now c.requires
+
+pub passing-requires : goal.passing-requires
+passing-requires c = c.in-Some.ensures.good c.args.subject.source.now c.requires
+
+pub returns-in-Err-clause-refused : goal.returns-in-Err-clause-refused
+returns-in-Err-clause-refused c = λ other.
+    let source = c.args.subject.source.now in
+    let call = c.args.subject.call.now in
+    let n = c.args.found.number in
+    let xs = args_view source c.in-Some.pairs.now in
+    let why = c.in-Err.ensures.refused other in
+    ap (delete_by_value call n c.args.name.now (expr_view source c.args.found.value.now)) (c.in-Some.ensures.entries source)
+    ∙ list_refused (keys_known xs) (removed_from (child call n) 0 (passing (has_key c.args.name.now) 0 xs)) why.1
+    ∙ ap Err (sym why.0)
+
+pub returns-in_ok-remove_all-in-Some-clause-done : goal.returns-in_ok-remove_all-in-Some-clause-done
+returns-in_ok-remove_all-in-Some-clause-done c =
+    let source = c.args.subject.source.now in
+    let call = c.args.subject.call.now in
+    let n = c.args.found.number in
+    let name = c.args.name.now in
+    let xs = args_view source c.in-Some.pairs.now in
+    behind_is _ (removed_from c.in_ok-list-in-Some.list 0 c.as_slice.result.now) c.args.steps.now.items c.remove_all.new.steps.items
+    (ap (delete_by_value call n name (expr_view source c.args.found.value.now)) (c.in-Some.ensures.entries source)
+    ∙ list_taken (keys_known xs) (removed_from (child call n) 0 (passing (has_key name) 0 xs)) c.in-Ok.ensures.all
+    ∙ ap₂ (λ p ns. Ok (removed_from p 0 ns)) (sym c.in_ok-list-in-Some.ensures) (sym (c.as_slice.ensures.value ∙ c.in_ok-gone-in-Some.ensures)))
+    c.in_ok-remove_all-in-Some.ensures
+
+pub returns-in-None-clause-done : goal.returns-in-None-clause-done
+returns-in-None-clause-done c =
+    let v = expr_view c.args.subject.source.now c.args.found.value.now in
+    let is = ap (delete_by_value c.args.subject.call.now c.args.found.number c.args.name.now v) (sym (c.in-None.ensures.entries c.args.subject.source.now)) in
+    subst (λ m. OnOk c.delete_in_value.result (AreBehind m c.args.steps.now.items c.delete_in_value.new.steps.items)) is c.delete_in_value.ensures.done
+
+pub returns-in-None-clause-refused : goal.returns-in-None-clause-refused
+returns-in-None-clause-refused c =
+    let v = expr_view c.args.subject.source.now c.args.found.value.now in
+    let is = ap (delete_by_value c.args.subject.call.now c.args.found.number c.args.name.now v) (sym (c.in-None.ensures.entries c.args.subject.source.now)) in
+    subst (λ m. IfErr c.delete_in_value.result (λ e. e ≢ OutOfMemory → m ≡ Err e)) is c.delete_in_value.ensures.refused
