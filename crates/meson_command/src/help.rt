@@ -88,7 +88,8 @@ Operations:
   set     give each option its value
   delete  remove each option, whatever value is given
 
-No option may be given twice.
+The options may stand in one text, in an array of texts, or in a dictionary
+whose keys are texts. No option may be given twice.
 
 Examples:
   meson_rewrite default-options set c_std c17 werror true
