@@ -6,3 +6,4 @@ pub mod Sequences
 pub mod Depths
 pub mod Kept
 pub mod PutBack
+pub mod ExchangedTrees

@@ -1,5 +1,6 @@
 //! Laws of edits. The functions do nothing: what they ensure is the law.
 
+ghost use Rattle.meson_edit.specs.ExchangedTrees.{OldListsLook, TreesExchange, TreesExchangeBack};
 ghost use Rattle.meson_edit.specs.Kept.{EditsKeep};
 ghost use Rattle.meson_edit.specs.Laws.{AppendedSpell, FirstsSpell, InsertionsSpell, ListEditsWrite, RemovalsSpell, ReplacementsSpell, StatementRemovalsSpell, WrapsSpell, WrittenListsRead};
 ghost use Rattle.meson_edit.specs.PutBack.{ListsPutBack};
@@ -50,4 +51,11 @@ pub fn sequences()
 /// A list that was exchanged for another one and is put back from its old bytes leaves the tree as it was, to the last border.
 pub fn put_back()
     ensures lists { ListsPutBack }
+{}
+
+/// A tree of the code whose list is exchanged stands in the new text, and exchanged back it is the old value.
+pub fn exchanged_trees()
+    ensures exchange { TreesExchange }
+    ensures old { OldListsLook }
+    ensures back { TreesExchangeBack }
 {}

@@ -8,7 +8,6 @@ pub mod Each
 pub mod OneSpanned
 pub mod Swap
 pub mod Moved
-pub mod Codes
 pub mod Told
 pub mod ToldFiles
 pub mod Texts

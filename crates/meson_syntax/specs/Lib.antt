@@ -37,4 +37,7 @@ pub mod Borders
 pub mod KeptLists
 pub mod Kept
 pub mod Putting
+pub mod Codes
+pub mod ListPut
+pub mod PutLists
 pub mod formers

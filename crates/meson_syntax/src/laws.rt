@@ -9,6 +9,7 @@ ghost use Rattle.meson_syntax.specs.Lines.{AppendedWords, CutsAreUtf8, FilesEnd,
 ghost use Rattle.meson_syntax.specs.MappedPaths.{ListsMap, NodesMap};
 ghost use Rattle.meson_syntax.specs.ExchangedTokens.{TokensMove};
 ghost use Rattle.meson_syntax.specs.Laws.{BlocksErase, HasSpans, HolesFit, ListsErase, ListsFit, ListsStand, NodesErase, NodesStand, OneSpannedList, OneSpannedTree, OneSpannedTreeWithin, OneTree};
+ghost use Rattle.meson_syntax.specs.PutLists.{ElementsStay, FoundListsLook, PutListsLook};
 ghost use Rattle.meson_syntax.specs.Swap.{ListsSwap};
 
 /// A text reads as at most one tree, whose nodes stand in it in one way, whatever the limits; and so does a text that is one list.
@@ -131,4 +132,15 @@ pub fn kept()
     ensures lists_kept { ListsKept }
     ensures lists_put_erase { ListsPutErase }
     ensures lists_alone { ListsAlone }
+{}
+
+/// What a tree of the code looks like once a list is put in it, and what the list that stood there looks like.
+pub fn putting()
+    ensures put_lists_look { PutListsLook }
+    ensures found_lists_look { FoundListsLook }
+{}
+
+/// Where the borders from a list's end on move, its elements stay where they are.
+pub fn elements()
+    ensures elements_stay { ElementsStay }
 {}

@@ -16,7 +16,7 @@ use Rattle.meson_syntax.specs.Reads.{max_depth}
 use Rattle.meson_syntax.specs.ReadsList.{list_items}
 use Rattle.meson_syntax.specs.View.{list_view, view}
 use Rattle.meson_syntax.specs.Borders.{TreesEnd, ListsEnd}
-use Rattle.meson_syntax.proofs.kept.Codes.{places, code_expression, code_statement, code_branches, code_statements, code_block, code_file}
+use Rattle.meson_syntax.specs.Codes.{places, code_expression, code_statement, code_branches, code_statements, code_block, code_file}
 use Rattle.meson_syntax.proofs.kept.Told.{list_told}
 use Rattle.meson_syntax.proofs.kept.ToldFiles.{file_told}
 use Rattle.meson_syntax.proofs.borders.Tokens.{Within, covers-within, parts-within, spots-within, located-within}

@@ -11,7 +11,7 @@ use Rattle.meson_syntax.specs.Tree.{Expression, identifier, boolean, integer, st
 use Rattle.meson_syntax.specs.Grammar.{row_level}
 use Rattle.meson_syntax.specs.Spelling.{SpellsExpression, SpellsOperands, SpellsTail, SpellsTails, SpellsListing, SpellsArguments, SpellsArgument}
 use Rattle.meson_syntax.specs.Furthest.{furthest_expr, furthest_operands, furthest_tail, furthest_tails, furthest_list, furthest_arg, furthest_args}
-use Rattle.meson_syntax.proofs.kept.Codes.{code_expression, code_operands, code_tail, code_tails, code_listing, code_argument, code_arguments}
+use Rattle.meson_syntax.specs.Codes.{code_expression, code_operands, code_tail, code_tails, code_listing, code_argument, code_arguments}
 use Rattle.meson_syntax.proofs.borders.Tokens.{Within, covers-within, parts-within}
 
 -- what is at most n is so under another name

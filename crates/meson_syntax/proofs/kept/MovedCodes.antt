@@ -20,7 +20,7 @@ use Rattle.meson_syntax.specs.declared.tree.Block as rust_block
 use Rattle.meson_syntax.specs.Tree.{Name, Expression, identifier, boolean, integer, string, paren, array, dictionary, call, unary, row, postfix, conditional, Operands, no_operands, operand, Tail, method, index, Tails, no_tails, tail, Listing, listing, Argument, plain, named, pair, Arguments, no_arguments, argument, Statement, evaluate, assign, selection, iteration, breaks, continues, Branches, no_branches, branch, nothing_else, otherwise, Statements, no_statements, statement, Block, block, File, file}
 use Rattle.meson_syntax.specs.Moves.{each_name, each_expression, each_operands, each_tail, each_tails, each_listing, each_argument, each_arguments, each_statement, each_branches, each_statements, each_block, each_file, span_by}
 use Rattle.meson_syntax.specs.MovedCode.{moved_expr, moved_operand, moved_tail, moved_list, moved_arg, moved_stmt, moved_branch, moved_block, moved_parsed}
-use Rattle.meson_syntax.proofs.kept.Codes.{places, code_expression, code_operands, code_tail, code_tails, code_listing, code_argument, code_arguments, code_statement, code_branches, code_statements, code_block, code_file}
+use Rattle.meson_syntax.specs.Codes.{places, code_expression, code_operands, code_tail, code_tails, code_listing, code_argument, code_arguments, code_statement, code_branches, code_statements, code_block, code_file}
 
 -- structs by their parts
 abbrev with_operator : Operator → Expr → Operand

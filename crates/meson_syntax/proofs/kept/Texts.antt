@@ -9,7 +9,7 @@ use Rattle.meson_syntax.specs.declared.tree.Stmt.TheFolds.{fold-roll-Stmt, fold-
 use Rattle.meson_syntax.specs.Tree.{Name, Expression, identifier, boolean, integer, string, paren, array, dictionary, call, unary, row, postfix, conditional, Operands, no_operands, operand, operands_of, Tail, method, index, Tails, no_tails, tail, tails_of, Listing, listing, Argument, plain, named, pair, Arguments, no_arguments, argument, arguments_of, Statement, evaluate, assign, selection, iteration, breaks, continues, Branches, no_branches, branch, branches_of, nothing_else, otherwise, Statements, no_statements, statement, statements_of, Block, block, File, file}
 use Rattle.meson_syntax.specs.View.{expr_view, operand_view, tail_view, list_view, arg_view, stmt_view, branch_view, block_view, view, names_at}
 use Rattle.meson_syntax.specs.Texts.{texts_of_name, texts_of_expression, texts_of_operands, texts_of_tail, texts_of_tails, texts_of_listing, texts_of_argument, texts_of_arguments, texts_of_statement, texts_of_branches, texts_of_statements, texts_of_block, texts_of}
-use Rattle.meson_syntax.proofs.kept.Codes.{places, code_expression, code_operands, code_tail, code_tails, code_listing, code_argument, code_arguments, code_statement, code_branches, code_otherwise, code_statements, code_block, code_file}
+use Rattle.meson_syntax.specs.Codes.{places, code_expression, code_operands, code_tail, code_tails, code_listing, code_argument, code_arguments, code_statement, code_branches, code_otherwise, code_statements, code_block, code_file}
 
 module _ (source : List ℕ) where
   mutual

@@ -12,7 +12,7 @@ use Rattle.meson_syntax.specs.declared.tree.List as rust
 use Rattle.meson_syntax.specs.declared.tree.Operand.{Operand}
 use Rattle.meson_syntax.specs.Tree.{Expression, arguments_of, operands_of, tails_of}
 use Rattle.meson_syntax.specs.View.{expr_view, arg_view, tail_view, list_view, operand_view}
-use Rattle.meson_syntax.proofs.kept.Codes.{code_expression, code_operands, code_tail, code_tails, code_listing, code_argument, code_arguments}
+use Rattle.meson_syntax.specs.Codes.{code_expression, code_operands, code_tail, code_tails, code_listing, code_argument, code_arguments}
 
 -- a value without what is told of it
 abbrev pub value : {X : Type 0} {P : X → Type 0} → (x : X) × P x → X

@@ -11,7 +11,7 @@ use Rattle.meson_syntax.specs.declared.tree.Parsed.{Parsed}
 use Rattle.meson_syntax.specs.Tree.{Expression, Block, branches_of, statements_of}
 use Rattle.meson_syntax.specs.View.{stmt_view, block_view, branch_view, names_at, view}
 use Rattle.meson_syntax.specs.Kept.{ViewsTell, ListViewsTell}
-use Rattle.meson_syntax.proofs.kept.Codes.{places, code_expression, code_statement, code_statements, code_branches, code_block, code_file, code_listing}
+use Rattle.meson_syntax.specs.Codes.{places, code_expression, code_statement, code_statements, code_branches, code_block, code_file, code_listing}
 use Rattle.meson_syntax.proofs.kept.Told.{value, values, expr_told, list_told}
 
 abbrev branch_code : Expression Span × Block Span → Branch

@@ -1,5 +1,5 @@
--- The value of the code that a tree is the view of.
-use Rattle.std.proofs.Common.{List, [], ◌∷◌, map, Option, Some, None}
+-- The value of the code that a tree stands for: the tree without its texts.
+use Rattle.std.specs.Prelude.{List, [], ◌∷◌, map, Option, Some, None}
 use Rattle.meson_lex.specs.declared.kinds.Span.{Span}
 use Rattle.meson_syntax.specs.declared.tree.Arg.{Arg}
 use Rattle.meson_syntax.specs.declared.tree.Arg.TheOpen.{Arg-F, Expr-F, Tail-F}
