@@ -5,6 +5,9 @@ pub mod WithOne
 pub mod OtherBytes
 mod Spliced
 mod Restoring
+mod Pending
+mod ListTaken
+mod ListSpots
 mod PatchedFiles
 pub mod WorkKnown
 mod StepPlaces

@@ -59,8 +59,8 @@ one_laid files s here there p q =
 abbrev Inverted : List File → List Step → List Splice → List File → ℕ → Type 0
 Inverted files [] splices last n = (splices ≡ []) × (last ≡ files) × (n ≡ 0)
 Inverted files (s ∷ steps) splices last n =
-    (between : List File) × (here : List Splice) × (later : List Splice) × (bytes : ℕ) × Laid files s here × (patched_all files here ≡ Ok between) × StepsMake between steps later last bytes
-    × (splices ≡ here ++ later) × (n ≡ read_again here s.file between + bytes)
+    (between : List File) × (here : List Splice) × (later : List Splice) × (bytes : ℕ) × (laid : Laid files s here) × (patched_all files here ≡ Ok between) × StepsMake between steps later last bytes
+    × (splices ≡ here ++ later) × (n ≡ read_again s.edit laid.file here (bytes_at s.file files) (bytes_at s.file between) + bytes)
 
 inverted : (files : List File) (steps : List Step) (splices : List Splice) (last : List File) (n : ℕ) → StepsMake files steps splices last n → Inverted files steps splices last n
 inverted files steps splices last n (none fs) = (refl, refl, refl)
@@ -79,8 +79,12 @@ one-making files (s ∷ steps) ss ts after last n m a b =
     let q = inverted files (s ∷ steps) ts last m b in
     let here : p.1 ≡ q.1 = one_laid files s p.1 q.1 p.4 q.4 in
     let between : p.0 ≡ q.0 = same_files p.0 q.0 (sym p.5 ∙ ap (patched_all files) here ∙ q.5) in
+    let same_file : p.4.file ≡ q.4.file = one_spanned p.4.limits q.4.limits (bytes_at s.file files) p.4.file q.4.file p.4.spanned q.4.spanned in
+    let count : read_again s.edit p.4.file p.1 (bytes_at s.file files) (bytes_at s.file p.0) ≡ read_again s.edit q.4.file q.1 (bytes_at s.file files) (bytes_at s.file q.0) =
+        ap (λ f. read_again s.edit f p.1 (bytes_at s.file files) (bytes_at s.file p.0)) same_file
+        ∙ ap₂ (λ x y. read_again s.edit q.4.file x (bytes_at s.file files) (bytes_at s.file y)) here between in
     let rest = one-making p.0 steps p.2 q.2 after last p.3 q.3 p.6 (subst (λ fs. StepsMake fs steps q.2 last q.3) (sym between) q.6) in (
       p.7 ∙ ap₂ (λ x y. x ++ y) here rest.0 ∙ sym q.7,
       rest.1,
-      p.8 ∙ ap₂ (λ x y. x + y) (ap₂ (λ x y. read_again x s.file y) here between) rest.2 ∙ sym q.8,
+      p.8 ∙ ap₂ (λ x y. x + y) count rest.2 ∙ sym q.8,
     )

@@ -4,6 +4,7 @@ use Rattle.std.specs.Prelude.{Option, Some, None, Ok, option_and_then}
 use Rattle.std.proofs.lemmas.List.{append_assoc}
 use Rattle.meson_splice.specs.declared.file_set.File.{File}
 use Rattle.meson_splice.specs.declared.splice.Splice.{Splice}
+use Rattle.meson_splice.specs.Files.{bytes_at}
 use Rattle.meson_splice.specs.Patch.{patched_all}
 use Rattle.meson_syntax.specs.Tree.{Plain}
 use Rattle.meson_steps.specs.Results.{saturated}
@@ -25,14 +26,16 @@ stepped_more steps s trees between last is next = all_after steps (s ∷ []) tre
 
 -- ---- files
 
-pub steps_more : (files between last : List File) (steps : List Step) (s : Step) (splices here : List Splice) (bytes : ℕ) → StepsMake files steps splices between bytes → Laid between s here → patched_all between here ≡ Ok last
-    → StepsMake files (steps ++ s ∷ []) (splices ++ here) last (bytes + read_again here s.file last)
+pub steps_more : (files between last : List File) (steps : List Step) (s : Step) (splices here : List Splice) (bytes : ℕ) → StepsMake files steps splices between bytes
+    → (laid : Laid between s here) → patched_all between here ≡ Ok last
+    → StepsMake files (steps ++ s ∷ []) (splices ++ here) last (bytes + read_again s.edit laid.file here (bytes_at s.file between) (bytes_at s.file last))
 steps_more files between last steps s splices here bytes (none fs) laid done =
-    let n : read_again here s.file last + 0 ≡ 0 + read_again here s.file last = omega arith in
-    subst (StepsMake fs (s ∷ []) here last) n (subst (λ l. StepsMake fs (s ∷ []) l last (read_again here s.file last + 0)) (simp append-nil) (step fs last last s [] here [] 0 laid done (none last)))
+    let r = read_again s.edit laid.file here (bytes_at s.file fs) (bytes_at s.file last) in
+    let n : r + 0 ≡ 0 + r = omega arith in
+    subst (StepsMake fs (s ∷ []) here last) n (subst (λ l. StepsMake fs (s ∷ []) l last (r + 0)) (simp append-nil) (step fs last last s [] here [] 0 laid done (none last)))
 steps_more files between last steps s splices here bytes (step fs next end t more now later count first_laid first_done rest) laid done =
-    let m = read_again now t.file next in
-    let r = read_again here s.file last in
+    let m = read_again t.edit first_laid.file now (bytes_at t.file fs) (bytes_at t.file next) in
+    let r = read_again s.edit laid.file here (bytes_at s.file between) (bytes_at s.file last) in
     let n : m + (count + r) ≡ m + count + r = omega arith in
     subst (StepsMake fs (t ∷ (more ++ s ∷ [])) ((now ++ later) ++ here) last) n
     (subst (λ l. StepsMake fs (t ∷ (more ++ s ∷ [])) l last (m + (count + r))) (sym (append_assoc now later here))

@@ -1,6 +1,6 @@
 -- One step of those that may be done one after another.
-use Rattle.std.proofs.Common.{◌≡◌, ℕ, ◌+◌, ◌<◌, ◌≤◌, List, [], ◌∷◌, ◌++◌, length, get_or, append-nil, refl, sym, ap, ◌∙◌, subst, arith}
-use Rattle.std.specs.Prelude.{All, None, Some, Ok, slice_set}
+use Rattle.std.proofs.Common.{◌≡◌, ℕ, ◌+◌, ◌<◌, ◌≤◌, List, [], ◌∷◌, ◌++◌, length, get_or, append-nil, refl, sym, ap, ap₂, ◌∙◌, subst, arith}
+use Rattle.std.specs.Prelude.{All, Bool, true, false, None, Some, Ok, if◌then◌else◌, option_and_then, slice_set}
 use Rattle.std.specs.Str.{IsUtf8}
 use Rattle.std.proofs.lemmas.List.{set-get_or}
 use Rattle.meson_lex.specs.declared.kinds.Span.{Span}
@@ -16,24 +16,32 @@ use Rattle.meson_splice.specs.Patch.{patched_all}
 use Rattle.meson_syntax.specs.declared.source.Limits.{Limits}
 use Rattle.meson_syntax.specs.declared.tree.Parsed.{Parsed}
 use Rattle.meson_syntax.specs.Grammar.{file_depth}
-use Rattle.meson_syntax.specs.Reads.{IsSpannedWithin, ReadsWithin, Spells, wide}
+use Rattle.meson_syntax.specs.Paths.{list_at}
+use Rattle.meson_syntax.specs.Reads.{IsSpannedWithin, ReadsWithin, Spells, of_files, wide}
+use Rattle.meson_syntax.specs.ReadsList.{ReadsListWithin}
 use Rattle.meson_syntax.specs.Tree as tree
 use Rattle.meson_syntax.specs.Tree.{Plain, erase}
 use Rattle.meson_syntax.specs.View.{view}
 use Rattle.meson_syntax.proofs.exchange.Standing.{spelled-reads}
+use Rattle.meson_syntax.proofs.kept.WithinFiles.{other_limits}
 use Rattle.meson_syntax.proofs.parsing.Answers.{reads-found}
 use Rattle.meson_syntax.proofs.parsing.Steps.{some-injective}
-use Rattle.meson_edit.specs.Edits.{edited}
-use Rattle.meson_edit.specs.Laws.{Makes}
+use Rattle.meson_edit.specs.Edits.{Edit, edited, edited_list}
+use Rattle.meson_edit.specs.Laws.{IsEditOf, Makes, WritesList}
+use Rattle.meson_edit.proofs.lists.Answers.{list-edits-write}
+use Rattle.meson_edit.proofs.lists.Found.{Found, found}
+use Rattle.meson_edit.proofs.lists.ReadAlone.{written-lists-read}
+use Rattle.meson_calls.specs.declared.call.CallRef.{CallRef}
 use Rattle.meson_steps.specs.declared.step.ListStep.{ListStep}
 use Rattle.meson_steps.specs.declared.work.Work.{Work}
-use Rattle.meson_steps.specs.ListSteps.{AreDoable, MayStand, bare}
+use Rattle.meson_steps.specs.Journal.{is_saved}
+use Rattle.meson_steps.specs.ListSteps.{AreDoable, MayStand, bare, wide_depth}
 use Rattle.meson_calls.specs.Loading.{HasFileName, Loaded, max_files, name_at}
 use Rattle.meson_steps.specs.Results.{plain_trees, saturated}
-use Rattle.meson_steps.specs.Steps.{Step, StepsMake, Laid, effective, read_again}
-use Rattle.meson_steps.specs.Working.{AreKnown, IsChanged, MayChange, Reached, limits_of, placed_edit, so_far}
+use Rattle.meson_steps.specs.Steps.{Step, StepsMake, Laid, bytes_again, effective, list_of, read_again}
+use Rattle.meson_steps.specs.Working.{AreKnown, IsChanged, MayChange, MayChangeList, Reached, limits_of, placed_edit, so_far}
 use Rattle.meson_steps.proofs.PatchedFiles.{OfFile, all_patched, distinct_with, effective_of_file, effective_patches, effective_texts, of_file}
-use Rattle.meson_steps.proofs.StepPlaces.{every_edit, next_doable, step_code, NextDoable, IsCode}
+use Rattle.meson_steps.proofs.StepPlaces.{every_edit, list_there, next_doable, step_code, NextDoable, IsCode}
 use Rattle.meson_steps.proofs.OneMoreStep.{saturated_more, stepped_more, steps_more}
 use Rattle.meson_steps.proofs.OtherBytes.{as_many_files, as_many_plain, bytes_there, named_with, plain_at, plain_with}
 use Rattle.meson_steps.proofs.WithOne.{ChangedAt, all_at, changed_from}
@@ -50,9 +58,16 @@ one_spelled bytes s t utf8 p q =
     let same : f.0 ≡ g.0 = some-injective _ _ (sym f.2 ∙ g.2) in
     sym f.1 ∙ ap erase same ∙ g.1
 
-pub read_some : (splices : List Splice) (i : ℕ) (files : List File) → (splices ≡ [] → ⊥) → read_again splices i files ≡ length (bytes_at i files)
-read_some [] i files some = absurd (some refl)
-read_some (s ∷ splices) i files some = refl
+-- what is read again where there are splices
+again_for : (e : Edit) (f : tree.File Span) (splices : List Splice) (before after : List ℕ) → (splices ≡ [] → ⊥)
+    → read_again e f splices before after ≡ bytes_again (option_and_then (list_at f) (list_of e)) before after
+again_for e f [] before after some = absurd (some refl)
+again_for e f (s ∷ splices) before after some = refl
+
+-- a file that is known reads within the wide limits
+wide_by : (saved : Bool) (bytes : List ℕ) (f : tree.File Span) → IsSpannedWithin (if saved then wide else of_files) bytes f → IsSpannedWithin wide bytes f
+wide_by true bytes f s = s
+wide_by false bytes f s = other_limits of_files wide bytes f s (record { fits = tt; utf8 = s.reads.source.utf8; no_mark = s.reads.source.no_mark }) (omega (arith, s.reads.depth))
 
 module _ (old : Loaded) (w : Work) (before rest : List Step) (s : Step) (r : Reached old before (s ∷ rest) w) where
   abbrev pub files : List File
@@ -171,6 +186,44 @@ module _ (old : Loaded) (w : Work) (before rest : List Step) (s : Step) (r : Rea
           let reads : ReadsWithin wide made.text changed.new = spelled-reads wide made.text changed.new made.spells made.utf8 tt stands.1 in
           record { files = with_bytes i made.text files; is = all_made; tree = changed.new; reads = subst (λ b. ReadsWithin wide b changed.new) (sym (bytes_there files i made.text in_files)) reads }
 
+      -- ---- a list
+
+      module _ (path : List ℕ) (of : list_of s.edit ≡ Some path) where
+        there_is : IsEditOf path s.edit × (edited_list s.edit path (erase f) ≡ Some changed.new)
+        there_is = list_there s.edit f path changed.new of edited_is
+
+        list_found : Found f s.edit path changed.new
+        list_found = found f s.edit path changed.new there_is.1
+
+        writes : WritesList bytes made.text f path list_found.p changed.new
+        writes = list-edits-write s.edit limits bytes f spanned items are_items name next.writes changed.new edited_is path there_is.0 list_found.p list_found.is_p
+            made.primitive made.is_primitive made.text made.patches
+
+        pub may_change_list : (place : CallRef) → place.file ≡ i → place.path.steps ≡ path → MayChangeList w place splices t
+        may_change_list place same_file same_path =
+            let reads : ReadsWithin wide made.text changed.new = spelled-reads wide made.text changed.new made.spells made.utf8 tt stands.1 in
+            let old : bytes_at place.file files ≡ bytes = ap (λ k. bytes_at k files) same_file in
+            record {
+              files = with_bytes i made.text files;
+              is = all_made;
+              spanned = subst (λ b. IsSpannedWithin wide b (view b t)) (sym old) (wide_by (is_saved i w.saved.items) bytes f spanned);
+              p = list_found.p;
+              is_p = ap₂ (λ b l. list_at (view b t) l) old same_path ∙ list_found.is_p;
+              q = writes.q;
+              is_q = ap₂ (λ b l. list_at (erase (view b t)) l) old same_path ∙ writes.is_q;
+              front = writes.front;
+              was = writes.was;
+              now = writes.now;
+              back = writes.back;
+              old = old ∙ writes.old;
+              new = ap (λ k. bytes_at k (with_bytes i made.text files)) same_file ∙ bytes_there files i made.text in_files ∙ writes.new;
+              from = writes.from;
+              to = writes.to;
+              list = writes.list;
+              reads_list = subst (λ b. ReadsListWithin wide_depth b writes.now writes.list) writes.bracket (written-lists-read bytes made.text f path list_found.p changed.new writes stands.0 wide_depth stands.1);
+              reads = subst (λ b. ReadsWithin wide b (writes.q.back writes.list)) writes.new (subst (ReadsWithin wide made.text) (sym writes.is_tree) reads);
+            }
+
       -- ---- nothing new
 
       pub same_reached : splices ≡ [] → Reached old (before ++ s ∷ []) rest w
@@ -197,7 +250,10 @@ module _ (old : Loaded) (w : Work) (before rest : List Step) (s : Step) (r : Rea
 
       -- ---- another text
 
-      module _ (some : splices ≡ [] → ⊥) (new : Work) (c : IsChanged w new i splices) where
+      module _ (some : splices ≡ [] → ⊥) (new : Work) (n : ℕ) (c : IsChanged w new i splices n) (count : n ≡ bytes_again (option_and_then (list_at f) (list_of s.edit)) bytes (bytes_at i new.files)) where
+        abbrev again : ℕ
+        again = read_again s.edit f splices bytes (bytes_at i new.files)
+
         files_are : new.files ≡ with_bytes i made.text files
         files_are = let h = sym c.are_files ∙ all_made in cc
 
@@ -216,17 +272,18 @@ module _ (old : Loaded) (w : Work) (before rest : List Step) (s : Step) (r : Rea
             ∙ ap (λ fs. plain_trees (record { files = fs; parsed = slice_set parsed i c.tree })) (sym files_are)
             ∙ ap (λ ts. plain_trees (record { files = new.files; parsed = ts })) (sym c.are_trees)
 
-        relexed_is : new.relexed ≡ saturated (r.made.bytes + read_again splices i new.files)
+        relexed_is : new.relexed ≡ saturated (r.made.bytes + again)
         relexed_is =
-            c.is_relexed ∙ ap (λ n. saturated (n + length (bytes_at i new.files))) r.made.is_relexed ∙ saturated_more r.made.bytes (length (bytes_at i new.files))
-            ∙ ap (λ n. saturated (r.made.bytes + n)) (sym (read_some splices i new.files some))
+            c.is_relexed ∙ ap (λ k. saturated (k + n)) r.made.is_relexed ∙ saturated_more r.made.bytes n
+            ∙ ap (λ k. saturated (r.made.bytes + k)) (count ∙ sym (again_for s.edit f splices bytes (bytes_at i new.files) some))
 
         pub new_reached : Reached old (before ++ s ∷ []) rest new
+        unfolding laid
         new_reached = record {
           made = record {
-            bytes = r.made.bytes + read_again splices i new.files;
+            bytes = r.made.bytes + again;
             are_trees = stepped_more before s (plain_trees old) plain (plain_trees (so_far new)) r.made.are_trees (next.is ∙ ap Some plain_are);
-            are_done = subst (λ ss. StepsMake old.files (before ++ s ∷ []) ss new.files (r.made.bytes + read_again splices i new.files)) (sym c.are_splices)
+            are_done = subst (λ ss. StepsMake old.files (before ++ s ∷ []) ss new.files (r.made.bytes + again)) (sym c.are_splices)
                 (steps_more old.files files new.files before s w.splices.items splices r.made.bytes r.made.are_done laid c.are_files);
             is_relexed = relexed_is;
           };

@@ -1,53 +1,63 @@
--- Putting saved trees back undoes what was exchanged since.
-use Rattle.std.proofs.Common.{◌≡◌, ℕ, ◌⊎◌, inl, inr, Bool, true, false, List, [], ◌∷◌, ◌++◌, get_or, refl, sym, ap, ◌∙◌}
-use Rattle.std.specs.Prelude.{◌||◌, slice_set}
-use Rattle.std.proofs.Math.Dec.{eqb}
-use Rattle.std.proofs.lemmas.Bool.{cases_eq, eqb-true}
-use Rattle.std.proofs.lemmas.List.{set-set, set_comm, set-get_or}
+-- Putting back undoes what was exchanged since.
+use Rattle.std.proofs.Common.{◌≡◌, ℕ, zero, suc, ◌<◌, ◌≤◌, List, [], ◌∷◌, ◌++◌, length, get_or, refl, sym, ap, ◌∙◌, subst, arith}
+use Rattle.std.specs.Prelude.{slice_set}
+use Rattle.std.proofs.lemmas.List.{set-set, set-get_or}
 use Rattle.meson_syntax.specs.declared.tree.Parsed.{Parsed}
 use Rattle.meson_steps.specs.declared.journal.Saved.{Saved}
-use Rattle.meson_steps.specs.Journal.{is_saved, put_back}
+use Rattle.meson_steps.specs.declared.journal.Saved.TheVariants as saved
+use Rattle.meson_steps.specs.Journal.{MayPut, MayPutBack, PutsBack, changed_tree, put_back, put_one}
 
-pub put_back_push : (saved : List Saved) (s : Saved) (trees : List Parsed) → put_back (saved ++ s ∷ []) trees ≡ put_back saved (slice_set trees s.file s.tree)
+-- ---- trees of which one is changed
+
+pub as_many_changed : (i : ℕ) (change : Parsed → Parsed) (trees : List Parsed) → length (changed_tree i change trees) ≡ length trees
+as_many_changed i change [] = refl
+as_many_changed zero change (t ∷ trees) = refl
+as_many_changed (suc i) change (t ∷ trees) = ap suc (as_many_changed i change trees)
+
+pub changed_is : (i : ℕ) (change : Parsed → Parsed) (trees : List Parsed) (d : Parsed) → changed_tree i change trees ≡ slice_set trees i (change (get_or trees i d))
+changed_is i change [] d = refl
+changed_is zero change (t ∷ trees) d = refl
+changed_is (suc i) change (t ∷ trees) d = ap (λ ts. t ∷ ts) (changed_is i change trees d)
+
+pub changed_there : (i : ℕ) (change : Parsed → Parsed) (trees : List Parsed) (d : Parsed) → i < length trees → get_or (changed_tree i change trees) i d ≡ change (get_or trees i d)
+changed_there i change [] d within = absurd (omega (arith, within))
+changed_there zero change (t ∷ trees) d within = refl
+changed_there (suc i) change (t ∷ trees) d within = let below : i < length trees = omega (arith, within) in changed_there i change trees d below
+
+pub changed_past : (i : ℕ) (change : Parsed → Parsed) (trees : List Parsed) → length trees ≤ i → changed_tree i change trees ≡ trees
+changed_past i change [] past = refl
+changed_past zero change (t ∷ trees) past = absurd (omega (arith, past))
+changed_past (suc i) change (t ∷ trees) past = let beyond : length trees ≤ i = omega (arith, past) in ap (λ ts. t ∷ ts) (changed_past i change trees beyond)
+
+-- a change and the one that undoes it
+pub changed_back : (i : ℕ) (change undo : Parsed → Parsed) (trees : List Parsed) → ((d : Parsed) → i < length trees → undo (change (get_or trees i d)) ≡ get_or trees i d)
+    → changed_tree i undo (changed_tree i change trees) ≡ trees
+changed_back i change undo [] is = refl
+changed_back zero change undo (t ∷ trees) is = ap (λ x. x ∷ trees) (is t (omega arith))
+changed_back (suc i) change undo (t ∷ trees) is =
+    ap (λ ts. t ∷ ts) (changed_back i change undo trees (λ d within. let next : suc i < length (t ∷ trees) = omega (arith, within) in is d next))
+
+-- ---- the last of what is saved
+
+pub put_back_push : (more : List Saved) (s : Saved) (trees : List Parsed) → put_back (more ++ s ∷ []) trees ≡ put_back more (put_one s trees)
 put_back_push [] s trees = refl
-put_back_push (t ∷ saved) s trees = ap (λ ts. slice_set ts t.file t.tree) (put_back_push saved s trees)
+put_back_push (t ∷ more) s trees = ap (put_one t) (put_back_push more s trees)
 
--- a file's tree is saved before it is exchanged first
-pub put_back_first : (saved : List Saved) (trees : List Parsed) (i : ℕ) (d new : Parsed) → put_back (saved ++ record { file = i; tree = get_or trees i d } ∷ []) (slice_set trees i new) ≡ put_back saved trees
-put_back_first saved trees i d new =
-    put_back_push saved (record { file = i; tree = get_or trees i d }) (slice_set trees i new) ∙ ap (put_back saved) (set-set trees i new (get_or trees i d) ∙ set-get_or trees i d)
+may_push : (more : List Saved) (s : Saved) (trees : List Parsed) → MayPut s trees → MayPutBack more (put_one s trees) → MayPutBack (more ++ s ∷ []) trees
+may_push [] s trees may rest = (may, tt)
+may_push (t ∷ more) s trees may rest = (subst (MayPut t) (sym (put_back_push more s trees)) rest.0, may_push more s trees may rest.1)
 
--- What is exchanged is lost where the file's tree is saved, and else it stays.
-abbrev Lost : List Saved → List Parsed → ℕ → Parsed → Type 0
-Lost saved trees i new = put_back saved (slice_set trees i new) ≡ put_back saved trees
+pub may_pop : (more : List Saved) (s : Saved) (trees : List Parsed) → MayPutBack (more ++ s ∷ []) trees → MayPut s trees × MayPutBack more (put_one s trees)
+may_pop [] s trees may = (may.0, tt)
+may_pop (t ∷ more) s trees may = let rest = may_pop more s trees may.1 in (rest.0, (subst (MayPut t) (put_back_push more s trees) may.0, rest.1))
 
-abbrev Stays : List Saved → List Parsed → ℕ → Parsed → Type 0
-Stays saved trees i new = put_back saved (slice_set trees i new) ≡ slice_set (put_back saved trees) i new
+-- what is saved with one more, which undoes what became of the trees since
+pub puts_back_more : (more : List Saved) (s : Saved) (trees after first : List Parsed) → MayPut s after → put_one s after ≡ trees → PutsBack more trees first → PutsBack (more ++ s ∷ []) after first
+puts_back_more more s trees after first may is p = record {
+  may = may_push more s after may (subst (MayPutBack more) (sym is) p.may);
+  gives = put_back_push more s after ∙ ap (put_back more) is ∙ p.gives;
+}
 
--- the tree that is put back at that place takes the place of any other
-over : (s : Saved) (saved : List Saved) (trees : List Parsed) (i : ℕ) (new : Parsed) → s.file ≡ i → Stays saved trees i new → Lost (s ∷ saved) trees i new
-over s saved trees i new same stays =
-    ap (λ ts. slice_set ts s.file s.tree) (stays ∙ ap (λ j. slice_set (put_back saved trees) j new) (sym same)) ∙ set-set (put_back saved trees) s.file new s.tree
-
-lost_or_stays : (saved : List Saved) (trees : List Parsed) (i : ℕ) (new : Parsed) → Lost saved trees i new ⊎ Stays saved trees i new
-lost_or_stays [] trees i new = inr refl
-lost_or_stays (s ∷ saved) trees i new = elim (lost_or_stays saved trees i new) [
-  | inl lost ↦ inl (ap (λ ts. slice_set ts s.file s.tree) lost)
-  | inr stays ↦ (elim (cases_eq i s.file) [
-    | inl same ↦ inl (over s saved trees i new (sym same) stays)
-    | inr apart ↦ inr (ap (λ ts. slice_set ts s.file s.tree) stays ∙ set_comm (put_back saved trees) i s.file new s.tree apart)
-  ])
-]
-
--- a tree that is saved may be exchanged again
-again_by : (t : Bool) (s : Saved) (saved : List Saved) (trees : List Parsed) (i : ℕ) (new : Parsed) → eqb s.file i ≡ t → (t || is_saved i saved) ≡ true
-    → (is_saved i saved ≡ true → Lost saved trees i new) → Lost (s ∷ saved) trees i new
-again_by false s saved trees i new first there later = ap (λ ts. slice_set ts s.file s.tree) (later there)
-again_by true s saved trees i new first there later = elim (lost_or_stays saved trees i new) [
-  | inl lost ↦ ap (λ ts. slice_set ts s.file s.tree) lost
-  | inr stays ↦ over s saved trees i new (eqb-true s.file i first) stays
-]
-
-pub put_back_again : (saved : List Saved) (trees : List Parsed) (i : ℕ) (new : Parsed) → is_saved i saved ≡ true → put_back saved (slice_set trees i new) ≡ put_back saved trees
-put_back_again [] trees i new there = absurd (let no : ⊥ = cc in no)
-put_back_again (s ∷ saved) trees i new there = again_by (eqb s.file i) s saved trees i new refl there (λ h. put_back_again saved trees i new h)
+-- a tree that is exchanged
+pub put_tree : (trees : List Parsed) (i : ℕ) (d new : Parsed) → put_one (saved.Tree i (get_or trees i d)) (slice_set trees i new) ≡ trees
+put_tree trees i d new = set-set trees i new (get_or trees i d) ∙ set-get_or trees i d

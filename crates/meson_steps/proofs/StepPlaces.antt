@@ -1,19 +1,20 @@
 -- The code of a step is laid out where its edit is, and each edit makes the text of the edited tree.
-use Rattle.std.proofs.Common.{◌≡◌, ℕ, List, ◌∷◌, refl, subst}
-use Rattle.std.specs.Prelude.{Some, option_map, All}
+use Rattle.std.proofs.Common.{◌≡◌, ℕ, List, ◌∷◌, refl, sym, ap, subst}
+use Rattle.std.specs.Prelude.{Bool, true, false, None, Some, option_map, All}
 use Rattle.meson_lex.specs.declared.kinds.Span.{Span}
-use Rattle.meson_syntax.specs.Tree.{File, Plain}
-use Rattle.meson_edit.specs.Edits.{Edit, First, After, Remove, Replace, Wrap, RemoveStatement, Append}
+use Rattle.meson_syntax.specs.Tree.{File, Plain, erase}
+use Rattle.meson_syntax.proofs.parsing.Steps.{some-injective}
+use Rattle.meson_edit.specs.Edits.{Edit, First, After, Remove, Replace, Wrap, RemoveStatement, Append, edited, edited_list}
 use Rattle.meson_edit.specs.Places.{Writes, primitive_of}
-use Rattle.meson_edit.specs.Laws.{Spelled}
+use Rattle.meson_edit.specs.Laws.{IsEditOf, Spelled}
 use Rattle.meson_edit.proofs.lists.Answers as lists
 use Rattle.meson_edit.proofs.statements.Appended as appended
 use Rattle.meson_edit.proofs.statements.Removed as removed
 use Rattle.meson_steps.specs.declared.step.ListEdit.{ListEdit}
 use Rattle.meson_steps.specs.declared.step.ListStep.{ListStep}
-use Rattle.meson_steps.specs.ListSteps.{AreDoable, MayStand, one, bare, bare_edit, path_of}
+use Rattle.meson_steps.specs.ListSteps.{AreDoable, MayStand, one, bare, bare_edit, edits_list, path_of}
 use Rattle.meson_calls.specs.Project.{place}
-use Rattle.meson_steps.specs.Steps.{Step, stepped}
+use Rattle.meson_steps.specs.Steps.{Step, list_of, stepped}
 use Rattle.meson_steps.specs.Working.{placed_edit}
 
 -- ---- the code of a step
@@ -62,3 +63,46 @@ pub record NextDoable (s : Step) (rest : List Step) (trees : List Plain) : Type 
 
 pub next_doable : (s : Step) (rest : List Step) (trees : List Plain) → AreDoable (s ∷ rest) trees → NextDoable s rest trees
 next_doable s rest trees (one t steps ts between writes is stand doable) = record { between = between; writes = writes; is = is; stand = stand; doable = doable }
+
+-- ---- lists
+
+-- an edit of a list, as a law names it
+pub list_there : (e : Edit) (f : File Span) (path : List ℕ) (t : Plain) → list_of e ≡ Some path → edited e (erase f) ≡ Some t → IsEditOf path e × (edited_list e path (erase f) ≡ Some t)
+list_there (First list new) f path t of is = let same = some-injective list path of in (sym same, subst (λ l. edited_list (First list new) l (erase f) ≡ Some t) same is)
+list_there (After list n new) f path t of is = let same = some-injective list path of in (sym same, subst (λ l. edited_list (After list n new) l (erase f) ≡ Some t) same is)
+list_there (Remove list n) f path t of is = let same = some-injective list path of in (sym same, subst (λ l. edited_list (Remove list n) l (erase f) ≡ Some t) same is)
+list_there (Replace list n new) f path t of is = let same = some-injective list path of in (sym same, subst (λ l. edited_list (Replace list n new) l (erase f) ≡ Some t) same is)
+list_there (Wrap list n) f path t of is = let same = some-injective list path of in (sym same, subst (λ l. edited_list (Wrap list n) l (erase f) ≡ Some t) same is)
+list_there (RemoveStatement block n) f path t of is = absurd cc
+list_there (Append new) f path t of is = absurd cc
+
+-- whether it is one, by its code
+of_code : (file : ℕ) (path : List ℕ) (b : ListEdit) (code : ListStep) → Some (record { list = place file path; edit = b }) ≡ Some code → (b ≡ code.edit) × (path ≡ code.list.path.steps)
+of_code file path b code is =
+    let same : record { list = place file path; edit = b } ≡ code = cc in
+    (ap (λ (c : ListStep). c.edit) same, ap (λ (c : ListStep). c.list.path.steps) same)
+
+abbrev pub ListBy : Bool → List ℕ → Edit → Type 0
+ListBy true path e = list_of e ≡ Some path
+ListBy false path e = list_of e ≡ None
+
+list_code : (e : Edit) (b : ListEdit) (file : ℕ) (code : ListStep) → ((l : List ℕ) → l ≡ path_of e → ListBy (edits_list b) l e) → Some (record { list = place file (path_of e); edit = b }) ≡ Some code
+    → ListBy (edits_list code.edit) code.list.path.steps e
+list_code e b file code by is =
+    let same = of_code file (path_of e) b code is in
+    subst (λ c. ListBy (edits_list c) code.list.path.steps e) same.0 (by code.list.path.steps (sym same.1))
+
+by_code : (e : Edit) (file : ℕ) (code : ListStep) → option_map (λ b. record { list = place file (path_of e); edit = b }) (bare_edit e) ≡ Some code → ListBy (edits_list code.edit) code.list.path.steps e
+by_code (First path new) file code is = list_code (First path new) _ file code (λ l same. ap Some (sym same)) is
+by_code (After path n new) file code is = list_code (After path n new) _ file code (λ l same. ap Some (sym same)) is
+by_code (Remove path n) file code is = list_code (Remove path n) _ file code (λ l same. ap Some (sym same)) is
+by_code (Replace path n new) file code is = list_code (Replace path n new) _ file code (λ l same. ap Some (sym same)) is
+by_code (Wrap path n) file code is = list_code (Wrap path n) _ file code (λ l same. ap Some (sym same)) is
+by_code (RemoveStatement path n) file code is = list_code (RemoveStatement path n) _ file code (λ l same. refl) is
+by_code (Append new) file code is = list_code (Append new) _ file code (λ l same. refl) is
+
+pub step_list : (s : Step) (code : ListStep) → bare s ≡ Some code → edits_list code.edit ≡ true → list_of s.edit ≡ Some code.list.path.steps
+step_list s code is of_list = subst (λ b. ListBy b code.list.path.steps s.edit) of_list (by_code s.edit s.file code is)
+
+pub step_none : (s : Step) (code : ListStep) → bare s ≡ Some code → edits_list code.edit ≡ false → list_of s.edit ≡ None
+step_none s code is other = subst (λ b. ListBy b code.list.path.steps s.edit) other (by_code s.edit s.file code is)

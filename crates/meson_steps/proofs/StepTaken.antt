@@ -1,6 +1,6 @@
 -- One step as the code takes it: by the number of its file and the tree that it reads there.
-use Rattle.std.proofs.Common.{◌≡◌, ℕ, ◌<◌, List, [], ◌∷◌, ◌++◌, length, get_or, sym, ap, ◌∙◌, subst, arith}
-use Rattle.std.specs.Prelude.{true, false, ◌==◌, OnOk, Option, Result, Some, None, Ok, Err, option_map}
+use Rattle.std.proofs.Common.{◌≡◌, ℕ, ◌<◌, List, [], ◌∷◌, ◌++◌, length, get_or, refl, sym, ap, ◌∙◌, subst, arith}
+use Rattle.std.specs.Prelude.{true, false, ◌==◌, OnOk, Option, Result, Some, None, Ok, Err, option_and_then, option_map}
 use Rattle.std.proofs.lemmas.Bool.{eqb-true}
 use Rattle.meson_lex.specs.Items.{Lexeme, IsItemList}
 use Rattle.meson_layout.specs.declared.primitive.Primitive.{Primitive}
@@ -9,17 +9,20 @@ use Rattle.meson_splice.specs.declared.file_set.File.{File}
 use Rattle.meson_splice.specs.declared.splice.Splice.{Splice}
 use Rattle.meson_splice.specs.Files.{bytes_at}
 use Rattle.meson_syntax.specs.declared.tree.Parsed.{Parsed}
+use Rattle.meson_syntax.specs.Paths.{list_at}
 use Rattle.meson_syntax.specs.View.{view}
 use Rattle.meson_steps.specs.declared.step.ListEdit.{ListEdit}
 use Rattle.meson_steps.specs.declared.step.ListStep.{ListStep}
 use Rattle.meson_steps.specs.declared.work.Work.{Work}
-use Rattle.meson_steps.specs.ListSteps.{bare, bare_edit, path_of}
+use Rattle.meson_steps.specs.ListSteps.{bare, bare_edit, edits_list, path_of}
 use Rattle.meson_calls.specs.Loading.{Loaded, name_at}
 use Rattle.meson_calls.specs.Project.{place}
-use Rattle.meson_steps.specs.Steps.{Step, effective}
-use Rattle.meson_steps.specs.Working.{IsChanged, MayChange, Reached, placed_edit}
+use Rattle.meson_steps.specs.Steps.{Step, bytes_again, effective}
+use Rattle.meson_steps.specs.Working.{IsChanged, MayChange, MayChangeList, Reached, list_again, placed_edit}
+use Rattle.meson_steps.proofs.SameRead.{same_read}
+use Rattle.meson_steps.proofs.StepPlaces.{step_list, step_none}
 use Rattle.meson_calls.proofs.Loads.{nth_name}
-use Rattle.meson_steps.proofs.OneStep.{in_files, in_trees, is_ready, items, laid_is, made, may_change, new_reached, same_reached, splices_are}
+use Rattle.meson_steps.proofs.OneStep.{in_files, in_trees, is_ready, items, laid_is, made, may_change, may_change_list, new_reached, same_reached, splices_are}
 
 pub when_ok : {X E P Q : Type 0} (r : Result X E) → (P → Q) → OnOk r P → OnOk r Q
 when_ok (Ok x) then p = then p
@@ -78,8 +81,25 @@ module _ (old : Loaded) (w : Work) (step : ListStep) (before rest : List Step) (
         pub code_same : splices ≡ [] → Reached old (before ++ s ∷ []) rest w
         code_same empty = same_reached old w before rest s r t at splices are empty
 
+        pub code_may_list : edits_list step.edit ≡ true → (d : Parsed) → MayChangeList w step.list splices (get_or w.trees.items step.list.file d)
+        code_may_list of_list = λ d.
+            let same : t ≡ get_or w.trees.items step.list.file d = there ∙ same_read w.trees.items step.list.file t d code_in_trees in
+            subst (MayChangeList w step.list splices) same (may_change_list old w before rest s r t at splices are step.list.path.steps (step_list s step is of_list) step.list file_is refl)
+
         pub code_may : MayChange w step.list.file splices
         code_may = subst (λ i. MayChange w i splices) (sym file_is) (may_change old w before rest s r t at splices are)
 
-        pub code_new : (splices ≡ [] → ⊥) → (new : Work) → IsChanged w new step.list.file splices → Reached old (before ++ s ∷ []) rest new
-        code_new some new c = new_reached old w before rest s r t at splices are some new (subst (λ i. IsChanged w new i splices) file_is c)
+        module _ (some : splices ≡ [] → ⊥) (new : Work) where
+          pub code_new : edits_list step.edit ≡ false → IsChanged w new step.list.file splices (length (bytes_at step.list.file new.files)) → Reached old (before ++ s ∷ []) rest new
+          code_new other c =
+              let f = view (bytes_at s.file w.files) t in
+              let count = ap (λ i. length (bytes_at i new.files)) file_is
+                  ∙ ap (λ o. bytes_again (option_and_then (list_at f) o) (bytes_at s.file w.files) (bytes_at s.file new.files)) (sym (step_none s step is other)) in
+              new_reached old w before rest s r t at splices are some new _ (subst (λ i. IsChanged w new i splices (length (bytes_at step.list.file new.files))) file_is c) count
+
+          pub code_new_list : edits_list step.edit ≡ true → IsChanged w new step.list.file splices (list_again w new step.list t) → Reached old (before ++ s ∷ []) rest new
+          code_new_list of_list c =
+              let f = view (bytes_at s.file w.files) t in
+              let count = ap (λ i. bytes_again (list_at (view (bytes_at i w.files) t) step.list.path.steps) (bytes_at i w.files) (bytes_at i new.files)) file_is
+                  ∙ ap (λ o. bytes_again (option_and_then (list_at f) o) (bytes_at s.file w.files) (bytes_at s.file new.files)) (sym (step_list s step is of_list)) in
+              new_reached old w before rest s r t at splices are some new _ (subst (λ i. IsChanged w new i splices (list_again w new step.list t)) file_is c) count

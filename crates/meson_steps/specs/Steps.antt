@@ -1,5 +1,5 @@
 -- Edits of a project one after another: what they make of its trees, and of its files.
-use Rattle.std.specs.Prelude.{◌≡◌, ℕ, zero, suc, ◌+◌, not, bytes_eq, List, [], ◌∷◌, ◌++◌, length, Option, Some, None, option_map, option_and_then, Ok}
+use Rattle.std.specs.Prelude.{◌≡◌, ℕ, zero, suc, ◌+◌, ◌-◌, not, bytes_eq, List, [], ◌∷◌, ◌++◌, length, Option, Some, None, option_map, option_and_then, Ok}
 use Rattle.std.specs.List.{filter}
 use Rattle.meson_lex.specs.declared.kinds.Span.{Span}
 use Rattle.meson_lex.specs.Items.{Lexeme, IsItemList}
@@ -15,7 +15,9 @@ use Rattle.meson_syntax.specs.declared.source.Limits.{Limits}
 use Rattle.meson_syntax.specs.Tree.{Plain}
 use Rattle.meson_syntax.specs.Tree as tree
 use Rattle.meson_syntax.specs.Reads.{IsSpannedWithin}
-use Rattle.meson_edit.specs.Edits.{Edit, edited}
+use Rattle.meson_syntax.specs.Paths.{ListAt, list_at, list_span}
+use Rattle.meson_edit.specs.Edits.{Edit, First, After, Remove, Replace, Wrap, RemoveStatement, Append, edited}
+use Rattle.meson_edit.specs.Laws.{IsEditOf, WritesList}
 use Rattle.meson_edit.specs.Places.{primitive_of, Writes}
 use Rattle.meson_calls.specs.declared.call.CallRef.{CallRef}
 use Rattle.meson_calls.specs.Loading.{name_at}
@@ -69,14 +71,37 @@ pub record Laid (files : List File) (s : Step) (splices : List Splice) : Type 0 
   pub made : patched_all files splices ≡ Ok (with_bytes s.file text files)
   pub texts : AreTexts splices
 
--- how many bytes are read again after splices of a file: all of it
-abbrev pub read_again : List Splice → ℕ → List File → ℕ
-read_again [] i files = 0
-read_again (s ∷ splices) i files = length (bytes_at i files)
+-- the list that an edit changes
+abbrev pub list_of : Edit → Option (List ℕ)
+list_of (First path new) = Some path
+list_of (After path n new) = Some path
+list_of (Remove path n) = Some path
+list_of (Replace path n new) = Some path
+list_of (Wrap path n) = Some path
+list_of (RemoveStatement path n) = None
+list_of (Append new) = None
+
+-- how many bytes are read again where a file's text becomes another one: those of the list that changes, or all of them
+abbrev pub bytes_again : Option (ListAt Span) → (before after : List ℕ) → ℕ
+bytes_again None before after = length after
+bytes_again (Some p) before after = (((list_span p.list).to - (list_span p.list).from) + length after) - length before
+
+-- how many after splices of an edit
+abbrev pub read_again : Edit → tree.File Span → List Splice → (before after : List ℕ) → ℕ
+read_again e f [] before after = 0
+read_again e f (s ∷ splices) before after = bytes_again (option_and_then (list_at f) (list_of e)) before after
 
 -- Steps one after another make splices, and files, and have so many bytes read again.
 pub data StepsMake : List File → List Step → List Splice → List File → ℕ → Type 0 where
   none : (files : List File) → StepsMake files [] [] files 0
   step : (files between last : List File) (s : Step) (steps : List Step) (here later : List Splice) (bytes : ℕ)
-      → Laid files s here → patched_all files here ≡ Ok between → StepsMake between steps later last bytes
-      → StepsMake files (s ∷ steps) (here ++ later) last (read_again here s.file between + bytes)
+      → (laid : Laid files s here) → patched_all files here ≡ Ok between → StepsMake between steps later last bytes
+      → StepsMake files (s ∷ steps) (here ++ later) last (read_again s.edit laid.file here (bytes_at s.file files) (bytes_at s.file between) + bytes)
+
+-- The bytes read again for an edit of a list are the list's new text.
+abbrev pub ListsAreReadAgain : Type 0
+ListsAreReadAgain = (files : List File) (s : Step) (splice : Splice) (more : List Splice) (between : List File)
+    → (laid : Laid files s (splice ∷ more)) → patched_all files (splice ∷ more) ≡ Ok between
+    → (path : List ℕ) → IsEditOf path s.edit → (p : ListAt Span) → list_at laid.file path ≡ Some p
+    → (w : WritesList (bytes_at s.file files) laid.text laid.file path p laid.now)
+    → read_again s.edit laid.file (splice ∷ more) (bytes_at s.file files) (bytes_at s.file between) ≡ length w.now

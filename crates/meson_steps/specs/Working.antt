@@ -12,6 +12,8 @@ use Rattle.meson_syntax.specs.declared.tree.Parsed.{Parsed}
 use Rattle.meson_syntax.specs.Grammar.{file_depth}
 use Rattle.meson_syntax.specs.Tree as tree
 use Rattle.meson_syntax.specs.Reads.{IsSpannedWithin, ReadsWithin, of_files, wide, max_depth, max_len}
+use Rattle.meson_syntax.specs.ReadsList.{ReadsListWithin}
+use Rattle.meson_syntax.specs.Paths.{ListAt, list_at, list_span}
 use Rattle.meson_syntax.specs.View.{view}
 use Rattle.meson_edit.specs.Places.{bracket_offset, element_span, value_span, span_of_statement}
 use Rattle.meson_steps.specs.declared.journal.Saved.{Saved}
@@ -20,12 +22,13 @@ use Rattle.meson_steps.specs.declared.step.ListEdit.{ListEdit}
 use Rattle.meson_steps.specs.declared.step.ListEdit.TheVariants as code
 use Rattle.meson_steps.specs.declared.work.Work.{Work}
 use Rattle.meson_steps.specs.Done.{IsMade}
-use Rattle.meson_steps.specs.ListSteps.{AreBare, AreDoable, bare}
+use Rattle.meson_steps.specs.ListSteps.{AreBare, AreDoable, bare, wide_depth}
+use Rattle.meson_calls.specs.declared.call.CallRef.{CallRef}
 use Rattle.meson_calls.specs.Loading.{Loaded, HasFileName, IsProject, max_files}
-use Rattle.meson_steps.specs.Journal.{IsSavedToo, is_saved, put_back}
+use Rattle.meson_steps.specs.Journal.{IsSavedToo, PutsBack, is_saved}
 use Rattle.meson_steps.specs.Results.{plain_trees, saturated}
 use Rattle.meson_steps.specs.Plans.{Doable}
-use Rattle.meson_steps.specs.Steps.{Step}
+use Rattle.meson_steps.specs.Steps.{Step, bytes_again}
 
 -- ---- one step
 
@@ -46,15 +49,41 @@ pub record MayChange (w : Work) (file : ℕ) (splices : List Splice) : Type 0 wh
   pub tree : tree.Plain
   pub reads : ReadsWithin wide (bytes_at file files) tree
 
--- What the splices of a file make of the files, and the tree that is read there.
-pub record IsChanged (old new : Work) (file : ℕ) (splices : List Splice) : Type 0 where
+-- The splices of the file of a list can be made. They exchange no byte outside the list, and its new text reads as a list, with which the
+-- file then reads as a tree; `t` is the file's tree so far.
+pub record MayChangeList (w : Work) (place : CallRef) (splices : List Splice) (t : Parsed) : Type 0 where
+  pub files : List File
+  pub is : patched_all w.files splices ≡ Ok files
+  pub spanned : IsSpannedWithin wide (bytes_at place.file w.files) (view (bytes_at place.file w.files) t)
+  pub p : ListAt Span
+  pub is_p : list_at (view (bytes_at place.file w.files) t) place.path.steps ≡ Some p
+  pub q : ListAt tree.Nowhere
+  pub is_q : list_at (tree.erase (view (bytes_at place.file w.files) t)) place.path.steps ≡ Some q
+  pub front : List ℕ
+  pub was : List ℕ
+  pub now : List ℕ
+  pub back : List ℕ
+  pub old : bytes_at place.file w.files ≡ front ++ (was ++ back)
+  pub new : bytes_at place.file files ≡ front ++ (now ++ back)
+  pub from : length front ≡ (list_span p.list).from
+  pub to : length (front ++ was) ≡ (list_span p.list).to
+  pub list : tree.Listing tree.Nowhere
+  pub reads_list : ReadsListWithin wide_depth p.bracket now list
+  pub reads : ReadsWithin wide (front ++ (now ++ back)) (q.back list)
+
+-- What the splices of a file make of the files, and the tree that stands there, for which so many bytes were read.
+pub record IsChanged (old new : Work) (file : ℕ) (splices : List Splice) (bytes : ℕ) : Type 0 where
   pub tree : Parsed
   pub are_files : patched_all old.files splices ≡ Ok new.files
   pub are_splices : new.splices.items ≡ old.splices.items ++ splices
   pub are_trees : new.trees.items ≡ slice_set old.trees.items file tree
   pub are_saved : IsSavedToo file old.saved.items new.saved.items
   pub is_read : IsSpannedWithin wide (bytes_at file new.files) (view (bytes_at file new.files) tree)
-  pub is_relexed : new.relexed ≡ saturated (old.relexed + length (bytes_at file new.files))
+  pub is_relexed : new.relexed ≡ saturated (old.relexed + bytes)
+
+-- how many bytes are read again for a list of the tree `t`
+abbrev pub list_again : (old new : Work) → CallRef → Parsed → ℕ
+list_again old new place t = bytes_again (list_at (view (bytes_at place.file old.files) t) place.path.steps) (bytes_at place.file old.files) (bytes_at place.file new.files)
 
 -- ---- between two steps
 
@@ -62,9 +91,9 @@ pub record IsChanged (old new : Work) (file : ℕ) (splices : List Splice) : Typ
 abbrev pub so_far : Work → Loaded
 so_far w = record { files = w.files; parsed = w.trees.items }
 
--- the trees with what is saved put back
-abbrev pub restored : Work → List Parsed
-restored w = put_back w.saved.items w.trees.items
+-- What is saved may be put back, and that gives these trees.
+abbrev pub Restores : Work → List Parsed → Type 0
+Restores w first = PutsBack w.saved.items w.trees.items first
 
 -- Nothing is done so far, on the files and trees of a project.
 pub record IsFresh (w : Work) : Type 0 where
@@ -74,7 +103,7 @@ pub record IsFresh (w : Work) : Type 0 where
   pub none_saved : w.saved.items ≡ []
   pub none_relexed : w.relexed ≡ 0
 
--- a file whose tree is exchanged reads within wider limits
+-- a file of which something is exchanged reads within wider limits
 abbrev pub limits_of : List Saved → ℕ → Limits
 limits_of saved k = if is_saved k saved then wide else of_files
 

@@ -1,8 +1,14 @@
 //! Laws of steps. The functions do nothing: what they ensure is the law.
 
 ghost use Rattle.meson_steps.specs.Keeping.{MakingKeeps};
+ghost use Rattle.meson_steps.specs.Steps.{ListsAreReadAgain};
 
 /// Each of the steps that make splices changes one file, and keeps in it all that its edit does not touch.
 pub fn keeping()
     ensures making_keeps { MakingKeeps }
+{}
+
+/// A step on a list has the bytes of the list's new text read again, and no others.
+pub fn reading()
+    ensures lists_are_read_again { ListsAreReadAgain }
 {}

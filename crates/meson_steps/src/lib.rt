@@ -6,6 +6,7 @@ pub mod journal;
 pub mod laws;
 pub mod literals;
 pub mod names;
+mod reading;
 pub mod spans;
 pub mod statements;
 pub mod step;

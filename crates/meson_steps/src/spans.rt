@@ -1,14 +1,15 @@
 //! Where the value of an argument stands.
 
 ghost use Rattle.std.specs.Prelude.{◌≡◌, option_map};
-ghost use Rattle.meson_syntax.specs.Paths.{value_of};
+ghost use Rattle.meson_lex.specs.declared.kinds.Span.{Span};
+ghost use Rattle.meson_syntax.specs.Paths.{ListAt, ListIn, list_at, list_in, list_span, value_of};
 ghost use Rattle.meson_syntax.specs.Places.{argument_span, expression_span};
 ghost use Rattle.meson_syntax.specs.View.{arg_view, expr_view, view};
 ghost use Rattle.meson_edit.specs.Places.{bracket_offset, element_span, value_span};
 ghost use Rattle.meson_calls.specs.Picking.{Source};
 
 use meson_lex::Span;
-use meson_syntax::{Arg, Expr, Parsed, Path};
+use meson_syntax::{Arg, Bracket, Expr, Parsed, Path};
 
 /// Where an expression stands.
 pub fn span_of(expr: &Expr) -> Span
@@ -92,6 +93,40 @@ pub fn bracket_offset(tree: &Parsed, path: &Path) -> Option<usize>
 {
     match tree.list_at(path) {
         Some(list) => Some(list.span.from),
+        None => None,
+    }
+}
+
+/// The brackets of a list, and where it stands from the opening one to the closing one.
+#[derive(Clone, Copy)]
+pub struct ListSpot {
+    pub bracket: Bracket,
+    pub span: Span,
+}
+
+/// Those of the list of an array, a dictionary or a call.
+fn spot_in(expr: &Expr) -> Option<ListSpot>
+    ensures { (source : Source) → result ≡ option_map (λ (l : ListIn Span). record { bracket = l.bracket; span = list_span l.list }) (list_in (expr_view source expr.now)) }
+{
+    let (bracket, span) = match expr {
+        Expr::Array(list) => (Bracket::Square, list.span),
+        Expr::Dictionary(list) => (Bracket::Curly, list.span),
+        Expr::Call {
+            span: _,
+            name: _,
+            arguments,
+        } => (Bracket::Round, arguments.span),
+        _ => return None,
+    };
+    Some(ListSpot { bracket, span })
+}
+
+/// Those of the list that a path names, if it is there.
+pub fn list_spot(tree: &Parsed, path: &Path) -> Option<ListSpot>
+    ensures { (source : Source) → result ≡ option_map (λ (p : ListAt Span). record { bracket = p.bracket; span = list_span p.list }) (list_at (view source tree.now) path.now.steps) }
+{
+    match tree.expr_at(path) {
+        Some(expr) => spot_in(expr),
         None => None,
     }
 }

@@ -1,6 +1,7 @@
 //! The steps of a command: edits of lists and of whole statements, one after another.
 
 ghost use Rattle.std.specs.Prelude.{◌≡◌, ◌++◌, ◌∷◌, [], OnOk};
+ghost use Rattle.meson_steps.specs.ListSteps.{edits_list};
 
 use meson_calls::CallRef;
 use meson_splice::Bytes;
@@ -23,6 +24,15 @@ pub enum ListEdit {
     RemoveStatement(usize),
     /// A statement behind all others of the file.
     Append(Bytes),
+}
+
+impl ListEdit {
+    /// Whether it is an edit of a list.
+    pub(crate) fn is_of_list(&self) -> bool
+        ensures { result ≡ edits_list self.now }
+    {
+        !matches!(self, ListEdit::RemoveStatement(_) | ListEdit::Append(_))
+    }
 }
 
 /// An edit of the list of the array, dictionary or call at a place, or of the block there.

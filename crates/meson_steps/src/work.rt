@@ -1,9 +1,11 @@
 //! Steps done on the files and trees of a project, one after another.
 
-ghost use Rattle.std.specs.Prelude.{[], ◌++◌, ◌<◌, ◌≡◌, ◌≢◌, ◌≤◌, ◌∷◌, IfErr, IfOk, List, OnOk, length, true, false, ℕ};
+ghost use Rattle.std.specs.Prelude.{[], ◌++◌, ◌<◌, ◌≡◌, ◌≢◌, ◌≤◌, ◌∷◌, IfErr, IfOk, List, OnOk, Ok, length, slice_index_or, true, false, ℕ};
 ghost use Rattle.meson_layout.specs.Layout.{IsReady, layout_of};
 ghost use Rattle.meson_lex.specs.Items.{IsItemList, Lexeme};
+ghost use Rattle.meson_splice.specs.declared.file_set.File.{File};
 ghost use Rattle.meson_splice.specs.Files.{bytes_at};
+ghost use Rattle.meson_splice.specs.Patch.{patched_all};
 ghost use Rattle.meson_syntax.specs.View.{view};
 ghost use Rattle.meson_steps.specs.Done.{IsOutcome, MayNotBeMade};
 ghost use Rattle.meson_calls.specs.Loading.{IsProject, Loaded};
@@ -11,24 +13,25 @@ ghost use Rattle.meson_calls.specs.Picking.{Source};
 ghost use Rattle.meson_steps.specs.Plans.{Doable};
 ghost use Rattle.meson_steps.specs.Steps as meant;
 ghost use Rattle.meson_steps.specs.Steps.{effective};
-ghost use Rattle.meson_steps.specs.Working.{AreShallowSoFar, HasDeep, HasLarge, HasSteps, IsChanged, IsFresh, IsNext, IsUnderWay, MayChange, Reached, placed_edit, restored, so_far};
+ghost use Rattle.meson_steps.specs.Working.{AreShallowSoFar, HasDeep, HasLarge, HasSteps, IsChanged, IsFresh, IsNext, IsUnderWay, MayChange, MayChangeList, Reached, Restores, list_again, placed_edit, so_far};
 ghost use Rattle.meson_steps.specs.ListSteps.{bare};
 
-use crate::journal::{Saved, exchange, is_saved};
-use crate::spans::{bracket_offset, element_span, value_span};
+use crate::journal::{Saved, SavedList, exchange, exchange_list, is_saved};
+use crate::reading::{list_in, unread};
+use crate::spans::{ListSpot, bracket_offset, element_span, list_spot, value_span};
 use crate::statements::statement_span;
 use crate::step::{ListEdit, ListStep};
-use meson_calls::Refusal;
+use meson_calls::{CallRef, Refusal};
 use meson_edit::nests_within;
 use meson_layout::{Primitive, layout};
 use meson_splice::{Change, FileSet, Many, Splice, SpliceFault, apply_all};
-use meson_syntax::{MAX_LEN, ParseFault, Parsed, parse_wide};
+use meson_syntax::{MAX_LEN, Parsed, Path, parse_wide};
 use std::alloc::{AllocError, Global};
 
 /// So deep may the tree of a file nest.
 const MAX_DEPTH: usize = 64;
 
-/// Files and trees that steps change, the splices so far, the trees that were there before, and how many bytes were read again.
+/// Files and trees that steps change, the splices so far, the trees and lists that were exchanged, and how many bytes were read again.
 #[derive(Drop)]
 pub struct Work {
     pub splices: Vec<Splice>,
@@ -38,33 +41,32 @@ pub struct Work {
     pub relexed: u64,
 }
 
-/// An edit as it is laid out: by where the parts that it names stand.
-fn primitive_of(tree: &Parsed, step: ListStep) -> Option<Primitive>
-    ensures { (source : Source) → result ≡ placed_edit (view source tree.now) step.list.path.steps step.edit }
+/// An edit of the list or the block at a path as it is laid out: by where the parts that it names stand.
+fn primitive_of(tree: &Parsed, path: &Path, edit: ListEdit) -> Option<Primitive>
+    ensures { (source : Source) → result ≡ placed_edit (view source tree.now) path.now.steps edit }
 {
-    let ListStep { list, edit } = step;
     match edit {
-        ListEdit::First(new) => match bracket_offset(tree, &list.path) {
+        ListEdit::First(new) => match bracket_offset(tree, path) {
             Some(bracket) => Some(Primitive::First { bracket, new }),
             None => None,
         },
-        ListEdit::After(n, new) => match element_span(tree, &list.path, n) {
+        ListEdit::After(n, new) => match element_span(tree, path, n) {
             Some(element) => Some(Primitive::After { element, new }),
             None => None,
         },
-        ListEdit::Remove(n) => match element_span(tree, &list.path, n) {
+        ListEdit::Remove(n) => match element_span(tree, path, n) {
             Some(element) => Some(Primitive::Remove { element }),
             None => None,
         },
-        ListEdit::Replace(n, new) => match value_span(tree, &list.path, n) {
+        ListEdit::Replace(n, new) => match value_span(tree, path, n) {
             Some(value) => Some(Primitive::Replace { value, new }),
             None => None,
         },
-        ListEdit::Wrap(n) => match value_span(tree, &list.path, n) {
+        ListEdit::Wrap(n) => match value_span(tree, path, n) {
             Some(value) => Some(Primitive::Wrap { value }),
             None => None,
         },
-        ListEdit::RemoveStatement(n) => match statement_span(tree, &list.path, n) {
+        ListEdit::RemoveStatement(n) => match statement_span(tree, path, n) {
             Some(statement) => Some(Primitive::RemoveStatement { statement }),
             None => None,
         },
@@ -100,6 +102,26 @@ fn laid(
     }
 }
 
+/// Makes splices in the files, and gives them back.
+fn applied(
+    alloc: Global,
+    files: &mut FileSet,
+    splices: Vec<Splice>,
+) -> Result<Vec<Splice>, Refusal>
+    requires { (new : List File) × (patched_all files.old splices.items ≡ Ok new) }
+    ensures made { OnOk result (patched_all files.old splices.items ≡ Ok files.new) }
+    ensures same { IfOk result (λ made. made.items ≡ splices.items) }
+    ensures refused { IfErr result (λ e. e ≡ Refusal.OutOfMemory) }
+{
+    let change = Change::untitled(alloc, Many::of(splices));
+    match apply_all(alloc, files, &change) {
+        Ok(()) => {}
+        Err(fault) => return Err(unmade(fault)),
+    }
+    let Change { splices, title: _ } = change;
+    Ok(splices.take())
+}
+
 /// Want of memory is the one reason that splices are not made.
 fn unmade(fault: SpliceFault) -> Refusal
     requires { fault ≡ SpliceFault.OutOfMemory }
@@ -111,23 +133,13 @@ fn unmade(fault: SpliceFault) -> Refusal
     }
 }
 
-/// Want of memory is the one reason that a changed file is not read.
-fn unread(fault: ParseFault) -> Refusal
-    requires { fault ≡ ParseFault.OutOfMemory }
-    ensures { result ≡ Refusal.OutOfMemory }
-{
-    match fault {
-        ParseFault::OutOfMemory => Refusal::OutOfMemory,
-        _ => unreachable!(),
-    }
-}
-
 impl Work {
     /// Nothing so far, on the files and trees of a project. Takes no memory.
     pub fn start(alloc: Global, files: FileSet, trees: Vec<Parsed>) -> Work
         requires { IsProject (record { files = files; parsed = trees.items }) }
         ensures is { so_far result ≡ record { files = files; parsed = trees.items } }
         ensures fresh { IsFresh result }
+        ensures restores { Restores result trees.items }
     {
         Work {
             splices: Vec::new(alloc),
@@ -145,14 +157,16 @@ impl Work {
     fn step(&mut self, alloc: Global, step: ListStep) -> Result<(), Refusal>
         requires { (old : Loaded) × IsNext old self.old step }
         ensures done { (old : Loaded) (before rest : List meant.Step) (s : meant.Step) → bare s ≡ Some step → Reached old before (s ∷ rest) self.old → OnOk result (Reached old (before ++ s ∷ []) rest self.new) }
-        ensures restores { restored self.new ≡ restored self.old }
+        ensures restores { (first : List Parsed) → Restores self.old first → Restores self.new first }
         ensures refused { IfErr result (λ e. e ≡ Refusal.OutOfMemory) }
     {
-        let file = step.list.file;
+        let ListStep { list: place, edit } = step;
+        let file = place.file;
         if file >= self.trees.len() {
             unreachable!();
         }
-        let Some(primitive) = primitive_of(&self.trees[file], step) else {
+        let of_list = edit.is_of_list();
+        let Some(primitive) = primitive_of(&self.trees[file], &place.path, edit) else {
             unreachable!();
         };
         let splices = laid(
@@ -164,7 +178,11 @@ impl Work {
         if splices.as_slice().is_empty() {
             return Ok(());
         }
-        self.change(alloc, file, splices)
+        if of_list {
+            self.change_list(alloc, place, splices)
+        } else {
+            self.change(alloc, file, splices)
+        }
     }
 
     /// Makes the splices of a step in its file, and reads that again.
@@ -175,23 +193,59 @@ impl Work {
         requires trees { file < length self.old.trees.items }
         requires files { file < length self.old.files }
         requires read { MayChange self.old file splices.items }
-        ensures done { OnOk result (IsChanged self.old self.new file splices.items) }
-        ensures restores { restored self.new ≡ restored self.old }
+        ensures done { OnOk result (IsChanged self.old self.new file splices.items (length (bytes_at file self.new.files))) }
+        ensures restores { (first : List Parsed) → Restores self.old first → Restores self.new first }
         ensures refused { IfErr result (λ e. e ≡ Refusal.OutOfMemory) }
     {
-        let change = Change::untitled(alloc, Many::of(splices));
-        match apply_all(alloc, &mut self.files, &change) {
-            Ok(()) => {}
-            Err(fault) => return Err(unmade(fault)),
-        }
+        let splices = applied(alloc, &mut self.files, splices)?;
         let bytes = self.files.bytes(file);
         self.relexed = self.relexed.saturating_add(bytes.len() as u64);
         match parse_wide(alloc, bytes) {
             Ok(tree) => exchange(&mut self.trees, &mut self.saved, file, tree)?,
             Err(fault) => return Err(unread(fault)),
         }
-        let Change { splices, title: _ } = change;
-        push_all(&mut self.splices, splices.take())?;
+        push_all(&mut self.splices, splices)?;
+        Ok(())
+    }
+
+    /// Makes the splices of a step on a list in the list's file, and reads the list again.
+    ///
+    /// # Errors
+    /// Memory is refused.
+    fn change_list(
+        &mut self,
+        alloc: Global,
+        place: CallRef,
+        splices: Vec<Splice>,
+    ) -> Result<(), Refusal>
+        requires trees { place.file < length self.old.trees.items }
+        requires files { place.file < length self.old.files }
+        requires read { (d : Parsed) → MayChangeList self.old place splices.items (slice_index_or self.old.trees.items place.file d) }
+        ensures done { (d : Parsed) → OnOk result (IsChanged self.old self.new place.file splices.items (list_again self.old self.new place (slice_index_or self.old.trees.items place.file d))) }
+        ensures restores { (first : List Parsed) → Restores self.old first → Restores self.new first }
+        ensures refused { IfErr result (λ e. e ≡ Refusal.OutOfMemory) }
+    {
+        let Some(ListSpot { bracket, span }) = list_spot(&self.trees[place.file], &place.path)
+        else {
+            unreachable!();
+        };
+        let from = span.from;
+        let was = span.to - from;
+        let around = self.files.bytes(place.file).len() - was;
+        let splices = applied(alloc, &mut self.files, splices)?;
+        let bytes = self.files.bytes(place.file);
+        let now = bytes.len() - around;
+        self.relexed = self.relexed.saturating_add(now as u64);
+        let list = list_in(alloc, &bytes[from..from + now], bracket)?;
+        let new = SavedList {
+            place,
+            list,
+            from,
+            was,
+            now,
+        };
+        exchange_list(&mut self.trees, &mut self.saved, new)?;
+        push_all(&mut self.splices, splices)?;
         Ok(())
     }
 
@@ -202,7 +256,7 @@ impl Work {
     pub fn do_steps(&mut self, alloc: Global, steps: Vec<ListStep>) -> Result<(), Refusal>
         requires { (old : Loaded) × (ss : List meant.Step) × IsUnderWay old ss steps.items self.old }
         ensures done { (old : Loaded) (ss : List meant.Step) → IsUnderWay old ss steps.items self.old → OnOk result (Reached old ss [] self.new) }
-        ensures restores { restored self.new ≡ restored self.old }
+        ensures restores { (first : List Parsed) → Restores self.old first → Restores self.new first }
         ensures refused { IfErr result (λ e. e ≡ Refusal.OutOfMemory) }
     {
         for step in steps {
@@ -275,7 +329,7 @@ pub fn done(alloc: Global, work: &mut Work, steps: Vec<ListStep>) -> Result<(), 
     requires fresh { IsFresh work.old }
     requires doable { HasSteps (so_far work.old) steps.items }
     ensures done { (ss : List meant.Step) → Doable (so_far work.old) ss steps.items → OnOk result (IsOutcome (so_far work.old) ss work.new.splices.items (so_far work.new) work.new.relexed) }
-    ensures restores { restored work.new ≡ restored work.old }
+    ensures restores { (first : List Parsed) → Restores work.old first → Restores work.new first }
     ensures refused { (ss : List meant.Step) → Doable (so_far work.old) ss steps.items → IfErr result (λ e. e ≢ Refusal.OutOfMemory → MayNotBeMade (so_far work.old) ss e) }
 {
     work.do_steps(alloc, steps)?;

@@ -1,18 +1,17 @@
-use Rattle.std.proofs.Common.{◌∙◌, ◌≤◌, ap, length, sym, arith}
-use Rattle.std.proofs.lemmas.List.{set_past}
-use Rattle.meson_steps.specs.Journal.{put_back}
-use Rattle.meson_steps.proofs.Restoring.{put_back_push}
+use Rattle.std.proofs.Common.{◌≡◌, ◌∙◌, ap, subst, sym}
+use Rattle.meson_steps.specs.Journal.{MayPut, MayPutBack, put_back, put_one}
+use Rattle.meson_steps.proofs.Restoring.{may_pop, put_back_push}
 use Rattle.meson_steps.proofs.journal.put_back.Goals as goal
 
-pub loop-last-preserved-then-file-len : goal.loop-last-preserved-then-file-len
-loop-last-preserved-then-file-len c =
-    let trees = c.loop-last.trees.items in
-    sym (put_back_push c.pop.new.self.items c.in-Some.last trees) ∙ ap (λ l. put_back l trees) (sym c.in-Some.ensures.items) ∙ c.loop-last.invariant
+pub put_one-requires : goal.put_one-requires
+put_one-requires c = (may_pop c.pop.new.self.items c.in-Some.last c.loop-last.trees.items (subst (λ l. MayPutBack l c.loop-last.trees.items) c.in-Some.ensures.items c.loop-last.invariant.may)).0
 
 pub loop-last-preserved : goal.loop-last-preserved
 loop-last-preserved c =
     let trees = c.loop-last.trees.items in
+    let left = c.pop.new.self.items in
     let last = c.in-Some.last in
-    let past : length trees ≤ last.file = omega (arith, c.if-file-len.false, c.len.ensures) in
-    ap (put_back c.pop.new.self.items) (sym (set_past trees last.file last.tree past))
-    ∙ sym (put_back_push c.pop.new.self.items last trees) ∙ ap (λ l. put_back l trees) (sym c.in-Some.ensures.items) ∙ c.loop-last.invariant
+    record {
+      may = subst (MayPutBack left) (sym c.put_one.ensures) (may_pop left last trees (subst (λ l. MayPutBack l trees) c.in-Some.ensures.items c.loop-last.invariant.may)).1;
+      gives = ap (put_back left) c.put_one.ensures ∙ sym (put_back_push left last trees) ∙ ap (λ l. put_back l trees) (sym c.in-Some.ensures.items) ∙ c.loop-last.invariant.gives;
+    }

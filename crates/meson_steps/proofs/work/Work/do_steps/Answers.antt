@@ -8,7 +8,7 @@ use Rattle.meson_steps.proofs.UnderWay.{all_reached, next_step, under_way_more}
 use Rattle.meson_steps.proofs.work.Work.do_steps.Goals as goal
 
 pub loop-step-init : goal.loop-step-init
-loop-step-init c = record { joined = sym c.into_iter-step-iterator.ensures.into_iter_gives.0; under_way = λ old steps left u. u; restores = refl }
+loop-step-init c = record { joined = sym c.into_iter-step-iterator.ensures.into_iter_gives.0; under_way = λ old steps left u. u; restores = λ first r. r }
 
 pub step-requires : goal.step-requires
 step-requires c =
@@ -26,7 +26,7 @@ loop-step-preserved c =
           under_way_more old c.loop-step.self c.step.new.self steps c.in-Some.step left
           (c.loop-step.invariant.under_way old steps (c.in-Some.step ∷ left) (subst (λ xs. IsUnderWay old steps xs c.args.self.now) (append_assoc c.loop-step.yielded (c.in-Some.step ∷ []) left) u))
           (c.in_ok-step.ensures.done old);
-      restores = c.in_ok-step.ensures.restores ∙ c.loop-step.invariant.restores;
+      restores = λ first r. c.in_ok-step.ensures.restores first (c.loop-step.invariant.restores first r);
     }
 
 pub returns-clause-done : goal.returns-clause-done

@@ -1,0 +1,32 @@
+-- The brackets and the span of a list that a path names.
+use Rattle.std.proofs.Common.{◌≡◌, ℕ, List, Option, Some, None, refl}
+use Rattle.std.specs.Prelude.{option_map, option_and_then}
+use Rattle.meson_lex.specs.declared.kinds.Span.{Span}
+use Rattle.meson_lex.specs.Significant.{Word}
+use Rattle.meson_syntax.specs.Paths.{Hole, ListAt, ListIn, Node, Sort, block_of, expression_at, expression_of, list_at, list_in, list_of_node, list_span, list_within, of_block, of_expression, of_statement, reach}
+use Rattle.meson_syntax.specs.Tree.{Block, Expression, File}
+use Rattle.meson_steps.specs.declared.spans.ListSpot.{ListSpot}
+
+abbrev pub spot_at : ListAt Span → ListSpot
+spot_at p = record { bracket = p.bracket; span = list_span p.list }
+
+abbrev pub spot_in : Expression Span → Option ListSpot
+spot_in e = option_map (λ (l : ListIn Span). record { bracket = l.bracket; span = list_span l.list }) (list_in e)
+
+spot_inside : (f : File Span) (before behind : List Word) (back : Expression Span → Block Span) (o : Option (ListIn Span))
+    → option_map spot_at (option_map (list_within f before behind back) o) ≡ option_map (λ (l : ListIn Span). record { bracket = l.bracket; span = list_span l.list }) o
+spot_inside f before behind back None = refl
+spot_inside f before behind back (Some l) = refl
+
+spot_of_node : (f : File Span) (sort : Sort) (x : Node sort Span) (before behind : List Word) (back : Node sort Span → Block Span)
+    → option_map spot_at (list_of_node Span sort x f before behind back) ≡ option_and_then spot_in (expression_of Span sort x)
+spot_of_node f of_expression e before behind back = spot_inside f before behind back (list_in e)
+spot_of_node f of_statement s before behind back = refl
+spot_of_node f of_block b before behind back = refl
+
+pub spot_reached : (f : File Span) (path : List ℕ) → option_map spot_at (list_at f path) ≡ option_and_then spot_in (expression_at f path)
+spot_reached f path = each (reach Span of_block (block_of f) path) where
+  each : (r : Option (Hole Span (Block Span))) → option_map spot_at (option_and_then (λ h. list_of_node Span h.sort h.inside f h.before h.behind h.back) r)
+      ≡ option_and_then spot_in (option_and_then (λ h. expression_of Span h.sort h.inside) r)
+  each None = refl
+  each (Some h) = spot_of_node f h.sort h.inside h.before h.behind h.back

@@ -1,0 +1,127 @@
+-- A list that is read alone in the place of another one: the borders that move stay in their text, and the old list undoes it.
+use Rattle.std.proofs.Common.{◌≡◌, ℕ, ◌+◌, ◌<◌, ◌≤◌, List, [], ◌++◌, length, length-append, refl, sym, ap, ap₂, ◌∙◌, subst, arith}
+use Rattle.std.specs.Prelude.{◌^◌, Some}
+use Rattle.meson_lex.specs.declared.kinds.Span.{Span}
+use Rattle.meson_lex.specs.Significant.{Word, start}
+use Rattle.meson_syntax.specs.declared.operator.Bracket.{Bracket}
+use Rattle.meson_syntax.specs.declared.tree.List as rust
+use Rattle.meson_syntax.specs.declared.tree.Parsed.{Parsed}
+use Rattle.meson_syntax.specs.Exchange.{IsListText}
+use Rattle.meson_syntax.specs.Furthest.{furthest_list}
+use Rattle.meson_syntax.specs.Grammar.{listing_depth}
+use Rattle.meson_syntax.specs.ListPut.{exchanged}
+use Rattle.meson_syntax.specs.MovedCode.{moved_list, moved_parsed}
+use Rattle.meson_syntax.specs.Moves.{moved}
+use Rattle.meson_syntax.specs.Paths.{ListAt, list_at, list_span}
+use Rattle.meson_syntax.specs.Reads.{IsSpannedWithin, wide}
+use Rattle.meson_syntax.specs.ReadsList.{IsSpannedListWithin, list_items}
+use Rattle.meson_syntax.specs.View.{list_view, view}
+use Rattle.meson_syntax.proofs.borders.Files.{trees-end}
+use Rattle.meson_syntax.proofs.borders.Tokens.{spots-within}
+use Rattle.meson_syntax.proofs.borders.Trees.{at_most, listing-ends}
+use Rattle.meson_syntax.proofs.kept.ListsAlone.{lists-alone}
+use Rattle.meson_syntax.proofs.kept.Told.{list_told}
+use Rattle.meson_syntax.proofs.kept.Tokens.{open-long}
+use Rattle.meson_edit.specs.ExchangedTrees.{IsExchange, tree_with}
+use Rattle.meson_steps.specs.declared.journal.SavedList.{SavedList}
+use Rattle.meson_steps.specs.Journal.{MayShift, MayTake}
+use Rattle.meson_steps.proofs.Pending.{old-lists-look, trees-exchange, trees-exchange-back}
+
+-- a list's text has its brackets at least
+pub list_text_some : (text : List ℕ) (b : Bracket) (words : List Word) → IsListText text b words → 1 ≤ length text
+list_text_some text b words t =
+    let long = open-long b [] [] t.inner t.open_item t.close_item t.is_open t.are_items.each in
+    omega (arith, long, ap length t.are_items.joins)
+
+-- no border of a list that is read alone lies behind its text
+list_ends : (depth : ℕ) (b : Bracket) (text : List ℕ) (l : rust.List) → IsSpannedListWithin depth b text (list_view text l) → furthest_list l ≤ length text
+list_ends depth b text l is =
+    let items = list_items is.reads.text in
+    let n = length text in
+    let all : 0 + length _ ≤ n = omega (arith, ap length is.reads.text.are_items.joins) in
+    let far = listing-ends n (list_view text l) b depth _ is.stands (spots-within n start 0 0 items (omega arith) all).0 in
+    at_most (sym (ap furthest_list (list_told text l))) far
+
+module _ (t : Parsed) (new : SavedList) (m : MayTake t new) where
+  abbrev path : List ℕ
+  path = new.place.path.steps
+
+  abbrev after : List ℕ
+  after = m.front ++ (m.now ++ m.back)
+
+  -- the tree with the new list
+  abbrev pub taken : Parsed
+  taken = exchanged path new.from new.was new.now (moved_list (λ n. n + new.from) new.list) t
+
+  before_is : length m.bytes ≡ new.from + (new.was + length m.back)
+  before_is = omega (arith, ap length m.is.parts, length-append m.front (m.was ++ m.back), length-append m.was m.back, m.from_is, m.was_is)
+
+  after_is : length after ≡ new.from + (new.now + length m.back)
+  after_is = omega (arith, length-append m.front (m.now ++ m.back), length-append m.now m.back, m.from_is, m.now_is)
+
+  was_some : 1 ≤ new.was
+  was_some =
+      let own = lists-alone wide m.bytes (view m.bytes t) m.is.spanned path m.p m.is.is_p m.front m.was m.back m.is.parts m.is.from m.is.to (listing_depth m.p.list) (omega arith) in
+      omega (arith, m.was_is, list_text_some m.was m.p.bracket _ own.1.reads.text)
+
+  now_some : 1 ≤ new.now
+  now_some = omega (arith, m.now_is, list_text_some m.now m.p.bracket _ m.is.is_list.reads.text)
+
+  pub may_shift : MayShift new.from new.was new.now t
+  may_shift =
+      let end = trees-end wide m.bytes t m.is.spanned in
+      record {
+        some = was_some;
+        inside = omega (arith, end.0, before_is);
+        ends = end.1;
+        fits = omega (arith, end.0, before_is, after_is, m.after_fits);
+      }
+
+  pub may_move : furthest_list new.list + new.from < 2 ^ 64
+  may_move = omega (arith, list_ends m.is.depth m.p.bracket m.now new.list m.is.is_list, m.now_is, after_is, m.after_fits)
+
+  taken_is : taken ≡ tree_with path m.front m.was m.now new.list t
+  taken_is =
+      ap (λ n. exchanged path n new.was new.now (moved_list (λ k. k + n) new.list) t) m.from_is
+      ∙ ap₂ (λ w n. exchanged path (length m.front) w n (moved_list (λ k. k + length m.front) new.list) t) m.was_is m.now_is
+
+  pub taken_spanned : IsSpannedWithin wide after (view after taken)
+  taken_spanned = subst (λ u. IsSpannedWithin wide after (view after u)) (sym taken_is) (trees-exchange wide m.bytes t path m.p m.front m.was m.now m.back new.list m.is)
+
+  pub may_go_back : MayShift new.from new.now new.was taken
+  may_go_back =
+      let end = trees-end wide after taken taken_spanned in
+      record {
+        some = now_some;
+        inside = omega (arith, end.0, after_is);
+        ends = end.1;
+        fits = omega (arith, end.0, before_is, after_is, m.before_fits);
+      }
+
+  module _ (old : rust.List) (gives : (source : List ℕ) (r : ListAt Span) → list_at (view source (moved_parsed (moved (new.from + new.was) new.was new.now) t)) path ≡ Some r → list_view source old ≡ r.list) where
+    -- the old list with its old span
+    abbrev pub kept : rust.List
+    kept = record { items = old.items; trailing = old.trailing; span = record { from = new.from; to = new.from + new.was } }
+
+    place_is : record { from = new.from; to = new.from + new.was } ≡ list_span m.p.list
+    place_is =
+        let to : new.from + new.was ≡ (list_span m.p.list).to = omega (arith, length-append m.front m.was, m.is.to, m.from_is, m.was_is) in
+        ap₂ (λ x y. record { from = x; to = y }) (m.from_is ∙ m.is.from) to
+
+    gives_there : (source : List ℕ) (r : ListAt Span) → list_at (view source (moved_parsed (moved (length m.front + length m.was) (length m.was) (length m.now)) t)) path ≡ Some r → list_view source old ≡ r.list
+    gives_there = λ source r is. gives source r
+        (ap (λ n. list_at (view source (moved_parsed (moved (n + new.was) new.was new.now) t)) path) m.from_is
+        ∙ ap₂ (λ w n. list_at (view source (moved_parsed (moved (length m.front + w) w n) t)) path) m.was_is m.now_is ∙ is)
+
+    kept_looks : list_view m.bytes kept ≡ m.p.list
+    kept_looks =
+        ap (λ s. list_view m.bytes (record { items = old.items; trailing = old.trailing; span = s })) place_is
+        ∙ old-lists-look wide m.bytes t path m.p m.front m.was m.now m.back new.list m.is old gives_there
+
+    -- which gives the old tree again
+    pub goes_back : exchanged path new.from new.now new.was kept taken ≡ t
+    goes_back =
+        ap (exchanged path new.from new.now new.was kept) taken_is
+        ∙ ap (λ n. exchanged path n new.now new.was kept (tree_with path m.front m.was m.now new.list t)) m.from_is
+        ∙ ap₂ (λ n w. exchanged path (length m.front) n w kept (tree_with path m.front m.was m.now new.list t)) m.now_is m.was_is
+        ∙ trees-exchange-back wide m.bytes t path m.p m.front m.was m.now m.back new.list m.is kept kept_looks

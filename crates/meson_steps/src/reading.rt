@@ -1,0 +1,38 @@
+//! What steps read again.
+
+ghost use Rattle.std.specs.Prelude.{◌≡◌, IfErr, IfOk};
+ghost use Rattle.meson_syntax.specs.ReadsList.{IsSpannedListWithin, ReadsListWithin};
+ghost use Rattle.meson_syntax.specs.Tree.{Listing, Nowhere, erase_listing};
+ghost use Rattle.meson_syntax.specs.View.{list_view};
+ghost use Rattle.meson_steps.specs.ListSteps.{wide_depth};
+
+use meson_calls::Refusal;
+use meson_syntax::{Bracket, List, ParseFault, parse_list_within};
+use std::alloc::Global;
+
+/// So deep may a list nest between two steps of one command.
+const LIST_DEPTH: usize = 65;
+
+/// Want of memory is the one reason that a changed file or list is not read.
+pub(crate) fn unread(fault: ParseFault) -> Refusal
+    requires { fault ≡ ParseFault.OutOfMemory }
+    ensures { result ≡ Refusal.OutOfMemory }
+{
+    match fault {
+        ParseFault::OutOfMemory => Refusal::OutOfMemory,
+        _ => unreachable!(),
+    }
+}
+
+/// The list that a text is.
+pub(crate) fn list_in(alloc: Global, text: &[u8], bracket: Bracket) -> Result<List, Refusal>
+    requires { (l : Listing Nowhere) × ReadsListWithin wide_depth bracket text.now l }
+    ensures reads { IfOk result (λ l. IsSpannedListWithin wide_depth bracket text.now (list_view text.now l)) }
+    ensures finds { (l : Listing Nowhere) → ReadsListWithin wide_depth bracket text.now l → IfOk result (λ x. erase_listing (list_view text.now x) ≡ l) }
+    ensures refused { IfErr result (λ e. e ≡ Refusal.OutOfMemory) }
+{
+    match parse_list_within(alloc, text, bracket, LIST_DEPTH) {
+        Ok(list) => Ok(list),
+        Err(fault) => Err(unread(fault)),
+    }
+}
