@@ -19,3 +19,4 @@ pub mod Spanned
 pub mod EachNothing
 pub mod Kept
 pub mod ListsAlone
+pub mod Elements
