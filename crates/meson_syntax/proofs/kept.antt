@@ -21,3 +21,4 @@ pub mod Kept
 pub mod ListsAlone
 pub mod TextsChildren
 pub mod PutLists
+pub mod Elements
