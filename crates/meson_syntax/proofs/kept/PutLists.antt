@@ -1,6 +1,6 @@
 -- A path finds in a tree with the texts of a source what it finds in the tree; and what a list that is put there looks like.
-use Rattle.std.specs.Prelude.{option_map, option_and_then}
-use Rattle.std.proofs.Common.{◌≡◌, ℕ, List, [], ◌∷◌, Option, Some, None, refl, sym, ap, ap₂, ◌∙◌}
+use Rattle.std.specs.Prelude.{option_map}
+use Rattle.std.proofs.Common.{◌≡◌, ℕ, List, [], ◌∷◌, refl, sym, ap, ◌∙◌}
 use Rattle.meson_lex.specs.declared.kinds.Span.{Span}
 use Rattle.meson_lex.specs.Significant.{Word}
 use Rattle.meson_syntax.specs.declared.tree.List as rust
@@ -10,14 +10,12 @@ use Rattle.meson_syntax.specs.Tree.{Expression, identifier, boolean, integer, st
 use Rattle.meson_syntax.specs.View.{list_view, view}
 use Rattle.meson_syntax.specs.Texts.{texts_of_expression, texts_of_listing, texts_of_block, texts_of}
 use Rattle.meson_syntax.specs.Paths.{Sort, of_expression, of_statement, of_block, Node, Hole, around, children, child, reach, block_of, with_block, ListIn, list_in, ListAt, list_within, list_of_node, list_at}
-use Rattle.meson_syntax.specs.ListPut.{put_there, with_list}
+use Rattle.meson_syntax.specs.ListPut.{put_there}
 use Rattle.meson_syntax.specs.MappedPaths.{InBoth, neither, both}
 use Rattle.meson_syntax.specs.PutLists.{PutListsLook, FoundListsLook}
 use Rattle.meson_syntax.proofs.kept.Each.{map-both, then-both, in-both, in-other}
 use Rattle.meson_syntax.proofs.kept.Texts.{the_file, list}
 use Rattle.meson_syntax.proofs.kept.TextsChildren.{texts_of_node, TextsHole, texts, texts-around, nth-texts, children-texts}
-use Rattle.meson_syntax.proofs.kept.Told.{list_told}
-use Rattle.meson_syntax.proofs.kept.ToldFiles.{file_told}
 use Rattle.meson_syntax.proofs.kept.Views.{views-text, list-views-text}
 
 module _ (source : List ℕ) where
