@@ -5,7 +5,7 @@ use Rattle.meson_syntax.specs.declared.source.Limits.{Limits}
 use Rattle.meson_syntax.specs.declared.tree.Arg.TheFolds.{the_lemmas}
 use Rattle.meson_syntax.specs.declared.tree.List as rust
 use Rattle.meson_syntax.specs.declared.tree.Parsed.{Parsed}
-use Rattle.meson_syntax.specs.Tree.{Listing, listing, File, erase, erase_listing}
+use Rattle.meson_syntax.specs.Tree.{Listing, listing, File}
 use Rattle.meson_syntax.specs.Grammar.{listing_depth}
 use Rattle.meson_syntax.specs.Reads.{ReadsWithin, IsSpannedWithin}
 use Rattle.meson_syntax.specs.Paths.{ListAt, list_at, list_span}
