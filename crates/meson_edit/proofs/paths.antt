@@ -6,3 +6,4 @@ pub mod Depths
 pub mod DeepLists
 pub mod Shallow
 pub mod PutBack
+pub mod ExchangedTrees

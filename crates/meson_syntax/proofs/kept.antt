@@ -19,3 +19,6 @@ pub mod Spanned
 pub mod EachNothing
 pub mod Kept
 pub mod ListsAlone
+pub mod TextsChildren
+pub mod PutLists
+pub mod Elements

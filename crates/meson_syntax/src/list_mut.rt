@@ -4,6 +4,7 @@ ghost use Rattle.std.specs.Prelude.{◌≡◌, ◌∷◌, length, Some, None};
 ghost use Rattle.meson_lex.specs.declared.kinds.Span.{Span};
 ghost use Rattle.meson_syntax.specs.Cursor.{Bytes};
 ghost use Rattle.meson_syntax.specs.Parts.{argument_parts, tail_parts};
+ghost use Rattle.meson_syntax.specs.ListPut.{with_list};
 ghost use Rattle.meson_syntax.specs.Paths.{ListAt, argument_children, block_children, branches_children, expression_children, list_at, list_in, listing_children, of_block, of_expression, of_statement, operands_children, otherwise_children, statement_children, statements_children, tail_children, tails_children};
 ghost use Rattle.meson_syntax.specs.Putting.{IsSpot, branch_child, only_child, operand_child, put_child, put_in, put_own};
 ghost use Rattle.meson_syntax.specs.Tree.{branches_of, operands_of, statements_of, tails_of};
@@ -364,6 +365,7 @@ impl Parsed {
         ensures gives { (source : Bytes) (p : ListAt Span) → list_at (view source self.old) path.now.steps ≡ Some p → list_view source result ≡ p.list }
         ensures stays { (source : Bytes) → list_at (view source self.old) path.now.steps ≡ None → view source self.new ≡ view source self.old }
         ensures returns { (source : Bytes) → list_at (view source self.old) path.now.steps ≡ None → list_view source result ≡ list_view source list }
+        ensures is { self.new ≡ with_list path.now.steps list self.old }
     {
         let mut other = list;
         put_in_block(&mut self.block, path.steps.get(), &mut other);

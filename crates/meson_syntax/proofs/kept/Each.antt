@@ -10,7 +10,7 @@ use Rattle.meson_syntax.proofs.parsing.Steps.{some-injective}
 use Rattle.meson_syntax.proofs.kept.EachChildren.{maps-around, nth-maps, children-map}
 
 -- what is found in both, and what is made of it
-map-both : {A B C D : Type 0} {P : A → B → Type 0} {Q : C → D → Type 0} (f : A → C) (g : B → D) → ((x : A) (y : B) → P x y → Q (f x) (g y))
+pub map-both : {A B C D : Type 0} {P : A → B → Type 0} {Q : C → D → Type 0} (f : A → C) (g : B → D) → ((x : A) (y : B) → P x y → Q (f x) (g y))
     → (o : Option A) (u : Option B) → InBoth P o u
     → InBoth Q (option_map f o) (option_map g u)
 map-both f g q o u neither = neither

@@ -72,7 +72,7 @@ module _ (g : ℕ → ℕ) (zero_stays : g 0 ≡ 0) (f : File Span) (len new_len
 
 -- ---- spans of lists
 
-mapped-span : (h : Span → Span) (l : Listing Span) → list_span (each_listing h l) ≡ h (list_span l)
+pub mapped-span : (h : Span → Span) (l : Listing Span) → list_span (each_listing h l) ≡ h (list_span l)
 mapped-span h (listing s trailing list) = refl
 
 span-is : (s : Span) (a b : ℕ) → s.from ≡ a → s.to ≡ b → s ≡ record { from = a; to = b }

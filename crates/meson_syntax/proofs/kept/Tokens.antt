@@ -46,12 +46,13 @@ on-carries end was now q h n k a b =
     let two = moved-on end was now n (omega arith) in
     omega arith
 
-still-spots : (end was now : ℕ) (s : State) (left : List Lexeme) → length (joined left) < end
-    → tokens_by (moved end was now) (spots s 0 0 left) ≡ spots s 0 0 left
-still-spots end was now s left h =
-    let zero_still = moved-still end was now 0 (omega arith) in
-    sym (spots-moved (moved end was now) s 0 0 (length (joined left)) left (still-carries end was now (length (joined left)) h) (omega arith))
-    ∙ ap₂ (λ a b. spots s a b left) zero_still zero_still
+pub still-spots : (end was now : ℕ) (s : State) (p : ℕ) (left : List Lexeme) → p + length (joined left) < end
+    → tokens_by (moved end was now) (spots s p p left) ≡ spots s p p left
+still-spots end was now s p left h =
+    let still = moved-still end was now p (omega arith) in
+    let q = p + length (joined left) in
+    sym (spots-moved (moved end was now) s p p q left (λ n k a b. still-carries end was now q h n k (omega arith) b) (omega arith))
+    ∙ ap₂ (λ a b. spots s a b left) still still
 
 -- ---- the tokens of a list
 
@@ -60,7 +61,7 @@ module _ (o c : Lexeme) (inner : List Lexeme) (is-o : role o.kind ≡ Opens) (is
       → spots s e p (o ∷ rest) ≡ token_at o p ∷ spots (step_by Opens s) (p + length o.text) (p + length o.text) rest
   first-spots s e p rest = ap (λ (r : Role). spot_by r s o e p ++ spots (step_by r s) (end_by r o e p) (p + length o.text) rest) is-o
 
-  last-spots : (s : State) (e p : ℕ) → spots s e p (c ∷ []) ≡ token_at c p ∷ []
+  pub last-spots : (s : State) (e p : ℕ) → spots s e p (c ∷ []) ≡ token_at c p ∷ []
   last-spots s e p = ap (λ (r : Role). spot_by r s c e p ++ spots (step_by r s) (end_by r c e p) (p + length c.text) []) is-c
 
   -- between its brackets as between those of any other text
@@ -180,7 +181,7 @@ module _ (b : Bracket) (left right : List Lexeme) (o c : Lexeme) (inner : List L
             ∙ ap (λ ts. spots start 0 0 left ++ (list_tokens from q other d ++ ts))
             (rest-moved g s end (end + length (joined right)) right (on-carries end was now (end + length (joined right)) (omega arith)) (omega arith));
         is_behind = list-behind (opens b) (closes b) (open-bracket b) (close-bracket b) left right o c inner is-o is-c flat end;
-        stay = still-spots end was now start left (omega arith);
+        stay = still-spots end was now start 0 left (omega arith);
       }
 
 -- an opening bracket is one byte long
@@ -193,6 +194,17 @@ open-long b left right inner o c is h =
     let n = ap length text in
     let m = length-append o.text (joined (inner ++ c ∷ [])) in
     let one : length (first.byte ∷ []) ≡ 1 = refl in
+    omega arith
+
+-- and so is a closing one
+pub close-long : (b : Bracket) (left right inner : List Lexeme) (o c : Lexeme) → c.kind ≡ closes b → AreItems (left ++ listed o inner c right) []
+    → 1 ≤ length c.text
+close-long b left right inner o c is h =
+    let last = close-bracket b in
+    let within = (AreItems-split left (listed o inner c right) [] h).1.1 in
+    let here = (AreItems-split inner (c ∷ right) [] within).1.0 in
+    let n = ap length (bracket-text (closes b) Closes last c is (joined right ++ []) here) in
+    let one : length (last.byte ∷ []) ≡ 1 = refl in
     omega arith
 
 pub tokens-move : TokensMove

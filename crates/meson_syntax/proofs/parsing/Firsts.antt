@@ -17,7 +17,7 @@ use Rattle.meson_syntax.specs.Tree.{Expression, identifier, boolean, integer, st
 use Rattle.meson_syntax.specs.Grammar.{looseness, row_level, HasOperand, HasTail}
 use Rattle.meson_syntax.specs.Input.{Input, kind, next}
 use Rattle.meson_syntax.specs.Reading.{row_of, unary_of}
-use Rattle.meson_syntax.specs.Spelling.{One, Says, Then, SpellsExpression, SpellsOperands, SpellsTail, SpellsTails, SpellsListing, SpellsArgument, SaysName}
+use Rattle.meson_syntax.specs.Spelling.{One, Then, SpellsExpression, SpellsOperands, SpellsTail, SpellsTails, SpellsListing, SpellsArgument, SaysName}
 use Rattle.meson_syntax.proofs.parsing.Steps.{Passes, part, nothing-same}
 use Rattle.meson_syntax.proofs.parsing.Splits.{passes-split, says-read, one-read, name-read}
 

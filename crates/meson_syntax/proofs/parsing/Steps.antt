@@ -7,7 +7,6 @@ use Rattle.meson_lex.specs.declared.kinds.Kind.{Kind}
 use Rattle.meson_lex.specs.Located.{Token}
 use Rattle.meson_syntax.specs.Input.{same_kind, Input, Outcome, Parser, and_then, kind_of, text_of, from_of, next_of, begins_with, begins_with_two, kind, spelling, from, next, sees, sees_two, after, expect, span_from, name_next}
 use Rattle.meson_syntax.specs.Spelling.{end_of, Covers, One, Says, Then, Nothing, SaysName}
-use Rattle.meson_syntax.specs.Tree.{Name}
 use Rattle.meson_syntax.proofs.parsing.NonEmpty.{says-some}
 
 -- from i to j the parser took these tokens

@@ -1,6 +1,5 @@
 -- The tokens of a list and of its elements.
 use Rattle.std.proofs.Common.{◌≡◌, ℕ, Bool, false, List, [], ◌∷◌, ◌++◌, map, Some, refl, ap, subst, ◌∙◌, append_assoc}
-use Rattle.meson_lex.specs.declared.kinds.Kind.TheVariants as k
 use Rattle.meson_lex.specs.declared.kinds.Span.{Span}
 use Rattle.meson_lex.specs.Located.{Token, words}
 use Rattle.meson_syntax.specs.declared.operator.Bracket.{Bracket}

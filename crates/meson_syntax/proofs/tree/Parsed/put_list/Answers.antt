@@ -1,8 +1,13 @@
-use Rattle.std.proofs.Common.{◌≡◌, ◌∙◌, List, ℕ, ap}
+use Rattle.std.proofs.Common.{◌≡◌, ◌∙◌, List, [], ℕ, None, Option, Some, ap, refl, sym}
 use Rattle.meson_lex.specs.declared.kinds.Span.{Span}
-use Rattle.meson_syntax.specs.Paths.{of_block, with_block}
+use Rattle.meson_syntax.specs.Codes.{code_file}
+use Rattle.meson_syntax.specs.ListPut.{put_there}
+use Rattle.meson_syntax.specs.Tree.{Listing}
+use Rattle.meson_syntax.specs.declared.tree.Parsed.{Parsed}
+use Rattle.meson_syntax.specs.Paths.{ListAt, list_at, of_block, with_block}
 use Rattle.meson_syntax.specs.Putting.{put_in}
 use Rattle.meson_syntax.specs.View.{block_view, list_view, view}
+use Rattle.meson_syntax.proofs.kept.ToldFiles.{file_told}
 use Rattle.meson_syntax.proofs.PutFiles.{list-put, none-put, told}
 use Rattle.meson_syntax.proofs.tree.Parsed.put_list.Goals as goal
 use Rattle.meson_syntax.proofs.tree.Parsed.put_list.Goals.{After-put_in_block}
@@ -34,3 +39,13 @@ pub returns-clause-returns : goal.returns-clause-returns
 returns-clause-returns c = λ source is.
     let f = view source c.args.self.now in
     ap (λ q. q.0) (stands c source ∙ none-put Span (list_view source c.args.list) f c.args.path.now.steps is)
+
+looks : (t u : Parsed) (l : Listing Span) (o : Option (ListAt Span)) → ((p : ListAt Span) → o ≡ Some p → view [] u ≡ p.back l) → (o ≡ None → view [] u ≡ view [] t) → view [] u ≡ put_there o l (view [] t)
+looks t u l (Some p) put stays = put p refl
+looks t u l None put stays = stays refl
+
+pub returns-clause-is : goal.returns-clause-is
+returns-clause-is c =
+    let t = c.args.self.now in
+    let u : Parsed = record { block = c.put_in_block.new.block; span = t.span } in
+    sym (file_told [] u) ∙ ap code_file (looks t u (list_view [] c.args.list) (list_at (view [] t) c.args.path.now.steps) (returns-clause-put c []) (returns-clause-stays c []))
