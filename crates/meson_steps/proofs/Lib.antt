@@ -5,9 +5,10 @@ pub mod WithOne
 pub mod OtherBytes
 mod Spliced
 mod Restoring
-mod Pending
 mod ListTaken
 mod ListSpots
+mod ReadAgain
+mod ListChanged
 mod PatchedFiles
 pub mod WorkKnown
 mod StepPlaces

@@ -4,6 +4,7 @@ use Rattle.std.specs.Prelude.{◌^◌, Some}
 use Rattle.meson_lex.specs.declared.kinds.Span.{Span}
 use Rattle.meson_lex.specs.Significant.{Word, start}
 use Rattle.meson_syntax.specs.declared.operator.Bracket.{Bracket}
+use Rattle.meson_syntax.specs.declared.source.Limits.{Limits}
 use Rattle.meson_syntax.specs.declared.tree.List as rust
 use Rattle.meson_syntax.specs.declared.tree.Parsed.{Parsed}
 use Rattle.meson_syntax.specs.Exchange.{IsListText}
@@ -15,6 +16,7 @@ use Rattle.meson_syntax.specs.Moves.{moved}
 use Rattle.meson_syntax.specs.Paths.{ListAt, list_at, list_span}
 use Rattle.meson_syntax.specs.Reads.{IsSpannedWithin, wide}
 use Rattle.meson_syntax.specs.ReadsList.{IsSpannedListWithin, list_items}
+use Rattle.meson_syntax.specs.Tree.{File}
 use Rattle.meson_syntax.specs.View.{list_view, view}
 use Rattle.meson_syntax.proofs.borders.Files.{trees-end}
 use Rattle.meson_syntax.proofs.borders.Tokens.{spots-within}
@@ -23,15 +25,26 @@ use Rattle.meson_syntax.proofs.kept.ListsAlone.{lists-alone}
 use Rattle.meson_syntax.proofs.kept.Told.{list_told}
 use Rattle.meson_syntax.proofs.kept.Tokens.{open-long}
 use Rattle.meson_edit.specs.ExchangedTrees.{IsExchange, tree_with}
+use Rattle.meson_edit.proofs.paths.ExchangedTrees.{old-lists-look, trees-exchange, trees-exchange-back}
 use Rattle.meson_steps.specs.declared.journal.SavedList.{SavedList}
 use Rattle.meson_steps.specs.Journal.{MayShift, MayTake}
-use Rattle.meson_steps.proofs.Pending.{old-lists-look, trees-exchange, trees-exchange-back}
+
+-- a tree of nothing
+pub no_tree : Parsed
+no_tree = record { block = record { statements = []; span = record { from = 0; to = 0 } }; span = record { from = 0; to = 0 } }
 
 -- a list's text has its brackets at least
 pub list_text_some : (text : List ℕ) (b : Bracket) (words : List Word) → IsListText text b words → 1 ≤ length text
 list_text_some text b words t =
     let long = open-long b [] [] t.inner t.open_item t.close_item t.is_open t.are_items.each in
     omega (arith, long, ap length t.are_items.joins)
+
+-- and so has the text of a list of a tree
+pub old_list_some : (limits : Limits) (bytes : List ℕ) (f : File Span) → IsSpannedWithin limits bytes f → (path : List ℕ) (p : ListAt Span) → list_at f path ≡ Some p
+    → (front was back : List ℕ) → bytes ≡ front ++ (was ++ back) → length front ≡ (list_span p.list).from → length (front ++ was) ≡ (list_span p.list).to → 1 ≤ length was
+old_list_some limits bytes f s path p is front was back parts from to =
+    let own = lists-alone limits bytes f s path p is front was back parts from to (listing_depth p.list) (omega arith) in
+    list_text_some was p.bracket _ own.1.reads.text
 
 -- no border of a list that is read alone lies behind its text
 list_ends : (depth : ℕ) (b : Bracket) (text : List ℕ) (l : rust.List) → IsSpannedListWithin depth b text (list_view text l) → furthest_list l ≤ length text
@@ -61,8 +74,8 @@ module _ (t : Parsed) (new : SavedList) (m : MayTake t new) where
 
   was_some : 1 ≤ new.was
   was_some =
-      let own = lists-alone wide m.bytes (view m.bytes t) m.is.spanned path m.p m.is.is_p m.front m.was m.back m.is.parts m.is.from m.is.to (listing_depth m.p.list) (omega arith) in
-      omega (arith, m.was_is, list_text_some m.was m.p.bracket _ own.1.reads.text)
+      let own = old_list_some wide m.bytes (view m.bytes t) m.is.spanned path m.p m.is.is_p m.front m.was m.back m.is.parts m.is.from m.is.to in
+      omega (arith, m.was_is, own)
 
   now_some : 1 ≤ new.now
   now_some = omega (arith, m.now_is, list_text_some m.now m.p.bracket _ m.is.is_list.reads.text)

@@ -1,6 +1,7 @@
-use Rattle.std.proofs.Common.{[], arith}
+use Rattle.std.proofs.Common.{◌∙◌, [], arith, subst, sym}
 use Rattle.meson_splice.specs.declared.file_set.File.{File}
-use Rattle.meson_steps.proofs.StepTaken.{empty_list, some_list, when_ok, code_in_files, code_in_trees, code_laid, code_may, code_ready, code_same, code_new}
+use Rattle.meson_steps.specs.Working.{IsChanged, list_again}
+use Rattle.meson_steps.proofs.StepTaken.{empty_list, some_list, when_ok, code_in_files, code_in_trees, code_laid, code_may, code_may_list, code_ready, code_same, code_new, code_new_list}
 use Rattle.meson_steps.proofs.work.Work.step.Goals as goal
 
 nobody : File
@@ -40,6 +41,18 @@ returns-then-is_empty-clause-done c = λ old before rest s is r.
     code_same old c.args.self.now c.args.step before rest s is r c.index.result.now c.index.ensures c.in-Some.primitive c.in-Some.ensures c.bytes.result.now c.bytes.ensures
     c.name.result.now nobody (c.name.ensures nobody) splices c.in_ok-splices.ensures.done (empty_list c.as_slice.result.now splices c.as_slice.ensures.value c.if-is_empty.ensures)
 
+pub change_list-requires-clause-files : goal.change_list-requires-clause-files
+change_list-requires-clause-files c =
+    let n = c.requires.1 in
+    code_in_files c.requires.0 c.args.self.now c.args.step n.before n.rest n.next n.is n.reached
+
+pub change_list-requires-clause-read : goal.change_list-requires-clause-read
+change_list-requires-clause-read c =
+    let n = c.requires.1 in
+    let old = c.requires.0 in
+    code_may_list old c.args.self.now c.args.step n.before n.rest n.next n.is n.reached c.index.result.now c.index.ensures c.in-Some.primitive c.in-Some.ensures c.bytes.result.now c.bytes.ensures
+    c.name.result.now nobody (c.name.ensures nobody) c.in_ok-splices.splices.items c.in_ok-splices.ensures.done (sym c.is_of_list-of_list.ensures ∙ c.if-of_list.true)
+
 pub change-requires-clause-files : goal.change-requires-clause-files
 change-requires-clause-files c =
     let n = c.requires.1 in
@@ -52,10 +65,22 @@ change-requires-clause-read c =
     code_may old c.args.self.now c.args.step n.before n.rest n.next n.is n.reached c.index.result.now c.index.ensures c.in-Some.primitive c.in-Some.ensures c.bytes.result.now c.bytes.ensures
     c.name.result.now nobody (c.name.ensures nobody) c.in_ok-splices.splices.items c.in_ok-splices.ensures.done
 
-pub returns-clause-done : goal.returns-clause-done
-returns-clause-done c = λ old before rest s is r.
+pub returns-then-of_list-clause-done : goal.returns-then-of_list-clause-done
+returns-then-of_list-clause-done c = λ old before rest s is r.
+    let splices = c.in_ok-splices.splices.items in
+    let t = c.index.result.now in
+    when_ok c.change_list.result
+    (λ changed. code_new_list old c.args.self.now c.args.step before rest s is r t c.index.ensures c.in-Some.primitive c.in-Some.ensures c.bytes.result.now c.bytes.ensures
+    c.name.result.now nobody (c.name.ensures nobody) splices c.in_ok-splices.ensures.done (some_list c.as_slice.result.now splices c.as_slice.ensures.value c.if-is_empty.ensures) c.change_list.new.self
+    (sym c.is_of_list-of_list.ensures ∙ c.if-of_list.true)
+    (subst (λ u. IsChanged c.args.self.now c.change_list.new.self c.args.step.list.file splices (list_again c.args.self.now c.change_list.new.self c.args.step.list u)) (sym c.index.ensures) changed))
+    (c.change_list.ensures.done t)
+
+pub returns-else-of_list-clause-done : goal.returns-else-of_list-clause-done
+returns-else-of_list-clause-done c = λ old before rest s is r.
     let splices = c.in_ok-splices.splices.items in
     when_ok c.change.result
     (code_new old c.args.self.now c.args.step before rest s is r c.index.result.now c.index.ensures c.in-Some.primitive c.in-Some.ensures c.bytes.result.now c.bytes.ensures
-    c.name.result.now nobody (c.name.ensures nobody) splices c.in_ok-splices.ensures.done (some_list c.as_slice.result.now splices c.as_slice.ensures.value c.if-is_empty.ensures) c.change.new.self)
+    c.name.result.now nobody (c.name.ensures nobody) splices c.in_ok-splices.ensures.done (some_list c.as_slice.result.now splices c.as_slice.ensures.value c.if-is_empty.ensures) c.change.new.self
+    (sym c.is_of_list-of_list.ensures ∙ c.if-of_list.false))
     c.change.ensures.done
