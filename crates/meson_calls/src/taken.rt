@@ -17,7 +17,7 @@ pub struct Taken<'t> {
 }
 
 impl<'t> Taken<'t> {
-    ghost use Rattle.meson_calls.specs.Notes.{note_view, note_views, taken_view, what_view};
+    ghost use Rattle.meson_calls.specs.Notes.{note_views, taken_view, what_view};
 
     /// Nothing so far. Takes no memory.
     pub fn new(alloc: Global) -> Self
