@@ -1,12 +1,11 @@
 -- The first element of a list of arguments that has a name: its value is the code's.
-use Rattle.std.proofs.Common.{rules, ◌≡◌, ℕ, ◌<◌, List, length, get_or, sym, ap, ◌∙◌, subst}
+use Rattle.std.proofs.Common.{◌≡◌, ℕ, ◌<◌, List, length, get_or, sym, ap, ◌∙◌, subst}
 use Rattle.std.specs.Prelude.{Bool, true, false, Some, None, if◌then◌else◌, bytes_eq}
 use Rattle.meson_lex.specs.declared.kinds.Span.{Span}
 use Rattle.meson_syntax.specs.declared.tree.Arg.{Arg}
 use Rattle.meson_syntax.specs.declared.tree.Arg.TheVariants as arg
-use Rattle.meson_syntax.specs.declared.tree.Arg.TheFolds.{the_lemmas}
 use Rattle.meson_syntax.specs.declared.tree.Expr.{Expr}
-use Rattle.meson_syntax.specs.Tree.{Name, Expression, plain, named, pair}
+use Rattle.meson_syntax.specs.Tree.{Name, Expression, plain, named}
 use Rattle.meson_syntax.specs.View.{arg_view, expr_view, name_at}
 use Rattle.meson_syntax.proofs.parsing.Steps.{some-injective}
 use Rattle.meson_calls.specs.Calls.{value_with_name}

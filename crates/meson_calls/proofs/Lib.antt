@@ -2,6 +2,7 @@ pub mod SlashParts
 pub mod FileNames
 pub mod Loads
 pub mod Visits
+mod Takings
 pub mod ListTurns
 pub mod Parted
 pub mod StatementParts

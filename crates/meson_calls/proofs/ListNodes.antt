@@ -1,11 +1,11 @@
 -- What a list holds by its bracket; the array, dictionary or call whose list a path names, and the nodes below it.
-use Rattle.std.proofs.Common.{◌≡◌, ℕ, zero, suc, Bool, true, false, List, [], ◌∷◌, ◌++◌, Option, Some, None, refl, sym, ap, ◌∙◌, subst}
+use Rattle.std.proofs.Common.{◌≡◌, ℕ, zero, suc, Bool, true, false, List, [], ◌∷◌, ◌++◌, Option, Some, None, refl, sym, ap, ◌∙◌}
 use Rattle.std.specs.Prelude.{option_map, option_and_then}
 use Rattle.meson_lex.specs.Significant.{Word}
 use Rattle.meson_syntax.specs.declared.operator.Bracket.{Bracket}
 use Rattle.meson_syntax.specs.declared.operator.Bracket.TheVariants as bracket
 use Rattle.meson_syntax.specs.Operators.{holds_values, holds_pairs}
-use Rattle.meson_syntax.specs.Tree.{Expression, Argument, plain, named, pair, is_named, Arguments, no_arguments, argument, argument_list, Block, File}
+use Rattle.meson_syntax.specs.Tree.{Expression, plain, named, pair, is_named, Arguments, no_arguments, argument, argument_list, Block, File}
 use Rattle.meson_syntax.specs.Grammar.{LevelArguments}
 use Rattle.meson_syntax.specs.Parts.{Any, an_expression, a_statement, a_block, expression_parts, expression_any, parts, node_at}
 use Rattle.meson_syntax.specs.Paths.{Sort, of_expression, of_statement, of_block, Node, Hole, nth, reach, block_of, expression_of, expression_at, ListIn, list_in, ListAt, list_within, list_of_node, list_at}

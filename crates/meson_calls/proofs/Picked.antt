@@ -21,16 +21,16 @@ module _ (test : Note Span → Bool) where
   pick : Bool → CallRef → List CallRef → List CallRef
   pick b p rest = if b then p ∷ rest else rest
 
-  one : (n : code.Note) (ns : List code.Note) → places_that test (note_views (n ∷ ns)) ≡ pick (test (note_view n).it) n.place (places_that test (note_views ns))
+  one : (n : code.Note) (ns : List code.Note) → places_that test (note_views (n ∷ ns)) ≡ pick (test (note_view n).it) (note_view n).place (places_that test (note_views ns))
   unfolding pick
   one n ns = go (test (note_view n).it)
     where
-      go : (b : Bool) → map (λ m. m.place) (if b then note_view n ∷ filter (λ m. test m.it) (note_views ns) else filter (λ m. test m.it) (note_views ns)) ≡ (if b then n.place ∷ places_that test (note_views ns) else places_that test (note_views ns))
+      go : (b : Bool) → map (λ m. m.place) (if b then note_view n ∷ filter (λ m. test m.it) (note_views ns) else filter (λ m. test m.it) (note_views ns)) ≡ (if b then (note_view n).place ∷ places_that test (note_views ns) else places_that test (note_views ns))
       go true = refl
       go false = refl
 
   here : (ns : List code.Note) (i : ℕ) (d : code.Note) → i < length ns →
-      places_that test (note_views (drop i ns)) ≡ pick (test (note_view (get_or ns i d)).it) (get_or ns i d).place (places_that test (note_views (drop (i + 1) ns)))
+      places_that test (note_views (drop i ns)) ≡ pick (test (note_view (get_or ns i d)).it) (note_view (get_or ns i d)).place (places_that test (note_views (drop (i + 1) ns)))
   here ns i d within = at_drop_more (λ ms. places_that test (note_views ms)) ns i d within ∙ one (get_or ns i d) (drop (i + 1) ns)
 
   pub skipped : (ns : List code.Note) (i : ℕ) (d : code.Note) (found whole : List CallRef) → i < length ns → test (note_view (get_or ns i d)).it ≡ false →
@@ -38,16 +38,16 @@ module _ (test : Note Span → Bool) where
   unfolding pick
   skipped ns i d found whole within is so_far =
       let more = places_that test (note_views (drop (i + 1) ns)) in
-      sym (ap (λ t. found ++ t) (here ns i d within ∙ ap (λ b. pick b (get_or ns i d).place more) is)) ∙ so_far
+      sym (ap (λ t. found ++ t) (here ns i d within ∙ ap (λ b. pick b (note_view (get_or ns i d)).place more) is)) ∙ so_far
 
   pub picked : (ns : List code.Note) (i : ℕ) (d : code.Note) (found after whole : List CallRef) → i < length ns → test (note_view (get_or ns i d)).it ≡ true →
-      after ≡ found ++ (get_or ns i d).place ∷ [] → found ++ places_that test (note_views (drop i ns)) ≡ whole → after ++ places_that test (note_views (drop (i + 1) ns)) ≡ whole
+      after ≡ found ++ (note_view (get_or ns i d)).place ∷ [] → found ++ places_that test (note_views (drop i ns)) ≡ whole → after ++ places_that test (note_views (drop (i + 1) ns)) ≡ whole
   unfolding pick
   picked ns i d found after whole within is joins so_far =
       let more = places_that test (note_views (drop (i + 1) ns)) in
       ap (λ a. a ++ more) joins
-      ∙ append_assoc found ((get_or ns i d).place ∷ []) more
-      ∙ sym (ap (λ t. found ++ t) (here ns i d within ∙ ap (λ b. pick b (get_or ns i d).place more) is))
+      ∙ append_assoc found ((note_view (get_or ns i d)).place ∷ []) more
+      ∙ sym (ap (λ t. found ++ t) (here ns i d within ∙ ap (λ b. pick b (note_view (get_or ns i d)).place more) is))
       ∙ so_far
 
   pub all_picked : (ns : List code.Note) (i : ℕ) (found whole : List CallRef) → length ns ≤ i → found ++ places_that test (note_views (drop i ns)) ≡ whole → found ≡ whole

@@ -9,6 +9,7 @@ pub mod Expansion
 pub mod Sources
 pub mod Loading
 pub mod Loads
+pub mod Ranges
 pub mod Notes
 pub mod Walks
 pub mod Picking

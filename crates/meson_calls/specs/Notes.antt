@@ -1,12 +1,14 @@
 -- What all commands look at: the calls, assignments and loops of a project, with their places.
-use Rattle.std.specs.Prelude.{ℕ, Bool, List, map, Option, Some, None, option_map}
+use Rattle.std.specs.Prelude.{ℕ, Bool, List, map, slice_range, Option, Some, None, option_map}
 use Rattle.meson_lex.specs.declared.kinds.Span.{Span}
 use Rattle.meson_syntax.specs.Tree.{Name, Expression, Statement, evaluate, assign, selection, iteration, breaks, continues}
 use Rattle.meson_syntax.specs.View.{text_at, names_at, expr_view, list_view}
 use Rattle.meson_calls.specs.declared.note.Note as code
+use Rattle.meson_calls.specs.declared.note.Ranged.{Ranged}
+use Rattle.meson_calls.specs.declared.taken.Taken.{Taken}
 use Rattle.meson_calls.specs.declared.note.What.{What}
 use Rattle.meson_calls.specs.declared.note.What.TheVariants as what
-use Rattle.meson_calls.specs.Project.{Project, Placed, placed}
+use Rattle.meson_calls.specs.Project.{Project, Placed, place, place_at, placed}
 use Rattle.meson_calls.specs.Parts.{Part, an_expression, a_statement, parts}
 use Rattle.meson_calls.specs.Calls.{Call, call_of, all_chosen}
 use Rattle.meson_calls.specs.Variables.{is_set}
@@ -43,7 +45,14 @@ what_view source (what.Assign x sets e) = an_assignment (text_at source x) sets 
 what_view source (what.Loop xs) = a_loop (names_at source xs.now)
 
 abbrev pub note_view : code.Note → Placed (Note Span)
-note_view n = placed n.place (what_view n.source.now n.what)
+note_view n = placed (place_at n.place) (what_view n.source.now n.what)
 
 abbrev pub note_views : List code.Note → List (Placed (Note Span))
 note_views ns = map note_view ns
+
+-- while they are taken: the path of each is a range of the steps
+abbrev pub ranged_view : List ℕ → Ranged → Placed (Note Span)
+ranged_view steps r = placed (place r.file (slice_range steps r.from r.to)) (what_view r.source.now r.what)
+
+abbrev pub taken_view : Taken → List (Placed (Note Span))
+taken_view t = map (ranged_view t.steps.items) t.notes.items

@@ -13,7 +13,7 @@ use Rattle.meson_calls.specs.declared.part.Part.TheVariants as rust
 use Rattle.meson_calls.specs.declared.part.Walk.{Walk}
 use Rattle.meson_calls.specs.Project.{Placed, placed, place, child}
 use Rattle.meson_calls.specs.Parts.{Part, an_expression, a_statement, expression_parts, statement_parts, block_parts}
-use Rattle.meson_calls.specs.Notes.{Note, noted, note_views}
+use Rattle.meson_calls.specs.Notes.{Note, noted, taken_view}
 
 -- ---- where a variable is read
 
@@ -39,7 +39,7 @@ pub data Kept : Type 0 where
   reads_kept : List ℕ → List CallRef → Kept
 
 abbrev pub keeper_view : Keeper → Kept
-keeper_view (keeper.Notes found) = notes_kept (note_views found.items)
+keeper_view (keeper.Notes found) = notes_kept (taken_view found)
 keeper_view (keeper.Reads name found) = reads_kept name.now found.items
 
 abbrev pub with_part : Kept → Placed (Part Span) → Kept

@@ -1,5 +1,7 @@
 //! Calls by their places, and the sources of a target.
 
+ghost use Rattle.std.specs.Prelude.{◌≡◌};
+
 use meson_lex::Span;
 use meson_splice::{Many, Text};
 use meson_syntax::Path;
@@ -20,6 +22,27 @@ pub enum Role {
 pub struct CallRef {
     pub file: usize,
     pub path: Path,
+}
+
+/// The same, whose path stands elsewhere.
+#[derive(Clone, Copy)]
+pub struct Place<'t> {
+    pub file: usize,
+    pub path: &'t [usize],
+}
+
+impl CallRef {
+    ghost use Rattle.meson_calls.specs.Project.{place_at};
+
+    /// The place, with the path that stands here.
+    pub fn as_place(&self) -> Place<'_>
+        ensures { place_at result ≡ self.now }
+    {
+        Place {
+            file: self.file,
+            path: self.path.steps.get(),
+        }
+    }
 }
 
 /// A source of a target: a literal, with the file and the bytes in which it stands.

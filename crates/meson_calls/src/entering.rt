@@ -100,7 +100,8 @@ pub fn entered_by(
     requires reads { IsSpanned bytes.now (view bytes.now tree.now) }
     ensures { IfOk result (λ names. map string_bytes names.items ≡ subdirs name.now (view bytes.now tree.now)) }
 {
-    let notes = notes_in(alloc, 0, bytes, tree)?;
+    let taken = notes_in(alloc, 0, bytes, tree)?;
+    let notes = taken.all(alloc)?;
     let names = all_entered(alloc, name, notes.as_slice())?;
     Ok(names)
 }

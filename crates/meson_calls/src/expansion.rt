@@ -239,7 +239,7 @@ impl<'t> Variables<'t> {
         }
         match self.single(name)? {
             Some(value) => {
-                let mut path = Vec::from_slice(self.alloc, value.place.path.steps.get())?;
+                let mut path = Vec::from_slice(self.alloc, value.place.path)?;
                 path.push(0)?;
                 marks.follow(name)?;
                 let site = Site {

@@ -1,17 +1,18 @@
 //! What a walk does with each part that it visits.
 
 ghost use Rattle.std.specs.Prelude.{◌≡◌, ◌∷◌, [], ◌++◌, OnOk, option_map};
-ghost use Rattle.meson_calls.specs.Notes.{note_of, noted, note_views, what_view};
+ghost use Rattle.meson_calls.specs.Notes.{note_of, noted, taken_view, what_view};
 ghost use Rattle.meson_calls.specs.Picking.{Source};
 ghost use Rattle.meson_calls.specs.Variables.{is_set};
 ghost use Rattle.meson_calls.specs.Walks.{Keeps, keeper_view, notes_of_kept, part_at, part_reads, part_view, read_in, reads_of_kept};
 
 use crate::call::CallRef;
 use crate::keeper::Keeper;
-use crate::note::{Note, What};
+use crate::note::What;
 use crate::part::{Part, Walk};
 use crate::place::place_of;
 use crate::roles::text_of;
+use crate::taken::Taken;
 use meson_syntax::{Assignment, Expr, Stmt};
 use std::alloc::AllocError;
 
@@ -64,8 +65,8 @@ fn note_in(stmt: &Stmt) -> Option<What<'_>>
 
 impl<'t> Keeper<'t> {
     /// The notes, if notes are kept.
-    pub fn notes(self) -> Option<Vec<Note<'t>>>
-        ensures { option_map (λ found. note_views found.items) result ≡ notes_of_kept (keeper_view self.entry) }
+    pub fn notes(self) -> Option<Taken<'t>>
+        ensures { option_map taken_view result ≡ notes_of_kept (keeper_view self.entry) }
     {
         match self {
             Keeper::Notes(found) => Some(found),
@@ -115,17 +116,12 @@ impl<'t> Walk<'t> {
         &self,
         path: &[usize],
         part: Part<'t>,
-        found: &mut Vec<Note<'t>>,
+        found: &mut Taken<'t>,
     ) -> Result<(), AllocError>
-        ensures { OnOk result (note_views found.new.items ≡ note_views found.old.items ++ noted (part_at self.now path.now part.entry ∷ [])) }
+        ensures { OnOk result (taken_view found.new ≡ taken_view found.old ++ noted (part_at self.now path.now part.entry ∷ [])) }
     {
         if let Some(what) = part.note() {
-            let place = place_of(self.alloc, self.file, path)?;
-            found.push(Note {
-                place,
-                source: self.source,
-                what,
-            })?;
+            found.take(self.file, path, self.source, what)?;
         }
         Ok(())
     }

@@ -9,6 +9,7 @@ ghost use Rattle.meson_calls.specs.Loading.{HasFileName};
 ghost use Rattle.meson_calls.specs.Knowns.{is_entered, is_unknown_in, has_unknown, meant_in, enters_none};
 ghost use Rattle.meson_calls.specs.Notes.{note_view, note_views};
 ghost use Rattle.meson_calls.specs.Picking.{Source, call_with};
+ghost use Rattle.meson_calls.specs.Project.{place_at};
 ghost use Rattle.meson_calls.specs.Strings.{AreGood, NotesGood, note_words};
 ghost use Rattle.meson_calls.specs.Variables.{sets_unknown};
 
@@ -88,7 +89,7 @@ fn enters_none(
 fn is_unknown(alloc: Global, files: &FileSet, note: &Note<'_>) -> Result<bool, AllocError>
     requires named { All HasFileName files.now }
     requires good { AreGood (note_words (note_view note.now).it) }
-    ensures { IfOk result (λ unknown. unknown ≡ is_unknown_in files.now note.now.place (note_view note.now).it) }
+    ensures { IfOk result (λ unknown. unknown ≡ is_unknown_in files.now (place_at note.now.place) (note_view note.now).it) }
 {
     match note.what {
         What::Call {

@@ -28,12 +28,13 @@ pub mod roles;
 pub mod setters;
 pub mod sourcing;
 pub mod sums;
+pub mod taken;
 pub mod values;
 pub mod variables;
 pub mod walk;
 pub mod walk_statements;
 
-pub use call::{CallRef, Role, SourceItem, Sources};
+pub use call::{CallRef, Place, Role, SourceItem, Sources};
 pub use entering::{entered_by, subdirs};
 pub use load_fault::{LoadFault, Unloaded};
 pub use loading::MAX_FILES;

@@ -12,7 +12,7 @@ use crate::call::{CallRef, Role};
 use crate::literals::first_literal_is;
 use crate::note::{Note, What};
 use crate::picking::with_role;
-use crate::place::{copy_place, value_place};
+use crate::place::{child_place, place_of};
 use crate::roles::{has_role, text_of};
 use meson_syntax::Expr;
 use std::alloc::{AllocError, Global};
@@ -79,7 +79,7 @@ pub fn with_name(
     for i in 0..notes.len() {
         let note = &notes[i];
         if has_name(alloc, role, id, note)? {
-            let place = copy_place(alloc, &note.place)?;
+            let place = place_of(alloc, note.place.file, note.place.path)?;
             found.push(place)?;
         }
     }
@@ -99,7 +99,7 @@ fn assigned_to(
     for i in 0..notes.len() {
         let note = &notes[i];
         if sets_call(role, id, note) {
-            let place = value_place(alloc, &note.place, 0)?;
+            let place = child_place(alloc, note.place, 0)?;
             found.push(place)?;
         }
     }

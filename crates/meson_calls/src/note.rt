@@ -1,6 +1,6 @@
 //! What all commands look at.
 
-use crate::call::CallRef;
+use crate::call::Place;
 use meson_lex::Span;
 use meson_syntax::{Expr, List};
 
@@ -23,9 +23,19 @@ pub enum What<'t> {
 }
 
 /// The same with its place, and the source in which it stands.
-#[derive(Drop)]
+#[derive(Clone, Copy)]
 pub struct Note<'t> {
-    pub place: CallRef,
+    pub place: Place<'t>,
+    pub source: &'t [u8],
+    pub what: What<'t>,
+}
+
+/// The same with its file, and the range of its path among the steps of all paths.
+#[derive(Clone, Copy)]
+pub struct Ranged<'t> {
+    pub file: usize,
+    pub from: usize,
+    pub to: usize,
     pub source: &'t [u8],
     pub what: What<'t>,
 }

@@ -4,10 +4,10 @@ ghost use Rattle.std.specs.Prelude.{◌≡◌, IfOk, length};
 ghost use Rattle.meson_syntax.specs.View.{view};
 ghost use Rattle.meson_calls.specs.Parts.{file_parts};
 ghost use Rattle.meson_calls.specs.Loading.{named_trees, views};
-ghost use Rattle.meson_calls.specs.Notes.{noted, notes, note_views};
+ghost use Rattle.meson_calls.specs.Notes.{noted, notes, taken_view};
 
 use crate::keeper::Keeper;
-use crate::note::Note;
+use crate::taken::Taken;
 use crate::walk_statements::{walk_file, walk_files};
 use meson_splice::FileSet;
 use meson_syntax::Parsed;
@@ -22,10 +22,10 @@ pub fn notes_in<'t>(
     file: usize,
     source: &'t [u8],
     parsed: &'t Parsed,
-) -> Result<Vec<Note<'t>>, AllocError>
-    ensures { IfOk result (λ found. note_views found.items ≡ noted (file_parts file (view source.entry.now parsed.entry.now))) }
+) -> Result<Taken<'t>, AllocError>
+    ensures { IfOk result (λ found. taken_view found ≡ noted (file_parts file (view source.entry.now parsed.entry.now))) }
 {
-    let mut keeper = Keeper::Notes(Vec::new(alloc));
+    let mut keeper = Keeper::Notes(Taken::new(alloc));
     walk_file(alloc, file, source, parsed, &mut keeper)?;
     match keeper.notes() {
         Some(found) => Ok(found),
@@ -41,11 +41,11 @@ pub fn notes_of<'t>(
     alloc: Global,
     files: &'t FileSet,
     trees: &'t [Parsed],
-) -> Result<Vec<Note<'t>>, AllocError>
+) -> Result<Taken<'t>, AllocError>
     requires { length trees.now ≡ length files.now }
-    ensures { IfOk result (λ found. note_views found.items ≡ notes (named_trees files.now (views files.now trees.now))) }
+    ensures { IfOk result (λ found. taken_view found ≡ notes (named_trees files.now (views files.now trees.now))) }
 {
-    let mut keeper = Keeper::Notes(Vec::new(alloc));
+    let mut keeper = Keeper::Notes(Taken::new(alloc));
     walk_files(alloc, files, trees, &mut keeper)?;
     match keeper.notes() {
         Some(found) => Ok(found),

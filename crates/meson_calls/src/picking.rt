@@ -6,7 +6,7 @@ ghost use Rattle.meson_calls.specs.Picking.{places_with_role};
 
 use crate::call::{CallRef, Role};
 use crate::note::Note;
-use crate::place::copy_place;
+use crate::place::place_of;
 use crate::roles::note_has_role;
 use std::alloc::{AllocError, Global};
 
@@ -18,7 +18,7 @@ pub fn with_role(alloc: Global, role: Role, notes: &[Note<'_>]) -> Result<Vec<Ca
     for i in 0..notes.len() {
         let note = &notes[i];
         if note_has_role(role, note.source, note.what) {
-            let place = copy_place(alloc, &note.place)?;
+            let place = place_of(alloc, note.place.file, note.place.path)?;
             found.push(place)?;
         }
     }

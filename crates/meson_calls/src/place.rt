@@ -1,9 +1,9 @@
 //! Places in the files of a project.
 
 ghost use Rattle.std.specs.Prelude.{◌≡◌, IfOk};
-ghost use Rattle.meson_calls.specs.Project.{child, place};
+ghost use Rattle.meson_calls.specs.Project.{child, place, place_at};
 
-use crate::call::CallRef;
+use crate::call::{CallRef, Place};
 use meson_syntax::{Many, Path};
 use std::alloc::{AllocError, Global};
 
@@ -27,11 +27,18 @@ pub fn copy_place(alloc: Global, place: &CallRef) -> Result<CallRef, AllocError>
     place_of(alloc, place.file, place.path.steps.get())
 }
 
-/// The place of the n-th child of what stands at a place: of the value of an argument of a call, or of an assignment.
+/// The place of the n-th child of what stands at a place.
+pub fn child_place(alloc: Global, place: Place<'_>, number: usize) -> Result<CallRef, AllocError>
+    ensures { IfOk result (λ p. p ≡ child (place_at place.entry) number) }
+{
+    let mut path = Vec::from_slice(alloc, place.path)?;
+    path.push(number)?;
+    place_of(alloc, place.file, path.as_slice())
+}
+
+/// The place of the value of the n-th argument of a call.
 pub fn value_place(alloc: Global, place: &CallRef, number: usize) -> Result<CallRef, AllocError>
     ensures { IfOk result (λ p. p ≡ child place.now number) }
 {
-    let mut path = Vec::from_slice(alloc, place.path.steps.get())?;
-    path.push(number)?;
-    place_of(alloc, place.file, path.as_slice())
+    child_place(alloc, place.as_place(), number)
 }

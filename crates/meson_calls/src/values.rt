@@ -7,7 +7,7 @@ ghost use Rattle.meson_calls.specs.Notes.{note_view, note_views};
 ghost use Rattle.meson_calls.specs.Noted.{option_list, note_assigned, assigned_notes};
 ghost use Rattle.meson_calls.specs.Values.{assigned_view, value_view};
 
-use crate::call::CallRef;
+use crate::call::Place;
 use crate::note::{Note, What};
 use crate::roles::text_of;
 use meson_syntax::Expr;
@@ -15,7 +15,7 @@ use meson_syntax::Expr;
 /// An assignment to a variable: its place, the value, and whether it is given with `=`.
 #[derive(Clone, Copy)]
 struct Assigned<'t> {
-    place: &'t CallRef,
+    place: Place<'t>,
     source: &'t [u8],
     value: &'t Expr,
     sets: bool,
@@ -24,7 +24,7 @@ struct Assigned<'t> {
 /// The value of an assignment, with the assignment's place.
 #[derive(Clone, Copy)]
 pub struct Value<'t> {
-    pub place: &'t CallRef,
+    pub place: Place<'t>,
     pub source: &'t [u8],
     pub value: &'t Expr,
 }
@@ -41,7 +41,7 @@ fn assigned_by<'t>(note: &'t Note<'t>, name: &[u8]) -> Option<Assigned<'t>>
         } => {
             if text_of(note.source, assigned) == name {
                 Some(Assigned {
-                    place: &note.place,
+                    place: note.place,
                     source: note.source,
                     value,
                     sets,
@@ -55,10 +55,10 @@ fn assigned_by<'t>(note: &'t Note<'t>, name: &[u8]) -> Option<Assigned<'t>>
 }
 
 /// Whether an assignment stands outside `if` and `foreach`.
-fn is_outermost(place: &CallRef) -> bool
-    ensures { result ≡ is_outermost place.now.path.steps }
+fn is_outermost(place: Place<'_>) -> bool
+    ensures { result ≡ is_outermost place.entry.path.now }
 {
-    place.path.steps.get().len() == 1
+    place.path.len() == 1
 }
 
 /// The only assignment to a variable, where it is given with `=` outside `if` and `foreach`.

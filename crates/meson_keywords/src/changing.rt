@@ -138,7 +138,8 @@ fn place_named(
     ensures found { IfOk result (λ c. the_place role id.now (notes (named_trees files.now (views files.now trees.now))) ≡ Ok c) }
     ensures refused { IfErr result (λ e. e ≢ Refusal.OutOfMemory → the_place role id.now (notes (named_trees files.now (views files.now trees.now))) ≡ Err e) }
 {
-    let notes = notes_of(alloc, files, trees)?;
+    let taken = notes_of(alloc, files, trees)?;
+    let notes = taken.all(alloc)?;
     the_call(alloc, role, id, notes.as_slice())
 }
 

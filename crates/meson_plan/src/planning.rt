@@ -38,7 +38,8 @@ pub(crate) fn planned(
     ensures plan { IfOk result (λ steps. ArePlanned (record { files = files.now; parsed = trees.now }) (planned (project (record { files = files.now; parsed = trees.now })) command.now) steps.items) }
     ensures refused { IfErr result (λ e. e ≢ OutOfMemory → planned (named_trees files.now (views files.now trees.now)) command.now ≡ Err e) }
 {
-    let notes = notes_of(alloc, files, trees)?;
+    let taken = notes_of(alloc, files, trees)?;
+    let notes = taken.all(alloc)?;
     let notes = notes.as_slice();
     match command {
         Command::SourcesAdd { target, sources } => {

@@ -113,7 +113,8 @@ impl Project {
         ensures all { IfOk result (λ calls. calls.items ≡ targets (project self.now)) }
         ensures refused { IfErr result (λ e. e ≡ Refusal.OutOfMemory) }
     {
-        let notes = notes_of(alloc, &self.files, self.trees.as_slice())?;
+        let taken = notes_of(alloc, &self.files, self.trees.as_slice())?;
+        let notes = taken.all(alloc)?;
         let calls = with_role(alloc, Role::Target, notes.as_slice())?;
         Ok(calls)
     }
@@ -123,7 +124,8 @@ impl Project {
         ensures all { IfOk result (λ calls. calls.items ≡ places (found (project self.now) role id.now)) }
         ensures refused { IfErr result (λ e. e ≡ Refusal.OutOfMemory) }
     {
-        let notes = notes_of(alloc, &self.files, self.trees.as_slice())?;
+        let taken = notes_of(alloc, &self.files, self.trees.as_slice())?;
+        let notes = taken.all(alloc)?;
         let calls = found(alloc, role, id, notes.as_slice())?;
         Ok(calls)
     }
@@ -136,7 +138,8 @@ impl Project {
         ensures found { IfOk result (λ c. place_found (the_call (project self.now) role id.now) ≡ Ok c) }
         ensures refused { IfErr result (λ e. e ≢ Refusal.OutOfMemory → place_found (the_call (project self.now) role id.now) ≡ Err e) }
     {
-        let notes = notes_of(alloc, &self.files, self.trees.as_slice())?;
+        let taken = notes_of(alloc, &self.files, self.trees.as_slice())?;
+        let notes = taken.all(alloc)?;
         the_call(alloc, role, id, notes.as_slice())
     }
 
@@ -157,7 +160,8 @@ impl Project {
         ensures refused { IfErr result (λ e. e ≢ Refusal.OutOfMemory → sources (project self.now) call.now ≡ Some (Err e)) }
     {
         let trees = self.trees.as_slice();
-        let notes = notes_of(alloc, &self.files, trees)?;
+        let taken = notes_of(alloc, &self.files, trees)?;
+        let notes = taken.all(alloc)?;
         let variables = Variables::of(alloc, &self.files, trees, notes.as_slice())?;
         sources_at(&variables, call)
     }
@@ -172,7 +176,8 @@ impl Project {
         ensures refused { IfErr result (λ e. e ≢ Refusal.OutOfMemory → extra_files (project self.now) call.now ≡ Some (Err e)) }
     {
         let trees = self.trees.as_slice();
-        let notes = notes_of(alloc, &self.files, trees)?;
+        let taken = notes_of(alloc, &self.files, trees)?;
+        let notes = taken.all(alloc)?;
         let variables = Variables::of(alloc, &self.files, trees, notes.as_slice())?;
         let called = call_at(&self.files, trees, call);
         extra_files_of(&variables, call, called.source, called.arguments)

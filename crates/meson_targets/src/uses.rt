@@ -8,6 +8,7 @@ ghost use Rattle.meson_calls.specs.Loading.{AreParsed, named_trees, views};
 ghost use Rattle.meson_calls.specs.Notes.{note_view, note_views, notes};
 ghost use Rattle.meson_calls.specs.Parts.{parts};
 ghost use Rattle.meson_calls.specs.Picking.{call_with};
+ghost use Rattle.meson_calls.specs.Project.{place_at};
 ghost use Rattle.meson_calls.specs.Roles.{one_of};
 ghost use Rattle.meson_calls.specs.Strings.{AreGood, NotesGood, note_words};
 ghost use Rattle.meson_calls.specs.Walks.{read_in};
@@ -15,13 +16,13 @@ ghost use Rattle.meson_targets.specs.TargetEdits.{call_uses, goes_through, is_us
 ghost use Rattle.meson_targets.specs.TargetViews.{place_view};
 ghost use Rattle.meson_targets.specs.Uses.{is_noted_outside, is_outside, is_read_outside, note_uses};
 
-use meson_calls::CallRef;
 use meson_calls::keeper::Keeper;
 use meson_calls::literals::first_literal;
 use meson_calls::note::{Note, What};
 use meson_calls::roles::text_of;
 use meson_calls::setters::one_of;
 use meson_calls::walk_statements::walk_files;
+use meson_calls::{CallRef, Place};
 use meson_lex::Span;
 use meson_splice::FileSet;
 use meson_syntax::{List, Parsed};
@@ -52,10 +53,10 @@ impl StatementPlace {
     }
 
     /// Whether a place stands outside the statement.
-    fn is_outside(&self, place: &CallRef) -> bool
-        ensures { result ≡ is_outside (place_view self.now) place.now }
+    fn is_outside(&self, place: Place<'_>) -> bool
+        ensures { result ≡ is_outside (place_view self.now) (place_at place.entry) }
     {
-        self.block.file != place.file || !self.is_on(place.path.steps.get())
+        self.block.file != place.file || !self.is_on(place.path)
     }
 }
 
@@ -116,7 +117,7 @@ fn is_noted_outside(
 {
     for i in 0..notes.len() {
         let note = &notes[i];
-        if line.is_outside(&note.place) && note_uses(alloc, note, name)? {
+        if line.is_outside(note.place) && note_uses(alloc, note, name)? {
             return Ok(true);
         }
     }
@@ -128,7 +129,7 @@ fn is_read_outside(places: &[CallRef], line: &StatementPlace) -> bool
     ensures { result ≡ is_read_outside (place_view line.now) places.now }
 {
     for i in 0..places.len() {
-        if line.is_outside(&places[i]) {
+        if line.is_outside(places[i].as_place()) {
             return true;
         }
     }

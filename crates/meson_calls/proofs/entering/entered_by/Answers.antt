@@ -9,9 +9,9 @@ use Rattle.meson_calls.proofs.entering.entered_by.Goals as goal
 
 pub all_entered-requires-clause-good : goal.all_entered-requires-clause-good
 all_entered-requires-clause-good c =
-    subst NotesGood (sym (ap note_views c.as_slice.ensures.value ∙ c.in_ok-notes.ensures)) (tree_good c.args.bytes.now c.args.tree.now c.requires.reads)
+    subst NotesGood (sym (ap note_views c.as_slice.ensures.value ∙ c.in_ok-notes.ensures ∙ c.in_ok-taken.ensures)) (tree_good c.args.bytes.now c.args.tree.now c.requires.reads)
 
 pub returns : goal.returns
 returns c =
     let name = c.args.name.now in
-    c.in_ok-names.ensures ∙ ap (entered_names name) (ap note_views c.as_slice.ensures.value ∙ c.in_ok-notes.ensures) ∙ entered_subdirs name (view c.args.bytes.now c.args.tree.now)
+    c.in_ok-names.ensures ∙ ap (entered_names name) (ap note_views c.as_slice.ensures.value ∙ c.in_ok-notes.ensures ∙ c.in_ok-taken.ensures) ∙ entered_subdirs name (view c.args.bytes.now c.args.tree.now)

@@ -2,7 +2,7 @@ use Rattle.std.proofs.Common.{◌≡◌, None, Some, ◌∙◌, ap}
 use Rattle.meson_syntax.proofs.parsing.Steps.{some-injective}
 use Rattle.meson_calls.specs.Loading.{named_trees, views}
 use Rattle.meson_calls.specs.Parts.{parts}
-use Rattle.meson_calls.specs.Notes.{noted, note_views}
+use Rattle.meson_calls.specs.Notes.{noted, taken_view}
 use Rattle.meson_calls.specs.Walks.{notes_kept, keeper_view, with_parts}
 use Rattle.meson_calls.proofs.Visits.{all_noted}
 use Rattle.meson_calls.proofs.notes.notes_of.Goals as goal
@@ -11,12 +11,12 @@ pub unreachable-requires : goal.unreachable-requires
 unreachable-requires c =
     let ps = parts (named_trees c.args.files.now (views c.args.files.now c.args.trees.now)) in
     let none : None ≡ Some (noted ps) =
-    all_noted None (keeper_view c.walk_files.new.keeper) ps c.in-None.ensures (c.in_ok-walk_files.ensures ∙ ap (λ ns. with_parts (notes_kept (note_views ns)) ps) c.new.ensures.items) in
+    all_noted None (keeper_view c.walk_files.new.keeper) ps c.in-None.ensures (c.in_ok-walk_files.ensures ∙ ap (λ ns. with_parts (notes_kept ns) ps) c.new.ensures) in
     absurd cc
 
 pub returns : goal.returns
 returns c =
     let ps = parts (named_trees c.args.files.now (views c.args.files.now c.args.trees.now)) in
     some-injective _ _
-    (all_noted (Some (note_views c.in-Some.found.items)) (keeper_view c.walk_files.new.keeper) ps c.in-Some.ensures
-    (c.in_ok-walk_files.ensures ∙ ap (λ ns. with_parts (notes_kept (note_views ns)) ps) c.new.ensures.items))
+    (all_noted (Some (taken_view c.in-Some.found)) (keeper_view c.walk_files.new.keeper) ps c.in-Some.ensures
+    (c.in_ok-walk_files.ensures ∙ ap (λ ns. with_parts (notes_kept ns) ps) c.new.ensures))

@@ -1,6 +1,7 @@
 use Rattle.std.proofs.Common.{◌++◌, ◌∷◌, [], ◌∙◌, sym, ap, drop}
 use Rattle.meson_calls.specs.Notes.{note_view, note_views}
 use Rattle.meson_calls.specs.Picking.{note_has_role, places_with_role}
+use Rattle.meson_calls.specs.Project.{place_at}
 use Rattle.meson_calls.proofs.Picked.{skipped, picked}
 use Rattle.meson_calls.proofs.picking.with_role.Goals as goal
 use Rattle.meson_calls.proofs.picking.with_role.Goals.{then-note_has_role+in_ok-place+in_ok-push, else-note_has_role}
@@ -14,7 +15,7 @@ loop-i-preserved c =
     elim c.if-note_has_role.branch [
       | then-note_has_role+in_ok-place+in_ok-push w ↦
           picked test notes c.loop-i.i note c.loop-i.found.items _ _ c.loop-i-test.true (is ∙ w.if-note_has_role.true)
-          (ap (λ v. v.items) w.found-is ∙ w.in_ok-push.ensures.items ∙ ap (λ p. c.loop-i.found.items ++ p ∷ []) (w.in_ok-place.ensures ∙ ap (λ n. n.place) c.index-notes-i.is))
+          (ap (λ v. v.items) w.found-is ∙ w.in_ok-push.ensures.items ∙ ap (λ p. c.loop-i.found.items ++ p ∷ []) (w.in_ok-place.ensures ∙ ap (λ n. place_at n.place) c.index-notes-i.is))
           c.loop-i.invariant
       | else-note_has_role w ↦
           skipped test notes c.loop-i.i note _ _ c.loop-i-test.true (is ∙ w.if-note_has_role.false)

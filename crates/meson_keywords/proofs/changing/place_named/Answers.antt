@@ -13,15 +13,15 @@ notes_of-requires c = as_many c.args.files.now c.args.trees.now c.requires
 
 pub the_call-requires : goal.the_call-requires
 the_call-requires c =
-    let taken = ap note_views c.as_slice.ensures.value ∙ c.in_ok-notes.ensures in
+    let taken = ap note_views c.as_slice.ensures.value ∙ c.in_ok-notes.ensures ∙ c.in_ok-taken.ensures in
     subst NotesGood (sym taken) (project_good c.args.files.now c.args.trees.now c.requires)
 
 pub returns-clause-found : goal.returns-clause-found
 returns-clause-found c =
-    let same = ap (the_place c.args.role c.args.id.now) (ap note_views c.as_slice.ensures.value ∙ c.in_ok-notes.ensures) in
+    let same = ap (the_place c.args.role c.args.id.now) (ap note_views c.as_slice.ensures.value ∙ c.in_ok-notes.ensures ∙ c.in_ok-taken.ensures) in
     IfOk-weaker c.the_call.result _ _ (λ found h. sym same ∙ h) c.the_call.ensures.found
 
 pub returns-clause-refused : goal.returns-clause-refused
 returns-clause-refused c =
-    let same = ap (the_place c.args.role c.args.id.now) (ap note_views c.as_slice.ensures.value ∙ c.in_ok-notes.ensures) in
+    let same = ap (the_place c.args.role c.args.id.now) (ap note_views c.as_slice.ensures.value ∙ c.in_ok-notes.ensures ∙ c.in_ok-taken.ensures) in
     if_refused c.the_call.result _ _ (sym same) c.the_call.ensures.refused

@@ -316,8 +316,8 @@ follow-returns-in_ok-follow-in-Some t c =
     let is = sym c.in_ok-value.ensures ∙ ap (option_map value_view) c.in-Some.is in
     let new = sym c.has_followed.ensures ∙ c.if-has_followed.false in
     let one_more : suc k ≡ c.args.left = omega arith in
-    let path = c.in_ok-push-in-Some.ensures.items ∙ ap (λ xs. xs ++ 0 ∷ []) (c.in_ok-path-in-Some.ensures.items ∙ c.get.ensures) in
-    let stands : List ℕ → Stand = λ steps. record { place = place v.place.now.file steps; slot = fixed; variable = Some x } in
+    let path = c.in_ok-push-in-Some.ensures.items ∙ ap (λ xs. xs ++ 0 ∷ []) c.in_ok-path-in-Some.ensures.items in
+    let stands : List ℕ → Stand = λ steps. record { place = place v.place.file steps; slot = fixed; variable = Some x } in
     on_ok_weaker c.expand.result (λ so. so
     ∙ ap (λ h. expanded h (expand_left p k (value_view v).it (stands c.push.new.self.items))) c.in_ok-follow-in-Some.ensures
     ∙ ap (λ steps. expanded (record { tally = g.tally; followed = x ∷ g.followed }) (expand_left p k (value_view v).it (stands steps))) path

@@ -23,7 +23,7 @@ of-requires-clause-whole c = ap length c.as_slice-trees.ensures.value ∙ as_man
 pub of-requires-clause-good : goal.of-requires-clause-good
 of-requires-clause-good c =
     let files = c.self.inside.files in
-    let noted = ap note_views c.as_slice.ensures.value ∙ c.in_ok-notes.ensures ∙ ap (λ ts. notes (named_trees files (views files ts))) c.as_slice-trees.ensures.value in
+    let noted = ap note_views c.as_slice.ensures.value ∙ c.in_ok-notes.ensures ∙ c.in_ok-taken.ensures ∙ ap (λ ts. notes (named_trees files (views files ts))) c.as_slice-trees.ensures.value in
     subst NotesGood (sym noted) (project_good files c.self.inside.trees.items c.self.invariant.parsed)
 
 pub returns-clause-found : goal.returns-clause-found

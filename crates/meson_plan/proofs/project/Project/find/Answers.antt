@@ -15,13 +15,13 @@ notes_of-requires c = ap length c.as_slice.ensures.value ∙ as_many _ _ c.self.
 pub found-requires : goal.found-requires
 found-requires c =
     let files = c.self.inside.files in
-    let noted = ap note_views c.as_slice-2.ensures.value ∙ c.in_ok-notes.ensures ∙ ap (λ ts. notes (named_trees files (views files ts))) c.as_slice.ensures.value in
+    let noted = ap note_views c.as_slice-2.ensures.value ∙ c.in_ok-notes.ensures ∙ c.in_ok-taken.ensures ∙ ap (λ ts. notes (named_trees files (views files ts))) c.as_slice.ensures.value in
     subst NotesGood (sym noted) (project_good files c.self.inside.trees.items c.self.invariant.parsed)
 
 pub returns-clause-all : goal.returns-clause-all
 returns-clause-all c =
     let files = c.self.inside.files in
-    let noted = ap note_views c.as_slice-2.ensures.value ∙ c.in_ok-notes.ensures ∙ ap (λ ts. notes (named_trees files (views files ts))) c.as_slice.ensures.value in
+    let noted = ap note_views c.as_slice-2.ensures.value ∙ c.in_ok-notes.ensures ∙ c.in_ok-taken.ensures ∙ ap (λ ts. notes (named_trees files (views files ts))) c.as_slice.ensures.value in
     c.in_ok-calls.ensures
     ∙ ap (found_places c.args.role c.args.id.now) noted
     ∙ found_notes c.args.role c.args.id.now (named_trees files (views files c.self.inside.trees.items))

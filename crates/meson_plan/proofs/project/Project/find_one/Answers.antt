@@ -18,7 +18,7 @@ notes_of-requires c = ap length c.as_slice.ensures.value ∙ as_many _ _ c.self.
 pub the_call-requires : goal.the_call-requires
 the_call-requires c =
     let files = c.self.inside.files in
-    let noted = ap note_views c.as_slice-2.ensures.value ∙ c.in_ok-notes.ensures ∙ ap (λ ts. notes (named_trees files (views files ts))) c.as_slice.ensures.value in
+    let noted = ap note_views c.as_slice-2.ensures.value ∙ c.in_ok-notes.ensures ∙ c.in_ok-taken.ensures ∙ ap (λ ts. notes (named_trees files (views files ts))) c.as_slice.ensures.value in
     subst NotesGood (sym noted) (project_good files c.self.inside.trees.items c.self.invariant.parsed)
 
 pub returns-clause-found : goal.returns-clause-found
@@ -26,7 +26,7 @@ returns-clause-found c =
     let files = c.self.inside.files in
     let id = c.args.id.now in
     let p = named_trees files (views files c.self.inside.trees.items) in
-    let noted = ap note_views c.as_slice-2.ensures.value ∙ c.in_ok-notes.ensures ∙ ap (λ ts. notes (named_trees files (views files ts))) c.as_slice.ensures.value in
+    let noted = ap note_views c.as_slice-2.ensures.value ∙ c.in_ok-notes.ensures ∙ c.in_ok-taken.ensures ∙ ap (λ ts. notes (named_trees files (views files ts))) c.as_slice.ensures.value in
     let same = ap (the_place c.args.role id) noted ∙ place_is c.args.role id p ∙ placed_same (the_call p c.args.role id) ∙ ap (λ l. place_found (the_call (project l) c.args.role id)) c.self.view_is in
     IfOk-weaker c.the_call.result _ _ (λ found h. sym same ∙ h) c.the_call.ensures.found
 
@@ -35,6 +35,6 @@ returns-clause-refused c =
     let files = c.self.inside.files in
     let id = c.args.id.now in
     let p = named_trees files (views files c.self.inside.trees.items) in
-    let noted = ap note_views c.as_slice-2.ensures.value ∙ c.in_ok-notes.ensures ∙ ap (λ ts. notes (named_trees files (views files ts))) c.as_slice.ensures.value in
+    let noted = ap note_views c.as_slice-2.ensures.value ∙ c.in_ok-notes.ensures ∙ c.in_ok-taken.ensures ∙ ap (λ ts. notes (named_trees files (views files ts))) c.as_slice.ensures.value in
     let same = ap (the_place c.args.role id) noted ∙ place_is c.args.role id p ∙ placed_same (the_call p c.args.role id) ∙ ap (λ l. place_found (the_call (project l) c.args.role id)) c.self.view_is in
     if_refused c.the_call.result _ _ (sym same) c.the_call.ensures.refused

@@ -14,7 +14,7 @@ notes_of-requires c = ap length c.as_slice.ensures.value ∙ as_many _ _ c.self.
 pub returns-clause-all : goal.returns-clause-all
 returns-clause-all c =
     let files = c.self.inside.files in
-    let noted = c.in_ok-notes.ensures ∙ ap (λ ts. notes (named_trees files (views files ts))) c.as_slice.ensures.value in
+    let noted = c.in_ok-notes.ensures ∙ c.in_ok-taken.ensures ∙ ap (λ ts. notes (named_trees files (views files ts))) c.as_slice.ensures.value in
     c.in_ok-calls.ensures
     ∙ ap (λ ns. places_with_role role.Target (note_views ns)) c.as_slice-2.ensures.value
     ∙ ap (places_with_role role.Target) noted

@@ -1,0 +1,6 @@
+use Rattle.std.proofs.Common.{◌≡◌, take, map}
+use Rattle.meson_calls.specs.Notes.{note_views, ranged_view}
+use Rattle.meson_calls.proofs.taken.Taken.all.Given as goal
+
+abbrev pub invariant-loop-i : goal.invariant-loop-i
+invariant-loop-i l = note_views l.all.items ≡ map (ranged_view l.self.steps.items) (take l.i l.self.notes.items)
