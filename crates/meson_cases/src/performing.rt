@@ -5,7 +5,8 @@ use crate::files::Files;
 use crate::project::loaded;
 use meson_case_files::Transcript;
 use meson_plan::{Command, Done, Project, Refusal};
-use meson_splice::{FileSet, Splice};
+use meson_script::{Script, Session};
+use meson_splice::{FileSet, History, Many, Splice};
 use std::alloc::{AllocError, Global};
 
 fn put_splice(splice: &Splice, to: &mut Transcript) {
@@ -92,6 +93,30 @@ fn put_trees(project: &Project, alloc: Global, to: &mut Transcript) {
     }
 }
 
+/// Runs the command in a session, takes it back and does it again; says so where after one of these the trees are not those of the
+/// files.
+fn put_session_trees(alloc: Global, files: FileSet, command: Command, to: &mut Transcript) {
+    let Ok(mut session) = Session::start(alloc, files, History::new(alloc)) else {
+        return;
+    };
+    let mut commands = Vec::new(alloc);
+    if commands.push(command).is_err() {
+        return;
+    }
+    let script = Script {
+        commands: Many::of(commands),
+    };
+    if session.run(alloc, &script).is_ok() {
+        put_trees(session.project(), alloc, to);
+        if session.undo(alloc).is_ok() {
+            put_trees(session.project(), alloc, to);
+        }
+        if session.redo(alloc).is_ok() {
+            put_trees(session.project(), alloc, to);
+        }
+    }
+}
+
 fn put_answer(answer: &Result<Done, Refusal>, is_counted: bool, to: &mut Transcript) {
     match answer {
         Ok(done) => put_done(done, is_counted, to),
@@ -175,7 +200,14 @@ pub fn perform(
         return Ok(());
     };
     match loaded(files, alloc, to) {
-        Some(mut project) => perform_on(alloc, &mut project, files, &command, is_counted, to),
+        Some(mut project) => {
+            let before = project.files().copy(alloc);
+            perform_on(alloc, &mut project, files, &command, is_counted, to)?;
+            if let Ok(before) = before {
+                put_session_trees(alloc, before, command, to);
+            }
+            Ok(())
+        }
         None => Ok(()),
     }
 }

@@ -1,13 +1,13 @@
 //! Projects: loaded, copied, asked and changed.
 
 use crate::rows::Row;
-use crate::trial::{Call, Fault, Wrong, each_growth_refused};
+use crate::trial::{Call, Fault, Wrong, each_growth_refused, grows_less};
 use meson_listing::{info_kwargs, info_target};
 use meson_plan::{CallRef, Done, LoadFault, Project, Refusal, Role, Sources, Unloaded};
 use meson_script::Script;
 use meson_splice::FileSet;
 use serde_json::Value;
-use std::alloc::Global;
+use std::alloc::{AllocError, Global};
 use std::mem;
 
 impl Fault for Refusal {
@@ -172,6 +172,29 @@ impl Call for ListKeywords {
     }
 }
 
+/// So many assignments, and fewer growths of a command on a project that has them.
+const ASSIGNMENTS: u32 = 1_000;
+
+/// A root file with a target, and the assignments behind it.
+fn with_assignments(alloc: Global) -> Result<String, AllocError> {
+    let target = "src = ['a.cpp', 'b.cpp']\nexecutable('e', src)\n";
+    let mut root = String::from_str(alloc, target)?;
+    for _ in 0..ASSIGNMENTS {
+        root.push_str("y = [1]\n")?;
+    }
+    Ok(root)
+}
+
+/// A command that took a growth for each assignment.
+#[derive(Debug, Drop)]
+struct TooManyGrowths;
+
+impl From<AllocError> for TooManyGrowths {
+    fn from(_: AllocError) -> Self {
+        TooManyGrowths
+    }
+}
+
 #[test]
 fn loads(rt: HostRuntime) -> Result<(), Wrong> {
     each_growth_refused::<Load>(rt.alloc())
@@ -200,4 +223,24 @@ fn lists_a_target(rt: HostRuntime) -> Result<(), Wrong> {
 #[test]
 fn lists_keywords(rt: HostRuntime) -> Result<(), Wrong> {
     each_growth_refused::<ListKeywords>(rt.alloc())
+}
+
+#[test]
+fn performs_without_a_growth_for_each_assignment(rt: HostRuntime) -> Result<(), TooManyGrowths> {
+    let alloc = rt.alloc();
+    let root = with_assignments(alloc)?;
+    let row = Row {
+        root: root.as_str(),
+        below: "",
+        target: "e",
+        script: "[{\"type\":\"target\",\"target\":\"e\",\"operation\":\"src_add\",\"sources\":[\"c.cpp\"]}]",
+    };
+    let is_few = grows_less::<Perform>(alloc, row, ASSIGNMENTS);
+    // With none at all it is refused, where growths can be: so the heap took the order.
+    let _ = grows_less::<Perform>(alloc, row, 1);
+    if is_few {
+        Ok(())
+    } else {
+        Err(TooManyGrowths)
+    }
 }

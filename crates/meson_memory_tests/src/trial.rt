@@ -141,3 +141,15 @@ pub fn each_growth_refused<C: Call>(alloc: Global) -> Result<(), Wrong> {
     }
     Ok(())
 }
+
+/// Whether the call of a row is done with fewer growths than so many.
+pub fn grows_less<C: Call>(alloc: Global, row: Row<'_>, growths: u32) -> bool {
+    let refusal = Refusal {
+        first: growths,
+        is_lasting: true,
+    };
+    match tried::<C>(alloc, row, refusal) {
+        Some(trial) => !trial.was_refused && !trial.is_want,
+        None => false,
+    }
+}
