@@ -1,6 +1,7 @@
 //! What steps read again.
 
-ghost use Rattle.std.specs.Prelude.{◌≡◌, IfErr, IfOk};
+ghost use Rattle.std.specs.List.{slice_range};
+ghost use Rattle.std.specs.Prelude.{◌≡◌, ◌+◌, ◌≤◌, IfErr, IfOk, length};
 ghost use Rattle.meson_syntax.specs.ReadsList.{IsSpannedListWithin, ReadsListWithin};
 ghost use Rattle.meson_syntax.specs.Tree.{Listing, Nowhere, erase_listing};
 ghost use Rattle.meson_syntax.specs.View.{list_view};
@@ -22,6 +23,15 @@ pub(crate) fn unread(fault: ParseFault) -> Refusal
         ParseFault::OutOfMemory => Refusal::OutOfMemory,
         _ => unreachable!(),
     }
+}
+
+/// So many bytes of a text, from an offset on.
+pub(crate) fn part(bytes: &[u8], from: usize, len: usize) -> &[u8]
+    requires { from + len ≤ length bytes.now }
+    ensures { result.now ≡ slice_range bytes.now from (from + len) }
+{
+    let _all = bytes.len();
+    &bytes[from..from + len]
 }
 
 /// The list that a text is.

@@ -17,7 +17,7 @@ ghost use Rattle.meson_steps.specs.Working.{AreShallowSoFar, HasDeep, HasLarge, 
 ghost use Rattle.meson_steps.specs.ListSteps.{bare};
 
 use crate::journal::{Saved, SavedList, exchange, exchange_list, is_saved};
-use crate::reading::{list_in, unread};
+use crate::reading::{list_in, part, unread};
 use crate::spans::{ListSpot, bracket_offset, element_span, list_spot, value_span};
 use crate::statements::statement_span;
 use crate::step::{ListEdit, ListStep};
@@ -236,7 +236,7 @@ impl Work {
         let bytes = self.files.bytes(place.file);
         let now = bytes.len() - around;
         self.relexed = self.relexed.saturating_add(now as u64);
-        let list = list_in(alloc, &bytes[from..from + now], bracket)?;
+        let list = list_in(alloc, part(bytes, from, now), bracket)?;
         let new = SavedList {
             place,
             list,
