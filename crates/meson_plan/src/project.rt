@@ -4,8 +4,9 @@ ghost use Rattle.std.specs.Prelude.{◌≡◌, ◌≢◌, Some, Ok, Err, IfErr, 
 ghost use Rattle.meson_splice.specs.Patch.{patched_all};
 ghost use Rattle.meson_layout.specs.Laws.{AreTexts};
 ghost use Rattle.meson_calls.specs.Loading.{IsProject, MayNotLoad, project};
+ghost use Rattle.meson_steps.specs.Journal.{Trees};
 ghost use Rattle.meson_steps.specs.Outcomes.{IsDone, MayNotBeDone};
-ghost use Rattle.meson_steps.specs.Working.{IsFresh, restored, so_far};
+ghost use Rattle.meson_steps.specs.Working.{IsFresh, Restores, so_far};
 ghost use Rattle.meson_plan.specs.Performing.{KeepsUntouched, MayRefuse, Performs};
 ghost use Rattle.meson_plan.specs.Planning.{planned};
 ghost use Rattle.meson_calls.specs.Roles.{targets, found, is_target, places};
@@ -64,6 +65,7 @@ impl Project {
     /// The project of these files, or the files handed back. The files may enter one another by `subdir`; a file that is entered need not be there.
     pub fn load(alloc: Global, files: FileSet) -> Result<Project, Unloaded>
         ensures loaded { IfOk result (λ p. p.files ≡ files) }
+        ensures project { IfOk result (λ p. IsProject p) }
         // A refusal is the first in order that holds.
         ensures refused { IfErr result (λ u. MayNotLoad files u.fault) }
         ensures handed_back { IfErr result (λ u. u.files ≡ files) }
@@ -226,6 +228,8 @@ impl Project {
         ensures texts { IfOk result (λ done. AreTexts done.change.splices) }
         ensures refused { IfErr result (λ e. e ≢ Refusal.OutOfMemory → MayRefuse self.old command.now e) }
         ensures kept { OnErr result (self.new ≡ self.old) }
+        // Each tree is that of its file, whatever came of the command.
+        ensures project { IsProject self.new }
     {
         let Ok(files) = self.files.copy(alloc) else {
             return Err(Refusal::OutOfMemory);
@@ -265,7 +269,7 @@ impl Project {
 fn performed(alloc: Global, work: &mut Work, command: &Command) -> Result<(), Refusal>
     requires { IsFresh work.old }
     ensures done { OnOk result (IsDone (so_far work.old) (planned (project (so_far work.old)) command.now) work.new) }
-    ensures restores { restored work.new ≡ restored work.old }
+    ensures restores { (first : Trees) → Restores work.old first → Restores work.new first }
     ensures refused { IfErr result (λ e. e ≢ Refusal.OutOfMemory → MayNotBeDone (so_far work.old) (planned (project (so_far work.old)) command.now) e) }
 {
     match request_of(command) {
