@@ -2,17 +2,16 @@
 use Rattle.std.proofs.Common.{◌≡◌, ℕ, ◌+◌, ◌-◌, ◌<◌, ◌≤◌, List, ◌++◌, length, length-append, Option, Some, None, sym, ap, ap₂, ◌∙◌, subst, arith}
 use Rattle.std.specs.List.{slice_range}
 use Rattle.std.specs.Prelude.{◌^◌, Ok, option_map}
-use Rattle.meson_lex.specs.declared.kinds.Span.{Span}
 use Rattle.meson_splice.specs.declared.file_set.File.{File}
 use Rattle.meson_splice.specs.declared.splice.Splice.{Splice}
 use Rattle.meson_splice.specs.Files.{bytes_at}
 use Rattle.meson_splice.specs.Patch.{patched_all}
 use Rattle.meson_syntax.specs.declared.tree.List as rust
 use Rattle.meson_syntax.specs.declared.tree.Parsed.{Parsed}
-use Rattle.meson_syntax.specs.Paths.{list_at, list_span}
+use Rattle.meson_syntax.specs.Paths.{list_at}
 use Rattle.meson_syntax.specs.Reads.{IsSpannedWithin, ReadsWithin, wide}
 use Rattle.meson_syntax.specs.ReadsList.{IsSpannedListWithin, ReadsListWithin}
-use Rattle.meson_syntax.specs.Tree.{erase, erase_listing}
+use Rattle.meson_syntax.specs.Tree.{erase_listing}
 use Rattle.meson_syntax.specs.View.{list_view, view}
 use Rattle.meson_syntax.proofs.parsing.Steps.{some-injective}
 use Rattle.meson_syntax.proofs.Slices.{slice_range-part}

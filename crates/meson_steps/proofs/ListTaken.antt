@@ -1,5 +1,5 @@
 -- A list that is read alone in the place of another one: the borders that move stay in their text, and the old list undoes it.
-use Rattle.std.proofs.Common.{◌≡◌, ℕ, ◌+◌, ◌<◌, ◌≤◌, List, [], ◌++◌, length, length-append, refl, sym, ap, ap₂, ◌∙◌, subst, arith}
+use Rattle.std.proofs.Common.{◌≡◌, ℕ, ◌+◌, ◌<◌, ◌≤◌, List, [], ◌++◌, length, length-append, sym, ap, ap₂, ◌∙◌, subst, arith}
 use Rattle.std.specs.Prelude.{◌^◌, Some}
 use Rattle.meson_lex.specs.declared.kinds.Span.{Span}
 use Rattle.meson_lex.specs.Significant.{Word, start}
@@ -24,7 +24,7 @@ use Rattle.meson_syntax.proofs.borders.Trees.{at_most, listing-ends}
 use Rattle.meson_syntax.proofs.kept.ListsAlone.{lists-alone}
 use Rattle.meson_syntax.proofs.kept.Told.{list_told}
 use Rattle.meson_syntax.proofs.kept.Tokens.{open-long}
-use Rattle.meson_edit.specs.ExchangedTrees.{IsExchange, tree_with}
+use Rattle.meson_edit.specs.ExchangedTrees.{tree_with}
 use Rattle.meson_edit.proofs.paths.ExchangedTrees.{old-lists-look, trees-exchange, trees-exchange-back}
 use Rattle.meson_steps.specs.declared.journal.SavedList.{SavedList}
 use Rattle.meson_steps.specs.Journal.{MayShift, MayTake}

@@ -81,8 +81,8 @@ one-making files (s ∷ steps) ss ts after last n m a b =
     let between : p.0 ≡ q.0 = same_files p.0 q.0 (sym p.5 ∙ ap (patched_all files) here ∙ q.5) in
     let same_file : p.4.file ≡ q.4.file = one_spanned p.4.limits q.4.limits (bytes_at s.file files) p.4.file q.4.file p.4.spanned q.4.spanned in
     let count : read_again s.edit p.4.file p.1 (bytes_at s.file files) (bytes_at s.file p.0) ≡ read_again s.edit q.4.file q.1 (bytes_at s.file files) (bytes_at s.file q.0) =
-        ap (λ f. read_again s.edit f p.1 (bytes_at s.file files) (bytes_at s.file p.0)) same_file
-        ∙ ap₂ (λ x y. read_again s.edit q.4.file x (bytes_at s.file files) (bytes_at s.file y)) here between in
+    ap (λ f. read_again s.edit f p.1 (bytes_at s.file files) (bytes_at s.file p.0)) same_file
+    ∙ ap₂ (λ x y. read_again s.edit q.4.file x (bytes_at s.file files) (bytes_at s.file y)) here between in
     let rest = one-making p.0 steps p.2 q.2 after last p.3 q.3 p.6 (subst (λ fs. StepsMake fs steps q.2 last q.3) (sym between) q.6) in (
       p.7 ∙ ap₂ (λ x y. x ++ y) here rest.0 ∙ sym q.7,
       rest.1,

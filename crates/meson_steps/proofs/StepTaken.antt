@@ -94,12 +94,12 @@ module _ (old : Loaded) (w : Work) (step : ListStep) (before rest : List Step) (
           code_new other c =
               let f = view (bytes_at s.file w.files) t in
               let count = ap (λ i. length (bytes_at i new.files)) file_is
-                  ∙ ap (λ o. bytes_again (option_and_then (list_at f) o) (bytes_at s.file w.files) (bytes_at s.file new.files)) (sym (step_none s step is other)) in
+              ∙ ap (λ o. bytes_again (option_and_then (list_at f) o) (bytes_at s.file w.files) (bytes_at s.file new.files)) (sym (step_none s step is other)) in
               new_reached old w before rest s r t at splices are some new _ (subst (λ i. IsChanged w new i splices (length (bytes_at step.list.file new.files))) file_is c) count
 
           pub code_new_list : edits_list step.edit ≡ true → IsChanged w new step.list.file splices (list_again w new step.list t) → Reached old (before ++ s ∷ []) rest new
           code_new_list of_list c =
               let f = view (bytes_at s.file w.files) t in
               let count = ap (λ i. bytes_again (list_at (view (bytes_at i w.files) t) step.list.path.steps) (bytes_at i w.files) (bytes_at i new.files)) file_is
-                  ∙ ap (λ o. bytes_again (option_and_then (list_at f) o) (bytes_at s.file w.files) (bytes_at s.file new.files)) (sym (step_list s step is of_list)) in
+              ∙ ap (λ o. bytes_again (option_and_then (list_at f) o) (bytes_at s.file w.files) (bytes_at s.file new.files)) (sym (step_list s step is of_list)) in
               new_reached old w before rest s r t at splices are some new _ (subst (λ i. IsChanged w new i splices (list_again w new step.list t)) file_is c) count

@@ -151,13 +151,15 @@ fn put_one(trees: &mut Vec<Parsed>, saved: Saved)
                 trees[file] = tree;
             }
         }
-        Saved::List(SavedList {
-            place,
-            list,
-            from,
-            was,
-            now,
-        }) => {
+        Saved::List(
+            SavedList {
+                place,
+                list,
+                from,
+                was,
+                now,
+            },
+        ) => {
             if place.file < trees.len() {
                 put_in(&mut trees[place.file], &place.path, list, from, now, was);
             }

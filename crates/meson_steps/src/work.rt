@@ -103,11 +103,7 @@ fn laid(
 }
 
 /// Makes splices in the files, and gives them back.
-fn applied(
-    alloc: Global,
-    files: &mut FileSet,
-    splices: Vec<Splice>,
-) -> Result<Vec<Splice>, Refusal>
+fn applied(alloc: Global, files: &mut FileSet, splices: Vec<Splice>) -> Result<Vec<Splice>, Refusal>
     requires { (new : List File) × (patched_all files.old splices.items ≡ Ok new) }
     ensures made { OnOk result (patched_all files.old splices.items ≡ Ok files.new) }
     ensures same { IfOk result (λ made. made.items ≡ splices.items) }

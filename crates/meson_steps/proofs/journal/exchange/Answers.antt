@@ -13,6 +13,6 @@ returns-clause-restores c = λ first p.
     let d = c.index_mut.result.now in
     let after = slice_set trees file c.replace-tree.new.dest in
     let are : c.push_reserved.new.self.items ≡ more ++ saved.Tree file (get_or trees file d) ∷ [] =
-        c.push_reserved.ensures.items ∙ ap (λ l. l ++ saved.Tree file c.replace-tree.result ∷ []) c.in_ok-reserve.ensures.items
-        ∙ ap (λ t. more ++ saved.Tree file t ∷ []) (c.replace-tree.ensures.value ∙ c.index_mut.ensures.value) in
+    c.push_reserved.ensures.items ∙ ap (λ l. l ++ saved.Tree file c.replace-tree.result ∷ []) c.in_ok-reserve.ensures.items
+    ∙ ap (λ t. more ++ saved.Tree file t ∷ []) (c.replace-tree.ensures.value ∙ c.index_mut.ensures.value) in
     subst (λ l. PutsBack l after first) (sym are) (puts_back_more more (saved.Tree file (get_or trees file d)) trees after first tt (put_tree trees file d c.replace-tree.new.dest) p)

@@ -1,4 +1,4 @@
-use Rattle.std.proofs.Common.{◌≡◌, ◌∙◌, ◌+◌, ◌∷◌, ◌++◌, [], List, ap, get_or, length, subst, sym, ℕ}
+use Rattle.std.proofs.Common.{◌≡◌, ◌∙◌, ◌+◌, ◌∷◌, ◌++◌, [], List, ap, get_or, subst, sym, ℕ}
 use Rattle.std.specs.Prelude.{Some, slice_set}
 use Rattle.meson_lex.specs.declared.kinds.Span.{Span}
 use Rattle.meson_syntax.specs.declared.tree.List as rust
@@ -10,7 +10,7 @@ use Rattle.meson_syntax.specs.Paths.{ListAt, list_at}
 use Rattle.meson_syntax.specs.View.{list_view, view}
 use Rattle.meson_steps.specs.declared.journal.Saved.TheVariants as saved
 use Rattle.meson_steps.specs.declared.journal.SavedList.{SavedList}
-use Rattle.meson_steps.specs.Journal.{MayPut, MayShift, MayTake, PutsBack, Trees, changed_tree}
+use Rattle.meson_steps.specs.Journal.{MayPut, MayShift, PutsBack, changed_tree}
 use Rattle.meson_steps.proofs.ListTaken.{goes_back, kept, may_go_back, may_move, may_shift, no_tree}
 use Rattle.meson_steps.proofs.Restoring.{changed_back, changed_is, changed_there, puts_back_more}
 use Rattle.meson_steps.proofs.SameRead.{same_read}
@@ -50,14 +50,14 @@ returns-clause-restores c = λ first p.
     let old = c.put_in-old.result in
     let after = changed_tree file (taking new) trees in
     let gives : (source : List ℕ) (r : ListAt Span) → list_at (view source (moved_parsed (moved (new.from + new.was) new.was new.now) t)) path ≡ Some r → list_view source old ≡ r.list =
-        λ source r is. c.put_in-old.ensures.gives source r (ap (λ u. list_at (view source (moved_parsed (moved (new.from + new.was) new.was new.now) u)) path) c.index_mut.ensures.value ∙ is) in
+    λ source r is. c.put_in-old.ensures.gives source r (ap (λ u. list_at (view source (moved_parsed (moved (new.from + new.was) new.was new.now) u)) path) c.index_mut.ensures.value ∙ is) in
     let list = kept t new (c.requires.takes d) old gives in
     let item : rust.List → saved.the_data = λ l. saved.List (record { place = new.place; list = l; from = new.from; was = new.was; now = new.now }) in
     let are : c.push_reserved.new.self.items ≡ more ++ item list ∷ [] =
-        c.push_reserved.ensures.items ∙ ap (λ l. l ++ item c.with_span-list.result ∷ []) c.in_ok-reserve.ensures.items ∙ ap (λ l. more ++ item l ∷ []) c.with_span-list.ensures in
+    c.push_reserved.ensures.items ∙ ap (λ l. l ++ item c.with_span-list.result ∷ []) c.in_ok-reserve.ensures.items ∙ ap (λ l. more ++ item l ∷ []) c.with_span-list.ensures in
     let may : MayPut (item list) after = λ within e.
-        subst (MayShift new.from new.now new.was) (sym (changed_there file (taking new) trees e c.requires.there)) (may_go_back (get_or trees file e) new (c.requires.takes e)) in
+    subst (MayShift new.from new.now new.was) (sym (changed_there file (taking new) trees e c.requires.there)) (may_go_back (get_or trees file e) new (c.requires.takes e)) in
     let back = changed_back file (taking new) (exchanged path new.from new.now new.was list) trees
-        (λ e within. subst (λ u. exchanged path new.from new.now new.was list (taking new u) ≡ u) (same_read trees file d e within) (goes_back t new (c.requires.takes d) old gives)) in
+    (λ e within. subst (λ u. exchanged path new.from new.now new.was list (taking new u) ≡ u) (same_read trees file d e within) (goes_back t new (c.requires.takes d) old gives)) in
     subst (λ l. PutsBack l (slice_set trees file c.put_in-old.new.tree) first) (sym are)
     (subst (λ ts. PutsBack (more ++ item list ∷ []) ts first) (sym (returns-clause-done c)) (puts_back_more more (item list) trees after first may back p))

@@ -1,5 +1,5 @@
-use Rattle.std.proofs.Common.{◌≡◌, ◌∙◌, ap, subst, sym}
-use Rattle.meson_steps.specs.Journal.{MayPut, MayPutBack, put_back, put_one}
+use Rattle.std.proofs.Common.{◌∙◌, ap, subst, sym}
+use Rattle.meson_steps.specs.Journal.{MayPutBack, put_back}
 use Rattle.meson_steps.proofs.Restoring.{may_pop, put_back_push}
 use Rattle.meson_steps.proofs.journal.put_back.Goals as goal
 

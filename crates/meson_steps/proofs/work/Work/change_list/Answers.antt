@@ -1,10 +1,7 @@
-use Rattle.std.proofs.Common.{◌≡◌, ◌<◌, ◌+◌, ◌++◌, ◌∙◌, ap, get_or, length, subst, sym, arith}
+use Rattle.std.proofs.Common.{◌<◌, ◌+◌, ◌++◌, ◌∙◌, ap, get_or, length, sym, arith}
 use Rattle.std.specs.Prelude.{◌^◌}
-use Rattle.meson_syntax.specs.declared.tree.Parsed.{Parsed}
-use Rattle.meson_steps.specs.Journal.{MayTake}
 use Rattle.meson_steps.specs.Results.{saturated}
-use Rattle.meson_steps.specs.Working.{MayChangeList}
-use Rattle.meson_steps.proofs.ListChanged.{around_fits, is_read, may_take, no_spot, old_within, ordered, read, reads_list, size, size_again, size_within, spot_there}
+use Rattle.meson_steps.proofs.ListChanged.{around_fits, is_read, may_take, no_spot, old_within, ordered, read, reads_list, size_again, size_within, spot_there}
 use Rattle.meson_steps.proofs.ListTaken.{taken}
 use Rattle.meson_steps.proofs.PatchedFiles.{all_as_many}
 use Rattle.meson_steps.proofs.Restoring.{changed_is}
@@ -70,9 +67,11 @@ list_in-requires c =
     let t = c.index.result.now in
     let u = get_or w.trees.items place.file t in
     let m = c.requires.read t in
-    let is = spot_there w place c.args.splices.items u m t c.index.ensures c.in-Some.field-0 c.in-Some.ensures in
-    (m.list, reads_list w place c.args.splices.items u m c.in-Some.field-0 is c.bytes.result.now c.bytes.ensures c.applied.new.files c.in_ok-splices.ensures.made c.bytes-bytes.result.now c.bytes-bytes.ensures
-    c.part.result.now c.part.ensures)
+    let is = spot_there w place c.args.splices.items u m t c.index.ensures c.in-Some.field-0 c.in-Some.ensures in (
+      m.list,
+      reads_list w place c.args.splices.items u m c.in-Some.field-0 is c.bytes.result.now c.bytes.ensures c.applied.new.files c.in_ok-splices.ensures.made c.bytes-bytes.result.now c.bytes-bytes.ensures
+          c.part.result.now c.part.ensures,
+    )
 
 pub exchange_list-requires-clause-takes : goal.exchange_list-requires-clause-takes
 exchange_list-requires-clause-takes c = λ d.
