@@ -194,13 +194,13 @@ impl Work {
         ensures refused { IfErr result (λ e. e ≡ Refusal.OutOfMemory) }
     {
         let splices = applied(alloc, &mut self.files, splices)?;
+        push_all(&mut self.splices, splices)?;
         let bytes = self.files.bytes(file);
         self.relexed = self.relexed.saturating_add(bytes.len() as u64);
         match parse_wide(alloc, bytes) {
             Ok(tree) => exchange(&mut self.trees, &mut self.saved, file, tree)?,
             Err(fault) => return Err(unread(fault)),
         }
-        push_all(&mut self.splices, splices)?;
         Ok(())
     }
 
@@ -229,6 +229,7 @@ impl Work {
         let was = span.to - from;
         let around = self.files.bytes(place.file).len() - was;
         let splices = applied(alloc, &mut self.files, splices)?;
+        push_all(&mut self.splices, splices)?;
         let bytes = self.files.bytes(place.file);
         let now = bytes.len() - around;
         self.relexed = self.relexed.saturating_add(now as u64);
@@ -241,7 +242,6 @@ impl Work {
             now,
         };
         exchange_list(&mut self.trees, &mut self.saved, new)?;
-        push_all(&mut self.splices, splices)?;
         Ok(())
     }
 
