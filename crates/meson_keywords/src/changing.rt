@@ -15,7 +15,7 @@ ghost use Rattle.meson_calls.specs.Sourced.{kept_args};
 ghost use Rattle.meson_calls.specs.Sources.{kwargs_key};
 ghost use Rattle.meson_steps.specs.Steps as meant;
 ghost use Rattle.meson_steps.specs.Meanings.{AreMeant};
-ghost use Rattle.meson_steps.specs.Working.{IsFresh, restored, so_far};
+ghost use Rattle.meson_steps.specs.Working.{IsFresh, Restores, so_far};
 ghost use Rattle.meson_keywords.specs.Tasking.{MayBeWritten, TaskIs, TasksAre, request_view};
 ghost use Rattle.meson_keywords.specs.Tasks as changes;
 ghost use Rattle.meson_keywords.specs.TaskSteps.{task_steps, tasks_steps};
@@ -62,7 +62,7 @@ fn task_steps(alloc: Global, subject: Subject<'_>, task: Task<'_>) -> Result<Vec
 fn do_task(alloc: Global, work: &mut Work, call: &CallRef, task: Task<'_>) -> Result<(), Refusal>
     requires { (old : Loaded) × IsNextTask old call.now task work.old }
     ensures done { (old : Loaded) (before : List meant.Step) (t : changes.Task) → Between old call.now before work.old → TaskIs task.entry t → MayBeWritten t → OnOk result (TaskDone old call.now before t work.old work.new) }
-    ensures restores { restored work.new ≡ restored work.old }
+    ensures restores { (first : List Parsed) → Restores work.old first → Restores work.new first }
     ensures refused { (old : Loaded) (before : List meant.Step) (t : changes.Task) → Between old call.now before work.old → TaskIs task.entry t → MayBeWritten t → IfErr result (λ e. e ≢ Refusal.OutOfMemory → steps_of_task call.now t work.old ≡ Err e) }
 {
     let file = call.file;
@@ -111,7 +111,7 @@ fn tasks_done(
     requires stands { CallStands call.now (plain_trees (so_far work.old)) }
     requires tasks { (ts : List changes.Task) × TasksAre tasks.items ts }
     ensures done { (ts : List changes.Task) → TasksAre tasks.entry.items ts → OnOk result (IsDone (so_far work.old) (tasks_steps call.now ts (plain_trees (so_far work.old))) work.new) }
-    ensures restores { restored work.new ≡ restored work.old }
+    ensures restores { (first : List Parsed) → Restores work.old first → Restores work.new first }
     ensures refused { (ts : List changes.Task) → TasksAre tasks.entry.items ts → IfErr result (λ e. e ≢ Refusal.OutOfMemory → MayNotBeDone (so_far work.old) (tasks_steps call.now ts (plain_trees (so_far work.old))) e) }
 {
     for task in tasks {
@@ -150,7 +150,7 @@ fn place_named(
 pub fn changed(alloc: Global, work: &mut Work, request: Request<'_>) -> Result<(), Refusal>
     requires { IsFresh work.old }
     ensures done { OnOk result (IsDone (so_far work.old) (request_steps (project (so_far work.old)) (request_view request.entry)) work.new) }
-    ensures restores { restored work.new ≡ restored work.old }
+    ensures restores { (first : List Parsed) → Restores work.old first → Restores work.new first }
     ensures refused { IfErr result (λ e. e ≢ Refusal.OutOfMemory → MayNotBeDone (so_far work.old) (request_steps (project (so_far work.old)) (request_view request.entry)) e) }
 {
     let trees = work.trees.as_slice();

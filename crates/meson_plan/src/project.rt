@@ -1,11 +1,11 @@
 //! A project: its files, and the tree of each.
 
-ghost use Rattle.std.specs.Prelude.{◌≡◌, ◌≢◌, Some, Ok, Err, IfErr, IfOk, IsTrue, OnErr, OnOk};
+ghost use Rattle.std.specs.Prelude.{◌≡◌, ◌≢◌, List, Some, Ok, Err, IfErr, IfOk, IsTrue, OnErr, OnOk};
 ghost use Rattle.meson_splice.specs.Patch.{patched_all};
 ghost use Rattle.meson_layout.specs.Laws.{AreTexts};
 ghost use Rattle.meson_calls.specs.Loading.{IsProject, MayNotLoad, project};
 ghost use Rattle.meson_steps.specs.Outcomes.{IsDone, MayNotBeDone};
-ghost use Rattle.meson_steps.specs.Working.{IsFresh, restored, so_far};
+ghost use Rattle.meson_steps.specs.Working.{IsFresh, Restores, so_far};
 ghost use Rattle.meson_plan.specs.Performing.{KeepsUntouched, MayRefuse, Performs};
 ghost use Rattle.meson_plan.specs.Planning.{planned};
 ghost use Rattle.meson_calls.specs.Roles.{targets, found, is_target, places};
@@ -260,7 +260,7 @@ impl Project {
 fn performed(alloc: Global, work: &mut Work, command: &Command) -> Result<(), Refusal>
     requires { IsFresh work.old }
     ensures done { OnOk result (IsDone (so_far work.old) (planned (project (so_far work.old)) command.now) work.new) }
-    ensures restores { restored work.new ≡ restored work.old }
+    ensures restores { (first : List Parsed) → Restores work.old first → Restores work.new first }
     ensures refused { IfErr result (λ e. e ≢ Refusal.OutOfMemory → MayNotBeDone (so_far work.old) (planned (project (so_far work.old)) command.now) e) }
 {
     match request_of(command) {

@@ -13,7 +13,7 @@ loop-task-init c = record {
   left = λ ts are.
       tasks_first c.args.work.now c.requires.fresh c.args.call.now c.requires.stands (into_iter_items c.into_iter-task-iterator.result) ts
       (subst (λ cs. TasksAre cs ts) (sym c.into_iter-task-iterator.ensures.into_iter_gives.0) are);
-  restores = refl;
+  restores = λ first r. r;
 }
 
 pub do_task-requires : goal.do_task-requires
@@ -37,7 +37,7 @@ loop-task-preserved c = record {
       let more = into_iter_items c.next.new.self in
       let u = subst (λ cs. TasksLeft old call whole cs w) c.in-Some.ensures.steps.0 (c.loop-task.invariant.left ts are) in
       tasks_more old call whole c.in-Some.task more w u c.do_task.new.work (c.in-Ok.ensures.done old);
-  restores = c.in-Ok.ensures.restores ∙ c.loop-task.invariant.restores;
+  restores = λ first r. c.in-Ok.ensures.restores first (c.loop-task.invariant.restores first r);
 }
 
 pub returns-in-Err-clause-refused : goal.returns-in-Err-clause-refused
