@@ -34,3 +34,6 @@ returns-in-Ok-ended-clause-patched c = performs-patch _ _ _ _ (returns-in-Ok-end
 
 pub returns-in-Ok-ended-clause-texts : goal.returns-in-Ok-ended-clause-texts
 returns-in-Ok-ended-clause-texts c = performs-text _ _ _ _ (returns-in-Ok-ended-clause-done c)
+
+pub put_back-requires : goal.put_back-requires
+put_back-requires c = (c.performed-ended.ensures.restores c.replace-trees.result.items c.start-work.ensures.restores).may
