@@ -8,6 +8,7 @@ ghost use Rattle.meson_calls.specs.GoodLists.{GoodArgs};
 ghost use Rattle.meson_calls.specs.Loading.{AreParsed, Loaded, named_trees, project, views};
 ghost use Rattle.meson_calls.specs.Notes.{notes};
 ghost use Rattle.meson_calls.specs.OnePlace.{the_place};
+ghost use Rattle.meson_steps.specs.Journal.{Trees};
 ghost use Rattle.meson_steps.specs.Outcomes.{IsDone, MayNotBeDone};
 ghost use Rattle.meson_steps.specs.Results.{plain_trees};
 ghost use Rattle.meson_calls.specs.Sources.{not_hidden};
@@ -62,7 +63,7 @@ fn task_steps(alloc: Global, subject: Subject<'_>, task: Task<'_>) -> Result<Vec
 fn do_task(alloc: Global, work: &mut Work, call: &CallRef, task: Task<'_>) -> Result<(), Refusal>
     requires { (old : Loaded) × IsNextTask old call.now task work.old }
     ensures done { (old : Loaded) (before : List meant.Step) (t : changes.Task) → Between old call.now before work.old → TaskIs task.entry t → MayBeWritten t → OnOk result (TaskDone old call.now before t work.old work.new) }
-    ensures restores { (first : List Parsed) → Restores work.old first → Restores work.new first }
+    ensures restores { (first : Trees) → Restores work.old first → Restores work.new first }
     ensures refused { (old : Loaded) (before : List meant.Step) (t : changes.Task) → Between old call.now before work.old → TaskIs task.entry t → MayBeWritten t → IfErr result (λ e. e ≢ Refusal.OutOfMemory → steps_of_task call.now t work.old ≡ Err e) }
 {
     let file = call.file;
@@ -111,7 +112,7 @@ fn tasks_done(
     requires stands { CallStands call.now (plain_trees (so_far work.old)) }
     requires tasks { (ts : List changes.Task) × TasksAre tasks.items ts }
     ensures done { (ts : List changes.Task) → TasksAre tasks.entry.items ts → OnOk result (IsDone (so_far work.old) (tasks_steps call.now ts (plain_trees (so_far work.old))) work.new) }
-    ensures restores { (first : List Parsed) → Restores work.old first → Restores work.new first }
+    ensures restores { (first : Trees) → Restores work.old first → Restores work.new first }
     ensures refused { (ts : List changes.Task) → TasksAre tasks.entry.items ts → IfErr result (λ e. e ≢ Refusal.OutOfMemory → MayNotBeDone (so_far work.old) (tasks_steps call.now ts (plain_trees (so_far work.old))) e) }
 {
     for task in tasks {
@@ -138,7 +139,8 @@ fn place_named(
     ensures found { IfOk result (λ c. the_place role id.now (notes (named_trees files.now (views files.now trees.now))) ≡ Ok c) }
     ensures refused { IfErr result (λ e. e ≢ Refusal.OutOfMemory → the_place role id.now (notes (named_trees files.now (views files.now trees.now))) ≡ Err e) }
 {
-    let notes = notes_of(alloc, files, trees)?;
+    let taken = notes_of(alloc, files, trees)?;
+    let notes = taken.all(alloc)?;
     the_call(alloc, role, id, notes.as_slice())
 }
 
@@ -150,7 +152,7 @@ fn place_named(
 pub fn changed(alloc: Global, work: &mut Work, request: Request<'_>) -> Result<(), Refusal>
     requires { IsFresh work.old }
     ensures done { OnOk result (IsDone (so_far work.old) (request_steps (project (so_far work.old)) (request_view request.entry)) work.new) }
-    ensures restores { (first : List Parsed) → Restores work.old first → Restores work.new first }
+    ensures restores { (first : Trees) → Restores work.old first → Restores work.new first }
     ensures refused { IfErr result (λ e. e ≢ Refusal.OutOfMemory → MayNotBeDone (so_far work.old) (request_steps (project (so_far work.old)) (request_view request.entry)) e) }
 {
     let trees = work.trees.as_slice();

@@ -1,9 +1,10 @@
 //! A project: its files, and the tree of each.
 
-ghost use Rattle.std.specs.Prelude.{◌≡◌, ◌≢◌, List, Some, Ok, Err, IfErr, IfOk, IsTrue, OnErr, OnOk};
+ghost use Rattle.std.specs.Prelude.{◌≡◌, ◌≢◌, Some, Ok, Err, IfErr, IfOk, IsTrue, OnErr, OnOk};
 ghost use Rattle.meson_splice.specs.Patch.{patched_all};
 ghost use Rattle.meson_layout.specs.Laws.{AreTexts};
 ghost use Rattle.meson_calls.specs.Loading.{IsProject, MayNotLoad, project};
+ghost use Rattle.meson_steps.specs.Journal.{Trees};
 ghost use Rattle.meson_steps.specs.Outcomes.{IsDone, MayNotBeDone};
 ghost use Rattle.meson_steps.specs.Working.{IsFresh, Restores, so_far};
 ghost use Rattle.meson_plan.specs.Performing.{KeepsUntouched, MayRefuse, Performs};
@@ -114,7 +115,8 @@ impl Project {
         ensures all { IfOk result (λ calls. calls.items ≡ targets (project self.now)) }
         ensures refused { IfErr result (λ e. e ≡ Refusal.OutOfMemory) }
     {
-        let notes = notes_of(alloc, &self.files, self.trees.as_slice())?;
+        let taken = notes_of(alloc, &self.files, self.trees.as_slice())?;
+        let notes = taken.all(alloc)?;
         let calls = with_role(alloc, Role::Target, notes.as_slice())?;
         Ok(calls)
     }
@@ -124,7 +126,8 @@ impl Project {
         ensures all { IfOk result (λ calls. calls.items ≡ places (found (project self.now) role id.now)) }
         ensures refused { IfErr result (λ e. e ≡ Refusal.OutOfMemory) }
     {
-        let notes = notes_of(alloc, &self.files, self.trees.as_slice())?;
+        let taken = notes_of(alloc, &self.files, self.trees.as_slice())?;
+        let notes = taken.all(alloc)?;
         let calls = found(alloc, role, id, notes.as_slice())?;
         Ok(calls)
     }
@@ -137,7 +140,8 @@ impl Project {
         ensures found { IfOk result (λ c. place_found (the_call (project self.now) role id.now) ≡ Ok c) }
         ensures refused { IfErr result (λ e. e ≢ Refusal.OutOfMemory → place_found (the_call (project self.now) role id.now) ≡ Err e) }
     {
-        let notes = notes_of(alloc, &self.files, self.trees.as_slice())?;
+        let taken = notes_of(alloc, &self.files, self.trees.as_slice())?;
+        let notes = taken.all(alloc)?;
         the_call(alloc, role, id, notes.as_slice())
     }
 
@@ -158,7 +162,8 @@ impl Project {
         ensures refused { IfErr result (λ e. e ≢ Refusal.OutOfMemory → sources (project self.now) call.now ≡ Some (Err e)) }
     {
         let trees = self.trees.as_slice();
-        let notes = notes_of(alloc, &self.files, trees)?;
+        let taken = notes_of(alloc, &self.files, trees)?;
+        let notes = taken.all(alloc)?;
         let variables = Variables::of(alloc, &self.files, trees, notes.as_slice())?;
         sources_at(&variables, call)
     }
@@ -173,7 +178,8 @@ impl Project {
         ensures refused { IfErr result (λ e. e ≢ Refusal.OutOfMemory → extra_files (project self.now) call.now ≡ Some (Err e)) }
     {
         let trees = self.trees.as_slice();
-        let notes = notes_of(alloc, &self.files, trees)?;
+        let taken = notes_of(alloc, &self.files, trees)?;
+        let notes = taken.all(alloc)?;
         let variables = Variables::of(alloc, &self.files, trees, notes.as_slice())?;
         let called = call_at(&self.files, trees, call);
         extra_files_of(&variables, call, called.source, called.arguments)
@@ -263,7 +269,7 @@ impl Project {
 fn performed(alloc: Global, work: &mut Work, command: &Command) -> Result<(), Refusal>
     requires { IsFresh work.old }
     ensures done { OnOk result (IsDone (so_far work.old) (planned (project (so_far work.old)) command.now) work.new) }
-    ensures restores { (first : List Parsed) → Restores work.old first → Restores work.new first }
+    ensures restores { (first : Trees) → Restores work.old first → Restores work.new first }
     ensures refused { IfErr result (λ e. e ≢ Refusal.OutOfMemory → MayNotBeDone (so_far work.old) (planned (project (so_far work.old)) command.now) e) }
 {
     match request_of(command) {
