@@ -123,58 +123,39 @@ fn ten_sources(alloc: Global) -> Result<Command, AllocError> {
     })
 }
 
-/// The project of one file.
-fn project_of(alloc: Global, source: &[u8]) -> Result<Option<Project>, AllocError> {
+/// Puts ten sources into a target of the file, and says how long that took.
+fn measure_adding(rt: &HostRuntime, source: &[u8]) -> io::Result<()> {
+    let alloc = rt.alloc();
     let mut files = FileSet::new(alloc);
     let name = String::from_str(alloc, "meson.build")?;
-    if files
-        .push(name, Vec::from_slice(alloc, source)?)
-        .is_err()
-    {
-        return Err(AllocError);
+    if files.push(name, Vec::from_slice(alloc, source)?).is_err() {
+        return println!(rt; "out of memory");
     }
-    Ok(Project::load(alloc, files).ok())
-}
-
-/// Puts ten sources into a target of the file, which is loaded first, so many times; says how long that took at least, and how many times
-/// as long as to read the file.
-fn measure_adding(rt: &HostRuntime, source: &[u8], rounds: usize) -> io::Result<()> {
-    let alloc = rt.alloc();
+    let Ok(project) = Project::load(alloc, files) else {
+        return println!(rt; "no project");
+    };
+    let mut project = project;
     let command = ten_sources(alloc)?;
-    let (parse, _) = least(rt, alloc, Layer::Tree, source, rounds)?;
-    let mut least = Duration::from_secs(3600);
-    let mut read_again = 0;
-    for _ in 0..rounds {
-        let Some(mut project) = project_of(alloc, source)? else {
-            return println!(rt; "no project");
-        };
-        let start = Instant::now(rt)?;
-        let answer = project.perform(alloc, &command);
-        let time = start.elapsed(rt)?;
-        match answer {
-            Ok(done) => read_again = done.relexed,
-            Err(refusal) => return println!(rt; "ten sources refused: {refusal}"),
-        }
-        if time < least {
-            least = time;
-        }
+    let start = Instant::now(rt)?;
+    let answer = project.perform(alloc, &command);
+    let time = start.elapsed(rt)?;
+    match answer {
+        Ok(done) => println!(rt;
+            "ten sources put into a file of {} bytes: {} us, {} splices, {} bytes read again",
+            source.len(),
+            time.as_micros(),
+            done.change.splices.get().len(),
+            done.relexed
+        ),
+        Err(refusal) => println!(rt; "ten sources refused: {refusal}"),
     }
-    let tenths = least.as_micros().saturating_mul(10).checked_div(parse.as_micros());
-    let tenths = tenths.unwrap_or(0);
-    println!(rt;
-        "ten sources put into a file of {} bytes: {} us, {}.{} times one parse of it, {read_again} bytes read again",
-        source.len(),
-        least.as_micros(),
-        tenths / 10,
-        tenths % 10
-    )
 }
 
 fn main(rt: HostRuntime) -> io::Result<()> {
     let alloc = rt.alloc();
     let words: Vec<String> = env::args(&rt)?.collect(alloc)?;
     let Some(name) = words.get(1) else {
-        return println!(rt; "usage: meson_bench FILE [FILE OF A PROJECT [FILE WITH A TARGET ..]]");
+        return println!(rt; "usage: meson_bench FILE [FILE OF A PROJECT [FILE WITH A TARGET]]");
     };
     let source = fs::read(&rt, name.as_str())?;
     for layer in [Layer::Scan, Layer::Items, Layer::Tree] {
@@ -190,9 +171,9 @@ fn main(rt: HostRuntime) -> io::Result<()> {
         let source = fs::read(&rt, name.as_str())?;
         measure_loading(&rt, source.as_slice())?;
     }
-    for name in words.iter().skip(3) {
+    if let Some(name) = words.get(3) {
         let source = fs::read(&rt, name.as_str())?;
-        measure_adding(&rt, source.as_slice(), 10)?;
+        measure_adding(&rt, source.as_slice())?;
     }
     Ok(())
 }
