@@ -43,7 +43,7 @@ OldListsLook = (limits : Limits) (bytes : List ℕ) (t : Parsed) (path : List �
     → IsExchange limits bytes t path p front was now back new
     → (old : rust.List)
     → ((source : List ℕ) (r : ListAt Span) → list_at (view source (moved_parsed (moved (length front + length was) (length was) (length now)) t)) path ≡ Some r
-      → list_view source old ≡ r.list)
+    → list_view source old ≡ r.list)
     → list_view bytes (record { items = old.items; trailing = old.trailing; span = list_span p.list }) ≡ p.list
 
 -- The old list in the place of the new one again, and the borders moved back: that is the old tree, to the last border.

@@ -238,9 +238,5 @@ fn performs_without_a_growth_for_each_assignment(rt: HostRuntime) -> Result<(), 
     let is_few = grows_less::<Perform>(alloc, row, ASSIGNMENTS);
     // With none at all it is refused, where growths can be: so the heap took the order.
     let _ = grows_less::<Perform>(alloc, row, 1);
-    if is_few {
-        Ok(())
-    } else {
-        Err(TooManyGrowths)
-    }
+    if is_few { Ok(()) } else { Err(TooManyGrowths) }
 }

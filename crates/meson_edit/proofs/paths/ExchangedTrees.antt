@@ -95,9 +95,9 @@ module _ (limits : Limits) (bytes : List ℕ) (t : Parsed) (path : List ℕ) (p 
       → list_view bytes (record { items = old.items; trailing = old.trailing; span = list_span p.list }) ≡ p.list
   old-looks old is =
       let texts = in-other (list_at (each_file (span_by g) f) path) (list_at (texts_of bytes (each_file (span_by g) f)) path)
-          (lists-texts bytes (each_file (span_by g) f) path) r there.1 in
+      (lists-texts bytes (each_file (span_by g) f) path) r there.1 in
       let found : list_at (view bytes (moved_parsed (moved (length front + length was) (length was) (length now)) t)) path ≡ Some texts.0 =
-          ap (λ h. list_at (view bytes (moved_parsed h t)) path) same-moved ∙ ap (λ y. list_at y path) (views-move g bytes bytes t) ∙ texts.1 in
+      ap (λ h. list_at (view bytes (moved_parsed h t)) path) same-moved ∙ ap (λ y. list_at y path) (views-move g bytes bytes t) ∙ texts.1 in
       let ends : length (front ++ was) ≡ (list_span p.list).to = x.to in
       let n = length-append front was in
       let sum : (list_span p.list).from + length was ≡ (list_span p.list).to = omega (arith, ends, n, x.from) in
@@ -123,11 +123,11 @@ module _ (limits : Limits) (bytes : List ℕ) (t : Parsed) (path : List ℕ) (p 
       let alone = lists-alone limits bytes f x.spanned path p x.is_p front was back x.parts x.from x.to (listing_depth p.list) (omega arith) in
       let same = ap (λ m. moved m (length now) (length was)) (sym (length-append front now)) in
       let moved_looks : view bytes (moved_parsed h u) ≡ texts_of bytes (each_file (span_by h) (r.back l)) =
-          views-move h bytes new_bytes u ∙ ap (λ y. texts_of bytes (each_file (span_by h) y)) looks in
+      views-move h bytes new_bytes u ∙ ap (λ y. texts_of bytes (each_file (span_by h) y)) looks in
       let put = put-lists-look bytes (moved_parsed h u) (each_file (span_by h) (r.back l)) moved_looks path o.0 o.1 old p.list (is ∙ texts-of-old) in
       let back_is : o.0.back p.list ≡ f = ap o.0.back (sym alone.2)
-          ∙ lists-put-back limits bytes f x.spanned path p x.is_p front was now back x.parts x.from x.to x.depth (list_view now new) x.is_list r there.1 kept
-          (listing_depth p.list) alone.0 alone.1 o.0 o.1 in
+      ∙ lists-put-back limits bytes f x.spanned path p x.is_p front was now back x.parts x.from x.to x.depth (list_view now new) x.is_list r there.1 kept
+      (listing_depth p.list) alone.0 alone.1 o.0 o.1 in
       ap (λ y. with_list path old (moved_parsed y u)) same
       ∙ views-tell bytes (with_list path old (moved_parsed h u)) t (put ∙ ap (texts_of bytes) back_is ∙ spanned-texts limits bytes f x.spanned)
 

@@ -111,10 +111,10 @@ put-lists-look source t f is path r found l m is-l =
     let bare = other-source source [] t f is in
     let o = in-other (list_at f path) (list_at (texts_of [] f) path) (lists-texts [] f path) r found in
     let put : put_there (list_at (view [] t) path) (list_view [] l) (view [] t) ≡ texts_of [] (r.back m) =
-        ap (λ y. put_there (list_at y path) (list_view [] l) y) bare
-        ∙ ap (λ y. put_there y (list_view [] l) (texts_of [] f)) o.1
-        ∙ ap o.0.back (other-source-list source [] l m is-l)
-        ∙ o.2.back m in
+    ap (λ y. put_there (list_at y path) (list_view [] l) y) bare
+    ∙ ap (λ y. put_there y (list_view [] l) (texts_of [] f)) o.1
+    ∙ ap o.0.back (other-source-list source [] l m is-l)
+    ∙ o.2.back m in
     ap (λ y. view source (code_file y)) put
     ∙ the_file source (texts_of [] (r.back m))
     ∙ ap (texts_of source) (sym (the_file [] (r.back m)))
