@@ -158,10 +158,7 @@ fn options_entry(alloc: Global, index: usize, entry: &Value) -> Result<Command, 
     };
     let none = Map::new(alloc);
     let members = members_or(alloc, index, entry, "options", &none)?;
-    match options_command(alloc, index, operation, members) {
-        Ok(command) => Ok(command),
-        Err(fault) => Err(fault),
-    }
+    options_command(alloc, index, operation, members)
 }
 
 /// The command of an entry.

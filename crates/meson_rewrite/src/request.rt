@@ -89,10 +89,7 @@ fn script_of_one(alloc: Global, command: Command) -> Result<Script, Stop>
     ensures ok { IfOk result (λ s. s ≡ script (command ∷ [])) }
     ensures none { IfErr result WantsMemory }
 {
-    match Script::of(alloc, command) {
-        Ok(script) => Ok(script),
-        Err(fault) => Err(Stop::Script(fault)),
-    }
+    Ok(Script::of(alloc, command)?)
 }
 
 /// What an action asks for; a run keeps its change under the title.
