@@ -1,5 +1,5 @@
 -- A bracket ends each look: what stands beyond it changes no answer.
-use Rattle.std.proofs.Common.{◌≡◌, ℕ, suc, ◌+◌, ◌-◌, ◌<◌, ◌≤◌, Bool, true, false, cond, ◌&&◌, List, [], ◌∷◌, ◌++◌, Option, Some, None, length, drop, refl, sym, ap, ◌∙◌, subst, arith, append_assoc}
+use Rattle.std.proofs.Common.{◌≡◌, ℕ, suc, ◌+◌, ◌-◌, ◌<◌, ◌≤◌, Bool, true, false, cond, ◌&&◌, List, [], ◌∷◌, ◌++◌, Option, Some, None, length, drop, refl, sym, ap, ◌∙◌, arith, append_assoc}
 use Rattle.std.proofs.lemmas.Bool.{cond_both, and_parts}
 use Rattle.std.proofs.lemmas.List.{drop-append-le, length-drop, reverse-append}
 use Rattle.std.proofs.lemmas.List.Sums.{prefix_len-le-length}
@@ -163,10 +163,10 @@ comma-few xs =
     let n = look.one look.is_blank xs in
     cond_both (look.begins look.is_comma (drop n xs)) _ _ (λ o. IfSome o (λ i. i ≤ length xs))
     (λ h.
-        let some = begins-some look.is_comma n xs h in
-        let size : length (drop 1 (drop n xs)) ≡ length xs - n - 1 = length-drop 1 (drop n xs) ∙ ap (λ m. m - 1) (length-drop n xs) in
-        let le : n + 1 + length (drop 1 (drop n xs)) ≤ length xs = omega arith in
-        fewer (n + 1 + length (drop 1 (drop n xs))) (length xs) _ le (more-few (n + 1) (length (drop 1 (drop n xs))) (look.note_len (drop 1 (drop n xs))) (note-few (drop 1 (drop n xs)))))
+    let some = begins-some look.is_comma n xs h in
+    let size : length (drop 1 (drop n xs)) ≡ length xs - n - 1 = length-drop 1 (drop n xs) ∙ ap (λ m. m - 1) (length-drop n xs) in
+    let le : n + 1 + length (drop 1 (drop n xs)) ≤ length xs = omega arith in
+    fewer (n + 1 + length (drop 1 (drop n xs))) (length xs) _ le (more-few (n + 1) (length (drop 1 (drop n xs))) (look.note_len (drop 1 (drop n xs))) (note-few (drop 1 (drop n xs)))))
     (λ h. tt)
 
 pub gap-few : (xs : List Lexeme) → look.gap_len xs ≤ length xs

@@ -30,3 +30,5 @@ pub mod AppendLaws
 pub mod FileSets
 pub mod Coding
 pub mod LocalLaws
+pub mod Alone
+pub mod ListSpans

@@ -3,16 +3,14 @@ use Rattle.std.proofs.Common.{◌≡◌, ℕ, zero, suc, ◌+◌, ◌-◌, ◌<�
 use Rattle.std.proofs.lemmas.List.{length-append, length-drop, length-reverse, take-append-le, drop-append-le}
 use Rattle.std.specs.Prelude.{if◌then◌else◌, IfSome, map, reverse}
 use Rattle.meson_lex.specs.Items.{Lexeme, joined}
-use Rattle.meson_lex.specs.Significant.{Opens, Closes, role}
 use Rattle.meson_lex.proofs.Seams.{joined-append}
-use Rattle.meson_splice.specs.declared.splice.Splice.{Splice}
 use Rattle.meson_layout.specs.declared.removal.Growth.{Growth}
 use Rattle.meson_layout.specs.Insertion as insertion
 use Rattle.meson_layout.specs.Looks as look
 use Rattle.meson_layout.specs.Local.{farther}
 use Rattle.meson_layout.specs.Pieces.{Piece, Keep, Change, splices, comma, space}
 use Rattle.meson_layout.specs.Removal as removal
-use Rattle.meson_layout.proofs.Bars.{Bars, opens-bars, closes-bars, near-bar, behind-bar, note-bar, comma-bar, closes-either, gap-bar, blank-bar, begins-comma-bar, near-few, behind-few, note-few, comma-few, gap-few, one-le, begins-some, reverse-around}
+use Rattle.meson_layout.proofs.Bars.{Bars, near-bar, behind-bar, note-bar, comma-bar, closes-either, gap-bar, blank-bar, begins-comma-bar, near-few, behind-few, note-few, comma-few, gap-few, one-le, begins-some, reverse-around}
 use Rattle.meson_layout.proofs.Ends.{back-parts, back-joins}
 
 -- ---- splices behind so many bytes more

@@ -42,6 +42,20 @@ IsOfList items l (Wrap value) = PartIn items l value
 IsOfList items l (RemoveStatement statement) = ⊥
 IsOfList items l (Append new) = ⊥
 
+-- the list's span in a source of these items
+abbrev pub span_in : (items : List Lexeme) → ListIn items → Span
+span_in items l = record { from = length (joined l.front); to = length (joined (l.front ++ alone items l)) }
+
+-- The source has an item list with a list at the span, and the edit is one of that list.
+pub record IsReadyIn (source : List ℕ) (list : Span) (primitive : Primitive) : Type 0 where
+  pub items : List Lexeme
+  pub are_items : IsItemList source items
+  pub list_in : ListIn items
+  pub span : list ≡ span_in items list_in
+  pub of_list : IsOfList items list_in primitive
+
+-- ---- the law
+
 -- Where a list stands changes nothing in how an edit of it is laid out: its splices are those in the list's own text.
 abbrev pub LocalLaw : Type 0
 LocalLaw = (file source : List ℕ) (items : List Lexeme) → IsItemList source items → (l : ListIn items) → (primitive : Primitive) → IsOfList items l primitive

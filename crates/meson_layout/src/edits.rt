@@ -119,7 +119,7 @@ fn first(
 
 /// The splices of an edit of a text of these items.
 #[tactic(auto, using(crate::proofs::Texts::joined_take))]
-fn layout_items(
+pub(crate) fn layout_items(
     alloc: Global,
     file: &str,
     items: &[Lexeme<'_>],
