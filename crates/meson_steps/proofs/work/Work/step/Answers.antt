@@ -1,7 +1,7 @@
 use Rattle.std.proofs.Common.{◌∙◌, [], arith, subst, sym}
 use Rattle.meson_splice.specs.declared.file_set.File.{File}
 use Rattle.meson_steps.specs.Working.{IsChanged, list_again}
-use Rattle.meson_steps.proofs.StepTaken.{empty_list, some_list, when_ok, code_in_files, code_in_trees, code_laid, code_may, code_may_list, code_ready, code_same, code_new, code_new_list}
+use Rattle.meson_steps.proofs.StepTaken.{empty_list, some_list, when_ok, code_in_files, code_in_trees, code_laid, code_may, code_may_be_laid, code_may_list, code_same, code_new, code_new_list}
 use Rattle.meson_steps.proofs.work.Work.step.Goals as goal
 
 nobody : File
@@ -33,7 +33,8 @@ pub laid-requires : goal.laid-requires
 laid-requires c =
     let n = c.requires.1 in
     let old = c.requires.0 in
-    code_ready old c.args.self.now c.args.step n.before n.rest n.next n.is n.reached c.index.result.now c.index.ensures c.in-Some.primitive c.in-Some.ensures c.bytes.result.now c.bytes.ensures
+    code_may_be_laid old c.args.self.now c.args.step n.before n.rest n.next n.is n.reached c.index-list.result.now c.index-list.ensures c.in-Some.primitive c.in-Some.ensures c.bytes.result.now c.bytes.ensures
+    c.is_of_list-of_list.result c.is_of_list-of_list.ensures c.looked_at-list.result c.looked_at-list.ensures
 
 pub returns-then-is_empty-clause-done : goal.returns-then-is_empty-clause-done
 returns-then-is_empty-clause-done c = λ old before rest s is r.
