@@ -110,6 +110,6 @@ pub fn meet_string<'t>(
             marks.meet(alloc, item, slot)?;
             Ok(())
         }
-        None => marks.miss(),
+        None => marks.miss(site.file),
     }
 }

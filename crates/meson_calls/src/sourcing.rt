@@ -53,7 +53,7 @@ pub fn met<'t>(
         &mut marks,
     )?;
     if count_named(source, args, b"kwargs".as_slice()) > 0 {
-        marks.miss()?;
+        marks.miss(call.file)?;
     }
     Ok(marks)
 }
@@ -109,7 +109,7 @@ pub fn sources_of<'t>(
     let home = home_of(alloc, call, list, vacant)?;
     Ok(Sources {
         items: Many::of(items),
-        opaque: unknown,
+        opaque: unknown.len(),
         home,
     })
 }
