@@ -140,10 +140,10 @@ module _ (old : Loaded) (w : Work) (before rest : List Step) (s : Step) (r : Rea
     -- ---- the list
 
     module _ (path : List ℕ) (of : list_of s.edit ≡ Some path) where
-      there_is : IsEditOf path s.edit × (edited_list s.edit path (erase f) ≡ Some changed.new)
+      abbrev there_is : IsEditOf path s.edit × (edited_list s.edit path (erase f) ≡ Some changed.new)
       there_is = list_there s.edit f path changed.new of edited_is
 
-      list_found : Found f s.edit path changed.new
+      pub list_found : Found f s.edit path changed.new
       list_found = found f s.edit path changed.new there_is.1
 
       pub list_is : list_at f path ≡ Some list_found.p

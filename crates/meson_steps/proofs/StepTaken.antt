@@ -24,7 +24,7 @@ use Rattle.meson_steps.specs.Working.{IsChanged, MayBeLaid, MayChange, MayChange
 use Rattle.meson_steps.proofs.SameRead.{same_read}
 use Rattle.meson_steps.proofs.StepPlaces.{step_list, step_none}
 use Rattle.meson_calls.proofs.Loads.{nth_name}
-use Rattle.meson_steps.proofs.OneStep.{in_files, in_trees, is_ready, is_ready_in, items, laid_is, list_is, made, may_change, may_change_list, new_reached, same_reached, splices_are}
+use Rattle.meson_steps.proofs.OneStep.{in_files, in_trees, is_ready, is_ready_in, items, laid_is, list_found, list_is, made, may_change, may_change_list, new_reached, same_reached, splices_are}
 
 pub when_ok : {X E P Q : Type 0} (r : Result X E) → (P → Q) → OnOk r P → OnOk r Q
 when_ok (Ok x) then p = then p
@@ -77,7 +77,7 @@ module _ (old : Loaded) (w : Work) (step : ListStep) (before rest : List Step) (
           let of = step_list s step is of_list in
           let found = list_is old w before rest s r t at step.list.path.steps of in
           subst (λ o. MayBeLaid bs o p) (sym (is_list ∙ ap (option_map (λ (q : ListAt Span). list_span q.list)) found))
-          (subst (λ b. IsReadyIn b _ p) (sym here) (is_ready_in old w before rest s r t at step is step.list.path.steps of p (laid (bytes_at s.file w.files))))
+          (subst (λ b. IsReadyIn b (list_span (list_found old w before rest s r t at step.list.path.steps of).p.list) p) (sym here) (is_ready_in old w before rest s r t at step is step.list.path.steps of p (laid (bytes_at s.file w.files))))
 
       pub code_may_be_laid : (of_list : Bool) → of_list ≡ edits_list step.edit → (list : Option Span) → ((source : List ℕ) → list ≡ looked_at (view source t) step.list.path.steps of_list) → MayBeLaid bs list p
       code_may_be_laid true of list is_list = code_ready_in list (is_list (bytes_at s.file w.files)) (sym of)

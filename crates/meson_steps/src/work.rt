@@ -181,8 +181,9 @@ impl Work {
             unreachable!();
         }
         let of_list = edit.is_of_list();
-        let list = looked_at(&self.trees[file], &place.path, of_list);
-        let Some(primitive) = primitive_of(&self.trees[file], &place.path, edit) else {
+        let tree = &self.trees[file];
+        let list = looked_at(tree, &place.path, of_list);
+        let Some(primitive) = primitive_of(tree, &place.path, edit) else {
             unreachable!();
         };
         let splices = laid(
