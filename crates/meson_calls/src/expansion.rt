@@ -1,6 +1,7 @@
 //! What a list of sources holds.
 
 ghost use Rattle.std.specs.Prelude.{◌≡◌, ◌++◌, OnOk, if◌then◌else◌};
+ghost use Rattle.meson_lex.specs.Kinds.{IsIdentifier};
 ghost use Rattle.meson_syntax.specs.Grammar.{expression_words, operands_words, argument_words};
 ghost use Rattle.meson_syntax.specs.Tree.{arguments_of, operands_of};
 ghost use Rattle.meson_syntax.specs.View.{arg_view, args_view, expr_view, list_view, operands_view};
@@ -13,7 +14,7 @@ ghost use Rattle.meson_calls.specs.Tallies.{gathered, expanded, stand_at, follow
 
 use crate::marks::{Marks, Site};
 use crate::meeting::{is_files, meet_string};
-use crate::roles::text_of;
+use crate::roles::{identifier_text, text_of};
 use crate::variables::Variables;
 use meson_syntax::{Arg, Expr, List, Operand};
 use std::alloc::AllocError;
@@ -240,6 +241,7 @@ impl<'t> Variables<'t> {
         marks: &mut Marks<'t>,
     ) -> Result<(), AllocError>
         requires holds { AreVariables self.now }
+        requires named { IsIdentifier name.now }
         ensures { OnOk result (gathered marks.new ≡ expanded (gathered marks.old) (λ followed. if one_of followed name.entry.now then met opaque followed else follow_of (project_of self.now) left name.entry.now followed)) }
     {
         if marks.has_followed(name) || left == 0 {
@@ -253,7 +255,7 @@ impl<'t> Variables<'t> {
                 let site = Site {
                     file: value.place.file,
                     source: value.source,
-                    variable: Some(name),
+                    variable: Some(identifier_text(name)),
                 };
                 self.expand(left - 1, site, None, value.value, &mut path, marks)
             }

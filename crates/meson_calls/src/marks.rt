@@ -15,7 +15,7 @@ use std::str;
 pub struct Site<'t> {
     pub file: usize,
     pub source: &'t [u8],
-    pub variable: Option<&'t [u8]>,
+    pub variable: Option<&'t str>,
 }
 
 /// The items, their numbers in their lists, the file of each opaque mark, the list of the first item that stands in one, the first list that holds nothing, and the

@@ -12,11 +12,11 @@ ghost use Rattle.meson_calls.specs.Sourced.{all_gathered};
 
 use crate::arguments::{behind_first, count_named};
 use crate::call::{CallRef, Sources};
-use crate::marks::{Marks, Site, text_of_name};
+use crate::marks::{Marks, Site};
 use crate::place::copy_place;
 use crate::refusal::Refusal;
 use crate::variables::Variables;
-use meson_splice::Many;
+use meson_splice::{Many, Text};
 use meson_syntax::{Arg, List};
 use std::alloc::{AllocError, Global};
 
@@ -94,8 +94,8 @@ pub fn sources_of<'t>(
     let alloc = variables.alloc;
     let args = arguments.items.get();
     if count_named(source, args, b"sources".as_slice()) > 1 {
-        let key = text_of_name(alloc, b"sources".as_slice())?;
-        return Err(Refusal::DuplicateKeyword(key));
+        let key = String::from_str(alloc, "sources")?;
+        return Err(Refusal::DuplicateKeyword(Text::of(key)));
     }
     let marks = met(variables, MAX_FOLLOWED, call, source, args)?;
     let Marks {
