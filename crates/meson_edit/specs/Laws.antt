@@ -7,6 +7,7 @@ use Rattle.meson_layout.specs.declared.primitive.Primitive.{Primitive}
 use Rattle.meson_layout.specs.Layout.{layout_of, IsPlaced}
 use Rattle.meson_layout.specs.Edited.{patched_by}
 use Rattle.meson_layout.specs.Laws.{AreTexts}
+use Rattle.meson_layout.specs.Local.{IsReadyIn}
 use Rattle.meson_syntax.specs.declared.source.Limits.{Limits}
 use Rattle.meson_syntax.specs.Tree.{Nowhere, Plain, Listing, Argument, Expression, Statement, File, erase}
 use Rattle.meson_syntax.specs.Grammar.{LevelFile, file_depth}
@@ -94,6 +95,12 @@ ListEditsWrite =
     → Writes e → (t : Plain) → edited e (erase f) ≡ Some t → (path : List ℕ) → IsEditOf path e → (p : ListAt Span) → list_at f path ≡ Some p
     → (primitive : Primitive) → primitive_of f e ≡ Some primitive → (text : List ℕ) → patched_by bytes (layout_of name items primitive) ≡ Ok text
     → WritesList bytes text f path p t
+
+-- An edit of a list looks at that list alone.
+abbrev pub ListEditsLook : Type 0
+ListEditsLook =
+    (e : Edit) (limits : Limits) (bytes : List ℕ) (f : File Span) → IsSpannedWithin limits bytes f → Writes e → (t : Plain) → edited e (erase f) ≡ Some t → (path : List ℕ) → IsEditOf path e
+    → (p : ListAt Span) → list_at f path ≡ Some p → (primitive : Primitive) → primitive_of f e ≡ Some primitive → IsReadyIn bytes (list_span p.list) primitive
 
 -- What an edit writes in the place of a list reads by itself as the edited list, within the depth of the edited file.
 abbrev pub WrittenListsRead : Type 0

@@ -2,18 +2,19 @@
 
 ghost use Rattle.meson_edit.specs.ExchangedTrees.{OldListsLook, TreesExchange, TreesExchangeBack};
 ghost use Rattle.meson_edit.specs.Kept.{EditsKeep};
-ghost use Rattle.meson_edit.specs.Laws.{AppendedSpell, FirstsSpell, InsertionsSpell, ListEditsWrite, RemovalsSpell, ReplacementsSpell, StatementRemovalsSpell, WrapsSpell, WrittenListsRead};
+ghost use Rattle.meson_edit.specs.Laws.{AppendedSpell, FirstsSpell, InsertionsSpell, ListEditsLook, ListEditsWrite, RemovalsSpell, ReplacementsSpell, StatementRemovalsSpell, WrapsSpell, WrittenListsRead};
 ghost use Rattle.meson_edit.specs.PutBack.{ListsPutBack};
 ghost use Rattle.meson_edit.specs.Sequences.{DepthsGrow, EditsDeepen, EditsDeepenByOne, FirstsKeepLevels, FirstsStayWithin, InsertionsKeepLevels, InsertionsStayWithin, ListsAreShallow, ListsStay, RemovalsKeepLevels, RemovalsStayWithin, ReplacementsKeepLevels, WrapsKeepLevels};
 
-/// An element put in, removed, exchanged or wrapped: the new text spells the tree so edited. No byte outside the list changes,
-/// and in its place stands the text of the edited list, which reads by itself.
+/// An element put in, removed, exchanged or wrapped: the new text spells the tree so edited. No byte outside the list is looked
+/// at or changes, and in its place stands the text of the edited list, which reads by itself.
 pub fn lists()
     ensures firsts { FirstsSpell }
     ensures insertions { InsertionsSpell }
     ensures removals { RemovalsSpell }
     ensures replacements { ReplacementsSpell }
     ensures wraps { WrapsSpell }
+    ensures look { ListEditsLook }
     ensures write { ListEditsWrite }
     ensures written_read { WrittenListsRead }
 {}

@@ -83,7 +83,7 @@ laid-by-front file items (Append new) at g small = ap (λ xs. layout_of file xs 
 
 -- ---- a turn of the loop that reads them
 
-slice-length : (source : List ℕ) (from to : ℕ) → from ≤ to → to ≤ length source → length (slice_range source from to) ≡ to - from
+pub slice-length : (source : List ℕ) (from to : ℕ) → from ≤ to → to ≤ length source → length (slice_range source from to) ≡ to - from
 slice-length source from to ordered inside =
     let front = length-take (to - from) (drop from source) in
     let rest = length-drop from source in

@@ -1,4 +1,6 @@
 -- The lemmas of this crate.
+pub mod Bars
+pub mod LocalPieces
 pub mod ReadItems
 pub mod Texts
 pub mod Ranges
@@ -27,3 +29,6 @@ pub mod StatementLaws
 pub mod AppendLaws
 pub mod FileSets
 pub mod Coding
+pub mod LocalLaws
+pub mod Alone
+pub mod ListSpans

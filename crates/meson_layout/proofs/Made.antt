@@ -49,7 +49,7 @@ within source items l list =
       good_close = (good-rest l.inner (l.close_item ∷ l.rest) good.1).0;
     }
 
-listed-joined : (front inner rest : List Lexeme) (o c : Lexeme) → joined (front ++ o ∷ (inner ++ c ∷ rest)) ≡ joined front ++ (joined (o ∷ (inner ++ c ∷ [])) ++ joined rest)
+pub listed-joined : (front inner rest : List Lexeme) (o c : Lexeme) → joined (front ++ o ∷ (inner ++ c ∷ rest)) ≡ joined front ++ (joined (o ∷ (inner ++ c ∷ [])) ++ joined rest)
 listed-joined front inner rest o c =
     joined-append front (o ∷ (inner ++ c ∷ rest))
     ∙ ap (λ xs. joined front ++ joined (o ∷ xs)) (sym (append_assoc inner (c ∷ []) rest))

@@ -79,11 +79,11 @@ bare-more true u h = absurd cc
 bare-more false u h = refl
 
 -- whether a CR stands alone at the front does not hang on what stands behind the first item
-bare-same : (b : ℕ) (bs more : List ℕ) → begins_bare_return (b ∷ bs) ≡ false → begins_bare_return (b ∷ (bs ++ more)) ≡ begins_bare_return (b ∷ bs)
+pub bare-same : (b : ℕ) (bs more : List ℕ) → begins_bare_return (b ∷ bs) ≡ false → begins_bare_return (b ∷ (bs ++ more)) ≡ begins_bare_return (b ∷ bs)
 bare-same b [] more h = bare-more (b == 13) _ h
 bare-same b (c ∷ bs) more h = refl
 
-stands-same : (σ : Shape) (text : List ℕ) (b : ℕ) (us vs : List ℕ) → begins_bare_return (b ∷ us) ≡ begins_bare_return (b ∷ vs) → StandsBy σ text (b ∷ us) → StandsBy σ text (b ∷ vs)
+pub stands-same : (σ : Shape) (text : List ℕ) (b : ℕ) (us vs : List ℕ) → begins_bare_return (b ∷ us) ≡ begins_bare_return (b ∷ vs) → StandsBy σ text (b ∷ us) → StandsBy σ text (b ∷ vs)
 stands-same blanks text b us vs e h = tt
 stands-same note text b us vs e (inl n) = absurd cc
 stands-same note text b us vs e (inr h) = inr (h.0, sym e ∙ h.1)
@@ -94,7 +94,7 @@ stands-same format_quoted text b us vs e h = h
 stands-same extendable text b us vs e h = h
 stands-same closed text b us vs e h = tt
 
-bare-none : (b : ℕ) (bs : List ℕ) → first_bare_return (b ∷ bs) ≡ None → begins_bare_return (b ∷ bs) ≡ false
+pub bare-none : (b : ℕ) (bs : List ℕ) → first_bare_return (b ∷ bs) ≡ None → begins_bare_return (b ∷ bs) ≡ false
 bare-none b bs h = (none_parts (begins_bare_return (b ∷ bs)) (first_bare_return bs) h).0
 
 pub near-to : (σ : Shape) (text next more : List ℕ) → (next ≡ [] → ⊥) → first_bare_return next ≡ None → StandsBy σ text next → StandsBy σ text (next ++ more)

@@ -14,7 +14,7 @@ use Rattle.meson_lex.specs.Words.{spoken, IsTight}
 use Rattle.meson_layout.specs.Words.{remarks, IsBehindElement, IsBeforeValue}
 use Rattle.meson_layout.specs.Pieces.{as_one, splices, line_feed, open_square, close_square}
 use Rattle.meson_layout.specs.Insertion.{first}
-use Rattle.meson_layout.specs.Layout.{Parts, first_in, layout_of, replaced, wrapped}
+use Rattle.meson_layout.specs.Layout.{Parts, before_len, first_in, layout_of, replaced, wrapped}
 use Rattle.meson_layout.specs.Edited.{ListIn, PartIn, IsNew, Edited}
 use Rattle.meson_layout.specs.Laws.{FirstLaw, ReplacementLaw, WrapLaw, WrapKeeps}
 use Rattle.meson_layout.proofs.FirstBytes.{soft_item}
@@ -161,7 +161,7 @@ wrap-keeps file source items list l s p =
 
 -- ---- the first element
 
-open-one : (κ : Kind) (text : List ℕ) → role κ ≡ Opens → OfKind κ text → length text ≡ 1
+pub open-one : (κ : Kind) (text : List ℕ) → role κ ≡ Opens → OfKind κ text → length text ≡ 1
 open-one k.OpenRound text h of = ap length of
 open-one k.OpenSquare text h of = ap length of
 open-one k.OpenCurly text h of = ap length of
@@ -188,6 +188,21 @@ first-made o c inner l fits good soft none fresh f = record {
   };
 }
 
+-- the pieces on both sides of the bracket
+pub first-parts : (source : List ℕ) (items : List Lexeme) → IsItemList source items → (l : ListIn items) (at : ℕ) → at ≡ length (joined l.front) → (new : List ℕ)
+    → first_in (before_len (at + 1) items) items (as_one new) ≡ first (l.front ++ l.open_item ∷ []) (l.inner ++ l.close_item ∷ l.rest) (as_one new)
+first-parts source items list l at is_at new =
+    let o = l.open_item in
+    let left : List Lexeme = l.front ++ o ∷ [] in
+    let right : List Lexeme = l.inner ++ l.close_item ∷ l.rest in
+    let whole : items ≡ left ++ right = l.parts ∙ sym (append_assoc l.front (o ∷ []) right) in
+    let one = open-one o.kind o.text l.opens (within source items l list).good_open.0 in
+    let size = ap length (joined-append l.front (o ∷ [])) ∙ length-append (joined l.front) (o.text ++ []) ∙ ap (λ t. length (joined l.front) + length t) (append-nil o.text) in
+    let place : at + 1 ≡ length (joined left) = omega arith in
+    let good : AllGood (left ++ right) = subst AllGood whole (items-good items [] list.each) in
+    ap (λ m. first_in m items (as_one new)) (before-is items left right (at + 1) whole place (good-front left right good))
+    ∙ ap₂ (λ a b. first a b (as_one new)) (ap (take (length left)) whole ∙ take-append_seam left right) (ap (drop (length left)) whole ∙ drop-append_seam left right)
+
 pub first-law : FirstLaw
 first-law file source items list l none at is_at new fresh is =
     let o = l.open_item in
@@ -196,16 +211,8 @@ first-law file source items list l none at is_at new fresh is =
     let left : List Lexeme = l.front ++ o ∷ [] in
     let right : List Lexeme = l.inner ++ c ∷ l.rest in
     let whole : items ≡ left ++ right = l.parts ∙ sym (append_assoc l.front (o ∷ []) right) in
-    let one = open-one o.kind o.text l.opens w.good_open.0 in
-    let size = ap length (joined-append l.front (o ∷ [])) ∙ length-append (joined l.front) (o.text ++ []) ∙ ap (λ t. length (joined l.front) + length t) (append-nil o.text) in
-    let place : at + 1 ≡ length (joined left) = omega arith in
-    let good : AllGood (left ++ right) = subst AllGood whole (items-good items [] list.each) in
-    let n = before-is items left right (at + 1) whole place (good-front left right good) in
-    let front_is = ap (take (length left)) whole ∙ take-append_seam left right in
-    let rest_is = ap (drop (length left)) whole ∙ drop-append_seam left right in
     let ss : layout_of file items (First at new) ≡ splices file 0 (first left right fresh) =
-    ap (λ m. splices file 0 (first_in m items (as_one new))) n
-    ∙ ap₂ (λ a b. splices file 0 (first a b (as_one new))) front_is rest_is
+    ap (splices file 0) (first-parts source items list l at is_at new)
     ∙ ap (λ t. record { file = file; at = 0 + length (joined left); was = []; now = t } ∷ []) (as-one-same new fresh is) in
     let soft = soft-behind l.inner c [] (inl none) l.closes (good-join l.inner (c ∷ []) w.good_inner (w.good_close, tt)) in
     let made = first-made o c l.inner (near-loose o (opens-loose o.kind l.opens)) (inner-fits source items list l) w.good_inner soft none fresh (fresh-of new fresh is) in

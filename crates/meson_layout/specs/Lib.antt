@@ -1,4 +1,5 @@
 -- What the contracts of this crate cite.
+pub mod Local
 pub mod Looks
 pub mod Pieces
 pub mod Insertion

@@ -119,7 +119,7 @@ fn first(
 
 /// The splices of an edit of a text of these items.
 #[tactic(auto, using(crate::proofs::Texts::joined_take))]
-fn layout_items(
+pub(crate) fn layout_items(
     alloc: Global,
     file: &str,
     items: &[Lexeme<'_>],
@@ -175,8 +175,5 @@ pub fn layout(
     ensures refused { IfErr result (λ e. e ≡ OutOfMemory) }
 {
     let items = lexemes(alloc, src, end_of(primitive))?;
-    match layout_items(alloc, file, items.as_slice(), primitive) {
-        Ok(splices) => Ok(splices),
-        Err(fault) => Err(fault),
-    }
+    layout_items(alloc, file, items.as_slice(), primitive)
 }

@@ -1,6 +1,7 @@
 //! Laws of layout. The functions do nothing: what they ensure is the law.
 
 ghost use Rattle.meson_layout.specs.FileLaws.{AppendLaw, StatementRemovalLaw};
+ghost use Rattle.meson_layout.specs.Local.{LocalLaw};
 ghost use Rattle.meson_layout.specs.Laws.{CodingLaw, FilesLaw, FirstLaw, InsertionLaw, RemovalLaw, ReplacementLaw, TextsLaw, WrapKeeps, WrapLaw};
 
 /// The first element of a list that has none.
@@ -49,4 +50,9 @@ pub fn coding()
     ensures whole { CodingLaw }
     // So are the texts that its splices take away and put in.
     ensures splices { TextsLaw }
+{}
+
+/// Where a list stands in a file changes nothing in how an edit of it is laid out.
+pub fn lists_alone()
+    ensures { LocalLaw }
 {}

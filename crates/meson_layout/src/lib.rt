@@ -5,6 +5,7 @@ mod edits;
 mod insertion;
 pub mod laws;
 mod lexemes;
+mod lists;
 mod looks;
 mod place;
 mod primitive;
@@ -12,4 +13,5 @@ mod removal;
 mod statements;
 
 pub use edits::layout;
+pub use lists::list_layout;
 pub use primitive::Primitive;

@@ -1,6 +1,6 @@
 -- The brackets and the span of a list that a path names.
-use Rattle.std.proofs.Common.{◌≡◌, ℕ, List, Option, Some, None, refl}
-use Rattle.std.specs.Prelude.{option_map, option_and_then}
+use Rattle.std.proofs.Common.{◌≡◌, ℕ, Bool, true, false, List, Option, Some, None, refl, ap}
+use Rattle.std.specs.Prelude.{if◌then◌else◌, option_map, option_and_then}
 use Rattle.meson_lex.specs.declared.kinds.Span.{Span}
 use Rattle.meson_lex.specs.Significant.{Word}
 use Rattle.meson_syntax.specs.Paths.{Hole, ListAt, ListIn, Node, Sort, block_of, expression_at, expression_of, list_at, list_in, list_of_node, list_span, list_within, of_block, of_expression, of_statement, reach}
@@ -30,3 +30,10 @@ spot_reached f path = each (reach Span of_block (block_of f) path) where
       ≡ option_and_then spot_in (option_and_then (λ h. expression_of Span h.sort h.inside) r)
   each None = refl
   each (Some h) = spot_of_node f h.sort h.inside h.before h.behind h.back
+
+-- where a list is looked at, by where its brackets are
+pub looked_spot : (of_list : Bool) (o : Option (ListAt Span)) (s : Option ListSpot) → of_list ≡ true → s ≡ option_map spot_at o
+    → option_map (λ (x : ListSpot). x.span) s ≡ (if of_list then option_map (λ (p : ListAt Span). list_span p.list) o else None)
+looked_spot true None s of is = ap (option_map (λ (x : ListSpot). x.span)) is
+looked_spot true (Some p) s of is = ap (option_map (λ (x : ListSpot). x.span)) is
+looked_spot false o s of is = absurd cc

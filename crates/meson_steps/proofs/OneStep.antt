@@ -8,6 +8,7 @@ use Rattle.meson_lex.specs.Items.{Lexeme, IsItemList}
 use Rattle.meson_layout.specs.declared.primitive.Primitive.{Primitive}
 use Rattle.meson_layout.specs.Edited.{patched_by}
 use Rattle.meson_layout.specs.Laws.{AreTexts}
+use Rattle.meson_layout.specs.Local.{IsReadyIn}
 use Rattle.meson_layout.specs.Layout.{IsPlaced, IsReady, layout_of, pieces}
 use Rattle.meson_splice.specs.declared.file_set.File.{File}
 use Rattle.meson_splice.specs.declared.splice.Splice.{Splice}
@@ -16,7 +17,7 @@ use Rattle.meson_splice.specs.Patch.{patched_all}
 use Rattle.meson_syntax.specs.declared.source.Limits.{Limits}
 use Rattle.meson_syntax.specs.declared.tree.Parsed.{Parsed}
 use Rattle.meson_syntax.specs.Grammar.{file_depth}
-use Rattle.meson_syntax.specs.Paths.{list_at}
+use Rattle.meson_syntax.specs.Paths.{list_at, list_span}
 use Rattle.meson_syntax.specs.Reads.{IsSpannedWithin, ReadsWithin, Spells, of_files, wide}
 use Rattle.meson_syntax.specs.ReadsList.{ReadsListWithin}
 use Rattle.meson_syntax.specs.Tree as tree
@@ -28,7 +29,7 @@ use Rattle.meson_syntax.proofs.parsing.Answers.{reads-found}
 use Rattle.meson_syntax.proofs.parsing.Steps.{some-injective}
 use Rattle.meson_edit.specs.Edits.{Edit, edited, edited_list}
 use Rattle.meson_edit.specs.Laws.{IsEditOf, Makes, WritesList}
-use Rattle.meson_edit.proofs.lists.Answers.{list-edits-write}
+use Rattle.meson_edit.proofs.lists.Answers.{list-edits-look, list-edits-write}
 use Rattle.meson_edit.proofs.lists.Found.{Found, found}
 use Rattle.meson_edit.proofs.lists.ReadAlone.{written-lists-read}
 use Rattle.meson_calls.specs.declared.call.CallRef.{CallRef}
@@ -136,6 +137,18 @@ module _ (old : Loaded) (w : Work) (before rest : List Step) (s : Step) (r : Rea
     pub made : Makes bytes f items name s.edit changed.new
     made = every_edit s.edit limits bytes f spanned items are_items name next.writes changed.new edited_is stands.0
 
+    -- ---- the list
+
+    module _ (path : List ℕ) (of : list_of s.edit ≡ Some path) where
+      abbrev there_is : IsEditOf path s.edit × (edited_list s.edit path (erase f) ≡ Some changed.new)
+      there_is = list_there s.edit f path changed.new of edited_is
+
+      pub list_found : Found f s.edit path changed.new
+      list_found = found f s.edit path changed.new there_is.1
+
+      pub list_is : list_at f path ≡ Some list_found.p
+      list_is = list_found.is_p
+
     -- ---- the layout
 
     module _ (step : ListStep) (is : bare s ≡ Some step) where
@@ -147,6 +160,11 @@ module _ (old : Loaded) (w : Work) (before rest : List Step) (s : Step) (r : Rea
 
       pub is_ready : (p : Primitive) → Some p ≡ placed_edit f step.list.path.steps step.edit → IsReady bytes p
       is_ready p laid = record { items = items; are_items = are_items; placed = subst (λ q. IsPlaced q items) (some-injective _ _ (sym laid_is ∙ sym laid)) made.placed }
+
+      pub is_ready_in : (path : List ℕ) (of : list_of s.edit ≡ Some path) (p : Primitive) → Some p ≡ placed_edit f step.list.path.steps step.edit → IsReadyIn bytes (list_span (list_found path of).p.list) p
+      is_ready_in path of p laid =
+          list-edits-look s.edit limits bytes f spanned next.writes changed.new edited_is path (there_is path of).0 (list_found path of).p (list_found path of).is_p p
+          (made.is_primitive ∙ sym laid_is ∙ sym laid)
 
       pub splices_are : (p : Primitive) → Some p ≡ placed_edit f step.list.path.steps step.edit → (splices : List Splice) → ((list : List Lexeme) → IsItemList bytes list → splices ≡ effective (layout_of name list p))
           → splices ≡ effective (layout_of name items made.primitive)
@@ -189,14 +207,11 @@ module _ (old : Loaded) (w : Work) (before rest : List Step) (s : Step) (r : Rea
       -- ---- a list
 
       module _ (path : List ℕ) (of : list_of s.edit ≡ Some path) where
-        there_is : IsEditOf path s.edit × (edited_list s.edit path (erase f) ≡ Some changed.new)
-        there_is = list_there s.edit f path changed.new of edited_is
+        abbrev here : Found f s.edit path changed.new
+        here = list_found path of
 
-        list_found : Found f s.edit path changed.new
-        list_found = found f s.edit path changed.new there_is.1
-
-        writes : WritesList bytes made.text f path list_found.p changed.new
-        writes = list-edits-write s.edit limits bytes f spanned items are_items name next.writes changed.new edited_is path there_is.0 list_found.p list_found.is_p
+        writes : WritesList bytes made.text f path here.p changed.new
+        writes = list-edits-write s.edit limits bytes f spanned items are_items name next.writes changed.new edited_is path (there_is path of).0 here.p here.is_p
             made.primitive made.is_primitive made.text made.patches
 
         pub may_change_list : (place : CallRef) → place.file ≡ i → place.path.steps ≡ path → MayChangeList w place splices t
@@ -207,8 +222,8 @@ module _ (old : Loaded) (w : Work) (before rest : List Step) (s : Step) (r : Rea
               files = with_bytes i made.text files;
               is = all_made;
               spanned = subst (λ b. IsSpannedWithin wide b (view b t)) (sym old) (wide_by (is_saved i w.saved.items) bytes f spanned);
-              p = list_found.p;
-              is_p = ap₂ (λ b l. list_at (view b t) l) old same_path ∙ list_found.is_p;
+              p = here.p;
+              is_p = ap₂ (λ b l. list_at (view b t) l) old same_path ∙ here.is_p;
               q = writes.q;
               is_q = ap₂ (λ b l. list_at (erase (view b t)) l) old same_path ∙ writes.is_q;
               front = writes.front;
@@ -220,7 +235,7 @@ module _ (old : Loaded) (w : Work) (before rest : List Step) (s : Step) (r : Rea
               from = writes.from;
               to = writes.to;
               list = writes.list;
-              reads_list = subst (λ b. ReadsListWithin wide_depth b writes.now writes.list) writes.bracket (written-lists-read bytes made.text f path list_found.p changed.new writes stands.0 wide_depth stands.1);
+              reads_list = subst (λ b. ReadsListWithin wide_depth b writes.now writes.list) writes.bracket (written-lists-read bytes made.text f path here.p changed.new writes stands.0 wide_depth stands.1);
               reads = subst (λ b. ReadsWithin wide b (writes.q.back writes.list)) writes.new (subst (ReadsWithin wide made.text) (sym writes.is_tree) reads);
             }
 

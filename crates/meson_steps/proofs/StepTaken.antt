@@ -1,15 +1,17 @@
 -- One step as the code takes it: by the number of its file and the tree that it reads there.
 use Rattle.std.proofs.Common.{◌≡◌, ℕ, ◌<◌, List, [], ◌∷◌, ◌++◌, length, get_or, refl, sym, ap, ◌∙◌, subst, arith}
-use Rattle.std.specs.Prelude.{true, false, ◌==◌, OnOk, Option, Result, Some, None, Ok, Err, option_and_then, option_map}
+use Rattle.std.specs.Prelude.{Bool, true, false, ◌==◌, OnOk, Option, Result, Some, None, Ok, Err, option_and_then, option_map}
 use Rattle.std.proofs.lemmas.Bool.{eqb-true}
+use Rattle.meson_lex.specs.declared.kinds.Span.{Span}
 use Rattle.meson_lex.specs.Items.{Lexeme, IsItemList}
 use Rattle.meson_layout.specs.declared.primitive.Primitive.{Primitive}
 use Rattle.meson_layout.specs.Layout.{IsReady, layout_of}
+use Rattle.meson_layout.specs.Local.{IsReadyIn}
 use Rattle.meson_splice.specs.declared.file_set.File.{File}
 use Rattle.meson_splice.specs.declared.splice.Splice.{Splice}
 use Rattle.meson_splice.specs.Files.{bytes_at}
 use Rattle.meson_syntax.specs.declared.tree.Parsed.{Parsed}
-use Rattle.meson_syntax.specs.Paths.{list_at}
+use Rattle.meson_syntax.specs.Paths.{ListAt, list_at, list_span}
 use Rattle.meson_syntax.specs.View.{view}
 use Rattle.meson_steps.specs.declared.step.ListEdit.{ListEdit}
 use Rattle.meson_steps.specs.declared.step.ListStep.{ListStep}
@@ -18,11 +20,11 @@ use Rattle.meson_steps.specs.ListSteps.{bare, bare_edit, edits_list, path_of}
 use Rattle.meson_calls.specs.Loading.{Loaded, name_at}
 use Rattle.meson_calls.specs.Project.{place}
 use Rattle.meson_steps.specs.Steps.{Step, bytes_again, effective}
-use Rattle.meson_steps.specs.Working.{IsChanged, MayChange, MayChangeList, Reached, list_again, placed_edit}
+use Rattle.meson_steps.specs.Working.{IsChanged, MayBeLaid, MayChange, MayChangeList, Reached, list_again, looked_at, placed_edit}
 use Rattle.meson_steps.proofs.SameRead.{same_read}
 use Rattle.meson_steps.proofs.StepPlaces.{step_list, step_none}
 use Rattle.meson_calls.proofs.Loads.{nth_name}
-use Rattle.meson_steps.proofs.OneStep.{in_files, in_trees, is_ready, items, laid_is, made, may_change, may_change_list, new_reached, same_reached, splices_are}
+use Rattle.meson_steps.proofs.OneStep.{in_files, in_trees, is_ready, is_ready_in, items, laid_is, list_found, list_is, made, may_change, may_change_list, new_reached, same_reached, splices_are}
 
 pub when_ok : {X E P Q : Type 0} (r : Result X E) → (P → Q) → OnOk r P → OnOk r Q
 when_ok (Ok x) then p = then p
@@ -67,8 +69,19 @@ module _ (old : Loaded) (w : Work) (step : ListStep) (before rest : List Step) (
       here : bs ≡ bytes_at s.file w.files
       here = is_bytes ∙ ap (λ i. bytes_at i w.files) file_is
 
-      pub code_ready : IsReady bs p
+      code_ready : IsReady bs p
       code_ready = subst (λ b. IsReady b p) (sym here) (is_ready old w before rest s r t at step is p (laid (bytes_at s.file w.files)))
+
+      code_ready_in : (list : Option Span) → list ≡ option_map (λ (q : ListAt Span). list_span q.list) (list_at (view (bytes_at s.file w.files) t) step.list.path.steps) → edits_list step.edit ≡ true → MayBeLaid bs list p
+      code_ready_in list is_list of_list =
+          let of = step_list s step is of_list in
+          let found = list_is old w before rest s r t at step.list.path.steps of in
+          subst (λ o. MayBeLaid bs o p) (sym (is_list ∙ ap (option_map (λ (q : ListAt Span). list_span q.list)) found))
+          (subst (λ b. IsReadyIn b (list_span (list_found old w before rest s r t at step.list.path.steps of).p.list) p) (sym here) (is_ready_in old w before rest s r t at step is step.list.path.steps of p (laid (bytes_at s.file w.files))))
+
+      pub code_may_be_laid : (of_list : Bool) → of_list ≡ edits_list step.edit → (list : Option Span) → ((source : List ℕ) → list ≡ looked_at (view source t) step.list.path.steps of_list) → MayBeLaid bs list p
+      code_may_be_laid true of list is_list = code_ready_in list (is_list (bytes_at s.file w.files)) (sym of)
+      code_may_be_laid false of list is_list = subst (λ o. MayBeLaid bs o p) (sym (is_list (bytes_at s.file w.files))) code_ready
 
       module _ (nm : List ℕ) (d : File) (is_name : nm ≡ (get_or w.files step.list.file d).name) (splices : List Splice) (done : (list : List Lexeme) → IsItemList bs list → splices ≡ effective (layout_of nm list p)) where
         name : nm ≡ name_at s.file w.files

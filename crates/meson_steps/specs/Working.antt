@@ -1,8 +1,10 @@
 -- Where the work stands between two steps of a command.
-use Rattle.std.specs.Prelude.{◌≡◌, ℕ, ◌+◌, ◌<◌, ◌≤◌, List, [], ◌∷◌, ◌++◌, All, length, slice_index_or, slice_set, true, if◌then◌else◌, Option, Some, option_map, Ok}
+use Rattle.std.specs.Prelude.{◌≡◌, ℕ, ◌+◌, ◌<◌, ◌≤◌, List, [], ◌∷◌, ◌++◌, All, length, slice_index_or, slice_set, Bool, true, if◌then◌else◌, Option, Some, None, option_map, Ok}
 use Rattle.meson_lex.specs.declared.kinds.Span.{Span}
 use Rattle.meson_layout.specs.declared.primitive.Primitive.{Primitive}
 use Rattle.meson_layout.specs.declared.primitive.Primitive.TheVariants as layout
+use Rattle.meson_layout.specs.Layout.{IsReady}
+use Rattle.meson_layout.specs.Local.{IsReadyIn}
 use Rattle.meson_splice.specs.declared.file_set.File.{File}
 use Rattle.meson_splice.specs.declared.splice.Splice.{Splice}
 use Rattle.meson_splice.specs.Files.{IsDistinct, bytes_at}
@@ -41,6 +43,15 @@ placed_edit f path (code.Replace n new) = option_map (λ s. layout.Replace s new
 placed_edit f path (code.Wrap n) = option_map layout.Wrap (value_span f path n)
 placed_edit f path (code.RemoveStatement n) = option_map layout.RemoveStatement (span_of_statement f path n)
 placed_edit f path (code.Append new) = Some (layout.Append new)
+
+-- the list that alone is looked at, where an edit is one of a list
+abbrev pub looked_at : tree.File Span → List ℕ → Bool → Option Span
+looked_at f path of_list = if of_list then option_map (λ (p : ListAt Span). list_span p.list) (list_at f path) else None
+
+-- An edit can be laid out, by that list alone or by the whole file.
+abbrev pub MayBeLaid : List ℕ → Option Span → Primitive → Type 0
+MayBeLaid bytes (Some list) primitive = IsReadyIn bytes list primitive
+MayBeLaid bytes None primitive = IsReady bytes primitive
 
 -- The splices of a file can be made, and the file then reads as a tree.
 pub record MayChange (w : Work) (file : ℕ) (splices : List Splice) : Type 0 where

@@ -1,7 +1,7 @@
 //! Steps done on the files and trees of a project, one after another.
 
 ghost use Rattle.std.specs.Prelude.{[], ◌++◌, ◌<◌, ◌≡◌, ◌≢◌, ◌≤◌, ◌∷◌, IfErr, IfOk, List, OnOk, Ok, length, slice_index_or, true, false, ℕ};
-ghost use Rattle.meson_layout.specs.Layout.{IsReady, layout_of};
+ghost use Rattle.meson_layout.specs.Layout.{layout_of};
 ghost use Rattle.meson_lex.specs.Items.{IsItemList, Lexeme};
 ghost use Rattle.meson_splice.specs.declared.file_set.File.{File};
 ghost use Rattle.meson_splice.specs.Files.{bytes_at};
@@ -13,7 +13,7 @@ ghost use Rattle.meson_calls.specs.Picking.{Source};
 ghost use Rattle.meson_steps.specs.Plans.{Doable};
 ghost use Rattle.meson_steps.specs.Steps as meant;
 ghost use Rattle.meson_steps.specs.Steps.{effective};
-ghost use Rattle.meson_steps.specs.Working.{AreShallowSoFar, HasDeep, HasLarge, HasSteps, IsChanged, IsFresh, IsNext, IsUnderWay, MayChange, MayChangeList, Reached, Restores, list_again, placed_edit, so_far};
+ghost use Rattle.meson_steps.specs.Working.{AreShallowSoFar, HasDeep, HasLarge, HasSteps, IsChanged, IsFresh, IsNext, IsUnderWay, MayBeLaid, MayChange, MayChangeList, Reached, Restores, list_again, looked_at, placed_edit, so_far};
 ghost use Rattle.meson_steps.specs.ListSteps.{bare};
 
 use crate::journal::{Saved, SavedList, exchange, exchange_list, is_saved};
@@ -23,7 +23,8 @@ use crate::statements::statement_span;
 use crate::step::{ListEdit, ListStep};
 use meson_calls::{CallRef, Refusal};
 use meson_edit::nests_within;
-use meson_layout::{Primitive, layout};
+use meson_layout::{Primitive, layout, list_layout};
+use meson_lex::Span;
 use meson_splice::{Change, FileSet, Many, Splice, SpliceFault, apply_all};
 use meson_syntax::{MAX_LEN, Parsed, Path, parse_wide};
 use std::alloc::{AllocError, Global};
@@ -81,18 +82,36 @@ fn leave_effective(splices: &mut Vec<Splice>)
     splices.retain(|splice| splice.was != splice.now);
 }
 
-/// The splices of an edit, but for those that change nothing.
+/// The list that alone is looked at, where an edit is one of a list.
+fn looked_at(tree: &Parsed, path: &Path, of_list: bool) -> Option<Span>
+    ensures { (source : Source) → result ≡ looked_at (view source tree.now) path.now.steps of_list }
+{
+    if !of_list {
+        return None;
+    }
+    match list_spot(tree, path) {
+        Some(spot) => Some(spot.span),
+        None => None,
+    }
+}
+
+/// The splices of an edit, of the list that stands there or of the file, but for those that change nothing.
 fn laid(
     alloc: Global,
     name: &str,
     bytes: &[u8],
+    list: Option<Span>,
     primitive: &Primitive,
 ) -> Result<Vec<Splice>, Refusal>
-    requires { IsReady bytes.now primitive.now }
+    requires { MayBeLaid bytes.now list primitive.now }
     ensures done { (items : List Lexeme) → IsItemList bytes.now items → IfOk result (λ v. v.items ≡ effective (layout_of name.now items primitive.now)) }
     ensures refused { IfErr result (λ e. e ≡ Refusal.OutOfMemory) }
 {
-    match layout(alloc, name, bytes, primitive) {
+    let laid = match list {
+        Some(list) => list_layout(alloc, name, bytes, list, primitive),
+        None => layout(alloc, name, bytes, primitive),
+    };
+    match laid {
         Ok(splices) => {
             let mut left = splices;
             leave_effective(&mut left);
@@ -162,13 +181,16 @@ impl Work {
             unreachable!();
         }
         let of_list = edit.is_of_list();
-        let Some(primitive) = primitive_of(&self.trees[file], &place.path, edit) else {
+        let tree = &self.trees[file];
+        let list = looked_at(tree, &place.path, of_list);
+        let Some(primitive) = primitive_of(tree, &place.path, edit) else {
             unreachable!();
         };
         let splices = laid(
             alloc,
             self.files.name(file),
             self.files.bytes(file),
+            list,
             &primitive,
         )?;
         if splices.as_slice().is_empty() {

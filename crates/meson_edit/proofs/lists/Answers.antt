@@ -11,9 +11,9 @@ use Rattle.meson_syntax.specs.Reads.{IsSpannedWithin}
 use Rattle.meson_edit.specs.Places.{primitive_of, Writes}
 use Rattle.meson_edit.proofs.lists.Found.{found}
 use Rattle.meson_edit.specs.Edits.{Edit, First, After, Remove, Replace, Wrap, RemoveStatement, Append, edited, edited_list}
-use Rattle.meson_edit.specs.Laws.{FirstsSpell, InsertionsSpell, RemovalsSpell, ReplacementsSpell, WrapsSpell, IsEditOf, ListEditsWrite}
+use Rattle.meson_edit.specs.Laws.{FirstsSpell, InsertionsSpell, RemovalsSpell, ReplacementsSpell, WrapsSpell, IsEditOf, ListEditsLook, ListEditsWrite}
 use Rattle.meson_edit.specs.Kept.{KeepsIn}
-use Rattle.meson_edit.proofs.lists.LaidOut.{Lays, spelled, written, kept}
+use Rattle.meson_edit.proofs.lists.LaidOut.{Lays, spelled, ready, written, kept}
 use Rattle.meson_edit.proofs.lists.Elements.{first-lays, after-lays, remove-lays}
 use Rattle.meson_edit.proofs.lists.Others.{stays-before, stays-behind}
 use Rattle.meson_edit.proofs.lists.Values.{replace-lays, wrap-lays}
@@ -45,6 +45,9 @@ list-lays (Append new) path is = absurd is
 
 pub list-edits-write : ListEditsWrite
 list-edits-write e limits bytes f s items are name writes t is path names = written e path (list-lays e path names) limits bytes f s items are name writes t is
+
+pub list-edits-look : ListEditsLook
+list-edits-look e limits bytes f s writes t is path names = ready e path (list-lays e path names) limits bytes f s writes t is
 
 -- what an edit of a list keeps
 pub list-edit-keeps : (e : Edit) (limits : Limits) (bytes : List ℕ) (f : File Span) → IsSpannedWithin limits bytes f → (items : List Lexeme) → IsItemList bytes items → (name : List ℕ)

@@ -1,6 +1,6 @@
 -- An edit of a list, laid out: what its splices leave, and what follows from that.
 use Rattle.std.specs.Str.{IsUtf8}
-use Rattle.std.proofs.Common.{◌≡◌, ℕ, List, [], ◌∷◌, ◌++◌, Some, Result, Ok, sym, ap, subst, ◌∙◌, append_assoc}
+use Rattle.std.proofs.Common.{◌≡◌, ℕ, List, [], ◌∷◌, ◌++◌, Some, Result, Ok, sym, ap, ap₂, subst, ◌∙◌, append_assoc}
 use Rattle.meson_lex.specs.declared.kinds.Span.{Span}
 use Rattle.meson_lex.specs.Items.{Lexeme, joined, AreItems, IsItemList}
 use Rattle.meson_lex.proofs.Seams.{AreItems-split}
@@ -8,13 +8,14 @@ use Rattle.meson_lex.proofs.OneList.{one_list}
 use Rattle.meson_layout.specs.declared.primitive.Primitive.{Primitive}
 use Rattle.meson_layout.specs.Layout.{layout_of, IsPlaced}
 use Rattle.meson_layout.specs.Edited.{Edited, patched_by}
+use Rattle.meson_layout.specs.Local.{IsOfList, IsReadyIn}
 use Rattle.meson_layout.specs.Laws.{WritesUtf8}
 use Rattle.meson_syntax.specs.declared.source.Limits.{Limits}
 use Rattle.meson_syntax.specs.Operators.{opens, closes}
 use Rattle.meson_syntax.specs.Tree.{Plain, File, erase}
 use Rattle.meson_syntax.specs.Grammar.{LevelFile}
 use Rattle.meson_syntax.specs.Reads.{Spells, IsSpannedWithin}
-use Rattle.meson_syntax.specs.Paths.{ListAt, list_at, inner_words}
+use Rattle.meson_syntax.specs.Paths.{ListAt, list_at, list_span, inner_words}
 use Rattle.meson_syntax.specs.Places.{ListPlaces}
 use Rattle.meson_syntax.specs.Exchange.{IsListText}
 use Rattle.meson_syntax.proofs.parsing.Steps.{some-injective}
@@ -36,6 +37,7 @@ pub record LaidOut (bytes : List ℕ) (f : File Span) (items : List Lexeme) (nam
   pub places : ListPlaces items place.p
   pub primitive : Primitive
   pub is_primitive : primitive_of f e ≡ Some primitive
+  pub of_list : IsOfList items (list_among items place.p places.list) primitive
   pub placed : IsPlaced primitive items
   pub writes : WritesUtf8 primitive
   pub left : List Lexeme
@@ -97,6 +99,24 @@ pub spelled : (e : Edit) (path : List ℕ) → Lays e path → Spelled e
 spelled e path lays limits bytes f s items are name writes t is level =
     subst (λ xs. Makes bytes f xs name e t) (one_list bytes s.reads.spells.items items s.reads.spells.are_items are)
     (makes limits bytes f s name e path t (lays limits bytes f s name writes t is) level)
+
+-- ---- the list that is looked at
+
+-- the list stands at its span, and the edit is one of it
+pub ready : (e : Edit) (path : List ℕ) → Lays e path → (limits : Limits) (bytes : List ℕ) (f : File Span) → IsSpannedWithin limits bytes f → Writes e → (t : Plain) → edited e (erase f) ≡ Some t
+    → (p : ListAt Span) → list_at f path ≡ Some p → (primitive : Primitive) → primitive_of f e ≡ Some primitive → IsReadyIn bytes (list_span p.list) primitive
+ready e path lays limits bytes f s writes t is p is_p primitive is_primitive =
+    let o = lays limits bytes f s [] writes t is in
+    let l = o.places.list in
+    let same_list = some-injective o.place.p p (sym o.place.is_p ∙ is_p) in
+    let same_primitive = some-injective o.primitive primitive (sym o.is_primitive ∙ is_primitive) in
+    subst (λ q. IsReadyIn bytes (list_span q.list) primitive) same_list (subst (IsReadyIn bytes (list_span o.place.p.list)) same_primitive (record {
+      items = s.reads.spells.items;
+      are_items = s.reads.spells.are_items;
+      list_in = list_among s.reads.spells.items o.place.p l;
+      span = ap₂ (λ from to. record { from = from; to = to }) l.from l.to;
+      of_list = o.of_list;
+    }))
 
 -- ---- what is written
 

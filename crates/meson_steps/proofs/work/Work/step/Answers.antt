@@ -1,7 +1,7 @@
 use Rattle.std.proofs.Common.{◌∙◌, [], arith, subst, sym}
 use Rattle.meson_splice.specs.declared.file_set.File.{File}
 use Rattle.meson_steps.specs.Working.{IsChanged, list_again}
-use Rattle.meson_steps.proofs.StepTaken.{empty_list, some_list, when_ok, code_in_files, code_in_trees, code_laid, code_may, code_may_list, code_ready, code_same, code_new, code_new_list}
+use Rattle.meson_steps.proofs.StepTaken.{empty_list, some_list, when_ok, code_in_files, code_in_trees, code_laid, code_may, code_may_be_laid, code_may_list, code_same, code_new, code_new_list}
 use Rattle.meson_steps.proofs.work.Work.step.Goals as goal
 
 nobody : File
@@ -17,7 +17,7 @@ pub unreachable-requires-in_default : goal.unreachable-requires-in_default
 unreachable-requires-in_default c =
     let n = c.requires.1 in
     let old = c.requires.0 in
-    code_laid old c.args.self.now c.args.step n.before n.rest n.next n.is n.reached c.index.result.now c.index.ensures c.primitive_of.result c.primitive_of.ensures c.in_default.is
+    code_laid old c.args.self.now c.args.step n.before n.rest n.next n.is n.reached c.index-tree.result.now c.index-tree.ensures c.primitive_of.result c.primitive_of.ensures c.in_default.is
 
 pub name-requires : goal.name-requires
 name-requires c =
@@ -33,12 +33,13 @@ pub laid-requires : goal.laid-requires
 laid-requires c =
     let n = c.requires.1 in
     let old = c.requires.0 in
-    code_ready old c.args.self.now c.args.step n.before n.rest n.next n.is n.reached c.index.result.now c.index.ensures c.in-Some.primitive c.in-Some.ensures c.bytes.result.now c.bytes.ensures
+    code_may_be_laid old c.args.self.now c.args.step n.before n.rest n.next n.is n.reached c.index-tree.result.now c.index-tree.ensures c.in-Some.primitive c.in-Some.ensures c.bytes.result.now c.bytes.ensures
+    c.is_of_list-of_list.result c.is_of_list-of_list.ensures c.looked_at-list.result c.looked_at-list.ensures
 
 pub returns-then-is_empty-clause-done : goal.returns-then-is_empty-clause-done
 returns-then-is_empty-clause-done c = λ old before rest s is r.
     let splices = c.in_ok-splices.splices.items in
-    code_same old c.args.self.now c.args.step before rest s is r c.index.result.now c.index.ensures c.in-Some.primitive c.in-Some.ensures c.bytes.result.now c.bytes.ensures
+    code_same old c.args.self.now c.args.step before rest s is r c.index-tree.result.now c.index-tree.ensures c.in-Some.primitive c.in-Some.ensures c.bytes.result.now c.bytes.ensures
     c.name.result.now nobody (c.name.ensures nobody) splices c.in_ok-splices.ensures.done (empty_list c.as_slice.result.now splices c.as_slice.ensures.value c.if-is_empty.ensures)
 
 pub change_list-requires-clause-files : goal.change_list-requires-clause-files
@@ -50,7 +51,7 @@ pub change_list-requires-clause-read : goal.change_list-requires-clause-read
 change_list-requires-clause-read c =
     let n = c.requires.1 in
     let old = c.requires.0 in
-    code_may_list old c.args.self.now c.args.step n.before n.rest n.next n.is n.reached c.index.result.now c.index.ensures c.in-Some.primitive c.in-Some.ensures c.bytes.result.now c.bytes.ensures
+    code_may_list old c.args.self.now c.args.step n.before n.rest n.next n.is n.reached c.index-tree.result.now c.index-tree.ensures c.in-Some.primitive c.in-Some.ensures c.bytes.result.now c.bytes.ensures
     c.name.result.now nobody (c.name.ensures nobody) c.in_ok-splices.splices.items c.in_ok-splices.ensures.done (sym c.is_of_list-of_list.ensures ∙ c.if-of_list.true)
 
 pub change-requires-clause-files : goal.change-requires-clause-files
@@ -62,25 +63,25 @@ pub change-requires-clause-read : goal.change-requires-clause-read
 change-requires-clause-read c =
     let n = c.requires.1 in
     let old = c.requires.0 in
-    code_may old c.args.self.now c.args.step n.before n.rest n.next n.is n.reached c.index.result.now c.index.ensures c.in-Some.primitive c.in-Some.ensures c.bytes.result.now c.bytes.ensures
+    code_may old c.args.self.now c.args.step n.before n.rest n.next n.is n.reached c.index-tree.result.now c.index-tree.ensures c.in-Some.primitive c.in-Some.ensures c.bytes.result.now c.bytes.ensures
     c.name.result.now nobody (c.name.ensures nobody) c.in_ok-splices.splices.items c.in_ok-splices.ensures.done
 
 pub returns-then-of_list-clause-done : goal.returns-then-of_list-clause-done
 returns-then-of_list-clause-done c = λ old before rest s is r.
     let splices = c.in_ok-splices.splices.items in
-    let t = c.index.result.now in
+    let t = c.index-tree.result.now in
     when_ok c.change_list.result
-    (λ changed. code_new_list old c.args.self.now c.args.step before rest s is r t c.index.ensures c.in-Some.primitive c.in-Some.ensures c.bytes.result.now c.bytes.ensures
+    (λ changed. code_new_list old c.args.self.now c.args.step before rest s is r t c.index-tree.ensures c.in-Some.primitive c.in-Some.ensures c.bytes.result.now c.bytes.ensures
     c.name.result.now nobody (c.name.ensures nobody) splices c.in_ok-splices.ensures.done (some_list c.as_slice.result.now splices c.as_slice.ensures.value c.if-is_empty.ensures) c.change_list.new.self
     (sym c.is_of_list-of_list.ensures ∙ c.if-of_list.true)
-    (subst (λ u. IsChanged c.args.self.now c.change_list.new.self c.args.step.list.file splices (list_again c.args.self.now c.change_list.new.self c.args.step.list u)) (sym c.index.ensures) changed))
+    (subst (λ u. IsChanged c.args.self.now c.change_list.new.self c.args.step.list.file splices (list_again c.args.self.now c.change_list.new.self c.args.step.list u)) (sym c.index-tree.ensures) changed))
     (c.change_list.ensures.done t)
 
 pub returns-else-of_list-clause-done : goal.returns-else-of_list-clause-done
 returns-else-of_list-clause-done c = λ old before rest s is r.
     let splices = c.in_ok-splices.splices.items in
     when_ok c.change.result
-    (code_new old c.args.self.now c.args.step before rest s is r c.index.result.now c.index.ensures c.in-Some.primitive c.in-Some.ensures c.bytes.result.now c.bytes.ensures
+    (code_new old c.args.self.now c.args.step before rest s is r c.index-tree.result.now c.index-tree.ensures c.in-Some.primitive c.in-Some.ensures c.bytes.result.now c.bytes.ensures
     c.name.result.now nobody (c.name.ensures nobody) splices c.in_ok-splices.ensures.done (some_list c.as_slice.result.now splices c.as_slice.ensures.value c.if-is_empty.ensures) c.change.new.self
     (sym c.is_of_list-of_list.ensures ∙ c.if-of_list.false))
     c.change.ensures.done

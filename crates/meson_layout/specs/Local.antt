@@ -1,0 +1,62 @@
+-- An edit of a list, laid out on the list's own text.
+use Rattle.std.specs.Prelude.{◌≡◌, ℕ, ◌+◌, ◌-◌, List, [], ◌∷◌, ◌++◌, length, map}
+use Rattle.meson_lex.specs.declared.kinds.Span.{Span}
+use Rattle.meson_lex.specs.Items.{Lexeme, joined, IsItemList}
+use Rattle.meson_splice.specs.declared.splice.Splice.{Splice}
+use Rattle.meson_layout.specs.declared.primitive.Primitive.{Primitive}
+use Rattle.meson_layout.specs.declared.primitive.Primitive.TheVariants.{First, After, Remove, Replace, Wrap, RemoveStatement, Append}
+use Rattle.meson_layout.specs.Edited.{ListIn, PartIn}
+use Rattle.meson_layout.specs.Layout.{layout_of}
+
+-- ---- places that count from the beginning of the list
+
+abbrev pub nearer_span : ℕ → Span → Span
+nearer_span n s = record { from = s.from - n; to = s.to - n }
+
+-- the edit, where so many bytes before its places are left out
+abbrev pub nearer : ℕ → Primitive → Primitive
+nearer n (First bracket new) = First (bracket - n) new
+nearer n (After element new) = After (nearer_span n element) new
+nearer n (Remove element) = Remove (nearer_span n element)
+nearer n (Replace value new) = Replace (nearer_span n value) new
+nearer n (Wrap value) = Wrap (nearer_span n value)
+nearer n (RemoveStatement statement) = RemoveStatement (nearer_span n statement)
+nearer n (Append new) = Append new
+
+-- the splice, where so many bytes more stand before it
+abbrev pub farther : ℕ → Splice → Splice
+farther n s = record { file = s.file; at = n + s.at; was = s.was; now = s.now }
+
+-- ---- the list alone
+
+abbrev pub alone : (items : List Lexeme) → ListIn items → List Lexeme
+alone items l = l.open_item ∷ (l.inner ++ l.close_item ∷ [])
+
+-- the edit names the list's bracket, or a part of the list
+abbrev pub IsOfList : (items : List Lexeme) → ListIn items → Primitive → Type 0
+IsOfList items l (First bracket new) = bracket ≡ length (joined l.front)
+IsOfList items l (After element new) = PartIn items l element
+IsOfList items l (Remove element) = PartIn items l element
+IsOfList items l (Replace value new) = PartIn items l value
+IsOfList items l (Wrap value) = PartIn items l value
+IsOfList items l (RemoveStatement statement) = ⊥
+IsOfList items l (Append new) = ⊥
+
+-- the list's span in a source of these items
+abbrev pub span_in : (items : List Lexeme) → ListIn items → Span
+span_in items l = record { from = length (joined l.front); to = length (joined (l.front ++ alone items l)) }
+
+-- The source has an item list with a list at the span, and the edit is one of that list.
+pub record IsReadyIn (source : List ℕ) (list : Span) (primitive : Primitive) : Type 0 where
+  pub items : List Lexeme
+  pub are_items : IsItemList source items
+  pub list_in : ListIn items
+  pub span : list ≡ span_in items list_in
+  pub of_list : IsOfList items list_in primitive
+
+-- ---- the law
+
+-- Where a list stands changes nothing in how an edit of it is laid out: its splices are those in the list's own text.
+abbrev pub LocalLaw : Type 0
+LocalLaw = (file source : List ℕ) (items : List Lexeme) → IsItemList source items → (l : ListIn items) → (primitive : Primitive) → IsOfList items l primitive
+    → layout_of file items primitive ≡ map (farther (length (joined l.front))) (layout_of file (alone items l) (nearer (length (joined l.front)) primitive))
