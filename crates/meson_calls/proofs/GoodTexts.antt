@@ -1,8 +1,8 @@
--- The strings of a tree that a text reads as are of their kinds, since they are items of the text.
+-- The strings and names of a tree that a text reads as are of their kinds, since they are items of the text.
 use Rattle.std.proofs.Common.{ℕ, List, [], ◌∷◌, ◌++◌, subst}
 use Rattle.std.specs.Prelude.{Bool, true, false}
 use Rattle.meson_lex.specs.declared.kinds.Kind.{Kind}
-use Rattle.meson_lex.specs.declared.kinds.Kind.TheVariants.{PlainString, MultilineString, FormatString, FormatMultilineString}
+use Rattle.meson_lex.specs.declared.kinds.Kind.TheVariants.{Identifier, PlainString, MultilineString, FormatString, FormatMultilineString}
 use Rattle.meson_lex.specs.Items.{Lexeme, AreItems}
 use Rattle.meson_lex.specs.Kinds.{OfKind}
 use Rattle.meson_lex.specs.Significant.{Word, kept, Role, Gap, Ends, Opens, Closes, Other, role, State, start, step, after, emit, emit_by, emitted, only_if, ends_line, closing, new_line}
@@ -20,6 +20,7 @@ good_word PlainString text of = of
 good_word MultilineString text of = of
 good_word FormatString text of = of
 good_word FormatMultilineString text of = of
+good_word Identifier text of = of
 good_word _ text of = tt
 
 line_good : (b : Bool) → AreGood (only_if b new_line)

@@ -1,3 +1,4 @@
+pub mod IdentifierTexts
 pub mod SlashParts
 pub mod FileNames
 pub mod Loads

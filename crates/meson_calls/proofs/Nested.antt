@@ -11,9 +11,9 @@ use Rattle.meson_syntax.specs.declared.tree.Expr.{Expr}
 use Rattle.meson_syntax.specs.declared.tree.Expr.TheVariants as expr
 use Rattle.meson_syntax.specs.declared.tree.Operand.{Operand}
 use Rattle.meson_syntax.specs.declared.tree.List as rust
-use Rattle.meson_syntax.specs.Tree.{array, call, Listing, listing, plain, Arguments, no_arguments, argument, arguments_of, operands_of}
+use Rattle.meson_syntax.specs.Tree.{identifier, array, call, Listing, listing, plain, Arguments, no_arguments, argument, arguments_of, operands_of}
 use Rattle.meson_syntax.specs.Grammar.{mark, operator_words, expression_words, operands_words, argument_words, arguments_words, comma_words, listing_words}
-use Rattle.meson_syntax.specs.View.{name_at, expr_view, list_view, arg_view, args_view, operand_view, operands_view}
+use Rattle.meson_syntax.specs.View.{name_at, text_at, expr_view, list_view, arg_view, args_view, operand_view, operands_view}
 use Rattle.meson_calls.specs.Noted.{rank, operands_rank, argument_rank, arguments_rank, listing_rank}
 use Rattle.meson_calls.specs.Strings.{AreGood}
 use Rattle.meson_calls.specs.GoodLists.{GoodArguments, GoodListing, GoodArgs}
@@ -34,6 +34,9 @@ pub good_listing : (l : Listing Span) (b : Bracket) → AreGood (listing_words l
 good_listing (listing s trailing list) b good = good_arguments list trailing (good_left (arguments_words list trailing) (mark (closes b)) good.1)
 
 module _ (source : List ℕ) where
+  pub name_view : (x : Span) → expr_view source (expr.Identifier x) ≡ identifier x (text_at source x)
+  name_view x = search (rules, the_lemmas)
+
   pub array_view : (l : rust.List) → expr_view source (expr.Array l) ≡ array (list_view source l)
   array_view l = search (rules, the_lemmas)
 

@@ -1,8 +1,8 @@
--- Trees whose strings are strings of their kind: those that a text reads as.
+-- Trees whose strings are strings of their kind, and whose names are identifiers: those that a text reads as.
 use Rattle.std.specs.Prelude.{ℕ, List, [], ◌∷◌}
 use Rattle.meson_lex.specs.declared.kinds.Kind.{Kind}
-use Rattle.meson_lex.specs.declared.kinds.Kind.TheVariants.{PlainString, MultilineString, FormatString, FormatMultilineString}
-use Rattle.meson_lex.specs.Kinds.{IsString}
+use Rattle.meson_lex.specs.declared.kinds.Kind.TheVariants.{Identifier, PlainString, MultilineString, FormatString, FormatMultilineString}
+use Rattle.meson_lex.specs.Kinds.{IsIdentifier, IsString}
 use Rattle.meson_lex.specs.Significant.{Word}
 use Rattle.meson_syntax.specs.declared.operator.Bracket.TheVariants as bracket
 use Rattle.meson_syntax.specs.Grammar.{expression_words, listing_words, statement_words}
@@ -15,6 +15,7 @@ IsGood PlainString text = IsString PlainString text
 IsGood MultilineString text = IsString MultilineString text
 IsGood FormatString text = IsString FormatString text
 IsGood FormatMultilineString text = IsString FormatMultilineString text
+IsGood Identifier text = IsIdentifier text
 IsGood kind text = Unit {0}
 
 abbrev pub AreGood : List Word → Type 0

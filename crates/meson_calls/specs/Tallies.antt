@@ -1,5 +1,5 @@
 -- What marks say, gathered mark by mark, and the variables that were followed.
-use Rattle.std.specs.Prelude.{ℕ, zero, suc, ◌+◌, ◌&&◌, if◌then◌else◌, List, [], ◌∷◌, ◌++◌, map, reverse, Option, Some, None, option_map}
+use Rattle.std.specs.Prelude.{ℕ, zero, suc, ◌+◌, ◌&&◌, if◌then◌else◌, List, [], ◌∷◌, ◌++◌, length, map, reverse, Option, Some, None, option_map}
 use Rattle.meson_lex.specs.declared.kinds.Span.{Span}
 use Rattle.meson_syntax.specs.Tree.{Expression, Operands, Listing, Argument, Arguments}
 use Rattle.meson_calls.specs.declared.call.CallRef.{CallRef}
@@ -53,7 +53,7 @@ no_marks = record { tally = record { items = []; numbers = []; unknown = 0; list
 
 -- what the code's marks stand for: the last variable that was followed stands first
 abbrev pub gathered : Marks → Gathered
-gathered m = record { tally = record { items = m.items.items; numbers = m.numbers.items; unknown = m.unknown; list = m.list; vacant = m.vacant }; followed = reverse (map (λ x. x.now) m.followed.items) }
+gathered m = record { tally = record { items = m.items.items; numbers = m.numbers.items; unknown = length m.unknown.items; list = m.list; vacant = m.vacant }; followed = reverse (map (λ x. x.now) m.followed.items) }
 
 -- ---- where an expression stands: the n-th child of a list at a path, or at the path itself and in no list
 

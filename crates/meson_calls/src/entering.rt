@@ -120,8 +120,6 @@ pub fn subdirs(alloc: Global, name: &str, bytes: &[u8]) -> Result<Vec<String>, P
         Ok(tree) => tree,
         Err(fault) => return Err(fault),
     };
-    match entered_by(alloc, name, bytes, &tree) {
-        Ok(names) => Ok(names),
-        Err(_) => Err(ParseFault::OutOfMemory),
-    }
+    let names = entered_by(alloc, name, bytes, &tree)?;
+    Ok(names)
 }

@@ -1,6 +1,7 @@
 //! What a list of sources holds.
 
 ghost use Rattle.std.specs.Prelude.{◌≡◌, ◌++◌, OnOk, if◌then◌else◌};
+ghost use Rattle.meson_lex.specs.Kinds.{IsIdentifier};
 ghost use Rattle.meson_syntax.specs.Grammar.{expression_words, operands_words, argument_words};
 ghost use Rattle.meson_syntax.specs.Tree.{arguments_of, operands_of};
 ghost use Rattle.meson_syntax.specs.View.{arg_view, args_view, expr_view, list_view, operands_view};
@@ -13,7 +14,7 @@ ghost use Rattle.meson_calls.specs.Tallies.{gathered, expanded, stand_at, follow
 
 use crate::marks::{Marks, Site};
 use crate::meeting::{is_files, meet_string};
-use crate::roles::text_of;
+use crate::roles::{identifier_text, text_of};
 use crate::variables::Variables;
 use meson_syntax::{Arg, Expr, List, Operand};
 use std::alloc::AllocError;
@@ -48,14 +49,16 @@ impl<'t> Variables<'t> {
                 if is_files(site.source, *name, arguments) {
                     self.expand_list(left, site, slot, arguments, path, marks)
                 } else {
-                    marks.miss()
+                    marks.miss(site.file)
                 }
             }
-            Expr::Identifier(name) => self.follow(left, text_of(site.source, *name), marks),
+            Expr::Identifier(name) => {
+                self.follow(left, site.file, text_of(site.source, *name), marks)
+            }
             Expr::Row { first, rest, .. } => {
                 self.expand_row(left, site, slot, first.get(), rest.get(), path, marks)
             }
-            _ => marks.miss(),
+            _ => marks.miss(site.file),
         }
     }
 
@@ -148,7 +151,7 @@ impl<'t> Variables<'t> {
     {
         match arg {
             Arg::Plain(value) => self.expand(left, site, Some(number), value, path, marks),
-            _ => marks.miss(),
+            _ => marks.miss(site.file),
         }
     }
 
@@ -170,7 +173,7 @@ impl<'t> Variables<'t> {
         ensures all { OnOk result (gathered marks.new ≡ expanded (gathered marks.old) (row_left (project_of self.now) left (expr_view site.entry.source.now first.now) (operands_of (operands_view site.entry.source.now rest.now)) (stand_at site.entry path.old.items slot))) }
     {
         if !self.is_sum(site.source, first, rest)? {
-            return marks.miss();
+            return marks.miss(site.file);
         }
         match slot {
             Some(number) => {
@@ -228,14 +231,21 @@ impl<'t> Variables<'t> {
         Ok(())
     }
 
-    /// Those of the value of a variable.
+    /// Those of the value of a variable that is read in this file.
     #[cycle(expansion)]
-    fn follow(&self, left: usize, name: &'t [u8], marks: &mut Marks<'t>) -> Result<(), AllocError>
+    fn follow(
+        &self,
+        left: usize,
+        file: usize,
+        name: &'t [u8],
+        marks: &mut Marks<'t>,
+    ) -> Result<(), AllocError>
         requires holds { AreVariables self.now }
+        requires named { IsIdentifier name.now }
         ensures { OnOk result (gathered marks.new ≡ expanded (gathered marks.old) (λ followed. if one_of followed name.entry.now then met opaque followed else follow_of (project_of self.now) left name.entry.now followed)) }
     {
         if marks.has_followed(name) || left == 0 {
-            return marks.miss();
+            return marks.miss(file);
         }
         match self.single(name)? {
             Some(value) => {
@@ -245,11 +255,11 @@ impl<'t> Variables<'t> {
                 let site = Site {
                     file: value.place.file,
                     source: value.source,
-                    variable: Some(name),
+                    variable: Some(identifier_text(name)),
                 };
                 self.expand(left - 1, site, None, value.value, &mut path, marks)
             }
-            None => marks.miss(),
+            None => marks.miss(file),
         }
     }
 }

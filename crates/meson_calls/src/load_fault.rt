@@ -2,6 +2,7 @@
 
 use meson_splice::FileSet;
 use meson_syntax::ParseFault;
+use std::alloc::AllocFailed;
 use std::error::Error;
 use std::fmt;
 
@@ -34,6 +35,17 @@ impl fmt::Display for LoadFault {
 }
 
 impl Error for LoadFault {}
+
+impl<T: Drop> From<AllocFailed<T>> for LoadFault {
+    ghost use Rattle.std.specs.Prelude.{◌≡◌};
+    ghost use Rattle.meson_calls.specs.declared.load_fault.LoadFault.TheVariants.{OutOfMemory};
+
+    ghost from_gives = { λ _ e. e ≡ OutOfMemory };
+
+    fn from(_: AllocFailed<T>) -> LoadFault {
+        LoadFault::OutOfMemory
+    }
+}
 
 /// Files that were not loaded, with the reason.
 #[derive(Debug, Drop)]

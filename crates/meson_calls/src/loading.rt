@@ -46,10 +46,7 @@ fn trees_of(alloc: Global, files: &FileSet) -> Result<Vec<Parsed>, LoadFault>
     let mut trees = Vec::new(alloc);
     for index in 0..files.len() {
         match parse(alloc, files.bytes(index)) {
-            Ok(tree) => match trees.push(tree) {
-                Ok(()) => {}
-                Err(_) => return Err(LoadFault::OutOfMemory),
-            },
+            Ok(tree) => trees.push(tree)?,
             Err(fault) => return Err(told(index, fault)),
         }
     }
@@ -79,10 +76,8 @@ pub fn copy_trees(alloc: Global, trees: &[Parsed]) -> Result<Vec<Parsed>, AllocE
 {
     let mut copies = Vec::new(alloc);
     for i in 0..trees.len() {
-        match trees[i].copy(alloc) {
-            Ok(tree) => copies.push(tree)?,
-            Err(_) => return Err(AllocError),
-        }
+        let tree = trees[i].copy(alloc).map_err(|_| AllocError)?;
+        copies.push(tree)?;
     }
     Ok(copies)
 }

@@ -15,16 +15,16 @@ use std::str;
 pub struct Site<'t> {
     pub file: usize,
     pub source: &'t [u8],
-    pub variable: Option<&'t [u8]>,
+    pub variable: Option<&'t str>,
 }
 
-/// The items, their numbers in their lists, the number of opaque marks, the list of the first item that stands in one, the first list that holds nothing, and the
+/// The items, their numbers in their lists, the file of each opaque mark, the list of the first item that stands in one, the first list that holds nothing, and the
 /// variables that were followed.
 #[derive(Drop)]
 pub struct Marks<'t> {
     pub items: Vec<SourceItem>,
     pub numbers: Vec<Option<usize>>,
-    pub unknown: usize,
+    pub unknown: Vec<usize>,
     pub list: Option<CallRef>,
     pub vacant: Option<CallRef>,
     pub followed: Vec<&'t [u8]>,
@@ -53,7 +53,7 @@ impl<'t> Marks<'t> {
         Marks {
             items: Vec::new(alloc),
             numbers: Vec::new(alloc),
-            unknown: 0,
+            unknown: Vec::new(alloc),
             list: None,
             vacant: None,
             followed: Vec::new(alloc),
@@ -80,17 +80,12 @@ impl<'t> Marks<'t> {
         Ok(())
     }
 
-    /// Meets something opaque. No project has so many parts that they can't be counted.
-    pub fn miss(&mut self) -> Result<(), AllocError>
+    /// Meets something opaque in this file.
+    pub fn miss(&mut self, file: usize) -> Result<(), AllocError>
         ensures { OnOk result (gathered self.new ≡ with_mark (gathered self.old) opaque) }
     {
-        match self.unknown.checked_add(1) {
-            Some(unknown) => {
-                self.unknown = unknown;
-                Ok(())
-            }
-            None => Err(AllocError),
-        }
+        self.unknown.push(file)?;
+        Ok(())
     }
 
     /// Meets a list that holds nothing.

@@ -13,7 +13,7 @@ ghost use Rattle.meson_calls.specs.Tallies.{gathered, expanded, stand, stand_at}
 
 use crate::call::{CallRef, SourceItem};
 use crate::literals::literal;
-use crate::marks::{Marks, Site, text_of_name};
+use crate::marks::{Marks, Site};
 use crate::place::place_of;
 use crate::roles::text_of;
 use meson_lex::Span;
@@ -71,13 +71,13 @@ pub fn list_of(
 }
 
 /// The name of a variable.
-pub fn copy_name(alloc: Global, name: Option<&[u8]>) -> Result<Option<Text>, AllocError>
+pub fn copy_name(alloc: Global, name: Option<&str>) -> Result<Option<Text>, AllocError>
     ensures { IfOk result (λ copy. copy ≡ option_map (λ x. x.now) name.entry) }
 {
     match name {
         Some(name) => {
-            let text = text_of_name(alloc, name)?;
-            Ok(Some(text))
+            let text = String::from_str(alloc, name)?;
+            Ok(Some(Text::of(text)))
         }
         None => Ok(None),
     }
@@ -110,6 +110,6 @@ pub fn meet_string<'t>(
             marks.meet(alloc, item, slot)?;
             Ok(())
         }
-        None => marks.miss(),
+        None => marks.miss(site.file),
     }
 }

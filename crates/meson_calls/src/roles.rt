@@ -1,6 +1,7 @@
 //! Which calls a command may be about.
 
 ghost use Rattle.std.specs.Prelude.{◌≡◌, None, Some, MatchOption};
+ghost use Rattle.meson_lex.specs.Kinds.{IsIdentifier};
 ghost use Rattle.meson_syntax.specs.View.{text_at, expr_view, arg_view, list_view};
 ghost use Rattle.meson_calls.specs.Calls.{first_argument, value_without_name};
 ghost use Rattle.meson_calls.specs.Roles.{one_of, target_functions, has_role};
@@ -11,6 +12,7 @@ use crate::call::Role;
 use crate::note::What;
 use meson_lex::Span;
 use meson_syntax::{Arg, Expr, List};
+use std::str;
 
 /// The bytes of a span, or what there is of them.
 pub fn text_of(source: &[u8], span: Span) -> &[u8]
@@ -19,6 +21,17 @@ pub fn text_of(source: &[u8], span: Span) -> &[u8]
     let to = span.to.min(source.len());
     let from = span.from.min(to);
     &source[from..to]
+}
+
+/// The text of an identifier, which has ASCII characters alone.
+pub fn identifier_text(name: &[u8]) -> &str
+    requires { IsIdentifier name.now }
+    ensures { result.now ≡ name.now }
+{
+    match str::from_utf8(name) {
+        Ok(text) => text,
+        Err(_) => unreachable!(),
+    }
 }
 
 /// The functions that make targets.

@@ -12,11 +12,11 @@ ghost use Rattle.meson_calls.specs.Sourced.{all_gathered};
 
 use crate::arguments::{behind_first, count_named};
 use crate::call::{CallRef, Sources};
-use crate::marks::{Marks, Site, text_of_name};
+use crate::marks::{Marks, Site};
 use crate::place::copy_place;
 use crate::refusal::Refusal;
 use crate::variables::Variables;
-use meson_splice::Many;
+use meson_splice::{Many, Text};
 use meson_syntax::{Arg, List};
 use std::alloc::{AllocError, Global};
 
@@ -53,7 +53,7 @@ pub fn met<'t>(
         &mut marks,
     )?;
     if count_named(source, args, b"kwargs".as_slice()) > 0 {
-        marks.miss()?;
+        marks.miss(call.file)?;
     }
     Ok(marks)
 }
@@ -94,8 +94,8 @@ pub fn sources_of<'t>(
     let alloc = variables.alloc;
     let args = arguments.items.get();
     if count_named(source, args, b"sources".as_slice()) > 1 {
-        let key = text_of_name(alloc, b"sources".as_slice())?;
-        return Err(Refusal::DuplicateKeyword(key));
+        let key = String::from_str(alloc, "sources")?;
+        return Err(Refusal::DuplicateKeyword(Text::of(key)));
     }
     let marks = met(variables, MAX_FOLLOWED, call, source, args)?;
     let Marks {
@@ -109,7 +109,7 @@ pub fn sources_of<'t>(
     let home = home_of(alloc, call, list, vacant)?;
     Ok(Sources {
         items: Many::of(items),
-        opaque: unknown,
+        opaque: unknown.len(),
         home,
     })
 }

@@ -1,7 +1,7 @@
 //! Reading the files of a project from a store.
 
-ghost use Rattle.std.specs.Prelude.{◌≡◌, ◌≤◌, ◌<◌, ◌∷◌, [], ℕ, List, Some, None, Option, All, IfOk, IfErr, OnErr, OnOk, length, map, option_map, string_bytes, take, drop};
-ghost use Rattle.meson_splice.specs.Files.{bytes_at};
+ghost use Rattle.std.specs.Prelude.{◌≡◌, ◌≤◌, ◌<◌, ◌∷◌, [], ℕ, List, Some, None, Option, All, IfOk, IfErr, IsNone, OnErr, OnOk, length, map, option_map, string_bytes, take, drop};
+ghost use Rattle.meson_splice.specs.Files.{bytes_at, found};
 ghost use Rattle.meson_syntax.specs.Reads.{IsSpanned, MayRefuse};
 ghost use Rattle.meson_syntax.specs.View.{view};
 ghost use Rattle.meson_calls.specs.Directories.{IsFileName, build_file};
@@ -63,6 +63,7 @@ pub fn read_file<S: Store>(
 fn add(alloc: Global, files: &mut FileSet, name: &str, bytes: Vec<u8>) -> Result<(), GatherFault>
     requires named { IsFileName name.now }
     requires few { length files.old ≤ max_files }
+    requires new { IsNone (found name.now files.old) }
     ensures added { OnOk result (with_more files.old (file_of name.now bytes.items) ≡ Some files.new) }
     ensures grows { OnOk result (Grows files.old files.new) }
     ensures stopped { IfErr result (IsNotAdded files.old (file_of name.now bytes.items)) }
@@ -70,13 +71,9 @@ fn add(alloc: Global, files: &mut FileSet, name: &str, bytes: Vec<u8>) -> Result
     if files.len() >= MAX_FILES {
         return Err(GatherFault::TooManyFiles);
     }
-    let Ok(name) = String::from_str(alloc, name) else {
-        return Err(GatherFault::Store(StoreFault::OutOfMemory));
-    };
-    match files.push(name, bytes) {
-        Ok(()) => Ok(()),
-        Err(_) => Err(GatherFault::Store(StoreFault::OutOfMemory)),
-    }
+    let name = String::from_str(alloc, name)?;
+    files.push_new(name, bytes)?;
+    Ok(())
 }
 
 /// Reads the file of a name that is entered, where it is not there yet and the store has it.
@@ -152,12 +149,12 @@ struct Entry {
 fn unparsed(alloc: Global, name: &str, fault: ParseFault) -> GatherFault
     ensures { (bytes : List ℕ) → MayRefuse bytes fault → StopsLooking name.now bytes result }
 {
-    if matches!(fault, ParseFault::OutOfMemory) {
-        return GatherFault::Store(StoreFault::OutOfMemory);
-    }
-    match text_of(alloc, name) {
-        Ok(name) => GatherFault::Parse { name, fault },
-        Err(refused) => GatherFault::from(refused),
+    match fault {
+        ParseFault::OutOfMemory => GatherFault::Store(StoreFault::OutOfMemory),
+        fault => match text_of(alloc, name) {
+            Ok(name) => GatherFault::Parse { name, fault },
+            Err(refused) => GatherFault::from(refused),
+        },
     }
 }
 
@@ -229,19 +226,15 @@ fn root_set<S: Store>(
     ensures once { OnOk result (S.reads store.new ≡ one_more (S.reads store.old)) }
     ensures at_most_once { OnceAtMost (S.reads store.old) (S.reads store.new) }
 {
-    let Ok(name) = text_of(alloc, ROOT) else {
-        return Err(GatherFault::Store(StoreFault::OutOfMemory));
-    };
+    let name = text_of(alloc, ROOT)?;
     let bytes = match read_file(alloc, store, folder, ROOT) {
         Ok(Some(bytes)) => bytes,
         Ok(None) => return Err(GatherFault::Store(StoreFault::NoFile(name))),
         Err(fault) => return Err(GatherFault::Store(fault)),
     };
     let mut files = FileSet::new(alloc);
-    match files.push(name.take(), bytes) {
-        Ok(()) => Ok(files),
-        Err(_) => Err(GatherFault::Store(StoreFault::OutOfMemory)),
-    }
+    files.push_new(name.take(), bytes)?;
+    Ok(files)
 }
 
 /// Reads the project in this folder: the root file, and then for each file in order those that it enters.

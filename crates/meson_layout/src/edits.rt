@@ -175,8 +175,5 @@ pub fn layout(
     ensures refused { IfErr result (λ e. e ≡ OutOfMemory) }
 {
     let items = lexemes(alloc, src, end_of(primitive))?;
-    match layout_items(alloc, file, items.as_slice(), primitive) {
-        Ok(splices) => Ok(splices),
-        Err(fault) => Err(fault),
-    }
+    layout_items(alloc, file, items.as_slice(), primitive)
 }

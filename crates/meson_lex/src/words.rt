@@ -1,9 +1,9 @@
 // Identifiers and reserved words.
-ghost use Rattle.std.specs.Prelude.{◌≡◌, ◌≤◌, ◌↔◌, IsTrue, length};
+ghost use Rattle.std.specs.Prelude.{◌≡◌, ◌≤◌, ◌↔◌, All, IsTrue, length, map};
 ghost use Rattle.std.specs.List.{prefix_len, list_all};
 ghost use Rattle.meson_lex.specs.Bytes.{is_word_byte};
-ghost use Rattle.meson_lex.specs.Kinds.{IsWord, IsNoneOf, IsIdentifier, reserved};
-ghost use Rattle.meson_lex.specs.Scan.{word_kind, word_front};
+ghost use Rattle.meson_lex.specs.Kinds.{IsWord, IsNoneOf, IsIdentifier, reserved, spelling};
+ghost use Rattle.meson_lex.specs.Scan.{kind_among, word_kind, word_front};
 
 use crate::bytes::{is_word_byte, is_word_start};
 use crate::fault::LexFault;
@@ -17,27 +17,42 @@ pub fn word_len(bytes: &[u8]) -> usize
     bytes.iter().take_while(|b| is_word_byte(**b)).count()
 }
 
+/// The reserved words, each as it is spelled and with its kind.
+const RESERVED: [(&str, Kind); 14] = [
+    ("true", Kind::WordTrue),
+    ("false", Kind::WordFalse),
+    ("if", Kind::WordIf),
+    ("elif", Kind::WordElif),
+    ("else", Kind::WordElse),
+    ("endif", Kind::WordEndif),
+    ("and", Kind::WordAnd),
+    ("or", Kind::WordOr),
+    ("not", Kind::WordNot),
+    ("in", Kind::WordIn),
+    ("foreach", Kind::WordForeach),
+    ("endforeach", Kind::WordEndforeach),
+    ("break", Kind::WordBreak),
+    ("continue", Kind::WordContinue),
+];
+
+/// The kind among these whose word it is, else `Identifier`.
+fn kind_among(words: &[(&str, Kind)], word: &[u8]) -> Kind
+    requires { All (λ w. w.0.now ≡ spelling w.1) words.now }
+    ensures { result ≡ kind_among (map (λ w. w.1) words.now) word.now }
+{
+    for i in 0..words.len() {
+        if word == words[i].0.as_bytes() {
+            return words[i].1;
+        }
+    }
+    Kind::Identifier
+}
+
 /// The reserved word that is spelled so, else `Identifier`.
 fn word_kind(word: &[u8]) -> Kind
     ensures { result ≡ word_kind word.now }
 {
-    match word {
-        b"true" => Kind::WordTrue,
-        b"false" => Kind::WordFalse,
-        b"if" => Kind::WordIf,
-        b"elif" => Kind::WordElif,
-        b"else" => Kind::WordElse,
-        b"endif" => Kind::WordEndif,
-        b"and" => Kind::WordAnd,
-        b"or" => Kind::WordOr,
-        b"not" => Kind::WordNot,
-        b"in" => Kind::WordIn,
-        b"foreach" => Kind::WordForeach,
-        b"endforeach" => Kind::WordEndforeach,
-        b"break" => Kind::WordBreak,
-        b"continue" => Kind::WordContinue,
-        _ => Kind::Identifier,
-    }
+    kind_among(&RESERVED, word)
 }
 
 fn are_word_bytes(bytes: &[u8]) -> bool

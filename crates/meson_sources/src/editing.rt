@@ -1,6 +1,6 @@
 //! The steps of commands on the sources of a target.
 
-ghost use Rattle.std.specs.Prelude.{◌≡◌, ◌≢◌, ◌<◌, ◌≤◌, All, Err, IfErr, IfOk, OnOk, length};
+ghost use Rattle.std.specs.Prelude.{◌≡◌, ◌≢◌, ◌<◌, ◌≤◌, ◌^◌, All, Err, IfErr, IfOk, OnOk, length};
 ghost use Rattle.std.specs.Str.{IsUtf8};
 ghost use Rattle.std.specs.List.{filter};
 ghost use Rattle.meson_syntax.specs.View.{args_view, list_view};
@@ -29,7 +29,8 @@ use std::alloc::Global;
 
 /// How many arguments have no name.
 fn count_plain(args: &[Arg]) -> usize
-    ensures { (source : Source) → result ≡ length (filter is_plain (args_view source args.now)) }
+    ensures small { result < 2 ^ 63 }
+    ensures counted { (source : Source) → result ≡ length (filter is_plain (args_view source args.now)) }
 {
     let mut count = 0;
     for i in 0..args.len() {
@@ -43,7 +44,8 @@ fn count_plain(args: &[Arg]) -> usize
 /// How many elements without a name the list at a place has.
 pub(crate) fn plain_len(variables: &Variables<'_>, list: &CallRef) -> usize
     requires { AreParsed variables.now.files.now variables.now.trees.now }
-    ensures { result ≡ plain_len (project_of variables.now) list.now }
+    ensures small { result < 2 ^ 63 }
+    ensures counted { result ≡ plain_len (project_of variables.now) list.now }
 {
     let trees = variables.trees;
     if list.file >= trees.len() {

@@ -49,7 +49,7 @@ pub fn extra_files_of<'t>(
     let home = home_of(alloc, call, list, vacant)?;
     Ok(Sources {
         items: Many::of(items),
-        opaque: unknown,
+        opaque: unknown.len(),
         home,
     })
 }

@@ -1,6 +1,6 @@
 //! Names put into a list.
 
-ghost use Rattle.std.specs.Prelude.{◌≡◌, ◌++◌, IfErr, IfOk, OnOk, Some, map};
+ghost use Rattle.std.specs.Prelude.{◌≡◌, ◌<◌, ◌^◌, ◌++◌, IfErr, IfOk, OnOk, Some, map};
 ghost use Rattle.std.specs.List.{list_any};
 ghost use Rattle.meson_steps.specs.ListSteps.{bare};
 ghost use Rattle.meson_sources.specs.Naming.{has_value, new_among};
@@ -51,13 +51,12 @@ pub(crate) fn insert(
     names: &[&Text],
     steps: &mut Vec<ListStep>,
 ) -> Result<(), Refusal>
+    requires { from < 2 ^ 63 }
     ensures done { OnOk result (map Some steps.new.items ≡ map Some steps.old.items ++ map bare (inserted list.now from (map (λ x. x.now) names.now))) }
     ensures refused { IfErr result (λ e. e ≡ Refusal.OutOfMemory) }
 {
     for i in 0..names.len() {
-        let Some(before) = from.checked_add(i) else {
-            return Err(Refusal::OutOfMemory);
-        };
+        let before = from + i;
         let new = written_text(alloc, names[i])?;
         let edit = if before == 0 {
             ListEdit::First(new)

@@ -196,8 +196,8 @@ pub(crate) fn spots_of(
     names: &[&Text],
 ) -> Result<Vec<Spot>, Refusal>
     requires { length marks.now.numbers.items ≡ length marks.now.items.items }
-    ensures found { IfOk result (λ spots. spots_of_names marks.now.items.items marks.now.numbers.items marks.now.unknown (map (λ x. x.now) names.now) ≡ Ok (map spot_view spots.items)) }
-    ensures refused { IfErr result (λ e. e ≢ Refusal.OutOfMemory → spots_of_names marks.now.items.items marks.now.numbers.items marks.now.unknown (map (λ x. x.now) names.now) ≡ Err e) }
+    ensures found { IfOk result (λ spots. spots_of_names marks.now.items.items marks.now.numbers.items (length marks.now.unknown.items) (map (λ x. x.now) names.now) ≡ Ok (map spot_view spots.items)) }
+    ensures refused { IfErr result (λ e. e ≢ Refusal.OutOfMemory → spots_of_names marks.now.items.items marks.now.numbers.items (length marks.now.unknown.items) (map (λ x. x.now) names.now) ≡ Err e) }
 {
     let mut spots = Vec::new(alloc);
     for i in 0..names.len() {
@@ -206,7 +206,7 @@ pub(crate) fn spots_of(
             Err(refusal) => return Err(refusal),
         };
         if !found {
-            if marks.unknown > 0 {
+            if marks.unknown.len() > 0 {
                 return Err(Refusal::Unresolved);
             }
             return Err(Refusal::SourceNotFound);

@@ -28,6 +28,17 @@ pub enum PushFault {
     OutOfMemory,
 }
 
+impl From<AllocError> for PushFault {
+    ghost use Rattle.std.specs.Prelude.{◌≡◌};
+    ghost use Rattle.meson_splice.specs.declared.file_set.PushFault.TheVariants.{OutOfMemory};
+
+    ghost from_gives = { λ _ e. e ≡ OutOfMemory };
+
+    fn from(_: AllocError) -> PushFault {
+        PushFault::OutOfMemory
+    }
+}
+
 /// A file that was not added, with the reason.
 #[derive(Debug, Drop)]
 pub struct Unpushed {
@@ -112,20 +123,40 @@ impl FileSet {
     {
         let fault = if self.find(name.as_str()).is_some() {
             PushFault::NameTwice
-        } else if self.files.reserve(1).is_err() {
-            PushFault::OutOfMemory
         } else {
-            self.files.push_reserved(File {
-                name: Text::of(name),
-                bytes: Bytes::of(bytes),
-            });
-            return Ok(());
+            match self.files.reserve(1) {
+                Ok(()) => {
+                    self.files.push_reserved(File {
+                        name: Text::of(name),
+                        bytes: Bytes::of(bytes),
+                    });
+                    return Ok(());
+                }
+                Err(refused) => PushFault::from(refused),
+            }
         };
         Err(Unpushed {
             name: Text::of(name),
             bytes: Bytes::of(bytes),
             fault,
         })
+    }
+
+    /// Adds a file behind the others, of which none has its name.
+    ///
+    /// # Errors
+    /// Want of memory.
+    pub fn push_new(&mut self, name: String, bytes: Vec<u8>) -> Result<(), AllocError>
+        requires { IsNone (found (string_bytes name) self.old) }
+        ensures ok { OnOk result (self.new ≡ self.old ++ record { name = string_bytes name; bytes = bytes.items } ∷ []) }
+        ensures kept { OnErr result (self.new ≡ self.old) }
+    {
+        self.files.reserve(1)?;
+        self.files.push_reserved(File {
+            name: Text::of(name),
+            bytes: Bytes::of(bytes),
+        });
+        Ok(())
     }
 
     /// An equal file set.

@@ -8,7 +8,7 @@ use crate::change::{Change, applied, put_back, reverted};
 use crate::fault::SpliceFault;
 use crate::file_set::FileSet;
 use meson_values::Many;
-use std::alloc::Global;
+use std::alloc::{AllocFailed, Global};
 
 /// The changes that stand and those that were undone. In each the next to undo or redo comes last.
 #[derive(Debug, Drop)]
@@ -22,6 +22,17 @@ pub struct History {
 pub struct Unkept {
     pub change: Change,
     pub fault: SpliceFault,
+}
+
+impl From<AllocFailed<Change>> for Unkept {
+    ghost from_gives = { λ refused u. u ≡ record { change = refused.value; fault = OutOfMemory } };
+
+    fn from(refused: AllocFailed<Change>) -> Unkept {
+        Unkept {
+            change: refused.value,
+            fault: SpliceFault::OutOfMemory,
+        }
+    }
 }
 
 impl History {
@@ -48,16 +59,9 @@ impl History {
         ensures err { IfErr result (λ u. u ≡ record { change = change; fault = OutOfMemory }) }
         ensures kept { OnErr result (self.new ≡ self.old) }
     {
-        match self.past.push(change) {
-            Ok(()) => {
-                self.future.clear();
-                Ok(())
-            }
-            Err(refused) => Err(Unkept {
-                change: refused.value,
-                fault: SpliceFault::OutOfMemory,
-            }),
-        }
+        self.past.push(change)?;
+        self.future.clear();
+        Ok(())
     }
 
     /// Takes the newest change back. It is then the next to redo.
@@ -69,15 +73,14 @@ impl History {
         let Some(change) = self.past.last() else {
             return Err(SpliceFault::NothingToUndo);
         };
-        let saved = match reverted(alloc, files, change) {
-            Ok(saved) => saved,
-            Err(fault) => return Err(fault),
-        };
-        if self.past.move_last(&mut self.future).is_err() {
-            put_back(files, saved);
-            return Err(SpliceFault::OutOfMemory);
+        let saved = reverted(alloc, files, change)?;
+        match self.past.move_last(&mut self.future) {
+            Ok(()) => Ok(()),
+            Err(refused) => {
+                put_back(files, saved);
+                Err(SpliceFault::from(refused))
+            }
         }
-        Ok(())
     }
 
     /// Does the change that was undone last again. It is then the newest.
@@ -89,14 +92,13 @@ impl History {
         let Some(change) = self.future.last() else {
             return Err(SpliceFault::NothingToRedo);
         };
-        let saved = match applied(alloc, files, change) {
-            Ok(saved) => saved,
-            Err(fault) => return Err(fault),
-        };
-        if self.future.move_last(&mut self.past).is_err() {
-            put_back(files, saved);
-            return Err(SpliceFault::OutOfMemory);
+        let saved = applied(alloc, files, change)?;
+        match self.future.move_last(&mut self.past) {
+            Ok(()) => Ok(()),
+            Err(refused) => {
+                put_back(files, saved);
+                Err(SpliceFault::from(refused))
+            }
         }
-        Ok(())
     }
 }

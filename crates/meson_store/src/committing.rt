@@ -139,12 +139,12 @@ fn count_tried(halt: Halt) -> usize
 fn fault_of(name: Text, error: StoreError, lost: Vec<Text>) -> StoreFault
     ensures { result ≡ fault_of name error lost.items }
 {
-    if lost.is_empty() && matches!(error, StoreError::OutOfMemory) {
-        return StoreFault::OutOfMemory;
-    }
-    StoreFault::WriteFailed {
-        name,
-        still_new: Many::of(lost),
+    match error {
+        StoreError::OutOfMemory if lost.is_empty() => StoreFault::OutOfMemory,
+        _ => StoreFault::WriteFailed {
+            name,
+            still_new: Many::of(lost),
+        },
     }
 }
 

@@ -173,10 +173,7 @@ impl Store for Memory {
         let Some(bytes) = self.get(name) else {
             return Ok(None);
         };
-        match Vec::from_slice(alloc, bytes) {
-            Ok(bytes) => Ok(Some(bytes)),
-            Err(AllocError) => Err(StoreError::OutOfMemory),
-        }
+        Ok(Some(Vec::from_slice(alloc, bytes)?))
     }
 
     /// Fails only as planned, or where a growth was refused.
@@ -187,10 +184,7 @@ impl Store for Memory {
         ensures failed { IfErr result (λ why. FailureCounted why self.old.failures self.new.failures) }
     {
         if !self.replaces.next_fails() {
-            return match self.put(name, bytes) {
-                Ok(()) => Ok(()),
-                Err(AllocError) => Err(StoreError::OutOfMemory),
-            };
+            return Ok(self.put(name, bytes)?);
         }
         self.failures = self.failures.saturating_add(1);
         let leaves_new = self.leaves_new;
@@ -201,10 +195,8 @@ impl Store for Memory {
         if !leaves_new {
             return Err(StoreError::Device);
         }
-        match self.put(name, bytes) {
-            Ok(()) => Err(StoreError::Device),
-            Err(AllocError) => Err(StoreError::OutOfMemory),
-        }
+        self.put(name, bytes)?;
+        Err(StoreError::Device)
     }
 
     fn failures(&self) -> u64 {

@@ -36,10 +36,9 @@ impl From<AllocError> for StoreError {
 
 impl From<io::Error> for StoreError {
     fn from(e: io::Error) -> StoreError {
-        if e.kind() == ErrorKind::OutOfMemory {
-            StoreError::OutOfMemory
-        } else {
-            StoreError::Unchanged
+        match e.kind() {
+            ErrorKind::OutOfMemory => StoreError::OutOfMemory,
+            _ => StoreError::Unchanged,
         }
     }
 }

@@ -22,7 +22,7 @@ loop-index-preserved c =
     let within : c.loop-index.index < length c.args.files.now = omega arith in
     let spanned = subst (λ bytes. IsSpanned bytes (view bytes c.in-Ok.tree)) c.bytes.ensures c.in-Ok.ensures.reads in
     let more = parsed_more c.args.files.now c.loop-index.trees.items c.loop-index.index nobody c.in-Ok.tree within c.loop-index.invariant spanned in
-    subst (AreParsed (take (c.loop-index.index + 1) c.args.files.now)) (sym c.in-Ok-push.ensures.items) more
+    subst (AreParsed (take (c.loop-index.index + 1) c.args.files.now)) (sym c.in_ok-push-in-Ok.ensures.items) more
 
 pub returns-clause-ok : goal.returns-clause-ok
 returns-clause-ok c =

@@ -17,5 +17,6 @@ returns-clause-found c = λ function.
     let few : length (kept_args source (value_with_name sources_key) 0 c.args.arguments.now.items) ≤ 1 = omega arith in
     let is = ap (λ g. g.tally) (c.in_ok-marks.ensures ∙ ap (all_gathered p max_followed c.args.call.now source) c.get-args.ensures) in
     answered_once p c.args.call.now source c.args.arguments.now function (gathered c.in_ok-marks.marks).tally is few
-    ∙ ap (λ xs. Ok (record { items = xs; opaque = c.in_ok-marks.marks.unknown; home = or_call c.args.call.now (or_option c.in_ok-marks.marks.list c.in_ok-marks.marks.vacant) })) (sym c.of.ensures)
-    ∙ ap (λ h. Ok (record { items = c.of.result; opaque = c.in_ok-marks.marks.unknown; home = h })) (sym c.in_ok-home.ensures)
+    ∙ ap (λ xs. Ok (record { items = xs; opaque = length c.in_ok-marks.marks.unknown.items; home = or_call c.args.call.now (or_option c.in_ok-marks.marks.list c.in_ok-marks.marks.vacant) })) (sym c.of-2.ensures)
+    ∙ ap (λ n. Ok (record { items = c.of-2.result; opaque = n; home = or_call c.args.call.now (or_option c.in_ok-marks.marks.list c.in_ok-marks.marks.vacant) })) (sym (c.len.ensures ∙ c.in_ok-marks.marks.unknown.ok.0))
+    ∙ ap (λ h. Ok (record { items = c.of-2.result; opaque = c.len.result; home = h })) (sym c.in_ok-home.ensures)

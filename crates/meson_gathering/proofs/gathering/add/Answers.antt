@@ -5,13 +5,9 @@ use Rattle.meson_calls.specs.Loading.{max_files}
 use Rattle.meson_gathering.specs.Gathering.{file_of}
 use Rattle.meson_gathering.proofs.EnteredFiles.{grows_one}
 use Rattle.meson_gathering.proofs.gathering.add.Goals as goal
-use Rattle.meson_gathering.proofs.gathering.add.Goals.{in-Ok-push, in-Err}
 
 pub returns-clause-grows : goal.returns-clause-grows
 returns-clause-grows c =
     let few : length c.args.files.now < max_files = omega arith in
-    let named = subst IsFileName (sym c.in-Ok.ensures.ok) c.requires.named in
-    elim c.match-push.branch [
-      | in-Ok-push w ↦ rw w.result-is (grows_one c.args.files.now c.push.new.self (file_of (string_bytes c.in-Ok.name) c.args.bytes.items) few named w.in-Ok-push.ensures.ok)
-      | in-Err w ↦ rw w.result-is tt
-    ]
+    let named = subst IsFileName (sym c.in_ok-name.ensures.ok) c.requires.named in
+    grows_one c.args.files.now c.push_new.new.self (file_of (string_bytes c.in_ok-name.name) c.args.bytes.items) few named c.in_ok-push_new.ensures.ok

@@ -8,18 +8,18 @@ use Rattle.meson_gathering.proofs.gathering.root_set.Goals as goal
 pub returns-in-Ok-None-clause-stopped : goal.returns-in-Ok-None-clause-stopped
 returns-in-Ok-None-clause-stopped g c =
     let read = rw c.in-Ok-None.field-0-is at c.in-Ok-None.ensures.read in
-    (c.in-Ok.ensures, λ content is. no_root (sym (read content is)))
+    (c.in_ok-name.ensures, λ content is. no_root (sym (read content is)))
 
 pub returns-in-Err-clause-stopped : goal.returns-in-Err-clause-stopped
 returns-in-Err-clause-stopped g c =
     unread_stops (Finds (g.S.Store.content c.args.store.now) (option_map (λ f. f.now) c.args.folder)) (g.S.Store.failures c.args.store.now) (g.S.Store.failures c.read_file.new.store) build_file c.in-Err.fault
     (λ content is. unread_root) c.in-Err.ensures.failed
 
-pub returns-in-Ok-push-clause-root : goal.returns-in-Ok-push-clause-root
-returns-in-Ok-push-clause-root g c =
+pub returns-clause-root : goal.returns-clause-root
+returns-clause-root g c =
     let bytes = c.in-Ok-Some.bytes.items in
     let read = rw c.in-Ok-Some.field-0-is at c.in-Ok-Some.ensures.read in (
       bytes,
-      c.in-Ok-push.ensures.ok ∙ ap (λ fs. fs ++ file_of (string_bytes c.take.result) bytes ∷ []) c.new-files.ensures ∙ ap (λ n. file_of n bytes ∷ []) (c.take.ensures ∙ c.in-Ok.ensures),
+      c.in_ok-push_new.ensures.ok ∙ ap (λ fs. fs ++ file_of (string_bytes c.take.result) bytes ∷ []) c.new-files.ensures ∙ ap (λ n. file_of n bytes ∷ []) (c.take.ensures ∙ c.in_ok-name.ensures),
       λ content is. sym (read content is),
     )

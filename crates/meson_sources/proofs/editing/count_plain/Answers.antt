@@ -29,8 +29,8 @@ loop-i-preserved c =
       )
     ]
 
-pub returns : goal.returns
-returns c = λ source.
+pub returns-clause-counted : goal.returns-clause-counted
+returns-clause-counted c = λ source.
     let none = all_counted source c.args.args.now c.loop-i.i c.loop-i-test.false in
     let before = c.loop-i.invariant.1 source in
     omega (arith, none, before)

@@ -38,5 +38,5 @@ returns-clause-meant c = λ function.
     let are =
     c.in_ok-insert.ensures.done ∙ ap (λ xs. map Some xs ++ map bare (inserted home n (map (λ x. x.now) c.as_slice-3.result.now))) c.new-steps.ensures.items
     ∙ ap (λ ns. map bare (inserted home n (map (λ x. x.now) ns))) c.as_slice-3.ensures.value in
-    added p c.args.call.now source l function names checked few (gathered c.in_ok-marks.marks).tally is home c.in_ok-home.ensures n c.plain_len-from.ensures (map (λ x. x.now) c.in_ok-new.new.items) new_is
+    added p c.args.call.now source l function names checked few (gathered c.in_ok-marks.marks).tally is home c.in_ok-home.ensures n c.plain_len-from.ensures.counted (map (λ x. x.now) c.in_ok-new.new.items) new_is
     c.insert.new.steps.items are

@@ -29,7 +29,7 @@ returns-in-Some-clause-meant c = λ function.
     c.in_ok-insert-in-Some.ensures.done ∙ ap (λ xs. map Some xs ++ map bare (inserted home n (map (λ x. x.now) c.as_slice-in-Some.result.now))) c.new-steps.ensures.items
     ∙ ap (λ ns. map bare (inserted home n (map (λ x. x.now) ns))) c.as_slice-in-Some.ensures.value in
     home_meant p c.args.call.now c.args.source.now c.args.arguments.now function names (c.in-Ok.ensures.checked function) t is (map (λ x. x.now) c.in_ok-new.new.items) new_is c.first_of.result c.first_of.ensures
-    home c.in-Some.is n c.plain_len-from.ensures c.insert.new.steps.items are
+    home c.in-Some.is n c.plain_len-from.ensures.counted c.insert.new.steps.items are
 
 pub returns-in-Ok-without_home-clause-meant : goal.returns-in-Ok-without_home-clause-meant
 returns-in-Ok-without_home-clause-meant c = λ function.

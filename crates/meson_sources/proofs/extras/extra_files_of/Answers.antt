@@ -30,5 +30,6 @@ returns-clause-found c = λ function.
     let few = subst (λ k. length (kept_args source (value_with_name k) 0 l.items) ≤ 1) c.as_slice.ensures c.in-Ok.ensures.few in
     let is = ap (λ g. g.tally) (c.in_ok-marks.ensures ∙ ap (extra_gathered p max_followed call source) c.get.ensures) in
     told_once p call source l function few (gathered marks).tally is
-    ∙ ap (λ is. Ok (record { items = is; opaque = marks.unknown; home = or_call call (or_option marks.list marks.vacant) })) (sym c.of.ensures)
-    ∙ ap (λ h. Ok (record { items = c.of.result; opaque = marks.unknown; home = h })) (sym c.in_ok-home.ensures)
+    ∙ ap (λ is. Ok (record { items = is; opaque = length marks.unknown.items; home = or_call call (or_option marks.list marks.vacant) })) (sym c.of.ensures)
+    ∙ ap (λ n. Ok (record { items = c.of.result; opaque = n; home = or_call call (or_option marks.list marks.vacant) })) (sym (c.len.ensures ∙ marks.unknown.ok.0))
+    ∙ ap (λ h. Ok (record { items = c.of.result; opaque = c.len.result; home = h })) (sym c.in_ok-home.ensures)

@@ -1,4 +1,4 @@
-use Rattle.std.proofs.Common.{◌≡◌, ◌+◌, ◌∷◌, map, drop, get_or, sym, ap, ◌∙◌, add-one, rules}
+use Rattle.std.proofs.Common.{◌≡◌, ◌+◌, ◌∷◌, length, map, drop, get_or, sym, ap, ◌∙◌, add-one, rules}
 use Rattle.std.specs.Prelude.{true}
 use Rattle.std.proofs.Math.Seq.{drop-cons}
 use Rattle.meson_sources.specs.Spots.{behind_all, spot_view, spots_at, spots_of_names}
@@ -9,7 +9,7 @@ pub loop-i-preserved : goal.loop-i-preserved
 loop-i-preserved c =
     let items = c.args.marks.now.items.items in
     let numbers = c.args.marks.now.numbers.items in
-    let unknown = c.args.marks.now.unknown in
+    let unknown = length c.args.marks.now.unknown.items in
     let names = c.args.names.now in
     let i = c.loop-i.i in
     let x = c.index-names-i.result in

@@ -1,6 +1,7 @@
 use Rattle.std.proofs.Common.{◌≡◌, ℕ, suc, ◌+◌, ◌-◌, ◌<◌, ◌≤◌, List, [], ◌∷◌, ◌++◌, get_or, ◌∙◌, sym, ap, subst, arith}
 use Rattle.std.specs.Prelude.{true, ◌&&◌, if◌then◌else◌, max, Some, None, OnOk, option_map}
 use Rattle.std.proofs.lemmas.Result.{on_ok_weaker}
+use Rattle.meson_lex.specs.Kinds.{IsIdentifier}
 use Rattle.meson_syntax.specs.declared.operator.Bracket.TheVariants as bracket
 use Rattle.meson_syntax.specs.Tree.{arguments_of, operands_of}
 use Rattle.meson_syntax.specs.Grammar.{expression_words, operands_words, argument_words}
@@ -13,12 +14,12 @@ use Rattle.meson_calls.specs.Expansion.{Stand, fixed, met, opaque, empty, within
 use Rattle.meson_calls.specs.Named.{project_of}
 use Rattle.meson_calls.specs.Noted.{rank, operands_rank, listing_rank, argument_rank, arguments_rank}
 use Rattle.meson_calls.specs.Values.{value_view}
-use Rattle.meson_calls.specs.Tallies.{all_marked, gathered, expanded, with_mark, stand_at, follow_of, expand_left, listing_left, argument_left, sum_left, row_left}
+use Rattle.meson_calls.specs.Tallies.{Gathered, all_marked, gathered, expanded, with_mark, stand_at, follow_of, expand_left, listing_left, argument_left, sum_left, row_left}
 use Rattle.meson_calls.proofs.Singles.{single_fine}
 use Rattle.meson_calls.proofs.Measures.{values_rank, lower_step, inner_step, variable_step}
 use Rattle.meson_calls.proofs.GoodParts.{good_left, good_right}
 use Rattle.meson_calls.proofs.Parted.{row_is}
-use Rattle.meson_calls.proofs.Nested.{array_view, call_view, plain_view, good_listing, good_args, good_arg, good_operand, args_rank, arg_rank, operand_rank}
+use Rattle.meson_calls.proofs.Nested.{name_view, array_view, call_view, plain_view, good_listing, good_args, good_arg, good_operand, args_rank, arg_rank, operand_rank}
 use Rattle.meson_calls.proofs.Gathers.{expanded_twice, arg_turn, listing_alike, rest_left, operand_turn, rest_ended, sum_alike, followed_value, first_of, second_of}
 use Rattle.meson_calls.proofs.Vacant.{vacant_list, filled_list}
 use Rattle.meson_calls.proofs.variables.Variables.+expansion.Goals as goal
@@ -47,7 +48,10 @@ pub expand-follow-requires : goal.expand-follow-requires
 expand-follow-requires t c =
     let here = rank (expr_view c.args.site.source.now c.args.expr.now) in
     let within : 0 ≤ here = omega arith in
-    (lower_step c.args.left (values_rank c.args.self.now) 0 here 1 4 t within (omega arith) (sym c.decreases), c.requires.holds)
+    let source = c.args.site.source.now in
+    let is = ap (expr_view source) c.in-Identifier.is ∙ name_view source c.in-Identifier.name in
+    let named = subst IsIdentifier (sym c.text_of.ensures) (subst (λ e. AreGood (expression_words e)) is c.requires.good).0 in
+    (lower_step c.args.left (values_rank c.args.self.now) 0 here 1 4 t within (omega arith) (sym c.decreases), (c.requires.holds, named))
 
 pub expand-returns-then-is_files-clause-all : goal.expand-returns-then-is_files-clause-all
 expand-returns-then-is_files-clause-all t c =
@@ -317,9 +321,11 @@ follow-returns-in_ok-follow-in-Some t c =
     let new = sym c.has_followed.ensures ∙ c.if-has_followed.false in
     let one_more : suc k ≡ c.args.left = omega arith in
     let path = c.in_ok-push-in-Some.ensures.items ∙ ap (λ xs. xs ++ 0 ∷ []) c.in_ok-path-in-Some.ensures.items in
-    let stands : List ℕ → Stand = λ steps. record { place = place v.place.file steps; slot = fixed; variable = Some x } in
+    let stands : List ℕ → List ℕ → Stand = λ y steps. record { place = place v.place.file steps; slot = fixed; variable = Some y } in
+    let later : Gathered = record { tally = g.tally; followed = x ∷ g.followed } in
     on_ok_weaker c.expand.result (λ so. so
-    ∙ ap (λ h. expanded h (expand_left p k (value_view v).it (stands c.push.new.self.items))) c.in_ok-follow-in-Some.ensures
-    ∙ ap (λ steps. expanded (record { tally = g.tally; followed = x ∷ g.followed }) (expand_left p k (value_view v).it (stands steps))) path
+    ∙ ap (λ h. expanded h (expand_left p k (value_view v).it (stands c.identifier_text.result.now c.push.new.self.items))) c.in_ok-follow-in-Some.ensures
+    ∙ ap (λ y. expanded later (expand_left p k (value_view v).it (stands y c.push.new.self.items))) c.identifier_text.ensures
+    ∙ ap (λ steps. expanded later (expand_left p k (value_view v).it (stands x steps))) path
     ∙ sym (followed_value p k x (value_view v) g is new)
     ∙ ap (λ n. expanded g (λ f. if one_of f x then met opaque f else follow_of p n x f)) one_more) c.expand.ensures.all

@@ -1,0 +1,16 @@
+use Rattle.std.proofs.Common.{rules, ◌≡◌, ◌∙◌, ◌++◌, ◌∷◌, [], None, ap, sym, subst}
+use Rattle.meson_splice.specs.Files.{IsDistinct, found}
+use Rattle.meson_splice.specs.declared.file_set.File.{File}
+use Rattle.meson_splice.proofs.Sets.{distinct-push}
+use Rattle.meson_splice.proofs.file_set.FileSet.push_new.Goals as goal
+
+pub invariant_of-self : goal.invariant_of-self
+invariant_of-self c = subst IsDistinct (sym c.reserve.ensures.items) c.self.invariant
+
+pub invariant_of-self-2 : goal.invariant_of-self-2
+invariant_of-self-2 c =
+    let files = c.self.inside.files.items in
+    let file : File = record { name = c.of.result; bytes = c.of-2.result } in
+    let are : c.push_reserved.new.self.items ≡ files ++ file ∷ [] = c.push_reserved.ensures.items ∙ ap (λ l. l ++ file ∷ []) c.reserve.ensures.items in
+    let none : found file.name files ≡ None = search rules in
+    subst IsDistinct (sym are) (distinct-push files file c.self.invariant none)
