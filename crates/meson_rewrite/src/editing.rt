@@ -18,6 +18,7 @@ use meson_splice::{FileSet, SpliceFault, Text};
 use meson_store::StoreFault;
 use meson_syntax::ParseFault;
 use std::alloc::{AllocError, Global};
+use std::mem;
 
 /// The file of this number would be none.
 fn unparsed(alloc: Global, files: &FileSet, place: usize, fault: ParseFault) -> Stop
@@ -130,6 +131,8 @@ pub(crate) fn edited(alloc: Global, opened: Opened, step: &Step) -> Result<Edit,
         Err(stop) => return Err(stop),
     };
     let after = with_log(alloc, session.files(), text)?;
+    // What comes is the end of the program, which lets all memory go at once.
+    mem::forget(session);
     Ok(Edit {
         before,
         after,
