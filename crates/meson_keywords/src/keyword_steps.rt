@@ -1,6 +1,6 @@
 //! The steps by which the keyword arguments of a call are changed.
 
-ghost use Rattle.std.specs.Prelude.{◌≡◌, ◌≢◌, ◌++◌, ◌∷◌, [], Err, IfErr, IfOk, OnOk, Some, map};
+ghost use Rattle.std.specs.Prelude.{◌≡◌, ◌≢◌, ◌<◌, ◌^◌, ◌++◌, ◌∷◌, [], Err, IfErr, IfOk, OnOk, Some, map};
 ghost use Rattle.meson_edit.specs.Edits.{Written};
 ghost use Rattle.meson_syntax.specs.Tree.{Argument, Nowhere};
 ghost use Rattle.meson_syntax.specs.Grammar.{expression_words};
@@ -67,15 +67,13 @@ fn put_all_behind(
     texts: &[&Text],
     steps: &mut Vec<ListStep>,
 ) -> Result<(), Refusal>
+    requires { many < 2 ^ 63 }
     ensures done { OnOk result (map Some steps.new.items ≡ map Some steps.old.items ++ map bare (all_behind list.now many (map (written_element kind) (map (λ x. x.now) texts.now)))) }
     ensures refused { IfErr result (λ e. e ≡ Refusal.OutOfMemory) }
 {
     for i in 0..texts.len() {
-        let Some(before) = many.checked_add(i) else {
-            return Err(Refusal::OutOfMemory);
-        };
         let new = written_element(alloc, kind, texts[i])?;
-        put_behind(alloc, list, before, new, steps)?;
+        put_behind(alloc, list, many + i, new, steps)?;
     }
     Ok(())
 }

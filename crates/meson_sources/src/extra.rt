@@ -26,7 +26,7 @@ use crate::inserting::{insert, new_names};
 use crate::removing::{removed, spots_of};
 use meson_calls::arguments::{count_named, first_named};
 use meson_calls::literals::literal;
-use meson_calls::marks::{Marks, Site, text_of_name};
+use meson_calls::marks::{Marks, Site};
 use meson_calls::place::{copy_place, value_place};
 use meson_calls::sourcing::MAX_FOLLOWED;
 use meson_calls::variables::Variables;
@@ -160,8 +160,8 @@ fn behind_value(
     match literal(alloc, source, value)? {
         Some(_) => {}
         None => {
-            let key = text_of_name(alloc, b"extra_files".as_slice())?;
-            return Err(Refusal::NotLiteral(key));
+            let key = String::from_str(alloc, "extra_files")?;
+            return Err(Refusal::NotLiteral(Text::of(key)));
         }
     }
     let list = copy_place(alloc, call)?;

@@ -1,4 +1,5 @@
 mod NewTargets
+mod SetNames
 mod StatementsDoable
 mod StatementsRemoved
 mod TargetText

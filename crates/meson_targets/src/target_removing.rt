@@ -6,7 +6,7 @@ ghost use Rattle.meson_splice.specs.declared.file_set.File.{File};
 ghost use Rattle.meson_calls.specs.Calls.{Call};
 ghost use Rattle.meson_calls.specs.Project.{Placed};
 ghost use Rattle.meson_syntax.specs.View.{stmt_view};
-ghost use Rattle.meson_targets.specs.TargetViews.{held_view, place_view};
+ghost use Rattle.meson_targets.specs.TargetViews.{IsNamed, held_view, place_view};
 ghost use Rattle.meson_calls.specs.Loading.{AreParsed, named_trees, views};
 ghost use Rattle.meson_calls.specs.Notes.{note_views, notes};
 ghost use Rattle.meson_calls.specs.Picking.{Source};
@@ -18,12 +18,11 @@ ghost use Rattle.meson_splice.specs.Patch.{then_ok};
 
 use crate::uses::{StatementPlace, is_used_outside};
 use meson_calls::finding::the_call;
-use meson_calls::marks::text_of_name;
 use meson_calls::note::Note;
-use meson_calls::roles::text_of;
+use meson_calls::roles::{identifier_text, text_of};
 use meson_calls::{CallRef, Refusal, Role};
 use meson_lex::Span;
-use meson_splice::FileSet;
+use meson_splice::{FileSet, Text};
 use meson_steps::statements::stmt_at;
 use meson_steps::step::{ListEdit, ListStep, push_step};
 use meson_syntax::{Assignment, Many, Parsed, Path, Stmt};
@@ -103,6 +102,7 @@ fn not_in_use(
 ) -> Result<(), Refusal>
     requires parsed { AreParsed files.now trees.now }
     requires there { line.now.block.file < length files.now }
+    requires named { IsNamed (bytes_at line.now.block.file files.now) held }
     requires taken { note_views noted.now ≡ notes (named_trees files.now (views files.now trees.now)) }
     ensures checked { IfOk result (λ u. not_in_use (named_trees files.now (views files.now trees.now)) (place_view line.now) (held_view (bytes_at line.now.block.file files.now) held) ≡ Ok tt) }
     ensures refused { IfErr result (λ e. e ≢ Refusal.OutOfMemory → not_in_use (named_trees files.now (views files.now trees.now)) (place_view line.now) (held_view (bytes_at line.now.block.file files.now) held) ≡ Err e) }
@@ -112,8 +112,8 @@ fn not_in_use(
         Held::SetTo(span) => {
             let name = text_of(files.bytes(line.block.file), span);
             if is_used_outside(alloc, files, trees, noted, line, name)? {
-                let name = text_of_name(alloc, name)?;
-                return Err(Refusal::InUse(name));
+                let name = String::from_str(alloc, identifier_text(name))?;
+                return Err(Refusal::InUse(Text::of(name)));
             }
             Ok(())
         }

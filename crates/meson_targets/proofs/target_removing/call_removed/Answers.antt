@@ -3,6 +3,7 @@ use Rattle.std.specs.Prelude.{option_map}
 use Rattle.meson_splice.specs.Files.{bytes_at}
 use Rattle.meson_targets.specs.TargetViews.{place_view, held_view}
 use Rattle.meson_calls.specs.Loading.{named_trees, views}
+use Rattle.meson_targets.proofs.SetNames.{held_named}
 use Rattle.meson_targets.proofs.StatementsRemoved.{not_held, in_use, removal_meant}
 use Rattle.meson_calls.proofs.Loads.{as_many}
 use Rattle.meson_targets.proofs.target_removing.call_removed.Goals as goal
@@ -20,6 +21,13 @@ not_in_use-requires-clause-there c =
     let within = c.in-Some-held_at.ensures.there in
     let many = as_many c.args.files.now c.args.trees.now c.requires.parsed in
     omega (arith, within, many)
+
+pub not_in_use-requires-clause-named : goal.not_in_use-requires-clause-named
+not_in_use-requires-clause-named c =
+    let files = c.args.files.now in
+    let trees = c.args.trees.now in
+    let many = as_many files trees c.requires.parsed in
+    held_named files trees (place_view c.in-Some.line) many c.in-Some-held_at.ensures.there c.requires.parsed c.in-Some-held_at.held (c.in-Some-held_at.ensures.held files many)
 
 pub returns-in-Ok-clause-meant : goal.returns-in-Ok-clause-meant
 returns-in-Ok-clause-meant c = λ k same.
