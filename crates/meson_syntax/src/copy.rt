@@ -42,8 +42,8 @@ fn copy_expr(alloc: Global, expr: &Expr) -> Result<Expr, AllocError>
             kind: *kind,
         }),
         Expr::Paren { span, inside } => copy_paren(alloc, *span, inside.get()),
-        Expr::Array(list) => Ok(Expr::Array(copy_list(alloc, list)?)),
-        Expr::Dictionary(list) => Ok(Expr::Dictionary(copy_list(alloc, list)?)),
+        Expr::Array(list) => copy_array(alloc, list),
+        Expr::Dictionary(list) => copy_dictionary(alloc, list),
         Expr::Call {
             span,
             name,
@@ -54,28 +54,41 @@ fn copy_expr(alloc: Global, expr: &Expr) -> Result<Expr, AllocError>
             operator,
             operand,
         } => copy_unary(alloc, *span, *operator, operand.get()),
-        Expr::Row { span, first, rest } => Ok(Expr::Row {
-            span: *span,
-            first: copy_boxed(alloc, first.get())?,
-            rest: copy_operands(alloc, rest.get())?,
-        }),
-        Expr::Postfix { span, base, tails } => Ok(Expr::Postfix {
-            span: *span,
-            base: copy_boxed(alloc, base.get())?,
-            tails: copy_tails(alloc, tails.get())?,
-        }),
+        Expr::Row { span, first, rest } => {
+            let first = copy_boxed(alloc, first.get())?;
+            copy_row(alloc, *span, rest.get(), first)
+        }
+        Expr::Postfix { span, base, tails } => {
+            let base = copy_boxed(alloc, base.get())?;
+            copy_postfix(alloc, *span, tails.get(), base)
+        }
         Expr::Conditional {
             span,
             condition,
             yes,
             no,
-        } => Ok(Expr::Conditional {
-            span: *span,
-            condition: copy_boxed(alloc, condition.get())?,
-            yes: copy_boxed(alloc, yes.get())?,
-            no: copy_boxed(alloc, no.get())?,
-        }),
+        } => {
+            let condition = copy_boxed(alloc, condition.get())?;
+            let yes = copy_boxed(alloc, yes.get())?;
+            copy_conditional(alloc, *span, no.get(), condition, yes)
+        }
     }
+}
+
+#[cycle(copy_expression)]
+fn copy_array(alloc: Global, list: &List) -> Result<Expr, AllocError>
+    ensures { IfOk result (λ e. e ≡ Expr.Array list.now) }
+{
+    let list = copy_list(alloc, list)?;
+    Ok(Expr::Array(list))
+}
+
+#[cycle(copy_expression)]
+fn copy_dictionary(alloc: Global, list: &List) -> Result<Expr, AllocError>
+    ensures { IfOk result (λ e. e ≡ Expr.Dictionary list.now) }
+{
+    let list = copy_list(alloc, list)?;
+    Ok(Expr::Dictionary(list))
 }
 
 #[cycle(copy_expression)]
@@ -112,6 +125,51 @@ fn copy_unary(
         span,
         operator,
         operand,
+    })
+}
+
+#[cycle(copy_expression)]
+fn copy_row(
+    alloc: Global,
+    span: Span,
+    rest: &[Operand],
+    first: Boxed<Expr>,
+) -> Result<Expr, AllocError>
+    ensures { IfOk result (λ e. e ≡ Expr.Row span first rest.now) }
+{
+    let rest = copy_operands(alloc, rest)?;
+    Ok(Expr::Row { span, first, rest })
+}
+
+#[cycle(copy_expression)]
+fn copy_postfix(
+    alloc: Global,
+    span: Span,
+    tails: &[Tail],
+    base: Boxed<Expr>,
+) -> Result<Expr, AllocError>
+    ensures { IfOk result (λ e. e ≡ Expr.Postfix span base tails.now) }
+{
+    let tails = copy_tails(alloc, tails)?;
+    Ok(Expr::Postfix { span, base, tails })
+}
+
+#[cycle(copy_expression)]
+fn copy_conditional(
+    alloc: Global,
+    span: Span,
+    no: &Expr,
+    condition: Boxed<Expr>,
+    yes: Boxed<Expr>,
+) -> Result<Expr, AllocError>
+    ensures { IfOk result (λ e. e ≡ Expr.Conditional span condition yes no.now) }
+{
+    let no = copy_boxed(alloc, no)?;
+    Ok(Expr::Conditional {
+        span,
+        condition,
+        yes,
+        no,
     })
 }
 
