@@ -24,13 +24,9 @@ pub fn push_literal(alloc: Global, to: &mut Vec<u8>, text: &str) -> Result<(), R
     ensures utf8 { IsUtf8 text.now }
     ensures refused { IfErr result (λ e. e ≡ Refusal.OutOfMemory) }
 {
-    match write_literal(alloc, text) {
-        Ok(token) => {
-            to.extend_from_slice(token.as_slice())?;
-            Ok(())
-        }
-        Err(_) => Err(Refusal::OutOfMemory),
-    }
+    let token = write_literal(alloc, text)?;
+    to.extend_from_slice(token.as_slice())?;
+    Ok(())
 }
 
 /// The literal of a text.

@@ -117,7 +117,7 @@ fn laid(
             leave_effective(&mut left);
             Ok(left)
         }
-        Err(_) => Err(Refusal::OutOfMemory),
+        Err(fault) => Err(unmade(fault)),
     }
 }
 
