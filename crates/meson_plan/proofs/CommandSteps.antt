@@ -1,23 +1,15 @@
--- What a command means that is a request, and what is done of the steps that are meant.
-use Rattle.std.proofs.Common.{◌≡◌, ◌≢◌, ℕ, List, sym, ap}
-use Rattle.std.specs.Prelude.{Some, Result, Ok, Err, IfErr, OnOk}
+-- What a command means that is a request.
+use Rattle.std.proofs.Common.{◌≡◌, ℕ, List, sym, ap}
+use Rattle.std.specs.Prelude.{Some}
 use Rattle.meson_lex.specs.declared.kinds.Span.{Span}
 use Rattle.meson_syntax.proofs.parsing.Steps.{some-injective}
 use Rattle.meson_calls.specs.declared.call.Role.{Role}
 use Rattle.meson_steps.specs.declared.command.Command.{Command}
 use Rattle.meson_steps.specs.declared.command.Command.TheVariants as command
-use Rattle.meson_calls.specs.declared.refusal.Refusal.{Refusal}
-use Rattle.meson_calls.specs.declared.refusal.Refusal.TheVariants.{OutOfMemory}
-use Rattle.meson_steps.specs.declared.work.Work.{Work}
 use Rattle.meson_keywords.specs.Changing.{request_steps}
-use Rattle.meson_steps.specs.Done.{IsOutcome, MayNotBeMade}
-use Rattle.meson_calls.specs.Loading.{Loaded}
-use Rattle.meson_steps.specs.Outcomes.{IsDone, MayNotBeDone, unmade}
 use Rattle.meson_plan.specs.Planning.{planned}
 use Rattle.meson_calls.specs.Project.{Project}
-use Rattle.meson_steps.specs.Steps.{Step}
 use Rattle.meson_keywords.specs.Tasking.{Asked, requested}
-use Rattle.meson_steps.specs.Working.{so_far}
 
 pub request_meant : (p : Project Span) (k : Command) (q : Role × List ℕ × Asked) → requested k ≡ Some q → request_steps p q ≡ planned p k
 request_meant p (command.KwargsSet r id pairs) q is = ap (request_steps p) (sym (some-injective _ _ is))
@@ -34,12 +26,3 @@ request_meant p (command.TargetAdd target kind subdir sources) q is = absurd cc
 request_meant p (command.TargetRemove target) q is = absurd cc
 request_meant p (command.TargetInfo target) q is = absurd cc
 request_meant p (command.KwargsInfo r id) q is = absurd cc
-
-module _ (old : Loaded) (meant : Result (List Step) Refusal) (steps : List Step) (is : meant ≡ Ok steps) where
-  pub steps_done : (w : Work) (o : Result (Unit {0}) Refusal) → OnOk o (IsOutcome old steps w.splices.items (so_far w) w.relexed) → OnOk o (IsDone old meant w)
-  steps_done w (Ok done) out = record { steps = steps; is = is; outcome = out }
-  steps_done w (Err e) out = tt
-
-  pub steps_refused : (o : Result (Unit {0}) Refusal) → IfErr o (λ e. e ≢ OutOfMemory → MayNotBeMade old steps e) → IfErr o (λ e. e ≢ OutOfMemory → MayNotBeDone old meant e)
-  steps_refused (Ok done) why = tt
-  steps_refused (Err e) why = λ other. unmade steps is e (why other)

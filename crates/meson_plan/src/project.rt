@@ -5,7 +5,7 @@ ghost use Rattle.meson_splice.specs.Patch.{patched_all};
 ghost use Rattle.meson_layout.specs.Laws.{AreTexts};
 ghost use Rattle.meson_calls.specs.Loading.{IsProject, MayNotLoad, project};
 ghost use Rattle.meson_steps.specs.Journal.{Trees};
-ghost use Rattle.meson_steps.specs.Outcomes.{IsDone, MayNotBeDone};
+ghost use Rattle.meson_steps.specs.Done.{IsDone, MayNotBeDone};
 ghost use Rattle.meson_steps.specs.Working.{IsFresh, Restores, so_far};
 ghost use Rattle.meson_plan.specs.Performing.{KeepsUntouched, MayRefuse, Performs};
 ghost use Rattle.meson_plan.specs.Planning.{planned};

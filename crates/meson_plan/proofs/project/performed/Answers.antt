@@ -3,12 +3,12 @@ use Rattle.std.proofs.Common.{◌≢◌, sym, subst}
 use Rattle.std.specs.Prelude.{IfErr, OnOk}
 use Rattle.meson_calls.specs.declared.refusal.Refusal.TheVariants.{OutOfMemory}
 use Rattle.meson_calls.specs.Loading.{IsProject, project}
-use Rattle.meson_steps.specs.Outcomes.{IsDone, MayNotBeDone, unmeant}
+use Rattle.meson_steps.specs.Done.{IsDone, MayNotBeDone, unmeant}
 use Rattle.meson_steps.specs.Plans.{ArePlanned}
 use Rattle.meson_steps.specs.Working.{so_far}
 use Rattle.meson_plan.specs.Planning.{planned}
 use Rattle.meson_keywords.specs.Tasking.{request_view}
-use Rattle.meson_plan.proofs.CommandSteps.{request_meant, steps_done, steps_refused}
+use Rattle.meson_plan.proofs.CommandSteps.{request_meant}
 use Rattle.meson_plan.proofs.project.performed.Goals as goal
 
 pub returns-in-Some-clause-done : goal.returns-in-Some-clause-done
@@ -27,28 +27,18 @@ planned-requires-clause-whole c = subst (λ ts. IsProject (record { files = c.ar
 pub planned-requires-clause-other : goal.planned-requires-clause-other
 planned-requires-clause-other c = sym c.in-None.ensures
 
-pub done-requires-clause-doable : goal.done-requires-clause-doable
-done-requires-clause-doable c =
+pub done-requires-clause-planned : goal.done-requires-clause-planned
+done-requires-clause-planned c =
     let files = c.args.work.now.files in
     let k = c.args.command.now in
-    let means = subst (λ ts. ArePlanned (record { files = files; parsed = ts }) (planned (project (record { files = files; parsed = ts })) k) c.in-Ok.steps.items) c.as_slice.ensures.value c.in-Ok.ensures.plan in
-    record { steps = means.steps; doable = means.are_doable }
+    let old = so_far c.args.work.now in
+    (planned (project old) k, subst (λ ts. ArePlanned (record { files = files; parsed = ts }) (planned (project (record { files = files; parsed = ts })) k) c.in-Ok.steps.items) c.as_slice.ensures.value c.in-Ok.ensures.plan)
 
 pub returns-in-Ok-clause-done : goal.returns-in-Ok-clause-done
-returns-in-Ok-clause-done c =
-    let files = c.args.work.now.files in
-    let k = c.args.command.now in
-    let old = so_far c.args.work.now in
-    let means = subst (λ ts. ArePlanned (record { files = files; parsed = ts }) (planned (project (record { files = files; parsed = ts })) k) c.in-Ok.steps.items) c.as_slice.ensures.value c.in-Ok.ensures.plan in
-    steps_done old (planned (project old) k) means.steps means.are_planned c.done.new.work c.done.result (c.done.ensures.done means.steps means.are_doable)
+returns-in-Ok-clause-done c = let p = done-requires-clause-planned c in c.done.ensures.done p.0 p.1
 
 pub returns-in-Ok-clause-refused : goal.returns-in-Ok-clause-refused
-returns-in-Ok-clause-refused c =
-    let files = c.args.work.now.files in
-    let k = c.args.command.now in
-    let old = so_far c.args.work.now in
-    let means = subst (λ ts. ArePlanned (record { files = files; parsed = ts }) (planned (project (record { files = files; parsed = ts })) k) c.in-Ok.steps.items) c.as_slice.ensures.value c.in-Ok.ensures.plan in
-    steps_refused old (planned (project old) k) means.steps means.are_planned c.done.result (c.done.ensures.refused means.steps means.are_doable)
+returns-in-Ok-clause-refused c = let p = done-requires-clause-planned c in c.done.ensures.refused p.0 p.1
 
 pub returns-in-Err-clause-refused : goal.returns-in-Err-clause-refused
 returns-in-Err-clause-refused c = λ other.
