@@ -10,9 +10,8 @@ use Rattle.meson_calls.specs.declared.refusal.Refusal.TheVariants.{TooDeep, TooL
 use Rattle.meson_calls.specs.Loading.{Loaded}
 use Rattle.meson_steps.specs.declared.step.ListStep.{ListStep}
 use Rattle.meson_steps.specs.declared.work.Work.{Work}
-use Rattle.meson_steps.specs.Done.{IsDone, MayNotBeDone, deep, large}
+use Rattle.meson_steps.specs.Done.{IsDone, MayNotBeDone, Meaning, deep, large}
 use Rattle.meson_steps.specs.ListSteps.{AreBare, AreDoable, bare}
-use Rattle.meson_steps.specs.Meanings.{Meaning}
 use Rattle.meson_steps.specs.Plans.{Doable}
 use Rattle.meson_steps.specs.Results.{AreShallow, plain_trees}
 use Rattle.meson_steps.specs.Steps.{Step, StepsMake, none}

@@ -1,13 +1,16 @@
 -- What becomes of a project by steps that are meant, or why they are refused.
-use Rattle.std.specs.Prelude.{◌≡◌, List, Ok, Err}
+use Rattle.std.specs.Prelude.{◌≡◌, List, Result, Ok, Err}
 use Rattle.meson_calls.specs.declared.refusal.Refusal.{Refusal}
 use Rattle.meson_calls.specs.declared.refusal.Refusal.TheVariants.{TooDeep, TooLarge}
 use Rattle.meson_calls.specs.Loading.{Loaded, IsProject}
 use Rattle.meson_steps.specs.declared.work.Work.{Work}
-use Rattle.meson_steps.specs.Meanings.{Meaning}
 use Rattle.meson_steps.specs.Results.{AreShallow, AreSmall, plain_trees}
 use Rattle.meson_steps.specs.Steps.{Step}
 use Rattle.meson_steps.specs.Working.{IsMade, so_far}
+
+-- what is meant: steps, or why it is refused
+abbrev pub Meaning : Type 0
+Meaning = Result (List Step) Refusal
 
 -- The steps that are meant make this of the project, and no limit is passed.
 pub record IsDone (old : Loaded) (meant : Meaning) (w : Work) : Type 0 where

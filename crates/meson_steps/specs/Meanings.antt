@@ -5,10 +5,6 @@ use Rattle.meson_steps.specs.declared.step.ListStep.{ListStep}
 use Rattle.meson_steps.specs.ListSteps.{AreBare, bare}
 use Rattle.meson_steps.specs.Steps.{Step}
 
--- what is meant: steps, or why it is refused
-abbrev pub Meaning : Type 0
-Meaning = Result (List Step) Refusal
-
 -- the code's steps are those that are meant
 pub record AreMeant (meant : Result (List Step) Refusal) (code : List ListStep) : Type 0 where
   pub steps : List Step
