@@ -4,7 +4,7 @@ use Rattle.meson_calls.specs.declared.call.Role.TheVariants as role
 use Rattle.meson_calls.specs.Finding.{the_call}
 use Rattle.meson_calls.specs.Project.{Project}
 use Rattle.meson_lex.specs.declared.kinds.Span.{Span}
-use Rattle.meson_steps.specs.Meanings.{Meaning}
+use Rattle.meson_steps.specs.Done.{Meaning}
 use Rattle.meson_sources.specs.Targeted.{target_steps}
 use Rattle.meson_targets.specs.TargetEdits.{target_added, target_removed}
 use Rattle.meson_keywords.specs.Changing.{request_steps}
