@@ -1,19 +1,17 @@
 -- Tasks of which some are done: from the start, over each task, to the end.
-use Rattle.std.proofs.Common.{◌≡◌, ◌≢◌, List, [], ◌∷◌, ◌++◌, refl, sym, ap, ◌∙◌}
-use Rattle.std.specs.Prelude.{Result, Ok, Err, IfErr, OnOk}
+use Rattle.std.proofs.Common.{◌≡◌, List, [], ◌∷◌, ◌++◌, refl, sym, ap, ◌∙◌}
+use Rattle.std.specs.Prelude.{Result, Ok, Err}
 use Rattle.std.proofs.lemmas.List.{append-nil, append_assoc}
 use Rattle.meson_splice.specs.Patch.{then_ok}
 use Rattle.meson_syntax.specs.Tree.{Plain}
 use Rattle.meson_calls.specs.declared.call.CallRef.{CallRef}
 use Rattle.meson_calls.specs.declared.refusal.Refusal.{Refusal}
-use Rattle.meson_calls.specs.declared.refusal.Refusal.TheVariants.{OutOfMemory}
 use Rattle.meson_keywords.specs.declared.tasks.Task as code
 use Rattle.meson_steps.specs.declared.work.Work.{Work}
 use Rattle.meson_keywords.specs.Changing.{Between, CallStands, IsNextTask, TaskDone, steps_of_task}
-use Rattle.meson_steps.specs.Done.{IsOutcome, MayNotBeMade}
+use Rattle.meson_steps.specs.Done.{MayNotBeDone, unmeant}
 use Rattle.meson_steps.specs.ListSteps as doable
 use Rattle.meson_calls.specs.Loading.{Loaded}
-use Rattle.meson_steps.specs.Outcomes.{IsDone, MayNotBeDone, unmade, unmeant}
 use Rattle.meson_steps.specs.Results.{plain_trees}
 use Rattle.meson_steps.specs.Steps.{Step}
 use Rattle.meson_keywords.specs.Tasking.{MayBeWritten, TaskIs, TasksAre, none, one}
@@ -108,14 +106,6 @@ module _ (old : Loaded) (c : CallRef) (whole : Result (List Step) Refusal) (task
 
 -- ---- the end
 
-module _ (old : Loaded) (c : CallRef) (whole : Result (List Step) Refusal) (w : Work) (u : TasksLeft old c whole [] w) where
-  whole_done : whole ≡ Ok u.before
-  whole_done = u.joined ∙ ap (λ ts. then_ok (tasks_steps c ts (plain_trees (so_far w))) (λ later. Ok (u.before ++ later))) (no_task u.rest u.are) ∙ ap Ok (append-nil u.before)
-
-  pub tasks_outcome : (r : Result (Unit {0}) Refusal) → OnOk r (IsOutcome old u.before w.splices.items (so_far w) w.relexed) → OnOk r (IsDone old whole w)
-  tasks_outcome (Ok n) o = record { steps = u.before; is = whole_done; outcome = o }
-  tasks_outcome (Err e) o = tt
-
-  pub tasks_unmade : (r : Result (Unit {0}) Refusal) → IfErr r (MayNotBeMade old u.before) → IfErr r (λ e. e ≢ OutOfMemory → MayNotBeDone old whole e)
-  tasks_unmade (Ok n) o = tt
-  tasks_unmade (Err e) o = λ other. unmade u.before whole_done e o
+pub whole_done : (old : Loaded) (c : CallRef) (whole : Result (List Step) Refusal) (w : Work) (u : TasksLeft old c whole [] w) → whole ≡ Ok u.before
+whole_done old c whole w u =
+    u.joined ∙ ap (λ ts. then_ok (tasks_steps c ts (plain_trees (so_far w))) (λ later. Ok (u.before ++ later))) (no_task u.rest u.are) ∙ ap Ok (append-nil u.before)

@@ -1,5 +1,5 @@
 -- The code's tasks, and the command that they come from.
-use Rattle.std.specs.Prelude.{◌≡◌, ◌≤◌, ℕ, Bool, List, [], ◌∷◌, ◌++◌, map, codes, Option, Some, None, Result, Ok}
+use Rattle.std.specs.Prelude.{◌≡◌, ◌≤◌, ℕ, Bool, List, [], ◌∷◌, ◌++◌, map, Result, Ok}
 use Rattle.std.specs.Str.{IsUtf8}
 use Rattle.meson_lex.specs.declared.kinds.Span.{Span}
 use Rattle.meson_lex.specs.Kinds.{IsIdentifier}
@@ -10,9 +10,6 @@ use Rattle.meson_syntax.specs.View.{expr_view}
 use Rattle.meson_edit.specs.Edits.{Written}
 use Rattle.meson_edit.specs.Places.{IsWritten}
 use Rattle.meson_calls.specs.declared.call.Role.{Role}
-use Rattle.meson_calls.specs.declared.call.Role.TheVariants as role
-use Rattle.meson_steps.specs.declared.command.Command.{Command}
-use Rattle.meson_steps.specs.declared.command.Command.TheVariants as command
 use Rattle.meson_steps.specs.declared.command.Setting.{Setting}
 use Rattle.meson_keywords.specs.declared.elements.Found.{Found}
 use Rattle.meson_keywords.specs.declared.elements.Test.{Test}
@@ -49,23 +46,6 @@ asked (words.DeleteOptions names) = to_delete_options names.now
 
 abbrev pub request_view : Request → Role × List ℕ × Asked
 request_view r = (r.role, r.id.now, asked r.words)
-
--- of which call a command on keyword arguments or default options asks what
-abbrev pub requested : Command → Option (Role × List ℕ × Asked)
-requested (command.KwargsSet r id pairs) = Some (r, id, to_set pairs)
-requested (command.KwargsDelete r id keys) = Some (r, id, to_delete keys)
-requested (command.KwargsAdd r id pairs) = Some (r, id, to_add pairs)
-requested (command.KwargsRemove r id pairs) = Some (r, id, to_remove pairs)
-requested (command.OptionsSet pairs) = Some (role.Project, codes "/", to_set_options pairs)
-requested (command.OptionsDelete names) = Some (role.Project, codes "/", to_delete_options names)
-requested (command.SourcesAdd target sources) = None
-requested (command.SourcesRemove target sources) = None
-requested (command.ExtraAdd target sources) = None
-requested (command.ExtraRemove target sources) = None
-requested (command.TargetAdd target kind subdir sources) = None
-requested (command.TargetRemove target) = None
-requested (command.TargetInfo target) = None
-requested (command.KwargsInfo r id) = None
 
 abbrev pub asked_tasks : Role → Asked → Result (List Task) Refusal
 asked_tasks r (to_set pairs) = each_made (set_entry r) pairs

@@ -2,3 +2,4 @@ pub mod Planning
 pub mod Performing
 pub mod Called
 pub mod Details
+pub mod Orders

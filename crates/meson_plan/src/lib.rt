@@ -4,6 +4,7 @@
 mod called;
 mod details;
 mod info;
+mod order;
 mod planning;
 mod project;
 mod showing;

@@ -5,7 +5,7 @@ ghost use Rattle.meson_splice.specs.Patch.{patched_all};
 ghost use Rattle.meson_layout.specs.Laws.{AreTexts};
 ghost use Rattle.meson_calls.specs.Loading.{IsProject, MayNotLoad, project};
 ghost use Rattle.meson_steps.specs.Journal.{Trees};
-ghost use Rattle.meson_steps.specs.Outcomes.{IsDone, MayNotBeDone};
+ghost use Rattle.meson_steps.specs.Done.{IsDone, MayNotBeDone};
 ghost use Rattle.meson_steps.specs.Working.{IsFresh, Restores, so_far};
 ghost use Rattle.meson_plan.specs.Performing.{KeepsUntouched, MayRefuse, Performs};
 ghost use Rattle.meson_plan.specs.Planning.{planned};
@@ -17,6 +17,7 @@ ghost use Rattle.meson_sources.specs.Extras.{extra_files};
 
 use crate::called::call_at;
 use crate::details::{Head, Shown};
+use crate::order::{Order, order_of};
 use crate::planning::planned;
 use crate::showing::{head_of, keywords_of};
 use meson_calls::arriving::sources_at;
@@ -29,7 +30,6 @@ use meson_calls::picking::with_role;
 use meson_calls::variables::Variables;
 use meson_calls::{CallRef, Refusal, Role, Sources, Unloaded};
 use meson_keywords::changing::changed;
-use meson_keywords::request::request_of;
 use meson_sources::extras::extra_files_of;
 use meson_splice::{Change, FileSet, Many, Text};
 use meson_steps::command::{Command, Done};
@@ -272,11 +272,13 @@ fn performed(alloc: Global, work: &mut Work, command: &Command) -> Result<(), Re
     ensures restores { (first : Trees) → Restores work.old first → Restores work.new first }
     ensures refused { IfErr result (λ e. e ≢ Refusal.OutOfMemory → MayNotBeDone (so_far work.old) (planned (project (so_far work.old)) command.now) e) }
 {
-    match request_of(command) {
-        Some(request) => changed(alloc, work, request),
-        None => match planned(alloc, &work.files, work.trees.as_slice(), command) {
-            Ok(steps) => done(alloc, work, steps),
-            Err(refusal) => Err(refusal),
-        },
+    match order_of(command) {
+        Order::Planned(plan) => {
+            match planned(alloc, &work.files, work.trees.as_slice(), plan) {
+                Ok(steps) => done(alloc, work, steps),
+                Err(refusal) => Err(refusal),
+            }
+        }
+        Order::Changed(request) => changed(alloc, work, request),
     }
 }

@@ -10,7 +10,7 @@ use Rattle.meson_calls.specs.declared.refusal.Refusal.TheVariants.{TooDeep, TooL
 use Rattle.meson_calls.specs.Loading.{Loaded}
 use Rattle.meson_steps.specs.declared.step.ListStep.{ListStep}
 use Rattle.meson_steps.specs.declared.work.Work.{Work}
-use Rattle.meson_steps.specs.Done.{IsOutcome, MayNotBeMade, deep, large}
+use Rattle.meson_steps.specs.Done.{IsDone, MayNotBeDone, Meaning, deep, large}
 use Rattle.meson_steps.specs.ListSteps.{AreBare, AreDoable, bare}
 use Rattle.meson_steps.specs.Plans.{Doable}
 use Rattle.meson_steps.specs.Results.{AreShallow, plain_trees}
@@ -85,19 +85,21 @@ all_reached old w steps u =
     let all : u.before ≡ steps = sym (u.joined ∙ ap (λ r. u.before ++ r) none ∙ simp append-nil) in
     subst (λ ss. Reached old ss [] w) all (subst (λ r. Reached old u.before r w) none u.reached)
 
-module _ (old : Loaded) (w : Work) (steps : List Step) (r : Reached old steps [] w) where
-  pub too_deep : HasDeep w.trees.items → MayNotBeMade old steps TooDeep
-  too_deep h = deep (so_far w) w.splices.items w.relexed r.made (not_shallow w.files w.trees.items r.known.as_many h)
+module _ (old : Loaded) (w : Work) (meant : Meaning) (steps : List Step) (is : meant ≡ Ok steps) (r : Reached old steps [] w) where
+  pub too_deep : HasDeep w.trees.items → MayNotBeDone old meant TooDeep
+  too_deep h = deep steps w is r.made (not_shallow w.files w.trees.items r.known.as_many h)
 
   module _ (shallow : AreShallowSoFar w.saved.items w.trees.items) where
     are_shallow : AreShallow (plain_trees (so_far w))
     are_shallow = known_shallow w.saved.items w.files w.trees.items r.known shallow
 
-    pub too_large : HasLarge w.files → MayNotBeMade old steps TooLarge
-    too_large h = large (so_far w) w.splices.items w.relexed r.made are_shallow (not_small w.files h)
+    pub too_large : HasLarge w.files → MayNotBeDone old meant TooLarge
+    too_large h = large steps w is r.made are_shallow (not_small w.files h)
 
-    pub is_outcome : ((k : ℕ) → k < length w.files → length (bytes_at k w.files) ≤ max_len) → IsOutcome old steps w.splices.items (so_far w) w.relexed
-    is_outcome small = record {
+    pub is_done : ((k : ℕ) → k < length w.files → length (bytes_at k w.files) ≤ max_len) → IsDone old meant w
+    is_done small = record {
+      steps = steps;
+      is = is;
       made = r.made;
       shallow = are_shallow;
       small = all_small w.files small;

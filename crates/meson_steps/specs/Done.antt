@@ -1,28 +1,29 @@
--- What steps make of the files and the trees of a project, and why they are refused.
-use Rattle.std.specs.Prelude.{◌≡◌, ℕ, List, Some}
-use Rattle.meson_splice.specs.declared.splice.Splice.{Splice}
+-- What becomes of a project by steps that are meant, or why they are refused.
+use Rattle.std.specs.Prelude.{◌≡◌, List, Result, Ok, Err}
 use Rattle.meson_calls.specs.declared.refusal.Refusal.{Refusal}
 use Rattle.meson_calls.specs.declared.refusal.Refusal.TheVariants.{TooDeep, TooLarge}
 use Rattle.meson_calls.specs.Loading.{Loaded, IsProject}
-use Rattle.meson_steps.specs.Results.{AreShallow, AreSmall, plain_trees, saturated}
-use Rattle.meson_steps.specs.Steps.{Step, all_stepped, StepsMake}
+use Rattle.meson_steps.specs.declared.work.Work.{Work}
+use Rattle.meson_steps.specs.Results.{AreShallow, AreSmall, plain_trees}
+use Rattle.meson_steps.specs.Steps.{Step}
+use Rattle.meson_steps.specs.Working.{IsMade, so_far}
 
--- Steps make these splices, files and trees, and have so many bytes read again.
-pub record IsMade (old : Loaded) (steps : List Step) (splices : List Splice) (new : Loaded) (relexed : ℕ) : Type 0 where
-  pub bytes : ℕ
-  pub are_trees : all_stepped steps (plain_trees old) ≡ Some (plain_trees new)
-  pub are_done : StepsMake old.files steps splices new.files bytes
-  pub is_relexed : relexed ≡ saturated bytes
+-- what is meant: steps, or why it is refused
+abbrev pub Meaning : Type 0
+Meaning = Result (List Step) Refusal
 
--- The same, and no limit is passed.
-pub record IsOutcome (old : Loaded) (steps : List Step) (splices : List Splice) (new : Loaded) (relexed : ℕ) : Type 0 where
-  pub made : IsMade old steps splices new relexed
-  pub shallow : AreShallow (plain_trees new)
-  pub small : AreSmall new.files
-  pub project : IsProject new
+-- The steps that are meant make this of the project, and no limit is passed.
+pub record IsDone (old : Loaded) (meant : Meaning) (w : Work) : Type 0 where
+  pub steps : List Step
+  pub is : meant ≡ Ok steps
+  pub made : IsMade old steps w
+  pub shallow : AreShallow (plain_trees (so_far w))
+  pub small : AreSmall w.files
+  pub project : IsProject (so_far w)
 
--- Why steps are refused.
-pub data MayNotBeMade (old : Loaded) (steps : List Step) : Refusal → Type 0 where
-  deep : (new : Loaded) (splices : List Splice) (relexed : ℕ) → IsMade old steps splices new relexed → (AreShallow (plain_trees new) → ⊥) → MayNotBeMade old steps TooDeep
-  large : (new : Loaded) (splices : List Splice) (relexed : ℕ) → IsMade old steps splices new relexed → AreShallow (plain_trees new) → (AreSmall new.files → ⊥)
-      → MayNotBeMade old steps TooLarge
+-- No steps are meant, or those that are make something that passes a limit.
+pub data MayNotBeDone (old : Loaded) (meant : Meaning) : Refusal → Type 0 where
+  unmeant : (e : Refusal) → meant ≡ Err e → MayNotBeDone old meant e
+  deep : (steps : List Step) (w : Work) → meant ≡ Ok steps → IsMade old steps w → (AreShallow (plain_trees (so_far w)) → ⊥) → MayNotBeDone old meant TooDeep
+  large : (steps : List Step) (w : Work) → meant ≡ Ok steps → IsMade old steps w → AreShallow (plain_trees (so_far w)) → (AreSmall w.files → ⊥)
+      → MayNotBeDone old meant TooLarge

@@ -7,7 +7,6 @@ pub mod Plans
 pub mod Done
 pub mod Working
 pub mod Layers
-pub mod Outcomes
 pub mod WrittenValues
 pub mod Meanings
 pub mod Names

@@ -23,14 +23,12 @@ use Rattle.meson_steps.specs.declared.step.ListStep.{ListStep}
 use Rattle.meson_steps.specs.declared.step.ListEdit.{ListEdit}
 use Rattle.meson_steps.specs.declared.step.ListEdit.TheVariants as code
 use Rattle.meson_steps.specs.declared.work.Work.{Work}
-use Rattle.meson_steps.specs.Done.{IsMade}
 use Rattle.meson_steps.specs.ListSteps.{AreBare, AreDoable, bare, wide_depth}
 use Rattle.meson_calls.specs.declared.call.CallRef.{CallRef}
 use Rattle.meson_calls.specs.Loading.{Loaded, HasFileName, IsProject, max_files}
 use Rattle.meson_steps.specs.Journal.{IsSavedToo, PutsBack, is_saved}
 use Rattle.meson_steps.specs.Results.{plain_trees, saturated}
-use Rattle.meson_steps.specs.Plans.{Doable}
-use Rattle.meson_steps.specs.Steps.{Step, bytes_again}
+use Rattle.meson_steps.specs.Steps.{Step, StepsMake, all_stepped, bytes_again}
 
 -- ---- one step
 
@@ -123,9 +121,16 @@ pub record AreKnown (saved : List Saved) (files : List File) (trees : List Parse
   pub as_many : length trees ≡ length files
   pub each : (k : ℕ) (d : Parsed) → k < length files → IsSpannedWithin (limits_of saved k) (bytes_at k files) (view (bytes_at k files) (slice_index_or trees k d))
 
+-- Steps make the splices, files and trees so far, and have so many bytes read again.
+pub record IsMade (old : Loaded) (steps : List Step) (w : Work) : Type 0 where
+  pub bytes : ℕ
+  pub are_trees : all_stepped steps (plain_trees old) ≡ Some (plain_trees (so_far w))
+  pub are_done : StepsMake old.files steps w.splices.items w.files bytes
+  pub is_relexed : w.relexed ≡ saturated bytes
+
 -- These steps are done, and those are left, which may be done.
 pub record Reached (old : Loaded) (before rest : List Step) (w : Work) : Type 0 where
-  pub made : IsMade old before w.splices.items (so_far w) w.relexed
+  pub made : IsMade old before w
   pub doable : AreDoable rest (plain_trees (so_far w))
   pub known : AreKnown w.saved.items w.files w.trees.items
   pub distinct : IsDistinct w.files
@@ -147,11 +152,6 @@ pub record IsUnderWay (old : Loaded) (steps : List Step) (code : List ListStep) 
   pub joined : steps ≡ before ++ rest
   pub bare : AreBare rest code
   pub reached : Reached old before rest w
-
--- The code stands for steps that may be done.
-pub record HasSteps (old : Loaded) (code : List ListStep) : Type 0 where
-  pub steps : List Step
-  pub doable : Doable old steps code
 
 -- ---- limits
 

@@ -7,13 +7,13 @@ ghost use Rattle.meson_splice.specs.declared.file_set.File.{File};
 ghost use Rattle.meson_splice.specs.Files.{bytes_at};
 ghost use Rattle.meson_splice.specs.Patch.{patched_all};
 ghost use Rattle.meson_syntax.specs.View.{view};
-ghost use Rattle.meson_steps.specs.Done.{IsOutcome, MayNotBeMade};
+ghost use Rattle.meson_steps.specs.Done.{IsDone, MayNotBeDone, Meaning};
 ghost use Rattle.meson_calls.specs.Loading.{IsProject, Loaded};
 ghost use Rattle.meson_calls.specs.Picking.{Source};
-ghost use Rattle.meson_steps.specs.Plans.{Doable};
+ghost use Rattle.meson_steps.specs.Plans.{ArePlanned};
 ghost use Rattle.meson_steps.specs.Steps as meant;
 ghost use Rattle.meson_steps.specs.Steps.{effective};
-ghost use Rattle.meson_steps.specs.Working.{AreShallowSoFar, HasDeep, HasLarge, HasSteps, IsChanged, IsFresh, IsNext, IsUnderWay, MayBeLaid, MayChange, MayChangeList, Reached, Restores, list_again, looked_at, placed_edit, so_far};
+ghost use Rattle.meson_steps.specs.Working.{AreShallowSoFar, HasDeep, HasLarge, IsChanged, IsFresh, IsNext, IsUnderWay, MayBeLaid, MayChange, MayChangeList, Reached, Restores, list_again, looked_at, placed_edit, so_far};
 ghost use Rattle.meson_steps.specs.ListSteps.{bare};
 
 use crate::journal::{Saved, SavedList, exchange, exchange_list, is_saved};
@@ -288,8 +288,8 @@ impl Work {
     /// # Errors
     /// It does.
     pub fn within_limits(&self) -> Result<(), Refusal>
-        ensures done { (old : Loaded) (ss : List meant.Step) → Reached old ss [] self.now → OnOk result (IsOutcome old ss self.now.splices.items (so_far self.now) self.now.relexed) }
-        ensures refused { (old : Loaded) (ss : List meant.Step) → Reached old ss [] self.now → IfErr result (MayNotBeMade old ss) }
+        ensures done { (old : Loaded) (whole : Meaning) (ss : List meant.Step) → whole ≡ Ok ss → Reached old ss [] self.now → OnOk result (IsDone old whole self.now) }
+        ensures refused { (old : Loaded) (whole : Meaning) (ss : List meant.Step) → whole ≡ Ok ss → Reached old ss [] self.now → IfErr result (MayNotBeDone old whole) }
     {
         if !self.is_shallow() {
             return Err(Refusal::TooDeep);
@@ -339,16 +339,16 @@ fn push_all(to: &mut Vec<Splice>, from: Vec<Splice>) -> Result<(), AllocError>
     Ok(())
 }
 
-/// Does steps, and asks the limits of what they made.
+/// Does the steps that are meant, and asks the limits of what they made.
 ///
 /// # Errors
 /// The result passes a limit, or memory is refused.
 pub fn done(alloc: Global, work: &mut Work, steps: Vec<ListStep>) -> Result<(), Refusal>
     requires fresh { IsFresh work.old }
-    requires doable { HasSteps (so_far work.old) steps.items }
-    ensures done { (ss : List meant.Step) → Doable (so_far work.old) ss steps.items → OnOk result (IsOutcome (so_far work.old) ss work.new.splices.items (so_far work.new) work.new.relexed) }
+    requires planned { (whole : Meaning) × ArePlanned (so_far work.old) whole steps.items }
+    ensures done { (whole : Meaning) → ArePlanned (so_far work.old) whole steps.items → OnOk result (IsDone (so_far work.old) whole work.new) }
     ensures restores { (first : List Parsed) → Restores work.old first → Restores work.new first }
-    ensures refused { (ss : List meant.Step) → Doable (so_far work.old) ss steps.items → IfErr result (λ e. e ≢ Refusal.OutOfMemory → MayNotBeMade (so_far work.old) ss e) }
+    ensures refused { (whole : Meaning) → ArePlanned (so_far work.old) whole steps.items → IfErr result (λ e. e ≢ Refusal.OutOfMemory → MayNotBeDone (so_far work.old) whole e) }
 {
     work.do_steps(alloc, steps)?;
     work.within_limits()

@@ -5,8 +5,7 @@ use Rattle.meson_splice.specs.Files.{bytes_at}
 use Rattle.meson_calls.specs.declared.refusal.Refusal.TheVariants.{OutOfMemory}
 use Rattle.meson_calls.specs.Calls.{value_with_name}
 use Rattle.meson_calls.specs.Loading.{IsProject, named_trees, project, views}
-use Rattle.meson_steps.specs.Outcomes.{IsDone, MayNotBeDone}
-use Rattle.meson_steps.specs.Outcomes as outcome
+use Rattle.meson_steps.specs.Done.{IsDone, MayNotBeDone, unmeant}
 use Rattle.meson_steps.specs.Results.{plain_trees}
 use Rattle.meson_steps.specs.Working.{so_far}
 use Rattle.meson_calls.specs.Sources.{not_hidden}
@@ -33,7 +32,7 @@ returns-in-Err-clause-refused c = λ other.
     let words = asked c.args.request.words in
     let e = c.in-Err.refusal in
     let why = sym (place_is r id (named_trees files (views files trees))) ∙ c.in-Err.ensures.refused other in
-    of_trees (λ l. MayNotBeDone l (request_steps (project l) (r, id, words)) e) files c.as_slice-trees.ensures.value (outcome.unmeant e (none_named files trees r id words e why))
+    of_trees (λ l. MayNotBeDone l (request_steps (project l) (r, id, words)) e) files c.as_slice-trees.ensures.value (unmeant e (none_named files trees r id words e why))
 
 pub returns-in-Err-tasks_of-clause-refused : goal.returns-in-Err-tasks_of-clause-refused
 returns-in-Err-tasks_of-clause-refused c = λ other.
@@ -45,7 +44,7 @@ returns-in-Err-tasks_of-clause-refused c = λ other.
     let e = c.in-Err-tasks_of.refusal in
     let found = sym (place_is r id (named_trees files (views files trees))) ∙ c.in-Ok.ensures.found in
     of_trees (λ l. MayNotBeDone l (request_steps (project l) (r, id, words)) e) files c.as_slice-trees.ensures.value
-    (outcome.unmeant e (no_words files trees r id words c.in-Ok.call found e (c.in-Err-tasks_of.ensures.refused other)))
+    (unmeant e (no_words files trees r id words c.in-Ok.call found e (c.in-Err-tasks_of.ensures.refused other)))
 
 pub list_of_call-requires : goal.list_of_call-requires
 list_of_call-requires c =
@@ -136,4 +135,4 @@ returns-clause-refused c = λ other.
     ∙ ap (λ xs. not_hidden (kept_args bytes (value_with_name kwargs_key) 0 xs)) c.get-args.ensures) ∙ c.in-Err-not_hidden.is in
     let e = c.in-Err-not_hidden.refusal in
     of_trees (λ l. MayNotBeDone l (request_steps (project l) (r, id, words)) e) files c.as_slice-trees.ensures.value
-    (outcome.unmeant e (hides files trees r id words place found t.tasks t.is bytes list arguments e hidden))
+    (unmeant e (hides files trees r id words place found t.tasks t.is bytes list arguments e hidden))

@@ -1,11 +1,15 @@
 use Rattle.std.proofs.Common.{◌∙◌, sym, subst}
+use Rattle.std.specs.Prelude.{◌≢◌}
 use Rattle.std.specs.Vec.Iter.{into_iter_items}
 use Rattle.std.proofs.lemmas.List.{nil_from_length}
+use Rattle.meson_calls.specs.declared.refusal.Refusal.TheVariants.{OutOfMemory}
+use Rattle.meson_steps.specs.Done.{MayNotBeDone}
 use Rattle.meson_steps.specs.Results.{plain_trees}
 use Rattle.meson_steps.specs.Working.{so_far}
 use Rattle.meson_keywords.specs.Tasking.{TasksAre}
 use Rattle.meson_keywords.specs.TaskSteps.{tasks_steps}
-use Rattle.meson_keywords.proofs.TasksLeft.{TasksLeft, next_task, task_refused, tasks_first, tasks_more, tasks_outcome, tasks_unmade}
+use Rattle.meson_steps.proofs.UnderWay.{refused_anyway}
+use Rattle.meson_keywords.proofs.TasksLeft.{TasksLeft, next_task, task_refused, tasks_first, tasks_more, whole_done}
 use Rattle.meson_keywords.proofs.changing.tasks_done.Goals as goal
 
 pub loop-task-init : goal.loop-task-init
@@ -58,7 +62,7 @@ returns-clause-done c = λ ts are.
     let whole = tasks_steps call ts (plain_trees old) in
     let left = nil_from_length (into_iter_items c.loop-task.task-iterator) (sym c.loop-task.task-iterator.rest.ok.0 ∙ c.in-None.ensures.steps.0) in
     let u = subst (λ cs. TasksLeft old call whole cs w) left (c.loop-task.invariant.left ts are) in
-    tasks_outcome old call whole w u c.within_limits.result (c.within_limits.ensures.done old u.before u.between.reached)
+    c.within_limits.ensures.done old whole u.before (whole_done old call whole w u) u.between.reached
 
 pub returns-clause-refused : goal.returns-clause-refused
 returns-clause-refused c = λ ts are.
@@ -68,4 +72,5 @@ returns-clause-refused c = λ ts are.
     let whole = tasks_steps call ts (plain_trees old) in
     let left = nil_from_length (into_iter_items c.loop-task.task-iterator) (sym c.loop-task.task-iterator.rest.ok.0 ∙ c.in-None.ensures.steps.0) in
     let u = subst (λ cs. TasksLeft old call whole cs w) left (c.loop-task.invariant.left ts are) in
-    tasks_unmade old call whole w u c.within_limits.result (c.within_limits.ensures.refused old u.before u.between.reached)
+    refused_anyway (MayNotBeDone old whole) (λ e. e ≢ OutOfMemory) c.within_limits.result
+    (c.within_limits.ensures.refused old whole u.before (whole_done old call whole w u) u.between.reached)

@@ -1,0 +1,101 @@
+//! What a command orders: steps that are all known at once, or changes of one call, each made after the one before it.
+
+ghost use Rattle.std.specs.Prelude.{◌≡◌, codes};
+ghost use Rattle.meson_lex.specs.declared.kinds.Span as lex;
+ghost use Rattle.meson_calls.specs.Project.{Project};
+ghost use Rattle.meson_keywords.specs.Changing.{request_steps};
+ghost use Rattle.meson_keywords.specs.Tasking.{asked};
+ghost use Rattle.meson_plan.specs.Orders.{order_steps};
+ghost use Rattle.meson_plan.specs.Planning.{planned};
+ghost use Rattle.meson_sources.specs.Targeted.{target_steps};
+
+use meson_calls::Role;
+use meson_keywords::request::{Request, Words};
+use meson_sources::targeting::Change;
+use meson_sources::targeting::Change::{ExtraAdded, ExtraRemoved, SourcesAdded, SourcesRemoved};
+use meson_splice::{Many, Text};
+use meson_steps::command::Command;
+use meson_targets::target_adding::NewTarget;
+
+/// What is done in steps that are all known at once.
+#[derive(Clone, Copy)]
+pub(crate) enum Plan<'c> {
+    /// Names are put into a target or taken out of it.
+    OnTarget(&'c Text, Change, &'c Many<Text>),
+    /// A target is put at the end of its file.
+    AddTarget(NewTarget<'c>),
+    /// A target goes, with its statement.
+    RemoveTarget(&'c str),
+    /// Nothing: a target is asked for.
+    AskTarget(&'c str),
+    /// Nothing: a call is asked for.
+    AskCall(Role, &'c str),
+}
+
+/// What a command orders.
+#[derive(Clone, Copy)]
+pub(crate) enum Order<'c> {
+    Planned(Plan<'c>),
+    Changed(Request<'c>),
+}
+
+/// A change of a target.
+fn on_target<'c>(target: &'c Text, change: Change, names: &'c Many<Text>) -> Order<'c>
+    ensures { (p : Project lex.Span) → order_steps p result ≡ target_steps p target.entry.now change names.entry.now }
+{
+    Order::Planned(Plan::OnTarget(target, change, names))
+}
+
+/// A change of a call.
+fn on_call<'c>(role: Role, id: &'c Text, words: Words<'c>) -> Order<'c>
+    ensures { (p : Project lex.Span) → order_steps p result ≡ request_steps p (role, id.entry.now, asked words.entry) }
+{
+    Order::Changed(Request {
+        role,
+        id: id.get(),
+        words,
+    })
+}
+
+/// A change of the call of `project`.
+fn on_project(words: Words<'_>) -> Order<'_>
+    ensures { (p : Project lex.Span) → order_steps p result ≡ request_steps p (Role.Project, codes "/", asked words.entry) }
+{
+    Order::Changed(Request {
+        role: Role::Project,
+        id: "/",
+        words,
+    })
+}
+
+/// What a command orders: the steps that it means, or the reason why it is refused, are those of the order.
+pub(crate) fn order_of(command: &Command) -> Order<'_>
+    ensures { (p : Project lex.Span) → order_steps p result ≡ planned p command.now }
+{
+    match command {
+        Command::SourcesAdd { target, sources } => on_target(target, SourcesAdded, sources),
+        Command::SourcesRemove { target, sources } => on_target(target, SourcesRemoved, sources),
+        Command::ExtraAdd { target, sources } => on_target(target, ExtraAdded, sources),
+        Command::ExtraRemove { target, sources } => on_target(target, ExtraRemoved, sources),
+        Command::TargetAdd {
+            target,
+            target_kind,
+            subdir,
+            sources,
+        } => Order::Planned(Plan::AddTarget(NewTarget {
+            name: target,
+            kind: target_kind,
+            folder: subdir,
+            sources: sources.get(),
+        })),
+        Command::TargetRemove { target } => Order::Planned(Plan::RemoveTarget(target.get())),
+        Command::TargetInfo { target } => Order::Planned(Plan::AskTarget(target.get())),
+        Command::KwargsInfo { role, id } => Order::Planned(Plan::AskCall(*role, id.get())),
+        Command::KwargsSet { role, id, pairs } => on_call(*role, id, Words::Set(pairs.get())),
+        Command::KwargsAdd { role, id, pairs } => on_call(*role, id, Words::Add(pairs.get())),
+        Command::KwargsRemove { role, id, pairs } => on_call(*role, id, Words::Remove(pairs.get())),
+        Command::KwargsDelete { role, id, keys } => on_call(*role, id, Words::Delete(keys.get())),
+        Command::OptionsSet { pairs } => on_project(Words::SetOptions(pairs.get())),
+        Command::OptionsDelete { names } => on_project(Words::DeleteOptions(names.get())),
+    }
+}
