@@ -1,6 +1,6 @@
 //! The way through the expressions of a file.
 
-ghost use Rattle.std.specs.Prelude.{◌≡◌, ◌+◌, OnOk, length};
+ghost use Rattle.std.specs.Prelude.{◌≡◌, ◌+◌, IfOk, OnOk};
 ghost use Rattle.meson_syntax.specs.Tree.{arguments_of, operands_of, tails_of};
 ghost use Rattle.meson_syntax.specs.View.{expr_view, arg_view, args_view, tail_view, tails_view, operands_view, list_view};
 ghost use Rattle.meson_calls.specs.Project.{place, child};
@@ -11,6 +11,16 @@ use crate::keeper::Keeper;
 use crate::part::{Part, Walk};
 use meson_syntax::{Arg, Expr, List, Operand, Tail};
 use std::alloc::AllocError;
+
+/// The number after some others. No file has so many parts that there is none.
+pub(crate) fn next(number: usize, more: usize) -> Result<usize, AllocError>
+    ensures { IfOk result (λ n. n ≡ number + more) }
+{
+    match number.checked_add(more) {
+        Some(next) => Ok(next),
+        None => Err(AllocError),
+    }
+}
 
 impl<'t> Walk<'t> {
     /// Visits the expression that is the n-th child, and the parts within it.
@@ -30,26 +40,6 @@ impl<'t> Walk<'t> {
         self.visit(path.as_slice(), Part::Expression(expr), keeper)?;
         self.in_expr(expr, path, keeper)?;
         path.pop();
-        Ok(())
-    }
-
-    /// Visits the expression that is the next child, and the parts within it; then its number is among those of the children so far.
-    #[cycle(walk)]
-    fn in_next(
-        &self,
-        numbers: &mut Vec<usize>,
-        expr: &'t Expr,
-        path: &mut Vec<usize>,
-        keeper: &mut Keeper<'t>,
-    ) -> Result<(), AllocError>
-        ensures back { OnOk result (path.new.items ≡ path.old.items) }
-        ensures all { OnOk result (Keeps keeper.old
-            (expression_parts (child (place self.now.file path.old.items) (length numbers.old.items)) (expr_view self.now.source.now expr.now)) keeper.new) }
-        ensures after { OnOk result (length numbers.new.items ≡ length numbers.old.items + 1) }
-    {
-        let number = numbers.len();
-        self.in_child(number, expr, path, keeper)?;
-        numbers.push(number)?;
         Ok(())
     }
 
@@ -81,9 +71,8 @@ impl<'t> Walk<'t> {
                 Ok(())
             }
             Expr::Postfix { base, tails, .. } => {
-                let mut numbers = Vec::new(self.alloc);
-                self.in_next(&mut numbers, base.get(), path, keeper)?;
-                self.in_tails(&mut numbers, tails.get(), path, keeper)?;
+                self.in_child(0, base.get(), path, keeper)?;
+                self.in_tails(tails.get(), path, keeper)?;
                 Ok(())
             }
             Expr::Conditional {
@@ -111,52 +100,60 @@ impl<'t> Walk<'t> {
         ensures all { OnOk result (Keeps keeper.old
             (listing_parts (place self.now.file path.old.items) 0 (list_view self.now.source.now list.now)) keeper.new) }
     {
-        let mut numbers = Vec::new(self.alloc);
-        self.in_args(&mut numbers, list.items.get(), path, keeper)?;
+        self.in_args(0, list.items.get(), path, keeper)?;
         Ok(())
     }
 
-    /// Visits those of elements, which are the next children.
+    /// Visits those of elements from the n-th child on, and gives the number after theirs.
     #[cycle(walk)]
     fn in_args(
         &self,
-        numbers: &mut Vec<usize>,
+        first: usize,
         args: &'t [Arg],
         path: &mut Vec<usize>,
         keeper: &mut Keeper<'t>,
-    ) -> Result<(), AllocError>
+    ) -> Result<usize, AllocError>
         ensures back { OnOk result (path.new.items ≡ path.old.items) }
         ensures all { OnOk result (Keeps keeper.old
-            (arguments_parts (place self.now.file path.old.items) (length numbers.old.items) (arguments_of (args_view self.now.source.now args.now))) keeper.new) }
-        ensures after { OnOk result (length numbers.new.items ≡ length numbers.old.items + arguments_children (arguments_of (args_view self.now.source.now args.now))) }
+            (arguments_parts (place self.now.file path.old.items) first (arguments_of (args_view self.now.source.now args.now))) keeper.new) }
+        ensures after { IfOk result (λ n. n ≡ first + arguments_children (arguments_of (args_view self.now.source.now args.now))) }
     {
+        let mut number = first;
         for i in 0..args.len() {
-            self.in_arg(numbers, &args[i], path, keeper)?;
+            number = self.in_arg(number, &args[i], path, keeper)?;
         }
-        Ok(())
+        Ok(number)
     }
 
-    /// Visits those of one element, which are the next children.
+    /// Visits those of one element, and gives the number after its.
     #[cycle(walk)]
     fn in_arg(
         &self,
-        numbers: &mut Vec<usize>,
+        number: usize,
         arg: &'t Arg,
         path: &mut Vec<usize>,
         keeper: &mut Keeper<'t>,
-    ) -> Result<(), AllocError>
+    ) -> Result<usize, AllocError>
         ensures back { OnOk result (path.new.items ≡ path.old.items) }
         ensures all { OnOk result (Keeps keeper.old
-            (argument_parts (place self.now.file path.old.items) (length numbers.old.items) (arg_view self.now.source.now arg.now)) keeper.new) }
-        ensures after { OnOk result (length numbers.new.items ≡ length numbers.old.items + argument_children (arg_view self.now.source.now arg.now)) }
+            (argument_parts (place self.now.file path.old.items) number (arg_view self.now.source.now arg.now)) keeper.new) }
+        ensures after { IfOk result (λ n. n ≡ number + argument_children (arg_view self.now.source.now arg.now)) }
     {
         match arg {
-            Arg::Plain(value) => self.in_next(numbers, value, path, keeper),
-            Arg::Named { value, .. } => self.in_next(numbers, value, path, keeper),
+            Arg::Plain(value) => {
+                self.in_child(number, value, path, keeper)?;
+                next(number, 1)
+            }
+            Arg::Named { value, .. } => {
+                self.in_child(number, value, path, keeper)?;
+                next(number, 1)
+            }
             Arg::Pair { key, value, .. } => {
-                self.in_next(numbers, key.get(), path, keeper)?;
-                self.in_next(numbers, value.get(), path, keeper)?;
-                Ok(())
+                self.in_child(number, key.get(), path, keeper)?;
+                let second = next(number, 1)?;
+                self.in_child(second, value.get(), path, keeper)?;
+                let after = next(number, 2)?;
+                Ok(after)
             }
         }
     }
@@ -172,50 +169,53 @@ impl<'t> Walk<'t> {
         ensures all { OnOk result (Keeps keeper.old
             (operands_parts (place self.now.file path.old.items) 1 (operands_of (operands_view self.now.source.now operands.now))) keeper.new) }
     {
+        let mut number = 1;
         for i in 0..operands.len() {
-            self.in_child(i + 1, &operands[i].value, path, keeper)?;
+            self.in_child(number, &operands[i].value, path, keeper)?;
+            number = next(number, 1)?;
         }
         Ok(())
     }
 
-    /// Visits those of tails, which are the next children.
     #[cycle(walk)]
     fn in_tails(
         &self,
-        numbers: &mut Vec<usize>,
         tails: &'t [Tail],
         path: &mut Vec<usize>,
         keeper: &mut Keeper<'t>,
     ) -> Result<(), AllocError>
         ensures back { OnOk result (path.new.items ≡ path.old.items) }
         ensures all { OnOk result (Keeps keeper.old
-            (tails_parts (place self.now.file path.old.items) (length numbers.old.items) (tails_of (tails_view self.now.source.now tails.now))) keeper.new) }
+            (tails_parts (place self.now.file path.old.items) 1 (tails_of (tails_view self.now.source.now tails.now))) keeper.new) }
     {
+        let mut number = 1;
         for i in 0..tails.len() {
-            self.in_tail(numbers, &tails[i], path, keeper)?;
+            number = self.in_tail(number, &tails[i], path, keeper)?;
         }
         Ok(())
     }
 
-    /// Visits those of one tail, which are the next children.
     #[cycle(walk)]
     fn in_tail(
         &self,
-        numbers: &mut Vec<usize>,
+        number: usize,
         tail: &'t Tail,
         path: &mut Vec<usize>,
         keeper: &mut Keeper<'t>,
-    ) -> Result<(), AllocError>
+    ) -> Result<usize, AllocError>
         ensures back { OnOk result (path.new.items ≡ path.old.items) }
         ensures all { OnOk result (Keeps keeper.old
-            (tail_parts (place self.now.file path.old.items) (length numbers.old.items) (tail_view self.now.source.now tail.now)) keeper.new) }
-        ensures after { OnOk result (length numbers.new.items ≡ length numbers.old.items + tail_children (tail_view self.now.source.now tail.now)) }
+            (tail_parts (place self.now.file path.old.items) number (tail_view self.now.source.now tail.now)) keeper.new) }
+        ensures after { IfOk result (λ n. n ≡ number + tail_children (tail_view self.now.source.now tail.now)) }
     {
         match tail {
             Tail::Method { arguments, .. } => {
-                self.in_args(numbers, arguments.items.get(), path, keeper)
+                self.in_args(number, arguments.items.get(), path, keeper)
             }
-            Tail::Index { index, .. } => self.in_next(numbers, index, path, keeper),
+            Tail::Index { index, .. } => {
+                self.in_child(number, index, path, keeper)?;
+                next(number, 1)
+            }
         }
     }
 }

@@ -1,4 +1,4 @@
-use Rattle.std.proofs.Common.{◌≡◌, ℕ, ◌+◌, List, ◌∙◌, sym, ap, refl, get_or, length}
+use Rattle.std.proofs.Common.{◌≡◌, ℕ, ◌+◌, List, ◌∙◌, sym, ap, refl, get_or}
 use Rattle.meson_lex.specs.declared.kinds.Span.{Span}
 use Rattle.meson_syntax.specs.declared.tree.Expr.{Expr}
 use Rattle.meson_syntax.specs.View.{expr_view, arg_view}
@@ -14,50 +14,46 @@ pub in_args-loop-i-preserved : goal.in_args-loop-i-preserved
 in_args-loop-i-preserved t c =
     let source = c.args.self.now.source.now in
     let p = place c.args.self.now.file c.args.path.now.items in
-    let n = length c.loop-i.numbers.items in
-    let k = length c.in_arg.new.numbers.items in
-    let now = args_part source (place c.args.self.now.file c.loop-i.path.items) n c.index-args-i.result in
-    let here : now ≡ args_part source p n (get_or c.args.args.now c.loop-i.i c.index-args-i.result) =
-    ap (λ path. args_part source (place c.args.self.now.file path) n c.index-args-i.result) c.loop-i.invariant.0
-    ∙ ap (λ x. args_part source p n x) c.index-args-i.is in
-    let next = c.in_ok-in_arg.ensures.after ∙ ap (λ x. n + args_size source x) c.index-args-i.is in (
-      c.in_ok-in_arg.ensures.back ∙ c.loop-i.invariant.0,
-      turn (args_parts source p) (args_part source p) (args_size source) (λ n x xs. refl) c.args.args.now c.loop-i.i c.index-args-i.result n k (keeper_view c.loop-i.keeper) (keeper_view c.in_arg.new.keeper) _ now c.loop-i-test.true c.in_ok-in_arg.ensures.all here next c.loop-i.invariant.1,
-      count_turn (args_count source) (args_size source) (λ x xs. refl) c.args.args.now c.loop-i.i c.index-args-i.result n k _ c.loop-i-test.true next c.loop-i.invariant.2,
+    let now = args_part source (place c.args.self.now.file c.loop-i.path.items) c.loop-i.number c.index-args-i.result in
+    let here : now ≡ args_part source p c.loop-i.number (get_or c.args.args.now c.loop-i.i c.index-args-i.result) =
+    ap (λ path. args_part source (place c.args.self.now.file path) c.loop-i.number c.index-args-i.result) c.loop-i.invariant.0
+    ∙ ap (λ x. args_part source p c.loop-i.number x) c.index-args-i.is in
+    let next = c.in_ok-number.ensures.after ∙ ap (λ x. c.loop-i.number + args_size source x) c.index-args-i.is in (
+      c.in_ok-number.ensures.back ∙ c.loop-i.invariant.0,
+      turn (args_parts source p) (args_part source p) (args_size source) (λ n x xs. refl) c.args.args.now c.loop-i.i c.index-args-i.result c.loop-i.number c.in_ok-number.number (keeper_view c.loop-i.keeper) (keeper_view c.in_arg.new.keeper) _ now c.loop-i-test.true c.in_ok-number.ensures.all here next c.loop-i.invariant.1,
+      count_turn (args_count source) (args_size source) (λ x xs. refl) c.args.args.now c.loop-i.i c.index-args-i.result c.loop-i.number c.in_ok-number.number _ c.loop-i-test.true next c.loop-i.invariant.2,
     )
 
 pub in_args-returns-clause-after : goal.in_args-returns-clause-after
 in_args-returns-clause-after t c =
-    count_ended (args_count c.args.self.now.source.now) (args_size c.args.self.now.source.now) (λ x xs. refl) c.args.args.now c.loop-i.i (length c.loop-i.numbers.items) _ refl c.loop-i-test.false c.loop-i.invariant.2
+    count_ended (args_count c.args.self.now.source.now) (args_size c.args.self.now.source.now) (λ x xs. refl) c.args.args.now c.loop-i.i c.loop-i.number _ refl c.loop-i-test.false c.loop-i.invariant.2
 
 pub in_tails-loop-i-preserved : goal.in_tails-loop-i-preserved
 in_tails-loop-i-preserved t c =
     let source = c.args.self.now.source.now in
     let p = place c.args.self.now.file c.args.path.now.items in
-    let n = length c.loop-i.numbers.items in
-    let now = tail_part source (place c.args.self.now.file c.loop-i.path.items) n c.index-tails-i.result in
-    let here : now ≡ tail_part source p n (get_or c.args.tails.now c.loop-i.i c.index-tails-i.result) =
-    ap (λ path. tail_part source (place c.args.self.now.file path) n c.index-tails-i.result) c.loop-i.invariant.0
-    ∙ ap (λ x. tail_part source p n x) c.index-tails-i.is in
-    let next = c.in_ok-in_tail.ensures.after ∙ ap (λ x. n + tail_size source x) c.index-tails-i.is in (
-      c.in_ok-in_tail.ensures.back ∙ c.loop-i.invariant.0,
-      turn (tail_list_parts source p) (tail_part source p) (tail_size source) (λ n x xs. refl) c.args.tails.now c.loop-i.i c.index-tails-i.result n (length c.in_tail.new.numbers.items) (keeper_view c.loop-i.keeper) (keeper_view c.in_tail.new.keeper) _ now c.loop-i-test.true c.in_ok-in_tail.ensures.all here next c.loop-i.invariant.1,
+    let now = tail_part source (place c.args.self.now.file c.loop-i.path.items) c.loop-i.number c.index-tails-i.result in
+    let here : now ≡ tail_part source p c.loop-i.number (get_or c.args.tails.now c.loop-i.i c.index-tails-i.result) =
+    ap (λ path. tail_part source (place c.args.self.now.file path) c.loop-i.number c.index-tails-i.result) c.loop-i.invariant.0
+    ∙ ap (λ x. tail_part source p c.loop-i.number x) c.index-tails-i.is in
+    let next = c.in_ok-number.ensures.after ∙ ap (λ x. c.loop-i.number + tail_size source x) c.index-tails-i.is in (
+      c.in_ok-number.ensures.back ∙ c.loop-i.invariant.0,
+      turn (tail_list_parts source p) (tail_part source p) (tail_size source) (λ n x xs. refl) c.args.tails.now c.loop-i.i c.index-tails-i.result c.loop-i.number c.in_ok-number.number (keeper_view c.loop-i.keeper) (keeper_view c.in_tail.new.keeper) _ now c.loop-i-test.true c.in_ok-number.ensures.all here next c.loop-i.invariant.1,
     )
 
 pub in_operands-loop-i-preserved : goal.in_operands-loop-i-preserved
 in_operands-loop-i-preserved t c =
     let source = c.args.self.now.source.now in
-    let n = c.loop-i.i + 1 in
     let p = place c.args.self.now.file c.args.path.now.items in
     let q = place c.args.self.now.file c.loop-i.path.items in
     let x = get_or c.args.operands.now c.loop-i.i c.index-operands-i.result in
-    let found = expression_parts (child q n) (expr_view source x.value) in
-    let here : found ≡ row_part source p n x =
-    ap (λ e. expression_parts (child q n) e) (sym (operand_value source x))
-    ∙ ap (λ path. row_part source (place c.args.self.now.file path) n x) c.loop-i.invariant.0 in (
+    let found = expression_parts (child q c.loop-i.number) (expr_view source x.value) in
+    let here : found ≡ row_part source p c.loop-i.number x =
+    ap (λ e. expression_parts (child q c.loop-i.number) e) (sym (operand_value source x))
+    ∙ ap (λ path. row_part source (place c.args.self.now.file path) c.loop-i.number x) c.loop-i.invariant.0 in (
       c.in_ok-in_child.ensures.back ∙ c.loop-i.invariant.0,
-      turn (row_parts source p) (row_part source p) (λ y. 1) (λ n y ys. refl) c.args.operands.now c.loop-i.i c.index-operands-i.result n (n + 1)
-          (keeper_view c.loop-i.keeper) (keeper_view c.in_child.new.keeper) _ found c.loop-i-test.true c.in_ok-in_child.ensures.all here refl c.loop-i.invariant.1,
+      turn (row_parts source p) (row_part source p) (λ y. 1) (λ n y ys. refl) c.args.operands.now c.loop-i.i c.index-operands-i.result c.loop-i.number c.in_ok-number.number
+          (keeper_view c.loop-i.keeper) (keeper_view c.in_child.new.keeper) _ found c.loop-i-test.true c.in_ok-in_child.ensures.all here c.in_ok-number.ensures c.loop-i.invariant.1,
     )
 
 pub in_expr-returns-in_ok-in_operands-in-Row-clause-all : goal.in_expr-returns-in_ok-in_operands-in-Row-clause-all
@@ -81,16 +77,11 @@ in_expr-returns-in_ok-in_tails-in-Postfix-clause-all t c =
     let file = c.args.self.now.file in
     let p = place file c.args.path.now.items in
     let before = keeper_view c.args.keeper.now in
-    let middle = keeper_view c.in_next.new.keeper in
-    let none : length c.new-numbers.result.items ≡ 0 = ap length c.new-numbers.ensures.items in
-    let one : length c.in_next.new.numbers.items ≡ 1 = c.in_ok-in_next-in-Postfix.ensures.after ∙ ap (λ n. n + 1) none in
+    let middle = keeper_view c.in_child-in-Postfix.new.keeper in
     two_parts before middle _ (expression_parts (child p 0) (expr_view source c.in-Postfix.base)) (tail_list_parts source p 1 c.in-Postfix.tails)
-    (c.in_ok-in_next-in-Postfix.ensures.all
-    ∙ ap (λ n. with_parts before (expression_parts (child p n) (expr_view source c.get-in-Postfix.result.now))) none
-    ∙ ap (λ x. with_parts before (expression_parts (child p 0) (expr_view source x))) c.get-in-Postfix.ensures)
+    (c.in_ok-in_child-in-Postfix.ensures.all ∙ ap (λ x. with_parts before (expression_parts (child p 0) (expr_view source x))) c.get-in-Postfix.ensures)
     (c.in_ok-in_tails-in-Postfix.ensures.all
-    ∙ ap (λ path. with_parts middle (tail_list_parts source (place file path) (length c.in_next.new.numbers.items) c.get-in-Postfix-2.result.now)) c.in_ok-in_next-in-Postfix.ensures.back
-    ∙ ap (λ n. with_parts middle (tail_list_parts source p n c.get-in-Postfix-2.result.now)) one
+    ∙ ap (λ path. with_parts middle (tail_list_parts source (place file path) 1 c.get-in-Postfix-2.result.now)) c.in_ok-in_child-in-Postfix.ensures.back
     ∙ ap (λ xs. with_parts middle (tail_list_parts source p 1 xs)) c.get-in-Postfix-2.ensures)
     ∙ ap (with_parts before) (sym (ap (parts_within p) (postfix_view source c.in-Postfix.span c.in-Postfix.base c.in-Postfix.tails)))
     ∙ ap (λ x. with_parts before (parts_within p (expr_view source x))) (sym c.in-Postfix.is)
@@ -116,19 +107,18 @@ in_expr-returns-in_ok-in_child-in-Conditional-3-clause-all t c =
     ∙ ap (with_parts before) (sym (ap (parts_within p) (conditional_view source c.in-Conditional.span c.in-Conditional.condition c.in-Conditional.yes c.in-Conditional.no)))
     ∙ ap (λ x. with_parts before (parts_within p (expr_view source x))) (sym c.in-Conditional.is)
 
-pub in_arg-returns-in_ok-in_next-in-Pair-2-clause-all : goal.in_arg-returns-in_ok-in_next-in-Pair-2-clause-all
-in_arg-returns-in_ok-in_next-in-Pair-2-clause-all t c =
+pub in_arg-returns-in_ok-after-in-Pair-clause-all : goal.in_arg-returns-in_ok-after-in-Pair-clause-all
+in_arg-returns-in_ok-after-in-Pair-clause-all t c =
     let source = c.args.self.now.source.now in
     let file = c.args.self.now.file in
     let p = place file c.args.path.now.items in
-    let n = length c.args.numbers.now.items in
     let before = keeper_view c.args.keeper.now in
-    let middle = keeper_view c.in_next-in-Pair.new.keeper in
-    two_parts before middle _ (expression_parts (child p n) (expr_view source c.in-Pair.key)) (expression_parts (child p (n + 1)) (expr_view source c.in-Pair.value))
-    (c.in_ok-in_next-in-Pair.ensures.all ∙ ap (λ x. with_parts before (expression_parts (child p n) (expr_view source x))) c.get.ensures)
-    (c.in_ok-in_next-in-Pair-2.ensures.all
-    ∙ ap (λ path. with_parts middle (expression_parts (child (place file path) (length c.in_next-in-Pair.new.numbers.items)) (expr_view source c.get-in-Pair.result.now))) c.in_ok-in_next-in-Pair.ensures.back
-    ∙ ap (λ n. with_parts middle (expression_parts (child p n) (expr_view source c.get-in-Pair.result.now))) c.in_ok-in_next-in-Pair.ensures.after
-    ∙ ap (λ x. with_parts middle (expression_parts (child p (n + 1)) (expr_view source x))) c.get-in-Pair.ensures)
-    ∙ ap (with_parts before) (sym (ap (argument_parts p n) (pair_view source c.in-Pair.span c.in-Pair.key c.in-Pair.value)))
-    ∙ ap (λ x. with_parts before (argument_parts p n (arg_view source x))) (sym c.in-Pair.is)
+    let middle = keeper_view c.in_child-in-Pair.new.keeper in
+    two_parts before middle _ (expression_parts (child p c.args.number) (expr_view source c.in-Pair.key)) (expression_parts (child p (c.args.number + 1)) (expr_view source c.in-Pair.value))
+    (c.in_ok-in_child-in-Pair.ensures.all ∙ ap (λ x. with_parts before (expression_parts (child p c.args.number) (expr_view source x))) c.get.ensures)
+    (c.in_ok-in_child-in-Pair-2.ensures.all
+    ∙ ap (λ path. with_parts middle (expression_parts (child (place file path) c.in_ok-second-in-Pair.second) (expr_view source c.get-in-Pair.result.now))) c.in_ok-in_child-in-Pair.ensures.back
+    ∙ ap (λ n. with_parts middle (expression_parts (child p n) (expr_view source c.get-in-Pair.result.now))) c.in_ok-second-in-Pair.ensures
+    ∙ ap (λ x. with_parts middle (expression_parts (child p (c.args.number + 1)) (expr_view source x))) c.get-in-Pair.ensures)
+    ∙ ap (with_parts before) (sym (ap (argument_parts p c.args.number) (pair_view source c.in-Pair.span c.in-Pair.key c.in-Pair.value)))
+    ∙ ap (λ x. with_parts before (argument_parts p c.args.number (arg_view source x))) (sym c.in-Pair.is)

@@ -1,4 +1,4 @@
-use Rattle.std.proofs.Common.{◌≡◌, ◌+◌, drop, length}
+use Rattle.std.proofs.Common.{◌≡◌, ◌+◌, drop}
 use Rattle.meson_calls.specs.Project.{place}
 use Rattle.meson_calls.specs.Walks.{keeper_view, with_parts}
 use Rattle.meson_calls.proofs.ListTurns.{args_parts, args_count, row_parts, tail_list_parts}
@@ -7,18 +7,18 @@ use Rattle.meson_calls.proofs.part.Walk.+walk.Given as goal
 abbrev pub invariant-in_args-loop-i : goal.invariant-in_args-loop-i
 invariant-in_args-loop-i l =
     (l.path.items ≡ l.fn.path.items)
-    × (with_parts (keeper_view l.keeper) (args_parts l.self.source.now (place l.self.file l.fn.path.items) (length l.numbers.items) (drop l.i l.args))
-    ≡ with_parts (keeper_view l.fn.keeper) (args_parts l.self.source.now (place l.self.file l.fn.path.items) (length l.fn.numbers.items) l.args))
-    × (length l.numbers.items + args_count l.self.source.now (drop l.i l.args) ≡ length l.fn.numbers.items + args_count l.self.source.now l.args)
+    × (with_parts (keeper_view l.keeper) (args_parts l.self.source.now (place l.self.file l.fn.path.items) l.number (drop l.i l.args))
+    ≡ with_parts (keeper_view l.fn.keeper) (args_parts l.self.source.now (place l.self.file l.fn.path.items) l.first l.args))
+    × (l.number + args_count l.self.source.now (drop l.i l.args) ≡ l.first + args_count l.self.source.now l.args)
 
 abbrev pub invariant-in_operands-loop-i : goal.invariant-in_operands-loop-i
 invariant-in_operands-loop-i l =
     (l.path.items ≡ l.fn.path.items)
-    × (with_parts (keeper_view l.keeper) (row_parts l.self.source.now (place l.self.file l.fn.path.items) (l.i + 1) (drop l.i l.operands))
+    × (with_parts (keeper_view l.keeper) (row_parts l.self.source.now (place l.self.file l.fn.path.items) l.number (drop l.i l.operands))
     ≡ with_parts (keeper_view l.fn.keeper) (row_parts l.self.source.now (place l.self.file l.fn.path.items) 1 l.operands))
 
 abbrev pub invariant-in_tails-loop-i : goal.invariant-in_tails-loop-i
 invariant-in_tails-loop-i l =
     (l.path.items ≡ l.fn.path.items)
-    × (with_parts (keeper_view l.keeper) (tail_list_parts l.self.source.now (place l.self.file l.fn.path.items) (length l.numbers.items) (drop l.i l.tails))
-    ≡ with_parts (keeper_view l.fn.keeper) (tail_list_parts l.self.source.now (place l.self.file l.fn.path.items) (length l.fn.numbers.items) l.tails))
+    × (with_parts (keeper_view l.keeper) (tail_list_parts l.self.source.now (place l.self.file l.fn.path.items) l.number (drop l.i l.tails))
+    ≡ with_parts (keeper_view l.fn.keeper) (tail_list_parts l.self.source.now (place l.self.file l.fn.path.items) 1 l.tails))
