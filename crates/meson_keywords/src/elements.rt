@@ -2,6 +2,7 @@
 
 ghost use Rattle.std.specs.Prelude.{◌≡◌, ◌≢◌, ◌∷◌, [], ◌||◌, Err, IfErr, IfOk, MatchOption, None, Ok, Some, bytes_eq, is_some, map, option_map};
 ghost use Rattle.std.specs.List.{filter_map, list_any};
+ghost use Rattle.std.specs.Str.{IsUtf8};
 ghost use Rattle.meson_syntax.specs.Grammar.{argument_words, expression_words};
 ghost use Rattle.meson_syntax.specs.View.{arg_view, args_view, expr_view};
 ghost use Rattle.meson_calls.specs.Calls.{is, literal};
@@ -13,11 +14,10 @@ ghost use Rattle.meson_steps.specs.Names.{distinct_by};
 ghost use Rattle.meson_calls.specs.Strings.{AreGood};
 ghost use Rattle.meson_keywords.specs.Tasking.{found_view, test_of};
 
-use crate::keys::ElementKind;
+use crate::keys::{ElementKind, key_text};
 use crate::tasks::before_equals;
 use meson_calls::arguments::{count_named, first_named};
 use meson_calls::literals::literal;
-use meson_calls::marks::text_of_name;
 use meson_calls::roles::text_of;
 use meson_calls::{CallRef, Refusal};
 use meson_splice::Text;
@@ -49,14 +49,15 @@ pub(crate) fn the_value<'t>(
     subject: Subject<'t>,
     key: &[u8],
 ) -> Result<Option<Found<'t>>, Refusal>
-    requires { GoodArgs subject.source.now subject.args.now }
+    requires good { GoodArgs subject.source.now subject.args.now }
+    requires utf8 { IsUtf8 key.now }
     ensures good { IfOk result (λ o. MatchOption o (Unit {0}) (λ f. AreGood (expression_words (expr_view subject.entry.source.now f.value.now)))) }
     ensures found { IfOk result (λ o. the_value key.now (args_view subject.entry.source.now subject.entry.args.now) ≡ Ok (option_map (found_view subject.entry.source.now) o)) }
     ensures refused { IfErr result (λ e. e ≢ Refusal.OutOfMemory → the_value key.now (args_view subject.entry.source.now subject.entry.args.now) ≡ Err e) }
 {
     let args = subject.args;
     if count_named(subject.source, args, key) > 1 {
-        let key = text_of_name(alloc, key)?;
+        let key = key_text(alloc, key)?;
         return Err(Refusal::DuplicateKeyword(key));
     }
     match first_named(subject.source, args, key) {

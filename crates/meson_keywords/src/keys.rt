@@ -9,6 +9,20 @@ ghost use Rattle.meson_keywords.specs.Tasking.{AreElements, IsKey};
 use meson_calls::{Refusal, Role};
 use meson_splice::Text;
 use meson_steps::literals::key_of;
+use std::alloc::{AllocError, Global};
+use std::str;
+
+/// The text of a key, which is one.
+pub(crate) fn key_text(alloc: Global, key: &[u8]) -> Result<Text, AllocError>
+    requires { IsUtf8 key.now }
+    ensures { IfOk result (λ text. text ≡ key.now) }
+{
+    let Ok(key) = str::from_utf8(key) else {
+        unreachable!();
+    };
+    let text = String::from_str(alloc, key)?;
+    Ok(Text::of(text))
+}
 
 /// What the elements of a list are.
 #[derive(Clone, Copy)]

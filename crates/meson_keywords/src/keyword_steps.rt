@@ -1,6 +1,7 @@
 //! The steps by which the keyword arguments of a call are changed.
 
 ghost use Rattle.std.specs.Prelude.{◌≡◌, ◌≢◌, ◌<◌, ◌^◌, ◌++◌, ◌∷◌, [], Err, IfErr, IfOk, OnOk, Some, map};
+ghost use Rattle.std.specs.Str.{IsUtf8};
 ghost use Rattle.meson_edit.specs.Edits.{Written};
 ghost use Rattle.meson_syntax.specs.Tree.{Argument, Nowhere};
 ghost use Rattle.meson_syntax.specs.Grammar.{expression_words};
@@ -17,9 +18,8 @@ use crate::elements::{
     Found, Subject, Test, all_known, array_in, is_element, new_values, other_values, passing, says,
     the_value,
 };
-use crate::keys::ElementKind;
+use crate::keys::{ElementKind, key_text};
 use crate::writing::{written_element, written_list, written_named};
-use meson_calls::marks::text_of_name;
 use meson_calls::place::{copy_place, value_place};
 use meson_calls::{CallRef, Refusal};
 use meson_splice::{Bytes, Text};
@@ -96,9 +96,10 @@ pub(crate) fn remove_all(
 
 /// The refusal of a value that can't be changed.
 pub(crate) fn not_literal(alloc: Global, key: &[u8]) -> Refusal
+    requires { IsUtf8 key.now }
     ensures { result ≢ Refusal.OutOfMemory → result ≡ Refusal.NotLiteral key.now }
 {
-    match text_of_name(alloc, key) {
+    match key_text(alloc, key) {
         Ok(key) => Refusal::NotLiteral(key),
         Err(_) => Refusal::OutOfMemory,
     }
@@ -194,7 +195,8 @@ fn add_to_value(
     values: &[&Text],
     steps: &mut Vec<ListStep>,
 ) -> Result<(), Refusal>
-    requires { AreGood (expression_words (expr_view subject.source.now found.value.now)) }
+    requires good { AreGood (expression_words (expr_view subject.source.now found.value.now)) }
+    requires utf8 { IsUtf8 key.now }
     ensures done { OnOk result (AreBehind (add_by_shape subject.entry.call.now found.entry.number key.now kind (map (λ x. x.now) values.now) (text_in kind (expr_view subject.entry.source.now found.entry.value.now)) (shape (expr_view subject.entry.source.now found.entry.value.now))) steps.old.items steps.new.items) }
     ensures refused { IfErr result (λ e. e ≢ Refusal.OutOfMemory → add_by_shape subject.entry.call.now found.entry.number key.now kind (map (λ x. x.now) values.now) (text_in kind (expr_view subject.entry.source.now found.entry.value.now)) (shape (expr_view subject.entry.source.now found.entry.value.now)) ≡ Err e) }
 {
@@ -265,7 +267,8 @@ fn remove_from_array(
     value: &Text,
     steps: &mut Vec<ListStep>,
 ) -> Result<(), Refusal>
-    requires { GoodArgs source.now elements.now }
+    requires good { GoodArgs source.now elements.now }
+    requires utf8 { IsUtf8 key.now }
     ensures done { OnOk result (AreBehind (remove_equal list.now key.now (all_known kind (args_view source.now elements.now)) (passing (says kind value.now) 0 (args_view source.now elements.now))) steps.old.items steps.new.items) }
     ensures refused { IfErr result (λ e. e ≢ Refusal.OutOfMemory → remove_equal list.now key.now (all_known kind (args_view source.now elements.now)) (passing (says kind value.now) 0 (args_view source.now elements.now)) ≡ Err e) }
 {
@@ -290,7 +293,8 @@ fn remove_from_value(
     text: &Text,
     steps: &mut Vec<ListStep>,
 ) -> Result<(), Refusal>
-    requires { AreGood (expression_words (expr_view subject.source.now found.value.now)) }
+    requires good { AreGood (expression_words (expr_view subject.source.now found.value.now)) }
+    requires utf8 { IsUtf8 key.now }
     ensures done { OnOk result (AreBehind (remove_by_shape subject.entry.call.now found.entry.number key.now kind text.now (text_in kind (expr_view subject.entry.source.now found.entry.value.now)) (shape (expr_view subject.entry.source.now found.entry.value.now))) steps.old.items steps.new.items) }
     ensures refused { IfErr result (λ e. e ≢ Refusal.OutOfMemory → remove_by_shape subject.entry.call.now found.entry.number key.now kind text.now (text_in kind (expr_view subject.entry.source.now found.entry.value.now)) (shape (expr_view subject.entry.source.now found.entry.value.now)) ≡ Err e) }
 {

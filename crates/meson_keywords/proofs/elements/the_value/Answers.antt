@@ -18,7 +18,7 @@ unreachable-requires-in-Pair c =
 pub returns-in-Named-clause-good : goal.returns-in-Named-clause-good
 returns-in-Named-clause-good c =
     let s = c.args.subject in
-    good_value s.source.now s.args.now c.in-Some.number c.index-args-number.result c.if-number-args.false c.requires c.in-Named.span c.in-Named.name c.in-Named.value (sym c.index-args-number.is ∙ c.in-Named.is)
+    good_value s.source.now s.args.now c.in-Some.number c.index-args-number.result c.if-number-args.false c.requires.good c.in-Named.span c.in-Named.name c.in-Named.value (sym c.index-args-number.is ∙ c.in-Named.is)
 
 pub returns-in-Named-clause-found : goal.returns-in-Named-clause-found
 returns-in-Named-clause-found c =

@@ -11,7 +11,7 @@ use Rattle.meson_keywords.proofs.StepsBehind.{add_none, behind_result, some_ther
 use Rattle.meson_keywords.proofs.keyword_steps.add_to_value.Goals as goal
 
 pub new_values-requires : goal.new_values-requires
-new_values-requires c = c.in-Some.ensures.good c.args.subject.source.now c.requires
+new_values-requires c = c.in-Some.ensures.good c.args.subject.source.now c.requires.good
 
 pub returns-then-not-branch-clause-refused : goal.returns-then-not-branch-clause-refused
 returns-then-not-branch-clause-refused c = λ other.

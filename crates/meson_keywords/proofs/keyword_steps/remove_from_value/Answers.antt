@@ -10,8 +10,8 @@ use Rattle.meson_keywords.proofs.StepsBehind.{behind_is, lone_gone, lone_kept, l
 use Rattle.meson_keywords.proofs.keyword_steps.remove_from_value.Goals as goal
 use Rattle.meson_keywords.proofs.keyword_steps.remove_from_value.Goals.{then-branch+in_ok-push_edit-in-None, else-branch}
 
-pub remove_from_array-requires : goal.remove_from_array-requires
-remove_from_array-requires c = c.in-Some.ensures.good c.args.subject.source.now c.requires
+pub remove_from_array-requires-clause-good : goal.remove_from_array-requires-clause-good
+remove_from_array-requires-clause-good c = c.in-Some.ensures.good c.args.subject.source.now c.requires.good
 
 pub returns-then-not-branch-clause-refused : goal.returns-then-not-branch-clause-refused
 returns-then-not-branch-clause-refused c = λ other.
