@@ -2,6 +2,7 @@
 
 ghost use Rattle.std.specs.Prelude.{◌≡◌, ◌≢◌, Err, IfErr, IfOk, Ok, Some};
 ghost use Rattle.std.specs.List.{filter_map};
+ghost use Rattle.meson_lex.specs.Kinds.{IsIdentifier};
 ghost use Rattle.meson_syntax.specs.Grammar.{argument_words, expression_words, listing_words};
 ghost use Rattle.meson_syntax.specs.View.{arg_view, args_view, expr_view, list_view};
 ghost use Rattle.meson_calls.specs.Calls.{first_literal};
@@ -17,13 +18,22 @@ use crate::info::call_told;
 use meson_calls::arguments::count_named;
 use meson_calls::literals::{first_literal, literal};
 use meson_calls::marks::text_of_name;
-use meson_calls::roles::text_of;
+use meson_calls::roles::{identifier_text, text_of};
 use meson_calls::{Refusal, Role};
 use meson_keywords::keys::is_key;
 use meson_splice::{Many, Text};
 use meson_steps::spans::span_of;
 use meson_syntax::{Arg, Bracket, Expr, List};
 use std::alloc::{AllocError, Global};
+
+/// The text of an identifier.
+fn name_text(alloc: Global, name: &[u8]) -> Result<Text, AllocError>
+    requires { IsIdentifier name.now }
+    ensures { IfOk result (λ text. text ≡ name.now) }
+{
+    let text = String::from_str(alloc, identifier_text(name))?;
+    Ok(Text::of(text))
+}
 
 /// Whether a call may have hidden arguments.
 fn is_hidden(source: &[u8], arguments: &List) -> bool
@@ -72,13 +82,14 @@ fn literal_in(alloc: Global, source: &[u8], element: &Arg) -> Result<Option<Text
 
 /// The name of an element that is a variable.
 fn variable_in(alloc: Global, source: &[u8], element: &Arg) -> Result<Option<Text>, AllocError>
+    requires { AreGood (argument_words (arg_view source.now element.now)) }
     ensures { IfOk result (λ name. name ≡ variable_in (arg_view source.now element.now)) }
 {
     match element {
-        Arg::Plain(Expr::Identifier(name)) => {
-            Ok(Some(text_of_name(alloc, text_of(source, *name))?))
-        }
-        Arg::Plain(_) => Ok(None),
+        Arg::Plain(value) => match value {
+            Expr::Identifier(name) => Ok(Some(name_text(alloc, text_of(source, *name))?)),
+            _ => Ok(None),
+        },
         Arg::Named { .. } => Ok(None),
         Arg::Pair { .. } => Ok(None),
     }
@@ -109,6 +120,7 @@ fn variables_in(
     source: &[u8],
     elements: &[Arg],
 ) -> Result<Option<Many<Text>>, AllocError>
+    requires { GoodArgs source.now elements.now }
     ensures { IfOk result (λ names. names ≡ of_each variable_in (args_view source.now elements.now)) }
 {
     let mut names = Vec::new(alloc);
@@ -153,7 +165,7 @@ fn shown_value(alloc: Global, source: &[u8], value: &Expr) -> Result<Shown, Allo
     ensures { IfOk result (λ s. s ≡ shown_value source.now (expr_view source.now value.now)) }
 {
     match value {
-        Expr::Identifier(name) => Ok(Shown::Id(text_of_name(alloc, text_of(source, *name))?)),
+        Expr::Identifier(name) => Ok(Shown::Id(name_text(alloc, text_of(source, *name))?)),
         Expr::Boolean { span: _, value } => Ok(Shown::Bool(*value)),
         Expr::String { .. } => match literal(alloc, source, value)? {
             Some(text) => Ok(Shown::Text(Text::of(text))),
@@ -185,7 +197,7 @@ fn shown_argument(
                 return Ok(None);
             }
             let shown = shown_value(alloc, source, value)?;
-            Ok(Some((text_of_name(alloc, key)?, shown)))
+            Ok(Some((name_text(alloc, key)?, shown)))
         }
         Arg::Plain(_) => Ok(None),
         Arg::Pair { .. } => Ok(None),

@@ -1,5 +1,6 @@
 use Rattle.std.proofs.Common.{◌≡◌, sym, ap, ◌∙◌, subst}
 use Rattle.std.proofs.lemmas.Result.{IfOk-weaker}
+use Rattle.meson_lex.specs.Kinds.{IsIdentifier}
 use Rattle.meson_syntax.specs.declared.operator.Bracket.TheVariants as bracket
 use Rattle.meson_syntax.specs.Grammar.{expression_words}
 use Rattle.meson_syntax.specs.Tree.{array}
@@ -8,9 +9,15 @@ use Rattle.meson_calls.specs.GoodLists.{GoodArgs}
 use Rattle.meson_calls.specs.Strings.{AreGood}
 use Rattle.meson_edit.specs.Edits.{elements}
 use Rattle.meson_plan.specs.Details.{literal_in, of_each, shown_list, shown_value, source_text, variable_in}
-use Rattle.meson_calls.proofs.Nested.{array_view, good_args, good_listing}
+use Rattle.meson_calls.proofs.Nested.{name_view, array_view, good_args, good_listing}
 use Rattle.meson_steps.proofs.ArgumentValues.{list_elements}
 use Rattle.meson_plan.proofs.showing.shown_value.Goals as goal
+
+pub name_text-requires : goal.name_text-requires
+name_text-requires c =
+    let source = c.args.source.now in
+    let is = ap (expr_view source) c.in-Identifier.is ∙ name_view source c.in-Identifier.name in
+    subst IsIdentifier (sym c.text_of.ensures) (subst (λ e. AreGood (expression_words e)) is c.requires).0
 
 pub shown_array-requires : goal.shown_array-requires
 shown_array-requires c =
