@@ -53,7 +53,10 @@ impl Undoing {
     /// Puts the change on the past; the next one has no splice yet.
     fn keep(&mut self) -> Result<(), SpliceFault> {
         let change = mem::replace(&mut self.change, no_change(self.alloc));
-        Ok(self.history.keep(change).map_err(AllocError::from)?)
+        match self.history.keep(change) {
+            Ok(()) => Ok(()),
+            Err(unkept) => Err(unkept.fault),
+        }
     }
 
     fn done(&mut self, word: &str, set: &mut FileSet) -> Result<(), SpliceFault> {

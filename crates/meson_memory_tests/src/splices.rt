@@ -3,8 +3,8 @@
 use crate::rows::Row;
 use crate::trial::{Call, Fault, Wrong, each_growth_refused};
 use meson_script::Session;
-use meson_splice::{Change, FileSet, History, Many, SpliceFault, apply_all, revert};
-use std::alloc::{AllocFailed, Global};
+use meson_splice::{Change, FileSet, History, Many, SpliceFault, Unkept, apply_all, revert};
+use std::alloc::Global;
 use std::mem;
 
 impl Fault for SpliceFault {
@@ -90,9 +90,9 @@ impl Call for Keep {
         let none = Change::untitled(alloc, Many::new(alloc));
         match given.history.keep(mem::replace(&mut given.change, none)) {
             Ok(()) => Ok(()),
-            Err(AllocFailed { value }) => {
-                given.change = value;
-                Err(SpliceFault::OutOfMemory)
+            Err(Unkept { change, fault }) => {
+                given.change = change;
+                Err(fault)
             }
         }
     }

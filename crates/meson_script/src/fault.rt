@@ -40,21 +40,6 @@ impl fmt::Display for RunFault {
 
 impl std::error::Error for RunFault {}
 
-impl From<AllocError> for RunFault {
-    ghost use Rattle.std.specs.Prelude.{◌≡◌};
-    ghost use Rattle.meson_calls.specs.declared.refusal.Refusal.TheVariants.{OutOfMemory};
-
-    ghost from_gives = { λ _ e. e ≡ record { index = 0; refusal = OutOfMemory } };
-
-    /// Before any command was performed.
-    fn from(refused: AllocError) -> RunFault {
-        RunFault {
-            index: 0,
-            refusal: Refusal::from(refused),
-        }
-    }
-}
-
 /// Why a change is not undone or redone. Nothing was changed then.
 #[derive(Debug, Drop, PartialEq, Error)]
 pub enum UndoFault {

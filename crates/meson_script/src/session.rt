@@ -52,6 +52,16 @@ fn titles(alloc: Global, title: &str) -> Result<(Text, Text), AllocError>
     Ok((Text::of(kept), Text::of(told)))
 }
 
+/// Want of memory before any command was done.
+fn unmade() -> RunFault
+    ensures { result ≡ record { index = 0; refusal = OutOfMemory } }
+{
+    RunFault {
+        index: 0,
+        refusal: Refusal::OutOfMemory,
+    }
+}
+
 impl Session {
     /// A session on these files, or both handed back where the files are no project.
     pub fn start(alloc: Global, files: FileSet, history: History) -> Result<Session, Unstarted>
@@ -159,16 +169,21 @@ impl Session {
         ensures project { OnOk result (IsProject self.new.project) }
     {
         self.project.reads();
-        let before = self.project.files().copy(alloc)?;
+        let before = match self.project.files().copy(alloc) {
+            Ok(files) => files,
+            Err(_) => return Err(unmade()),
+        };
         let listings = match listed(alloc, &self.project, command) {
             Ok(listings) => listings,
             Err(refusal) => return Err(RunFault { index: 0, refusal }),
         };
-        let (kept, told) = titles(alloc, title)?;
+        let Ok((kept, told)) = titles(alloc, title) else {
+            return Err(unmade());
+        };
         let mut past = mem::replace(&mut self.history.past, Many::new(alloc)).take();
-        if let Err(refused) = past.reserve(1) {
+        if past.reserve(1).is_err() {
             self.history.past = Many::of(past);
-            return Err(RunFault::from(refused));
+            return Err(unmade());
         }
         match self.project.perform(alloc, command) {
             Ok(done) => {
@@ -214,9 +229,8 @@ impl Session {
             Ok(project) => project,
             Err(refusal) => return Err(RunFault { index: 0, refusal }),
         };
-        let (kept, told) = match titles(alloc, title) {
-            Ok(both) => both,
-            Err(refused) => return Err(RunFault::from(refused)),
+        let Ok((kept, told)) = titles(alloc, title) else {
+            return Err(unmade());
         };
         let performed = match perform_all(alloc, &mut project, commands) {
             Ok(performed) => performed,
@@ -233,12 +247,14 @@ impl Session {
             splices: Many::of(performed.splices),
             title: kept,
         };
-        if let Err(unkept) = self.history.keep(change) {
-            let refused = AllocError::from(unkept);
-            return Err(RunFault {
-                index: commands.len(),
-                refusal: Refusal::from(refused),
-            });
+        match self.history.keep(change) {
+            Ok(()) => {}
+            Err(_) => {
+                return Err(RunFault {
+                    index: commands.len(),
+                    refusal: Refusal::OutOfMemory,
+                });
+            }
         }
         self.project = project;
         Ok(report)

@@ -18,7 +18,10 @@ pub(crate) fn taken_back(
     ensures done { IfOk result (λ p. patched_all project.now.files (inverses_of change.now.splices) ≡ Ok p.files) }
     ensures refused { IfErr result (λ f. MayNotChange (patched_all project.now.files (inverses_of change.now.splices)) f) }
 {
-    let mut files = project.files().copy(alloc)?;
+    let mut files = match project.files().copy(alloc) {
+        Ok(files) => files,
+        Err(fault) => return Err(UndoFault::Splice(fault)),
+    };
     match revert(alloc, &mut files, change) {
         Ok(()) => {}
         Err(fault) => return Err(UndoFault::Splice(fault)),
@@ -38,7 +41,10 @@ pub(crate) fn done_again(
     ensures done { IfOk result (λ p. patched_all project.now.files change.now.splices ≡ Ok p.files) }
     ensures refused { IfErr result (λ f. MayNotChange (patched_all project.now.files change.now.splices) f) }
 {
-    let mut files = project.files().copy(alloc)?;
+    let mut files = match project.files().copy(alloc) {
+        Ok(files) => files,
+        Err(fault) => return Err(UndoFault::Splice(fault)),
+    };
     match apply_all(alloc, &mut files, change) {
         Ok(()) => {}
         Err(fault) => return Err(UndoFault::Splice(fault)),

@@ -133,8 +133,10 @@ pub fn apply_all(alloc: Global, files: &mut FileSet, change: &Change) -> Result<
     ensures refused { IfErr result (λ e. e ≢ OutOfMemory → patched_all files.old change.now.splices ≡ Err e) }
     ensures kept { OnErr result (files.new ≡ files.old) }
 {
-    applied(alloc, files, change)?;
-    Ok(())
+    match applied(alloc, files, change) {
+        Ok(_) => Ok(()),
+        Err(fault) => Err(fault),
+    }
 }
 
 /// Takes all splices of a change back, last to first, or none. Copies a file once for each splice at it.
@@ -143,6 +145,8 @@ pub fn revert(alloc: Global, files: &mut FileSet, change: &Change) -> Result<(),
     ensures refused { IfErr result (λ e. e ≢ OutOfMemory → patched_all files.old (inverses_of change.now.splices) ≡ Err e) }
     ensures kept { OnErr result (files.new ≡ files.old) }
 {
-    reverted(alloc, files, change)?;
-    Ok(())
+    match reverted(alloc, files, change) {
+        Ok(_) => Ok(()),
+        Err(fault) => Err(fault),
+    }
 }

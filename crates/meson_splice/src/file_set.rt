@@ -160,15 +160,16 @@ impl FileSet {
     }
 
     /// An equal file set.
-    pub fn copy(&self, alloc: Global) -> Result<FileSet, AllocError>
+    pub fn copy(&self, alloc: Global) -> Result<FileSet, SpliceFault>
         ensures copied { IfOk result (λ s. s ≡ self.now) }
         ensures distinct { IfOk result IsDistinct }
+        ensures refused { IfErr result (λ e. e ≡ SpliceFault.OutOfMemory) }
     {
         let mut files = Vec::with_capacity(alloc, self.files.len())?;
         for file in self.files.iter() {
             let name = file.name.clone()?;
             let bytes = file.bytes.clone()?;
-            files.push(File { name, bytes })?;
+            files.push(File { name, bytes }).map_err(AllocError::from)?;
         }
         Ok(FileSet { files })
     }

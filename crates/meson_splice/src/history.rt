@@ -17,6 +17,24 @@ pub struct History {
     pub future: Many<Change>,
 }
 
+/// A change that was not kept, with the reason.
+#[derive(Debug, Drop)]
+pub struct Unkept {
+    pub change: Change,
+    pub fault: SpliceFault,
+}
+
+impl From<AllocFailed<Change>> for Unkept {
+    ghost from_gives = { λ refused u. u ≡ record { change = refused.value; fault = OutOfMemory } };
+
+    fn from(refused: AllocFailed<Change>) -> Unkept {
+        Unkept {
+            change: refused.value,
+            fault: SpliceFault::OutOfMemory,
+        }
+    }
+}
+
 impl History {
     /// No changes. Takes no memory.
     pub fn new(alloc: Global) -> Self
@@ -35,11 +53,10 @@ impl History {
         (self.past.get().len(), self.future.get().len())
     }
 
-    /// Puts a change that was done on the past. What was undone can't be redone from then on. Hands the change back where
-    /// memory is refused.
-    pub fn keep(&mut self, change: Change) -> Result<(), AllocFailed<Change>>
+    /// Puts a change that was done on the past. What was undone can't be redone from then on.
+    pub fn keep(&mut self, change: Change) -> Result<(), Unkept>
         ensures ok { OnOk result (self.new ≡ record { past = self.old.past ++ change ∷ []; future = [] }) }
-        ensures err { IfErr result (λ refused. refused.value ≡ change) }
+        ensures err { IfErr result (λ u. u ≡ record { change = change; fault = OutOfMemory }) }
         ensures kept { OnErr result (self.new ≡ self.old) }
     {
         self.past.push(change)?;

@@ -11,6 +11,6 @@ mod splice;
 pub use change::{Change, apply_all, revert};
 pub use fault::SpliceFault;
 pub use file_set::{File, FileSet, PushFault, Unpushed};
-pub use history::History;
+pub use history::{History, Unkept};
 pub use meson_values::{Bytes, Many, Text};
 pub use splice::{Splice, apply, inverse};

@@ -33,5 +33,5 @@ returns-in-Err-keep-clause-index c =
     let all = reaches-all c.in-Ok.project c.perform_all.new.project c.args.commands.now p.splices.items p.relexed (map view p.listings.items) c.in-Ok-perform_all.ensures.done in
     subst (λ old. Reaches old c.args.commands.now (length c.args.commands.now)) c.in-Ok.ensures.copied all
 
-pub returns-in-Err-titles-clause-index : goal.returns-in-Err-titles-clause-index
-returns-in-Err-titles-clause-index c = reaches-none c.args.self.now.project c.args.commands.now c.from.result.index (ap (λ f. f.index) c.from.ensures)
+pub returns-in_default-clause-index : goal.returns-in_default-clause-index
+returns-in_default-clause-index c = reaches-none c.args.self.now.project c.args.commands.now c.unmade.result.index (ap (λ f. f.index) c.unmade.ensures)

@@ -8,14 +8,14 @@ use Rattle.meson_plan.proofs.SplicesDone.{performs-patch}
 use Rattle.meson_script.proofs.RunFacts.{change-names, names, one-run, one-stops, told-refused}
 use Rattle.meson_script.proofs.session.Session.run_one.Goals as goal
 
-pub returns-in-Err-clause-refused : goal.returns-in-Err-clause-refused
-returns-in-Err-clause-refused c = λ other.
-    one-stops c.args.self.now.project c.args.command.now c.in-Err.refusal c.reads.ensures (told-refused c.args.self.now.project c.args.command.now c.in-Err.refusal (c.in-Err.ensures.refused other))
+pub returns-in-Err-listed-clause-refused : goal.returns-in-Err-listed-clause-refused
+returns-in-Err-listed-clause-refused c = λ other.
+    one-stops c.args.self.now.project c.args.command.now c.in-Err-listed.refusal c.reads.ensures (told-refused c.args.self.now.project c.args.command.now c.in-Err-listed.refusal (c.in-Err-listed.ensures.refused other))
 
 pub count_differing-requires : goal.count_differing-requires
 count_differing-requires c =
     let old = c.args.self.now.project in
-    ap names (c.in_ok-before.ensures.copied ∙ c.files.ensures)
+    ap names (c.in-Ok.ensures.copied ∙ c.files.ensures)
     ∙ change-names old.files c.in-Ok-perform.done.change.splices c.perform.new.self.files (performs-patch old c.args.command.now c.in-Ok-perform.done c.perform.new.self c.in-Ok-perform.ensures.done)
     ∙ ap names (sym c.files-in-Ok-perform.ensures)
 
@@ -24,19 +24,19 @@ returns-in-Ok-perform-clause-done c =
     let old = c.args.self.now in
     let done = c.in-Ok-perform.done in
     let made : Change = record { splices = done.change.splices; title = c.args.title.now } in
-    let pushed : Change = record { splices = done.change.splices; title = c.in_ok-kept.kept } in
-    let is : pushed ≡ made = ap (λ both. let x : Change = record { splices = done.change.splices; title = both.0 } in x) c.in_ok-kept.ensures in
+    let pushed : Change = record { splices = done.change.splices; title = c.in-Ok-titles.kept } in
+    let is : pushed ≡ made = ap (λ both. let x : Change = record { splices = done.change.splices; title = both.0 } in x) c.in-Ok-titles.ensures in
     let past : c.of-in-Ok-perform.result ≡ old.history.past ++ made ∷ [] =
     c.of-in-Ok-perform.ensures ∙ c.push_reserved.ensures.items ∙ ap (λ cs. cs ++ pushed ∷ []) (c.reserve.ensures.items ∙ c.take-past.ensures ∙ c.replace.ensures.value) ∙ ap (λ x. old.history.past ++ x ∷ []) is in
     record {
       splices = done.change.splices;
-      listings = map view c.in-Ok.listings.items;
-      runs = one-run old.project c.perform.new.self c.args.command.now done (map view c.in-Ok.listings.items) c.reads.ensures c.in-Ok.ensures.told c.in-Ok-perform.ensures.done;
+      listings = map view c.in-Ok-listed.listings.items;
+      runs = one-run old.project c.perform.new.self c.args.command.now done (map view c.in-Ok-listed.listings.items) c.reads.ensures c.in-Ok-listed.ensures.told c.in-Ok-perform.ensures.done;
       kept = ap₂ (λ before behind. let h : History = record { past = before; future = behind } in h) past c.clear.ensures;
-      files = c.count_differing.ensures ∙ ap₂ differing (c.in_ok-before.ensures.copied ∙ c.files.ensures) c.files-in-Ok-perform.ensures;
+      files = c.count_differing.ensures ∙ ap₂ differing (c.in-Ok.ensures.copied ∙ c.files.ensures) c.files-in-Ok-perform.ensures;
       count = ap length c.get.ensures;
-      info = view-Array c.in-Ok.listings;
-      is_title = ap (λ both. both.1) c.in_ok-kept.ensures;
+      info = view-Array c.in-Ok-listed.listings;
+      is_title = ap (λ both. both.1) c.in-Ok-titles.ensures;
     }
 
 pub returns-clause-refused : goal.returns-clause-refused
