@@ -158,7 +158,10 @@ fn options_entry(alloc: Global, index: usize, entry: &Value) -> Result<Command, 
     };
     let none = Map::new(alloc);
     let members = members_or(alloc, index, entry, "options", &none)?;
-    options_command(alloc, index, operation, members)
+    match options_command(alloc, index, operation, members) {
+        Ok(command) => Ok(command),
+        Err(fault) => Err(fault),
+    }
 }
 
 /// The command of an entry.

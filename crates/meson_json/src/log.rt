@@ -318,8 +318,14 @@ fn history_from(alloc: Global, value: &Value) -> Result<History, ScriptFault>
     let Some(version) = version_of(number) else {
         return Err(ScriptFault::BadLog);
     };
-    let future = changes_at(alloc, version, value, "future")?;
-    let past = changes_at(alloc, version, value, "past")?;
+    let future = match changes_at(alloc, version, value, "future") {
+        Ok(future) => future,
+        Err(fault) => return Err(fault),
+    };
+    let past = match changes_at(alloc, version, value, "past") {
+        Ok(past) => past,
+        Err(fault) => return Err(fault),
+    };
     Ok(History { past, future })
 }
 
@@ -334,8 +340,16 @@ pub fn read_log(alloc: Global, bytes: &[u8]) -> Result<History, ScriptFault>
     ensures refused { IfErr result (λ e. e ≢ OutOfMemory → (e ≡ BadLog) × (logged bytes.now ≡ None)) }
 {
     match Value::from_slice(alloc, bytes) {
-        Ok(value) => history_from(alloc, &value),
-        Err(error) if error.is_memory() => Err(ScriptFault::OutOfMemory),
-        Err(_) => Err(ScriptFault::BadLog),
+        Ok(value) => match history_from(alloc, &value) {
+            Ok(history) => Ok(history),
+            Err(fault) => Err(fault),
+        },
+        Err(error) => {
+            if error.is_memory() {
+                Err(ScriptFault::OutOfMemory)
+            } else {
+                Err(ScriptFault::BadLog)
+            }
+        }
     }
 }

@@ -33,7 +33,7 @@ pub(crate) fn bad_field(alloc: Global, index: usize, name: &str) -> ScriptFault
 {
     match owned(alloc, name) {
         Ok(name) => ScriptFault::BadField(index, name),
-        Err(refused) => ScriptFault::from(refused),
+        Err(_) => ScriptFault::OutOfMemory,
     }
 }
 

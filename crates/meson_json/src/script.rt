@@ -11,7 +11,7 @@ use crate::fault::ScriptFault;
 use meson_splice::Many;
 use meson_steps::command::Command;
 use serde_json::Value;
-use std::alloc::{AllocError, Global};
+use std::alloc::Global;
 
 /// How many entries a script may have.
 pub const MAX_COMMANDS: usize = 4096;
@@ -33,14 +33,20 @@ impl Script {
     {
         match Value::from_str(alloc, text) {
             Ok(value) => script_from(alloc, &value),
-            Err(error) if error.is_memory() => Err(ScriptFault::OutOfMemory),
-            Err(_) => Err(ScriptFault::NotJson),
+            Err(error) => {
+                if error.is_memory() {
+                    Err(ScriptFault::OutOfMemory)
+                } else {
+                    Err(ScriptFault::NotJson)
+                }
+            }
         }
     }
 
     /// The script of one command. Drops the command where memory is refused.
-    pub fn of(alloc: Global, command: Command) -> Result<Script, AllocError>
-        ensures { IfOk result (λ s. s.commands ≡ command ∷ []) }
+    pub fn of(alloc: Global, command: Command) -> Result<Script, ScriptFault>
+        ensures ok { IfOk result (λ s. s.commands ≡ command ∷ []) }
+        ensures refused { IfErr result (λ e. e ≡ OutOfMemory) }
     {
         let mut commands = Vec::new(alloc);
         commands.push(command)?;

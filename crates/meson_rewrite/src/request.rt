@@ -89,7 +89,10 @@ fn script_of_one(alloc: Global, command: Command) -> Result<Script, Stop>
     ensures ok { IfOk result (λ s. s ≡ script (command ∷ [])) }
     ensures none { IfErr result WantsMemory }
 {
-    Ok(Script::of(alloc, command)?)
+    match Script::of(alloc, command) {
+        Ok(script) => Ok(script),
+        Err(fault) => Err(Stop::Script(fault)),
+    }
 }
 
 /// What an action asks for; a run keeps its change under the title.

@@ -17,11 +17,11 @@ no_log : (bs : List ℕ) → (IsUtf8 bs → read bs ≡ None) → logged bs ≡ 
 unfolding logged
 no_log bs unread = no_log_by (is_utf8 bs) bs refl unread
 
-pub returns-in-Ok-clause-ok : goal.returns-in-Ok-clause-ok
+pub returns-in-Ok-history_from-clause-ok : goal.returns-in-Ok-history_from-clause-ok
 unfolding logged
-returns-in-Ok-clause-ok c =
-    rw (is_utf8-from_IsUtf8 c.args.bytes.now c.in-Ok.ensures.ok.0, c.in-Ok.ensures.ok.1) c.history_from.ensures.ok
+returns-in-Ok-history_from-clause-ok c =
+    rw (is_utf8-from_IsUtf8 c.args.bytes.now c.in-Ok.ensures.ok.0, c.in-Ok.ensures.ok.1) c.in-Ok-history_from.ensures.ok
 
-pub returns-in-Err-2-clause-refused : goal.returns-in-Err-2-clause-refused
-returns-in-Err-2-clause-refused c = λ _.
+pub returns-clause-refused : goal.returns-clause-refused
+returns-clause-refused c = λ _.
     (refl, no_log c.args.bytes.now (c.in-Err.ensures.err (λ m. not_both c.is_memory.result (c.is_memory.ensures.1 m) c.if-is_memory.false)))
