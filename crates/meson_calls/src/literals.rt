@@ -31,7 +31,10 @@ pub fn literal(alloc: Global, source: &[u8], expr: &Expr) -> Result<Option<Strin
 {
     match expr {
         Expr::String { span, kind } => {
-            literal_value(alloc, text_of(source, *span), token_kind(*kind))
+            match literal_value(alloc, text_of(source, *span), token_kind(*kind)) {
+                Ok(text) => Ok(text),
+                Err(_) => Err(AllocError),
+            }
         }
         _ => Ok(None),
     }

@@ -1,5 +1,6 @@
 // What the calls of this crate answer where they have no result.
 use std::fmt;
+use thiserror::Error;
 
 /// Why no item can be read, with the offset of the byte in the source.
 #[derive(Clone, Copy, Debug, PartialEq, Eq)]
@@ -31,3 +32,10 @@ impl fmt::Display for LexFault {
 }
 
 impl std::error::Error for LexFault {}
+
+/// Why no literal could be read or written.
+#[derive(Clone, Copy, Debug, PartialEq, Eq, Error)]
+pub enum LiteralFault {
+    #[error("out of memory")]
+    OutOfMemory,
+}

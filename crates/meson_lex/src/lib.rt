@@ -16,7 +16,7 @@ mod source;
 mod strings;
 mod words;
 
-pub use fault::LexFault;
+pub use fault::{LexFault, LiteralFault};
 pub use iter::Items;
 pub use kinds::{Item, Kind, Span};
 pub use literals::{literal_value, write_literal};

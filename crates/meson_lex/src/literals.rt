@@ -8,6 +8,7 @@ ghost use Rattle.meson_lex.specs.Kinds.{IsString};
 ghost use Rattle.meson_lex.specs.Literals.{written, literal, unescaped, value};
 
 use crate::escapes::escape;
+use crate::fault::LiteralFault;
 use crate::kinds::Kind;
 use std::alloc::{AllocError, Global};
 
@@ -54,15 +55,20 @@ fn multiline_value(alloc: Global, token: &[u8]) -> Result<Option<String>, AllocE
 /// The text that a string stands for, from the string's bytes, quotes and all.
 ///
 /// It is none where the string is opaque: a format string, one with `\N{` or with the number of no character, and bytes that are not UTF-8.
-pub fn literal_value(alloc: Global, token: &[u8], kind: Kind) -> Result<Option<String>, AllocError>
+pub fn literal_value(
+    alloc: Global,
+    token: &[u8],
+    kind: Kind,
+) -> Result<Option<String>, LiteralFault>
     requires { IsString kind token.now }
     ensures { IfOk result (λ text. option_map string_bytes text ≡ value kind token.now) }
 {
-    match kind {
+    let value = match kind {
         Kind::PlainString => plain_value(alloc, token),
         Kind::MultilineString => multiline_value(alloc, token),
         _ => Ok(None),
-    }
+    };
+    value.map_err(|_| LiteralFault::OutOfMemory)
 }
 
 /// A digit of base 16, where the number is below 16.
@@ -105,8 +111,8 @@ fn written_literal(alloc: Global, text: &[u8]) -> Result<Vec<u8>, AllocError>
 }
 
 /// The plain string, quotes and all, that is written for a text.
-pub fn write_literal(alloc: Global, text: &str) -> Result<Vec<u8>, AllocError>
+pub fn write_literal(alloc: Global, text: &str) -> Result<Vec<u8>, LiteralFault>
     ensures { IfOk result (λ token. token.items ≡ literal text.now) }
 {
-    written_literal(alloc, text.as_bytes())
+    written_literal(alloc, text.as_bytes()).map_err(|_| LiteralFault::OutOfMemory)
 }
