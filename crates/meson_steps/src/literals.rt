@@ -24,9 +24,13 @@ pub fn push_literal(alloc: Global, to: &mut Vec<u8>, text: &str) -> Result<(), R
     ensures utf8 { IsUtf8 text.now }
     ensures refused { IfErr result (λ e. e ≡ Refusal.OutOfMemory) }
 {
-    let token = write_literal(alloc, text)?;
-    to.extend_from_slice(token.as_slice())?;
-    Ok(())
+    match write_literal(alloc, text) {
+        Ok(token) => {
+            to.extend_from_slice(token.as_slice())?;
+            Ok(())
+        }
+        Err(_) => Err(Refusal::OutOfMemory),
+    }
 }
 
 /// The literal of a text.
