@@ -1,5 +1,5 @@
 -- The parts of a statement over a source; statements and branches.
-use Rattle.std.proofs.Common.{rules, ◌≡◌, ℕ, List, ◌∷◌, refl}
+use Rattle.std.proofs.Common.{rules, ◌≡◌, ℕ, ◌*◌, List, [], ◌∷◌, length, refl, arith}
 use Rattle.std.specs.Prelude.{Option, Some, None}
 use Rattle.meson_lex.specs.declared.kinds.Span.{Span}
 use Rattle.meson_syntax.specs.declared.tree.Expr.{Expr}
@@ -32,6 +32,12 @@ module _ (source : List ℕ) where
 
   abbrev pub branches_count : List Branch → ℕ
   branches_count bs = branches_children (branches_of (branches_view source bs))
+
+  pub two_each : (bs : List Branch) → 2 * length bs ≡ branches_count bs
+  two_each [] = refl
+  two_each (b ∷ bs) =
+      let others = two_each bs in
+      omega (arith, others)
 
   module _ (p : CallRef) where
     abbrev pub list_parts : ℕ → List Stmt → List (Placed (Part Span))

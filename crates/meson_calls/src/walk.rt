@@ -13,7 +13,7 @@ use meson_syntax::{Arg, Expr, List, Operand, Tail};
 use std::alloc::AllocError;
 
 /// The number after some others. No file has so many parts that there is none.
-pub(crate) fn next(number: usize, more: usize) -> Result<usize, AllocError>
+fn next(number: usize, more: usize) -> Result<usize, AllocError>
     ensures { IfOk result (λ n. n ≡ number + more) }
 {
     match number.checked_add(more) {
@@ -169,10 +169,8 @@ impl<'t> Walk<'t> {
         ensures all { OnOk result (Keeps keeper.old
             (operands_parts (place self.now.file path.old.items) 1 (operands_of (operands_view self.now.source.now operands.now))) keeper.new) }
     {
-        let mut number = 1;
         for i in 0..operands.len() {
-            self.in_child(number, &operands[i].value, path, keeper)?;
-            number = next(number, 1)?;
+            self.in_child(i + 1, &operands[i].value, path, keeper)?;
         }
         Ok(())
     }

@@ -1,16 +1,15 @@
 //! The way through the statements of files.
 
-ghost use Rattle.std.specs.Prelude.{◌≡◌, ◌+◌, IfOk, OnOk, length};
+ghost use Rattle.std.specs.Prelude.{◌≡◌, ◌*◌, ◌<◌, ◌^◌, OnOk, length};
 ghost use Rattle.meson_syntax.specs.Tree.{branches_of, statements_of};
 ghost use Rattle.meson_syntax.specs.View.{stmt_view, stmts_view, block_view, branch_view, branches_view, view};
 ghost use Rattle.meson_calls.specs.Loading.{named_trees, views};
 ghost use Rattle.meson_calls.specs.Project.{place, child};
-ghost use Rattle.meson_calls.specs.Parts.{statement_parts, statements_parts, block_parts, branches_parts, otherwise_parts, branches_children, file_parts, parts};
+ghost use Rattle.meson_calls.specs.Parts.{statement_parts, statements_parts, block_parts, branches_parts, otherwise_parts, file_parts, parts};
 ghost use Rattle.meson_calls.specs.Walks.{Keeps, else_view, branch_parts, parts_inside};
 
 use crate::keeper::Keeper;
 use crate::part::{Part, Walk};
-use crate::walk::next;
 use meson_splice::FileSet;
 use meson_syntax::{Block, Branch, Parsed, Stmt};
 use std::alloc::{AllocError, Global};
@@ -56,8 +55,9 @@ impl<'t> Walk<'t> {
                 otherwise,
                 ..
             } => {
-                let number = self.in_branches(branches.get(), path, keeper)?;
-                self.in_otherwise(number, otherwise, path, keeper)?;
+                let branches = branches.get();
+                self.in_branches(branches, path, keeper)?;
+                self.in_otherwise(2 * branches.len(), otherwise, path, keeper)?;
                 Ok(())
             }
             Stmt::Foreach { items, body, .. } => {
@@ -106,27 +106,25 @@ impl<'t> Walk<'t> {
         Ok(())
     }
 
-    /// Visits those of conditions and the blocks behind them, and gives the number after theirs.
+    /// Visits those of conditions and the blocks behind them.
     #[cycle(statements)]
     fn in_branches(
         &self,
         branches: &'t [Branch],
         path: &mut Vec<usize>,
         keeper: &mut Keeper<'t>,
-    ) -> Result<usize, AllocError>
+    ) -> Result<(), AllocError>
         ensures back { OnOk result (path.new.items ≡ path.old.items) }
         ensures all { OnOk result (Keeps keeper.old
             (branches_parts (place self.now.file path.old.items) 0 (branches_of (branches_view self.now.source.now branches.now))) keeper.new) }
-        ensures after { IfOk result (λ n. n ≡ branches_children (branches_of (branches_view self.now.source.now branches.now))) }
     {
-        let mut number = 0;
         for i in 0..branches.len() {
-            number = self.in_branch(number, &branches[i], path, keeper)?;
+            self.in_branch(i, &branches[i], path, keeper)?;
         }
-        Ok(number)
+        Ok(())
     }
 
-    /// Visits those of one condition and the block behind it, and gives the number after theirs.
+    /// Visits those of the n-th condition and the block behind it.
     #[cycle(statements)]
     fn in_branch(
         &self,
@@ -134,17 +132,15 @@ impl<'t> Walk<'t> {
         branch: &'t Branch,
         path: &mut Vec<usize>,
         keeper: &mut Keeper<'t>,
-    ) -> Result<usize, AllocError>
+    ) -> Result<(), AllocError>
+        requires { number < 2 ^ 63 }
         ensures back { OnOk result (path.new.items ≡ path.old.items) }
         ensures all { OnOk result (Keeps keeper.old
-            (branch_parts (place self.now.file path.old.items) number (branch_view self.now.source.now branch.now)) keeper.new) }
-        ensures after { IfOk result (λ n. n ≡ number + 2) }
+            (branch_parts (place self.now.file path.old.items) (2 * number) (branch_view self.now.source.now branch.now)) keeper.new) }
     {
-        self.in_child(number, &branch.condition, path, keeper)?;
-        let second = next(number, 1)?;
-        self.in_block(second, &branch.block, path, keeper)?;
-        let after = next(number, 2)?;
-        Ok(after)
+        self.in_child(2 * number, &branch.condition, path, keeper)?;
+        self.in_block(2 * number + 1, &branch.block, path, keeper)?;
+        Ok(())
     }
 
     /// Visits those of the block behind `else`, which is the n-th child.

@@ -5,4 +5,5 @@ mod CallsIn
 mod CallsThere
 mod EachShown
 mod GoodWords
+mod CalledNames
 mod DetailsThere

@@ -1,8 +1,9 @@
 //! The call at a place.
 
 ghost use Rattle.std.specs.Prelude.{◌≡◌, IsTrue, MatchOption, None, Some};
+ghost use Rattle.meson_lex.specs.Kinds.{IsIdentifier};
 ghost use Rattle.meson_splice.specs.Files.{bytes_at};
-ghost use Rattle.meson_syntax.specs.View.{expr_view, list_view};
+ghost use Rattle.meson_syntax.specs.View.{expr_view, list_view, text_at};
 ghost use Rattle.meson_calls.specs.Calls.{call_of};
 ghost use Rattle.meson_calls.specs.GoodLists.{GoodListing};
 ghost use Rattle.meson_calls.specs.Loading.{AreParsed, named_trees, views};
@@ -65,6 +66,7 @@ pub(crate) fn call_at<'t>(files: &'t FileSet, trees: &'t [Parsed], call: &CallRe
     ensures at { expression_at (named_trees files.entry.now (views files.entry.now trees.entry.now)) call.now ≡ Some (called_view result) }
     ensures good { GoodListing (list_view result.source.now result.arguments.now) }
     ensures words { AreGood (listing_words (list_view result.source.now result.arguments.now) Bracket.Round) }
+    ensures named { IsIdentifier (text_at result.source.now result.name) }
 {
     if call.file >= trees.len() {
         unreachable!();

@@ -4,7 +4,7 @@ ghost use Rattle.std.specs.Prelude.{◌≡◌, ◌≢◌, Err, IfErr, IfOk, Ok, 
 ghost use Rattle.std.specs.List.{filter_map};
 ghost use Rattle.meson_lex.specs.Kinds.{IsIdentifier};
 ghost use Rattle.meson_syntax.specs.Grammar.{argument_words, expression_words, listing_words};
-ghost use Rattle.meson_syntax.specs.View.{arg_view, args_view, expr_view, list_view};
+ghost use Rattle.meson_syntax.specs.View.{arg_view, args_view, expr_view, list_view, text_at};
 ghost use Rattle.meson_calls.specs.Calls.{first_literal};
 ghost use Rattle.meson_calls.specs.GoodLists.{GoodArgs, GoodListing};
 ghost use Rattle.meson_calls.specs.Picking.{Source, call_with};
@@ -55,10 +55,11 @@ fn name_of(alloc: Global, source: &[u8], arguments: &List) -> Result<Option<Text
 
 /// What is told of a call before its arguments.
 pub(crate) fn head_of(alloc: Global, called: Called<'_>) -> Result<Head, AllocError>
-    requires { AreGood (listing_words (list_view called.source.now called.arguments.now) Bracket.Round) }
+    requires named { IsIdentifier (text_at called.source.now called.name) }
+    requires words { AreGood (listing_words (list_view called.source.now called.arguments.now) Bracket.Round) }
     ensures { IfOk result (λ head. head_of (called_view called.entry) ≡ Some head) }
 {
-    let function = text_of_name(alloc, text_of(called.source, called.name))?;
+    let function = name_text(alloc, text_of(called.source, called.name))?;
     let name = name_of(alloc, called.source, called.arguments)?;
     Ok(Head {
         at: called.span.from,

@@ -2,11 +2,12 @@
 use Rattle.std.proofs.Common.{◌≡◌, Some, refl, sym, ap, ◌∙◌, arith}
 use Rattle.meson_splice.specs.Files.{bytes_at}
 use Rattle.meson_syntax.specs.Paths as paths
-use Rattle.meson_syntax.specs.View.{expr_view, list_view, view}
+use Rattle.meson_syntax.specs.View.{expr_view, list_view, name_at, view}
 use Rattle.meson_calls.specs.Calls.{call_of}
 use Rattle.meson_plan.specs.Called.{called_view}
 use Rattle.meson_calls.proofs.CallsAt.{listing_good}
 use Rattle.meson_calls.proofs.Loads.{as_many}
+use Rattle.meson_plan.proofs.CalledNames.{called_named}
 use Rattle.meson_plan.proofs.CallsThere.{contrary, past_files, no_expression, other_expression, stands}
 use Rattle.meson_plan.proofs.GoodWords.{list_words}
 use Rattle.meson_plan.proofs.called.call_at.Goals as goal
@@ -64,3 +65,14 @@ returns-clause-good c =
 
 pub returns-clause-words : goal.returns-clause-words
 returns-clause-words c = list_words (list_view c.in-Some-call_in.called.source.now c.in-Some-call_in.called.arguments.now) (returns-clause-good c)
+
+pub returns-clause-named : goal.returns-clause-named
+returns-clause-named c =
+    let files = c.args.files.now in
+    let trees = c.args.trees.now in
+    let call = c.args.call.now in
+    let bytes = bytes_at call.file files in
+    let called = c.in-Some-call_in.called in
+    let is = c.in-Some.ensures bytes ∙ ap (λ t. paths.expression_at (view bytes t) call.path.steps) c.index-trees-call.is in
+    let same : expr_view bytes c.in-Some.expr.now ≡ called_view called = ap (λ s. expr_view s c.in-Some.expr.now) (sym c.bytes.ensures) ∙ c.in-Some-call_in.ensures.1 in
+    called_named files trees call.file call.path.steps c.index-trees-call.result c.if-call-trees.false c.requires.parsed called.span (name_at called.source.now called.name) (list_view called.source.now called.arguments.now) (ap Some (sym same) ∙ is)

@@ -1,5 +1,6 @@
-use Rattle.std.proofs.Common.{ℕ, List, Option, Some, sym, ap, ◌∙◌}
+use Rattle.std.proofs.Common.{ℕ, List, Option, Some, sym, ap, subst, ◌∙◌}
 use Rattle.std.specs.Prelude.{Bool}
+use Rattle.meson_lex.specs.Kinds.{IsIdentifier}
 use Rattle.meson_syntax.specs.View.{list_view, text_at}
 use Rattle.meson_calls.specs.Picking.{call_with}
 use Rattle.meson_plan.specs.Details.{is_hidden}
@@ -8,6 +9,9 @@ use Rattle.meson_plan.proofs.showing.head_of.Goals as goal
 
 abbrev head_with : ℕ → List ℕ → Bool → Option (List ℕ) → Option Head
 head_with at function hidden name = Some (record { at = at; function = function; hidden = hidden; name = name })
+
+pub name_text-requires : goal.name_text-requires
+name_text-requires c = subst IsIdentifier (sym c.text_of.ensures) c.requires.named
 
 pub returns : goal.returns
 returns c =

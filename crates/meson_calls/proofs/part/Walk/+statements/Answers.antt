@@ -1,11 +1,11 @@
-use Rattle.std.proofs.Common.{◌≡◌, ◌+◌, ◌++◌, ◌∙◌, sym, ap, refl, get_or}
+use Rattle.std.proofs.Common.{◌≡◌, ◌+◌, ◌*◌, ◌++◌, ◌∙◌, sym, ap, refl, get_or, length, arith}
 use Rattle.std.proofs.lemmas.List.{append_assoc}
 use Rattle.meson_syntax.specs.View.{expr_view, stmt_view, block_view, branch_view}
 use Rattle.meson_calls.specs.Project.{place, child}
 use Rattle.meson_calls.specs.Parts.{expression_parts, block_parts, otherwise_parts}
 use Rattle.meson_calls.specs.Walks.{else_view, keeper_view, with_parts, parts_inside}
-use Rattle.meson_calls.proofs.Visits.{two_parts, turn, count_turn, count_ended}
-use Rattle.meson_calls.proofs.StatementParts.{list_parts, list_part, conditions_parts, conditions_part, branches_count, branch_condition, branch_block, if_view, foreach_view}
+use Rattle.meson_calls.proofs.Visits.{two_parts, turn}
+use Rattle.meson_calls.proofs.StatementParts.{list_parts, list_part, conditions_parts, conditions_part, branches_count, branch_condition, branch_block, two_each, if_view, foreach_view}
 use Rattle.meson_calls.proofs.part.Walk.+statements.Goals as goal
 
 pub in_branch-returns-clause-all : goal.in_branch-returns-clause-all
@@ -13,16 +13,15 @@ in_branch-returns-clause-all t c =
     let source = c.args.self.now.source.now in
     let file = c.args.self.now.file in
     let p = place file c.args.path.now.items in
+    let n = 2 * c.args.number in
     let before = keeper_view c.args.keeper.now in
     let middle = keeper_view c.in_child.new.keeper in
     let b = c.args.branch.now in
-    two_parts before middle _ (expression_parts (child p c.args.number) (expr_view source b.condition)) (block_parts (child p (c.args.number + 1)) (block_view source b.block))
+    two_parts before middle _ (expression_parts (child p n) (expr_view source b.condition)) (block_parts (child p (n + 1)) (block_view source b.block))
     c.in_ok-in_child.ensures.all
-    (c.in_ok-in_block.ensures.all
-    ∙ ap (λ path. with_parts middle (block_parts (child (place file path) c.in_ok-second.second) (block_view source b.block))) c.in_ok-in_child.ensures.back
-    ∙ ap (λ n. with_parts middle (block_parts (child p n) (block_view source b.block))) c.in_ok-second.ensures)
-    ∙ ap (λ e. with_parts before (expression_parts (child p c.args.number) e ++ block_parts (child p (c.args.number + 1)) (block_view source b.block))) (sym (branch_condition source b))
-    ∙ ap (λ k. with_parts before (expression_parts (child p c.args.number) (branch_view source b).0 ++ block_parts (child p (c.args.number + 1)) k)) (sym (branch_block source b))
+    (c.in_ok-in_block.ensures.all ∙ ap (λ path. with_parts middle (block_parts (child (place file path) (n + 1)) (block_view source b.block))) c.in_ok-in_child.ensures.back)
+    ∙ ap (λ e. with_parts before (expression_parts (child p n) e ++ block_parts (child p (n + 1)) (block_view source b.block))) (sym (branch_condition source b))
+    ∙ ap (λ k. with_parts before (expression_parts (child p n) (branch_view source b).0 ++ block_parts (child p (n + 1)) k)) (sym (branch_block source b))
 
 pub in_stmts-loop-i-preserved : goal.in_stmts-loop-i-preserved
 in_stmts-loop-i-preserved t c =
@@ -43,18 +42,16 @@ in_branches-loop-i-preserved t c =
     let source = c.args.self.now.source.now in
     let file = c.args.self.now.file in
     let p = place file c.args.path.now.items in
-    let x = get_or c.args.branches.now c.loop-i.i c.index-branches-i.result in
-    let now = conditions_part source (place file c.loop-i.path.items) c.loop-i.number c.index-branches-i.result in
-    let here : now ≡ conditions_part source p c.loop-i.number x =
-    ap (λ path. conditions_part source (place file path) c.loop-i.number c.index-branches-i.result) c.loop-i.invariant.0
-    ∙ ap (λ b. conditions_part source p c.loop-i.number b) c.index-branches-i.is in (
-      c.in_ok-number.ensures.back ∙ c.loop-i.invariant.0,
-      turn (conditions_parts source p) (conditions_part source p) (λ b. 2) (λ n b bs. sym (append_assoc (expression_parts (child p n) (branch_view source b).0) (block_parts (child p (n + 1)) (branch_view source b).1) (conditions_parts source p (n + 2) bs))) c.args.branches.now c.loop-i.i c.index-branches-i.result c.loop-i.number c.in_ok-number.number (keeper_view c.loop-i.keeper) (keeper_view c.in_branch.new.keeper) _ now c.loop-i-test.true c.in_ok-number.ensures.all here c.in_ok-number.ensures.after c.loop-i.invariant.1,
-      count_turn (branches_count source) (λ b. 2) (λ b bs. refl) c.args.branches.now c.loop-i.i c.index-branches-i.result c.loop-i.number c.in_ok-number.number _ c.loop-i-test.true c.in_ok-number.ensures.after c.loop-i.invariant.2,
+    let i = c.loop-i.i in
+    let x = get_or c.args.branches.now i c.index-branches-i.result in
+    let now = conditions_part source (place file c.loop-i.path.items) (2 * i) c.index-branches-i.result in
+    let here : now ≡ conditions_part source p (2 * i) x =
+    ap (λ path. conditions_part source (place file path) (2 * i) c.index-branches-i.result) c.loop-i.invariant.0
+    ∙ ap (λ b. conditions_part source p (2 * i) b) c.index-branches-i.is in
+    let next : 2 * (i + 1) ≡ 2 * i + 2 = omega arith in (
+      c.in_ok-in_branch.ensures.back ∙ c.loop-i.invariant.0,
+      turn (conditions_parts source p) (conditions_part source p) (λ b. 2) (λ n b bs. sym (append_assoc (expression_parts (child p n) (branch_view source b).0) (block_parts (child p (n + 1)) (branch_view source b).1) (conditions_parts source p (n + 2) bs))) c.args.branches.now i c.index-branches-i.result (2 * i) (2 * (i + 1)) (keeper_view c.loop-i.keeper) (keeper_view c.in_branch.new.keeper) _ now c.loop-i-test.true c.in_ok-in_branch.ensures.all here next c.loop-i.invariant.1,
     )
-
-pub in_branches-returns-clause-after : goal.in_branches-returns-clause-after
-in_branches-returns-clause-after t c = count_ended (branches_count c.args.self.now.source.now) (λ b. 2) (λ b bs. refl) c.args.branches.now c.loop-i.i c.loop-i.number _ refl c.loop-i-test.false c.loop-i.invariant.2
 
 pub in_stmt-returns-in_ok-in_otherwise-in-If-clause-all : goal.in_stmt-returns-in_ok-in_otherwise-in-If-clause-all
 in_stmt-returns-in_ok-in_otherwise-in-If-clause-all t c =
@@ -63,11 +60,11 @@ in_stmt-returns-in_ok-in_otherwise-in-If-clause-all t c =
     let p = place file c.args.path.now.items in
     let before = keeper_view c.args.keeper.now in
     let middle = keeper_view c.in_branches.new.keeper in
-    let number = c.in_ok-number-in-If.ensures.after ∙ ap (branches_count source) c.get.ensures in
+    let number = ap (λ bs. 2 * length bs) c.get-branches.ensures ∙ two_each source c.in-If.branches in
     two_parts before middle _ (conditions_parts source p 0 c.in-If.branches) (otherwise_parts p (branches_count source c.in-If.branches) (else_view source c.in-If.otherwise))
-    (c.in_ok-number-in-If.ensures.all ∙ ap (λ bs. with_parts before (conditions_parts source p 0 bs)) c.get.ensures)
+    (c.in_ok-in_branches-in-If.ensures.all ∙ ap (λ bs. with_parts before (conditions_parts source p 0 bs)) c.get-branches.ensures)
     (c.in_ok-in_otherwise-in-If.ensures.all
-    ∙ ap (λ path. with_parts middle (otherwise_parts (place file path) c.in_ok-number-in-If.number (else_view source c.in-If.otherwise))) c.in_ok-number-in-If.ensures.back
+    ∙ ap (λ path. with_parts middle (otherwise_parts (place file path) (2 * length c.get-branches.result.now) (else_view source c.in-If.otherwise))) c.in_ok-in_branches-in-If.ensures.back
     ∙ ap (λ n. with_parts middle (otherwise_parts p n (else_view source c.in-If.otherwise))) number)
     ∙ ap (with_parts before) (sym (ap (parts_inside p) (if_view source c.in-If.span c.in-If.branches c.in-If.otherwise)))
     ∙ ap (λ x. with_parts before (parts_inside p (stmt_view source x))) (sym c.in-If.is)

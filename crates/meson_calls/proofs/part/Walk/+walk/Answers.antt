@@ -44,16 +44,17 @@ in_tails-loop-i-preserved t c =
 pub in_operands-loop-i-preserved : goal.in_operands-loop-i-preserved
 in_operands-loop-i-preserved t c =
     let source = c.args.self.now.source.now in
+    let n = c.loop-i.i + 1 in
     let p = place c.args.self.now.file c.args.path.now.items in
     let q = place c.args.self.now.file c.loop-i.path.items in
     let x = get_or c.args.operands.now c.loop-i.i c.index-operands-i.result in
-    let found = expression_parts (child q c.loop-i.number) (expr_view source x.value) in
-    let here : found ≡ row_part source p c.loop-i.number x =
-    ap (λ e. expression_parts (child q c.loop-i.number) e) (sym (operand_value source x))
-    ∙ ap (λ path. row_part source (place c.args.self.now.file path) c.loop-i.number x) c.loop-i.invariant.0 in (
+    let found = expression_parts (child q n) (expr_view source x.value) in
+    let here : found ≡ row_part source p n x =
+    ap (λ e. expression_parts (child q n) e) (sym (operand_value source x))
+    ∙ ap (λ path. row_part source (place c.args.self.now.file path) n x) c.loop-i.invariant.0 in (
       c.in_ok-in_child.ensures.back ∙ c.loop-i.invariant.0,
-      turn (row_parts source p) (row_part source p) (λ y. 1) (λ n y ys. refl) c.args.operands.now c.loop-i.i c.index-operands-i.result c.loop-i.number c.in_ok-number.number
-          (keeper_view c.loop-i.keeper) (keeper_view c.in_child.new.keeper) _ found c.loop-i-test.true c.in_ok-in_child.ensures.all here c.in_ok-number.ensures c.loop-i.invariant.1,
+      turn (row_parts source p) (row_part source p) (λ y. 1) (λ n y ys. refl) c.args.operands.now c.loop-i.i c.index-operands-i.result n (n + 1)
+          (keeper_view c.loop-i.keeper) (keeper_view c.in_child.new.keeper) _ found c.loop-i-test.true c.in_ok-in_child.ensures.all here refl c.loop-i.invariant.1,
     )
 
 pub in_expr-returns-in_ok-in_operands-in-Row-clause-all : goal.in_expr-returns-in_ok-in_operands-in-Row-clause-all

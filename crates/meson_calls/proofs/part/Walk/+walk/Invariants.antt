@@ -14,7 +14,7 @@ invariant-in_args-loop-i l =
 abbrev pub invariant-in_operands-loop-i : goal.invariant-in_operands-loop-i
 invariant-in_operands-loop-i l =
     (l.path.items ≡ l.fn.path.items)
-    × (with_parts (keeper_view l.keeper) (row_parts l.self.source.now (place l.self.file l.fn.path.items) l.number (drop l.i l.operands))
+    × (with_parts (keeper_view l.keeper) (row_parts l.self.source.now (place l.self.file l.fn.path.items) (l.i + 1) (drop l.i l.operands))
     ≡ with_parts (keeper_view l.fn.keeper) (row_parts l.self.source.now (place l.self.file l.fn.path.items) 1 l.operands))
 
 abbrev pub invariant-in_tails-loop-i : goal.invariant-in_tails-loop-i
