@@ -1,5 +1,7 @@
 -- What each plan means.
-use Rattle.std.proofs.Common.{ap}
+use Rattle.std.proofs.Common.{◌≡◌, ◌≢◌, sym, ap, subst}
+use Rattle.std.specs.Prelude.{Err, IfErr}
+use Rattle.meson_calls.specs.declared.refusal.Refusal.TheVariants.{OutOfMemory}
 use Rattle.meson_calls.specs.Loading.{Loaded, project}
 use Rattle.meson_plan.specs.Orders.{plan_steps}
 use Rattle.meson_calls.proofs.Loads.{as_many}
@@ -20,3 +22,8 @@ pub returns-in-RemoveTarget-clause-plan : goal.returns-in-RemoveTarget-clause-pl
 returns-in-RemoveTarget-clause-plan c =
     let old : Loaded = record { files = c.args.files.now; parsed = c.args.trees.now } in
     removal_means old c.requires (λ v. v.items) (plan_steps (project old) c.args.plan) c.in-RemoveTarget.target.now (ap (plan_steps (project old)) c.in-RemoveTarget.is) c.target_removed.result c.target_removed.ensures.meant
+
+pub returns-clause-refused : goal.returns-clause-refused
+returns-clause-refused c =
+    let p = project (record { files = c.args.files.now; parsed = c.args.trees.now }) in
+    subst (λ meant. IfErr c.call_info.result (λ e. e ≢ OutOfMemory → meant ≡ Err e)) (sym (ap (plan_steps p) c.in-AskCall.is)) c.call_info.ensures.refused

@@ -1,11 +1,15 @@
 -- What a command orders is what it means: its steps are planned and done, or its call is changed.
-use Rattle.std.proofs.Common.{◌≡◌, ◌≢◌, sym, subst, ◌∙◌}
+use Rattle.std.proofs.Common.{◌≡◌, ◌≢◌, List, sym, subst, ◌∙◌}
 use Rattle.std.specs.Prelude.{Err, IfErr, OnOk}
+use Rattle.meson_splice.specs.declared.file_set.File.{File}
+use Rattle.meson_syntax.specs.declared.tree.Parsed.{Parsed}
 use Rattle.meson_calls.specs.declared.refusal.Refusal.TheVariants.{OutOfMemory}
 use Rattle.meson_calls.specs.Loading.{IsProject, Loaded, project}
-use Rattle.meson_steps.specs.Done.{IsDone, MayNotBeDone, unmeant}
+use Rattle.meson_steps.specs.Done.{IsDone, MayNotBeDone, Meaning, unmeant}
+use Rattle.meson_steps.specs.declared.step.ListStep.{ListStep}
 use Rattle.meson_steps.specs.Plans.{ArePlanned}
 use Rattle.meson_steps.specs.Working.{so_far}
+use Rattle.meson_plan.specs.declared.order.Plan.{Plan}
 use Rattle.meson_plan.specs.Orders.{plan_steps}
 use Rattle.meson_plan.specs.Planning.{planned}
 use Rattle.meson_plan.proofs.project.performed.Goals as goal
@@ -13,21 +17,32 @@ use Rattle.meson_plan.proofs.project.performed.Goals as goal
 pub planned-requires : goal.planned-requires
 planned-requires c = subst (λ ts. IsProject (record { files = c.args.work.now.files; parsed = ts })) (sym c.as_slice.ensures.value) c.requires.project
 
+-- the steps of a plan, of the trees that are read in another place
+planned_there : (files : List File) (here there : List Parsed) → here ≡ there → (p : Plan) (meant : Meaning) → plan_steps (project (record { files = files; parsed = there })) p ≡ meant → (steps : List ListStep)
+    → ArePlanned (record { files = files; parsed = here }) (plan_steps (project (record { files = files; parsed = here })) p) steps → ArePlanned (record { files = files; parsed = there }) meant steps
+planned_there files here there same p meant is steps are =
+    let of : List Parsed → Loaded = λ ts. record { files = files; parsed = ts } in
+    subst (λ m. ArePlanned (of there) m steps) is (subst (λ ts. ArePlanned (of ts) (plan_steps (project (of ts)) p) steps) same are)
+
 pub done-requires-clause-planned : goal.done-requires-clause-planned
 done-requires-clause-planned c =
-    let old = so_far c.args.work.now in
-    let p = c.in-Planned.plan in
-    let of : _ → Loaded = λ ts. record { files = c.args.work.now.files; parsed = ts } in (
-      planned (project old) c.args.command.now,
-      subst (λ m. ArePlanned old m c.in-Ok.steps.items) (c.in-Planned.ensures (project old))
-          (subst (λ ts. ArePlanned (of ts) (plan_steps (project (of ts)) p) c.in-Ok.steps.items) c.as_slice.ensures.value c.in-Ok.ensures.plan),
-    )
+    let w = c.args.work.now in
+    let meant = planned (project (so_far w)) c.args.command.now in
+    (meant, planned_there w.files c.as_slice.result.now w.trees.items c.as_slice.ensures.value c.in-Planned.plan meant (c.in-Planned.ensures (project (so_far w))) c.in-Ok.steps.items c.in-Ok.ensures.plan)
 
 pub returns-in-Ok-clause-done : goal.returns-in-Ok-clause-done
-returns-in-Ok-clause-done c = let p = done-requires-clause-planned c in c.done.ensures.done p.0 p.1
+returns-in-Ok-clause-done c =
+    let w = c.args.work.now in
+    let meant = planned (project (so_far w)) c.args.command.now in
+    c.done.ensures.done meant
+    (planned_there w.files c.as_slice.result.now w.trees.items c.as_slice.ensures.value c.in-Planned.plan meant (c.in-Planned.ensures (project (so_far w))) c.in-Ok.steps.items c.in-Ok.ensures.plan)
 
 pub returns-in-Ok-clause-refused : goal.returns-in-Ok-clause-refused
-returns-in-Ok-clause-refused c = let p = done-requires-clause-planned c in c.done.ensures.refused p.0 p.1
+returns-in-Ok-clause-refused c =
+    let w = c.args.work.now in
+    let meant = planned (project (so_far w)) c.args.command.now in
+    c.done.ensures.refused meant
+    (planned_there w.files c.as_slice.result.now w.trees.items c.as_slice.ensures.value c.in-Planned.plan meant (c.in-Planned.ensures (project (so_far w))) c.in-Ok.steps.items c.in-Ok.ensures.plan)
 
 pub returns-in-Err-clause-refused : goal.returns-in-Err-clause-refused
 returns-in-Err-clause-refused c = λ other.
