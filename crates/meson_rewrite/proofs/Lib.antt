@@ -8,3 +8,4 @@ pub mod Endings
 pub mod Opened
 pub mod Untold
 pub mod Reading
+pub mod LogName

@@ -12,7 +12,7 @@ use crate::opening::{LOG, Opened};
 use crate::request::Step;
 use crate::said::Said;
 use crate::stop::Stop;
-use meson_plan::LoadFault;
+use meson_plan::{LoadFault, Project};
 use meson_script::{Report, Session, UndoFault, log_text};
 use meson_splice::{FileSet, SpliceFault, Text};
 use meson_store::StoreFault;
@@ -30,7 +30,7 @@ fn unparsed(alloc: Global, files: &FileSet, place: usize, fault: ParseFault) -> 
             name: Text::of(name),
             fault,
         },
-        Err(_) => Stop::Splice(SpliceFault::OutOfMemory),
+        Err(refused) => Stop::Splice(SpliceFault::from(refused)),
     }
 }
 
@@ -88,18 +88,17 @@ fn new_log(alloc: Global, session: &Session) -> Result<Vec<u8>, Stop>
     }
 }
 
-/// The files, and the log behind them.
-fn with_log(alloc: Global, files: &FileSet, text: Vec<u8>) -> Result<FileSet, AllocError>
-    ensures { IfOk result (λ all. all ≡ with_log files.now text.items) }
+/// The files of a project, none of which is named as the log, and the log behind them.
+fn with_log(alloc: Global, project: &Project, text: Vec<u8>) -> Result<FileSet, AllocError>
+    ensures { IfOk result (λ all. all ≡ with_log project.now.files text.items) }
 {
-    let Ok(mut all) = files.copy(alloc) else {
+    project.reads();
+    let Ok(mut all) = project.files().copy(alloc) else {
         return Err(AllocError);
     };
     let name = String::from_str(alloc, LOG)?;
-    match all.push(name, text) {
-        Ok(()) => Ok(all),
-        Err(_) => Err(AllocError),
-    }
+    all.push_new(name, text)?;
+    Ok(all)
 }
 
 /// What is to be written, and what is then to be said.
@@ -120,7 +119,7 @@ pub(crate) fn edited(alloc: Global, opened: Opened, step: &Step) -> Result<Edit,
     ensures refused { IfErr result (λ why. WantsMemory why ⊎ MayRefuse step.now opened.session why) }
 {
     let Opened { mut session, log } = opened;
-    let before = with_log(alloc, session.files(), log)?;
+    let before = with_log(alloc, session.project(), log)?;
     let report = match act(alloc, &mut session, step) {
         Ok(report) => report,
         Err(stop) => return Err(stop),
@@ -130,7 +129,7 @@ pub(crate) fn edited(alloc: Global, opened: Opened, step: &Step) -> Result<Edit,
         Ok(text) => text,
         Err(stop) => return Err(stop),
     };
-    let after = with_log(alloc, session.files(), text)?;
+    let after = with_log(alloc, session.project(), text)?;
     // What comes is the end of the program, which lets all memory go at once.
     mem::forget(session);
     Ok(Edit {

@@ -10,7 +10,7 @@ returns-clause-same_names c =
     let old = c.args.opened.session in
     let new = c.act.new.session in
     ap names c.in_ok-before.ensures
-    ∙ logged-names _ _ _ _ (ap names c.files.ensures ∙ step-names c.args.step.now old new c.in-Ok.report c.in-Ok.ensures.does ∙ ap names (sym c.files-2.ensures))
+    ∙ logged-names _ _ _ _ (ap (λ p. names p.files) c.project.ensures ∙ step-names c.args.step.now old new c.in-Ok.report c.in-Ok.ensures.does ∙ ap (λ p. names p.files) (sym c.project-2.ensures))
     ∙ ap names (sym c.in_ok-after.ensures)
 
 pub of-requires : goal.of-requires
@@ -24,7 +24,7 @@ returns-clause-edited c = record {
   does = c.in-Ok.ensures.does;
   new_log = c.in-Ok-new_log.text.items;
   is_log = c.in-Ok-new_log.ensures.log;
-  before = c.in_ok-before.ensures ∙ ap (λ files. with_log files c.args.opened.log.items) c.files.ensures;
-  after = c.in_ok-after.ensures ∙ ap (λ files. with_log files c.in-Ok-new_log.text.items) c.files-2.ensures;
+  before = c.in_ok-before.ensures ∙ ap (λ p. with_log p.files c.args.opened.log.items) c.project.ensures;
+  after = c.in_ok-after.ensures ∙ ap (λ p. with_log p.files c.in-Ok-new_log.text.items) c.project-2.ensures;
   said = c.in_ok-said.ensures;
 }
