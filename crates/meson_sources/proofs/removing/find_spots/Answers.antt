@@ -1,5 +1,6 @@
 use Rattle.std.proofs.Common.{◌+◌, ◌<◌, [], ◌∷◌, map, drop, get_or, length, sym, ap, ◌∙◌, arith}
 use Rattle.std.specs.Prelude.{None, bytes_eq, option_map, ◌||◌}
+use Rattle.std.proofs.lemmas.Grind.{common_steps}
 use Rattle.std.proofs.lemmas.List.{map-append}
 use Rattle.meson_calls.specs.declared.call.SourceItem.{SourceItem}
 use Rattle.meson_sources.specs.Spots.{all_there, before_all, is_some_there, spot_at, spot_view, spots_at}
@@ -41,3 +42,15 @@ loop-i-preserved c =
             ap (λ b. b || is_some_there later) w.found-is ∙ ap (λ x. c.loop-i.found || is_some_there x) (sym is) ∙ c.loop-i.invariant.1,
           ))
     ]
+
+pub returns-clause-found : goal.returns-clause-found
+returns-clause-found c = grind (arith, common_steps)
+
+pub returns-clause-some : goal.returns-clause-some
+returns-clause-some c = grind (arith, common_steps)
+
+pub returns-in_default-clause-refused : goal.returns-in_default-clause-refused
+returns-in_default-clause-refused c = grind (arith, common_steps)
+
+pub returns-in_default-clause-there : goal.returns-in_default-clause-there
+returns-in_default-clause-there c = grind (arith, common_steps)

@@ -1,4 +1,5 @@
-use Rattle.std.proofs.Common.{◌≡◌, ◌+◌, ◌∷◌, length, map, drop, get_or, sym, ap, ◌∙◌, add-one, rules}
+use Rattle.std.proofs.Common.{◌≡◌, ◌+◌, ◌∷◌, length, map, drop, get_or, sym, ap, ◌∙◌, add-one, rules, arith}
+use Rattle.std.proofs.lemmas.Grind.{common_steps}
 use Rattle.std.specs.Prelude.{true}
 use Rattle.std.proofs.Math.Seq.{drop-cons}
 use Rattle.meson_sources.specs.Spots.{behind_all, spot_view, spots_at, spots_of_names}
@@ -21,3 +22,15 @@ loop-i-preserved c =
     next_name old (map spot_view c.find_spots.new.spots.items) unknown spots rest (sym c.in-Ok.ensures.some ∙ found) c.in-Ok.ensures.found
     ∙ ap (λ xs. behind_all old (spots_of_names items numbers unknown (map (λ x. x.now) xs))) (sym is)
     ∙ c.loop-i.invariant
+
+pub returns-clause-found : goal.returns-clause-found
+returns-clause-found c = grind (arith, common_steps)
+
+pub returns-in-Err-clause-refused : goal.returns-in-Err-clause-refused
+returns-in-Err-clause-refused c = grind (arith, common_steps)
+
+pub returns-then-len-gt0-clause-refused : goal.returns-then-len-gt0-clause-refused
+returns-then-len-gt0-clause-refused c = grind (arith, common_steps)
+
+pub returns-then-not-found-clause-refused : goal.returns-then-not-found-clause-refused
+returns-then-not-found-clause-refused c = grind (arith, common_steps)

@@ -72,3 +72,19 @@ row_with-returns-then-row_of-level g t c =
     let e = deeper (λ n. row_with (room c.args.self.now.depth) (expression c.args.self.now.depth) n c.args.start (expr_view c.args.self.now.source.now c.args.first) (input c.args.self.now.source.now c.args.tokens.now)) c.args.level (omega arith) in
     let f = operands-other (room c.args.self.now.depth) (expression c.args.self.now.depth) (suc (c.args.level - 1)) (input c.args.self.now.source.now c.row_with.new.tokens) in
     grind (arith, common_steps)
+
+pub operands-returns : goal.operands-returns
+unfolding operands_from
+operands-returns g t c = grind (arith, common_steps)
+
+pub operands-returns-then-row_of-level : goal.operands-returns-then-row_of-level
+unfolding operands_from
+operands-returns-then-row_of-level g t c = grind (arith, common_steps)
+
+pub row_with-returns : goal.row_with-returns
+unfolding row_with
+row_with-returns g t c = grind (arith, common_steps)
+
+pub row_with-returns-then-level-eq0 : goal.row_with-returns-then-level-eq0
+unfolding row_with
+row_with-returns-then-level-eq0 g t c = grind (arith, common_steps)
