@@ -9,12 +9,16 @@ mod ListTaken
 mod ListSpots
 mod ReadAgain
 mod ListChanged
+mod PlacedEdits
+mod HeldLists
+mod HeldWork
 mod PatchedFiles
 pub mod WorkKnown
 mod StepPlaces
 pub mod OneMoreStep
 mod OneStep
 pub mod StepTaken
+mod HeldSteps
 pub mod WorkLimits
 pub mod UnderWay
 pub mod ListParts

@@ -6,9 +6,7 @@ use Rattle.meson_lex.specs.Significant.{Word}
 use Rattle.meson_syntax.specs.Paths.{Hole, ListAt, ListIn, Node, Sort, block_of, expression_at, expression_of, list_at, list_in, list_of_node, list_span, list_within, of_block, of_expression, of_statement, reach}
 use Rattle.meson_syntax.specs.Tree.{Block, Expression, File}
 use Rattle.meson_steps.specs.declared.spans.ListSpot.{ListSpot}
-
-abbrev pub spot_at : ListAt Span → ListSpot
-spot_at p = record { bracket = p.bracket; span = list_span p.list }
+use Rattle.meson_steps.specs.Working.{spot_at}
 
 abbrev pub spot_in : Expression Span → Option ListSpot
 spot_in e = option_map (λ (l : ListIn Span). record { bracket = l.bracket; span = list_span l.list }) (list_in e)

@@ -1,6 +1,6 @@
 -- A list that is read alone in the place of another one: the borders that move stay in their text, and the old list undoes it.
-use Rattle.std.proofs.Common.{◌≡◌, ℕ, ◌+◌, ◌<◌, ◌≤◌, List, [], ◌++◌, length, length-append, sym, ap, ap₂, ◌∙◌, subst, arith}
-use Rattle.std.specs.Prelude.{◌^◌, Some}
+use Rattle.std.proofs.Common.{◌≡◌, ℕ, ◌+◌, ◌≤◌, List, [], ◌++◌, length, length-append, sym, ap, ap₂, ◌∙◌, subst, arith}
+use Rattle.std.specs.Prelude.{Some}
 use Rattle.meson_lex.specs.declared.kinds.Span.{Span}
 use Rattle.meson_lex.specs.Significant.{Word, start}
 use Rattle.meson_syntax.specs.declared.operator.Bracket.{Bracket}
@@ -27,7 +27,7 @@ use Rattle.meson_syntax.proofs.kept.Tokens.{open-long}
 use Rattle.meson_edit.specs.ExchangedTrees.{tree_with}
 use Rattle.meson_edit.proofs.paths.ExchangedTrees.{old-lists-look, trees-exchange, trees-exchange-back}
 use Rattle.meson_steps.specs.declared.journal.SavedList.{SavedList}
-use Rattle.meson_steps.specs.Journal.{MayShift, MayTake}
+use Rattle.meson_steps.specs.Journal.{MayShift, MayTake, MayTakeMoved, settled_tree}
 
 -- a tree of nothing
 pub no_tree : Parsed
@@ -47,7 +47,7 @@ old_list_some limits bytes f s path p is front was back parts from to =
     list_text_some was p.bracket _ own.1.reads.text
 
 -- no border of a list that is read alone lies behind its text
-list_ends : (depth : ℕ) (b : Bracket) (text : List ℕ) (l : rust.List) → IsSpannedListWithin depth b text (list_view text l) → furthest_list l ≤ length text
+pub list_ends : (depth : ℕ) (b : Bracket) (text : List ℕ) (l : rust.List) → IsSpannedListWithin depth b text (list_view text l) → furthest_list l ≤ length text
 list_ends depth b text l is =
     let items = list_items is.reads.text in
     let n = length text in
@@ -90,10 +90,7 @@ module _ (t : Parsed) (new : SavedList) (m : MayTake t new) where
         fits = omega (arith, end.0, before_is, after_is, m.after_fits);
       }
 
-  pub may_move : furthest_list new.list + new.from < 2 ^ 64
-  may_move = omega (arith, list_ends m.is.depth m.p.bracket m.now new.list m.is.is_list, m.now_is, after_is, m.after_fits)
-
-  taken_is : taken ≡ tree_with path m.front m.was m.now new.list t
+  pub taken_is : taken ≡ tree_with path m.front m.was m.now new.list t
   taken_is =
       ap (λ n. exchanged path n new.was new.now (moved_list (λ k. k + n) new.list) t) m.from_is
       ∙ ap₂ (λ w n. exchanged path (length m.front) w n (moved_list (λ k. k + length m.front) new.list) t) m.was_is m.now_is
@@ -138,3 +135,15 @@ module _ (t : Parsed) (new : SavedList) (m : MayTake t new) where
         ∙ ap (λ n. exchanged path n new.now new.was kept (tree_with path m.front m.was m.now new.list t)) m.from_is
         ∙ ap₂ (λ n w. exchanged path (length m.front) n w kept (tree_with path m.front m.was m.now new.list t)) m.now_is m.was_is
         ∙ trees-exchange-back wide m.bytes t path m.p m.front m.was m.now m.back new.list m.is kept kept_looks
+
+-- ---- a list that was moved to its place before
+
+module _ (t : Parsed) (new : SavedList) (m : MayTakeMoved t new) where
+  abbrev pub unmoved : SavedList
+  unmoved = record new { list = m.own }
+
+  pub settled_is : settled_tree new t ≡ taken t unmoved m.takes
+  settled_is = ap (λ l. exchanged new.place.path.steps new.from new.was new.now l t) m.moved
+
+  pub settled_spanned : IsSpannedWithin wide (m.takes.front ++ (m.takes.now ++ m.takes.back)) (view (m.takes.front ++ (m.takes.now ++ m.takes.back)) (settled_tree new t))
+  settled_spanned = subst (λ u. IsSpannedWithin wide (m.takes.front ++ (m.takes.now ++ m.takes.back)) (view (m.takes.front ++ (m.takes.now ++ m.takes.back)) u)) (sym settled_is) (taken_spanned t unmoved m.takes)

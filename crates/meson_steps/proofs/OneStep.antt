@@ -34,13 +34,12 @@ use Rattle.meson_edit.proofs.lists.Found.{Found, found}
 use Rattle.meson_edit.proofs.lists.ReadAlone.{written-lists-read}
 use Rattle.meson_calls.specs.declared.call.CallRef.{CallRef}
 use Rattle.meson_steps.specs.declared.step.ListStep.{ListStep}
-use Rattle.meson_steps.specs.declared.work.Work.{Work}
 use Rattle.meson_steps.specs.Journal.{is_saved}
 use Rattle.meson_steps.specs.ListSteps.{AreDoable, MayStand, bare, wide_depth}
 use Rattle.meson_calls.specs.Loading.{HasFileName, Loaded, max_files, name_at}
 use Rattle.meson_steps.specs.Results.{plain_trees, saturated}
 use Rattle.meson_steps.specs.Steps.{Step, StepsMake, Laid, bytes_again, effective, list_of, read_again}
-use Rattle.meson_steps.specs.Working.{AreKnown, IsChanged, MayChange, MayChangeList, Reached, limits_of, placed_edit, so_far}
+use Rattle.meson_steps.specs.Working.{AreKnown, HasReached, IsChanged, MayChange, MayChangeList, Standing, limits_of, placed_edit, stood}
 use Rattle.meson_steps.proofs.PatchedFiles.{OfFile, all_patched, distinct_with, effective_of_file, effective_patches, effective_texts, of_file}
 use Rattle.meson_steps.proofs.StepPlaces.{every_edit, list_there, next_doable, step_code, NextDoable, IsCode}
 use Rattle.meson_steps.proofs.OneMoreStep.{saturated_more, stepped_more, steps_more}
@@ -70,7 +69,7 @@ wide_by : (saved : Bool) (bytes : List ℕ) (f : tree.File Span) → IsSpannedWi
 wide_by true bytes f s = s
 wide_by false bytes f s = other_limits of_files wide bytes f s (record { fits = tt; utf8 = s.reads.source.utf8; no_mark = s.reads.source.no_mark }) (omega (arith, s.reads.depth))
 
-module _ (old : Loaded) (w : Work) (before rest : List Step) (s : Step) (r : Reached old before (s ∷ rest) w) where
+module _ (old : Loaded) (w : Standing) (before rest : List Step) (s : Step) (r : HasReached old before (s ∷ rest) w) where
   abbrev pub files : List File
   files = w.files
 
@@ -78,10 +77,10 @@ module _ (old : Loaded) (w : Work) (before rest : List Step) (s : Step) (r : Rea
   i = s.file
 
   abbrev pub parsed : List Parsed
-  parsed = w.trees.items
+  parsed = w.trees
 
   abbrev pub plain : List Plain
-  plain = plain_trees (so_far w)
+  plain = plain_trees (stood w)
 
   abbrev pub bytes : List ℕ
   bytes = bytes_at i files
@@ -114,7 +113,7 @@ module _ (old : Loaded) (w : Work) (before rest : List Step) (s : Step) (r : Rea
     f = view bytes t
 
     abbrev pub limits : Limits
-    limits = limits_of w.saved.items i
+    limits = limits_of w.saved i
 
     pub spanned : IsSpannedWithin limits bytes f
     spanned = subst (λ u. IsSpannedWithin limits bytes (view bytes u)) (sym there) (r.known.each i t in_files)
@@ -199,7 +198,7 @@ module _ (old : Loaded) (w : Work) (before rest : List Step) (s : Step) (r : Rea
         texts = subst AreTexts (sym are) (effective_texts (layout_of name items made.primitive) made.texts);
       }
 
-      pub may_change : MayChange w i splices
+      pub may_change : MayChange files i splices
       may_change =
           let reads : ReadsWithin wide made.text changed.new = spelled-reads wide made.text changed.new made.spells made.utf8 tt stands.1 in
           record { files = with_bytes i made.text files; is = all_made; tree = changed.new; reads = subst (λ b. ReadsWithin wide b changed.new) (sym (bytes_there files i made.text in_files)) reads }
@@ -214,34 +213,36 @@ module _ (old : Loaded) (w : Work) (before rest : List Step) (s : Step) (r : Rea
         writes = list-edits-write s.edit limits bytes f spanned items are_items name next.writes changed.new edited_is path (there_is path of).0 here.p here.is_p
             made.primitive made.is_primitive made.text made.patches
 
-        pub may_change_list : (place : CallRef) → place.file ≡ i → place.path.steps ≡ path → MayChangeList w place splices t
+        pub may_change_list : (place : CallRef) → place.file ≡ i → place.path.steps ≡ path → MayChangeList files place splices t
         may_change_list place same_file same_path =
             let reads : ReadsWithin wide made.text changed.new = spelled-reads wide made.text changed.new made.spells made.utf8 tt stands.1 in
             let old : bytes_at place.file files ≡ bytes = ap (λ k. bytes_at k files) same_file in
             record {
-              files = with_bytes i made.text files;
-              is = all_made;
-              spanned = subst (λ b. IsSpannedWithin wide b (view b t)) (sym old) (wide_by (is_saved i w.saved.items) bytes f spanned);
+              spanned = subst (λ b. IsSpannedWithin wide b (view b t)) (sym old) (wide_by (is_saved i w.saved) bytes f spanned);
               p = here.p;
               is_p = ap₂ (λ b l. list_at (view b t) l) old same_path ∙ here.is_p;
+              text = record {
+                files = with_bytes i made.text files;
+                is = all_made;
+                front = writes.front;
+                was = writes.was;
+                now = writes.now;
+                back = writes.back;
+                old = old ∙ writes.old;
+                new = ap (λ k. bytes_at k (with_bytes i made.text files)) same_file ∙ bytes_there files i made.text in_files ∙ writes.new;
+                from = writes.from;
+                to = writes.to;
+                list = writes.list;
+                reads_list = subst (λ b. ReadsListWithin wide_depth b writes.now writes.list) writes.bracket (written-lists-read bytes made.text f path here.p changed.new writes stands.0 wide_depth stands.1);
+              };
               q = writes.q;
               is_q = ap₂ (λ b l. list_at (erase (view b t)) l) old same_path ∙ writes.is_q;
-              front = writes.front;
-              was = writes.was;
-              now = writes.now;
-              back = writes.back;
-              old = old ∙ writes.old;
-              new = ap (λ k. bytes_at k (with_bytes i made.text files)) same_file ∙ bytes_there files i made.text in_files ∙ writes.new;
-              from = writes.from;
-              to = writes.to;
-              list = writes.list;
-              reads_list = subst (λ b. ReadsListWithin wide_depth b writes.now writes.list) writes.bracket (written-lists-read bytes made.text f path here.p changed.new writes stands.0 wide_depth stands.1);
               reads = subst (λ b. ReadsWithin wide b (writes.q.back writes.list)) writes.new (subst (ReadsWithin wide made.text) (sym writes.is_tree) reads);
             }
 
       -- ---- nothing new
 
-      pub same_reached : splices ≡ [] → Reached old (before ++ s ∷ []) rest w
+      pub same_reached : splices ≡ [] → HasReached old (before ++ s ∷ []) rest w
       same_reached empty =
           let text_same : made.text ≡ bytes = let h = sym patches ∙ ap (patched_by bytes) empty in cc in
           let spells = subst (λ b. Spells b changed.new) text_same made.spells in
@@ -249,11 +250,11 @@ module _ (old : Loaded) (w : Work) (before rest : List Step) (s : Step) (r : Rea
           let back : next.between ≡ plain = changed.are ∙ ap (λ t. slice_set plain i t) (tree_same ∙ sym plain_is) ∙ set-get_or plain i (erase f) in
           let none = subst (Laid files s) empty laid in
           let count : r.made.bytes + 0 ≡ r.made.bytes = omega arith in
-          let done = steps_more old.files files files before s w.splices.items [] r.made.bytes r.made.are_done none refl in record {
+          let done = steps_more old.files files files before s w.splices [] r.made.bytes r.made.are_done none refl in record {
             made = record {
               bytes = r.made.bytes;
               are_trees = stepped_more before s (plain_trees old) plain plain r.made.are_trees (next.is ∙ ap Some back);
-              are_done = subst (λ n. StepsMake old.files (before ++ s ∷ []) w.splices.items files n) count (subst (λ ss. StepsMake old.files (before ++ s ∷ []) ss files (r.made.bytes + 0)) (simp append-nil) done);
+              are_done = subst (λ n. StepsMake old.files (before ++ s ∷ []) w.splices files n) count (subst (λ ss. StepsMake old.files (before ++ s ∷ []) ss files (r.made.bytes + 0)) (simp append-nil) done);
               is_relexed = r.made.is_relexed;
             };
             doable = subst (AreDoable rest) back next.doable;
@@ -265,7 +266,7 @@ module _ (old : Loaded) (w : Work) (before rest : List Step) (s : Step) (r : Rea
 
       -- ---- another text
 
-      module _ (some : splices ≡ [] → ⊥) (new : Work) (n : ℕ) (c : IsChanged w new i splices n) (count : n ≡ bytes_again (option_and_then (list_at f) (list_of s.edit)) bytes (bytes_at i new.files)) where
+      module _ (some : splices ≡ [] → ⊥) (new : Standing) (n : ℕ) (c : IsChanged w new i splices n) (count : n ≡ bytes_again (option_and_then (list_at f) (list_of s.edit)) bytes (bytes_at i new.files)) where
         abbrev again : ℕ
         again = read_again s.edit f splices bytes (bytes_at i new.files)
 
@@ -281,7 +282,7 @@ module _ (old : Loaded) (w : Work) (before rest : List Step) (s : Step) (r : Rea
         tree_is : changed.new ≡ erase (view made.text c.tree)
         tree_is = one_spelled made.text changed.new (erase (view made.text c.tree)) made.utf8 made.spells read.reads.spells
 
-        plain_are : next.between ≡ plain_trees (so_far new)
+        plain_are : next.between ≡ plain_trees (stood new)
         plain_are =
             changed.are ∙ ap (λ t. slice_set plain i t) tree_is ∙ sym (plain_with files parsed i made.text c.tree many)
             ∙ ap (λ fs. plain_trees (record { files = fs; parsed = slice_set parsed i c.tree })) (sym files_are)
@@ -292,20 +293,20 @@ module _ (old : Loaded) (w : Work) (before rest : List Step) (s : Step) (r : Rea
             c.is_relexed ∙ ap (λ k. saturated (k + n)) r.made.is_relexed ∙ saturated_more r.made.bytes n
             ∙ ap (λ k. saturated (r.made.bytes + k)) (count ∙ sym (again_for s.edit f splices bytes (bytes_at i new.files) some))
 
-        pub new_reached : Reached old (before ++ s ∷ []) rest new
+        pub new_reached : HasReached old (before ++ s ∷ []) rest new
         unfolding laid
         new_reached = record {
           made = record {
             bytes = r.made.bytes + again;
-            are_trees = stepped_more before s (plain_trees old) plain (plain_trees (so_far new)) r.made.are_trees (next.is ∙ ap Some plain_are);
+            are_trees = stepped_more before s (plain_trees old) plain (plain_trees (stood new)) r.made.are_trees (next.is ∙ ap Some plain_are);
             are_done = subst (λ ss. StepsMake old.files (before ++ s ∷ []) ss new.files (r.made.bytes + again)) (sym c.are_splices)
-                (steps_more old.files files new.files before s w.splices.items splices r.made.bytes r.made.are_done laid c.are_files);
+                (steps_more old.files files new.files before s w.splices splices r.made.bytes r.made.are_done laid c.are_files);
             is_relexed = relexed_is;
           };
           doable = subst (AreDoable rest) plain_are next.doable;
-          known = subst (λ fs. AreKnown new.saved.items fs new.trees.items) (sym files_are)
-              (subst (AreKnown new.saved.items (with_bytes i made.text files)) (sym c.are_trees)
-              (known_with w.saved.items new.saved.items files parsed i made.text c.tree r.known in_files c.are_saved read));
+          known = subst (λ fs. AreKnown new.saved fs new.trees) (sym files_are)
+              (subst (AreKnown new.saved (with_bytes i made.text files)) (sym c.are_trees)
+              (known_with w.saved new.saved files parsed i made.text c.tree r.known in_files c.are_saved read));
           distinct = subst IsDistinct (sym files_are) (distinct_with files i made.text r.distinct);
           few = subst (λ fs. length fs ≤ max_files) (sym files_are) (subst (λ n. n ≤ max_files) (sym (as_many_files files i made.text)) r.few);
           named = subst (All HasFileName) (sym files_are) (named_with files i made.text r.named);

@@ -15,12 +15,11 @@ use Rattle.meson_syntax.specs.Paths.{ListAt, list_at, list_span}
 use Rattle.meson_syntax.specs.View.{view}
 use Rattle.meson_steps.specs.declared.step.ListEdit.{ListEdit}
 use Rattle.meson_steps.specs.declared.step.ListStep.{ListStep}
-use Rattle.meson_steps.specs.declared.work.Work.{Work}
 use Rattle.meson_steps.specs.ListSteps.{bare, bare_edit, edits_list, path_of}
 use Rattle.meson_calls.specs.Loading.{Loaded, name_at}
 use Rattle.meson_calls.specs.Project.{place}
 use Rattle.meson_steps.specs.Steps.{Step, bytes_again, effective}
-use Rattle.meson_steps.specs.Working.{IsChanged, MayBeLaid, MayChange, MayChangeList, Reached, list_again, looked_at, placed_edit}
+use Rattle.meson_steps.specs.Working.{HasReached, IsChanged, MayBeLaid, MayChange, MayChangeList, Standing, list_again, looked_at, placed_edit}
 use Rattle.meson_steps.proofs.SameRead.{same_read}
 use Rattle.meson_steps.proofs.StepPlaces.{step_list, step_none}
 use Rattle.meson_calls.proofs.Loads.{nth_name}
@@ -42,77 +41,77 @@ file_of : (s : Step) (code : ListStep) (o : Option ListEdit) → option_map (λ 
 file_of s code (Some e) is = let same : code ≡ record { list = place s.file (path_of s.edit); edit = e } = cc in ap (λ (c : ListStep). c.list.file) same
 file_of s code None is = absurd cc
 
-module _ (old : Loaded) (w : Work) (step : ListStep) (before rest : List Step) (s : Step) (is : bare s ≡ Some step) (r : Reached old before (s ∷ rest) w) where
-  file_is : step.list.file ≡ s.file
+module _ (old : Loaded) (w : Standing) (step : ListStep) (before rest : List Step) (s : Step) (is : bare s ≡ Some step) (r : HasReached old before (s ∷ rest) w) where
+  pub file_is : step.list.file ≡ s.file
   file_is = file_of s step (bare_edit s.edit) is
 
   pub code_in_files : step.list.file < length w.files
   code_in_files = subst (λ i. i < length w.files) (sym file_is) (in_files old w before rest s r)
 
-  pub code_in_trees : step.list.file < length w.trees.items
-  code_in_trees = subst (λ i. i < length w.trees.items) (sym file_is) (in_trees old w before rest s r)
+  pub code_in_trees : step.list.file < length w.trees
+  code_in_trees = subst (λ i. i < length w.trees) (sym file_is) (in_trees old w before rest s r)
 
-  module _ (t : Parsed) (there : t ≡ get_or w.trees.items step.list.file t) where
-    at : t ≡ get_or w.trees.items s.file t
-    at = there ∙ ap (λ i. get_or w.trees.items i t) file_is
+  module _ (t : Parsed) (there : t ≡ get_or w.trees step.list.file t) where
+    at : t ≡ get_or w.trees s.file t
+    at = there ∙ ap (λ i. get_or w.trees i t) file_is
 
     abbrev made_here : Primitive
     made_here = (made old w before rest s r t at).primitive
 
     abbrev pub IsLaid : Option Primitive → Type 0
-    IsLaid o = (source : List ℕ) → o ≡ placed_edit (view source t) step.list.path.steps step.edit
+    IsLaid o = o ≡ placed_edit (view (bytes_at s.file w.files) t) step.list.path.steps step.edit
 
     pub code_laid : (o : Option Primitive) → IsLaid o → o ≡ None → ⊥
-    code_laid o laid none = let h = sym none ∙ laid (bytes_at s.file w.files) ∙ laid_is old w before rest s r t at step is in cc
+    code_laid o laid none = let h = sym none ∙ laid ∙ laid_is old w before rest s r t at step is in cc
 
     module _ (p : Primitive) (laid : IsLaid (Some p)) (bs : List ℕ) (is_bytes : bs ≡ bytes_at step.list.file w.files) where
       here : bs ≡ bytes_at s.file w.files
       here = is_bytes ∙ ap (λ i. bytes_at i w.files) file_is
 
       code_ready : IsReady bs p
-      code_ready = subst (λ b. IsReady b p) (sym here) (is_ready old w before rest s r t at step is p (laid (bytes_at s.file w.files)))
+      code_ready = subst (λ b. IsReady b p) (sym here) (is_ready old w before rest s r t at step is p laid)
 
       code_ready_in : (list : Option Span) → list ≡ option_map (λ (q : ListAt Span). list_span q.list) (list_at (view (bytes_at s.file w.files) t) step.list.path.steps) → edits_list step.edit ≡ true → MayBeLaid bs list p
       code_ready_in list is_list of_list =
           let of = step_list s step is of_list in
           let found = list_is old w before rest s r t at step.list.path.steps of in
           subst (λ o. MayBeLaid bs o p) (sym (is_list ∙ ap (option_map (λ (q : ListAt Span). list_span q.list)) found))
-          (subst (λ b. IsReadyIn b (list_span (list_found old w before rest s r t at step.list.path.steps of).p.list) p) (sym here) (is_ready_in old w before rest s r t at step is step.list.path.steps of p (laid (bytes_at s.file w.files))))
+          (subst (λ b. IsReadyIn b (list_span (list_found old w before rest s r t at step.list.path.steps of).p.list) p) (sym here) (is_ready_in old w before rest s r t at step is step.list.path.steps of p laid))
 
-      pub code_may_be_laid : (of_list : Bool) → of_list ≡ edits_list step.edit → (list : Option Span) → ((source : List ℕ) → list ≡ looked_at (view source t) step.list.path.steps of_list) → MayBeLaid bs list p
-      code_may_be_laid true of list is_list = code_ready_in list (is_list (bytes_at s.file w.files)) (sym of)
-      code_may_be_laid false of list is_list = subst (λ o. MayBeLaid bs o p) (sym (is_list (bytes_at s.file w.files))) code_ready
+      pub code_may_be_laid : (of_list : Bool) → of_list ≡ edits_list step.edit → (list : Option Span) → list ≡ looked_at (view (bytes_at s.file w.files) t) step.list.path.steps of_list → MayBeLaid bs list p
+      code_may_be_laid true of list is_list = code_ready_in list is_list (sym of)
+      code_may_be_laid false of list is_list = subst (λ o. MayBeLaid bs o p) (sym is_list) code_ready
 
       module _ (nm : List ℕ) (d : File) (is_name : nm ≡ (get_or w.files step.list.file d).name) (splices : List Splice) (done : (list : List Lexeme) → IsItemList bs list → splices ≡ effective (layout_of nm list p)) where
         name : nm ≡ name_at s.file w.files
         name = is_name ∙ sym (nth_name w.files step.list.file d code_in_files) ∙ ap (λ i. name_at i w.files) file_is
 
         are : splices ≡ effective (layout_of (name_at s.file w.files) (items old w before rest s r t at) made_here)
-        are = splices_are old w before rest s r t at step is p (laid (bytes_at s.file w.files)) splices
+        are = splices_are old w before rest s r t at step is p laid splices
             (λ list of. done list (subst (λ b. IsItemList b list) (sym here) of) ∙ ap (λ n. effective (layout_of n list p)) name)
 
-        pub code_same : splices ≡ [] → Reached old (before ++ s ∷ []) rest w
+        pub code_same : splices ≡ [] → HasReached old (before ++ s ∷ []) rest w
         code_same empty = same_reached old w before rest s r t at splices are empty
 
-        pub code_may_list : edits_list step.edit ≡ true → (d : Parsed) → MayChangeList w step.list splices (get_or w.trees.items step.list.file d)
+        pub code_may_list : edits_list step.edit ≡ true → (d : Parsed) → MayChangeList w.files step.list splices (get_or w.trees step.list.file d)
         code_may_list of_list = λ d.
-            let same : t ≡ get_or w.trees.items step.list.file d = there ∙ same_read w.trees.items step.list.file t d code_in_trees in
-            subst (MayChangeList w step.list splices) same (may_change_list old w before rest s r t at splices are step.list.path.steps (step_list s step is of_list) step.list file_is refl)
+            let same : t ≡ get_or w.trees step.list.file d = there ∙ same_read w.trees step.list.file t d code_in_trees in
+            subst (MayChangeList w.files step.list splices) same (may_change_list old w before rest s r t at splices are step.list.path.steps (step_list s step is of_list) step.list file_is refl)
 
-        pub code_may : MayChange w step.list.file splices
-        code_may = subst (λ i. MayChange w i splices) (sym file_is) (may_change old w before rest s r t at splices are)
+        pub code_may : MayChange w.files step.list.file splices
+        code_may = subst (λ i. MayChange w.files i splices) (sym file_is) (may_change old w before rest s r t at splices are)
 
-        module _ (some : splices ≡ [] → ⊥) (new : Work) where
-          pub code_new : edits_list step.edit ≡ false → IsChanged w new step.list.file splices (length (bytes_at step.list.file new.files)) → Reached old (before ++ s ∷ []) rest new
+        module _ (some : splices ≡ [] → ⊥) (new : Standing) where
+          pub code_new : edits_list step.edit ≡ false → IsChanged w new step.list.file splices (length (bytes_at step.list.file new.files)) → HasReached old (before ++ s ∷ []) rest new
           code_new other c =
               let f = view (bytes_at s.file w.files) t in
               let count = ap (λ i. length (bytes_at i new.files)) file_is
               ∙ ap (λ o. bytes_again (option_and_then (list_at f) o) (bytes_at s.file w.files) (bytes_at s.file new.files)) (sym (step_none s step is other)) in
               new_reached old w before rest s r t at splices are some new _ (subst (λ i. IsChanged w new i splices (length (bytes_at step.list.file new.files))) file_is c) count
 
-          pub code_new_list : edits_list step.edit ≡ true → IsChanged w new step.list.file splices (list_again w new step.list t) → Reached old (before ++ s ∷ []) rest new
+          pub code_new_list : edits_list step.edit ≡ true → IsChanged w new step.list.file splices (list_again w.files new.files step.list t) → HasReached old (before ++ s ∷ []) rest new
           code_new_list of_list c =
               let f = view (bytes_at s.file w.files) t in
               let count = ap (λ i. bytes_again (list_at (view (bytes_at i w.files) t) step.list.path.steps) (bytes_at i w.files) (bytes_at i new.files)) file_is
               ∙ ap (λ o. bytes_again (option_and_then (list_at f) o) (bytes_at s.file w.files) (bytes_at s.file new.files)) (sym (step_list s step is of_list)) in
-              new_reached old w before rest s r t at splices are some new _ (subst (λ i. IsChanged w new i splices (list_again w new step.list t)) file_is c) count
+              new_reached old w before rest s r t at splices are some new _ (subst (λ i. IsChanged w new i splices (list_again w.files new.files step.list t)) file_is c) count

@@ -15,7 +15,7 @@ use Rattle.meson_steps.specs.ListSteps.{AreBare, AreDoable, bare}
 use Rattle.meson_steps.specs.Plans.{Doable}
 use Rattle.meson_steps.specs.Results.{AreShallow, plain_trees}
 use Rattle.meson_steps.specs.Steps.{Step, StepsMake, none}
-use Rattle.meson_steps.specs.Working.{AreKnown, AreShallowSoFar, HasDeep, HasLarge, IsFresh, IsNext, IsUnderWay, Reached, so_far}
+use Rattle.meson_steps.specs.Working.{AreKnown, AreShallowSoFar, HasDeep, HasLarge, IsFresh, IsNext, IsUnderWay, Reached, Standing, AreUnderWay, HasReached, so_far}
 use Rattle.meson_steps.proofs.WorkKnown.{known_first}
 use Rattle.meson_steps.proofs.WorkLimits.{all_small, known_parsed, known_shallow, not_shallow, not_small}
 
@@ -56,13 +56,13 @@ splits : (rest : List Step) (code : ListStep) (left : List ListStep) → AreBare
 splits [] code left are = absurd cc
 splits (s ∷ rest) code left are = record { next = s; more = rest; is = refl; of = cc; bare_more = cc }
 
-pub next_step : (old : Loaded) (w : Work) (steps : List Step) (code : ListStep) (left : List ListStep) → IsUnderWay old steps (code ∷ left) w → IsNext old w code
+pub next_step : (old : Loaded) (w : Standing) (steps : List Step) (code : ListStep) (left : List ListStep) → AreUnderWay old steps (code ∷ left) w → IsNext old w code
 next_step old w steps code left u =
     let s = splits u.rest code left u.bare in
-    record { before = u.before; next = s.next; rest = s.more; is = s.of; reached = subst (λ r. Reached old u.before r w) s.is u.reached }
+    record { before = u.before; next = s.next; rest = s.more; is = s.of; reached = subst (λ r. HasReached old u.before r w) s.is u.reached }
 
-pub under_way_more : (old : Loaded) (w new : Work) (steps : List Step) (code : ListStep) (left : List ListStep) → IsUnderWay old steps (code ∷ left) w
-    → ((before rest : List Step) (s : Step) → bare s ≡ Some code → Reached old before (s ∷ rest) w → Reached old (before ++ s ∷ []) rest new) → IsUnderWay old steps left new
+pub under_way_more : (old : Loaded) (w new : Standing) (steps : List Step) (code : ListStep) (left : List ListStep) → AreUnderWay old steps (code ∷ left) w
+    → ((before rest : List Step) (s : Step) → bare s ≡ Some code → HasReached old before (s ∷ rest) w → HasReached old (before ++ s ∷ []) rest new) → AreUnderWay old steps left new
 under_way_more old w new steps code left u done =
     let s = splits u.rest code left u.bare in
     record {
@@ -70,7 +70,7 @@ under_way_more old w new steps code left u done =
       rest = s.more;
       joined = u.joined ∙ ap (λ r. u.before ++ r) s.is ∙ sym (append_assoc u.before (s.next ∷ []) s.more);
       bare = s.bare_more;
-      reached = done u.before s.more s.next s.of (subst (λ r. Reached old u.before r w) s.is u.reached);
+      reached = done u.before s.more s.next s.of (subst (λ r. HasReached old u.before r w) s.is u.reached);
     }
 
 -- ---- the end
@@ -79,11 +79,11 @@ none_left : (rest : List Step) → AreBare rest [] → rest ≡ []
 none_left [] are = refl
 none_left (s ∷ rest) are = absurd cc
 
-pub all_reached : (old : Loaded) (w : Work) (steps : List Step) → IsUnderWay old steps [] w → Reached old steps [] w
+pub all_reached : (old : Loaded) (w : Standing) (steps : List Step) → AreUnderWay old steps [] w → HasReached old steps [] w
 all_reached old w steps u =
     let none = none_left u.rest u.bare in
     let all : u.before ≡ steps = sym (u.joined ∙ ap (λ r. u.before ++ r) none ∙ simp append-nil) in
-    subst (λ ss. Reached old ss [] w) all (subst (λ r. Reached old u.before r w) none u.reached)
+    subst (λ ss. HasReached old ss [] w) all (subst (λ r. HasReached old u.before r w) none u.reached)
 
 module _ (old : Loaded) (w : Work) (meant : Meaning) (steps : List Step) (is : meant ≡ Ok steps) (r : Reached old steps [] w) where
   pub too_deep : HasDeep w.trees.items → MayNotBeDone old meant TooDeep

@@ -2,9 +2,11 @@
 use Rattle.std.specs.List.{list_any}
 use Rattle.std.specs.Prelude.{◌≡◌, ◌≢◌, ℕ, zero, suc, ◌+◌, ◌-◌, ◌^◌, ◌<◌, ◌≤◌, Bool, true, List, [], ◌∷◌, ◌++◌, ◌==◌, length, slice_index_or, slice_set, ⊤}
 use Rattle.meson_lex.specs.declared.kinds.Span.{Span}
+use Rattle.meson_syntax.specs.declared.tree.List as rust
 use Rattle.meson_syntax.specs.declared.tree.Parsed.{Parsed}
 use Rattle.meson_syntax.specs.Furthest.{furthest}
 use Rattle.meson_syntax.specs.ListPut.{exchanged}
+use Rattle.meson_syntax.specs.MovedCode.{moved_list}
 use Rattle.meson_syntax.specs.Paths.{ListAt}
 use Rattle.meson_syntax.specs.Reads.{wide}
 use Rattle.meson_edit.specs.ExchangedTrees.{IsExchange}
@@ -87,3 +89,13 @@ pub record MayTake (t : Parsed) (new : SavedList) : Type 0 where
   pub now_is : new.now ≡ length now
   pub before_fits : length bytes < 2 ^ 64
   pub after_fits : length (front ++ (now ++ back)) < 2 ^ 64
+
+-- the tree with a list, in its place, for the one that stands there
+abbrev pub settled_tree : SavedList → Parsed → Parsed
+settled_tree new = exchanged new.place.path.steps new.from new.was new.now new.list
+
+-- A list that was read, and moved to its place, may take the place of the list that stands there.
+pub record MayTakeMoved (t : Parsed) (new : SavedList) : Type 0 where
+  pub own : rust.List
+  pub moved : new.list ≡ moved_list (λ n. n + new.from) own
+  pub takes : MayTake t (record new { list = own })

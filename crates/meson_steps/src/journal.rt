@@ -3,12 +3,12 @@
 ghost use Rattle.std.specs.Prelude.{◌+◌, ◌<◌, ◌≡◌, OnOk, Some, length, slice_index_or, slice_set};
 ghost use Rattle.meson_lex.specs.declared.kinds.Span.{Span};
 ghost use Rattle.meson_syntax.specs.ListPut.{exchanged};
-ghost use Rattle.meson_syntax.specs.MovedCode.{moved_list, moved_parsed};
+ghost use Rattle.meson_syntax.specs.MovedCode.{moved_parsed};
 ghost use Rattle.meson_syntax.specs.Moves.{moved};
 ghost use Rattle.meson_syntax.specs.Paths.{ListAt, list_at};
 ghost use Rattle.meson_syntax.specs.View.{list_view, view};
 ghost use Rattle.meson_calls.specs.Picking.{Source};
-ghost use Rattle.meson_steps.specs.Journal.{IsSavedToo, MayPut, MayPutBack, MayShift, MayTake, PutsBack, Trees, changed_tree, file_of, is_saved, put_back, put_one};
+ghost use Rattle.meson_steps.specs.Journal.{IsSavedToo, MayPut, MayPutBack, MayShift, MayTakeMoved, PutsBack, Trees, changed_tree, file_of, is_saved, put_back, put_one, settled_tree};
 
 use meson_calls::CallRef;
 use meson_lex::Span;
@@ -103,7 +103,7 @@ fn with_span(list: List, from: usize, to: usize) -> List
     }
 }
 
-/// Puts what was read of a list's new text, which is the list of `new`, in the place of the list that stands there, which is saved.
+/// Puts what was read of a list's new text, the list of `new`, in the place of the list that stands there, which is saved.
 ///
 /// # Errors
 /// Memory is refused.
@@ -113,8 +113,8 @@ pub(crate) fn exchange_list(
     new: SavedList,
 ) -> Result<(), AllocError>
     requires there { new.place.file < length trees.old.items }
-    requires takes { (d : Parsed) → MayTake (slice_index_or trees.old.items new.place.file d) new }
-    ensures done { OnOk result (trees.new.items ≡ changed_tree new.place.file (exchanged new.place.path.steps new.from new.was new.now (moved_list (λ n. n + new.from) new.list)) trees.old.items) }
+    requires takes { (d : Parsed) → MayTakeMoved (slice_index_or trees.old.items new.place.file d) new }
+    ensures done { OnOk result (trees.new.items ≡ changed_tree new.place.file (settled_tree new) trees.old.items) }
     ensures saved { OnOk result (IsSavedToo new.place.file saved.old.items saved.new.items) }
     ensures restores { (first : Trees) → PutsBack saved.old.items trees.old.items first → PutsBack saved.new.items trees.new.items first }
 {
@@ -126,8 +126,6 @@ pub(crate) fn exchange_list(
         was,
         now,
     } = new;
-    let mut list = list;
-    list.move_by(from);
     let old = put_in(&mut trees[place.file], &place.path, list, from, was, now);
     let list = with_span(old, from, from + was);
     saved.push_reserved(Saved::List(SavedList {

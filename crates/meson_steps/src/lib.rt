@@ -2,8 +2,10 @@
 #![tactic(auto)]
 
 pub mod command;
+pub mod held;
 pub mod journal;
 pub mod laws;
+mod layouts;
 pub mod literals;
 pub mod names;
 mod reading;

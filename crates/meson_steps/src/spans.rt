@@ -1,15 +1,15 @@
 //! Where the value of an argument stands.
 
-ghost use Rattle.std.specs.Prelude.{◌≡◌, option_map};
+ghost use Rattle.std.specs.Prelude.{◌≡◌, option_and_then, option_map};
 ghost use Rattle.meson_lex.specs.declared.kinds.Span.{Span};
-ghost use Rattle.meson_syntax.specs.Paths.{ListAt, ListIn, list_at, list_in, list_span, value_of};
+ghost use Rattle.meson_syntax.specs.Paths.{ListAt, ListIn, list_at, list_in, list_span, nth, value_of};
 ghost use Rattle.meson_syntax.specs.Places.{argument_span, expression_span};
-ghost use Rattle.meson_syntax.specs.View.{arg_view, expr_view, view};
-ghost use Rattle.meson_edit.specs.Places.{bracket_offset, element_span, value_span};
+ghost use Rattle.meson_syntax.specs.View.{arg_view, expr_view, list_view, view};
+ghost use Rattle.meson_edit.specs.Edits.{elements};
 ghost use Rattle.meson_calls.specs.Picking.{Source};
 
 use meson_lex::Span;
-use meson_syntax::{Arg, Bracket, Expr, Parsed, Path};
+use meson_syntax::{Arg, Bracket, Expr, List, Parsed, Path};
 
 /// Where an expression stands.
 pub fn span_of(expr: &Expr) -> Span
@@ -43,19 +43,14 @@ fn span_in(arg: &Arg) -> Option<Span>
 }
 
 /// Where the value of the n-th element of a list stands, if it is there.
-pub fn value_span(tree: &Parsed, path: &Path, n: usize) -> Option<Span>
-    ensures { (source : Source) → result ≡ value_span (view source tree.now) path.now.steps n }
+pub(crate) fn value_span(list: &List, n: usize) -> Option<Span>
+    ensures { (source : Source) → result ≡ option_map expression_span (option_and_then value_of (nth (elements (list_view source list.now)) n)) }
 {
-    match tree.list_at(path) {
-        Some(list) => {
-            let args = list.items.get();
-            if n < args.len() {
-                span_in(&args[n])
-            } else {
-                None
-            }
-        }
-        None => None,
+    let args = list.items.get();
+    if n < args.len() {
+        span_in(&args[n])
+    } else {
+        None
     }
 }
 
@@ -71,29 +66,14 @@ fn span_of_element(arg: &Arg) -> Span
 }
 
 /// Where the n-th element of a list stands, if it is there.
-pub fn element_span(tree: &Parsed, path: &Path, n: usize) -> Option<Span>
-    ensures { (source : Source) → result ≡ element_span (view source tree.now) path.now.steps n }
+pub(crate) fn element_span(list: &List, n: usize) -> Option<Span>
+    ensures { (source : Source) → result ≡ option_map argument_span (nth (elements (list_view source list.now)) n) }
 {
-    match tree.list_at(path) {
-        Some(list) => {
-            let args = list.items.get();
-            if n < args.len() {
-                Some(span_of_element(&args[n]))
-            } else {
-                None
-            }
-        }
-        None => None,
-    }
-}
-
-/// The offset of the opening bracket of a list, if it is there.
-pub fn bracket_offset(tree: &Parsed, path: &Path) -> Option<usize>
-    ensures { (source : Source) → result ≡ bracket_offset (view source tree.now) path.now.steps }
-{
-    match tree.list_at(path) {
-        Some(list) => Some(list.span.from),
-        None => None,
+    let args = list.items.get();
+    if n < args.len() {
+        Some(span_of_element(&args[n]))
+    } else {
+        None
     }
 }
 

@@ -5,7 +5,7 @@ use Rattle.meson_syntax.specs.declared.source.Limits.{Limits}
 use Rattle.meson_syntax.specs.declared.tree.Arg.TheFolds.{the_lemmas}
 use Rattle.meson_syntax.specs.declared.tree.List as rust
 use Rattle.meson_syntax.specs.declared.tree.Parsed.{Parsed}
-use Rattle.meson_syntax.specs.Tree.{Listing, listing, File}
+use Rattle.meson_syntax.specs.Tree.{Listing, listing, File, erase, erase_listing}
 use Rattle.meson_syntax.specs.Grammar.{listing_depth}
 use Rattle.meson_syntax.specs.Reads.{ReadsWithin, IsSpannedWithin}
 use Rattle.meson_syntax.specs.Paths.{ListAt, list_at, list_span}
@@ -19,15 +19,24 @@ use Rattle.meson_syntax.proofs.kept.Each.{in-other, lists-map}
 use Rattle.meson_syntax.proofs.kept.EachErased.{listing-each}
 use Rattle.meson_syntax.proofs.kept.EachNothing.{lists-put-erase}
 use Rattle.meson_syntax.proofs.kept.Elements.{elements-stay}
-use Rattle.meson_syntax.proofs.kept.Kept.{lists-kept}
+use Rattle.meson_syntax.proofs.kept.Kept.{lists-kept, moved-place}
 use Rattle.meson_syntax.proofs.kept.ListsAlone.{lists-alone}
 use Rattle.meson_syntax.proofs.kept.PutLists.{put-lists-look, found-lists-look, lists-texts}
 use Rattle.meson_syntax.proofs.kept.Spanned.{spanned-texts}
 use Rattle.meson_syntax.proofs.kept.ToldFiles.{views-tell}
 use Rattle.meson_syntax.proofs.kept.Views.{views-move, list-views-move}
 use Rattle.meson_edit.specs.ExchangedTrees.{IsExchange, tree_with, TreesExchange, OldListsLook, TreesExchangeBack}
+use Rattle.meson_edit.specs.Sequences.{StaysThere}
 use Rattle.meson_edit.proofs.paths.PutBack.{lists-put-back}
 use Rattle.meson_edit.proofs.paths.PutThere.{lists-there}
+
+-- What a path names in a tree that got a list, which then stands from one offset on for so many bytes: that list.
+pub record FoundNew (p : ListAt Span) (bytes : List ℕ) (f : File Span) (path : List ℕ) (from len : ℕ) (l : rust.List) : Type 0 where
+  pub there : ListAt Span
+  pub is_there : list_at f path ≡ Some there
+  pub bracket : there.bracket ≡ p.bracket
+  pub list : there.list ≡ list_view bytes l
+  pub span : list_span there.list ≡ record { from = from; to = len + from }
 
 module _ (limits : Limits) (bytes : List ℕ) (t : Parsed) (path : List ℕ) (p : ListAt Span) (front was now back : List ℕ) (new : rust.List)
     (x : IsExchange limits bytes t path p front was now back new) where
@@ -51,10 +60,10 @@ module _ (limits : Limits) (bytes : List ℕ) (t : Parsed) (path : List ℕ) (p 
   u = tree_with path front was now new t
 
   -- what the path names in the moved tree
-  there : (r : ListAt Span) × (list_at (each_file (span_by g) f) path ≡ Some r) × (r.list ≡ each_listing (span_by g) p.list)
+  there : (r : ListAt Span) × (list_at (each_file (span_by g) f) path ≡ Some r) × (r.list ≡ each_listing (span_by g) p.list) × (r.bracket ≡ p.bracket)
   there =
       let o = in-other (list_at f path) (list_at (each_file (span_by g) f) path) (lists-map (span_by g) f path) p x.is_p in
-      (o.0, o.1, o.2.list)
+      (o.0, o.1, o.2.list, o.2.bracket)
 
   abbrev r : ListAt Span
   r = there.0
@@ -62,9 +71,11 @@ module _ (limits : Limits) (bytes : List ℕ) (t : Parsed) (path : List ℕ) (p 
   same-moved : moved (length front + length was) (length was) (length now) ≡ g
   same-moved = ap (λ n. moved n (length was) (length now)) (sym (length-append front was))
 
+  bare : erase (r.back l) ≡ x.q.back (erase_listing (list_view now new))
+  bare = lists-put-erase (span_by g) f path r there.1 x.q x.is_q l ∙ ap x.q.back (listing-each k (list_view now new))
+
   kept : IsSpannedWithin limits new_bytes (r.back l)
   kept =
-      let bare = lists-put-erase (span_by g) f path r there.1 x.q x.is_q l ∙ ap x.q.back (listing-each k (list_view now new)) in
       lists-kept limits bytes f x.spanned path p x.is_p front was now back x.parts x.from x.to x.depth (list_view now new) x.is_list r there.1
       (subst (ReadsWithin limits new_bytes) (sym bare) x.reads)
 
@@ -77,6 +88,31 @@ module _ (limits : Limits) (bytes : List ℕ) (t : Parsed) (path : List ℕ) (p 
 
   stands : IsSpannedWithin limits new_bytes (view new_bytes u)
   stands = subst (IsSpannedWithin limits new_bytes) (sym looks) kept
+
+  -- ---- the new list
+
+  is-bare : erase (view new_bytes u) ≡ x.q.back (erase_listing (list_view now new))
+  is-bare = ap erase looks ∙ bare
+
+  put : StaysThere path r l
+  put = lists-there Span (each_file (span_by g) f) path r there.1 l
+
+  is-put : list_at (view new_bytes u) path ≡ Some put.there
+  is-put = ap (λ y. list_at y path) looks ∙ put.is_there
+
+  abbrev placed : rust.List
+  placed = moved_list (λ n. n + length front) new
+
+  found : FoundNew p new_bytes (view new_bytes u) path (length front) (length now) placed
+  found = record {
+    there = put.there;
+    is_there = is-put;
+    bracket = put.bracket ∙ there.3;
+    list = sym (list-views-move (λ n. n + length front) new_bytes now new ∙ ap (texts_of_listing new_bytes) (sym put.list) ∙ sym texts-of-put) ;
+    span = ap list_span put.list ∙ moved-place p.bracket x.depth now (list_view now new) x.is_list (length front);
+  } where
+    texts-of-put : put.there.list ≡ texts_of_listing new_bytes put.there.list
+    texts-of-put = found-lists-look new_bytes (r.back l) path put.there put.is_there put.there (ap (λ y. list_at y path) (spanned-texts limits new_bytes (r.back l) kept) ∙ put.is_there)
 
   -- ---- the old list
 
@@ -117,19 +153,18 @@ module _ (limits : Limits) (bytes : List ℕ) (t : Parsed) (path : List ℕ) (p 
   back-again : (old : rust.List) → list_view bytes old ≡ p.list
       → with_list path old (moved_parsed (moved (length front + length now) (length now) (length was)) u) ≡ t
   back-again old is =
-      let w = lists-there Span (each_file (span_by g) f) path r there.1 l in
-      let o = in-other (list_at (r.back l) path) (list_at (each_file (span_by h) (r.back l)) path) (lists-map (span_by h) (r.back l) path) w.there w.is_there in
+      let o = in-other (list_at (r.back l) path) (list_at (each_file (span_by h) (r.back l)) path) (lists-map (span_by h) (r.back l) path) put.there put.is_there in
       let n = length-append front was in
       let alone = lists-alone limits bytes f x.spanned path p x.is_p front was back x.parts x.from x.to (listing_depth p.list) (omega arith) in
       let same = ap (λ m. moved m (length now) (length was)) (sym (length-append front now)) in
       let moved_looks : view bytes (moved_parsed h u) ≡ texts_of bytes (each_file (span_by h) (r.back l)) =
       views-move h bytes new_bytes u ∙ ap (λ y. texts_of bytes (each_file (span_by h) y)) looks in
-      let put = put-lists-look bytes (moved_parsed h u) (each_file (span_by h) (r.back l)) moved_looks path o.0 o.1 old p.list (is ∙ texts-of-old) in
+      let put_back = put-lists-look bytes (moved_parsed h u) (each_file (span_by h) (r.back l)) moved_looks path o.0 o.1 old p.list (is ∙ texts-of-old) in
       let back_is : o.0.back p.list ≡ f = ap o.0.back (sym alone.2)
       ∙ lists-put-back limits bytes f x.spanned path p x.is_p front was now back x.parts x.from x.to x.depth (list_view now new) x.is_list r there.1 kept
       (listing_depth p.list) alone.0 alone.1 o.0 o.1 in
       ap (λ y. with_list path old (moved_parsed y u)) same
-      ∙ views-tell bytes (with_list path old (moved_parsed h u)) t (put ∙ ap (texts_of bytes) back_is ∙ spanned-texts limits bytes f x.spanned)
+      ∙ views-tell bytes (with_list path old (moved_parsed h u)) t (put_back ∙ ap (texts_of bytes) back_is ∙ spanned-texts limits bytes f x.spanned)
 
 pub trees-exchange : TreesExchange
 trees-exchange limits bytes t path p front was now back new x = stands limits bytes t path p front was now back new x
@@ -139,3 +174,13 @@ old-lists-look limits bytes t path p front was now back new x old is = old-looks
 
 pub trees-exchange-back : TreesExchangeBack
 trees-exchange-back limits bytes t path p front was now back new x old is = back-again limits bytes t path p front was now back new x old is
+
+pub new-list-found : (limits : Limits) (bytes : List ℕ) (t : Parsed) (path : List ℕ) (p : ListAt Span) (front was now back : List ℕ) (new : rust.List)
+    → IsExchange limits bytes t path p front was now back new
+    → FoundNew p (front ++ (now ++ back)) (view (front ++ (now ++ back)) (tree_with path front was now new t)) path (length front) (length now) (moved_list (λ n. n + length front) new)
+new-list-found limits bytes t path p front was now back new x = found limits bytes t path p front was now back new x
+
+pub new-tree-bare : (limits : Limits) (bytes : List ℕ) (t : Parsed) (path : List ℕ) (p : ListAt Span) (front was now back : List ℕ) (new : rust.List)
+    → (x : IsExchange limits bytes t path p front was now back new)
+    → erase (view (front ++ (now ++ back)) (tree_with path front was now new t)) ≡ x.q.back (erase_listing (list_view now new))
+new-tree-bare limits bytes t path p front was now back new x = is-bare limits bytes t path p front was now back new x

@@ -1,19 +1,14 @@
-use Rattle.std.proofs.Common.{ap, ◌∙◌}
-use Rattle.std.specs.Prelude.{Some}
+use Rattle.std.proofs.Common.{ap, sym, ◌∙◌}
+use Rattle.std.specs.Prelude.{Some, option_map}
 use Rattle.meson_syntax.specs.Places.{argument_span}
-use Rattle.meson_syntax.specs.View.{arg_view, view}
-use Rattle.meson_steps.proofs.ArgumentValues.{no_element, whole_there, whole_past}
+use Rattle.meson_syntax.specs.View.{arg_view}
+use Rattle.meson_steps.proofs.ArgumentValues.{element_there, no_element}
 use Rattle.meson_steps.proofs.spans.element_span.Goals as goal
 
 pub returns-then-n-args : goal.returns-then-n-args
 returns-then-n-args c = λ source.
-    let args = c.get-args.result.now in
     ap Some (c.span_of_element.ensures source ∙ ap (λ a. argument_span (arg_view source a)) c.index-args-n.is)
-    ∙ whole_there (view source c.args.tree.now) c.args.path.now.steps c.args.n source c.in-Some.list.now args (c.in-Some.ensures source) c.get-args.ensures c.index-args-n.result c.if-n-args.true
+    ∙ sym (ap (option_map argument_span) (element_there source c.args.list.now c.get-args.result.now c.get-args.ensures c.args.n c.index-args-n.result c.if-n-args.true))
 
 pub returns-else-n-args : goal.returns-else-n-args
-returns-else-n-args c = λ source.
-    whole_past (view source c.args.tree.now) c.args.path.now.steps c.args.n source c.in-Some.list.now c.get-args.result.now (c.in-Some.ensures source) c.get-args.ensures c.if-n-args.false
-
-pub returns-in-None : goal.returns-in-None
-returns-in-None c = λ source. no_element (view source c.args.tree.now) c.args.path.now.steps c.args.n (c.in-None.ensures source)
+returns-else-n-args c = λ source. sym (ap (option_map argument_span) (no_element source c.args.list.now c.get-args.result.now c.get-args.ensures c.args.n c.if-n-args.false))

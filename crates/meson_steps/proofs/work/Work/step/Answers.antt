@@ -1,87 +1,19 @@
-use Rattle.std.proofs.Common.{◌∙◌, [], arith, subst, sym}
-use Rattle.meson_splice.specs.declared.file_set.File.{File}
-use Rattle.meson_steps.specs.Working.{IsChanged, list_again}
-use Rattle.meson_steps.proofs.StepTaken.{empty_list, some_list, when_ok, code_in_files, code_in_trees, code_laid, code_may, code_may_be_laid, code_may_list, code_same, code_new, code_new_list}
+use Rattle.std.proofs.Common.{◌∷◌, subst}
+use Rattle.meson_steps.specs.Held.{settled}
+use Rattle.meson_steps.specs.Working.{HasReached}
+use Rattle.meson_steps.proofs.HeldWork.{settled_reached}
 use Rattle.meson_steps.proofs.work.Work.step.Goals as goal
 
-nobody : File
-nobody = record { name = []; bytes = [] }
+pub first_step-requires-2 : goal.first_step-requires-2
+first_step-requires-2 c =
+    let n = c.requires.next.1 in
+    let old = c.requires.next.0 in
+    let w = c.args.self.now in
+    let reached = subst (λ o. HasReached old n.before (n.next ∷ n.rest) (settled o w)) c.in-Some.is n.reached in
+    (old, record { before = n.before; next = n.next; rest = n.rest; is = n.is; reached = settled_reached old n.before (n.next ∷ n.rest) w c.settle.new.self c.in-Some.held reached c.in_ok-settle.ensures.done })
 
-pub unreachable-requires : goal.unreachable-requires
-unreachable-requires c =
-    let n = c.requires.1 in
-    let within = code_in_trees c.requires.0 c.args.self.now c.args.step n.before n.rest n.next n.is n.reached in
-    absurd (omega (arith, within, c.if-file-len.true, c.len.ensures))
-
-pub unreachable-requires-in_default : goal.unreachable-requires-in_default
-unreachable-requires-in_default c =
-    let n = c.requires.1 in
-    let old = c.requires.0 in
-    code_laid old c.args.self.now c.args.step n.before n.rest n.next n.is n.reached c.index-tree.result.now c.index-tree.ensures c.primitive_of.result c.primitive_of.ensures c.in_default.is
-
-pub name-requires : goal.name-requires
-name-requires c =
-    let n = c.requires.1 in
-    code_in_files c.requires.0 c.args.self.now c.args.step n.before n.rest n.next n.is n.reached
-
-pub bytes-requires : goal.bytes-requires
-bytes-requires c =
-    let n = c.requires.1 in
-    code_in_files c.requires.0 c.args.self.now c.args.step n.before n.rest n.next n.is n.reached
-
-pub laid-requires : goal.laid-requires
-laid-requires c =
-    let n = c.requires.1 in
-    let old = c.requires.0 in
-    code_may_be_laid old c.args.self.now c.args.step n.before n.rest n.next n.is n.reached c.index-tree.result.now c.index-tree.ensures c.in-Some.primitive c.in-Some.ensures c.bytes.result.now c.bytes.ensures
-    c.is_of_list-of_list.result c.is_of_list-of_list.ensures c.looked_at-list.result c.looked_at-list.ensures
-
-pub returns-then-is_empty-clause-done : goal.returns-then-is_empty-clause-done
-returns-then-is_empty-clause-done c = λ old before rest s is r.
-    let splices = c.in_ok-splices.splices.items in
-    code_same old c.args.self.now c.args.step before rest s is r c.index-tree.result.now c.index-tree.ensures c.in-Some.primitive c.in-Some.ensures c.bytes.result.now c.bytes.ensures
-    c.name.result.now nobody (c.name.ensures nobody) splices c.in_ok-splices.ensures.done (empty_list c.as_slice.result.now splices c.as_slice.ensures.value c.if-is_empty.ensures)
-
-pub change_list-requires-clause-files : goal.change_list-requires-clause-files
-change_list-requires-clause-files c =
-    let n = c.requires.1 in
-    code_in_files c.requires.0 c.args.self.now c.args.step n.before n.rest n.next n.is n.reached
-
-pub change_list-requires-clause-read : goal.change_list-requires-clause-read
-change_list-requires-clause-read c =
-    let n = c.requires.1 in
-    let old = c.requires.0 in
-    code_may_list old c.args.self.now c.args.step n.before n.rest n.next n.is n.reached c.index-tree.result.now c.index-tree.ensures c.in-Some.primitive c.in-Some.ensures c.bytes.result.now c.bytes.ensures
-    c.name.result.now nobody (c.name.ensures nobody) c.in_ok-splices.splices.items c.in_ok-splices.ensures.done (sym c.is_of_list-of_list.ensures ∙ c.if-of_list.true)
-
-pub change-requires-clause-files : goal.change-requires-clause-files
-change-requires-clause-files c =
-    let n = c.requires.1 in
-    code_in_files c.requires.0 c.args.self.now c.args.step n.before n.rest n.next n.is n.reached
-
-pub change-requires-clause-read : goal.change-requires-clause-read
-change-requires-clause-read c =
-    let n = c.requires.1 in
-    let old = c.requires.0 in
-    code_may old c.args.self.now c.args.step n.before n.rest n.next n.is n.reached c.index-tree.result.now c.index-tree.ensures c.in-Some.primitive c.in-Some.ensures c.bytes.result.now c.bytes.ensures
-    c.name.result.now nobody (c.name.ensures nobody) c.in_ok-splices.splices.items c.in_ok-splices.ensures.done
-
-pub returns-then-of_list-clause-done : goal.returns-then-of_list-clause-done
-returns-then-of_list-clause-done c = λ old before rest s is r.
-    let splices = c.in_ok-splices.splices.items in
-    let t = c.index-tree.result.now in
-    when_ok c.change_list.result
-    (λ changed. code_new_list old c.args.self.now c.args.step before rest s is r t c.index-tree.ensures c.in-Some.primitive c.in-Some.ensures c.bytes.result.now c.bytes.ensures
-    c.name.result.now nobody (c.name.ensures nobody) splices c.in_ok-splices.ensures.done (some_list c.as_slice.result.now splices c.as_slice.ensures.value c.if-is_empty.ensures) c.change_list.new.self
-    (sym c.is_of_list-of_list.ensures ∙ c.if-of_list.true)
-    (subst (λ u. IsChanged c.args.self.now c.change_list.new.self c.args.step.list.file splices (list_again c.args.self.now c.change_list.new.self c.args.step.list u)) (sym c.index-tree.ensures) changed))
-    (c.change_list.ensures.done t)
-
-pub returns-else-of_list-clause-done : goal.returns-else-of_list-clause-done
-returns-else-of_list-clause-done c = λ old before rest s is r.
-    let splices = c.in_ok-splices.splices.items in
-    when_ok c.change.result
-    (code_new old c.args.self.now c.args.step before rest s is r c.index-tree.result.now c.index-tree.ensures c.in-Some.primitive c.in-Some.ensures c.bytes.result.now c.bytes.ensures
-    c.name.result.now nobody (c.name.ensures nobody) splices c.in_ok-splices.ensures.done (some_list c.as_slice.result.now splices c.as_slice.ensures.value c.if-is_empty.ensures) c.change.new.self
-    (sym c.is_of_list-of_list.ensures ∙ c.if-of_list.false))
-    c.change.ensures.done
+pub returns-clause-done : goal.returns-clause-done
+returns-clause-done c = λ old before rest s is r.
+    let w = c.args.self.now in
+    let reached = subst (λ o. HasReached old before (s ∷ rest) (settled o w)) c.in-Some.is r in
+    c.first_step-2.ensures.done old before rest s is (settled_reached old before (s ∷ rest) w c.settle.new.self c.in-Some.held reached c.in_ok-settle.ensures.done)

@@ -1,9 +1,8 @@
-use Rattle.std.proofs.Common.{◌∙◌, sym}
 use Rattle.std.specs.Prelude.{None, Some}
 use Rattle.meson_syntax.specs.Paths.{list_at}
 use Rattle.meson_syntax.specs.View.{view}
 use Rattle.meson_steps.proofs.ListSpots.{looked_spot}
-use Rattle.meson_steps.proofs.work.looked_at.Goals as goal
+use Rattle.meson_steps.proofs.layouts.looked_at.Goals as goal
 
 pub returns-in-Some : goal.returns-in-Some
 returns-in-Some c = λ source. looked_spot c.args.of_list (list_at (view source c.args.tree.now) c.args.path.now.steps) (Some c.in-Some.spot) c.if-not-of_list.false (c.in-Some.ensures source)

@@ -1,0 +1,100 @@
+-- A further step on a list that is held back.
+use Rattle.std.proofs.Common.{◌≡◌, ℕ, ◌<◌, true, List, [], ◌∷◌, ◌++◌, length, get_or, Option, Some, None, sym, ap, ◌∙◌, subst}
+use Rattle.std.specs.Prelude.{option_map}
+use Rattle.meson_lex.specs.declared.kinds.Span.{Span}
+use Rattle.meson_lex.specs.Items.{Lexeme, IsItemList}
+use Rattle.meson_layout.specs.declared.primitive.Primitive.{Primitive}
+use Rattle.meson_layout.specs.Layout.{layout_of}
+use Rattle.meson_layout.specs.Local.{IsReadyIn}
+use Rattle.meson_splice.specs.declared.file_set.File.{File}
+use Rattle.meson_splice.specs.declared.splice.Splice.{Splice}
+use Rattle.meson_splice.specs.Files.{bytes_at}
+use Rattle.meson_syntax.specs.declared.tree.List as rust
+use Rattle.meson_syntax.specs.declared.tree.Parsed.{Parsed}
+use Rattle.meson_syntax.specs.Paths.{ListAt, list_span}
+use Rattle.meson_syntax.specs.View.{list_view, view}
+use Rattle.meson_calls.specs.Loading.{Loaded}
+use Rattle.meson_edit.proofs.paths.ExchangedTrees.{FoundNew}
+use Rattle.meson_steps.specs.declared.held.HeldList.{HeldList}
+use Rattle.meson_steps.specs.declared.spans.ListSpot.{ListSpot}
+use Rattle.meson_steps.specs.declared.step.ListEdit.{ListEdit}
+use Rattle.meson_steps.specs.declared.step.ListStep.{ListStep}
+use Rattle.meson_steps.specs.declared.work.Work.{Work}
+use Rattle.meson_steps.specs.Held.{IsHeld, settled}
+use Rattle.meson_steps.specs.Journal.{settled_tree}
+use Rattle.meson_steps.specs.ListSteps.{bare, edits_list}
+use Rattle.meson_steps.specs.Steps.{Step, effective}
+use Rattle.meson_steps.specs.Working.{HasReached, IsChanged, MayChangeList, Standing, list_again, looked_at, placed_edit, placed_in}
+use Rattle.meson_steps.proofs.HeldLists.{held_found, held_spot_is}
+use Rattle.meson_steps.proofs.ListTaken.{no_tree}
+use Rattle.meson_steps.proofs.PlacedEdits.{placed_at}
+use Rattle.meson_steps.proofs.Restoring.{changed_there}
+use Rattle.meson_steps.proofs.SameRead.{same_read}
+use Rattle.meson_steps.proofs.StepTaken.{code_in_files, code_laid, code_may_be_laid, code_may_list, code_new_list, code_same, file_is}
+
+module _ (old : Loaded) (w : Work) (h : HeldList) (held : IsHeld w h) (edit : ListEdit) (of_list : edits_list edit ≡ true)
+    (before rest : List Step) (s : Step) (is : bare s ≡ Some (record { list = h.list.place; edit = edit })) (r : HasReached old before (s ∷ rest) (settled (Some h) w)) where
+  abbrev now : Standing
+  now = settled (Some h) w
+
+  abbrev step : ListStep
+  step = record { list = h.list.place; edit = edit }
+
+  abbrev file : ℕ
+  file = h.list.place.file
+
+  abbrev path : List ℕ
+  path = h.list.place.path.steps
+
+  -- the list's tree, with the list
+  abbrev t : Parsed
+  t = settled_tree h.list (get_or w.trees.items file no_tree)
+
+  there : t ≡ get_or now.trees file t
+  there = sym (changed_there file (settled_tree h.list) w.trees.items t held.there ∙ ap (settled_tree h.list) (same_read w.trees.items file t no_tree held.there))
+
+  pub held_in_files : file < length w.files
+  held_in_files = code_in_files old now step before rest s is r
+
+  abbrev bytes : List ℕ
+  bytes = bytes_at file w.files
+
+  found : FoundNew (held.is no_tree).of.takes.p bytes (view bytes t) path (length (held.is no_tree).of.takes.front) (length (held.is no_tree).of.takes.now) h.list.list
+  found = held_found (get_or w.trees.items file no_tree) bytes h (held.is no_tree)
+
+  same_file : file ≡ s.file
+  same_file = file_is old now step before rest s is r
+
+  abbrev IsPlaced : Option Primitive → Type 0
+  IsPlaced o = (source : List ℕ) → o ≡ placed_in (list_view source h.list.list) edit
+
+  placed : (o : Option Primitive) → IsPlaced o → o ≡ placed_edit (view (bytes_at s.file w.files) t) path edit
+  placed o is_o =
+      subst (λ i. o ≡ placed_edit (view (bytes_at i w.files) t) path edit) same_file
+      (is_o bytes ∙ ap (λ l. placed_in l edit) (sym found.list) ∙ sym (placed_at (view bytes t) path found.there edit of_list found.is_there))
+
+  looked : Some (rust.out-List h.list.list).span ≡ looked_at (view (bytes_at s.file w.files) t) path true
+  unfolding found
+  looked =
+      subst (λ i. Some (rust.out-List h.list.list).span ≡ looked_at (view (bytes_at i w.files) t) path true) same_file
+      (ap Some (sym (ap (λ (x : ListSpot). x.span) (held_spot_is (get_or w.trees.items file no_tree) bytes h (held.is no_tree))))
+      ∙ sym (ap (option_map (λ (q : ListAt Span). list_span q.list)) found.is_there))
+
+  pub held_laid : (o : Option Primitive) → IsPlaced o → o ≡ None → ⊥
+  held_laid o is_o none = code_laid old now step before rest s is r t there o (placed o is_o) none
+
+  module _ (p : Primitive) (is_p : IsPlaced (Some p)) (bs : List ℕ) (is_bytes : bs ≡ bytes) where
+    pub held_ready : IsReadyIn bs (rust.out-List h.list.list).span p
+    held_ready = code_may_be_laid old now step before rest s is r t there p (placed (Some p) is_p) bs is_bytes true (sym of_list) (Some (rust.out-List h.list.list).span) looked
+
+    module _ (nm : List ℕ) (d : File) (is_name : nm ≡ (get_or w.files file d).name) (splices : List Splice) (done : (list : List Lexeme) → IsItemList bs list → splices ≡ effective (layout_of nm list p)) where
+      pub held_same : splices ≡ [] → HasReached old (before ++ s ∷ []) rest now
+      held_same empty = code_same old now step before rest s is r t there p (placed (Some p) is_p) bs is_bytes nm d is_name splices done empty
+
+      pub held_may : (e : Parsed) → MayChangeList w.files h.list.place splices (settled_tree h.list (get_or w.trees.items file e))
+      held_may e =
+          subst (MayChangeList w.files h.list.place splices) (changed_there file (settled_tree h.list) w.trees.items e held.there)
+          (code_may_list old now step before rest s is r t there p (placed (Some p) is_p) bs is_bytes nm d is_name splices done of_list e)
+
+      pub held_new : (splices ≡ [] → ⊥) → (new : Standing) → IsChanged now new file splices (list_again w.files new.files h.list.place t) → HasReached old (before ++ s ∷ []) rest new
+      held_new some new changed = code_new_list old now step before rest s is r t there p (placed (Some p) is_p) bs is_bytes nm d is_name splices done some new of_list changed

@@ -1,0 +1,205 @@
+//! A list of a tree that steps change, one after another.
+
+ghost use Rattle.std.specs.Prelude.{[], ◌++◌, ◌<◌, ◌≡◌, ◌∷◌, IfErr, IfOk, List, OnOk, Some, length, slice_index_or, true};
+ghost use Rattle.meson_syntax.specs.declared.tree.Parsed.{Parsed};
+ghost use Rattle.meson_calls.specs.Loading.{Loaded};
+ghost use Rattle.meson_steps.specs.Held.{IsHeld, IsReadAgain, IsSettled, MayHold, settled};
+ghost use Rattle.meson_steps.specs.Journal.{settled_tree};
+ghost use Rattle.meson_steps.specs.ListSteps.{bare, edits_list};
+ghost use Rattle.meson_steps.specs.Steps as meant;
+ghost use Rattle.meson_steps.specs.Working.{HasReached, IsChanged, IsNext, MayChangeList, MayReadList, Restores, list_again, standing};
+
+use crate::journal::{SavedList, exchange_list};
+use crate::layouts::{laid, list_primitive};
+use crate::reading::{list_in, part};
+use crate::spans::{ListSpot, list_spot};
+use crate::step::{ListEdit, ListStep};
+use crate::work::{Work, applied, push_all};
+use meson_calls::{CallRef, Refusal};
+use meson_lex::Span;
+use meson_splice::Splice;
+use meson_syntax::Bracket;
+use std::alloc::{AllocError, Global};
+
+/// A list that steps changed, in its place in the file. It is held back: its tree still has the list of before, and gets the new one,
+/// and its borders move, when a step is on another list or none is left.
+#[derive(Drop)]
+pub struct HeldList {
+    pub bracket: Bracket,
+    pub list: SavedList,
+}
+
+impl HeldList {
+    /// Whether a step is an edit of this list.
+    pub(crate) fn is_changed_by(&self, step: &ListStep) -> bool
+        ensures { result ≡ true → (edits_list step.now.edit ≡ true) × (step.now.list ≡ self.now.list.place) }
+    {
+        let place = &self.list.place;
+        step.edit.is_of_list()
+            && step.list.file == place.file
+            && step.list.path.steps.get() == place.path.steps.get()
+    }
+}
+
+impl Work {
+    /// Puts a list that was held back into its tree, and moves the borders behind it.
+    ///
+    /// # Errors
+    /// Memory is refused.
+    pub(crate) fn settle(&mut self, held: HeldList) -> Result<(), AllocError>
+        requires { IsHeld self.old held }
+        ensures done { OnOk result (IsSettled self.old held self.new) }
+        ensures restores { (first : List Parsed) → Restores self.old first → Restores self.new first }
+    {
+        let HeldList { bracket: _, list } = held;
+        exchange_list(&mut self.trees, &mut self.saved, list)
+    }
+
+    /// Does one more step on the list that is held back.
+    ///
+    /// # Errors
+    /// Memory is refused.
+    pub(crate) fn further_step(
+        &mut self,
+        alloc: Global,
+        held: HeldList,
+        edit: ListEdit,
+    ) -> Result<Option<HeldList>, Refusal>
+        requires next { (old : Loaded) × IsNext old (settled (Some held) self.old) (record { list = held.list.place; edit = edit }) }
+        requires held { IsHeld self.old held }
+        requires of_list { edits_list edit ≡ true }
+        ensures done { (old : Loaded) (before rest : List meant.Step) (s : meant.Step) → bare s ≡ Some (record { list = held.list.place; edit = edit })
+            → HasReached old before (s ∷ rest) (settled (Some held) self.old) → IfOk result (λ h. HasReached old (before ++ s ∷ []) rest (settled h self.new)) }
+        ensures holds { IfOk result (MayHold self.new) }
+        ensures restores { (first : List Parsed) → Restores self.old first → Restores self.new first }
+        ensures refused { IfErr result (λ e. e ≡ Refusal.OutOfMemory) }
+    {
+        let Some(primitive) = list_primitive(&held.list.list, edit) else {
+            unreachable!();
+        };
+        let file = held.list.place.file;
+        let span = held.list.list.span;
+        let splices = laid(
+            alloc,
+            self.files.name(file),
+            self.files.bytes(file),
+            Some(span),
+            &primitive,
+        )?;
+        if splices.as_slice().is_empty() {
+            return Ok(Some(held));
+        }
+        Ok(Some(self.change_again(alloc, held, splices)?))
+    }
+
+    /// Makes the splices of a step on a list in the list's file, and reads its new text. Gives the list, in its place, and how many
+    /// bytes it has.
+    ///
+    /// # Errors
+    /// Memory is refused.
+    fn read_list(
+        &mut self,
+        alloc: Global,
+        file: usize,
+        spot: ListSpot,
+        splices: Vec<Splice>,
+    ) -> Result<(meson_syntax::List, usize), Refusal>
+        requires files { file < length self.old.files }
+        requires read { MayReadList self.old.files file splices.items spot }
+        ensures done { (m : MayReadList self.old.files file splices.items spot) → IfOk result (λ r. IsReadAgain self.old self.new file splices.items spot m r.0 r.1) }
+        ensures kept { (self.new.trees.items ≡ self.old.trees.items) × (self.new.saved.items ≡ self.old.saved.items) }
+        ensures refused { IfErr result (λ e. e ≡ Refusal.OutOfMemory) }
+    {
+        let ListSpot { bracket, span } = spot;
+        let around = self.files.bytes(file).len() - (span.to - span.from);
+        let splices = applied(alloc, &mut self.files, splices)?;
+        push_all(&mut self.splices, splices)?;
+        let bytes = self.files.bytes(file);
+        let now = bytes.len() - around;
+        self.relexed = self.relexed.saturating_add(now as u64);
+        let mut list = list_in(alloc, part(bytes, span.from, now), bracket)?;
+        list.move_by(span.from);
+        Ok((list, now))
+    }
+
+    /// Makes the splices of a step on a list of a tree. The list is held back then.
+    ///
+    /// # Errors
+    /// Memory is refused.
+    pub(crate) fn change_list(
+        &mut self,
+        alloc: Global,
+        place: CallRef,
+        splices: Vec<Splice>,
+    ) -> Result<HeldList, Refusal>
+        requires trees { place.file < length self.old.trees.items }
+        requires files { place.file < length self.old.files }
+        requires read { (d : Parsed) → MayChangeList self.old.files place splices.items (slice_index_or self.old.trees.items place.file d) }
+        ensures done { (d : Parsed) → IfOk result (λ h. IsChanged (standing self.old) (settled (Some h) self.new) place.file splices.items (list_again self.old.files self.new.files place (slice_index_or self.old.trees.items place.file d))) }
+        ensures holds { IfOk result (IsHeld self.new) }
+        ensures kept { (self.new.trees.items ≡ self.old.trees.items) × (self.new.saved.items ≡ self.old.saved.items) }
+        ensures refused { IfErr result (λ e. e ≡ Refusal.OutOfMemory) }
+    {
+        let Some(spot) = list_spot(&self.trees[place.file], &place.path) else {
+            unreachable!();
+        };
+        let (list, now) = self.read_list(alloc, place.file, spot, splices)?;
+        let Span { from, to } = spot.span;
+        let list = SavedList {
+            place,
+            list,
+            from,
+            was: to - from,
+            now,
+        };
+        Ok(HeldList {
+            bracket: spot.bracket,
+            list,
+        })
+    }
+
+    /// Makes the splices of a step on the list that is held back.
+    ///
+    /// # Errors
+    /// Memory is refused.
+    fn change_again(
+        &mut self,
+        alloc: Global,
+        held: HeldList,
+        splices: Vec<Splice>,
+    ) -> Result<HeldList, Refusal>
+        requires held { IsHeld self.old held }
+        requires files { held.list.place.file < length self.old.files }
+        requires read { (d : Parsed) → MayChangeList self.old.files held.list.place splices.items (settled_tree held.list (slice_index_or self.old.trees.items held.list.place.file d)) }
+        ensures done { (d : Parsed) → IfOk result (λ h. IsChanged (settled (Some held) self.old) (settled (Some h) self.new) held.list.place.file splices.items
+            (list_again self.old.files self.new.files held.list.place (settled_tree held.list (slice_index_or self.old.trees.items held.list.place.file d)))) }
+        ensures holds { IfOk result (IsHeld self.new) }
+        ensures kept { (self.new.trees.items ≡ self.old.trees.items) × (self.new.saved.items ≡ self.old.saved.items) }
+        ensures refused { IfErr result (λ e. e ≡ Refusal.OutOfMemory) }
+    {
+        let HeldList {
+            bracket,
+            list: held,
+        } = held;
+        let SavedList {
+            place,
+            list,
+            from,
+            was,
+            now: _,
+        } = held;
+        let spot = ListSpot {
+            bracket,
+            span: list.span,
+        };
+        let (list, now) = self.read_list(alloc, place.file, spot, splices)?;
+        let list = SavedList {
+            place,
+            list,
+            from,
+            was,
+            now,
+        };
+        Ok(HeldList { bracket, list })
+    }
+}
