@@ -31,10 +31,8 @@ pub fn literal(alloc: Global, source: &[u8], expr: &Expr) -> Result<Option<Strin
 {
     match expr {
         Expr::String { span, kind } => {
-            match literal_value(alloc, text_of(source, *span), token_kind(*kind)) {
-                Ok(text) => Ok(text),
-                Err(_) => Err(AllocError),
-            }
+            let text = literal_value(alloc, text_of(source, *span), token_kind(*kind))?;
+            Ok(text)
         }
         _ => Ok(None),
     }

@@ -1,5 +1,6 @@
 //! Why words are refused.
 
+use meson_json::ScriptFault;
 use std::alloc::AllocError;
 use std::error::Error;
 use std::fmt;
@@ -48,5 +49,21 @@ impl From<AllocError> for UsageFault {
 
     fn from(_: AllocError) -> UsageFault {
         UsageFault::OutOfMemory
+    }
+}
+
+// A script that words ask for is refused for want of memory alone. Any other fault would be one of the words.
+impl From<ScriptFault> for UsageFault {
+    ghost use Rattle.std.specs.Prelude.{◌≡◌, ◌↔◌};
+    ghost use Rattle.meson_command.specs.declared.fault.UsageFault.TheVariants.{OutOfMemory};
+    ghost use Rattle.meson_json.specs.declared.fault.ScriptFault.TheVariants as script;
+
+    ghost from_gives = { λ fault usage. (fault ≡ script.OutOfMemory) ↔ (usage ≡ OutOfMemory) };
+
+    fn from(fault: ScriptFault) -> UsageFault {
+        match fault {
+            ScriptFault::OutOfMemory => UsageFault::OutOfMemory,
+            _ => UsageFault::Usage,
+        }
     }
 }

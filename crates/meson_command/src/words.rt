@@ -55,8 +55,5 @@ pub(crate) fn run(alloc: Global, command: Command) -> Result<Action, UsageFault>
     ensures ok { IfOk result (λ a. a ≡ run command) }
     ensures refused { IfErr result (λ e. e ≡ OutOfMemory) }
 {
-    match Script::of(alloc, command) {
-        Ok(script) => Ok(Action::Run(script)),
-        Err(_) => Err(UsageFault::OutOfMemory),
-    }
+    Ok(Action::Run(Script::of(alloc, command)?))
 }

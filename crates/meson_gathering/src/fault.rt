@@ -23,8 +23,8 @@ impl From<AllocError> for GatherFault {
 
     ghost from_gives = { λ _ fault. fault ≡ Store OutOfMemory };
 
-    fn from(_: AllocError) -> GatherFault {
-        GatherFault::Store(StoreFault::OutOfMemory)
+    fn from(refused: AllocError) -> GatherFault {
+        GatherFault::Store(StoreFault::from(refused))
     }
 }
 
@@ -35,7 +35,7 @@ impl<T: Drop> From<AllocFailed<T>> for GatherFault {
 
     ghost from_gives = { λ _ fault. fault ≡ Store OutOfMemory };
 
-    fn from(_: AllocFailed<T>) -> GatherFault {
-        GatherFault::Store(StoreFault::OutOfMemory)
+    fn from(refused: AllocFailed<T>) -> GatherFault {
+        GatherFault::from(AllocError::from(refused))
     }
 }

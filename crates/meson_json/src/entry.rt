@@ -54,11 +54,11 @@ fn role_at(alloc: Global, index: usize, entry: &Value) -> Result<Role, ScriptFau
     ensures refused { IfErr result (λ e. e ≢ OutOfMemory → role_at index (view entry.now) ≡ Err e) }
 {
     let Some(name) = text_at(entry, "function") else {
-        return Err(bad_field(alloc, index, "function"));
+        return Err(bad_field(alloc, index, "function")?);
     };
     match find_role(name) {
         Some(role) => Ok(role),
-        None => Err(bad_field(alloc, index, "function")),
+        None => Err(bad_field(alloc, index, "function")?),
     }
 }
 
@@ -96,7 +96,7 @@ fn kwargs_command(
         return Ok(Command::KwargsDelete { role, id, keys });
     }
     let Some(pairs) = settings(alloc, members)? else {
-        return Err(bad_field(alloc, index, "kwargs"));
+        return Err(bad_field(alloc, index, "kwargs")?);
     };
     match operation {
         KwargsOperation::Set => Ok(Command::KwargsSet { role, id, pairs }),
@@ -139,7 +139,7 @@ fn options_command(
     match operation {
         OptionsOperation::Set => match option_texts(alloc, members)? {
             Some(pairs) => Ok(Command::OptionsSet { pairs }),
-            None => Err(bad_field(alloc, index, "options")),
+            None => Err(bad_field(alloc, index, "options")?),
         },
         OptionsOperation::Delete => Ok(Command::OptionsDelete {
             names: names(alloc, members)?,

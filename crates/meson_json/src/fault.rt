@@ -63,6 +63,22 @@ impl From<AllocError> for ScriptFault {
     }
 }
 
+impl From<serde_json::Error> for ScriptFault {
+    ghost use Rattle.std.specs.Prelude.{◌≡◌, ◌≢◌};
+    ghost use Rattle.serde_json.specs.Errors.{IsMemory};
+    ghost use Rattle.meson_json.specs.declared.fault.ScriptFault.TheVariants.{NotJson, OutOfMemory};
+
+    ghost from_gives = { λ error fault. (fault ≡ OutOfMemory → IsMemory error) × (fault ≢ OutOfMemory → ¬ IsMemory error × (fault ≡ NotJson)) };
+
+    fn from(error: serde_json::Error) -> ScriptFault {
+        if error.is_memory() {
+            ScriptFault::OutOfMemory
+        } else {
+            ScriptFault::NotJson
+        }
+    }
+}
+
 impl<T: Drop> From<AllocFailed<T>> for ScriptFault {
     ghost use Rattle.std.specs.Prelude.{◌≡◌};
     ghost use Rattle.meson_json.specs.declared.fault.ScriptFault.TheVariants.{OutOfMemory};

@@ -222,10 +222,8 @@ fn bare_change(alloc: Global, value: &Value) -> Result<Change, ScriptFault>
     let Some(list) = value.as_array() else {
         return Err(ScriptFault::BadLog);
     };
-    match splices_from(alloc, list) {
-        Ok(splices) => Ok(Change::untitled(alloc, splices)),
-        Err(fault) => Err(fault),
-    }
+    let splices = splices_from(alloc, list)?;
+    Ok(Change::untitled(alloc, splices))
 }
 
 /// A change of the second version.
@@ -241,10 +239,7 @@ fn titled_change(alloc: Global, value: &Value) -> Result<Change, ScriptFault>
     let Some(list) = value.get("splices").and_then(Value::as_array) else {
         return Err(ScriptFault::BadLog);
     };
-    let splices = match splices_from(alloc, list) {
-        Ok(splices) => splices,
-        Err(fault) => return Err(fault),
-    };
+    let splices = splices_from(alloc, list)?;
     let Some(title) = text_at(value, "title") else {
         return Err(ScriptFault::BadLog);
     };
@@ -318,14 +313,8 @@ fn history_from(alloc: Global, value: &Value) -> Result<History, ScriptFault>
     let Some(version) = version_of(number) else {
         return Err(ScriptFault::BadLog);
     };
-    let future = match changes_at(alloc, version, value, "future") {
-        Ok(future) => future,
-        Err(fault) => return Err(fault),
-    };
-    let past = match changes_at(alloc, version, value, "past") {
-        Ok(past) => past,
-        Err(fault) => return Err(fault),
-    };
+    let future = changes_at(alloc, version, value, "future")?;
+    let past = changes_at(alloc, version, value, "past")?;
     Ok(History { past, future })
 }
 
@@ -340,16 +329,11 @@ pub fn read_log(alloc: Global, bytes: &[u8]) -> Result<History, ScriptFault>
     ensures refused { IfErr result (λ e. e ≢ OutOfMemory → (e ≡ BadLog) × (logged bytes.now ≡ None)) }
 {
     match Value::from_slice(alloc, bytes) {
-        Ok(value) => match history_from(alloc, &value) {
-            Ok(history) => Ok(history),
-            Err(fault) => Err(fault),
+        Ok(value) => history_from(alloc, &value),
+        Err(error) => match ScriptFault::from(error) {
+            // What is no JSON is no log.
+            ScriptFault::NotJson => Err(ScriptFault::BadLog),
+            fault => Err(fault),
         },
-        Err(error) => {
-            if error.is_memory() {
-                Err(ScriptFault::OutOfMemory)
-            } else {
-                Err(ScriptFault::BadLog)
-            }
-        }
     }
 }

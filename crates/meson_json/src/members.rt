@@ -28,13 +28,10 @@ fn owned(alloc: Global, text: &str) -> Result<Text, AllocError>
 }
 
 /// That the member of this name is missing or of another kind.
-pub(crate) fn bad_field(alloc: Global, index: usize, name: &str) -> ScriptFault
-    ensures { result ≢ OutOfMemory → result ≡ BadField index name.now }
+pub(crate) fn bad_field(alloc: Global, index: usize, name: &str) -> Result<ScriptFault, AllocError>
+    ensures { IfOk result (λ fault. fault ≡ BadField index name.now) }
 {
-    match owned(alloc, name) {
-        Ok(name) => ScriptFault::BadField(index, name),
-        Err(_) => ScriptFault::OutOfMemory,
-    }
+    Ok(ScriptFault::BadField(index, owned(alloc, name)?))
 }
 
 pub(crate) fn required_text(
@@ -48,7 +45,7 @@ pub(crate) fn required_text(
 {
     match text_at(entry, name) {
         Some(text) => Ok(owned(alloc, text)?),
-        None => Err(bad_field(alloc, index, name)),
+        None => Err(bad_field(alloc, index, name)?),
     }
 }
 
@@ -67,7 +64,7 @@ pub(crate) fn text_or(
     };
     match member.as_str() {
         Some(text) => Ok(owned(alloc, text)?),
-        None => Err(bad_field(alloc, index, name)),
+        None => Err(bad_field(alloc, index, name)?),
     }
 }
 
@@ -98,11 +95,11 @@ pub(crate) fn texts_or_none(
         return Ok(Many::new(alloc));
     };
     let Some(list) = member.as_array() else {
-        return Err(bad_field(alloc, index, name));
+        return Err(bad_field(alloc, index, name)?);
     };
     match texts(alloc, list)? {
         Some(all) => Ok(all),
-        None => Err(bad_field(alloc, index, name)),
+        None => Err(bad_field(alloc, index, name)?),
     }
 }
 
@@ -122,7 +119,7 @@ pub(crate) fn members_or<'a>(
     };
     match member.as_object() {
         Some(members) => Ok(members),
-        None => Err(bad_field(alloc, index, name)),
+        None => Err(bad_field(alloc, index, name)?),
     }
 }
 

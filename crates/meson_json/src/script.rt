@@ -31,16 +31,8 @@ impl Script {
         ensures ok { IfOk result (λ s. script_of (read text.now) ≡ Ok s.commands) }
         ensures refused { IfErr result (λ e. e ≢ OutOfMemory → script_of (read text.now) ≡ Err e) }
     {
-        match Value::from_str(alloc, text) {
-            Ok(value) => script_from(alloc, &value),
-            Err(error) => {
-                if error.is_memory() {
-                    Err(ScriptFault::OutOfMemory)
-                } else {
-                    Err(ScriptFault::NotJson)
-                }
-            }
-        }
+        let value = Value::from_str(alloc, text)?;
+        script_from(alloc, &value)
     }
 
     /// The script of one command. Drops the command where memory is refused.

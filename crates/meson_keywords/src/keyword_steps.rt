@@ -95,14 +95,11 @@ pub(crate) fn remove_all(
 }
 
 /// The refusal of a value that can't be changed.
-pub(crate) fn not_literal(alloc: Global, key: &[u8]) -> Refusal
+pub(crate) fn not_literal(alloc: Global, key: &[u8]) -> Result<Refusal, AllocError>
     requires { IsUtf8 key.now }
-    ensures { result ≢ Refusal.OutOfMemory → result ≡ Refusal.NotLiteral key.now }
+    ensures { IfOk result (λ refusal. refusal ≡ Refusal.NotLiteral key.now) }
 {
-    match key_text(alloc, key) {
-        Ok(key) => Refusal::NotLiteral(key),
-        Err(_) => Refusal::OutOfMemory,
-    }
+    Ok(Refusal::NotLiteral(key_text(alloc, key)?))
 }
 
 /// The steps by which a keyword argument is set.
@@ -209,7 +206,7 @@ fn add_to_value(
         }
         None => {
             if !is_element(alloc, subject.source, kind, value)? {
-                return Err(not_literal(alloc, key));
+                return Err(not_literal(alloc, key)?);
             }
             let new = other_values(alloc, subject.source, kind, value, values)?;
             push_edit(alloc, subject.call, ListEdit::Wrap(number), steps)?;
@@ -274,7 +271,7 @@ fn remove_from_array(
 {
     let equal = passing(alloc, source, Test::Says(kind, value), elements)?;
     if equal.as_slice().is_empty() && !all_known(alloc, source, kind, elements)? {
-        return Err(not_literal(alloc, key));
+        return Err(not_literal(alloc, key)?);
     }
     remove_all(alloc, list, equal.as_slice(), steps)?;
     Ok(())
@@ -307,7 +304,7 @@ fn remove_from_value(
         }
         None => {
             if !is_element(alloc, source, kind, value)? {
-                return Err(not_literal(alloc, key));
+                return Err(not_literal(alloc, key)?);
             }
             if says(alloc, source, kind, text, value)? {
                 push_edit(alloc, subject.call, ListEdit::Remove(number), steps)?;

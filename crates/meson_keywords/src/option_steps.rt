@@ -100,7 +100,7 @@ fn only_literals(alloc: Global, source: &[u8], elements: &[Arg]) -> Result<(), R
     ensures refused { IfErr result (λ e. e ≢ Refusal.OutOfMemory → (e ≡ Refusal.NotLiteral options_key) × (all_known ElementKind.Text (args_view source.now elements.now) ≡ false)) }
 {
     if !all_known(alloc, source, ElementKind::Text, elements)? {
-        return Err(not_literal(alloc, OPTIONS.as_bytes()));
+        return Err(not_literal(alloc, OPTIONS.as_bytes())?);
     }
     Ok(())
 }
@@ -142,7 +142,7 @@ fn only_literal_keys(alloc: Global, source: &[u8], pairs: &[Arg]) -> Result<(), 
     ensures refused { IfErr result (λ e. e ≢ Refusal.OutOfMemory → (e ≡ Refusal.NotLiteral options_key) × (keys_known (args_view source.now pairs.now) ≡ false)) }
 {
     if !keys_known(alloc, source, pairs)? {
-        return Err(not_literal(alloc, OPTIONS.as_bytes()));
+        return Err(not_literal(alloc, OPTIONS.as_bytes())?);
     }
     Ok(())
 }
@@ -175,7 +175,7 @@ fn set_in_value(
         }
         None => {
             if !is_element(alloc, source, ElementKind::Text, found.value)? {
-                return Err(not_literal(alloc, OPTIONS.as_bytes()));
+                return Err(not_literal(alloc, OPTIONS.as_bytes())?);
             }
             set_in_lone(alloc, subject, found, name, entry, steps)
         }
@@ -277,7 +277,7 @@ fn delete_in_value(
         }
         None => {
             if !is_element(alloc, source, ElementKind::Text, value)? {
-                return Err(not_literal(alloc, OPTIONS.as_bytes()));
+                return Err(not_literal(alloc, OPTIONS.as_bytes())?);
             }
             if is_entry(alloc, source, name, value)? {
                 push_edit(alloc, subject.call, ListEdit::Remove(number), steps)?;

@@ -1,4 +1,5 @@
 // What the calls of this crate answer where they have no result.
+use std::alloc::AllocError;
 use std::fmt;
 use thiserror::Error;
 
@@ -38,4 +39,22 @@ impl std::error::Error for LexFault {}
 pub enum LiteralFault {
     #[error("out of memory")]
     OutOfMemory,
+}
+
+impl From<AllocError> for LiteralFault {
+    ghost use Rattle.std.specs.Prelude.{◌≡◌};
+    ghost use Rattle.meson_lex.specs.declared.fault.LiteralFault.TheVariants.{OutOfMemory};
+
+    ghost from_gives = { λ _ e. e ≡ OutOfMemory };
+
+    fn from(_: AllocError) -> LiteralFault {
+        LiteralFault::OutOfMemory
+    }
+}
+
+// A literal is refused where memory is, and for no other cause.
+impl From<LiteralFault> for AllocError {
+    fn from(_: LiteralFault) -> AllocError {
+        AllocError
+    }
 }

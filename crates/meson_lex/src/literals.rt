@@ -63,12 +63,11 @@ pub fn literal_value(
     requires { IsString kind token.now }
     ensures { IfOk result (λ text. option_map string_bytes text ≡ value kind token.now) }
 {
-    let value = match kind {
-        Kind::PlainString => plain_value(alloc, token),
-        Kind::MultilineString => multiline_value(alloc, token),
+    match kind {
+        Kind::PlainString => Ok(plain_value(alloc, token)?),
+        Kind::MultilineString => Ok(multiline_value(alloc, token)?),
         _ => Ok(None),
-    };
-    value.map_err(|_| LiteralFault::OutOfMemory)
+    }
 }
 
 /// A digit of base 16, where the number is below 16.
@@ -114,5 +113,5 @@ fn written_literal(alloc: Global, text: &[u8]) -> Result<Vec<u8>, AllocError>
 pub fn write_literal(alloc: Global, text: &str) -> Result<Vec<u8>, LiteralFault>
     ensures { IfOk result (λ token. token.items ≡ literal text.now) }
 {
-    written_literal(alloc, text.as_bytes()).map_err(|_| LiteralFault::OutOfMemory)
+    Ok(written_literal(alloc, text.as_bytes())?)
 }

@@ -103,9 +103,7 @@ impl Project {
         ensures copied { IfOk result (λ p. p ≡ self.now) }
         ensures refused { IfErr result (λ e. e ≡ Refusal.OutOfMemory) }
     {
-        let Ok(files) = self.files.copy(alloc) else {
-            return Err(Refusal::OutOfMemory);
-        };
+        let files = self.files.clone()?;
         let trees = copy_trees(alloc, self.trees.as_slice())?;
         Ok(Project { files, trees })
     }
@@ -231,9 +229,7 @@ impl Project {
         // Each tree is that of its file, whatever came of the command.
         ensures project { IsProject self.new }
     {
-        let Ok(files) = self.files.copy(alloc) else {
-            return Err(Refusal::OutOfMemory);
-        };
+        let files = self.files.clone()?;
         let trees = mem::replace(&mut self.trees, Vec::new(alloc));
         let mut work = Work::start(alloc, files, trees);
         let ended = performed(alloc, &mut work, command);

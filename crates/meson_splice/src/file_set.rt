@@ -6,7 +6,7 @@ ghost use Rattle.meson_splice.specs.declared.file_set.File.{File};
 
 use crate::fault::SpliceFault;
 use meson_values::{Bytes, Text};
-use std::alloc::{AllocError, AllocFailed, Global};
+use std::alloc::{AllocError, Global};
 use std::marker::Model;
 use std::mem;
 use thiserror::Error;
@@ -16,6 +16,16 @@ use thiserror::Error;
 pub struct File {
     pub name: Text,
     pub bytes: Bytes,
+}
+
+impl Clone for File {
+    ghost is_clone = { λ f g. g ≡ f };
+
+    fn clone(&self) -> Result<Self, AllocError> {
+        let name = self.name.clone()?;
+        let bytes = self.bytes.clone()?;
+        Ok(File { name, bytes })
+    }
 }
 
 /// Why a file can't be added.
@@ -63,6 +73,15 @@ impl Model for FileSet {
     ghost view = { λ s. s.files.items };
 
     ghost invariant = { λ s. IsDistinct s.files.items };
+}
+
+impl Clone for FileSet {
+    ghost is_clone = { λ s t. t ≡ s };
+
+    fn clone(&self) -> Result<Self, AllocError> {
+        let files = self.files.clone()?;
+        Ok(FileSet { files })
+    }
 }
 
 impl FileSet {
@@ -165,12 +184,7 @@ impl FileSet {
         ensures distinct { IfOk result IsDistinct }
         ensures refused { IfErr result (λ e. e ≡ SpliceFault.OutOfMemory) }
     {
-        let mut files = Vec::with_capacity(alloc, self.files.len())?;
-        for file in self.files.iter() {
-            let name = file.name.clone()?;
-            let bytes = file.bytes.clone()?;
-            files.push(File { name, bytes }).map_err(AllocError::from)?;
-        }
+        let files = Vec::from_clones(alloc, self.files.as_slice())?;
         Ok(FileSet { files })
     }
 

@@ -7,7 +7,7 @@ ghost use Rattle.meson_lex.specs.Literals.{literal};
 use meson_calls::Refusal;
 use meson_lex::write_literal;
 use meson_splice::{Bytes, Text};
-use std::alloc::Global;
+use std::alloc::{AllocError, Global};
 
 /// The key of a refusal.
 pub fn key_of(key: &Text) -> Result<Text, Refusal>
@@ -24,13 +24,9 @@ pub fn push_literal(alloc: Global, to: &mut Vec<u8>, text: &str) -> Result<(), R
     ensures utf8 { IsUtf8 text.now }
     ensures refused { IfErr result (λ e. e ≡ Refusal.OutOfMemory) }
 {
-    match write_literal(alloc, text) {
-        Ok(token) => {
-            to.extend_from_slice(token.as_slice())?;
-            Ok(())
-        }
-        Err(_) => Err(Refusal::OutOfMemory),
-    }
+    let token = write_literal(alloc, text).map_err(AllocError::from)?;
+    to.extend_from_slice(token.as_slice())?;
+    Ok(())
 }
 
 /// The literal of a text.

@@ -20,7 +20,7 @@ returns-then-not-branch-clause-refused c = λ other.
     let values : List (List ℕ) = map (λ x. x.now) c.args.values.now in
     ap (add_by_shape c.args.subject.call.now c.args.found.number c.args.key.now c.args.kind values o) (c.in-None.ensures.shape source)
     ∙ add_none c.args.subject.call.now c.args.found.number c.args.key.now c.args.kind values o (sym c.in_ok-is_element-in-None.ensures ∙ c.if-not-branch.true)
-    ∙ ap Err (sym (c.not_literal.ensures other))
+    ∙ ap Err (sym c.in_ok-not_literal-in-None.ensures)
 
 pub returns-in-Some-clause-done : goal.returns-in-Some-clause-done
 returns-in-Some-clause-done c =

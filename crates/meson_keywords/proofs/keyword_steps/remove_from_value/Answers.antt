@@ -20,7 +20,7 @@ returns-then-not-branch-clause-refused c = λ other.
     let o = text_in c.args.kind v in
     ap (remove_by_shape c.args.subject.call.now c.args.found.number c.args.key.now c.args.kind c.args.text.now o) (c.in-None.ensures.shape source)
     ∙ lone_none c.args.subject.call.now c.args.found.number c.args.key.now c.args.text.now o (sym c.in_ok-is_element-in-None.ensures ∙ c.if-not-branch.true)
-    ∙ ap Err (sym (c.not_literal.ensures other))
+    ∙ ap Err (sym c.in_ok-not_literal-in-None.ensures)
 
 pub returns-in_ok-list-in-Some-clause-done : goal.returns-in_ok-list-in-Some-clause-done
 returns-in_ok-list-in-Some-clause-done c =

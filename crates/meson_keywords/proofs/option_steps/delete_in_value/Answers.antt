@@ -38,7 +38,7 @@ returns-then-not-branch-clause-refused c = λ other.
     let o = literal (expr_view source c.args.found.value.now) in
     ap (delete_by_shape call n c.args.name.now o) (c.in-None.ensures.shape source)
     ∙ lone_refused o (delete_lone call n (is_entry c.args.name.now o)) (sym c.in_ok-is_element-in-None.ensures ∙ c.if-not-branch.true)
-    ∙ ap Err (sym (c.not_literal.ensures other ∙ ap NotLiteral c.as_bytes.ensures.value))
+    ∙ ap Err (sym (c.in_ok-not_literal-in-None.ensures ∙ ap NotLiteral c.as_bytes.ensures.value))
 
 pub returns-clause-done : goal.returns-clause-done
 returns-clause-done c =

@@ -36,7 +36,7 @@ returns-then-not-branch-clause-refused c = λ other.
     let o = literal (expr_view source c.args.found.value.now) in
     ap (set_by_shape call n c.args.name.now c.args.entry.now o) (c.in-None.ensures.shape source)
     ∙ lone_refused o (set_in_lone call n c.args.entry.now (is_entry c.args.name.now o)) (sym c.in_ok-is_element-in-None.ensures ∙ c.if-not-branch.true)
-    ∙ ap Err (sym (c.not_literal.ensures other ∙ ap NotLiteral c.as_bytes.ensures.value))
+    ∙ ap Err (sym (c.in_ok-not_literal-in-None.ensures ∙ ap NotLiteral c.as_bytes.ensures.value))
 
 pub returns-in_ok-list-in-Some-clause-done : goal.returns-in_ok-list-in-Some-clause-done
 returns-in_ok-list-in-Some-clause-done c =

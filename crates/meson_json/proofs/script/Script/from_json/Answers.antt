@@ -1,12 +1,10 @@
-use Rattle.std.proofs.Common.{◌≡◌, Bool, false, ap, arith}
-use Rattle.std.specs.Prelude.{IsTrue}
+use Rattle.std.proofs.Common.{ap}
+use Rattle.std.proofs.lemmas.Result.{err_from_is_err_and}
 use Rattle.meson_json.specs.Scripts.{script_of}
 use Rattle.meson_json.proofs.script.Script.from_json.Goals as goal
 
-not_both : (b : Bool) → IsTrue b → b ≡ false → ⊥
-not_both b t f = grind (arith, t, f)
-
-pub returns-else-is_memory-clause-refused : goal.returns-else-is_memory-clause-refused
+pub returns-in_err-value-clause-refused : goal.returns-in_err-value-clause-refused
 unfolding script_of
-returns-else-is_memory-clause-refused c = λ _.
-    ap script_of (c.in-Err.ensures.err (λ m. not_both c.is_memory.result (c.is_memory.ensures.1 m) c.if-is_memory.false))
+returns-in_err-value-clause-refused c =
+    let p = err_from_is_err_and c.from_residual.result c.from_residual.ensures.1 in
+    rw p.1 (λ n. let why = p.2.1 n in rw why.1 (ap script_of (c.in_err-value.ensures.err why.0)))
