@@ -3,6 +3,8 @@ pub mod SlashParts
 pub mod FileNames
 pub mod Loads
 pub mod Visits
+pub mod WordCounts
+pub mod WalkedWords
 mod Takings
 pub mod ListTurns
 pub mod Parted

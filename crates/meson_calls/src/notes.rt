@@ -1,9 +1,10 @@
 //! The notes of a project.
 
-ghost use Rattle.std.specs.Prelude.{◌≡◌, IfOk, length};
+ghost use Rattle.std.specs.Prelude.{◌≡◌, IfOk};
+ghost use Rattle.meson_syntax.specs.Reads.{IsSpanned};
 ghost use Rattle.meson_syntax.specs.View.{view};
 ghost use Rattle.meson_calls.specs.Parts.{file_parts};
-ghost use Rattle.meson_calls.specs.Loading.{named_trees, views};
+ghost use Rattle.meson_calls.specs.Loading.{AreParsed, named_trees, views};
 ghost use Rattle.meson_calls.specs.Notes.{noted, notes, taken_view};
 
 use crate::keeper::Keeper;
@@ -23,6 +24,7 @@ pub fn notes_in<'t>(
     source: &'t [u8],
     parsed: &'t Parsed,
 ) -> Result<Taken<'t>, AllocError>
+    requires { IsSpanned source.now (view source.now parsed.now) }
     ensures { IfOk result (λ found. taken_view found ≡ noted (file_parts file (view source.entry.now parsed.entry.now))) }
 {
     let mut keeper = Keeper::Notes(Taken::new(alloc));
@@ -42,7 +44,7 @@ pub fn notes_of<'t>(
     files: &'t FileSet,
     trees: &'t [Parsed],
 ) -> Result<Taken<'t>, AllocError>
-    requires { length trees.now ≡ length files.now }
+    requires { AreParsed files.now trees.now }
     ensures { IfOk result (λ found. taken_view found ≡ notes (named_trees files.now (views files.now trees.now))) }
 {
     let mut keeper = Keeper::Notes(Taken::new(alloc));

@@ -1,6 +1,9 @@
 //! The way through the expressions of a file.
+//!
+//! Each child has a word of its own. So where a node has fewer words than a number can tell, the numbers of its children are told, too.
 
-ghost use Rattle.std.specs.Prelude.{◌≡◌, ◌+◌, IfOk, OnOk};
+ghost use Rattle.std.specs.Prelude.{◌≡◌, ◌+◌, ◌<◌, ◌^◌, false, IfOk, OnOk, length};
+ghost use Rattle.meson_syntax.specs.Grammar.{expression_words, operands_words, tail_words, tails_words, argument_words, arguments_words};
 ghost use Rattle.meson_syntax.specs.Tree.{arguments_of, operands_of, tails_of};
 ghost use Rattle.meson_syntax.specs.View.{expr_view, arg_view, args_view, tail_view, tails_view, operands_view, list_view};
 ghost use Rattle.meson_calls.specs.Project.{place, child};
@@ -12,16 +15,6 @@ use crate::part::{Part, Walk};
 use meson_syntax::{Arg, Expr, List, Operand, Tail};
 use std::alloc::AllocError;
 
-/// The number after some others. No file has so many parts that there is none.
-fn next(number: usize, more: usize) -> Result<usize, AllocError>
-    ensures { IfOk result (λ n. n ≡ number + more) }
-{
-    match number.checked_add(more) {
-        Some(next) => Ok(next),
-        None => Err(AllocError),
-    }
-}
-
 impl<'t> Walk<'t> {
     /// Visits the expression that is the n-th child, and the parts within it.
     #[cycle(walk)]
@@ -32,6 +25,7 @@ impl<'t> Walk<'t> {
         path: &mut Vec<usize>,
         keeper: &mut Keeper<'t>,
     ) -> Result<(), AllocError>
+        requires fits { length (expression_words (expr_view self.now.source.now expr.now)) < 2 ^ 64 }
         ensures back { OnOk result (path.new.items ≡ path.old.items) }
         ensures all { OnOk result (Keeps keeper.old
             (expression_parts (child (place self.now.file path.old.items) number) (expr_view self.now.source.now expr.now)) keeper.new) }
@@ -51,6 +45,7 @@ impl<'t> Walk<'t> {
         path: &mut Vec<usize>,
         keeper: &mut Keeper<'t>,
     ) -> Result<(), AllocError>
+        requires fits { length (expression_words (expr_view self.now.source.now expr.now)) < 2 ^ 64 }
         ensures back { OnOk result (path.new.items ≡ path.old.items) }
         ensures all { OnOk result (Keeps keeper.old
             (parts_within (place self.now.file path.old.items) (expr_view self.now.source.now expr.now)) keeper.new) }
@@ -96,6 +91,7 @@ impl<'t> Walk<'t> {
         path: &mut Vec<usize>,
         keeper: &mut Keeper<'t>,
     ) -> Result<(), AllocError>
+        requires fits { length (arguments_words (arguments_of (args_view self.now.source.now list.now.items)) false) < 2 ^ 64 }
         ensures back { OnOk result (path.new.items ≡ path.old.items) }
         ensures all { OnOk result (Keeps keeper.old
             (listing_parts (place self.now.file path.old.items) 0 (list_view self.now.source.now list.now)) keeper.new) }
@@ -113,6 +109,7 @@ impl<'t> Walk<'t> {
         path: &mut Vec<usize>,
         keeper: &mut Keeper<'t>,
     ) -> Result<usize, AllocError>
+        requires fits { first + length (arguments_words (arguments_of (args_view self.now.source.now args.now)) false) < 2 ^ 64 }
         ensures back { OnOk result (path.new.items ≡ path.old.items) }
         ensures all { OnOk result (Keeps keeper.old
             (arguments_parts (place self.now.file path.old.items) first (arguments_of (args_view self.now.source.now args.now))) keeper.new) }
@@ -134,6 +131,7 @@ impl<'t> Walk<'t> {
         path: &mut Vec<usize>,
         keeper: &mut Keeper<'t>,
     ) -> Result<usize, AllocError>
+        requires fits { number + length (argument_words (arg_view self.now.source.now arg.now)) < 2 ^ 64 }
         ensures back { OnOk result (path.new.items ≡ path.old.items) }
         ensures all { OnOk result (Keeps keeper.old
             (argument_parts (place self.now.file path.old.items) number (arg_view self.now.source.now arg.now)) keeper.new) }
@@ -142,18 +140,16 @@ impl<'t> Walk<'t> {
         match arg {
             Arg::Plain(value) => {
                 self.in_child(number, value, path, keeper)?;
-                next(number, 1)
+                Ok(number + 1)
             }
             Arg::Named { value, .. } => {
                 self.in_child(number, value, path, keeper)?;
-                next(number, 1)
+                Ok(number + 1)
             }
             Arg::Pair { key, value, .. } => {
                 self.in_child(number, key.get(), path, keeper)?;
-                let second = next(number, 1)?;
-                self.in_child(second, value.get(), path, keeper)?;
-                let after = next(number, 2)?;
-                Ok(after)
+                self.in_child(number + 1, value.get(), path, keeper)?;
+                Ok(number + 2)
             }
         }
     }
@@ -165,6 +161,7 @@ impl<'t> Walk<'t> {
         path: &mut Vec<usize>,
         keeper: &mut Keeper<'t>,
     ) -> Result<(), AllocError>
+        requires fits { length (operands_words (operands_of (operands_view self.now.source.now operands.now))) < 2 ^ 64 }
         ensures back { OnOk result (path.new.items ≡ path.old.items) }
         ensures all { OnOk result (Keeps keeper.old
             (operands_parts (place self.now.file path.old.items) 1 (operands_of (operands_view self.now.source.now operands.now))) keeper.new) }
@@ -182,6 +179,7 @@ impl<'t> Walk<'t> {
         path: &mut Vec<usize>,
         keeper: &mut Keeper<'t>,
     ) -> Result<(), AllocError>
+        requires fits { 1 + length (tails_words (tails_of (tails_view self.now.source.now tails.now))) < 2 ^ 64 }
         ensures back { OnOk result (path.new.items ≡ path.old.items) }
         ensures all { OnOk result (Keeps keeper.old
             (tails_parts (place self.now.file path.old.items) 1 (tails_of (tails_view self.now.source.now tails.now))) keeper.new) }
@@ -201,6 +199,7 @@ impl<'t> Walk<'t> {
         path: &mut Vec<usize>,
         keeper: &mut Keeper<'t>,
     ) -> Result<usize, AllocError>
+        requires fits { number + length (tail_words (tail_view self.now.source.now tail.now)) < 2 ^ 64 }
         ensures back { OnOk result (path.new.items ≡ path.old.items) }
         ensures all { OnOk result (Keeps keeper.old
             (tail_parts (place self.now.file path.old.items) number (tail_view self.now.source.now tail.now)) keeper.new) }
@@ -212,7 +211,7 @@ impl<'t> Walk<'t> {
             }
             Tail::Index { index, .. } => {
                 self.in_child(number, index, path, keeper)?;
-                next(number, 1)
+                Ok(number + 1)
             }
         }
     }

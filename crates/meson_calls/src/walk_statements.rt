@@ -1,9 +1,12 @@
 //! The way through the statements of files.
 
 ghost use Rattle.std.specs.Prelude.{◌≡◌, ◌*◌, ◌<◌, ◌^◌, OnOk, length};
+ghost use Rattle.meson_lex.specs.declared.kinds.Kind.TheVariants.{WordIf};
+ghost use Rattle.meson_syntax.specs.Grammar.{expression_words, statement_words, branches_words, otherwise_words, statements_words, block_words};
+ghost use Rattle.meson_syntax.specs.Reads.{IsSpanned};
 ghost use Rattle.meson_syntax.specs.Tree.{branches_of, statements_of};
 ghost use Rattle.meson_syntax.specs.View.{stmt_view, stmts_view, block_view, branch_view, branches_view, view};
-ghost use Rattle.meson_calls.specs.Loading.{named_trees, views};
+ghost use Rattle.meson_calls.specs.Loading.{AreParsed, named_trees, views};
 ghost use Rattle.meson_calls.specs.Project.{place, child};
 ghost use Rattle.meson_calls.specs.Parts.{statement_parts, statements_parts, block_parts, branches_parts, otherwise_parts, file_parts, parts};
 ghost use Rattle.meson_calls.specs.Walks.{Keeps, else_view, branch_parts, parts_inside};
@@ -24,6 +27,7 @@ impl<'t> Walk<'t> {
         path: &mut Vec<usize>,
         keeper: &mut Keeper<'t>,
     ) -> Result<(), AllocError>
+        requires fits { length (statement_words (stmt_view self.now.source.now stmt.now)) < 2 ^ 64 }
         ensures back { OnOk result (path.new.items ≡ path.old.items) }
         ensures all { OnOk result (Keeps keeper.old
             (statement_parts (child (place self.now.file path.old.items) number) (stmt_view self.now.source.now stmt.now)) keeper.new) }
@@ -43,6 +47,7 @@ impl<'t> Walk<'t> {
         path: &mut Vec<usize>,
         keeper: &mut Keeper<'t>,
     ) -> Result<(), AllocError>
+        requires fits { length (statement_words (stmt_view self.now.source.now stmt.now)) < 2 ^ 64 }
         ensures back { OnOk result (path.new.items ≡ path.old.items) }
         ensures all { OnOk result (Keeps keeper.old
             (parts_inside (place self.now.file path.old.items) (stmt_view self.now.source.now stmt.now)) keeper.new) }
@@ -79,6 +84,7 @@ impl<'t> Walk<'t> {
         path: &mut Vec<usize>,
         keeper: &mut Keeper<'t>,
     ) -> Result<(), AllocError>
+        requires fits { length (block_words (block_view self.now.source.now block.now)) < 2 ^ 64 }
         ensures back { OnOk result (path.new.items ≡ path.old.items) }
         ensures all { OnOk result (Keeps keeper.old
             (block_parts (child (place self.now.file path.old.items) number) (block_view self.now.source.now block.now)) keeper.new) }
@@ -96,6 +102,7 @@ impl<'t> Walk<'t> {
         path: &mut Vec<usize>,
         keeper: &mut Keeper<'t>,
     ) -> Result<(), AllocError>
+        requires fits { length (statements_words (statements_of (stmts_view self.now.source.now stmts.now))) < 2 ^ 64 }
         ensures back { OnOk result (path.new.items ≡ path.old.items) }
         ensures all { OnOk result (Keeps keeper.old
             (statements_parts (place self.now.file path.old.items) 0 (statements_of (stmts_view self.now.source.now stmts.now))) keeper.new) }
@@ -114,6 +121,7 @@ impl<'t> Walk<'t> {
         path: &mut Vec<usize>,
         keeper: &mut Keeper<'t>,
     ) -> Result<(), AllocError>
+        requires fits { length (branches_words (branches_of (branches_view self.now.source.now branches.now)) WordIf) < 2 ^ 64 }
         ensures back { OnOk result (path.new.items ≡ path.old.items) }
         ensures all { OnOk result (Keeps keeper.old
             (branches_parts (place self.now.file path.old.items) 0 (branches_of (branches_view self.now.source.now branches.now))) keeper.new) }
@@ -133,7 +141,9 @@ impl<'t> Walk<'t> {
         path: &mut Vec<usize>,
         keeper: &mut Keeper<'t>,
     ) -> Result<(), AllocError>
-        requires { number < 2 ^ 63 }
+        requires small { number < 2 ^ 63 }
+        requires condition { length (expression_words (branch_view self.now.source.now branch.now).0) < 2 ^ 64 }
+        requires block { length (block_words (branch_view self.now.source.now branch.now).1) < 2 ^ 64 }
         ensures back { OnOk result (path.new.items ≡ path.old.items) }
         ensures all { OnOk result (Keeps keeper.old
             (branch_parts (place self.now.file path.old.items) (2 * number) (branch_view self.now.source.now branch.now)) keeper.new) }
@@ -152,6 +162,7 @@ impl<'t> Walk<'t> {
         path: &mut Vec<usize>,
         keeper: &mut Keeper<'t>,
     ) -> Result<(), AllocError>
+        requires fits { length (otherwise_words (else_view self.now.source.now otherwise.now)) < 2 ^ 64 }
         ensures back { OnOk result (path.new.items ≡ path.old.items) }
         ensures all { OnOk result (Keeps keeper.old
             (otherwise_parts (place self.now.file path.old.items) number (else_view self.now.source.now otherwise.now)) keeper.new) }
@@ -174,6 +185,7 @@ pub fn walk_file<'t>(
     parsed: &'t Parsed,
     keeper: &mut Keeper<'t>,
 ) -> Result<(), AllocError>
+    requires { IsSpanned source.now (view source.now parsed.now) }
     ensures { OnOk result (Keeps keeper.old
         (file_parts file (view source.now parsed.now)) keeper.new) }
 {
@@ -197,7 +209,7 @@ pub fn walk_files<'t>(
     trees: &'t [Parsed],
     keeper: &mut Keeper<'t>,
 ) -> Result<(), AllocError>
-    requires { length trees.now ≡ length files.now }
+    requires { AreParsed files.now trees.now }
     ensures { OnOk result (Keeps keeper.old
         (parts (named_trees files.now (views files.now trees.now))) keeper.new) }
 {

@@ -1,6 +1,6 @@
 //! Uses of a variable outside a statement.
 
-ghost use Rattle.std.specs.Prelude.{◌≡◌, ◌++◌, ◌∷◌, [], IfOk, length};
+ghost use Rattle.std.specs.Prelude.{◌≡◌, ◌++◌, ◌∷◌, [], IfOk};
 ghost use Rattle.meson_syntax.specs.Grammar.{listing_words};
 ghost use Rattle.meson_syntax.specs.View.{list_view, text_at};
 ghost use Rattle.meson_syntax.specs.declared.operator.Bracket.TheVariants as bracket;
@@ -143,7 +143,7 @@ fn reads_of<'t>(
     trees: &'t [Parsed],
     name: &'t [u8],
 ) -> Result<Vec<CallRef>, AllocError>
-    requires { length trees.now ≡ length files.now }
+    requires { AreParsed files.now trees.now }
     ensures { IfOk result (λ found. found.items ≡ read_in name.entry.now (parts (named_trees files.now (views files.now trees.now)))) }
 {
     let mut keeper = Keeper::Reads {

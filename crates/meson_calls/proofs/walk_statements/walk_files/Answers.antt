@@ -1,14 +1,27 @@
-use Rattle.std.proofs.Common.{◌<◌, ◌≤◌, length, ◌∙◌, ap, arith}
+use Rattle.std.proofs.Common.{◌<◌, ◌≤◌, length, ◌∙◌, sym, ap, subst, arith}
 use Rattle.meson_splice.specs.Files.{bytes_at}
 use Rattle.meson_syntax.specs.View.{view}
 use Rattle.meson_calls.specs.Parts.{file_parts}
 use Rattle.meson_calls.specs.Walks.{keeper_view, with_parts}
+use Rattle.meson_syntax.specs.Reads.{IsSpanned}
+use Rattle.meson_calls.proofs.CallsAt.{spanned_at}
+use Rattle.meson_calls.proofs.Loads.{as_many}
 use Rattle.meson_calls.proofs.FileTurns.{file_turn, files_ended}
 use Rattle.meson_calls.proofs.walk_statements.walk_files.Goals as goal
 
+pub bytes-requires : goal.bytes-requires
+bytes-requires c = omega (arith, c.loop-i-test.true, as_many c.args.files.now c.args.trees.now c.requires)
+
+pub walk_file-requires : goal.walk_file-requires
+walk_file-requires c =
+    let files = c.args.files.now in
+    let i = c.loop-i.i in
+    subst (λ bytes. IsSpanned bytes (view bytes c.index-trees-i.result)) (sym c.bytes.ensures)
+    (subst (λ t. IsSpanned (bytes_at i files) (view (bytes_at i files) t)) (sym c.index-trees-i.is) (spanned_at files c.args.trees.now i c.index-trees-i.result c.loop-i-test.true c.requires))
+
 pub loop-i-preserved : goal.loop-i-preserved
 loop-i-preserved c =
-    let within : c.loop-i.i < length c.args.files.now = omega arith in
+    let within : c.loop-i.i < length c.args.files.now = omega (arith, as_many c.args.files.now c.args.trees.now c.requires) in
     let before = keeper_view c.loop-i.keeper in
     file_turn c.args.files.now c.args.trees.now c.loop-i.i c.index-trees-i.result before _ _ within c.loop-i-test.true
     (c.in_ok-walk_file.ensures
@@ -18,5 +31,5 @@ loop-i-preserved c =
 
 pub returns : goal.returns
 returns c =
-    let past : length c.args.files.now ≤ c.loop-i.i = omega arith in
+    let past : length c.args.files.now ≤ c.loop-i.i = omega (arith, as_many c.args.files.now c.args.trees.now c.requires) in
     files_ended c.args.files.now c.args.trees.now c.loop-i.i _ _ past c.loop-i.invariant

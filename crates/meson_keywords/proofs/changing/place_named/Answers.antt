@@ -4,12 +4,8 @@ use Rattle.meson_calls.specs.Notes.{note_views}
 use Rattle.meson_calls.specs.OnePlace.{the_place}
 use Rattle.meson_calls.specs.Strings.{NotesGood}
 use Rattle.meson_calls.proofs.GoodNotes.{project_good}
-use Rattle.meson_calls.proofs.Loads.{as_many}
 use Rattle.meson_calls.proofs.OneCall.{if_refused}
 use Rattle.meson_keywords.proofs.changing.place_named.Goals as goal
-
-pub notes_of-requires : goal.notes_of-requires
-notes_of-requires c = as_many c.args.files.now c.args.trees.now c.requires
 
 pub the_call-requires : goal.the_call-requires
 the_call-requires c =

@@ -4,12 +4,8 @@ use Rattle.std.specs.Prelude.{Err, IfErr}
 use Rattle.meson_calls.specs.declared.refusal.Refusal.TheVariants.{OutOfMemory}
 use Rattle.meson_calls.specs.Loading.{Loaded, project}
 use Rattle.meson_plan.specs.Orders.{plan_steps}
-use Rattle.meson_calls.proofs.Loads.{as_many}
 use Rattle.meson_targets.proofs.TargetsDoable.{addition_means, removal_means}
 use Rattle.meson_plan.proofs.planning.planned.Goals as goal
-
-pub notes_of-requires : goal.notes_of-requires
-notes_of-requires c = as_many c.args.files.now c.args.trees.now c.requires.parsed
 
 pub returns-in-AddTarget-clause-plan : goal.returns-in-AddTarget-clause-plan
 returns-in-AddTarget-clause-plan c =

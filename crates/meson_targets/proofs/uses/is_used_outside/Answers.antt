@@ -4,7 +4,6 @@ use Rattle.meson_calls.specs.Loading.{named_trees, views}
 use Rattle.meson_calls.specs.Strings.{NotesGood}
 use Rattle.meson_targets.specs.Uses.{is_noted_outside, is_read_outside}
 use Rattle.meson_calls.proofs.GoodNotes.{project_good}
-use Rattle.meson_calls.proofs.Loads.{as_many}
 use Rattle.meson_targets.proofs.UsesFound.{when_noted, when_not_noted}
 use Rattle.meson_targets.proofs.uses.is_used_outside.Goals as goal
 
@@ -17,9 +16,6 @@ returns-then-branch c =
     let name = c.args.name.now in
     when_noted line name (named_trees c.args.files.now (views c.args.files.now c.args.trees.now))
     (ap (is_noted_outside line name) (sym c.requires.taken) ∙ sym c.in_ok-is_noted_outside.ensures ∙ c.if-branch.true)
-
-pub reads_of-requires : goal.reads_of-requires
-reads_of-requires c = as_many c.args.files.now c.args.trees.now c.requires.parsed
 
 pub returns : goal.returns
 returns c =

@@ -1,4 +1,4 @@
-use Rattle.std.proofs.Common.{◌≡◌, ◌+◌, ◌*◌, ◌++◌, ◌∙◌, sym, ap, refl, get_or, length, arith}
+use Rattle.std.proofs.Common.{rules, ◌≡◌, ◌+◌, ◌*◌, ◌++◌, ◌∙◌, sym, ap, refl, get_or, length, arith}
 use Rattle.std.proofs.lemmas.List.{append_assoc}
 use Rattle.meson_syntax.specs.View.{expr_view, stmt_view, block_view, branch_view}
 use Rattle.meson_calls.specs.Project.{place, child}
@@ -6,6 +6,12 @@ use Rattle.meson_calls.specs.Parts.{expression_parts, block_parts, otherwise_par
 use Rattle.meson_calls.specs.Walks.{else_view, keeper_view, with_parts, parts_inside}
 use Rattle.meson_calls.proofs.Visits.{two_parts, turn}
 use Rattle.meson_calls.proofs.StatementParts.{list_parts, list_part, conditions_parts, conditions_part, branches_count, branch_condition, branch_block, two_each, if_view, foreach_view}
+use Rattle.meson_calls.proofs.WalkedWords.{stmt_fits, condition_fits, block_fits}
+use Rattle.meson_syntax.specs.declared.tree.Stmt.TheFolds.{the_lemmas}
+use Rattle.meson_syntax.specs.Grammar.{expression_words, statement_words, block_words}
+use Rattle.meson_syntax.proofs.tree.Stmt.TheLaws as stmts
+use Rattle.meson_syntax.proofs.tree.Branch.TheLaws as branches
+use denote.Param.Weighed.{at_most}
 use Rattle.meson_calls.proofs.part.Walk.+statements.Goals as goal
 
 pub in_branch-returns-clause-all : goal.in_branch-returns-clause-all
@@ -81,3 +87,22 @@ in_stmt-returns-in_ok-in_block-in-Foreach-clause-all t c =
     (c.in_ok-in_block-in-Foreach.ensures.all ∙ ap (λ path. with_parts middle (block_parts (child (place file path) 1) (block_view source c.in-Foreach.body))) c.in_ok-in_child-in-Foreach.ensures.back)
     ∙ ap (with_parts before) (sym (ap (parts_inside p) (foreach_view source c.in-Foreach.span c.in-Foreach.names c.in-Foreach.items c.in-Foreach.body)))
     ∙ ap (λ x. with_parts before (parts_inside p (stmt_view source x))) (sym c.in-Foreach.is)
+
+pub in_stmts-in_stmt_at-requires : goal.in_stmts-in_stmt_at-requires
+in_stmts-in_stmt_at-requires t c =
+    let source = c.args.self.now.source.now in
+    let deep = at_most stmts.the_size c.args.stmts.now c.loop-i.i c.index-stmts-i.result c.loop-i-test.true in
+    let fits = stmt_fits source c.args.stmts.now c.loop-i.i c.index-stmts-i.result _ c.loop-i-test.true c.requires.fits in
+    (grind (arith, the_lemmas, deep), omega (arith, fits, ap (λ s. length (statement_words (stmt_view source s))) c.index-stmts-i.is))
+
+pub in_branches-in_branch-requires : goal.in_branches-in_branch-requires
+in_branches-in_branch-requires t c =
+    let source = c.args.self.now.source.now in
+    let list = c.args.branches.now in
+    let b = c.index-branches-i.result in
+    let deep = at_most branches.the_size list c.loop-i.i b c.loop-i-test.true in
+    let condition = condition_fits source list c.loop-i.i b _ c.loop-i-test.true c.requires.fits in
+    let inside = block_fits source list c.loop-i.i b _ c.loop-i-test.true c.requires.fits in (
+      grind (arith, the_lemmas, deep),
+      (search rules, (omega (arith, condition, ap (λ x. length (expression_words (branch_view source x).0)) c.index-branches-i.is), omega (arith, inside, ap (λ x. length (block_words (branch_view source x).1)) c.index-branches-i.is))),
+    )

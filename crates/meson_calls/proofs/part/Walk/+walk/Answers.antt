@@ -1,4 +1,4 @@
-use Rattle.std.proofs.Common.{◌≡◌, ℕ, ◌+◌, List, ◌∙◌, sym, ap, refl, get_or}
+use Rattle.std.proofs.Common.{rules, ◌≡◌, ℕ, ◌+◌, List, ◌∙◌, sym, ap, refl, get_or, arith}
 use Rattle.meson_lex.specs.declared.kinds.Span.{Span}
 use Rattle.meson_syntax.specs.declared.tree.Expr.{Expr}
 use Rattle.meson_syntax.specs.View.{expr_view, arg_view}
@@ -8,6 +8,10 @@ use Rattle.meson_calls.specs.Walks.{keeper_view, with_parts, parts_within}
 use Rattle.meson_calls.proofs.Visits.{two_parts, three_parts, turn, count_turn, count_ended}
 use Rattle.meson_calls.proofs.Parted.{operand_value, row_view, postfix_view, conditional_view, pair_view}
 use Rattle.meson_calls.proofs.ListTurns.{args_parts, args_part, args_size, args_count, row_parts, row_part, tail_list_parts, tail_part, tail_size}
+use Rattle.meson_calls.proofs.WalkedWords.{arg_some, pair_some, expr_count, array_fits, dictionary_fits, call_fits, tails_fit, operand_fits, method_fits, args_width, arg_count, args_more, arg_size_fits, tails_width, tail_count, tails_more, tail_size_fits, next_turn}
+use Rattle.meson_syntax.specs.declared.tree.Arg.TheFolds.{the_lemmas}
+use Rattle.meson_syntax.proofs.tree.Operand.TheLaws as operands
+use denote.Param.Weighed.{at_most}
 use Rattle.meson_calls.proofs.part.Walk.+walk.Goals as goal
 
 pub in_args-loop-i-preserved : goal.in_args-loop-i-preserved
@@ -22,6 +26,7 @@ in_args-loop-i-preserved t c =
       c.in_ok-number.ensures.back ∙ c.loop-i.invariant.0,
       turn (args_parts source p) (args_part source p) (args_size source) (λ n x xs. refl) c.args.args.now c.loop-i.i c.index-args-i.result c.loop-i.number c.in_ok-number.number (keeper_view c.loop-i.keeper) (keeper_view c.in_arg.new.keeper) _ now c.loop-i-test.true c.in_ok-number.ensures.all here next c.loop-i.invariant.1,
       count_turn (args_count source) (args_size source) (λ x xs. refl) c.args.args.now c.loop-i.i c.index-args-i.result c.loop-i.number c.in_ok-number.number _ c.loop-i-test.true next c.loop-i.invariant.2,
+      next_turn (args_width source) (arg_count source) (args_more source) (args_size source) (arg_size_fits source) c.args.args.now c.loop-i.i c.index-args-i.result c.loop-i.number c.in_ok-number.number _ c.loop-i-test.true next c.loop-i.invariant.3,
     )
 
 pub in_args-returns-clause-after : goal.in_args-returns-clause-after
@@ -39,6 +44,7 @@ in_tails-loop-i-preserved t c =
     let next = c.in_ok-number.ensures.after ∙ ap (λ x. c.loop-i.number + tail_size source x) c.index-tails-i.is in (
       c.in_ok-number.ensures.back ∙ c.loop-i.invariant.0,
       turn (tail_list_parts source p) (tail_part source p) (tail_size source) (λ n x xs. refl) c.args.tails.now c.loop-i.i c.index-tails-i.result c.loop-i.number c.in_ok-number.number (keeper_view c.loop-i.keeper) (keeper_view c.in_tail.new.keeper) _ now c.loop-i-test.true c.in_ok-number.ensures.all here next c.loop-i.invariant.1,
+      next_turn (tails_width source) (tail_count source) (tails_more source) (tail_size source) (tail_size_fits source) c.args.tails.now c.loop-i.i c.index-tails-i.result c.loop-i.number c.in_ok-number.number _ c.loop-i-test.true next c.loop-i.invariant.2,
     )
 
 pub in_operands-loop-i-preserved : goal.in_operands-loop-i-preserved
@@ -108,8 +114,8 @@ in_expr-returns-in_ok-in_child-in-Conditional-3-clause-all t c =
     ∙ ap (with_parts before) (sym (ap (parts_within p) (conditional_view source c.in-Conditional.span c.in-Conditional.condition c.in-Conditional.yes c.in-Conditional.no)))
     ∙ ap (λ x. with_parts before (parts_within p (expr_view source x))) (sym c.in-Conditional.is)
 
-pub in_arg-returns-in_ok-after-in-Pair-clause-all : goal.in_arg-returns-in_ok-after-in-Pair-clause-all
-in_arg-returns-in_ok-after-in-Pair-clause-all t c =
+pub in_arg-returns-in_ok-in_child-in-Pair-2-clause-all : goal.in_arg-returns-in_ok-in_child-in-Pair-2-clause-all
+in_arg-returns-in_ok-in_child-in-Pair-2-clause-all t c =
     let source = c.args.self.now.source.now in
     let file = c.args.self.now.file in
     let p = place file c.args.path.now.items in
@@ -118,8 +124,38 @@ in_arg-returns-in_ok-after-in-Pair-clause-all t c =
     two_parts before middle _ (expression_parts (child p c.args.number) (expr_view source c.in-Pair.key)) (expression_parts (child p (c.args.number + 1)) (expr_view source c.in-Pair.value))
     (c.in_ok-in_child-in-Pair.ensures.all ∙ ap (λ x. with_parts before (expression_parts (child p c.args.number) (expr_view source x))) c.get.ensures)
     (c.in_ok-in_child-in-Pair-2.ensures.all
-    ∙ ap (λ path. with_parts middle (expression_parts (child (place file path) c.in_ok-second-in-Pair.second) (expr_view source c.get-in-Pair.result.now))) c.in_ok-in_child-in-Pair.ensures.back
-    ∙ ap (λ n. with_parts middle (expression_parts (child p n) (expr_view source c.get-in-Pair.result.now))) c.in_ok-second-in-Pair.ensures
+    ∙ ap (λ path. with_parts middle (expression_parts (child (place file path) (c.args.number + 1)) (expr_view source c.get-in-Pair.result.now))) c.in_ok-in_child-in-Pair.ensures.back
     ∙ ap (λ x. with_parts middle (expression_parts (child p (c.args.number + 1)) (expr_view source x))) c.get-in-Pair.ensures)
     ∙ ap (with_parts before) (sym (ap (argument_parts p c.args.number) (pair_view source c.in-Pair.span c.in-Pair.key c.in-Pair.value)))
     ∙ ap (λ x. with_parts before (argument_parts p c.args.number (arg_view source x))) (sym c.in-Pair.is)
+
+pub in_expr-in_list-requires : goal.in_expr-in_list-requires
+in_expr-in_list-requires t c = (search (rules, the_lemmas), array_fits c.args.self.now.source.now _ _ _ c.in-Array.is c.requires.fits)
+
+pub in_expr-in_list-requires-in-Dictionary : goal.in_expr-in_list-requires-in-Dictionary
+in_expr-in_list-requires-in-Dictionary t c = (search (rules, the_lemmas), dictionary_fits c.args.self.now.source.now _ _ _ c.in-Dictionary.is c.requires.fits)
+
+pub in_expr-in_list-requires-in-Call : goal.in_expr-in_list-requires-in-Call
+in_expr-in_list-requires-in-Call t c = (search (rules, the_lemmas), call_fits c.args.self.now.source.now _ _ _ _ _ c.in-Call.is c.requires.fits)
+
+pub in_expr-in_tails-requires : goal.in_expr-in_tails-requires
+in_expr-in_tails-requires t c = (search (rules, the_lemmas), tails_fit c.args.self.now.source.now _ _ _ _ _ _ c.in-Postfix.is c.get-in-Postfix-2.ensures c.requires.fits)
+
+pub in_operands-in_child-requires : goal.in_operands-in_child-requires
+in_operands-in_child-requires t c =
+    let source = c.args.self.now.source.now in
+    let deep = at_most operands.the_size c.args.operands.now c.loop-i.i c.index-operands-i.result c.loop-i-test.true in
+    let fits = operand_fits source c.args.operands.now c.loop-i.i c.index-operands-i.result _ c.loop-i-test.true c.requires.fits in
+    (grind (arith, the_lemmas, deep), omega (arith, fits, ap (λ o. expr_count source o.value) c.index-operands-i.is))
+
+pub in_tail-in_args-requires : goal.in_tail-in_args-requires
+in_tail-in_args-requires t c = (search (rules, the_lemmas), method_fits c.args.self.now.source.now _ _ _ _ _ _ _ c.in-Method.is c.get.ensures c.requires.fits)
+
+pub in_arg-overflow_add-result : goal.in_arg-overflow_add-result
+in_arg-overflow_add-result t c = let some = arg_some c.args.self.now.source.now c.args.arg.now in omega (arith, some, c.requires.fits)
+
+pub in_arg-overflow_add-number : goal.in_arg-overflow_add-number
+in_arg-overflow_add-number t c = let some = pair_some c.args.self.now.source.now _ _ _ _ c.in-Pair.is in omega (arith, some, c.requires.fits)
+
+pub in_arg-overflow_add-result-in-Pair : goal.in_arg-overflow_add-result-in-Pair
+in_arg-overflow_add-result-in-Pair t c = let some = pair_some c.args.self.now.source.now _ _ _ _ c.in-Pair.is in omega (arith, some, c.requires.fits)

@@ -1,7 +1,8 @@
-use Rattle.std.proofs.Common.{◌≡◌, ◌+◌, drop}
+use Rattle.std.proofs.Common.{◌≡◌, ◌≤◌, ◌+◌, drop}
 use Rattle.meson_calls.specs.Project.{place}
 use Rattle.meson_calls.specs.Walks.{keeper_view, with_parts}
 use Rattle.meson_calls.proofs.ListTurns.{args_parts, args_count, row_parts, tail_list_parts}
+use Rattle.meson_calls.proofs.WalkedWords.{args_width, tails_width}
 use Rattle.meson_calls.proofs.part.Walk.+walk.Given as goal
 
 abbrev pub invariant-in_args-loop-i : goal.invariant-in_args-loop-i
@@ -10,6 +11,7 @@ invariant-in_args-loop-i l =
     × (with_parts (keeper_view l.keeper) (args_parts l.self.source.now (place l.self.file l.fn.path.items) l.number (drop l.i l.args))
     ≡ with_parts (keeper_view l.fn.keeper) (args_parts l.self.source.now (place l.self.file l.fn.path.items) l.first l.args))
     × (l.number + args_count l.self.source.now (drop l.i l.args) ≡ l.first + args_count l.self.source.now l.args)
+    × (l.number + args_width l.self.source.now (drop l.i l.args) ≤ l.first + args_width l.self.source.now l.args)
 
 abbrev pub invariant-in_operands-loop-i : goal.invariant-in_operands-loop-i
 invariant-in_operands-loop-i l =
@@ -22,3 +24,4 @@ invariant-in_tails-loop-i l =
     (l.path.items ≡ l.fn.path.items)
     × (with_parts (keeper_view l.keeper) (tail_list_parts l.self.source.now (place l.self.file l.fn.path.items) l.number (drop l.i l.tails))
     ≡ with_parts (keeper_view l.fn.keeper) (tail_list_parts l.self.source.now (place l.self.file l.fn.path.items) 1 l.tails))
+    × (l.number + tails_width l.self.source.now (drop l.i l.tails) ≤ 1 + tails_width l.self.source.now l.tails)

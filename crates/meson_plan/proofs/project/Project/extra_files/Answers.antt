@@ -2,7 +2,7 @@ use Rattle.std.proofs.Common.{◌≡◌, ◌≢◌, Some, length, ◌∙◌, sym
 use Rattle.std.specs.Prelude.{Ok, Err, IfOk, IfErr}
 use Rattle.meson_syntax.specs.View.{list_view, name_at, text_at}
 use Rattle.meson_calls.specs.declared.refusal.Refusal.TheVariants.{OutOfMemory}
-use Rattle.meson_calls.specs.Loading.{named_trees, views, project}
+use Rattle.meson_calls.specs.Loading.{AreParsed, named_trees, views, project}
 use Rattle.meson_calls.specs.Notes.{notes, note_views}
 use Rattle.meson_calls.specs.Picking.{call_with}
 use Rattle.meson_calls.specs.Project.{expression_at, placed}
@@ -15,7 +15,7 @@ use Rattle.meson_plan.proofs.DetailsThere.{extra_there, found_there, refused_the
 use Rattle.meson_plan.proofs.project.Project.extra_files.Goals as goal
 
 pub notes_of-requires : goal.notes_of-requires
-notes_of-requires c = ap length c.as_slice-trees.ensures.value ∙ as_many _ _ c.self.invariant.parsed
+notes_of-requires c = subst (AreParsed c.self.inside.files) (sym c.as_slice-trees.ensures.value) c.self.invariant.parsed
 
 pub of-requires-clause-whole : goal.of-requires-clause-whole
 of-requires-clause-whole c = ap length c.as_slice-trees.ensures.value ∙ as_many _ _ c.self.invariant.parsed

@@ -1,16 +1,15 @@
-use Rattle.std.proofs.Common.{length, ◌∙◌, sym, ap, subst}
+use Rattle.std.proofs.Common.{◌∙◌, sym, ap, subst}
 use Rattle.meson_calls.specs.Roles.{found, places}
-use Rattle.meson_calls.specs.Loading.{named_trees, views, project}
+use Rattle.meson_calls.specs.Loading.{AreParsed, named_trees, views, project}
 use Rattle.meson_calls.specs.Notes.{notes, note_views}
 use Rattle.meson_calls.specs.Picking.{found_places}
 use Rattle.meson_calls.specs.Strings.{NotesGood}
-use Rattle.meson_calls.proofs.Loads.{as_many}
 use Rattle.meson_calls.proofs.Picked.{found_notes}
 use Rattle.meson_calls.proofs.GoodNotes.{project_good}
 use Rattle.meson_plan.proofs.project.Project.find.Goals as goal
 
 pub notes_of-requires : goal.notes_of-requires
-notes_of-requires c = ap length c.as_slice.ensures.value ∙ as_many _ _ c.self.invariant.parsed
+notes_of-requires c = subst (AreParsed c.self.inside.files) (sym c.as_slice.ensures.value) c.self.invariant.parsed
 
 pub found-requires : goal.found-requires
 found-requires c =

@@ -1,19 +1,18 @@
-use Rattle.std.proofs.Common.{length, ◌∙◌, sym, ap, subst}
+use Rattle.std.proofs.Common.{◌∙◌, sym, ap, subst}
 use Rattle.std.proofs.lemmas.Result.{IfOk-weaker}
 use Rattle.meson_calls.specs.Finding.{the_call}
-use Rattle.meson_calls.specs.Loading.{named_trees, views, project}
+use Rattle.meson_calls.specs.Loading.{AreParsed, named_trees, views, project}
 use Rattle.meson_calls.specs.Notes.{notes, note_views}
 use Rattle.meson_calls.specs.OnePlace.{the_place}
 use Rattle.meson_calls.specs.Strings.{NotesGood}
 use Rattle.meson_calls.proofs.GoodNotes.{project_good}
-use Rattle.meson_calls.proofs.Loads.{as_many}
 use Rattle.meson_calls.proofs.OneCall.{if_refused, place_is}
 use Rattle.meson_plan.specs.Details.{place_found}
 use Rattle.meson_plan.proofs.DetailsThere.{placed_same}
 use Rattle.meson_plan.proofs.project.Project.find_one.Goals as goal
 
 pub notes_of-requires : goal.notes_of-requires
-notes_of-requires c = ap length c.as_slice.ensures.value ∙ as_many _ _ c.self.invariant.parsed
+notes_of-requires c = subst (AreParsed c.self.inside.files) (sym c.as_slice.ensures.value) c.self.invariant.parsed
 
 pub the_call-requires : goal.the_call-requires
 the_call-requires c =

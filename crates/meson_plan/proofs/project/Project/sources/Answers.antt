@@ -7,7 +7,7 @@ use Rattle.meson_calls.proofs.GoodNotes.{project_good}
 use Rattle.meson_plan.proofs.project.Project.sources.Goals as goal
 
 pub notes_of-requires : goal.notes_of-requires
-notes_of-requires c = ap length c.as_slice-trees.ensures.value ∙ as_many _ _ c.self.invariant.parsed
+notes_of-requires c = subst (AreParsed c.self.inside.files) (sym c.as_slice-trees.ensures.value) c.self.invariant.parsed
 
 pub of-requires-clause-whole : goal.of-requires-clause-whole
 of-requires-clause-whole c = ap length c.as_slice-trees.ensures.value ∙ as_many _ _ c.self.invariant.parsed

@@ -1,15 +1,14 @@
-use Rattle.std.proofs.Common.{length, ◌∙◌, ap}
+use Rattle.std.proofs.Common.{◌∙◌, sym, ap, subst}
 use Rattle.meson_calls.specs.declared.call.Role.TheVariants as role
 use Rattle.meson_calls.specs.Roles.{targets}
-use Rattle.meson_calls.specs.Loading.{named_trees, views, project}
+use Rattle.meson_calls.specs.Loading.{AreParsed, named_trees, views, project}
 use Rattle.meson_calls.specs.Notes.{notes, note_views}
 use Rattle.meson_calls.specs.Picking.{places_with_role}
-use Rattle.meson_calls.proofs.Loads.{as_many}
 use Rattle.meson_calls.proofs.Picked.{role_places}
 use Rattle.meson_plan.proofs.project.Project.targets.Goals as goal
 
 pub notes_of-requires : goal.notes_of-requires
-notes_of-requires c = ap length c.as_slice.ensures.value ∙ as_many _ _ c.self.invariant.parsed
+notes_of-requires c = subst (AreParsed c.self.inside.files) (sym c.as_slice.ensures.value) c.self.invariant.parsed
 
 pub returns-clause-all : goal.returns-clause-all
 returns-clause-all c =
