@@ -2,7 +2,7 @@
 #![tactic(auto)]
 
 pub mod command;
-pub mod held;
+mod held;
 pub mod journal;
 pub mod laws;
 mod layouts;
