@@ -2,6 +2,7 @@
 use Rattle.std.proofs.Common.{◌≡◌, ℕ, ◌+◌, ◌≤◌, List, [], ◌++◌, length, length-append, sym, ap, ap₂, ◌∙◌, subst, arith}
 use Rattle.std.specs.Prelude.{Some}
 use Rattle.meson_lex.specs.declared.kinds.Span.{Span}
+use Rattle.meson_lex.specs.Items.{joined}
 use Rattle.meson_lex.specs.Significant.{Word, start}
 use Rattle.meson_syntax.specs.declared.operator.Bracket.{Bracket}
 use Rattle.meson_syntax.specs.declared.source.Limits.{Limits}
@@ -51,7 +52,7 @@ pub list_ends : (depth : ℕ) (b : Bracket) (text : List ℕ) (l : rust.List) �
 list_ends depth b text l is =
     let items = list_items is.reads.text in
     let n = length text in
-    let all : 0 + length _ ≤ n = omega (arith, ap length is.reads.text.are_items.joins) in
+    let all : 0 + length (joined items) ≤ n = omega (arith, ap length is.reads.text.are_items.joins) in
     let far = listing-ends n (list_view text l) b depth _ is.stands (spots-within n start 0 0 items (omega arith) all).0 in
     at_most (sym (ap furthest_list (list_told text l))) far
 

@@ -1,6 +1,6 @@
 use Rattle.std.proofs.Common.{◌<◌, ◌++◌, ◌∙◌, ap, length, subst, arith}
 use Rattle.std.specs.Prelude.{◌^◌}
-use Rattle.meson_steps.proofs.ListChanged.{found_own, is_own, own_fits, reads_list, size_is}
+use Rattle.meson_steps.proofs.ListChanged.{around_fits, found_own, is_own, old_within, ordered, own_fits, reads_list, size_is, size_within}
 use Rattle.meson_steps.proofs.PatchedFiles.{all_as_many}
 use Rattle.meson_steps.proofs.work.Work.read_list.Goals as goal
 
@@ -39,3 +39,24 @@ returns-clause-done c = λ m.
       before_fits = subst (λ b. length b < 2 ^ 64) c.bytes.ensures old_fits;
       after_fits = subst (λ b. length b < 2 ^ 64) c.bytes-bytes.ensures new_fits;
     }
+
+pub overflow_sub-around : goal.overflow_sub-around
+overflow_sub-around c = ordered c.args.self.now.files c.args.file c.args.splices.items c.args.spot c.requires.read
+
+pub overflow_sub-around-2 : goal.overflow_sub-around-2
+overflow_sub-around-2 c = old_within c.args.self.now.files c.args.file c.args.splices.items c.args.spot c.requires.read c.bytes.result.now c.bytes.ensures
+
+pub overflow_sub-now : goal.overflow_sub-now
+overflow_sub-now c =
+    around_fits c.args.self.now.files c.args.file c.args.splices.items c.args.spot c.requires.read c.bytes.result.now c.bytes.ensures c.applied.new.files c.in_ok-splices.ensures.made c.bytes-bytes.result.now c.bytes-bytes.ensures
+
+pub part-requires : goal.part-requires
+part-requires c =
+    size_within c.args.self.now.files c.args.file c.args.splices.items c.args.spot c.requires.read c.bytes.result.now c.bytes.ensures c.applied.new.files c.in_ok-splices.ensures.made c.bytes-bytes.result.now c.bytes-bytes.ensures
+
+pub list_in-requires : goal.list_in-requires
+list_in-requires c = (
+  c.requires.read.list,
+  reads_list c.args.self.now.files c.args.file c.args.splices.items c.args.spot c.requires.read c.bytes.result.now c.bytes.ensures c.applied.new.files c.in_ok-splices.ensures.made c.bytes-bytes.result.now c.bytes-bytes.ensures
+      c.part.result.now c.part.ensures,
+)
