@@ -1,6 +1,7 @@
 //! What is met in the sources of a target, gathered in one place.
 
 ghost use Rattle.std.specs.Prelude.{◌≡◌, ◌∷◌, IfOk, OnOk};
+ghost use Rattle.std.specs.Str.{IsUtf8};
 ghost use Rattle.meson_calls.specs.Project.{place};
 ghost use Rattle.meson_calls.specs.Roles.{one_of};
 
@@ -30,16 +31,18 @@ pub struct Marks<'t> {
     pub followed: Vec<&'t [u8]>,
 }
 
-/// A text of these bytes. No name in a source is anything but UTF-8.
+/// A text of these bytes, which are UTF-8 as all that stands in a source.
 pub fn text_of_name(alloc: Global, name: &[u8]) -> Result<Text, AllocError>
+    requires { IsUtf8 name.now }
     ensures { IfOk result (λ t. t ≡ name.now) }
 {
-    let Ok(name) = str::from_utf8(name) else {
-        return Err(AllocError);
-    };
-    let mut text = String::new(alloc);
-    text.push_str(name)?;
-    Ok(Text::of(text))
+    match str::from_utf8(name) {
+        Ok(name) => {
+            let text = String::from_str(alloc, name)?;
+            Ok(Text::of(text))
+        }
+        Err(_) => unreachable!(),
+    }
 }
 
 impl<'t> Marks<'t> {

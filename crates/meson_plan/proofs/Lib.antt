@@ -7,3 +7,5 @@ mod EachShown
 mod GoodWords
 mod CalledNames
 mod DetailsThere
+mod ValuesAreTexts
+mod ChangedKeys

@@ -12,6 +12,7 @@ ghost use Rattle.meson_calls.specs.Strings.{AreGood};
 ghost use Rattle.meson_syntax.specs.Grammar.{listing_words};
 ghost use Rattle.meson_plan.specs.Called.{called_view};
 ghost use Rattle.meson_plan.specs.Details.{is_call};
+ghost use Rattle.meson_plan.specs.ValueTexts.{ListHasTexts};
 
 use meson_calls::CallRef;
 use meson_lex::Span;
@@ -65,6 +66,7 @@ pub(crate) fn call_at<'t>(files: &'t FileSet, trees: &'t [Parsed], call: &CallRe
     ensures source { result.source.now ≡ bytes_at call.now.file files.entry.now }
     ensures at { expression_at (named_trees files.entry.now (views files.entry.now trees.entry.now)) call.now ≡ Some (called_view result) }
     ensures good { GoodListing (list_view result.source.now result.arguments.now) }
+    ensures texts { ListHasTexts result.source.now (list_view result.source.now result.arguments.now) }
     ensures words { AreGood (listing_words (list_view result.source.now result.arguments.now) Bracket.Round) }
     ensures named { IsIdentifier (text_at result.source.now result.name) }
 {

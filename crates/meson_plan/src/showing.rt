@@ -2,6 +2,7 @@
 
 ghost use Rattle.std.specs.Prelude.{◌≡◌, ◌≢◌, Err, IfErr, IfOk, Ok, Some};
 ghost use Rattle.std.specs.List.{filter_map};
+ghost use Rattle.std.specs.Str.{IsUtf8};
 ghost use Rattle.meson_lex.specs.Kinds.{IsIdentifier};
 ghost use Rattle.meson_syntax.specs.Grammar.{argument_words, expression_words, listing_words};
 ghost use Rattle.meson_syntax.specs.View.{arg_view, args_view, expr_view, list_view, text_at};
@@ -11,6 +12,7 @@ ghost use Rattle.meson_calls.specs.Picking.{Source, call_with};
 ghost use Rattle.meson_calls.specs.Strings.{AreGood};
 ghost use Rattle.meson_plan.specs.Called.{called_view};
 ghost use Rattle.meson_plan.specs.Details.{head_of, is_hidden, keywords_of_call, literal_in, of_each, shown_argument, shown_list, shown_value, source_text, variable_in};
+ghost use Rattle.meson_plan.specs.ValueTexts.{ArgsHaveTexts, HasText, ListHasTexts};
 
 use crate::called::Called;
 use crate::details::{Head, Shown};
@@ -136,6 +138,7 @@ fn variables_in(
 
 /// A value by its text in the file.
 fn opaque(alloc: Global, source: &[u8], value: &Expr) -> Result<Text, AllocError>
+    requires { IsUtf8 (source_text source.now (expr_view source.now value.now)) }
     ensures { IfOk result (λ text. text ≡ source_text source.now (expr_view source.now value.now)) }
 {
     text_of_name(alloc, text_of(source, span_of(value)))
@@ -148,7 +151,8 @@ fn shown_array(
     value: &Expr,
     elements: &[Arg],
 ) -> Result<Shown, AllocError>
-    requires { GoodArgs source.now elements.now }
+    requires good { GoodArgs source.now elements.now }
+    requires text { IsUtf8 (source_text source.now (expr_view source.now value.now)) }
     ensures { IfOk result (λ s. s ≡ shown_list (source_text source.now (expr_view source.now value.now)) (of_each literal_in (args_view source.now elements.now)) (of_each variable_in (args_view source.now elements.now))) }
 {
     if let Some(texts) = literals_in(alloc, source, elements)? {
@@ -162,7 +166,8 @@ fn shown_array(
 
 /// The value of a keyword argument.
 fn shown_value(alloc: Global, source: &[u8], value: &Expr) -> Result<Shown, AllocError>
-    requires { AreGood (expression_words (expr_view source.now value.now)) }
+    requires good { AreGood (expression_words (expr_view source.now value.now)) }
+    requires text { IsUtf8 (source_text source.now (expr_view source.now value.now)) }
     ensures { IfOk result (λ s. s ≡ shown_value source.now (expr_view source.now value.now)) }
 {
     match value {
@@ -184,7 +189,8 @@ fn shown_argument(
     role: Role,
     arg: &Arg,
 ) -> Result<Option<(Text, Shown)>, AllocError>
-    requires { AreGood (argument_words (arg_view source.now arg.now)) }
+    requires good { AreGood (argument_words (arg_view source.now arg.now)) }
+    requires text { HasText source.now (arg_view source.now arg.now) }
     ensures { IfOk result (λ pair. pair ≡ shown_argument source.now role (arg_view source.now arg.now)) }
 {
     match arg {
@@ -212,7 +218,8 @@ fn shown_arguments(
     role: Role,
     args: &[Arg],
 ) -> Result<Vec<(Text, Shown)>, AllocError>
-    requires { GoodArgs source.now args.now }
+    requires good { GoodArgs source.now args.now }
+    requires texts { ArgsHaveTexts source.now args.now }
     ensures { IfOk result (λ pairs. pairs.items ≡ filter_map (shown_argument source.now role) (args_view source.now args.now)) }
 {
     let mut pairs = Vec::new(alloc);
@@ -234,7 +241,8 @@ pub(crate) fn keywords_of(
     source: &[u8],
     arguments: &List,
 ) -> Result<Vec<(Text, Shown)>, Refusal>
-    requires { GoodListing (list_view source.now arguments.now) }
+    requires good { GoodListing (list_view source.now arguments.now) }
+    requires texts { ListHasTexts source.now (list_view source.now arguments.now) }
     ensures shown { (function : Source) → IfOk result (λ pairs. keywords_of_call source.now role (call_with function (list_view source.now arguments.now)) ≡ Ok pairs.items) }
     ensures refused { (function : Source) → IfErr result (λ e. e ≢ Refusal.OutOfMemory → keywords_of_call source.now role (call_with function (list_view source.now arguments.now)) ≡ Err e) }
 {

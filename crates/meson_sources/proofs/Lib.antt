@@ -6,6 +6,7 @@ mod ExtrasAdded
 mod ExtrasMeant
 mod ExtrasTold
 mod Homes
+pub mod KeyTexts
 mod KeywordText
 mod Marked
 mod MarksStand

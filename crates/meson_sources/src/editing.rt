@@ -67,6 +67,7 @@ pub fn at_most_once(
     arguments: &List,
     key: &[u8],
 ) -> Result<(), Refusal>
+    requires { IsUtf8 key.now }
     ensures few { OnOk result (length (kept_args source.now (value_with_name key.now) 0 arguments.now.items) ≤ 1) }
     ensures twice { IfErr result (λ e. e ≢ Refusal.OutOfMemory → (e ≡ Refusal.DuplicateKeyword key.now) × (1 < length (kept_args source.now (value_with_name key.now) 0 arguments.now.items))) }
 {

@@ -1,7 +1,11 @@
 -- A keyword argument that commands change is there once, or the call is refused.
 use Rattle.std.proofs.Common.{sym, ◌∙◌}
+use Rattle.meson_plan.proofs.ChangedKeys.{changed_key_text}
 use Rattle.meson_plan.proofs.Told.{key_went, key_refused}
 use Rattle.meson_plan.proofs.info.key_told.Goals as goal
+
+pub at_most_once-requires : goal.at_most_once-requires
+at_most_once-requires c = changed_key_text c.args.role c.args.key.now (sym c.is_key.ensures ∙ c.if-is_key.true)
 
 pub returns-then-is_key-clause-told : goal.returns-then-is_key-clause-told
 returns-then-is_key-clause-told c = λ function.

@@ -1,11 +1,19 @@
 -- A target whose sources and extra files are there once is told of.
-use Rattle.std.proofs.Common.{◌≡◌, ◌≢◌, ◌<◌, ◌≤◌, length, subst}
+use Rattle.std.proofs.Common.{◌≡◌, ◌≢◌, ◌<◌, ◌≤◌, length, sym, subst}
 use Rattle.std.specs.Prelude.{OnOk, IfErr}
 use Rattle.meson_calls.specs.declared.refusal.Refusal.TheVariants.{OutOfMemory, DuplicateKeyword}
 use Rattle.meson_calls.specs.Calls.{value_with_name}
 use Rattle.meson_calls.specs.Sourced.{kept_args}
+use Rattle.std.specs.Str.{IsUtf8}
+use Rattle.meson_sources.proofs.KeyTexts.{sources_text, extra_text}
 use Rattle.meson_plan.proofs.Told.{target_went, target_refused}
 use Rattle.meson_plan.proofs.info.target_told.Goals as goal
+
+pub at_most_once-requires : goal.at_most_once-requires
+at_most_once-requires c = subst IsUtf8 (sym c.as_slice.ensures) sources_text
+
+pub at_most_once-requires-in-Ok : goal.at_most_once-requires-in-Ok
+at_most_once-requires-in-Ok c = subst IsUtf8 (sym c.as_slice-in-Ok.ensures) extra_text
 
 pub returns-in-Ok-clause-told : goal.returns-in-Ok-clause-told
 returns-in-Ok-clause-told c = λ function.

@@ -1,4 +1,4 @@
-use Rattle.std.proofs.Common.{sym, ap, ◌∙◌}
+use Rattle.std.proofs.Common.{sym, ap, ◌∙◌, subst}
 use Rattle.std.specs.Prelude.{Ok}
 use Rattle.std.specs.List.{filter_map}
 use Rattle.meson_splice.specs.Patch.{then_ok}
@@ -6,7 +6,14 @@ use Rattle.meson_syntax.specs.View.{args_view, list_view}
 use Rattle.meson_edit.specs.Edits.{elements}
 use Rattle.meson_steps.proofs.ArgumentValues.{list_elements}
 use Rattle.meson_plan.specs.Details.{shown_argument}
+use Rattle.meson_plan.specs.ValueTexts.{ArgsHaveTexts}
+use Rattle.meson_plan.proofs.ValuesAreTexts.{args_texts}
 use Rattle.meson_plan.proofs.showing.keywords_of.Goals as goal
+
+pub shown_arguments-requires-clause-texts : goal.shown_arguments-requires-clause-texts
+shown_arguments-requires-clause-texts c =
+    let source = c.args.source.now in
+    subst (ArgsHaveTexts source) (sym c.get.ensures) (args_texts source c.args.arguments.now c.requires.texts)
 
 pub returns-in-Err-clause-refused : goal.returns-in-Err-clause-refused
 returns-in-Err-clause-refused c = λ function other.

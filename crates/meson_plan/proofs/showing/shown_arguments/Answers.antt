@@ -6,13 +6,20 @@ use Rattle.meson_calls.specs.Strings.{AreGood}
 use Rattle.meson_calls.proofs.Nested.{good_arg}
 use Rattle.meson_plan.specs.Details.{shown_argument}
 use Rattle.meson_plan.proofs.EachShown.{kept_more, kept_none}
+use Rattle.meson_plan.specs.ValueTexts.{HasText}
+use Rattle.meson_plan.proofs.ValuesAreTexts.{arg_text}
 use Rattle.meson_plan.proofs.showing.shown_arguments.Goals as goal
 use Rattle.meson_plan.proofs.showing.shown_arguments.Goals.{in-Some+in_ok-push, in_default}
 
-pub shown_argument-requires : goal.shown_argument-requires
-shown_argument-requires c =
+pub shown_argument-requires-clause-good : goal.shown_argument-requires-clause-good
+shown_argument-requires-clause-good c =
     subst (λ a. AreGood (argument_words (arg_view c.args.source.now a))) (sym c.index-args-i.is)
-    (good_arg c.args.source.now c.args.args.now c.loop-i.i c.index-args-i.result c.loop-i-test.true c.requires)
+    (good_arg c.args.source.now c.args.args.now c.loop-i.i c.index-args-i.result c.loop-i-test.true c.requires.good)
+
+pub shown_argument-requires-clause-text : goal.shown_argument-requires-clause-text
+shown_argument-requires-clause-text c =
+    let source = c.args.source.now in
+    subst (λ a. HasText source (arg_view source a)) (sym c.index-args-i.is) (arg_text source c.args.args.now c.loop-i.i c.index-args-i.result c.loop-i-test.true c.requires.texts)
 
 pub loop-i-preserved : goal.loop-i-preserved
 loop-i-preserved c =

@@ -17,13 +17,13 @@ pub name_text-requires : goal.name_text-requires
 name_text-requires c =
     let source = c.args.source.now in
     let is = ap (expr_view source) c.in-Identifier.is ∙ name_view source c.in-Identifier.name in
-    subst IsIdentifier (sym c.text_of.ensures) (subst (λ e. AreGood (expression_words e)) is c.requires).0
+    subst IsIdentifier (sym c.text_of.ensures) (subst (λ e. AreGood (expression_words e)) is c.requires.good).0
 
-pub shown_array-requires : goal.shown_array-requires
-shown_array-requires c =
+pub shown_array-requires-clause-good : goal.shown_array-requires-clause-good
+shown_array-requires-clause-good c =
     let source = c.args.source.now in
     let l = c.in-Array.list in
-    let whole = subst (λ e. AreGood (expression_words e)) (ap (expr_view source) c.in-Array.is ∙ array_view source l) c.requires in
+    let whole = subst (λ e. AreGood (expression_words e)) (ap (expr_view source) c.in-Array.is ∙ array_view source l) c.requires.good in
     subst (GoodArgs source) (sym c.get.ensures) (good_args source l (good_listing (list_view source l) bracket.Square whole))
 
 pub returns-in-Array : goal.returns-in-Array

@@ -1,4 +1,5 @@
 use Rattle.std.proofs.Common.{◌≡◌, ◌<◌, ◌≤◌, ◌++◌, length, map, sym, ap, ◌∙◌, subst}
+use Rattle.std.specs.Str.{IsUtf8}
 use Rattle.std.specs.Prelude.{Some, Ok, Err}
 use Rattle.meson_calls.specs.declared.refusal.Refusal.TheVariants.{DuplicateKeyword}
 use Rattle.meson_calls.specs.Calls.{value_with_name}
@@ -11,7 +12,11 @@ use Rattle.meson_sources.specs.SourceEdits.{inserted}
 use Rattle.meson_steps.specs.Names.{checked_names}
 use Rattle.meson_calls.specs.Tallies.{gathered}
 use Rattle.meson_sources.proofs.SourcesMeant.{added, added_twice}
+use Rattle.meson_sources.proofs.KeyTexts.{sources_text}
 use Rattle.meson_sources.proofs.editing.sources_added.Goals as goal
+
+pub at_most_once-requires : goal.at_most_once-requires
+at_most_once-requires c = subst IsUtf8 (sym c.as_slice.ensures) sources_text
 
 pub returns-in-Err-at_most_once-clause-refused : goal.returns-in-Err-at_most_once-clause-refused
 returns-in-Err-at_most_once-clause-refused c = λ function other.

@@ -1,4 +1,5 @@
 use Rattle.std.proofs.Common.{◌≡◌, ◌<◌, ◌≤◌, length, sym, ap, ◌∙◌, subst}
+use Rattle.std.specs.Str.{IsUtf8}
 use Rattle.std.specs.Prelude.{Ok, Err}
 use Rattle.meson_calls.specs.declared.refusal.Refusal.TheVariants.{DuplicateKeyword}
 use Rattle.meson_calls.specs.Calls.{value_with_name}
@@ -7,7 +8,11 @@ use Rattle.meson_calls.specs.Sources.{kwargs_key}
 use Rattle.meson_calls.specs.Sourced.{kept_args}
 use Rattle.meson_steps.specs.Names.{checked_names}
 use Rattle.meson_sources.proofs.ExtrasMeant.{extra_once, extra_twice}
+use Rattle.meson_sources.proofs.KeyTexts.{extra_text}
 use Rattle.meson_sources.proofs.extra.checked_extra.Goals as goal
+
+pub at_most_once-requires : goal.at_most_once-requires
+at_most_once-requires c = subst IsUtf8 (sym c.as_slice-2.ensures) extra_text
 
 pub returns-in-Err-at_most_once-clause-refused : goal.returns-in-Err-at_most_once-clause-refused
 returns-in-Err-at_most_once-clause-refused c = λ function other.

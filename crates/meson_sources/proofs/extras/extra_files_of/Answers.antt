@@ -1,5 +1,6 @@
 -- The extra files of a call are those that its marks tell of, where the keyword is there once.
 use Rattle.std.proofs.Common.{◌<◌, ◌≤◌, length, sym, ap, ◌∙◌, subst}
+use Rattle.std.specs.Str.{IsUtf8}
 use Rattle.std.specs.Prelude.{Ok, Err}
 use Rattle.meson_calls.specs.declared.refusal.Refusal.TheVariants.{DuplicateKeyword}
 use Rattle.meson_calls.specs.Calls.{value_with_name}
@@ -10,7 +11,11 @@ use Rattle.meson_calls.specs.Sources.{or_call, or_option}
 use Rattle.meson_calls.specs.Tallies.{gathered}
 use Rattle.meson_sources.specs.Targeted.{extra_gathered}
 use Rattle.meson_sources.proofs.ExtrasTold.{told_once, told_twice}
+use Rattle.meson_sources.proofs.KeyTexts.{extra_text}
 use Rattle.meson_sources.proofs.extras.extra_files_of.Goals as goal
+
+pub at_most_once-requires : goal.at_most_once-requires
+at_most_once-requires c = subst IsUtf8 (sym c.as_slice.ensures) extra_text
 
 pub returns-in-Err-clause-refused : goal.returns-in-Err-clause-refused
 returns-in-Err-clause-refused c = λ function other.
