@@ -156,14 +156,8 @@ pub fn changed(alloc: Global, work: &mut Work, request: Request<'_>) -> Result<(
     ensures refused { IfErr result (λ e. e ≢ Refusal.OutOfMemory → MayNotBeDone (so_far work.old) (request_steps (project (so_far work.old)) (request_view request.entry)) e) }
 {
     let trees = work.trees.as_slice();
-    let call = match place_named(alloc, &work.files, trees, request.role, request.id) {
-        Ok(call) => call,
-        Err(refusal) => return Err(refusal),
-    };
-    let tasks = match tasks_of(alloc, request.role, request.words) {
-        Ok(tasks) => tasks,
-        Err(refusal) => return Err(refusal),
-    };
+    let call = place_named(alloc, &work.files, trees, request.role, request.id)?;
+    let tasks = tasks_of(alloc, request.role, request.words)?;
     let args = list_of_call(trees, &call).items.get();
     match not_hidden(work.files.bytes(call.file), args) {
         Ok(()) => tasks_done(alloc, work, &call, tasks),

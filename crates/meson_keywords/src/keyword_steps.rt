@@ -117,10 +117,7 @@ pub(crate) fn set_steps(
     ensures refused { (w : WrittenFor new) → IfErr result (λ e. e ≢ Refusal.OutOfMemory → set_steps subject.entry.call.now (args_view subject.entry.source.now subject.entry.args.now) key.now (written new w) ≡ Err e) }
 {
     let key = key.get().as_bytes();
-    let found = match the_value(alloc, subject, key) {
-        Ok(found) => found,
-        Err(refusal) => return Err(refusal),
-    };
+    let found = the_value(alloc, subject, key)?;
     let mut steps = Vec::new(alloc);
     match found {
         Some(found) => {
@@ -148,10 +145,7 @@ pub(crate) fn delete_steps(
     ensures meant { IfOk result (λ steps. AreMeant (delete_steps subject.entry.call.now (args_view subject.entry.source.now subject.entry.args.now) key.now) steps.items) }
     ensures refused { IfErr result (λ e. e ≢ Refusal.OutOfMemory → delete_steps subject.entry.call.now (args_view subject.entry.source.now subject.entry.args.now) key.now ≡ Err e) }
 {
-    let found = match the_value(alloc, subject, key.get().as_bytes()) {
-        Ok(found) => found,
-        Err(refusal) => return Err(refusal),
-    };
+    let found = the_value(alloc, subject, key.get().as_bytes())?;
     let mut steps = Vec::new(alloc);
     if let Some(found) = found {
         let edit = ListEdit::Remove(found.number);
@@ -173,10 +167,8 @@ pub(crate) fn once_steps(
     ensures meant { IfOk result (λ steps. AreMeant (once_steps (args_view subject.entry.source.now subject.entry.args.now) key.now) steps.items) }
     ensures refused { IfErr result (λ e. e ≢ Refusal.OutOfMemory → once_steps (args_view subject.entry.source.now subject.entry.args.now) key.now ≡ Err e) }
 {
-    match the_value(alloc, subject, key.get().as_bytes()) {
-        Ok(_) => Ok(Vec::new(alloc)),
-        Err(refusal) => Err(refusal),
-    }
+    the_value(alloc, subject, key.get().as_bytes())?;
+    Ok(Vec::new(alloc))
 }
 
 /// Adds values to the value of an argument: to an array, or to the array of a lone element.
@@ -231,10 +223,7 @@ pub(crate) fn add_steps(
     ensures refused { IfErr result (λ e. e ≢ Refusal.OutOfMemory → add_steps subject.entry.call.now (args_view subject.entry.source.now subject.entry.args.now) key.now kind (map (λ x. x.now) values.now) ≡ Err e) }
 {
     let key = key.get().as_bytes();
-    let found = match the_value(alloc, subject, key) {
-        Ok(found) => found,
-        Err(refusal) => return Err(refusal),
-    };
+    let found = the_value(alloc, subject, key)?;
     let mut steps = Vec::new(alloc);
     match found {
         Some(found) => match add_to_value(alloc, subject, found, key, kind, values, &mut steps) {
@@ -330,10 +319,7 @@ pub(crate) fn remove_steps(
     ensures refused { IfErr result (λ e. e ≢ Refusal.OutOfMemory → remove_steps subject.entry.call.now (args_view subject.entry.source.now subject.entry.args.now) key.now kind value.now ≡ Err e) }
 {
     let key = key.get().as_bytes();
-    let found = match the_value(alloc, subject, key) {
-        Ok(found) => found,
-        Err(refusal) => return Err(refusal),
-    };
+    let found = the_value(alloc, subject, key)?;
     let mut steps = Vec::new(alloc);
     if let Some(found) = found {
         match remove_from_value(alloc, subject, found, key, kind, value, &mut steps) {

@@ -228,10 +228,7 @@ pub(crate) fn set_option_steps(
     ensures meant { IfOk result (λ steps. AreMeant (set_option_steps subject.entry.call.now (args_view subject.entry.source.now subject.entry.args.now) name.now value.now) steps.items) }
     ensures refused { IfErr result (λ e. e ≢ Refusal.OutOfMemory → set_option_steps subject.entry.call.now (args_view subject.entry.source.now subject.entry.args.now) name.now value.now ≡ Err e) }
 {
-    let found = match the_value(alloc, subject, OPTIONS.as_bytes()) {
-        Ok(found) => found,
-        Err(refusal) => return Err(refusal),
-    };
+    let found = the_value(alloc, subject, OPTIONS.as_bytes())?;
     let mut steps = Vec::new(alloc);
     match found {
         Some(found) => match set_by_value(alloc, subject, found, name, value, &mut steps) {
@@ -330,10 +327,7 @@ pub(crate) fn delete_option_steps(
     ensures meant { IfOk result (λ steps. AreMeant (delete_option_steps subject.entry.call.now (args_view subject.entry.source.now subject.entry.args.now) name.now) steps.items) }
     ensures refused { IfErr result (λ e. e ≢ Refusal.OutOfMemory → delete_option_steps subject.entry.call.now (args_view subject.entry.source.now subject.entry.args.now) name.now ≡ Err e) }
 {
-    let found = match the_value(alloc, subject, OPTIONS.as_bytes()) {
-        Ok(found) => found,
-        Err(refusal) => return Err(refusal),
-    };
+    let found = the_value(alloc, subject, OPTIONS.as_bytes())?;
     let mut steps = Vec::new(alloc);
     if let Some(found) = found {
         match delete_by_value(alloc, subject, found, name, &mut steps) {

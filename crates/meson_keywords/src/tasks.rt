@@ -56,14 +56,8 @@ fn set_tasks<'c>(
     let mut tasks = Vec::new(alloc);
     for i in 0..pairs.len() {
         let (key, setting) = &pairs[i];
-        let kind = match kind_of(role, key) {
-            Ok(kind) => kind,
-            Err(refusal) => return Err(refusal),
-        };
-        let new = match written_value(alloc, kind, key, setting) {
-            Ok(new) => new,
-            Err(refusal) => return Err(refusal),
-        };
+        let kind = kind_of(role, key)?;
+        let new = written_value(alloc, kind, key, setting)?;
         push_task(&mut tasks, Task::Set(key, new))?;
     }
     Ok(tasks)
@@ -119,14 +113,8 @@ fn add_tasks<'c>(
     let mut tasks = Vec::new(alloc);
     for i in 0..pairs.len() {
         let (key, setting) = &pairs[i];
-        let kind = match element_kind(role, key) {
-            Ok(kind) => kind,
-            Err(refusal) => return Err(refusal),
-        };
-        let values = match list_values(alloc, kind, key, setting) {
-            Ok(values) => values,
-            Err(refusal) => return Err(refusal),
-        };
+        let kind = element_kind(role, key)?;
+        let values = list_values(alloc, kind, key, setting)?;
         push_task(&mut tasks, Task::Add(key, kind, values))?;
     }
     Ok(tasks)
@@ -146,14 +134,8 @@ fn remove_one<'c>(
     ensures refused { IfErr result (λ e. e ≢ Refusal.OutOfMemory → remove_entry role pair.entry.now ≡ Err e) }
 {
     let (key, setting) = pair;
-    let kind = match element_kind(role, key) {
-        Ok(kind) => kind,
-        Err(refusal) => return Err(refusal),
-    };
-    let values = match list_values(alloc, kind, key, setting) {
-        Ok(values) => values,
-        Err(refusal) => return Err(refusal),
-    };
+    let kind = element_kind(role, key)?;
+    let values = list_values(alloc, kind, key, setting)?;
     push_task(tasks, Task::Once(key))?;
     for i in 0..values.len() {
         push_task(tasks, Task::Remove(key, kind, values[i]))?;

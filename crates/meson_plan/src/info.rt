@@ -119,10 +119,7 @@ pub(crate) fn target_info(
     ensures plan { IfOk result (λ steps. ArePlanned (record { files = files.now; parsed = trees.now }) (then_ok (the_call (named_trees files.now (views files.now trees.now)) Role.Target target.now) (λ c. target_told c.it)) steps.items) }
     ensures refused { IfErr result (λ e. e ≢ Refusal.OutOfMemory → then_ok (the_call (named_trees files.now (views files.now trees.now)) Role.Target target.now) (λ c. target_told c.it) ≡ Err e) }
 {
-    let call = match the_call(alloc, Role::Target, target, noted) {
-        Ok(call) => call,
-        Err(refusal) => return Err(refusal),
-    };
+    let call = the_call(alloc, Role::Target, target, noted)?;
     match target_told(alloc, files.bytes(call.file), list_of_call(trees, &call)) {
         Ok(()) => Ok(Vec::new(alloc)),
         Err(refusal) => Err(refusal),
@@ -146,10 +143,7 @@ pub(crate) fn call_info(
     ensures plan { IfOk result (λ steps. ArePlanned (record { files = files.now; parsed = trees.now }) (then_ok (the_call (named_trees files.now (views files.now trees.now)) role id.now) (λ c. call_told role c.it)) steps.items) }
     ensures refused { IfErr result (λ e. e ≢ Refusal.OutOfMemory → then_ok (the_call (named_trees files.now (views files.now trees.now)) role id.now) (λ c. call_told role c.it) ≡ Err e) }
 {
-    let call = match the_call(alloc, role, id, noted) {
-        Ok(call) => call,
-        Err(refusal) => return Err(refusal),
-    };
+    let call = the_call(alloc, role, id, noted)?;
     match call_told(
         alloc,
         files.bytes(call.file),

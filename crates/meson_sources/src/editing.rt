@@ -150,10 +150,7 @@ pub(crate) fn sources_removed<'t>(
     }
     let marks = met(variables, MAX_FOLLOWED, call, source, arguments.items.get())?;
     let names = distinct(alloc, names)?;
-    let spots = match spots_of(alloc, &marks, names.as_slice()) {
-        Ok(spots) => spots,
-        Err(refusal) => return Err(refusal),
-    };
+    let spots = spots_of(alloc, &marks, names.as_slice())?;
     let steps = removed(alloc, spots.as_slice())?;
     Ok(steps)
 }

@@ -236,10 +236,7 @@ pub(crate) fn extra_added<'t>(
     ensures utf8 { IfOk result (λ steps. All IsUtf8 names.now) }
 {
     let alloc = variables.alloc;
-    let marks = match checked_extra(variables, call, source, arguments, names) {
-        Ok(marks) => marks,
-        Err(refusal) => return Err(refusal),
-    };
+    let marks = checked_extra(variables, call, source, arguments, names)?;
     let new = new_names(alloc, marks.items.as_slice(), names)?;
     let Marks {
         items: _,
@@ -285,15 +282,9 @@ pub(crate) fn extra_removed<'t>(
     ensures utf8 { IfOk result (λ steps. All IsUtf8 names.now) }
 {
     let alloc = variables.alloc;
-    let marks = match checked_extra(variables, call, source, arguments, names) {
-        Ok(marks) => marks,
-        Err(refusal) => return Err(refusal),
-    };
+    let marks = checked_extra(variables, call, source, arguments, names)?;
     let names = distinct(alloc, names)?;
-    let spots = match spots_of(alloc, &marks, names.as_slice()) {
-        Ok(spots) => spots,
-        Err(refusal) => return Err(refusal),
-    };
+    let spots = spots_of(alloc, &marks, names.as_slice())?;
     let steps = removed(alloc, spots.as_slice())?;
     Ok(steps)
 }

@@ -201,10 +201,7 @@ pub(crate) fn spots_of(
 {
     let mut spots = Vec::new(alloc);
     for i in 0..names.len() {
-        let found = match find_spots(alloc, marks, names[i], &mut spots) {
-            Ok(found) => found,
-            Err(refusal) => return Err(refusal),
-        };
+        let found = find_spots(alloc, marks, names[i], &mut spots)?;
         if !found {
             if marks.unknown.len() > 0 {
                 return Err(Refusal::Unresolved);

@@ -50,10 +50,7 @@ fn target_steps(
     ensures refused { IfErr result (λ e. e ≢ Refusal.OutOfMemory → target_steps (named_trees files.now (views files.now trees.now)) target.now change names.now ≡ Err e) }
     ensures utf8 { IfOk result (λ steps. All IsUtf8 names.now) }
 {
-    let call = match the_call(alloc, Role::Target, target, noted) {
-        Ok(call) => call,
-        Err(refusal) => return Err(refusal),
-    };
+    let call = the_call(alloc, Role::Target, target, noted)?;
     if call.file >= trees.len() {
         unreachable!();
     }

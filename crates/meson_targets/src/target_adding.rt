@@ -169,10 +169,7 @@ pub fn target_added(
         Ok(()) => {}
         Err(refusal) => return Err(refusal),
     }
-    let file = match number_in(alloc, files, trees, new.folder.get()) {
-        Ok(file) => file,
-        Err(refusal) => return Err(refusal),
-    };
+    let file = number_in(alloc, files, trees, new.folder.get())?;
     let sources = distinct(alloc, new.sources)?;
     let statement = written_target(alloc, new.kind, new.name, sources.as_slice())?;
     one_step(alloc, file, statement)

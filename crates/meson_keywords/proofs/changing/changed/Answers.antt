@@ -1,6 +1,7 @@
 -- What a request means is done on its call, task by task, or it is refused as is meant.
 use Rattle.std.proofs.Common.{◌<◌, ◌≡◌, length, sym, ap, ◌∙◌, subst, arith}
 use Rattle.std.specs.Prelude.{◌≢◌, IfErr, OnOk}
+use Rattle.std.proofs.lemmas.Result.{err_from_is_err_and}
 use Rattle.meson_splice.specs.Files.{bytes_at}
 use Rattle.meson_calls.specs.declared.refusal.Refusal.TheVariants.{OutOfMemory}
 use Rattle.meson_calls.specs.Calls.{value_with_name}
@@ -23,28 +24,32 @@ use Rattle.meson_keywords.proofs.changing.changed.Goals as goal
 pub place_named-requires : goal.place_named-requires
 place_named-requires c = parsed_as c.args.work.now.files c.as_slice-trees.ensures.value c.requires.project
 
-pub returns-in-Err-clause-refused : goal.returns-in-Err-clause-refused
-returns-in-Err-clause-refused c = λ other.
+pub returns-in_err-call-clause-refused : goal.returns-in_err-call-clause-refused
+returns-in_err-call-clause-refused c =
+    let error = err_from_is_err_and c.from_residual.result c.from_residual.ensures.1 in
+    rw (error.1, error.2) (λ other.
     let files = c.args.work.now.files in
     let trees = c.as_slice-trees.result.now in
     let r = c.args.request.role in
     let id = c.args.request.id.now in
     let words = asked c.args.request.words in
-    let e = c.in-Err.refusal in
-    let why = sym (place_is r id (named_trees files (views files trees))) ∙ c.in-Err.ensures.refused other in
-    of_trees (λ l. MayNotBeDone l (request_steps (project l) (r, id, words)) e) files c.as_slice-trees.ensures.value (unmeant e (none_named files trees r id words e why))
+    let e = c.in_err-call.field-0.0 in
+    let why = sym (place_is r id (named_trees files (views files trees))) ∙ c.in_err-call.ensures.refused other in
+    of_trees (λ l. MayNotBeDone l (request_steps (project l) (r, id, words)) e) files c.as_slice-trees.ensures.value (unmeant e (none_named files trees r id words e why)))
 
-pub returns-in-Err-tasks_of-clause-refused : goal.returns-in-Err-tasks_of-clause-refused
-returns-in-Err-tasks_of-clause-refused c = λ other.
+pub returns-in_err-tasks-clause-refused : goal.returns-in_err-tasks-clause-refused
+returns-in_err-tasks-clause-refused c =
+    let error = err_from_is_err_and c.from_residual-in_err-tasks.result c.from_residual-in_err-tasks.ensures.1 in
+    rw (error.1, error.2) (λ other.
     let files = c.args.work.now.files in
     let trees = c.as_slice-trees.result.now in
     let r = c.args.request.role in
     let id = c.args.request.id.now in
     let words = asked c.args.request.words in
-    let e = c.in-Err-tasks_of.refusal in
-    let found = sym (place_is r id (named_trees files (views files trees))) ∙ c.in-Ok.ensures.found in
+    let e = c.in_err-tasks.field-0.0 in
+    let found = sym (place_is r id (named_trees files (views files trees))) ∙ c.in_ok-call.ensures.found in
     of_trees (λ l. MayNotBeDone l (request_steps (project l) (r, id, words)) e) files c.as_slice-trees.ensures.value
-    (unmeant e (no_words files trees r id words c.in-Ok.call found e (c.in-Err-tasks_of.ensures.refused other)))
+    (unmeant e (no_words files trees r id words c.in_ok-call.call found e (c.in_err-tasks.ensures.refused other))))
 
 pub list_of_call-requires : goal.list_of_call-requires
 list_of_call-requires c =
@@ -52,8 +57,8 @@ list_of_call-requires c =
     let trees = c.as_slice-trees.result.now in
     let r = c.args.request.role in
     let id = c.args.request.id.now in
-    let found = sym (place_is r id (named_trees files (views files trees))) ∙ c.in-Ok.ensures.found in
-    in_trees files trees r id (asked c.args.request.words) c.in-Ok.call found (parsed_as files c.as_slice-trees.ensures.value c.requires.project)
+    let found = sym (place_is r id (named_trees files (views files trees))) ∙ c.in_ok-call.ensures.found in
+    in_trees files trees r id (asked c.args.request.words) c.in_ok-call.call found (parsed_as files c.as_slice-trees.ensures.value c.requires.project)
 
 pub bytes-requires : goal.bytes-requires
 bytes-requires c =
@@ -62,8 +67,8 @@ bytes-requires c =
     let r = c.args.request.role in
     let id = c.args.request.id.now in
     let are = parsed_as files c.as_slice-trees.ensures.value c.requires.project in
-    let found = sym (place_is r id (named_trees files (views files trees))) ∙ c.in-Ok.ensures.found in
-    let within : c.in-Ok.call.file < length trees = inside trees c.in-Ok.call (in_trees files trees r id (asked c.args.request.words) c.in-Ok.call found are) in
+    let found = sym (place_is r id (named_trees files (views files trees))) ∙ c.in_ok-call.ensures.found in
+    let within : c.in_ok-call.call.file < length trees = inside trees c.in_ok-call.call (in_trees files trees r id (asked c.args.request.words) c.in_ok-call.call found are) in
     let many = as_many files trees are in
     omega (arith, within, many)
 
@@ -73,46 +78,46 @@ tasks_done-requires-clause-stands c =
     let trees = c.as_slice-trees.result.now in
     let r = c.args.request.role in
     let id = c.args.request.id.now in
-    let place = c.in-Ok.call in
-    let found = sym (place_is r id (named_trees files (views files trees))) ∙ c.in-Ok.ensures.found in
+    let place = c.in_ok-call.call in
+    let found = sym (place_is r id (named_trees files (views files trees))) ∙ c.in_ok-call.ensures.found in
     let is = c.as_slice-trees.ensures.value in
     of_trees (λ l. CallStands place (plain_trees l)) files is (stands files trees r id (asked c.args.request.words) place found (subst (λ ts. IsProject (record { files = files; parsed = ts })) (sym is) c.requires.project))
 
-pub returns-in-Ok-not_hidden-clause-done : goal.returns-in-Ok-not_hidden-clause-done
-returns-in-Ok-not_hidden-clause-done c =
+pub returns-in-Ok-clause-done : goal.returns-in-Ok-clause-done
+returns-in-Ok-clause-done c =
     let files = c.args.work.now.files in
     let trees = c.as_slice-trees.result.now in
     let r = c.args.request.role in
     let id = c.args.request.id.now in
     let words = asked c.args.request.words in
-    let place = c.in-Ok.call in
-    let found = sym (place_is r id (named_trees files (views files trees))) ∙ c.in-Ok.ensures.found in
-    let t = c.in-Ok-tasks_of.ensures.made in
+    let place = c.in_ok-call.call in
+    let found = sym (place_is r id (named_trees files (views files trees))) ∙ c.in_ok-call.ensures.found in
+    let t = c.in_ok-tasks.ensures.made in
     let bytes = bytes_at place.file files in
     let list = c.list_of_call.result.now in
     let arguments = c.list_of_call.ensures (in_trees files trees r id words place found (parsed_as files c.as_slice-trees.ensures.value c.requires.project)) in
     let hidden = sym (c.not_hidden.ensures ∙ ap (λ s. not_hidden (kept_args s (value_with_name kwargs_key) 0 c.get-args.result.now)) c.bytes.ensures
-    ∙ ap (λ xs. not_hidden (kept_args bytes (value_with_name kwargs_key) 0 xs)) c.get-args.ensures) ∙ c.in-Ok-not_hidden.is in
+    ∙ ap (λ xs. not_hidden (kept_args bytes (value_with_name kwargs_key) 0 xs)) c.get-args.ensures) ∙ c.in-Ok.is in
     let same = of_trees (λ l. tasks_steps place t.tasks (plain_trees l) ≡ request_steps (project l) (r, id, words)) files c.as_slice-trees.ensures.value
     (task_by_task files trees r id words place found t.tasks t.is bytes list arguments hidden) in
     let old = so_far c.args.work.now in
     subst (λ m. OnOk c.tasks_done.result (IsDone old m c.tasks_done.new.work)) same (c.tasks_done.ensures.done t.tasks t.are)
 
-pub returns-in-Ok-not_hidden-clause-refused : goal.returns-in-Ok-not_hidden-clause-refused
-returns-in-Ok-not_hidden-clause-refused c =
+pub returns-in-Ok-clause-refused : goal.returns-in-Ok-clause-refused
+returns-in-Ok-clause-refused c =
     let files = c.args.work.now.files in
     let trees = c.as_slice-trees.result.now in
     let r = c.args.request.role in
     let id = c.args.request.id.now in
     let words = asked c.args.request.words in
-    let place = c.in-Ok.call in
-    let found = sym (place_is r id (named_trees files (views files trees))) ∙ c.in-Ok.ensures.found in
-    let t = c.in-Ok-tasks_of.ensures.made in
+    let place = c.in_ok-call.call in
+    let found = sym (place_is r id (named_trees files (views files trees))) ∙ c.in_ok-call.ensures.found in
+    let t = c.in_ok-tasks.ensures.made in
     let bytes = bytes_at place.file files in
     let list = c.list_of_call.result.now in
     let arguments = c.list_of_call.ensures (in_trees files trees r id words place found (parsed_as files c.as_slice-trees.ensures.value c.requires.project)) in
     let hidden = sym (c.not_hidden.ensures ∙ ap (λ s. not_hidden (kept_args s (value_with_name kwargs_key) 0 c.get-args.result.now)) c.bytes.ensures
-    ∙ ap (λ xs. not_hidden (kept_args bytes (value_with_name kwargs_key) 0 xs)) c.get-args.ensures) ∙ c.in-Ok-not_hidden.is in
+    ∙ ap (λ xs. not_hidden (kept_args bytes (value_with_name kwargs_key) 0 xs)) c.get-args.ensures) ∙ c.in-Ok.is in
     let same = of_trees (λ l. tasks_steps place t.tasks (plain_trees l) ≡ request_steps (project l) (r, id, words)) files c.as_slice-trees.ensures.value
     (task_by_task files trees r id words place found t.tasks t.is bytes list arguments hidden) in
     let old = so_far c.args.work.now in
@@ -125,14 +130,14 @@ returns-clause-refused c = λ other.
     let r = c.args.request.role in
     let id = c.args.request.id.now in
     let words = asked c.args.request.words in
-    let place = c.in-Ok.call in
-    let found = sym (place_is r id (named_trees files (views files trees))) ∙ c.in-Ok.ensures.found in
-    let t = c.in-Ok-tasks_of.ensures.made in
+    let place = c.in_ok-call.call in
+    let found = sym (place_is r id (named_trees files (views files trees))) ∙ c.in_ok-call.ensures.found in
+    let t = c.in_ok-tasks.ensures.made in
     let bytes = bytes_at place.file files in
     let list = c.list_of_call.result.now in
     let arguments = c.list_of_call.ensures (in_trees files trees r id words place found (parsed_as files c.as_slice-trees.ensures.value c.requires.project)) in
     let hidden = sym (c.not_hidden.ensures ∙ ap (λ s. not_hidden (kept_args s (value_with_name kwargs_key) 0 c.get-args.result.now)) c.bytes.ensures
-    ∙ ap (λ xs. not_hidden (kept_args bytes (value_with_name kwargs_key) 0 xs)) c.get-args.ensures) ∙ c.in-Err-not_hidden.is in
-    let e = c.in-Err-not_hidden.refusal in
+    ∙ ap (λ xs. not_hidden (kept_args bytes (value_with_name kwargs_key) 0 xs)) c.get-args.ensures) ∙ c.in-Err.is in
+    let e = c.in-Err.refusal in
     of_trees (λ l. MayNotBeDone l (request_steps (project l) (r, id, words)) e) files c.as_slice-trees.ensures.value
     (unmeant e (hides files trees r id words place found t.tasks t.is bytes list arguments e hidden))

@@ -1,6 +1,7 @@
-use Rattle.std.proofs.Common.{◌++◌, ◌∷◌, [], List, length, refl, sym, ap, ◌∙◌, subst}
+use Rattle.std.proofs.Common.{◌++◌, ◌∷◌, [], List, length, refl, sym, ap, ◌∙◌, subst, rules}
 use Rattle.std.specs.Prelude.{Option, Result, Ok, codes}
 use Rattle.std.proofs.lemmas.List.{length-map}
+use Rattle.std.proofs.lemmas.Result.{err_from_is_err_and}
 use Rattle.meson_lex.specs.declared.kinds.Span.{Span}
 use Rattle.meson_calls.specs.declared.refusal.Refusal.{Refusal}
 use Rattle.meson_calls.specs.Calls.{Numbered}
@@ -17,6 +18,11 @@ use Rattle.meson_keywords.proofs.StepsBehind.{all_meant, behind_is, by_none, by_
 use Rattle.meson_keywords.proofs.keyword_steps.set_steps.Goals as goal
 use Rattle.meson_keywords.proofs.keyword_steps.set_steps.Goals.{in-Some+in_ok-push_edit-in-Some, in-None+in_ok-new-in-None+in_ok-put_behind-in-None}
 
+pub returns-in_err-found-clause-refused : goal.returns-in_err-found-clause-refused
+returns-in_err-found-clause-refused c =
+    let error = err_from_is_err_and c.from_residual.result c.from_residual.ensures.1 in
+    rw (error.1, error.2) (search rules)
+
 pub returns-clause-meant : goal.returns-clause-meant
 returns-clause-meant c = λ good.
     let s = c.args.subject in
@@ -28,7 +34,7 @@ returns-clause-meant c = λ good.
       | in-Some+in_ok-push_edit-in-Some w ↦
           (let step = step_in s.call.now (Replace s.call.now.path.steps w.in-Some.found.number it) in
           all_meant _ (Ok (step ∷ [])) c.new-steps.result.items c.match-found.steps.items
-          (by_some f c.args.key.now c.as_bytes-key.result.now s.source.now key_is s.args.now c.in-Ok.found c.in-Ok.ensures.found w.in-Some.found w.in-Some.is)
+          (by_some f c.args.key.now c.as_bytes-key.result.now s.source.now key_is s.args.now c.in_ok-found.found c.in_ok-found.ensures.found w.in-Some.found w.in-Some.is)
           c.new-steps.ensures.items
           (subst (λ x. AreBehind (Ok (step ∷ [])) c.new-steps.result.items x.items) (sym w.steps-is)
           (behind_is (Ok (step ∷ [])) (step ∷ []) c.new-steps.result.items w.push_edit.new.steps.items refl (one_more c.new-steps.result.items w.push_edit.new.steps.items _ step w.in_ok-push_edit-in-Some.ensures refl))))
@@ -37,7 +43,7 @@ returns-clause-meant c = λ good.
           let bytes = w.in_ok-new-in-None.ensures ∙ ap (λ key. key ++ (codes ": " ++ c.args.new)) key_is in
           let steps = behind_all s.call.now (length s.args.now) new ∷ [] in
           all_meant _ (Ok steps) c.new-steps.result.items c.match-found.steps.items
-          (by_none f c.args.key.now c.as_bytes-key.result.now s.source.now key_is s.args.now c.in-Ok.found c.in-Ok.ensures.found w.in-None.is
+          (by_none f c.args.key.now c.as_bytes-key.result.now s.source.now key_is s.args.now c.in_ok-found.found c.in_ok-found.ensures.found w.in-None.is
           ∙ ap (λ m. Ok (behind_all s.call.now m new ∷ [])) (length-map s.args.now (arg_view s.source.now)))
           c.new-steps.ensures.items
           (subst (λ x. AreBehind (Ok steps) c.new-steps.result.items x.items) (sym w.steps-is)

@@ -1,5 +1,6 @@
 -- What is asked of a target is told of the call that stands in the trees, and is no steps.
 use Rattle.std.proofs.Common.{sym, ap, ◌∙◌, subst, arith}
+use Rattle.std.proofs.lemmas.Result.{err_from_is_err_and}
 use Rattle.meson_splice.specs.Patch.{then_ok}
 use Rattle.meson_calls.specs.declared.call.Role.TheVariants as role
 use Rattle.meson_calls.specs.Loading.{Loaded, named_trees, views}
@@ -16,12 +17,14 @@ use Rattle.meson_plan.proofs.info.target_info.Goals as goal
 pub the_call-requires : goal.the_call-requires
 the_call-requires c = subst NotesGood (sym c.requires.taken) (project_good c.args.files.now c.args.trees.now c.requires.whole.parsed)
 
-pub returns-in-Err-clause-refused : goal.returns-in-Err-clause-refused
-returns-in-Err-clause-refused c = λ other.
+pub returns-in_err-call-clause-refused : goal.returns-in_err-call-clause-refused
+returns-in_err-call-clause-refused c =
+    let error = err_from_is_err_and c.from_residual.result c.from_residual.ensures.1 in
+    rw (error.1, error.2) (λ other.
     let p = named_trees c.args.files.now (views c.args.files.now c.args.trees.now) in
     let id = c.args.target.now in
-    let why = sym (place_is role.Target id p) ∙ ap (the_place role.Target id) (sym c.requires.taken) ∙ c.in-Err.ensures.refused other in
-    ap (λ r. then_ok r (λ k. target_told k.it)) (call_refused (the_call p role.Target id) c.in-Err.refusal why)
+    let why = sym (place_is role.Target id p) ∙ ap (the_place role.Target id) (sym c.requires.taken) ∙ c.in_err-call.ensures.refused other in
+    ap (λ r. then_ok r (λ k. target_told k.it)) (call_refused (the_call p role.Target id) c.in_err-call.field-0.0 why))
 
 pub bytes-requires : goal.bytes-requires
 bytes-requires c =
@@ -29,8 +32,8 @@ bytes-requires c =
     let trees = c.args.trees.now in
     let are = c.requires.whole.parsed in
     let id = c.args.target.now in
-    let found = sym (place_is role.Target id (named_trees files (views files trees))) ∙ ap (the_place role.Target id) (sym c.requires.taken) ∙ c.in-Ok.ensures.found in
-    let within = within_trees files trees are role.Target id c.in-Ok.call found in
+    let found = sym (place_is role.Target id (named_trees files (views files trees))) ∙ ap (the_place role.Target id) (sym c.requires.taken) ∙ c.in_ok-call.ensures.found in
+    let within = within_trees files trees are role.Target id c.in_ok-call.call found in
     let many = as_many files trees are in
     omega (arith, within, many)
 
@@ -39,20 +42,20 @@ list_of_call-requires c =
     let files = c.args.files.now in
     let trees = c.args.trees.now in
     let id = c.args.target.now in
-    let found = sym (place_is role.Target id (named_trees files (views files trees))) ∙ ap (the_place role.Target id) (sym c.requires.taken) ∙ c.in-Ok.ensures.found in
-    call_in files trees c.requires.whole.parsed role.Target id c.in-Ok.call found
+    let found = sym (place_is role.Target id (named_trees files (views files trees))) ∙ ap (the_place role.Target id) (sym c.requires.taken) ∙ c.in_ok-call.ensures.found in
+    call_in files trees c.requires.whole.parsed role.Target id c.in_ok-call.call found
 
-pub returns-in-Ok-target_told-clause-plan : goal.returns-in-Ok-target_told-clause-plan
-returns-in-Ok-target_told-clause-plan c =
+pub returns-in-Ok-clause-plan : goal.returns-in-Ok-clause-plan
+returns-in-Ok-clause-plan c =
     let files = c.args.files.now in
     let trees = c.args.trees.now in
     let are = c.requires.whole.parsed in
     let id = c.args.target.now in
     let old : Loaded = record { files = files; parsed = trees } in
-    let found = sym (place_is role.Target id (named_trees files (views files trees))) ∙ ap (the_place role.Target id) (sym c.requires.taken) ∙ c.in-Ok.ensures.found in
-    let is = told_is files trees are role.Target id c.in-Ok.call found target_told c.bytes.result.now c.list_of_call.result.now c.bytes.ensures c.list_of_call.ensures in
+    let found = sym (place_is role.Target id (named_trees files (views files trees))) ∙ ap (the_place role.Target id) (sym c.requires.taken) ∙ c.in_ok-call.ensures.found in
+    let is = told_is files trees are role.Target id c.in_ok-call.call found target_told c.bytes.result.now c.list_of_call.result.now c.bytes.ensures c.list_of_call.ensures in
     nothing_planned old (then_ok (the_call (named_trees files (views files trees)) role.Target id) (λ k. target_told k.it)) c.new.result.items
-    (is ∙ c.in-Ok-target_told.ensures.told (function files trees are role.Target id c.in-Ok.call found)) c.new.ensures.items
+    (is ∙ c.in-Ok.ensures.told (function files trees are role.Target id c.in_ok-call.call found)) c.new.ensures.items
 
 pub returns-clause-refused : goal.returns-clause-refused
 returns-clause-refused c = λ other.
@@ -60,6 +63,6 @@ returns-clause-refused c = λ other.
     let trees = c.args.trees.now in
     let are = c.requires.whole.parsed in
     let id = c.args.target.now in
-    let found = sym (place_is role.Target id (named_trees files (views files trees))) ∙ ap (the_place role.Target id) (sym c.requires.taken) ∙ c.in-Ok.ensures.found in
-    let is = told_is files trees are role.Target id c.in-Ok.call found target_told c.bytes.result.now c.list_of_call.result.now c.bytes.ensures c.list_of_call.ensures in
-    is ∙ c.in-Err-target_told.ensures.refused (function files trees are role.Target id c.in-Ok.call found) other
+    let found = sym (place_is role.Target id (named_trees files (views files trees))) ∙ ap (the_place role.Target id) (sym c.requires.taken) ∙ c.in_ok-call.ensures.found in
+    let is = told_is files trees are role.Target id c.in_ok-call.call found target_told c.bytes.result.now c.list_of_call.result.now c.bytes.ensures c.list_of_call.ensures in
+    is ∙ c.in-Err.ensures.refused (function files trees are role.Target id c.in_ok-call.call found) other

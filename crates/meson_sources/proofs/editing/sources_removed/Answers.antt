@@ -1,6 +1,7 @@
 use Rattle.std.proofs.Common.{◌≡◌, ◌<◌, ◌≤◌, [], length, map, sym, ap, ◌∙◌, subst}
 use Rattle.std.specs.Str.{IsUtf8}
 use Rattle.std.specs.Prelude.{Ok, Err}
+use Rattle.std.proofs.lemmas.Result.{err_from_is_err_and}
 use Rattle.meson_calls.specs.declared.refusal.Refusal.TheVariants.{DuplicateKeyword}
 use Rattle.meson_calls.specs.Calls.{value_with_name}
 use Rattle.meson_calls.specs.Expansion.{max_followed}
@@ -38,8 +39,10 @@ spots_of-requires c =
     let is = ap (λ g. g.tally) (c.in_ok-marks.ensures ∙ ap (all_gathered p max_followed c.args.call.now source) c.get.ensures) in
     as_many_numbers t (ms p c.args.call.now source l [] c.args.names.now) (fields p c.args.call.now source l [] c.args.names.now t is)
 
-pub returns-in-Err-spots_of-clause-refused : goal.returns-in-Err-spots_of-clause-refused
-returns-in-Err-spots_of-clause-refused c = λ function other.
+pub returns-in_err-spots-clause-refused : goal.returns-in_err-spots-clause-refused
+returns-in_err-spots-clause-refused c =
+    let error = err_from_is_err_and c.from_residual-in_err-spots.result c.from_residual-in_err-spots.ensures.1 in
+    rw (error.1, error.2) (λ function other.
     let p = project_of c.args.variables.now in
     let source = c.args.source.now in
     let l = c.args.arguments.now in
@@ -48,8 +51,8 @@ returns-in-Err-spots_of-clause-refused c = λ function other.
     let few = subst (λ k. length (kept_args source (value_with_name k) 0 l.items) ≤ 1) c.as_slice.ensures c.in-Ok-at_most_once.ensures.few in
     let is = ap (λ g. g.tally) (c.in_ok-marks.ensures ∙ ap (all_gathered p max_followed c.args.call.now source) c.get.ensures) in
     let t = (gathered c.in_ok-marks.marks).tally in
-    let found = ap (λ ns. spots_of_names t.items t.numbers t.unknown ns) (sym c.in_ok-names.ensures) ∙ ap (λ ns. spots_of_names t.items t.numbers t.unknown (map (λ x. x.now) ns)) (sym c.as_slice-2.ensures.value) ∙ c.in-Err-spots_of.ensures.refused other in
-    not_gone p c.args.call.now source l function names checked few t is c.in-Err-spots_of.refusal found
+    let found = ap (λ ns. spots_of_names t.items t.numbers t.unknown ns) (sym c.in_ok-names.ensures) ∙ ap (λ ns. spots_of_names t.items t.numbers t.unknown (map (λ x. x.now) ns)) (sym c.as_slice-2.ensures.value) ∙ c.in_err-spots.ensures.refused other in
+    not_gone p c.args.call.now source l function names checked few t is c.in_err-spots.field-0.0 found)
 
 pub returns-clause-meant : goal.returns-clause-meant
 returns-clause-meant c = λ function.
@@ -61,6 +64,6 @@ returns-clause-meant c = λ function.
     let few = subst (λ k. length (kept_args source (value_with_name k) 0 l.items) ≤ 1) c.as_slice.ensures c.in-Ok-at_most_once.ensures.few in
     let is = ap (λ g. g.tally) (c.in_ok-marks.ensures ∙ ap (all_gathered p max_followed c.args.call.now source) c.get.ensures) in
     let t = (gathered c.in_ok-marks.marks).tally in
-    let found = ap (λ ns. spots_of_names t.items t.numbers t.unknown ns) (sym c.in_ok-names.ensures) ∙ ap (λ ns. spots_of_names t.items t.numbers t.unknown (map (λ x. x.now) ns)) (sym c.as_slice-2.ensures.value) ∙ c.in-Ok-spots_of.ensures.found in
+    let found = ap (λ ns. spots_of_names t.items t.numbers t.unknown ns) (sym c.in_ok-names.ensures) ∙ ap (λ ns. spots_of_names t.items t.numbers t.unknown (map (λ x. x.now) ns)) (sym c.as_slice-2.ensures.value) ∙ c.in_ok-spots.ensures.found in
     let are = c.in_ok-steps.ensures ∙ ap (λ ss. map bare (removed (distinct_spots (map spot_view ss)))) c.as_slice-3.ensures.value in
-    gone p c.args.call.now source l function names checked few t is (map spot_view c.in-Ok-spots_of.spots.items) found c.in_ok-steps.steps.items are
+    gone p c.args.call.now source l function names checked few t is (map spot_view c.in_ok-spots.spots.items) found c.in_ok-steps.steps.items are

@@ -1,5 +1,6 @@
 use Rattle.std.proofs.Common.{◌++◌, length, map, sym, ap, ◌∙◌, subst}
 use Rattle.std.specs.Prelude.{Some}
+use Rattle.std.proofs.lemmas.Result.{err_from_is_err_and}
 use Rattle.meson_calls.specs.Calls.{value_with_name}
 use Rattle.meson_steps.specs.ListSteps.{bare}
 use Rattle.meson_calls.specs.Named.{project_of}
@@ -12,43 +13,45 @@ use Rattle.meson_steps.specs.Meanings.{AreBehind}
 use Rattle.meson_sources.proofs.ExtrasAdded.{added_unchecked, home_meant, call_meant, call_refused}
 use Rattle.meson_sources.proofs.extra.extra_added.Goals as goal
 
-pub returns-in-Err-clause-refused : goal.returns-in-Err-clause-refused
-returns-in-Err-clause-refused c = λ function other.
-    added_unchecked (project_of c.args.variables.now) c.args.call.now c.args.source.now c.args.arguments.now function c.args.names.now c.in-Err.refusal (c.in-Err.ensures.refused function other)
+pub returns-in_err-marks-clause-refused : goal.returns-in_err-marks-clause-refused
+returns-in_err-marks-clause-refused c =
+    let error = err_from_is_err_and c.from_residual.result c.from_residual.ensures.1 in
+    rw (error.1, error.2) (λ function other.
+    added_unchecked (project_of c.args.variables.now) c.args.call.now c.args.source.now c.args.arguments.now function c.args.names.now c.in_err-marks.field-0.0 (c.in_err-marks.ensures.refused function other))
 
 pub returns-in-Some-clause-meant : goal.returns-in-Some-clause-meant
 returns-in-Some-clause-meant c = λ function.
     let p = project_of c.args.variables.now in
     let names = c.args.names.now in
-    let t = (gathered c.in-Ok.marks).tally in
-    let is = ap (λ g. g.tally) c.in-Ok.ensures.met in
+    let t = (gathered c.in_ok-marks.marks).tally in
+    let is = ap (λ g. g.tally) c.in_ok-marks.ensures.met in
     let new_is = c.in_ok-new.ensures ∙ ap (λ xs. new_among xs names) c.as_slice.ensures.value in
     let home = c.in-Some.home in
     let n = c.plain_len-from.result in
     let are =
     c.in_ok-insert-in-Some.ensures.done ∙ ap (λ xs. map Some xs ++ map bare (inserted home n (map (λ x. x.now) c.as_slice-in-Some.result.now))) c.new-steps.ensures.items
     ∙ ap (λ ns. map bare (inserted home n (map (λ x. x.now) ns))) c.as_slice-in-Some.ensures.value in
-    home_meant p c.args.call.now c.args.source.now c.args.arguments.now function names (c.in-Ok.ensures.checked function) t is (map (λ x. x.now) c.in_ok-new.new.items) new_is c.first_of.result c.first_of.ensures
+    home_meant p c.args.call.now c.args.source.now c.args.arguments.now function names (c.in_ok-marks.ensures.checked function) t is (map (λ x. x.now) c.in_ok-new.new.items) new_is c.first_of.result c.first_of.ensures
     home c.in-Some.is n c.plain_len-from.ensures.counted c.insert.new.steps.items are
 
-pub returns-in-Ok-without_home-clause-meant : goal.returns-in-Ok-without_home-clause-meant
-returns-in-Ok-without_home-clause-meant c = λ function.
+pub returns-in-Ok-clause-meant : goal.returns-in-Ok-clause-meant
+returns-in-Ok-clause-meant c = λ function.
     let p = project_of c.args.variables.now in
     let call = c.args.call.now in
     let source = c.args.source.now in
     let l = c.args.arguments.now in
     let names = c.args.names.now in
-    let t = (gathered c.in-Ok.marks).tally in
-    let is = ap (λ g. g.tally) c.in-Ok.ensures.met in
+    let t = (gathered c.in_ok-marks.marks).tally in
+    let is = ap (λ g. g.tally) c.in_ok-marks.ensures.met in
     let new_is = c.in_ok-new.ensures ∙ ap (λ xs. new_among xs names) c.as_slice.ensures.value in
     let new = c.without_home.new.steps.items in
     let old = c.new-steps.result.items in
     let kept = kept_args source (value_with_name extra_key) 0 l.items in
     let first =
-    subst (λ xs. AreBehind (lone_or_new call (length xs) (kept_args source (value_with_name extra_key) 0 xs) (map (λ x. x.now) c.as_slice-in-None.result.now)) old new) c.get-args.ensures c.in-Ok-without_home.ensures.done in
+    subst (λ xs. AreBehind (lone_or_new call (length xs) (kept_args source (value_with_name extra_key) 0 xs) (map (λ x. x.now) c.as_slice-in-None.result.now)) old new) c.get-args.ensures c.in-Ok.ensures.done in
     let second = subst (λ ns. AreBehind (lone_or_new call (length l.items) kept (map (λ x. x.now) ns)) old new) c.as_slice-in-None.ensures.value first in
     let third = subst (λ o. AreBehind (lone_or_new call (length l.items) kept (map (λ x. x.now) c.in_ok-new.new.items)) o new) c.new-steps.ensures.items second in
-    call_meant p call source l function names (c.in-Ok.ensures.checked function) t is (map (λ x. x.now) c.in_ok-new.new.items) new_is c.first_of.result c.first_of.ensures c.in-None.is c.requires.there new third
+    call_meant p call source l function names (c.in_ok-marks.ensures.checked function) t is (map (λ x. x.now) c.in_ok-new.new.items) new_is c.first_of.result c.first_of.ensures c.in-None.is c.requires.there new third
 
 pub returns-clause-refused : goal.returns-clause-refused
 returns-clause-refused c = λ function other.
@@ -57,12 +60,12 @@ returns-clause-refused c = λ function other.
     let source = c.args.source.now in
     let l = c.args.arguments.now in
     let names = c.args.names.now in
-    let t = (gathered c.in-Ok.marks).tally in
-    let is = ap (λ g. g.tally) c.in-Ok.ensures.met in
+    let t = (gathered c.in_ok-marks.marks).tally in
+    let is = ap (λ g. g.tally) c.in_ok-marks.ensures.met in
     let new_is = c.in_ok-new.ensures ∙ ap (λ xs. new_among xs names) c.as_slice.ensures.value in
     let kept = kept_args source (value_with_name extra_key) 0 l.items in
     let refused =
     ap (λ ns. lone_or_new call (length l.items) kept (map (λ x. x.now) ns)) (sym c.as_slice-in-None.ensures.value)
     ∙ ap (λ xs. lone_or_new call (length xs) (kept_args source (value_with_name extra_key) 0 xs) (map (λ x. x.now) c.as_slice-in-None.result.now)) (sym c.get-args.ensures)
-    ∙ c.in-Err-without_home.ensures.refused other in
-    call_refused p call source l function names (c.in-Ok.ensures.checked function) t is (map (λ x. x.now) c.in_ok-new.new.items) new_is c.first_of.result c.first_of.ensures c.in-None.is c.requires.there c.in-Err-without_home.refusal refused
+    ∙ c.in-Err.ensures.refused other in
+    call_refused p call source l function names (c.in_ok-marks.ensures.checked function) t is (map (λ x. x.now) c.in_ok-new.new.items) new_is c.first_of.result c.first_of.ensures c.in-None.is c.requires.there c.in-Err.refusal refused

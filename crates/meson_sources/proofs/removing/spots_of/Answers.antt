@@ -17,17 +17,17 @@ loop-i-preserved c =
     let old = map spot_view c.loop-i.spots.items in
     let spots = spots_at x.now items numbers in
     let rest = spots_of_names items numbers unknown (map (λ x. x.now) (drop (i + 1) names)) in
-    let found : c.in-Ok.found ≡ true = search rules in
+    let found : c.in_ok-found.found ≡ true = search rules in
     let is = drop-cons names i x c.loop-i-test.true ∙ ap (λ k. get_or names i x ∷ drop k names) (sym (add-one i)) ∙ ap (λ y. y ∷ drop (i + 1) names) (sym c.index-names-i.is) in
-    next_name old (map spot_view c.find_spots.new.spots.items) unknown spots rest (sym c.in-Ok.ensures.some ∙ found) c.in-Ok.ensures.found
+    next_name old (map spot_view c.find_spots.new.spots.items) unknown spots rest (sym c.in_ok-found.ensures.some ∙ found) c.in_ok-found.ensures.found
     ∙ ap (λ xs. behind_all old (spots_of_names items numbers unknown (map (λ x. x.now) xs))) (sym is)
     ∙ c.loop-i.invariant
 
 pub returns-clause-found : goal.returns-clause-found
 returns-clause-found c = grind (arith, common_steps)
 
-pub returns-in-Err-clause-refused : goal.returns-in-Err-clause-refused
-returns-in-Err-clause-refused c = grind (arith, common_steps)
+pub returns-in_err-found-clause-refused : goal.returns-in_err-found-clause-refused
+returns-in_err-found-clause-refused c = grind (arith, common_steps)
 
 pub returns-then-len-gt0-clause-refused : goal.returns-then-len-gt0-clause-refused
 returns-then-len-gt0-clause-refused c = grind (arith, common_steps)

@@ -1,5 +1,6 @@
 use Rattle.std.proofs.Common.{◌≡◌, ◌≢◌, ◌<◌, ◌≤◌, length, sym, ap, ◌∙◌, subst, arith}
 use Rattle.std.specs.Prelude.{IfOk, IfErr, Err}
+use Rattle.std.proofs.lemmas.Result.{err_from_is_err_and}
 use Rattle.meson_splice.specs.Files.{bytes_at}
 use Rattle.meson_splice.specs.Patch.{then_ok}
 use Rattle.meson_syntax.specs.Paths as paths
@@ -25,26 +26,28 @@ use Rattle.meson_sources.proofs.targeting.target_steps.Goals as goal
 pub the_call-requires : goal.the_call-requires
 the_call-requires c = subst NotesGood (sym c.requires.taken) (project_good c.args.files.now c.args.trees.now c.requires.parsed)
 
-pub returns-in-Err-clause-refused : goal.returns-in-Err-clause-refused
-returns-in-Err-clause-refused c = λ other.
+pub returns-in_err-call-clause-refused : goal.returns-in_err-call-clause-refused
+returns-in_err-call-clause-refused c =
+    let error = err_from_is_err_and c.from_residual.result c.from_residual.ensures.1 in
+    rw (error.1, error.2) (λ other.
     let p = named_trees c.args.files.now (views c.args.files.now c.args.trees.now) in
     let id = c.args.target.now in
-    let why = sym (place_is role.Target id p) ∙ ap (the_place role.Target id) (sym c.requires.taken) ∙ c.in-Err.ensures.refused other in
-    ap (λ r. then_ok r (change_steps p c.args.change c.args.names.now)) (call_refused (the_call p role.Target id) c.in-Err.refusal why)
+    let why = sym (place_is role.Target id p) ∙ ap (the_place role.Target id) (sym c.requires.taken) ∙ c.in_err-call.ensures.refused other in
+    ap (λ r. then_ok r (change_steps p c.args.change c.args.names.now)) (call_refused (the_call p role.Target id) c.in_err-call.field-0.0 why))
 
 pub unreachable-requires : goal.unreachable-requires
 unreachable-requires c =
     let files = c.args.files.now in
     let trees = c.args.trees.now in
     let id = c.args.target.now in
-    let found = sym (place_is role.Target id (named_trees files (views files trees))) ∙ ap (the_place role.Target id) (sym c.requires.taken) ∙ c.in-Ok.ensures.found in
-    let within = inside_trees files trees c.requires.parsed id c.in-Ok.call found in
-    let past : length trees ≤ c.in-Ok.call.file = c.if-call-trees.true in
+    let found = sym (place_is role.Target id (named_trees files (views files trees))) ∙ ap (the_place role.Target id) (sym c.requires.taken) ∙ c.in_ok-call.ensures.found in
+    let within = inside_trees files trees c.requires.parsed id c.in_ok-call.call found in
+    let past : length trees ≤ c.in_ok-call.call.file = c.if-call-trees.true in
     absurd (omega (arith, within, past))
 
 pub bytes-source-requires : goal.bytes-source-requires
 bytes-source-requires c =
-    let within : c.in-Ok.call.file < length c.args.trees.now = c.if-call-trees.false in
+    let within : c.in_ok-call.call.file < length c.args.trees.now = c.if-call-trees.false in
     let many = as_many c.args.files.now c.args.trees.now c.requires.parsed in
     omega (arith, within, many)
 
@@ -53,8 +56,8 @@ unreachable-requires-in-None c =
     let files = c.args.files.now in
     let trees = c.args.trees.now in
     let id = c.args.target.now in
-    let place = c.in-Ok.call in
-    let found = sym (place_is role.Target id (named_trees files (views files trees))) ∙ ap (the_place role.Target id) (sym c.requires.taken) ∙ c.in-Ok.ensures.found in
+    let place = c.in_ok-call.call in
+    let found = sym (place_is role.Target id (named_trees files (views files trees))) ∙ ap (the_place role.Target id) (sym c.requires.taken) ∙ c.in_ok-call.ensures.found in
     let bytes = bytes_at place.file files in
     some_value files trees c.requires.parsed id place found c.index-trees-call.result (c.in-None.ensures bytes ∙ ap (λ t. paths.expression_at (view bytes t) place.path.steps) c.index-trees-call.is)
 
@@ -63,8 +66,8 @@ unreachable-requires-in_default c =
     let files = c.args.files.now in
     let trees = c.args.trees.now in
     let id = c.args.target.now in
-    let place = c.in-Ok.call in
-    let found = sym (place_is role.Target id (named_trees files (views files trees))) ∙ ap (the_place role.Target id) (sym c.requires.taken) ∙ c.in-Ok.ensures.found in
+    let place = c.in_ok-call.call in
+    let found = sym (place_is role.Target id (named_trees files (views files trees))) ∙ ap (the_place role.Target id) (sym c.requires.taken) ∙ c.in_ok-call.ensures.found in
     let bytes = bytes_at place.file files in
     let is = c.in-Some.ensures bytes ∙ ap (λ t. paths.expression_at (view bytes t) place.path.steps) c.index-trees-call.is in
     some_call files trees c.requires.parsed id place found c.index-trees-call.result (expr_view bytes c.in-Some.expr.now) is (c.in_default.ensures bytes)
@@ -79,7 +82,7 @@ pub sources_added-requires-clause-good : goal.sources_added-requires-clause-good
 sources_added-requires-clause-good c =
     let files = c.args.files.now in
     let trees = c.args.trees.now in
-    let place = c.in-Ok.call in
+    let place = c.in_ok-call.call in
     let bytes = bytes_at place.file files in
     let is = c.in-Some.ensures bytes ∙ ap (λ t. paths.expression_at (view bytes t) place.path.steps) c.index-trees-call.is in
     subst (λ source. GoodListing (list_view source c.in-Some-arguments.arguments.now)) (sym c.bytes-source.ensures)
@@ -90,7 +93,7 @@ pub sources_removed-requires-clause-good : goal.sources_removed-requires-clause-
 sources_removed-requires-clause-good c =
     let files = c.args.files.now in
     let trees = c.args.trees.now in
-    let place = c.in-Ok.call in
+    let place = c.in_ok-call.call in
     let bytes = bytes_at place.file files in
     let is = c.in-Some.ensures bytes ∙ ap (λ t. paths.expression_at (view bytes t) place.path.steps) c.index-trees-call.is in
     subst (λ source. GoodListing (list_view source c.in-Some-arguments.arguments.now)) (sym c.bytes-source.ensures)
@@ -101,7 +104,7 @@ pub extra_added-requires-clause-good : goal.extra_added-requires-clause-good
 extra_added-requires-clause-good c =
     let files = c.args.files.now in
     let trees = c.args.trees.now in
-    let place = c.in-Ok.call in
+    let place = c.in_ok-call.call in
     let bytes = bytes_at place.file files in
     let is = c.in-Some.ensures bytes ∙ ap (λ t. paths.expression_at (view bytes t) place.path.steps) c.index-trees-call.is in
     subst (λ source. GoodListing (list_view source c.in-Some-arguments.arguments.now)) (sym c.bytes-source.ensures)
@@ -112,7 +115,7 @@ pub extra_removed-requires-clause-good : goal.extra_removed-requires-clause-good
 extra_removed-requires-clause-good c =
     let files = c.args.files.now in
     let trees = c.args.trees.now in
-    let place = c.in-Ok.call in
+    let place = c.in_ok-call.call in
     let bytes = bytes_at place.file files in
     let is = c.in-Some.ensures bytes ∙ ap (λ t. paths.expression_at (view bytes t) place.path.steps) c.index-trees-call.is in
     subst (λ source. GoodListing (list_view source c.in-Some-arguments.arguments.now)) (sym c.bytes-source.ensures)
@@ -124,8 +127,8 @@ extra_added-requires-clause-there c =
     let files = c.args.files.now in
     let trees = c.args.trees.now in
     let id = c.args.target.now in
-    let place = c.in-Ok.call in
-    let found = sym (place_is role.Target id (named_trees files (views files trees))) ∙ ap (the_place role.Target id) (sym c.requires.taken) ∙ c.in-Ok.ensures.found in
+    let place = c.in_ok-call.call in
+    let found = sym (place_is role.Target id (named_trees files (views files trees))) ∙ ap (the_place role.Target id) (sym c.requires.taken) ∙ c.in_ok-call.ensures.found in
     let bytes = bytes_at place.file files in
     let d = c.index-trees-call.result in
     let e = expr_view bytes c.in-Some.expr.now in
@@ -141,8 +144,8 @@ returns-in-SourcesAdded-clause-meant c =
     let files = c.args.files.now in
     let trees = c.args.trees.now in
     let id = c.args.target.now in
-    let place = c.in-Ok.call in
-    let found = sym (place_is role.Target id (named_trees files (views files trees))) ∙ ap (the_place role.Target id) (sym c.requires.taken) ∙ c.in-Ok.ensures.found in
+    let place = c.in_ok-call.call in
+    let found = sym (place_is role.Target id (named_trees files (views files trees))) ∙ ap (the_place role.Target id) (sym c.requires.taken) ∙ c.in_ok-call.ensures.found in
     let bytes = bytes_at place.file files in
     let d = c.index-trees-call.result in
     let e = expr_view bytes c.in-Some.expr.now in
@@ -161,8 +164,8 @@ returns-in-SourcesAdded-clause-refused c =
     let files = c.args.files.now in
     let trees = c.args.trees.now in
     let id = c.args.target.now in
-    let place = c.in-Ok.call in
-    let found = sym (place_is role.Target id (named_trees files (views files trees))) ∙ ap (the_place role.Target id) (sym c.requires.taken) ∙ c.in-Ok.ensures.found in
+    let place = c.in_ok-call.call in
+    let found = sym (place_is role.Target id (named_trees files (views files trees))) ∙ ap (the_place role.Target id) (sym c.requires.taken) ∙ c.in_ok-call.ensures.found in
     let bytes = bytes_at place.file files in
     let d = c.index-trees-call.result in
     let e = expr_view bytes c.in-Some.expr.now in
@@ -181,8 +184,8 @@ returns-in-SourcesRemoved-clause-meant c =
     let files = c.args.files.now in
     let trees = c.args.trees.now in
     let id = c.args.target.now in
-    let place = c.in-Ok.call in
-    let found = sym (place_is role.Target id (named_trees files (views files trees))) ∙ ap (the_place role.Target id) (sym c.requires.taken) ∙ c.in-Ok.ensures.found in
+    let place = c.in_ok-call.call in
+    let found = sym (place_is role.Target id (named_trees files (views files trees))) ∙ ap (the_place role.Target id) (sym c.requires.taken) ∙ c.in_ok-call.ensures.found in
     let bytes = bytes_at place.file files in
     let d = c.index-trees-call.result in
     let e = expr_view bytes c.in-Some.expr.now in
@@ -201,8 +204,8 @@ returns-in-SourcesRemoved-clause-refused c =
     let files = c.args.files.now in
     let trees = c.args.trees.now in
     let id = c.args.target.now in
-    let place = c.in-Ok.call in
-    let found = sym (place_is role.Target id (named_trees files (views files trees))) ∙ ap (the_place role.Target id) (sym c.requires.taken) ∙ c.in-Ok.ensures.found in
+    let place = c.in_ok-call.call in
+    let found = sym (place_is role.Target id (named_trees files (views files trees))) ∙ ap (the_place role.Target id) (sym c.requires.taken) ∙ c.in_ok-call.ensures.found in
     let bytes = bytes_at place.file files in
     let d = c.index-trees-call.result in
     let e = expr_view bytes c.in-Some.expr.now in
@@ -221,8 +224,8 @@ returns-in-ExtraAdded-clause-meant c =
     let files = c.args.files.now in
     let trees = c.args.trees.now in
     let id = c.args.target.now in
-    let place = c.in-Ok.call in
-    let found = sym (place_is role.Target id (named_trees files (views files trees))) ∙ ap (the_place role.Target id) (sym c.requires.taken) ∙ c.in-Ok.ensures.found in
+    let place = c.in_ok-call.call in
+    let found = sym (place_is role.Target id (named_trees files (views files trees))) ∙ ap (the_place role.Target id) (sym c.requires.taken) ∙ c.in_ok-call.ensures.found in
     let bytes = bytes_at place.file files in
     let d = c.index-trees-call.result in
     let e = expr_view bytes c.in-Some.expr.now in
@@ -241,8 +244,8 @@ returns-in-ExtraAdded-clause-refused c =
     let files = c.args.files.now in
     let trees = c.args.trees.now in
     let id = c.args.target.now in
-    let place = c.in-Ok.call in
-    let found = sym (place_is role.Target id (named_trees files (views files trees))) ∙ ap (the_place role.Target id) (sym c.requires.taken) ∙ c.in-Ok.ensures.found in
+    let place = c.in_ok-call.call in
+    let found = sym (place_is role.Target id (named_trees files (views files trees))) ∙ ap (the_place role.Target id) (sym c.requires.taken) ∙ c.in_ok-call.ensures.found in
     let bytes = bytes_at place.file files in
     let d = c.index-trees-call.result in
     let e = expr_view bytes c.in-Some.expr.now in
@@ -261,8 +264,8 @@ returns-clause-meant c =
     let files = c.args.files.now in
     let trees = c.args.trees.now in
     let id = c.args.target.now in
-    let place = c.in-Ok.call in
-    let found = sym (place_is role.Target id (named_trees files (views files trees))) ∙ ap (the_place role.Target id) (sym c.requires.taken) ∙ c.in-Ok.ensures.found in
+    let place = c.in_ok-call.call in
+    let found = sym (place_is role.Target id (named_trees files (views files trees))) ∙ ap (the_place role.Target id) (sym c.requires.taken) ∙ c.in_ok-call.ensures.found in
     let bytes = bytes_at place.file files in
     let d = c.index-trees-call.result in
     let e = expr_view bytes c.in-Some.expr.now in
@@ -281,8 +284,8 @@ returns-clause-refused c =
     let files = c.args.files.now in
     let trees = c.args.trees.now in
     let id = c.args.target.now in
-    let place = c.in-Ok.call in
-    let found = sym (place_is role.Target id (named_trees files (views files trees))) ∙ ap (the_place role.Target id) (sym c.requires.taken) ∙ c.in-Ok.ensures.found in
+    let place = c.in_ok-call.call in
+    let found = sym (place_is role.Target id (named_trees files (views files trees))) ∙ ap (the_place role.Target id) (sym c.requires.taken) ∙ c.in_ok-call.ensures.found in
     let bytes = bytes_at place.file files in
     let d = c.index-trees-call.result in
     let e = expr_view bytes c.in-Some.expr.now in
