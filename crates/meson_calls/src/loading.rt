@@ -7,7 +7,7 @@ ghost use Rattle.meson_calls.specs.Loads.{MayNotParse, Tells};
 use crate::folders::is_file_name;
 use crate::load_fault::LoadFault;
 use meson_splice::FileSet;
-use meson_syntax::{ParseFault, Parsed, parse};
+use meson_syntax::{ParseFault, Parsed, copy_tree, parse};
 use std::alloc::{AllocError, Global};
 
 /// How many files a project may have.
@@ -76,7 +76,7 @@ pub fn copy_trees(alloc: Global, trees: &[Parsed]) -> Result<Vec<Parsed>, AllocE
 {
     let mut copies = Vec::new(alloc);
     for i in 0..trees.len() {
-        let tree = trees[i].copy(alloc).map_err(|_| AllocError)?;
+        let tree = copy_tree(alloc, &trees[i])?;
         copies.push(tree)?;
     }
     Ok(copies)

@@ -93,9 +93,7 @@ fn with_log(alloc: Global, project: &Project, text: Vec<u8>) -> Result<FileSet, 
     ensures { IfOk result (λ all. all ≡ with_log project.now.files text.items) }
 {
     project.reads();
-    let Ok(mut all) = project.files().copy(alloc) else {
-        return Err(AllocError);
-    };
+    let mut all = project.files().clone()?;
     let name = String::from_str(alloc, LOG)?;
     all.push_new(name, text)?;
     Ok(all)

@@ -62,8 +62,8 @@ impl From<AllocError> for Stop {
 
     ghost from_gives = { λ _ stop. stop ≡ Store OutOfMemory };
 
-    fn from(_: AllocError) -> Stop {
-        Stop::Store(StoreFault::OutOfMemory)
+    fn from(refused: AllocError) -> Stop {
+        Stop::Store(StoreFault::from(refused))
     }
 }
 

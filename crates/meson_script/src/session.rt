@@ -53,12 +53,12 @@ fn titles(alloc: Global, title: &str) -> Result<(Text, Text), AllocError>
 }
 
 /// Want of memory before any command was done.
-fn unmade() -> RunFault
+fn unmade(refused: AllocError) -> RunFault
     ensures { result ≡ record { index = 0; refusal = OutOfMemory } }
 {
     RunFault {
         index: 0,
-        refusal: Refusal::OutOfMemory,
+        refusal: Refusal::from(refused),
     }
 }
 
@@ -169,21 +169,22 @@ impl Session {
         ensures project { OnOk result (IsProject self.new.project) }
     {
         self.project.reads();
-        let before = match self.project.files().copy(alloc) {
+        let before = match self.project.files().clone() {
             Ok(files) => files,
-            Err(_) => return Err(unmade()),
+            Err(refused) => return Err(unmade(refused)),
         };
         let listings = match listed(alloc, &self.project, command) {
             Ok(listings) => listings,
             Err(refusal) => return Err(RunFault { index: 0, refusal }),
         };
-        let Ok((kept, told)) = titles(alloc, title) else {
-            return Err(unmade());
+        let (kept, told) = match titles(alloc, title) {
+            Ok(both) => both,
+            Err(refused) => return Err(unmade(refused)),
         };
         let mut past = mem::replace(&mut self.history.past, Many::new(alloc)).take();
-        if past.reserve(1).is_err() {
+        if let Err(refused) = past.reserve(1) {
             self.history.past = Many::of(past);
-            return Err(unmade());
+            return Err(unmade(refused));
         }
         match self.project.perform(alloc, command) {
             Ok(done) => {
@@ -229,8 +230,9 @@ impl Session {
             Ok(project) => project,
             Err(refusal) => return Err(RunFault { index: 0, refusal }),
         };
-        let Ok((kept, told)) = titles(alloc, title) else {
-            return Err(unmade());
+        let (kept, told) = match titles(alloc, title) {
+            Ok(both) => both,
+            Err(refused) => return Err(unmade(refused)),
         };
         let performed = match perform_all(alloc, &mut project, commands) {
             Ok(performed) => performed,
@@ -247,15 +249,13 @@ impl Session {
             splices: Many::of(performed.splices),
             title: kept,
         };
-        match self.history.keep(change) {
-            Ok(()) => {}
-            Err(_) => {
-                return Err(RunFault {
-                    index: commands.len(),
-                    refusal: Refusal::OutOfMemory,
-                });
-            }
+        if let Err(refused) = self.history.past.push(change) {
+            return Err(RunFault {
+                index: commands.len(),
+                refusal: Refusal::from(AllocError::from(refused)),
+            });
         }
+        self.history.future.clear();
         self.project = project;
         Ok(report)
     }

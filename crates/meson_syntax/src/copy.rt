@@ -16,12 +16,19 @@ impl Parsed {
         ensures equal { IfOk result (λ p. p ≡ self.now) }
         ensures refused { IfErr result (λ e. e ≡ ParseFault.OutOfMemory) }
     {
-        let block = copy_block(alloc, &self.block)?;
-        Ok(Parsed {
-            block,
-            span: self.span,
-        })
+        Ok(copy_tree(alloc, self)?)
     }
+}
+
+/// An equal tree, of which only a growth can be refused.
+pub fn copy_tree(alloc: Global, tree: &Parsed) -> Result<Parsed, AllocError>
+    ensures { IfOk result (λ p. p ≡ tree.now) }
+{
+    let block = copy_block(alloc, &tree.block)?;
+    Ok(Parsed {
+        block,
+        span: tree.span,
+    })
 }
 
 // ---- expressions

@@ -28,6 +28,7 @@ mod token;
 mod tree;
 
 pub use boxed::Boxed;
+pub use copy::copy_tree;
 pub use fault::ParseFault;
 pub use file::{parse, parse_wide, parse_within};
 pub use list_text::{parse_list, parse_list_within};

@@ -5,4 +5,4 @@ use Rattle.meson_rewrite.proofs.editing.with_log.Goals as goal
 pub push_new-requires : goal.push_new-requires
 push_new-requires c =
     let files = c.args.project.now.files in
-    rw (c.in_ok-name.ensures.ok, c.in-Ok.ensures.copied ∙ c.files.ensures) (ap is_some (no_log files c.reads.ensures.named))
+    rw (c.in_ok-name.ensures.ok, c.in_ok-all.ensures.cases ∙ c.files.ensures) (ap is_some (no_log files c.reads.ensures.named))

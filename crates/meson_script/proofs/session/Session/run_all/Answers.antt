@@ -1,12 +1,8 @@
 use Rattle.std.proofs.Common.{length, map, refl, sym, ap, ◌∙◌, subst}
 use Rattle.serde_json.specs.View.{view}
-use Rattle.meson_layout.specs.Laws.{AreTexts}
 use Rattle.meson_calls.specs.Loading.{IsProject}
-use Rattle.meson_json.specs.Log.{has_text}
 use Rattle.meson_script.specs.Running.{Reaches}
-use Rattle.meson_script.proofs.RunFacts.{change-names, names, reaches-all, reaches-none, runs-patch, runs-text}
-use Rattle.meson_script.proofs.TextFacts.{kept-text}
-use Rattle.meson_script.proofs.StepFacts.{run-stands}
+use Rattle.meson_script.proofs.RunFacts.{change-names, names, reaches-all, reaches-none, runs-patch}
 use Rattle.meson_script.proofs.session.Session.run_all.Goals as goal
 
 pub count_differing-requires : goal.count_differing-requires
@@ -27,11 +23,11 @@ returns-in-Err-clause-index c = reaches-none c.args.self.now.project c.args.comm
 pub returns-in-Err-perform_all-clause-index : goal.returns-in-Err-perform_all-clause-index
 returns-in-Err-perform_all-clause-index c = subst (λ p. Reaches p c.args.commands.now c.in-Err-perform_all.fault.index) c.in-Ok.ensures.copied c.in-Err-perform_all.ensures.index
 
-pub returns-in-Err-keep-clause-index : goal.returns-in-Err-keep-clause-index
-returns-in-Err-keep-clause-index c =
+pub returns-in-Err-push-clause-index : goal.returns-in-Err-push-clause-index
+returns-in-Err-push-clause-index c =
     let p = c.in-Ok-perform_all.performed in
     let all = reaches-all c.in-Ok.project c.perform_all.new.project c.args.commands.now p.splices.items p.relexed (map view p.listings.items) c.in-Ok-perform_all.ensures.done in
     subst (λ old. Reaches old c.args.commands.now (length c.args.commands.now)) c.in-Ok.ensures.copied all
 
-pub returns-in_default-clause-index : goal.returns-in_default-clause-index
-returns-in_default-clause-index c = reaches-none c.args.self.now.project c.args.commands.now c.unmade.result.index (ap (λ f. f.index) c.unmade.ensures)
+pub returns-in-Err-titles-clause-index : goal.returns-in-Err-titles-clause-index
+returns-in-Err-titles-clause-index c = reaches-none c.args.self.now.project c.args.commands.now c.unmade.result.index (ap (λ f. f.index) c.unmade.ensures)

@@ -1,4 +1,4 @@
-use Rattle.std.proofs.Common.{◌≡◌, [], ◌∷◌, ◌++◌, map, length, refl, sym, ap, ap₂, ◌∙◌}
+use Rattle.std.proofs.Common.{◌≡◌, [], ◌∷◌, ◌++◌, map, length, sym, ap, ap₂, ◌∙◌}
 use Rattle.serde_json.specs.View.{view}
 use Rattle.serde_json.proofs.Views.{view-Array}
 use Rattle.meson_splice.specs.declared.change.Change.{Change}
@@ -15,7 +15,7 @@ returns-in-Err-listed-clause-refused c = λ other.
 pub count_differing-requires : goal.count_differing-requires
 count_differing-requires c =
     let old = c.args.self.now.project in
-    ap names (c.in-Ok.ensures.copied ∙ c.files.ensures)
+    ap names (c.in-Ok.ensures.cases ∙ c.files.ensures)
     ∙ change-names old.files c.in-Ok-perform.done.change.splices c.perform.new.self.files (performs-patch old c.args.command.now c.in-Ok-perform.done c.perform.new.self c.in-Ok-perform.ensures.done)
     ∙ ap names (sym c.files-in-Ok-perform.ensures)
 
@@ -24,7 +24,7 @@ returns-in-Ok-perform-clause-done c =
     let old = c.args.self.now in
     let done = c.in-Ok-perform.done in
     let made : Change = record { splices = done.change.splices; title = c.args.title.now } in
-    let pushed : Change = record { splices = done.change.splices; title = c.in-Ok-titles.kept } in
+    let pushed : Change = record { splices = done.change.splices; title = c.in-Ok-titles.both.0 } in
     let is : pushed ≡ made = ap (λ both. let x : Change = record { splices = done.change.splices; title = both.0 } in x) c.in-Ok-titles.ensures in
     let past : c.of-in-Ok-perform.result ≡ old.history.past ++ made ∷ [] =
     c.of-in-Ok-perform.ensures ∙ c.push_reserved.ensures.items ∙ ap (λ cs. cs ++ pushed ∷ []) (c.reserve.ensures.items ∙ c.take-past.ensures ∙ c.replace.ensures.value) ∙ ap (λ x. old.history.past ++ x ∷ []) is in
@@ -33,7 +33,7 @@ returns-in-Ok-perform-clause-done c =
       listings = map view c.in-Ok-listed.listings.items;
       runs = one-run old.project c.perform.new.self c.args.command.now done (map view c.in-Ok-listed.listings.items) c.reads.ensures c.in-Ok-listed.ensures.told c.in-Ok-perform.ensures.done;
       kept = ap₂ (λ before behind. let h : History = record { past = before; future = behind } in h) past c.clear.ensures;
-      files = c.count_differing.ensures ∙ ap₂ differing (c.in-Ok.ensures.copied ∙ c.files.ensures) c.files-in-Ok-perform.ensures;
+      files = c.count_differing.ensures ∙ ap₂ differing (c.in-Ok.ensures.cases ∙ c.files.ensures) c.files-in-Ok-perform.ensures;
       count = ap length c.get.ensures;
       info = view-Array c.in-Ok-listed.listings;
       is_title = ap (λ both. both.1) c.in-Ok-titles.ensures;
