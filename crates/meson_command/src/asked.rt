@@ -112,18 +112,10 @@ fn asked_from(alloc: Global, matches: &ArgMatches<'_>) -> Result<Asked, UsageFau
     let Some((subcommand, words)) = matches.subcommand() else {
         return Err(UsageFault::Usage);
     };
-    let dir = match folder(alloc, matches.get_str("DIR")) {
-        Ok(dir) => dir,
-        Err(fault) => return Err(fault),
-    };
-    let action = match action_of(alloc, subcommand, words) {
-        Ok(action) => action,
-        Err(fault) => return Err(fault),
-    };
-    match checked_title(alloc, word_or(matches, "TEXT", "")) {
-        Ok(title) => Ok(Asked { dir, title, action }),
-        Err(fault) => Err(fault),
-    }
+    let dir = folder(alloc, matches.get_str("DIR"))?;
+    let action = action_of(alloc, subcommand, words)?;
+    let title = checked_title(alloc, word_or(matches, "TEXT", ""))?;
+    Ok(Asked { dir, title, action })
 }
 
 /// What the words of a command line ask for, of which the first is the program's name. They are those of the Rewriter page of

@@ -200,14 +200,9 @@ fn look<S: Store>(
     ensures asks { OnOk result (EntersFor (S.content store.old) (option_map (λ f. f.now) folder.entry) files.old place (S.reads store.old) files.new (S.reads store.new)) }
     ensures asks_at_most { OnErr result (StopsFor (S.content store.old) (option_map (λ f. f.now) folder.entry) files.old place (S.reads store.old) (S.reads store.new)) }
 {
-    let Entry { tree, names } = match entry_at(alloc, files, place) {
-        Ok(entry) => entry,
-        Err(fault) => return Err(fault),
-    };
-    match enter_all(alloc, store, folder, files, names.as_slice()) {
-        Ok(()) => Ok(tree),
-        Err(fault) => Err(fault),
-    }
+    let Entry { tree, names } = entry_at(alloc, files, place)?;
+    enter_all(alloc, store, folder, files, names.as_slice())?;
+    Ok(tree)
 }
 
 /// The root file alone.
@@ -257,10 +252,7 @@ pub fn gather<S: Store>(
     ensures asks { IfOk result (λ project. ReadsFiles (S.content store.old) (option_map (λ f. f.now) folder.entry) (S.reads store.old) project.files (S.reads store.new)) }
     ensures asks_at_most { OnErr result (StopsReading (S.content store.old) (option_map (λ f. f.now) folder.entry) (S.reads store.old) (S.reads store.new)) }
 {
-    let mut files = match root_set(alloc, store, folder) {
-        Ok(files) => files,
-        Err(fault) => return Err(fault),
-    };
+    let mut files = root_set(alloc, store, folder)?;
     let mut trees = Vec::new(alloc);
     let mut looked = 0;
     'looking: while looked < files.len() {

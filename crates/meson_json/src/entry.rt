@@ -114,16 +114,10 @@ fn kwargs_entry(alloc: Global, index: usize, entry: &Value) -> Result<Command, S
     let word = required_text(alloc, index, entry, "operation")?;
     let operation = kwargs_asked(index, word.get())?;
     let role = role_at(alloc, index, entry)?;
-    let id = match required_text(alloc, index, entry, "id") {
-        Ok(id) => id,
-        Err(fault) => return Err(fault),
-    };
+    let id = required_text(alloc, index, entry, "id")?;
     let none = Map::new(alloc);
     let members = members_or(alloc, index, entry, "kwargs", &none)?;
-    match kwargs_command(alloc, index, operation, role, id, members) {
-        Ok(command) => Ok(command),
-        Err(fault) => Err(fault),
-    }
+    kwargs_command(alloc, index, operation, role, id, members)
 }
 
 #[tactic(auto, unfolding(crate::specs::Scripts::options_command))]
@@ -158,10 +152,7 @@ fn options_entry(alloc: Global, index: usize, entry: &Value) -> Result<Command, 
     };
     let none = Map::new(alloc);
     let members = members_or(alloc, index, entry, "options", &none)?;
-    match options_command(alloc, index, operation, members) {
-        Ok(command) => Ok(command),
-        Err(fault) => Err(fault),
-    }
+    options_command(alloc, index, operation, members)
 }
 
 /// The command of an entry.

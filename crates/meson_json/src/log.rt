@@ -123,10 +123,7 @@ pub fn history_text(alloc: Global, history: &History) -> Result<Vec<u8>, ScriptF
     ensures refused { IfErr result (λ e. e ≢ OutOfMemory → log_of history.now ≡ Err e) }
     ensures reads_back { IfOk result (λ b. logged b.items ≡ Some history.now) }
 {
-    let value = match log_value(alloc, history) {
-        Ok(value) => value,
-        Err(fault) => return Err(fault),
-    };
+    let value = log_value(alloc, history)?;
     let mut text = value.to_vec(alloc)?;
     text.push(b'\n')?;
     Ok(text)
@@ -140,10 +137,7 @@ pub fn empty_log(alloc: Global) -> Result<Vec<u8>, ScriptFault>
     ensures text { IfOk result (λ b. b.items ≡ codes "{\"future\":[],\"past\":[],\"version\":2}\n") }
     ensures refused { IfErr result (λ e. e ≡ OutOfMemory) }
 {
-    match history_text(alloc, &History::new(alloc)) {
-        Ok(text) => Ok(text),
-        Err(fault) => Err(fault),
-    }
+    history_text(alloc, &History::new(alloc))
 }
 
 fn whole_at(value: &Value, name: &str) -> Option<u64>

@@ -60,10 +60,8 @@ fn script_from(alloc: Global, value: &Value) -> Result<Script, ScriptFault>
     if entries.len() > MAX_COMMANDS {
         return Err(ScriptFault::TooMany);
     }
-    match entry_commands(alloc, entries) {
-        Ok(commands) => Ok(Script { commands }),
-        Err(fault) => Err(fault),
-    }
+    let commands = entry_commands(alloc, entries)?;
+    Ok(Script { commands })
 }
 
 fn entry_commands(alloc: Global, list: &[Value]) -> Result<Many<Command>, ScriptFault>

@@ -133,10 +133,8 @@ pub fn apply_all(alloc: Global, files: &mut FileSet, change: &Change) -> Result<
     ensures refused { IfErr result (λ e. e ≢ OutOfMemory → patched_all files.old change.now.splices ≡ Err e) }
     ensures kept { OnErr result (files.new ≡ files.old) }
 {
-    match applied(alloc, files, change) {
-        Ok(_) => Ok(()),
-        Err(fault) => Err(fault),
-    }
+    applied(alloc, files, change)?;
+    Ok(())
 }
 
 /// Takes all splices of a change back, last to first, or none. Copies a file once for each splice at it.
@@ -145,8 +143,6 @@ pub fn revert(alloc: Global, files: &mut FileSet, change: &Change) -> Result<(),
     ensures refused { IfErr result (λ e. e ≢ OutOfMemory → patched_all files.old (inverses_of change.now.splices) ≡ Err e) }
     ensures kept { OnErr result (files.new ≡ files.old) }
 {
-    match reverted(alloc, files, change) {
-        Ok(_) => Ok(()),
-        Err(fault) => Err(fault),
-    }
+    reverted(alloc, files, change)?;
+    Ok(())
 }

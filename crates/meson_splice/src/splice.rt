@@ -103,10 +103,8 @@ impl<'a> Borrowed<'a> {
         let Some(place) = files.find(self.file.get()) else {
             return Err(SpliceFault::NoFile(self.file.clone()?));
         };
-        match self.patched(alloc, files.bytes(place)) {
-            Ok(bytes) => Ok((place, bytes)),
-            Err(fault) => Err(fault),
-        }
+        let bytes = self.patched(alloc, files.bytes(place))?;
+        Ok((place, bytes))
     }
 }
 

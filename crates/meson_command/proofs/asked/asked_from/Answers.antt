@@ -1,4 +1,5 @@
 use Rattle.std.proofs.Common.{◌≡◌, ◌∙◌, ap, sym, subst, Err, codes, true}
+use Rattle.std.proofs.lemmas.Result.{err_from_is_err_and}
 use Rattle.clap.specs.Words.{found_of}
 use Rattle.clap.specs.declared.parser.matches.ArgMatches.TheViews.{out-ArgMatches}
 use Rattle.clap.proofs.WalkLemmas.{first_value-rows}
@@ -8,33 +9,39 @@ use Rattle.meson_command.specs.declared.fault.UsageFault.{UsageFault}
 use Rattle.meson_command.proofs.Taken.{asks, entered_by, refuses, refuses_folder, refuses_title}
 use Rattle.meson_command.proofs.asked.asked_from.Goals as goal
 
-pub returns-in-Err-clause-refused : goal.returns-in-Err-clause-refused
-returns-in-Err-clause-refused c = λ n.
+pub returns-in_err-dir-clause-refused : goal.returns-in_err-dir-clause-refused
+returns-in_err-dir-clause-refused c =
     let m = c.args.matches.now in
     let dir = c.get_str.ensures ∙ first_value-rows (found_of m) (codes "DIR") in
-    let refused = c.in-Err.ensures.refused n in
-    refuses_folder _ _ _ (entered_by (out-ArgMatches m).subcommand _ _ c.in-Some.ensures.name c.in-Some.ensures.rows) (sym (ap names_no_folder dir) ∙ refused.1) ∙ ap (λ (u : UsageFault). Err u) (sym refused.0)
+    let p = err_from_is_err_and c.from_residual.result c.from_residual.ensures.1 in
+    rw (p.1, p.2) (λ n.
+    let refused = c.in_err-dir.ensures.refused n in
+    refuses_folder _ _ _ (entered_by (out-ArgMatches m).subcommand _ _ c.in-Some.ensures.name c.in-Some.ensures.rows) (sym (ap names_no_folder dir) ∙ refused.1) ∙ ap (λ (u : UsageFault). Err u) (sym refused.0))
 
-pub returns-in-Err-action_of-clause-refused : goal.returns-in-Err-action_of-clause-refused
-returns-in-Err-action_of-clause-refused c = λ n.
+pub returns-in_err-action-clause-refused : goal.returns-in_err-action-clause-refused
+returns-in_err-action-clause-refused c =
     let m = c.args.matches.now in
     let dir = c.get_str.ensures ∙ first_value-rows (found_of m) (codes "DIR") in
+    let p = err_from_is_err_and c.from_residual-in_err-action.result c.from_residual-in_err-action.ensures.1 in
+    rw (p.1, p.2) (λ n.
     refuses _ _ _ _ _ (entered_by (out-ArgMatches m).subcommand _ _ c.in-Some.ensures.name c.in-Some.ensures.rows)
-    (sym (ap names_no_folder dir) ∙ c.in-Ok.ensures.ok.0) (c.in-Err-action_of.ensures.refused n)
+    (sym (ap names_no_folder dir) ∙ c.in_ok-dir.ensures.ok.0) (c.in_err-action.ensures.refused n))
 
-pub returns-in-Ok-checked_title-clause-ok : goal.returns-in-Ok-checked_title-clause-ok
-returns-in-Ok-checked_title-clause-ok c =
+pub returns-clause-ok : goal.returns-clause-ok
+returns-clause-ok c =
     let m = c.args.matches.now in
     let dir = c.get_str.ensures ∙ first_value-rows (found_of m) (codes "DIR") in
-    let title = c.in-Ok-checked_title.ensures.ok in
+    let title = c.in_ok-title.ensures.ok in
     let same = title.1 ∙ c.word_or.ensures in
     asks _ _ _ _ _ _ _ (entered_by (out-ArgMatches m).subcommand _ _ c.in-Some.ensures.name c.in-Some.ensures.rows)
-    (sym (ap names_no_folder dir) ∙ c.in-Ok.ensures.ok.0) (c.in-Ok.ensures.ok.1 ∙ dir) c.in-Ok-action_of.ensures.ok (subst (λ t. is_title t ≡ true) same title.0) same
+    (sym (ap names_no_folder dir) ∙ c.in_ok-dir.ensures.ok.0) (c.in_ok-dir.ensures.ok.1 ∙ dir) c.in_ok-action.ensures.ok (subst (λ t. is_title t ≡ true) same title.0) same
 
-pub returns-in-Err-checked_title-clause-refused : goal.returns-in-Err-checked_title-clause-refused
-returns-in-Err-checked_title-clause-refused c = λ n.
+pub returns-in_err-title-clause-refused : goal.returns-in_err-title-clause-refused
+returns-in_err-title-clause-refused c =
     let m = c.args.matches.now in
     let dir = c.get_str.ensures ∙ first_value-rows (found_of m) (codes "DIR") in
-    let refused = c.in-Err-checked_title.ensures.refused n in
+    let p = err_from_is_err_and c.from_residual-in_err-title.result c.from_residual-in_err-title.ensures.1 in
+    rw (p.1, p.2) (λ n.
+    let refused = c.in_err-title.ensures.refused n in
     refuses_title _ _ _ _ _ (entered_by (out-ArgMatches m).subcommand _ _ c.in-Some.ensures.name c.in-Some.ensures.rows)
-    (sym (ap names_no_folder dir) ∙ c.in-Ok.ensures.ok.0) c.in-Ok-action_of.ensures.ok (sym (ap is_title c.word_or.ensures) ∙ refused.1) ∙ ap (λ (u : UsageFault). Err u) (sym refused.0)
+    (sym (ap names_no_folder dir) ∙ c.in_ok-dir.ensures.ok.0) c.in_ok-action.ensures.ok (sym (ap is_title c.word_or.ensures) ∙ refused.1) ∙ ap (λ (u : UsageFault). Err u) (sym refused.0))

@@ -2,6 +2,7 @@ use Rattle.std.proofs.Common.{◌≡◌, ◌<◌, ◌≤◌, ◌+◌, [], ◌∷
 use Rattle.std.specs.Prelude.{All}
 use Rattle.std.proofs.lemmas.List.{length-append}
 use Rattle.std.proofs.lemmas.List.Elements.{All-cons, All-nil, All-append}
+use Rattle.std.proofs.lemmas.Result.{err_from_is_err_and}
 use Rattle.meson_calls.specs.Directories.{build_file}
 use Rattle.meson_calls.specs.Loading.{max_files, HasFileName, AreParsed}
 use Rattle.meson_gathering.specs.Gathering.{Told, Finds, Collects, Ending, Gathers, file_of, from_root, whole}
@@ -16,31 +17,31 @@ pub looking-init : goal.looking-init
 looking-init g c =
     let S = g.S.Store in
     let folder = option_map (λ f. f.now) c.args.folder in
-    let root = c.in-Ok.ensures.root in
+    let root = c.in_ok-files.ensures.root in
     let f = file_of build_file root.0 in
     let one : length (f ∷ []) ≤ max_files = omega arith in
     record {
-      kept = c.in-Ok.ensures.kept;
-      counts = c.in-Ok.ensures.counts;
-      no_replace = c.in-Ok.ensures.no_replace;
+      kept = c.in_ok-files.ensures.kept;
+      counts = c.in_ok-files.ensures.counts;
+      no_replace = c.in_ok-files.ensures.no_replace;
       few = subst (λ fs. length fs ≤ max_files) (sym root.1) one;
       named = subst (All HasFileName) (sym root.1) (All-cons HasFileName f [] (inl refl) (All-nil HasFileName));
       many = ap length c.new-trees.ensures.items;
       parsed = subst (AreParsed []) (sym c.new-trees.ensures.items) tt;
       ends = λ content is end gathers. from_root root.0 end (root.2 content is) (subst (λ fs. Gathers content folder [] fs end) root.1 gathers);
       asks = subst (λ fs. Looks (S.content c.args.store.now) folder (S.reads c.args.store.now) fs 0 (S.reads c.root_set.new.store)) (sym root.1)
-          (subst (Looks (S.content c.args.store.now) folder (S.reads c.args.store.now) (f ∷ []) 0) (sym c.in-Ok.ensures.once) (root_read root.0 root.2));
+          (subst (Looks (S.content c.args.store.now) folder (S.reads c.args.store.now) (f ∷ []) 0) (sym c.in_ok-files.ensures.once) (root_read root.0 root.2));
     }
 
-pub returns-in-Err-look-clause-stopped : goal.returns-in-Err-look-clause-stopped
-returns-in-Err-look-clause-stopped g c =
+pub returns-in-Err-clause-stopped : goal.returns-in-Err-clause-stopped
+returns-in-Err-clause-stopped g c =
     let folder = option_map (λ f. f.now) c.args.folder in
     let files = c.looking.files in
     let place = c.looking.looked in
     let P : Ending → Type 0 = λ end. Told (g.S.Store.content c.looking.store) (λ content. Gathers content folder (take place files) (drop place files) end) in
     let Q : Ending → Type 0 = Finds (g.S.Store.content c.args.store.now) folder in
     stops_within P Q (λ end p content is. c.looking.invariant.ends content is end (p content (c.looking.invariant.kept ∙ is)))
-    (g.S.Store.failures c.args.store.now) (g.S.Store.failures c.looking.store) (g.S.Store.failures c.look.new.store) c.looking.invariant.counts c.look.ensures.counts c.in-Err-look.fault c.in-Err-look.ensures.stopped
+    (g.S.Store.failures c.args.store.now) (g.S.Store.failures c.looking.store) (g.S.Store.failures c.look.new.store) c.looking.invariant.counts c.look.ensures.counts c.in-Err.fault c.in-Err.ensures.stopped
 
 pub looking-preserved : goal.looking-preserved
 looking-preserved g c =
@@ -54,22 +55,22 @@ looking-preserved g c =
     let within : place < length old = omega arith in
     let next : suc place ≡ place + 1 = omega arith in
     let trees = c.looking.trees.items in
-    let grows = c.in-Ok-look.ensures.grows in
+    let grows = c.in-Ok.ensures.grows in
     record {
-      kept = c.in-Ok-look.ensures.kept ∙ c.looking.invariant.kept;
+      kept = c.in-Ok.ensures.kept ∙ c.looking.invariant.kept;
       counts = omega (arith, c.looking.invariant.counts, c.look.ensures.counts);
       no_replace = c.look.ensures.no_replace ∙ c.looking.invariant.no_replace;
       few = grows.few;
       named = subst (All HasFileName) (sym grows.is_more) (All-append HasFileName old grows.more c.looking.invariant.named grows.named);
-      many = ap length c.in_ok-push-in-Ok-look.ensures.items ∙ length-append trees _ ∙ ap (λ n. n + 1) c.looking.invariant.many;
+      many = ap length c.in_ok-push-in-Ok.ensures.items ∙ length-append trees _ ∙ ap (λ n. n + 1) c.looking.invariant.many;
       parsed = subst (λ k. AreParsed (take k new) c.push.new.self.items) next
-          (parsed_more old grows.more new trees c.push.new.self.items c.in-Ok-look.tree place c.looking.invariant.many grows.is_more c.in_ok-push-in-Ok-look.ensures.items within c.in-Ok-look.ensures.reads c.looking.invariant.parsed);
+          (parsed_more old grows.more new trees c.push.new.self.items c.in-Ok.tree place c.looking.invariant.many grows.is_more c.in_ok-push-in-Ok.ensures.items within c.in-Ok.ensures.reads c.looking.invariant.parsed);
       ends = λ content is end gathers.
           c.looking.invariant.ends content is end
-          (looks content folder old place within new grows.more grows.is_more (c.in-Ok-look.ensures.looked content (c.looking.invariant.kept ∙ is)) end
+          (looks content folder old place within new grows.more grows.is_more (c.in-Ok.ensures.looked content (c.looking.invariant.kept ∙ is)) end
           (subst (λ k. Gathers content folder (take k new) (drop k new) end) (sym next) gathers));
       asks = subst (λ k. Looks (S.content c.args.store.now) folder (S.reads c.args.store.now) new k m) next
-          (next_file old new place n m c.looking.invariant.asks within (subst (λ b. EntersFor b folder old place n new m) c.looking.invariant.kept c.in-Ok-look.ensures.asks));
+          (next_file old new place n m c.looking.invariant.asks within (subst (λ b. EntersFor b folder old place n new m) c.looking.invariant.kept c.in-Ok.ensures.asks));
     }
 
 pub returns-clause-files : goal.returns-clause-files
@@ -92,20 +93,22 @@ returns-clause-asks g c =
     subst (λ p. ReadsFiles (S.content c.args.store.now) folder (S.reads c.args.store.now) p.files (S.reads c.looking.store)) (sym c.of.ensures)
     (record { place = c.looking.looked; past = past; looks = c.looking.invariant.asks })
 
-pub returns-in-Err-clause-asks_at_most : goal.returns-in-Err-clause-asks_at_most
-returns-in-Err-clause-asks_at_most g c = stops_at_root c.root_set.ensures.at_most_once
+pub returns-in_err-files-clause-asks_at_most : goal.returns-in_err-files-clause-asks_at_most
+returns-in_err-files-clause-asks_at_most g c =
+    let p = err_from_is_err_and c.from_residual.result c.from_residual.ensures.1 in
+    rw p.1 (stops_at_root c.root_set.ensures.at_most_once)
 
-pub returns-in-Err-look-clause-asks_at_most : goal.returns-in-Err-look-clause-asks_at_most
-returns-in-Err-look-clause-asks_at_most g c =
+pub returns-in-Err-clause-asks_at_most : goal.returns-in-Err-clause-asks_at_most
+returns-in-Err-clause-asks_at_most g c =
     let S = g.S.Store in
     let folder = option_map (λ f. f.now) c.args.folder in
     let files = c.looking.files in
     let place = c.looking.looked in
     let n = S.reads c.looking.store in
-    stops_at_file files place n c.looking.invariant.asks (subst (λ b. StopsFor b folder files place n (S.reads c.look.new.store)) c.looking.invariant.kept c.in-Err-look.ensures.asks_at_most)
+    stops_at_file files place n c.looking.invariant.asks (subst (λ b. StopsFor b folder files place n (S.reads c.look.new.store)) c.looking.invariant.kept c.in-Err.ensures.asks_at_most)
 
-pub returns-in_err-push-in-Ok-look-clause-asks_at_most : goal.returns-in_err-push-in-Ok-look-clause-asks_at_most
-returns-in_err-push-in-Ok-look-clause-asks_at_most g c =
+pub returns-in_err-push-in-Ok-clause-asks_at_most : goal.returns-in_err-push-in-Ok-clause-asks_at_most
+returns-in_err-push-in-Ok-clause-asks_at_most g c =
     let S = g.S.Store in
     let folder = option_map (λ f. f.now) c.args.folder in
     let old = c.looking.files in
@@ -114,5 +117,5 @@ returns-in_err-push-in-Ok-look-clause-asks_at_most g c =
     let n = S.reads c.looking.store in
     let m = S.reads c.look.new.store in
     let within : place < length old = omega arith in
-    let looked = next_file old new place n m c.looking.invariant.asks within (subst (λ b. EntersFor b folder old place n new m) c.looking.invariant.kept c.in-Ok-look.ensures.asks) in
-    on_err (StopsReading (S.content c.args.store.now) folder (S.reads c.args.store.now) m) (stops_at_file new (suc place) m looked (inl refl)) c.from_residual.result
+    let looked = next_file old new place n m c.looking.invariant.asks within (subst (λ b. EntersFor b folder old place n new m) c.looking.invariant.kept c.in-Ok.ensures.asks) in
+    on_err (StopsReading (S.content c.args.store.now) folder (S.reads c.args.store.now) m) (stops_at_file new (suc place) m looked (inl refl)) c.from_residual-in_err-push-in-Ok.result

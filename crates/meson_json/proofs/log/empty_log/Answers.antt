@@ -1,5 +1,6 @@
 use Rattle.std.proofs.Common.{◌≡◌, ◌≢◌, ◌∙◌, [], Ok, codes, refl, sym, ap}
 use Rattle.std.specs.Fmt.{digits}
+use Rattle.std.proofs.lemmas.Result.{IfErr-weaker, IfOk-weaker}
 use Rattle.serde_json.proofs.OnLiterals.{serde_json_on_literals}
 use Rattle.meson_json.specs.Log.{log_of, log_data}
 use Rattle.meson_json.specs.declared.fault.ScriptFault.{ScriptFault}
@@ -23,15 +24,17 @@ only_memory (UnknownOperation i) h = absurd (h (λ q. cc))
 only_memory (Unsupported i) h = absurd (h (λ q. cc))
 only_memory BadLog h = absurd (h (λ q. cc))
 
-pub returns-in-Ok-clause-text : goal.returns-in-Ok-clause-text
-returns-in-Ok-clause-text c =
-    let is = sym (ap log_of c.new.ensures) ∙ c.in-Ok.ensures.text in
-    let all = sym nothing_logged ∙ is in
-    cc
+pub returns-clause-text : goal.returns-clause-text
+returns-clause-text c =
+    IfOk-weaker c.history_text.result _ _ (λ b text.
+    let all = sym nothing_logged ∙ (sym (ap log_of c.new.ensures) ∙ text) in
+    cc)
+    c.history_text.ensures.text
 
 pub returns-clause-refused : goal.returns-clause-refused
 returns-clause-refused c =
-    only_memory c.in-Err.fault (λ n.
-    let all = sym nothing_logged ∙ (sym (ap log_of c.new.ensures) ∙ c.in-Err.ensures.refused n) in
+    IfErr-weaker c.history_text.result _ _ (λ e refused. only_memory e (λ n.
+    let all = sym nothing_logged ∙ (sym (ap log_of c.new.ensures) ∙ refused n) in
     let bad : ⊥ = cc in
-    bad)
+    bad))
+    c.history_text.ensures.refused

@@ -1,4 +1,5 @@
 use Rattle.std.proofs.Common.{◌≡◌, ◌∙◌, Some, None, Err, ap, sym}
+use Rattle.std.proofs.lemmas.Result.{err_from_is_err_and}
 use Rattle.meson_splice.specs.Borrowed.{splice_of}
 use Rattle.meson_splice.specs.Files.{found}
 use Rattle.meson_splice.specs.Patch.{patched}
@@ -12,18 +13,20 @@ returns-in_default-clause-refused c = λ some.
     let none : found c.args.self.file.now files ≡ None = ap (λ n. found n files) (sym c.get.ensures) ∙ sym c.find.ensures ∙ c.in_default.is in
     patched_in-none files (splice_of c.args.self) none ∙ ap (λ n. Err (NoFile n)) (sym c.in_ok-clone.ensures.cases)
 
-pub returns-in-Err-clause-refused : goal.returns-in-Err-clause-refused
-returns-in-Err-clause-refused c = λ some.
+pub returns-in_err-bytes-clause-refused : goal.returns-in_err-bytes-clause-refused
+returns-in_err-bytes-clause-refused c =
     let files = c.args.files.now in
     let place = c.in-Some.place in
     let here : found c.args.self.file.now files ≡ Some place = ap (λ n. found n files) (sym c.get.ensures) ∙ sym c.find.ensures ∙ c.in-Some.is in
-    let refused = ap (λ b. patched b (splice_of c.args.self)) (sym c.bytes.ensures) ∙ c.in-Err.ensures.refused some in
-    patched_in-refused files (splice_of c.args.self) place c.in-Err.fault here refused
+    let p = err_from_is_err_and c.from_residual-in_err-bytes.result c.from_residual-in_err-bytes.ensures.1 in
+    rw (p.1, p.2) (λ some.
+    let refused = ap (λ b. patched b (splice_of c.args.self)) (sym c.bytes.ensures) ∙ c.in_err-bytes.ensures.refused some in
+    patched_in-refused files (splice_of c.args.self) place c.in_err-bytes.field-0.0 here refused)
 
-pub returns-in-Ok-clause-done : goal.returns-in-Ok-clause-done
-returns-in-Ok-clause-done c =
+pub returns-clause-done : goal.returns-clause-done
+returns-clause-done c =
     let files = c.args.files.now in
     let place = c.in-Some.place in
     let here : found c.args.self.file.now files ≡ Some place = ap (λ n. found n files) (sym c.get.ensures) ∙ sym c.find.ensures ∙ c.in-Some.is in
-    let done = ap (λ b. patched b (splice_of c.args.self)) (sym c.bytes.ensures) ∙ c.in-Ok.ensures.done in
-    (found-within c.args.self.file.now files place here, patched_in-done files (splice_of c.args.self) place c.in-Ok.bytes here done)
+    let done = ap (λ b. patched b (splice_of c.args.self)) (sym c.bytes.ensures) ∙ c.in_ok-bytes.ensures.done in
+    (found-within c.args.self.file.now files place here, patched_in-done files (splice_of c.args.self) place c.in_ok-bytes.bytes here done)
