@@ -17,22 +17,10 @@ pub fn info_target(alloc: Global, project: &Project, id: &str) -> Result<Value, 
     ensures listed { IfOk result (λ v. target_listing project.now id.now ≡ Ok (view v)) }
     ensures refused { IfErr result (λ e. e ≢ Refusal.OutOfMemory → target_listing project.now id.now ≡ Err e) }
 {
-    let call = match project.find_one(alloc, Role::Target, id) {
-        Ok(call) => call,
-        Err(refusal) => return Err(refusal),
-    };
-    let sources = match project.sources(alloc, &call) {
-        Ok(sources) => sources,
-        Err(refusal) => return Err(refusal),
-    };
-    let extra = match project.extra_files(alloc, &call) {
-        Ok(extra) => extra,
-        Err(refusal) => return Err(refusal),
-    };
-    let head = match project.head(alloc, &call) {
-        Ok(head) => head,
-        Err(refusal) => return Err(refusal),
-    };
+    let call = project.find_one(alloc, Role::Target, id)?;
+    let sources = project.sources(alloc, &call)?;
+    let extra = project.extra_files(alloc, &call)?;
+    let head = project.head(alloc, &call)?;
     let listing = target_object(alloc, project.files(), call.file, head, sources, extra)?;
     Ok(listing)
 }
@@ -45,18 +33,9 @@ pub fn info_kwargs(alloc: Global, project: &Project, role: Role, id: &str) -> Re
     ensures listed { IfOk result (λ v. kwargs_listing project.now role id.now ≡ Ok (view v)) }
     ensures refused { IfErr result (λ e. e ≢ Refusal.OutOfMemory → kwargs_listing project.now role id.now ≡ Err e) }
 {
-    let call = match project.find_one(alloc, role, id) {
-        Ok(call) => call,
-        Err(refusal) => return Err(refusal),
-    };
-    let keywords = match project.keywords(alloc, role, &call) {
-        Ok(keywords) => keywords,
-        Err(refusal) => return Err(refusal),
-    };
-    let head = match project.head(alloc, &call) {
-        Ok(head) => head,
-        Err(refusal) => return Err(refusal),
-    };
+    let call = project.find_one(alloc, role, id)?;
+    let keywords = project.keywords(alloc, role, &call)?;
+    let head = project.head(alloc, &call)?;
     let listing = call_object(alloc, project.files(), call.file, head, keywords)?;
     Ok(listing)
 }
