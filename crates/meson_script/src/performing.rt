@@ -47,14 +47,10 @@ fn told(alloc: Global, project: &Project, command: &Command) -> Result<Option<Va
     ensures refused { IfErr result (λ e. e ≢ OutOfMemory → told project.now command.now ≡ Err e) }
 {
     match command {
-        Command::TargetInfo { target } => match info_target(alloc, project, target.get()) {
-            Ok(listing) => Ok(Some(listing)),
-            Err(refusal) => Err(refusal),
-        },
-        Command::KwargsInfo { role, id } => match info_kwargs(alloc, project, *role, id.get()) {
-            Ok(listing) => Ok(Some(listing)),
-            Err(refusal) => Err(refusal),
-        },
+        Command::TargetInfo { target } => Ok(Some(info_target(alloc, project, target.get())?)),
+        Command::KwargsInfo { role, id } => {
+            Ok(Some(info_kwargs(alloc, project, *role, id.get())?))
+        }
         _ => Ok(None),
     }
 }

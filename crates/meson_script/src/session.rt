@@ -149,14 +149,8 @@ impl Session {
         ensures project { OnOk result (IsProject self.new.project) }
     {
         match script.commands.get() {
-            [command] => match self.run_one(alloc, command, title) {
-                Ok(report) => Ok(report),
-                Err(fault) => Err(fault),
-            },
-            commands => match self.run_all(alloc, commands, title) {
-                Ok(report) => Ok(report),
-                Err(fault) => Err(fault),
-            },
+            [command] => self.run_one(alloc, command, title),
+            commands => self.run_all(alloc, commands, title),
         }
     }
 
@@ -234,10 +228,7 @@ impl Session {
             Ok(both) => both,
             Err(refused) => return Err(unmade(refused)),
         };
-        let performed = match perform_all(alloc, &mut project, commands) {
-            Ok(performed) => performed,
-            Err(fault) => return Err(fault),
-        };
+        let performed = perform_all(alloc, &mut project, commands)?;
         let report = Report {
             files: count_differing(self.project.files(), project.files()),
             splices: performed.splices.len(),

@@ -1,19 +1,26 @@
-use Rattle.std.proofs.Common.{◌≡◌, ◌∷◌, [], sym}
+use Rattle.std.proofs.Common.{Ok, Err, Result}
+use Rattle.std.specs.Prelude.{IfOk, OnOk}
+use Rattle.std.proofs.lemmas.Result.{IfErr-weaker}
 use Rattle.meson_script.proofs.Keeping.{keeps-stands, keeps-text}
 use Rattle.meson_script.proofs.RunFacts.{reaches-none}
 use Rattle.meson_script.proofs.session.Session.run_titled.Goals as goal
 
-pub returns-in-Ok-clause-step : goal.returns-in-Ok-clause-step
-returns-in-Ok-clause-step c = keeps-stands c.args.self.now c.run_one.new.self _ c.args.title.now c.in-Ok.report c.in-Ok.ensures.done c.in-Ok.ensures.project
+-- what follows where there is a value, from a clause on it and another one
+if_ok : {T E : Type 0} {Q : T → Type 0} {R P : Type 0} (r : Result T E) → IfOk r Q → OnOk r R → ((x : T) → Q x → R → P) → OnOk r P
+if_ok (Ok x) q held f = f x q held
+if_ok (Err e) q held f = tt
 
-pub returns-in-Ok-clause-text : goal.returns-in-Ok-clause-text
-returns-in-Ok-clause-text c = λ before. keeps-text c.args.self.now c.run_one.new.self _ c.args.title.now c.in-Ok.report c.in-Ok.ensures.done before c.requires
+pub returns-in-len1-clause-step : goal.returns-in-len1-clause-step
+returns-in-len1-clause-step c = if_ok c.run_one.result c.run_one.ensures.done c.run_one.ensures.project (keeps-stands c.args.self.now c.run_one.new.self _ c.args.title.now)
 
-pub returns-in-Ok-run_all-clause-step : goal.returns-in-Ok-run_all-clause-step
-returns-in-Ok-run_all-clause-step c = keeps-stands c.args.self.now c.run_all.new.self _ c.args.title.now c.in-Ok-run_all.report c.in-Ok-run_all.ensures.done c.in-Ok-run_all.ensures.project
+pub returns-in-len1-clause-text : goal.returns-in-len1-clause-text
+returns-in-len1-clause-text c = if_ok c.run_one.result c.run_one.ensures.done c.run_one.ensures.project (λ r keeps _ before. keeps-text c.args.self.now c.run_one.new.self _ c.args.title.now r keeps before c.requires)
 
-pub returns-in-Ok-run_all-clause-text : goal.returns-in-Ok-run_all-clause-text
-returns-in-Ok-run_all-clause-text c = λ before. keeps-text c.args.self.now c.run_all.new.self _ c.args.title.now c.in-Ok-run_all.report c.in-Ok-run_all.ensures.done before c.requires
+pub returns-in_default-clause-step : goal.returns-in_default-clause-step
+returns-in_default-clause-step c = if_ok c.run_all.result c.run_all.ensures.done c.run_all.ensures.project (keeps-stands c.args.self.now c.run_all.new.self _ c.args.title.now)
 
-pub returns-in-Err-clause-index : goal.returns-in-Err-clause-index
-returns-in-Err-clause-index c = reaches-none c.args.self.now.project c.args.script.now.commands c.in-Err.fault.index c.in-Err.ensures.index
+pub returns-in_default-clause-text : goal.returns-in_default-clause-text
+returns-in_default-clause-text c = if_ok c.run_all.result c.run_all.ensures.done c.run_all.ensures.project (λ r keeps _ before. keeps-text c.args.self.now c.run_all.new.self _ c.args.title.now r keeps before c.requires)
+
+pub returns-in-len1-clause-index : goal.returns-in-len1-clause-index
+returns-in-len1-clause-index c = IfErr-weaker c.run_one.result _ _ (λ f. reaches-none c.args.self.now.project c.args.script.now.commands f.index) c.run_one.ensures.index
