@@ -147,8 +147,6 @@ pub(crate) fn told(alloc: Global, opened: Opened, step: &Step) -> Result<Said, S
         mut session,
         log: _,
     } = opened;
-    match act(alloc, &mut session, step) {
-        Ok(report) => Ok(Said::of(alloc, step, &report)?),
-        Err(stop) => Err(stop),
-    }
+    let report = act(alloc, &mut session, step)?;
+    Ok(Said::of(alloc, step, &report)?)
 }
