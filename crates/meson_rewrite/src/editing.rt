@@ -118,15 +118,9 @@ pub(crate) fn edited(alloc: Global, opened: Opened, step: &Step) -> Result<Edit,
 {
     let Opened { mut session, log } = opened;
     let before = with_log(alloc, session.project(), log)?;
-    let report = match act(alloc, &mut session, step) {
-        Ok(report) => report,
-        Err(stop) => return Err(stop),
-    };
+    let report = act(alloc, &mut session, step)?;
     let said = Said::of(alloc, step, &report)?;
-    let text = match new_log(alloc, &session) {
-        Ok(text) => text,
-        Err(stop) => return Err(stop),
-    };
+    let text = new_log(alloc, &session)?;
     let after = with_log(alloc, session.project(), text)?;
     // What comes is the end of the program, which lets all memory go at once.
     mem::forget(session);
@@ -147,8 +141,6 @@ pub(crate) fn told(alloc: Global, opened: Opened, step: &Step) -> Result<Said, S
         mut session,
         log: _,
     } = opened;
-    match act(alloc, &mut session, step) {
-        Ok(report) => Ok(Said::of(alloc, step, &report)?),
-        Err(stop) => Err(stop),
-    }
+    let report = act(alloc, &mut session, step)?;
+    Ok(Said::of(alloc, step, &report)?)
 }

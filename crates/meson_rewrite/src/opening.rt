@@ -55,14 +55,8 @@ fn read_history<S: Store>(alloc: Global, store: &mut S, dir: Option<&str>) -> Re
     ensures at_most_once { OnceAtMost (S.reads store.old) (S.reads store.new) }
 {
     match read_file(alloc, store, dir, LOG) {
-        Ok(Some(text)) => match log_in(alloc, text) {
-            Ok(log) => Ok(log),
-            Err(stop) => Err(stop),
-        },
-        Ok(None) => match no_changes(alloc) {
-            Ok(log) => Ok(log),
-            Err(stop) => Err(stop),
-        },
+        Ok(Some(text)) => log_in(alloc, text),
+        Ok(None) => no_changes(alloc),
         Err(fault) => Err(Stop::Store(fault)),
     }
 }
@@ -108,10 +102,7 @@ pub(crate) fn open<S: Store>(
         Ok(project) => project,
         Err(fault) => return Err(Stop::from(fault)),
     };
-    let log = match read_history(alloc, store, dir) {
-        Ok(log) => log,
-        Err(stop) => return Err(stop),
-    };
+    let log = read_history(alloc, store, dir)?;
     Ok(Opened {
         session: Session::of(project, log.history),
         log: log.text,

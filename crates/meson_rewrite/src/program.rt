@@ -43,20 +43,11 @@ fn do_step<S: Store>(
     ensures reads { ReadsAtMost (S.content store.old) (option_map (λ d. d.now) dir.entry) (S.reads store.old) (S.reads store.new) }
     ensures reads_all { OnOk result (ReadsProject (S.content store.old) (option_map (λ d. d.now) dir.entry) (S.reads store.old) (S.reads store.new)) }
 {
-    let opened = match open(alloc, store, dir) {
-        Ok(opened) => opened,
-        Err(stop) => return Err(stop),
-    };
+    let opened = open(alloc, store, dir)?;
     if only_tells(step) {
-        return match told(alloc, opened, step) {
-            Ok(said) => Ok(said),
-            Err(stop) => Err(stop),
-        };
+        return told(alloc, opened, step);
     }
-    let edit = match edited(alloc, opened, step) {
-        Ok(edit) => edit,
-        Err(stop) => return Err(stop),
-    };
+    let edit = edited(alloc, opened, step)?;
     match commit(alloc, store, dir, &edit.before, &edit.after) {
         Ok(()) => Ok(edit.said),
         Err(fault) => Err(Stop::Store(fault)),

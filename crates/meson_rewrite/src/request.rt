@@ -75,10 +75,7 @@ fn read_script<S: Store>(alloc: Global, store: &mut S, name: Text) -> Result<Scr
     ensures at_most_once { OnceAtMost (S.reads store.old) (S.reads store.new) }
 {
     match read_file(alloc, store, None, name.get()) {
-        Ok(Some(bytes)) => match script_in(alloc, bytes.as_slice()) {
-            Ok(script) => Ok(script),
-            Err(stop) => Err(stop),
-        },
+        Ok(Some(bytes)) => script_in(alloc, bytes.as_slice()),
         Ok(None) => Err(Stop::Store(StoreFault::NoFile(name))),
         Err(fault) => Err(Stop::Store(fault)),
     }
@@ -116,18 +113,18 @@ pub(crate) fn request_of<S: Store>(
     match action {
         Action::Help(text) => Ok(Request::Help(text)),
         Action::Run(script) => Ok(Request::Step(Step::Run { script, title })),
-        Action::Info(command) => match script_of_one(alloc, command) {
-            Ok(script) => Ok(Request::Step(Step::Tell(script))),
-            Err(stop) => Err(stop),
-        },
-        Action::ScriptText(text) => match script_from(alloc, text.get()) {
-            Ok(script) => Ok(Request::Step(Step::Run { script, title })),
-            Err(stop) => Err(stop),
-        },
-        Action::ScriptFile(name) => match read_script(alloc, store, name) {
-            Ok(script) => Ok(Request::Step(Step::Run { script, title })),
-            Err(stop) => Err(stop),
-        },
+        Action::Info(command) => {
+            let script = script_of_one(alloc, command)?;
+            Ok(Request::Step(Step::Tell(script)))
+        }
+        Action::ScriptText(text) => {
+            let script = script_from(alloc, text.get())?;
+            Ok(Request::Step(Step::Run { script, title }))
+        }
+        Action::ScriptFile(name) => {
+            let script = read_script(alloc, store, name)?;
+            Ok(Request::Step(Step::Run { script, title }))
+        }
         Action::Undo => Ok(Request::Step(Step::Undo)),
         Action::Redo => Ok(Request::Step(Step::Redo)),
     }

@@ -10,21 +10,21 @@ returns-clause-same_names c =
     let old = c.args.opened.session in
     let new = c.act.new.session in
     ap names c.in_ok-before.ensures
-    ∙ logged-names _ _ _ _ (ap (λ p. names p.files) c.project.ensures ∙ step-names c.args.step.now old new c.in-Ok.report c.in-Ok.ensures.does ∙ ap (λ p. names p.files) (sym c.project-2.ensures))
+    ∙ logged-names _ _ _ _ (ap (λ p. names p.files) c.project.ensures ∙ step-names c.args.step.now old new c.in_ok-report.report c.in_ok-report.ensures.does ∙ ap (λ p. names p.files) (sym c.project-2.ensures))
     ∙ ap names (sym c.in_ok-after.ensures)
 
 pub of-requires : goal.of-requires
-of-requires c = does-plain c.args.step.now c.args.opened.session c.act.new.session c.in-Ok.report c.in-Ok.ensures.does
+of-requires c = does-plain c.args.step.now c.args.opened.session c.act.new.session c.in_ok-report.report c.in_ok-report.ensures.does
 
 pub returns-clause-edited : goal.returns-clause-edited
 returns-clause-edited c = record {
   new = c.act.new.session;
-  is_project = c.in-Ok.ensures.project;
-  report = c.in-Ok.report;
-  does = c.in-Ok.ensures.does;
-  new_log = c.in-Ok-new_log.text.items;
-  is_log = c.in-Ok-new_log.ensures.log;
+  is_project = c.in_ok-report.ensures.project;
+  report = c.in_ok-report.report;
+  does = c.in_ok-report.ensures.does;
+  new_log = c.in_ok-text.text.items;
+  is_log = c.in_ok-text.ensures.log;
   before = c.in_ok-before.ensures ∙ ap (λ p. with_log p.files c.args.opened.log.items) c.project.ensures;
-  after = c.in_ok-after.ensures ∙ ap (λ p. with_log p.files c.in-Ok-new_log.text.items) c.project-2.ensures;
+  after = c.in_ok-after.ensures ∙ ap (λ p. with_log p.files c.in_ok-text.text.items) c.project-2.ensures;
   said = c.in_ok-said.ensures;
 }

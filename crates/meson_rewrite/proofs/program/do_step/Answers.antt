@@ -1,49 +1,62 @@
-use Rattle.std.proofs.Common.{◌≡◌, false, refl, true, option_map}
+use Rattle.std.proofs.Common.{◌≡◌, ◌⊎◌, ℕ, List, Option, Result, Ok, Err, false, refl, true, option_map}
+use Rattle.std.proofs.lemmas.Result.{err_from_is_err_and}
+use Rattle.std.specs.Prelude.{IfErr, IfOk, OnOk}
 use Rattle.meson_rewrite.proofs.Endings.{done-ends, failed-ends, stopped-acting, stopped-opening, told-ends}
 use Rattle.meson_rewrite.proofs.Reading.{with-log-all, with-log-at-most}
-use Rattle.meson_rewrite.specs.Steps.{only_tells}
-use Rattle.meson_store.specs.Seen.{Untouched, seen}
+use Rattle.meson_rewrite.specs.Edited.{IsTold}
+use Rattle.meson_rewrite.specs.Opening.{Opens}
+use Rattle.meson_rewrite.specs.Runs.{StepEnds}
+use Rattle.meson_rewrite.specs.Steps.{MayRefuse, only_tells}
+use Rattle.meson_rewrite.specs.Stops.{WantsMemory}
+use Rattle.meson_rewrite.specs.declared.request.Step.{Step}
+use Rattle.meson_rewrite.specs.declared.said.Said.{Said}
+use Rattle.meson_rewrite.specs.declared.stop.Stop.{Stop}
+use Rattle.meson_script.specs.declared.session.Session.{Session}
+use Rattle.meson_store.specs.Seen.{Seen, Untouched, seen}
 use Rattle.meson_rewrite.proofs.program.do_step.Goals as goal
 
-pub returns-in-Err-clause-ends : goal.returns-in-Err-clause-ends
-returns-in-Err-clause-ends g c =
+-- what is told, or why it is not, is the end
+ends-by-telling : (dir : Option (List ℕ)) (step : Step) (b a : Seen) (u : Untouched b a) (old : Session) (log : List ℕ) → Opens b.content dir old log → only_tells step ≡ true
+    → (end : Result Said Stop) → IfOk end (IsTold old step) → IfErr end (λ why. WantsMemory why ⊎ MayRefuse step old why) → StepEnds dir step b a end
+ends-by-telling dir step b a u old log opens only (Ok said) is_told refused = told-ends dir step b a u old log opens only said is_told
+ends-by-telling dir step b a u old log opens only (Err stop) is_told refused = stopped-acting dir step b a u old log opens stop refused
+
+on_ok : {T E P : Type 0} (r : Result T E) → P → OnOk r P
+on_ok (Ok x) p = p
+on_ok (Err e) p = tt
+
+pub returns-in_err-opened-clause-ends : goal.returns-in_err-opened-clause-ends
+returns-in_err-opened-clause-ends g c =
     let S = g.S.Store in
     let dir = option_map (λ d. d.now) c.args.dir in
     let b = seen (S.content c.args.store.now) (S.failures c.args.store.now) (S.replaces c.args.store.now) in
     let a = seen (S.content c.open.new.store) (S.failures c.open.new.store) (S.replaces c.open.new.store) in
     let u : Untouched b a = record { kept = c.open.ensures.kept; counts = c.open.ensures.counts; no_replace = c.open.ensures.no_replace } in
-    stopped-opening dir c.args.step.now b a u c.in-Err.stop c.in-Err.ensures.none
+    let error = err_from_is_err_and c.from_residual.result c.from_residual.ensures.1 in
+    rw (error.1, error.2) (stopped-opening dir c.args.step.now b a u c.in_err-opened.field-0.0 c.in_err-opened.ensures.none)
 
-pub returns-in-Ok-told-clause-ends : goal.returns-in-Ok-told-clause-ends
-returns-in-Ok-told-clause-ends g c =
+pub returns-then-only_tells-clause-ends : goal.returns-then-only_tells-clause-ends
+returns-then-only_tells-clause-ends g c =
     let S = g.S.Store in
     let dir = option_map (λ d. d.now) c.args.dir in
     let b = seen (S.content c.args.store.now) (S.failures c.args.store.now) (S.replaces c.args.store.now) in
     let a = seen (S.content c.open.new.store) (S.failures c.open.new.store) (S.replaces c.open.new.store) in
     let u : Untouched b a = record { kept = c.open.ensures.kept; counts = c.open.ensures.counts; no_replace = c.open.ensures.no_replace } in
     let only : only_tells c.args.step.now ≡ true = cc in
-    told-ends dir c.args.step.now b a u c.in-Ok.opened.session c.in-Ok.opened.log.items c.in-Ok.ensures.opens only c.in-Ok-told.said c.in-Ok-told.ensures.told
+    ends-by-telling dir c.args.step.now b a u c.in_ok-opened.opened.session c.in_ok-opened.opened.log.items c.in_ok-opened.ensures.opens only c.told.result c.told.ensures.told c.told.ensures.refused
 
-pub returns-in-Err-told-clause-ends : goal.returns-in-Err-told-clause-ends
-returns-in-Err-told-clause-ends g c =
+pub returns-in_err-edit-clause-ends : goal.returns-in_err-edit-clause-ends
+returns-in_err-edit-clause-ends g c =
     let S = g.S.Store in
     let dir = option_map (λ d. d.now) c.args.dir in
     let b = seen (S.content c.args.store.now) (S.failures c.args.store.now) (S.replaces c.args.store.now) in
     let a = seen (S.content c.open.new.store) (S.failures c.open.new.store) (S.replaces c.open.new.store) in
     let u : Untouched b a = record { kept = c.open.ensures.kept; counts = c.open.ensures.counts; no_replace = c.open.ensures.no_replace } in
-    stopped-acting dir c.args.step.now b a u c.in-Ok.opened.session c.in-Ok.opened.log.items c.in-Ok.ensures.opens c.in-Err-told.stop c.in-Err-told.ensures.refused
+    let error = err_from_is_err_and c.from_residual-in_err-edit.result c.from_residual-in_err-edit.ensures.1 in
+    rw (error.1, error.2) (stopped-acting dir c.args.step.now b a u c.in_ok-opened.opened.session c.in_ok-opened.opened.log.items c.in_ok-opened.ensures.opens c.in_err-edit.field-0.0 c.in_err-edit.ensures.refused)
 
-pub returns-in-Err-edited-clause-ends : goal.returns-in-Err-edited-clause-ends
-returns-in-Err-edited-clause-ends g c =
-    let S = g.S.Store in
-    let dir = option_map (λ d. d.now) c.args.dir in
-    let b = seen (S.content c.args.store.now) (S.failures c.args.store.now) (S.replaces c.args.store.now) in
-    let a = seen (S.content c.open.new.store) (S.failures c.open.new.store) (S.replaces c.open.new.store) in
-    let u : Untouched b a = record { kept = c.open.ensures.kept; counts = c.open.ensures.counts; no_replace = c.open.ensures.no_replace } in
-    stopped-acting dir c.args.step.now b a u c.in-Ok.opened.session c.in-Ok.opened.log.items c.in-Ok.ensures.opens c.in-Err-edited.stop c.in-Err-edited.ensures.refused
-
-pub returns-in-Ok-commit-clause-ends : goal.returns-in-Ok-commit-clause-ends
-returns-in-Ok-commit-clause-ends g c =
+pub returns-in-Ok-clause-ends : goal.returns-in-Ok-clause-ends
+returns-in-Ok-clause-ends g c =
     let S = g.S.Store in
     let dir = option_map (λ d. d.now) c.args.dir in
     let b = seen (S.content c.args.store.now) (S.failures c.args.store.now) (S.replaces c.args.store.now) in
@@ -51,10 +64,10 @@ returns-in-Ok-commit-clause-ends g c =
     let a = seen (S.content c.commit.new.store) (S.failures c.commit.new.store) (S.replaces c.commit.new.store) in
     let u : Untouched b m = record { kept = c.open.ensures.kept; counts = c.open.ensures.counts; no_replace = c.open.ensures.no_replace } in
     let writes : only_tells c.args.step.now ≡ false = cc in
-    done-ends dir c.args.step.now b m a u writes c.in-Ok.opened.session c.in-Ok.opened.log.items c.in-Ok.ensures.opens c.in-Ok-edited.edit c.in-Ok-edited.ensures.edited c.in-Ok-commit.ensures.done
+    done-ends dir c.args.step.now b m a u writes c.in_ok-opened.opened.session c.in_ok-opened.opened.log.items c.in_ok-opened.ensures.opens c.in_ok-edit.edit c.in_ok-edit.ensures.edited c.in-Ok.ensures.done
 
-pub returns-in-Err-commit-clause-ends : goal.returns-in-Err-commit-clause-ends
-returns-in-Err-commit-clause-ends g c =
+pub returns-in-Err-clause-ends : goal.returns-in-Err-clause-ends
+returns-in-Err-clause-ends g c =
     let S = g.S.Store in
     let dir = option_map (λ d. d.now) c.args.dir in
     let b = seen (S.content c.args.store.now) (S.failures c.args.store.now) (S.replaces c.args.store.now) in
@@ -62,49 +75,43 @@ returns-in-Err-commit-clause-ends g c =
     let a = seen (S.content c.commit.new.store) (S.failures c.commit.new.store) (S.replaces c.commit.new.store) in
     let u : Untouched b m = record { kept = c.open.ensures.kept; counts = c.open.ensures.counts; no_replace = c.open.ensures.no_replace } in
     let writes : only_tells c.args.step.now ≡ false = cc in
-    failed-ends dir c.args.step.now b m a u writes c.in-Ok.opened.session c.in-Ok.opened.log.items c.in-Ok.ensures.opens c.in-Ok-edited.edit c.in-Ok-edited.ensures.edited c.in-Err-commit.fault c.in-Err-commit.ensures.failed
+    failed-ends dir c.args.step.now b m a u writes c.in_ok-opened.opened.session c.in_ok-opened.opened.log.items c.in_ok-opened.ensures.opens c.in_ok-edit.edit c.in_ok-edit.ensures.edited c.in-Err.fault c.in-Err.ensures.failed
+
+pub returns-in_err-opened-clause-reads : goal.returns-in_err-opened-clause-reads
+returns-in_err-opened-clause-reads g c = c.in_err-opened.ensures.reads_at_most
+
+pub returns-then-only_tells-clause-reads : goal.returns-then-only_tells-clause-reads
+returns-then-only_tells-clause-reads g c =
+    let S = g.S.Store in
+    let dir = option_map (λ d. d.now) c.args.dir in
+    with-log-at-most (S.content c.args.store.now) dir (S.reads c.args.store.now) c.in_ok-opened.opened.session.project.files (S.reads c.open.new.store) _ refl c.in_ok-opened.ensures.reads
+
+pub returns-then-only_tells-clause-reads_all : goal.returns-then-only_tells-clause-reads_all
+returns-then-only_tells-clause-reads_all g c =
+    let S = g.S.Store in
+    let dir = option_map (λ d. d.now) c.args.dir in
+    on_ok c.told.result (with-log-all (S.content c.args.store.now) dir (S.reads c.args.store.now) c.in_ok-opened.opened.session.project.files (S.reads c.open.new.store) _ refl c.in_ok-opened.ensures.reads c.in_ok-opened.ensures.opens.found)
+
+pub returns-in_err-edit-clause-reads : goal.returns-in_err-edit-clause-reads
+returns-in_err-edit-clause-reads g c =
+    let S = g.S.Store in
+    let dir = option_map (λ d. d.now) c.args.dir in
+    with-log-at-most (S.content c.args.store.now) dir (S.reads c.args.store.now) c.in_ok-opened.opened.session.project.files (S.reads c.open.new.store) _ refl c.in_ok-opened.ensures.reads
+
+pub returns-in-Ok-clause-reads : goal.returns-in-Ok-clause-reads
+returns-in-Ok-clause-reads g c =
+    let S = g.S.Store in
+    let dir = option_map (λ d. d.now) c.args.dir in
+    with-log-at-most (S.content c.args.store.now) dir (S.reads c.args.store.now) c.in_ok-opened.opened.session.project.files (S.reads c.open.new.store) _ c.commit.ensures.no_read c.in_ok-opened.ensures.reads
+
+pub returns-in-Ok-clause-reads_all : goal.returns-in-Ok-clause-reads_all
+returns-in-Ok-clause-reads_all g c =
+    let S = g.S.Store in
+    let dir = option_map (λ d. d.now) c.args.dir in
+    with-log-all (S.content c.args.store.now) dir (S.reads c.args.store.now) c.in_ok-opened.opened.session.project.files (S.reads c.open.new.store) _ c.commit.ensures.no_read c.in_ok-opened.ensures.reads c.in_ok-opened.ensures.opens.found
 
 pub returns-in-Err-clause-reads : goal.returns-in-Err-clause-reads
-returns-in-Err-clause-reads g c = c.in-Err.ensures.reads_at_most
-
-pub returns-in-Ok-told-clause-reads : goal.returns-in-Ok-told-clause-reads
-returns-in-Ok-told-clause-reads g c =
+returns-in-Err-clause-reads g c =
     let S = g.S.Store in
     let dir = option_map (λ d. d.now) c.args.dir in
-    with-log-at-most (S.content c.args.store.now) dir (S.reads c.args.store.now) c.in-Ok.opened.session.project.files (S.reads c.open.new.store) _ refl c.in-Ok.ensures.reads
-
-pub returns-in-Ok-told-clause-reads_all : goal.returns-in-Ok-told-clause-reads_all
-returns-in-Ok-told-clause-reads_all g c =
-    let S = g.S.Store in
-    let dir = option_map (λ d. d.now) c.args.dir in
-    with-log-all (S.content c.args.store.now) dir (S.reads c.args.store.now) c.in-Ok.opened.session.project.files (S.reads c.open.new.store) _ refl c.in-Ok.ensures.reads c.in-Ok.ensures.opens.found
-
-pub returns-in-Err-told-clause-reads : goal.returns-in-Err-told-clause-reads
-returns-in-Err-told-clause-reads g c =
-    let S = g.S.Store in
-    let dir = option_map (λ d. d.now) c.args.dir in
-    with-log-at-most (S.content c.args.store.now) dir (S.reads c.args.store.now) c.in-Ok.opened.session.project.files (S.reads c.open.new.store) _ refl c.in-Ok.ensures.reads
-
-pub returns-in-Err-edited-clause-reads : goal.returns-in-Err-edited-clause-reads
-returns-in-Err-edited-clause-reads g c =
-    let S = g.S.Store in
-    let dir = option_map (λ d. d.now) c.args.dir in
-    with-log-at-most (S.content c.args.store.now) dir (S.reads c.args.store.now) c.in-Ok.opened.session.project.files (S.reads c.open.new.store) _ refl c.in-Ok.ensures.reads
-
-pub returns-in-Ok-commit-clause-reads : goal.returns-in-Ok-commit-clause-reads
-returns-in-Ok-commit-clause-reads g c =
-    let S = g.S.Store in
-    let dir = option_map (λ d. d.now) c.args.dir in
-    with-log-at-most (S.content c.args.store.now) dir (S.reads c.args.store.now) c.in-Ok.opened.session.project.files (S.reads c.open.new.store) _ c.commit.ensures.no_read c.in-Ok.ensures.reads
-
-pub returns-in-Ok-commit-clause-reads_all : goal.returns-in-Ok-commit-clause-reads_all
-returns-in-Ok-commit-clause-reads_all g c =
-    let S = g.S.Store in
-    let dir = option_map (λ d. d.now) c.args.dir in
-    with-log-all (S.content c.args.store.now) dir (S.reads c.args.store.now) c.in-Ok.opened.session.project.files (S.reads c.open.new.store) _ c.commit.ensures.no_read c.in-Ok.ensures.reads c.in-Ok.ensures.opens.found
-
-pub returns-in-Err-commit-clause-reads : goal.returns-in-Err-commit-clause-reads
-returns-in-Err-commit-clause-reads g c =
-    let S = g.S.Store in
-    let dir = option_map (λ d. d.now) c.args.dir in
-    with-log-at-most (S.content c.args.store.now) dir (S.reads c.args.store.now) c.in-Ok.opened.session.project.files (S.reads c.open.new.store) _ c.commit.ensures.no_read c.in-Ok.ensures.reads
+    with-log-at-most (S.content c.args.store.now) dir (S.reads c.args.store.now) c.in_ok-opened.opened.session.project.files (S.reads c.open.new.store) _ c.commit.ensures.no_read c.in_ok-opened.ensures.reads

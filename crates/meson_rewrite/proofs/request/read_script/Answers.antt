@@ -1,5 +1,6 @@
 use Rattle.std.proofs.Common.{◌∙◌, Some, inr, sym, ap, subst}
 use Rattle.std.specs.FinMap.{get}
+use Rattle.std.proofs.lemmas.Result.{IfErr-weaker}
 use Rattle.meson_gathering.specs.Gathered.{IsUnread}
 use Rattle.meson_rewrite.specs.Requests.{absent}
 use Rattle.meson_rewrite.proofs.Scripts.{bad-file, unread-file}
@@ -8,16 +9,16 @@ use Rattle.meson_rewrite.proofs.request.read_script.Goals as goal
 pub returns-in-Ok-Some-clause-none : goal.returns-in-Ok-Some-clause-none
 returns-in-Ok-Some-clause-none g c =
     let read = rw c.in-Ok-Some.field-0-is at c.in-Ok-Some.ensures.read in
-    bad-file _ _ _ c.args.name c.as_slice.result.now c.in-Err-script_in.stop
-    (λ content is. ap (get content) (sym c.get.ensures) ∙ sym (read content is) ∙ ap Some (sym c.as_slice.ensures.value)) c.in-Err-script_in.ensures.none
+    IfErr-weaker c.script_in.result _ _ (λ stop none. bad-file _ _ _ c.args.name c.as_slice.result.now stop
+    (λ content is. ap (get content) (sym c.get.ensures) ∙ sym (read content is) ∙ ap Some (sym c.as_slice.ensures.value)) none) c.script_in.ensures.none
 
 pub returns-in-Ok-None-clause-none : goal.returns-in-Ok-None-clause-none
 returns-in-Ok-None-clause-none g c =
     let read = rw c.in-Ok-None.field-0-is at c.in-Ok-None.ensures.read in
     inr (absent (λ content is. ap (get content) (sym c.get.ensures) ∙ sym (read content is)))
 
-pub returns-clause-none : goal.returns-clause-none
-returns-clause-none g c =
+pub returns-in-Err-clause-none : goal.returns-in-Err-clause-none
+returns-in-Err-clause-none g c =
     let first = g.S.Store.failures c.args.store.now in
     let last = g.S.Store.failures c.read_file.new.store in
     unread-file (g.S.Store.content c.args.store.now) first last c.args.name c.in-Err.fault (subst (λ n. IsUnread first last n c.in-Err.fault) c.get.ensures c.in-Err.ensures.failed)
