@@ -108,7 +108,7 @@ module _ (limits : Limits) (bytes : List ℕ) (t : Parsed) (path : List ℕ) (p 
     there = put.there;
     is_there = is-put;
     bracket = put.bracket ∙ there.3;
-    list = sym (list-views-move (λ n. n + length front) new_bytes now new ∙ ap (texts_of_listing new_bytes) (sym put.list) ∙ sym texts-of-put) ;
+    list = sym (list-views-move (λ n. n + length front) new_bytes now new ∙ ap (texts_of_listing new_bytes) (sym put.list) ∙ sym texts-of-put);
     span = ap list_span put.list ∙ moved-place p.bracket x.depth now (list_view now new) x.is_list (length front);
   } where
     texts-of-put : put.there.list ≡ texts_of_listing new_bytes put.there.list
