@@ -116,10 +116,7 @@ pub fn subdirs(alloc: Global, name: &str, bytes: &[u8]) -> Result<Vec<String>, P
     ensures unreadable { (e : ParseFault) → IsUnreadable bytes.now e → Refuses result e }
     ensures refused { IfErr result (MayRefuse bytes.now) }
 {
-    let tree = match parse(alloc, bytes) {
-        Ok(tree) => tree,
-        Err(fault) => return Err(fault),
-    };
+    let tree = parse(alloc, bytes)?;
     let names = entered_by(alloc, name, bytes, &tree)?;
     Ok(names)
 }
