@@ -97,14 +97,8 @@ pub(crate) fn sources_added<'t>(
     ensures utf8 { IfOk result (λ steps. All IsUtf8 names.now) }
 {
     let alloc = variables.alloc;
-    match checked_names(names) {
-        Ok(()) => {}
-        Err(refusal) => return Err(refusal),
-    }
-    match at_most_once(alloc, source, arguments, b"sources".as_slice()) {
-        Ok(()) => {}
-        Err(refusal) => return Err(refusal),
-    }
+    checked_names(names)?;
+    at_most_once(alloc, source, arguments, b"sources".as_slice())?;
     let marks = met(variables, MAX_FOLLOWED, call, source, arguments.items.get())?;
     let new = new_names(alloc, marks.items.as_slice(), names)?;
     let Marks {
@@ -140,14 +134,8 @@ pub(crate) fn sources_removed<'t>(
     ensures utf8 { IfOk result (λ steps. All IsUtf8 names.now) }
 {
     let alloc = variables.alloc;
-    match checked_names(names) {
-        Ok(()) => {}
-        Err(refusal) => return Err(refusal),
-    }
-    match at_most_once(alloc, source, arguments, b"sources".as_slice()) {
-        Ok(()) => {}
-        Err(refusal) => return Err(refusal),
-    }
+    checked_names(names)?;
+    at_most_once(alloc, source, arguments, b"sources".as_slice())?;
     let marks = met(variables, MAX_FOLLOWED, call, source, arguments.items.get())?;
     let names = distinct(alloc, names)?;
     let spots = spots_of(alloc, &marks, names.as_slice())?;

@@ -86,23 +86,17 @@ fn checked_extra<'t>(
     ensures refused { (function : Source) → IfErr result (λ e. e ≢ Refusal.OutOfMemory → checked_extra (project_of variables.now) (placed call.now (call_with function (list_view source.entry.now arguments.entry.now))) names.now ≡ Err e) }
     ensures utf8 { IfOk result (λ marks. All IsUtf8 names.now) }
 {
-    match checked_names(names) {
-        Ok(()) => {}
-        Err(refusal) => return Err(refusal),
-    }
+    checked_names(names)?;
     let args = arguments.items.get();
     if count_named(source, args, b"kwargs".as_slice()) > 0 {
         return Err(Refusal::HiddenKeywords);
     }
-    match at_most_once(
+    at_most_once(
         variables.alloc,
         source,
         arguments,
         b"extra_files".as_slice(),
-    ) {
-        Ok(()) => {}
-        Err(refusal) => return Err(refusal),
-    }
+    )?;
     let marks = extra_met(variables, MAX_FOLLOWED, call, source, args)?;
     Ok(marks)
 }

@@ -33,10 +33,7 @@ pub fn extra_files_of<'t>(
     ensures refused { (function : Source) → IfErr result (λ e. e ≢ Refusal.OutOfMemory → extra_of_call (project_of variables.now) (placed call.now (call_with function (list_view source.entry.now arguments.entry.now))) ≡ Err e) }
 {
     let alloc = variables.alloc;
-    match at_most_once(alloc, source, arguments, b"extra_files".as_slice()) {
-        Ok(()) => {}
-        Err(refusal) => return Err(refusal),
-    }
+    at_most_once(alloc, source, arguments, b"extra_files".as_slice())?;
     let marks = extra_met(variables, MAX_FOLLOWED, call, source, arguments.items.get())?;
     let Marks {
         items,

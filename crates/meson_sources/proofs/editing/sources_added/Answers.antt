@@ -1,6 +1,7 @@
 use Rattle.std.proofs.Common.{◌≡◌, ◌<◌, ◌≤◌, ◌++◌, length, map, sym, ap, ◌∙◌, subst}
 use Rattle.std.specs.Str.{IsUtf8}
 use Rattle.std.specs.Prelude.{Some, Ok, Err}
+use Rattle.std.proofs.lemmas.Result.{err_from_is_err_and}
 use Rattle.meson_calls.specs.declared.refusal.Refusal.TheVariants.{DuplicateKeyword}
 use Rattle.meson_calls.specs.Calls.{value_with_name}
 use Rattle.meson_calls.specs.Expansion.{max_followed}
@@ -18,15 +19,17 @@ use Rattle.meson_sources.proofs.editing.sources_added.Goals as goal
 pub at_most_once-requires : goal.at_most_once-requires
 at_most_once-requires c = subst IsUtf8 (sym c.as_slice.ensures) sources_text
 
-pub returns-in-Err-at_most_once-clause-refused : goal.returns-in-Err-at_most_once-clause-refused
-returns-in-Err-at_most_once-clause-refused c = λ function other.
+pub returns-in_err-at_most_once-clause-refused : goal.returns-in_err-at_most_once-clause-refused
+returns-in_err-at_most_once-clause-refused c =
+    let error = err_from_is_err_and c.from_residual-in_err-at_most_once.result c.from_residual-in_err-at_most_once.ensures.1 in
+    rw (error.1, error.2) (λ function other.
     let p = project_of c.args.variables.now in
     let source = c.args.source.now in
     let l = c.args.arguments.now in
-    let checked : checked_names c.args.names.now ≡ Ok tt = sym c.checked_names.ensures.checked ∙ c.in-Ok.is in
-    let twice = c.in-Err-at_most_once.ensures.twice other in
+    let checked : checked_names c.args.names.now ≡ Ok tt = sym c.checked_names.ensures.checked ∙ c.in_ok-checked_names.was in
+    let twice = c.in_err-at_most_once.ensures.twice other in
     let many = subst (λ k. 1 < length (kept_args source (value_with_name k) 0 l.items)) c.as_slice.ensures twice.1 in
-    added_twice p c.args.call.now source l function c.args.names.now checked many ∙ ap (λ k. Err (DuplicateKeyword k)) (sym c.as_slice.ensures) ∙ ap Err (sym twice.0)
+    added_twice p c.args.call.now source l function c.args.names.now checked many ∙ ap (λ k. Err (DuplicateKeyword k)) (sym c.as_slice.ensures) ∙ ap Err (sym twice.0))
 
 pub returns-clause-meant : goal.returns-clause-meant
 returns-clause-meant c = λ function.
@@ -34,8 +37,8 @@ returns-clause-meant c = λ function.
     let source = c.args.source.now in
     let l = c.args.arguments.now in
     let names = c.args.names.now in
-    let checked : checked_names names ≡ Ok tt = sym c.checked_names.ensures.checked ∙ c.in-Ok.is in
-    let few = subst (λ k. length (kept_args source (value_with_name k) 0 l.items) ≤ 1) c.as_slice.ensures c.in-Ok-at_most_once.ensures.few in
+    let checked : checked_names names ≡ Ok tt = sym c.checked_names.ensures.checked ∙ c.in_ok-checked_names.was in
+    let few = subst (λ k. length (kept_args source (value_with_name k) 0 l.items) ≤ 1) c.as_slice.ensures c.in_ok-at_most_once.ensures.few in
     let is = ap (λ g. g.tally) (c.in_ok-marks.ensures ∙ ap (all_gathered p max_followed c.args.call.now source) c.get.ensures) in
     let home = c.in_ok-home.home in
     let n = c.plain_len-from.result in

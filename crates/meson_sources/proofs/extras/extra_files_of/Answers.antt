@@ -2,6 +2,7 @@
 use Rattle.std.proofs.Common.{◌<◌, ◌≤◌, length, sym, ap, ◌∙◌, subst}
 use Rattle.std.specs.Str.{IsUtf8}
 use Rattle.std.specs.Prelude.{Ok, Err}
+use Rattle.std.proofs.lemmas.Result.{err_from_is_err_and}
 use Rattle.meson_calls.specs.declared.refusal.Refusal.TheVariants.{DuplicateKeyword}
 use Rattle.meson_calls.specs.Calls.{value_with_name}
 use Rattle.meson_calls.specs.Expansion.{max_followed}
@@ -17,13 +18,15 @@ use Rattle.meson_sources.proofs.extras.extra_files_of.Goals as goal
 pub at_most_once-requires : goal.at_most_once-requires
 at_most_once-requires c = subst IsUtf8 (sym c.as_slice.ensures) extra_text
 
-pub returns-in-Err-clause-refused : goal.returns-in-Err-clause-refused
-returns-in-Err-clause-refused c = λ function other.
+pub returns-in_err-at_most_once-clause-refused : goal.returns-in_err-at_most_once-clause-refused
+returns-in_err-at_most_once-clause-refused c =
+    let error = err_from_is_err_and c.from_residual.result c.from_residual.ensures.1 in
+    rw (error.1, error.2) (λ function other.
     let source = c.args.source.now in
     let l = c.args.arguments.now in
-    let twice = c.in-Err.ensures.twice other in
+    let twice = c.in_err-at_most_once.ensures.twice other in
     let many = subst (λ k. 1 < length (kept_args source (value_with_name k) 0 l.items)) c.as_slice.ensures twice.1 in
-    told_twice (project_of c.args.variables.now) c.args.call.now source l function many ∙ ap (λ k. Err (DuplicateKeyword k)) (sym c.as_slice.ensures) ∙ ap Err (sym twice.0)
+    told_twice (project_of c.args.variables.now) c.args.call.now source l function many ∙ ap (λ k. Err (DuplicateKeyword k)) (sym c.as_slice.ensures) ∙ ap Err (sym twice.0))
 
 pub returns-clause-found : goal.returns-clause-found
 returns-clause-found c = λ function.
@@ -32,7 +35,7 @@ returns-clause-found c = λ function.
     let source = c.args.source.now in
     let l = c.args.arguments.now in
     let marks = c.in_ok-marks.marks in
-    let few = subst (λ k. length (kept_args source (value_with_name k) 0 l.items) ≤ 1) c.as_slice.ensures c.in-Ok.ensures.few in
+    let few = subst (λ k. length (kept_args source (value_with_name k) 0 l.items) ≤ 1) c.as_slice.ensures c.in_ok-at_most_once.ensures.few in
     let is = ap (λ g. g.tally) (c.in_ok-marks.ensures ∙ ap (extra_gathered p max_followed call source) c.get.ensures) in
     told_once p call source l function few (gathered marks).tally is
     ∙ ap (λ is. Ok (record { items = is; opaque = length marks.unknown.items; home = or_call call (or_option marks.list marks.vacant) })) (sym c.of.ensures)
