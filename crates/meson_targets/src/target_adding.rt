@@ -157,18 +157,9 @@ pub fn target_added(
     ensures refused { IfErr result (λ e. e ≢ Refusal.OutOfMemory → target_added (named_trees files.now (views files.now trees.now)) new.entry.name.now new.entry.kind.now new.entry.folder.now new.entry.sources.now ≡ Err e) }
     ensures utf8 { IfOk result (λ steps. All IsUtf8 (new.entry.name.now ∷ new.entry.sources.now)) }
 {
-    match checked_kind(alloc, new.kind) {
-        Ok(()) => {}
-        Err(refusal) => return Err(refusal),
-    }
-    match checked_texts(new.name, new.sources) {
-        Ok(()) => {}
-        Err(refusal) => return Err(refusal),
-    }
-    match not_taken(alloc, files, trees, noted, new.name.get()) {
-        Ok(()) => {}
-        Err(refusal) => return Err(refusal),
-    }
+    checked_kind(alloc, new.kind)?;
+    checked_texts(new.name, new.sources)?;
+    not_taken(alloc, files, trees, noted, new.name.get())?;
     let file = number_in(alloc, files, trees, new.folder.get())?;
     let sources = distinct(alloc, new.sources)?;
     let statement = written_target(alloc, new.kind, new.name, sources.as_slice())?;
