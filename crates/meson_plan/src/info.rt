@@ -93,10 +93,7 @@ pub(crate) fn call_told(
     let args = arguments.items.get();
     for i in 0..args.len() {
         match name_of(source, &args[i]) {
-            Some(key) => match key_told(alloc, source, arguments, role, key) {
-                Ok(()) => {}
-                Err(refusal) => return Err(refusal),
-            },
+            Some(key) => key_told(alloc, source, arguments, role, key)?,
             None => {}
         }
     }

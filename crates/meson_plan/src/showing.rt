@@ -246,10 +246,7 @@ pub(crate) fn keywords_of(
     ensures shown { (function : Source) → IfOk result (λ pairs. keywords_of_call source.now role (call_with function (list_view source.now arguments.now)) ≡ Ok pairs.items) }
     ensures refused { (function : Source) → IfErr result (λ e. e ≢ Refusal.OutOfMemory → keywords_of_call source.now role (call_with function (list_view source.now arguments.now)) ≡ Err e) }
 {
-    match call_told(alloc, source, arguments, role) {
-        Ok(()) => {}
-        Err(refusal) => return Err(refusal),
-    }
+    call_told(alloc, source, arguments, role)?;
     let pairs = shown_arguments(alloc, source, role, arguments.items.get())?;
     Ok(pairs)
 }
