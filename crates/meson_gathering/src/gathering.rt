@@ -129,10 +129,7 @@ fn enter_all<S: Store>(
     ensures asks_at_most { OnErr result (StopsEntering (S.content store.old) (option_map (λ f. f.now) folder.entry) files.old (S.reads store.old) (map string_bytes names.now) (S.reads store.new)) }
 {
     for i in 0..names.len() {
-        match enter(alloc, store, folder, files, names[i].as_str()) {
-            Ok(()) => {}
-            Err(fault) => return Err(fault),
-        }
+        enter(alloc, store, folder, files, names[i].as_str())?;
     }
     Ok(())
 }
