@@ -272,10 +272,7 @@ impl Session {
         };
         let splices = change.splices.get().len();
         let title = change.title.clone()?;
-        let project = match taken_back(alloc, &self.project, change) {
-            Ok(project) => project,
-            Err(fault) => return Err(fault),
-        };
+        let project = taken_back(alloc, &self.project, change)?;
         self.history.past.move_last(&mut self.history.future)?;
         let files = count_differing(self.project.files(), project.files());
         self.project = project;
@@ -309,10 +306,7 @@ impl Session {
         };
         let splices = change.splices.get().len();
         let title = change.title.clone()?;
-        let project = match done_again(alloc, &self.project, change) {
-            Ok(project) => project,
-            Err(fault) => return Err(fault),
-        };
+        let project = done_again(alloc, &self.project, change)?;
         self.history.future.move_last(&mut self.history.past)?;
         let files = count_differing(self.project.files(), project.files());
         self.project = project;

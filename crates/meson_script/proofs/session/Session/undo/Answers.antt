@@ -1,4 +1,8 @@
-use Rattle.std.proofs.Common.{◌≡◌, List, [], ◌∷◌, ◌++◌, sym, ap, ◌∙◌, subst}
+use Rattle.std.proofs.Common.{◌≡◌, List, [], ◌∷◌, ◌++◌, refl, sym, ap, ◌∙◌, subst, rules}
+use Rattle.std.proofs.lemmas.Result.{err_from_is_err_and}
+use Rattle.serde_json.specs.Data.{array}
+use Rattle.serde_json.specs.View.{items_view}
+use Rattle.serde_json.proofs.Views.{view-Array}
 use Rattle.meson_splice.specs.Patch.{inverses_of, patched_all}
 use Rattle.meson_splice.specs.Past.{undone}
 use Rattle.meson_splice.specs.declared.change.Change.{Change}
@@ -16,28 +20,31 @@ refused : (h : History) (files : List File) (front : List Change) (change : Chan
 refused h files front change f is why =
     subst (λ r. MayNotStep r f) (sym (undone-last front change h files is)) (refused-change (patched_all files (inverses_of change.splices)) (λ _. record { past = front; future = h.future ++ change ∷ [] }) f why)
 
-pub returns-in-Err-clause-refused : goal.returns-in-Err-clause-refused
-returns-in-Err-clause-refused c =
+pub returns-in_err-project-clause-refused : goal.returns-in_err-project-clause-refused
+returns-in_err-project-clause-refused c =
     let e = c.in-Some.ensures in
-    refused c.args.self.now.history c.args.self.now.project.files e.0 c.in-Some.change.now c.in-Err.fault e.1 c.in-Err.ensures.refused
+    let error = err_from_is_err_and c.from_residual-in_err-project.result c.from_residual-in_err-project.ensures.1 in
+    rw (error.1, error.2) (refused c.args.self.now.history c.args.self.now.project.files e.0 c.in-Some.change.now c.in_err-project.field-0.0 e.1 c.in_err-project.ensures.refused)
 
-pub returns-in-Err-clause-fits : goal.returns-in-Err-clause-fits
-returns-in-Err-clause-fits c = λ s stands.
+pub returns-in_err-project-clause-fits : goal.returns-in_err-project-clause-fits
+returns-in_err-project-clause-fits c =
+    let error = err_from_is_err_and c.from_residual-in_err-project.result c.from_residual-in_err-project.ensures.1 in
+    rw (error.1, error.2) (λ s stands.
     let e = c.in-Some.ensures in
-    undo-refuses s c.args.self.now.history c.args.self.now.project.files c.in-Err.fault stands
-    (refused c.args.self.now.history c.args.self.now.project.files e.0 c.in-Some.change.now c.in-Err.fault e.1 c.in-Err.ensures.refused)
+    undo-refuses s c.args.self.now.history c.args.self.now.project.files c.in_err-project.field-0.0 stands
+    (refused c.args.self.now.history c.args.self.now.project.files e.0 c.in-Some.change.now c.in_err-project.field-0.0 e.1 c.in_err-project.ensures.refused))
 
 pub count_differing-files-requires : goal.count_differing-files-requires
 count_differing-files-requires c =
     let change = c.in-Some.change.now in
-    ap names c.files.ensures ∙ change-names c.args.self.now.project.files (inverses_of change.splices) c.in-Ok.project.files c.in-Ok.ensures.done ∙ ap names (sym c.files-2.ensures)
+    ap names c.files.ensures ∙ change-names c.args.self.now.project.files (inverses_of change.splices) c.in_ok-project.project.files c.in_ok-project.ensures.done ∙ ap names (sym c.files-2.ensures)
 
 pub returns-clause-step : goal.returns-clause-step
 returns-clause-step c = λ s stands.
     let e = c.in-Some.ensures in
     let moved = c.in_ok-move_last.ensures.ok in
-    undo-stands c.args.self.now.history (record { past = c.move_last.new.self; future = c.move_last.new.to }) c.args.self.now.project.files c.in-Ok.project.files s stands
-    (undone-moved c.args.self.now.history c.args.self.now.project.files c.in-Ok.project.files e.0 c.move_last.new.self c.move_last.new.to c.in-Some.change.now moved.0 e.1 c.in-Ok.ensures.done moved.1 moved.2)
+    undo-stands c.args.self.now.history (record { past = c.move_last.new.self; future = c.move_last.new.to }) c.args.self.now.project.files c.in_ok-project.project.files s stands
+    (undone-moved c.args.self.now.history c.args.self.now.project.files c.in_ok-project.project.files e.0 c.move_last.new.self c.move_last.new.to c.in-Some.change.now moved.0 e.1 c.in_ok-project.ensures.done moved.1 moved.2)
 
 pub returns-clause-text : goal.returns-clause-text
 returns-clause-text c = λ before.
@@ -46,3 +53,19 @@ returns-clause-text c = λ before.
 
 pub returns-clause-project : goal.returns-clause-project
 returns-clause-project c = subst IsProject c.project.view_is c.project.invariant
+
+pub returns-clause-done : goal.returns-clause-done
+returns-clause-done c =
+    let e = c.in-Some.ensures in
+    let moved = c.in_ok-move_last.ensures.ok in
+    record {
+      before = e.0;
+      change = c.in-Some.change.now;
+      is_last = e.1;
+      is_step = undone-moved c.args.self.now.history c.args.self.now.project.files c.in_ok-project.project.files e.0 c.move_last.new.self c.move_last.new.to c.in-Some.change.now moved.0 e.1 c.in_ok-project.ensures.done moved.1 moved.2;
+      files = search rules;
+      splices = search rules;
+      title = search rules;
+      relexed = refl;
+      info = view-Array c.new.result ∙ ap (λ vs. array (items_view vs)) c.new.ensures.items;
+    }
