@@ -1,8 +1,9 @@
-use Rattle.std.proofs.Common.{length, map, refl, sym, ap, ◌∙◌, subst}
+use Rattle.std.proofs.Common.{length, map, refl, sym, ap, ◌∙◌, subst, rules}
 use Rattle.std.proofs.lemmas.Result.{err_from_is_err_and}
 use Rattle.serde_json.specs.View.{view}
+use Rattle.serde_json.proofs.Views.{view-Array}
 use Rattle.meson_calls.specs.Loading.{IsProject}
-use Rattle.meson_script.specs.Running.{Reaches}
+use Rattle.meson_script.specs.Running.{Reaches, Runs}
 use Rattle.meson_script.proofs.RunFacts.{change-names, names, reaches-all, reaches-none, runs-patch}
 use Rattle.meson_script.proofs.session.Session.run_all.Goals as goal
 
@@ -34,3 +35,18 @@ returns-in-Err-push-clause-index c =
 
 pub returns-in-Err-titles-clause-index : goal.returns-in-Err-titles-clause-index
 returns-in-Err-titles-clause-index c = reaches-none c.args.self.now.project c.args.commands.now c.unmade.result.index (ap (λ f. f.index) c.unmade.ensures)
+
+pub returns-clause-done : goal.returns-clause-done
+returns-clause-done c =
+    let ran = c.in_ok-performed.performed in
+    let listings = map view ran.listings.items in
+    record {
+      splices = ran.splices.items;
+      listings = listings;
+      runs = subst (λ old. Runs old c.args.commands.now ran.splices.items ran.relexed listings c.perform_all.new.project) c.in-Ok.ensures.copied c.in_ok-performed.ensures.done;
+      kept = search rules;
+      files = search rules;
+      count = search rules;
+      is_title = search rules;
+      info = view-Array ran.listings;
+    }
