@@ -226,10 +226,7 @@ pub(crate) fn add_steps(
     let found = the_value(alloc, subject, key)?;
     let mut steps = Vec::new(alloc);
     match found {
-        Some(found) => match add_to_value(alloc, subject, found, key, kind, values, &mut steps) {
-            Ok(()) => {}
-            Err(refusal) => return Err(refusal),
-        },
+        Some(found) => add_to_value(alloc, subject, found, key, kind, values, &mut steps)?,
         None => {
             let list = written_list(alloc, kind, values)?;
             let new = written_named(alloc, key, &list)?;
@@ -322,10 +319,7 @@ pub(crate) fn remove_steps(
     let found = the_value(alloc, subject, key)?;
     let mut steps = Vec::new(alloc);
     if let Some(found) = found {
-        match remove_from_value(alloc, subject, found, key, kind, value, &mut steps) {
-            Ok(()) => {}
-            Err(refusal) => return Err(refusal),
-        }
+        remove_from_value(alloc, subject, found, key, kind, value, &mut steps)?;
     }
     Ok(steps)
 }
