@@ -166,10 +166,7 @@ fn set_in_value(
     let source = subject.source;
     match array_in(found.value) {
         Some(elements) => {
-            match only_literals(alloc, source, elements) {
-                Ok(()) => {}
-                Err(refusal) => return Err(refusal),
-            }
+            only_literals(alloc, source, elements)?;
             let list = value_place(alloc, subject.call, found.number)?;
             set_in_list(alloc, source, &list, elements, name, entry, steps)
         }
@@ -200,10 +197,7 @@ fn set_by_value(
 {
     match entries_in(found.value) {
         Some(pairs) => {
-            match only_literal_keys(alloc, subject.source, pairs) {
-                Ok(()) => {}
-                Err(refusal) => return Err(refusal),
-            }
+            only_literal_keys(alloc, subject.source, pairs)?;
             let list = value_place(alloc, subject.call, found.number)?;
             set_in_dictionary(alloc, subject.source, &list, pairs, name, value, steps)
         }
@@ -231,10 +225,7 @@ pub(crate) fn set_option_steps(
     let found = the_value(alloc, subject, OPTIONS.as_bytes())?;
     let mut steps = Vec::new(alloc);
     match found {
-        Some(found) => match set_by_value(alloc, subject, found, name, value, &mut steps) {
-            Ok(()) => {}
-            Err(refusal) => return Err(refusal),
-        },
+        Some(found) => set_by_value(alloc, subject, found, name, value, &mut steps)?,
         None => {
             let entry = option_text(alloc, name, value)?;
             let list = written_list(alloc, ElementKind::Text, &[&entry])?;
@@ -264,10 +255,7 @@ fn delete_in_value(
     let source = subject.source;
     match array_in(value) {
         Some(elements) => {
-            match only_literals(alloc, source, elements) {
-                Ok(()) => {}
-                Err(refusal) => return Err(refusal),
-            }
+            only_literals(alloc, source, elements)?;
             let entries = passing(alloc, source, Test::IsEntry(name), elements)?;
             let list = value_place(alloc, subject.call, number)?;
             remove_all(alloc, &list, entries.as_slice(), steps)?;
@@ -301,10 +289,7 @@ fn delete_by_value(
 {
     match entries_in(found.value) {
         Some(pairs) => {
-            match only_literal_keys(alloc, subject.source, pairs) {
-                Ok(()) => {}
-                Err(refusal) => return Err(refusal),
-            }
+            only_literal_keys(alloc, subject.source, pairs)?;
             let gone = passing(alloc, subject.source, Test::HasKey(name), pairs)?;
             let list = value_place(alloc, subject.call, found.number)?;
             remove_all(alloc, &list, gone.as_slice(), steps)?;
@@ -330,10 +315,7 @@ pub(crate) fn delete_option_steps(
     let found = the_value(alloc, subject, OPTIONS.as_bytes())?;
     let mut steps = Vec::new(alloc);
     if let Some(found) = found {
-        match delete_by_value(alloc, subject, found, name, &mut steps) {
-            Ok(()) => {}
-            Err(refusal) => return Err(refusal),
-        }
+        delete_by_value(alloc, subject, found, name, &mut steps)?;
     }
     Ok(steps)
 }

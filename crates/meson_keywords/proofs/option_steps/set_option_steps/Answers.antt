@@ -13,7 +13,7 @@ use Rattle.meson_keywords.specs.Options.{entries, option_text, options_key, set_
 use Rattle.meson_steps.specs.Meanings.{AreBehind}
 use Rattle.meson_keywords.proofs.StepsBehind.{all_meant, behind_is, by_none, by_some}
 use Rattle.meson_keywords.proofs.option_steps.set_option_steps.Goals as goal
-use Rattle.meson_keywords.proofs.option_steps.set_option_steps.Goals.{in-Some+in-Ok, in-None+in_ok-entry-in-None+in_ok-list-in-None+in_ok-new-in-None+in_ok-put_behind-in-None}
+use Rattle.meson_keywords.proofs.option_steps.set_option_steps.Goals.{in-Some+in_ok-set_by_value-in-Some, in-None+in_ok-entry-in-None+in_ok-list-in-None+in_ok-new-in-None+in_ok-put_behind-in-None}
 
 pub returns-in_err-found-clause-refused : goal.returns-in_err-found-clause-refused
 returns-in_err-found-clause-refused c =
@@ -24,12 +24,14 @@ returns-in_err-found-clause-refused c =
     ap (λ r. then_ok r (set_option_there s.call.now (length xs) c.args.name.now c.args.value.now))
     (ap (λ key. the_value key xs) (sym c.as_bytes.ensures.value) ∙ c.in_err-found.ensures.refused other))
 
-pub returns-in-Err-clause-refused : goal.returns-in-Err-clause-refused
-returns-in-Err-clause-refused c = λ other.
+pub returns-in_err-set_by_value-in-Some-clause-refused : goal.returns-in_err-set_by_value-in-Some-clause-refused
+returns-in_err-set_by_value-in-Some-clause-refused c =
+    let error = err_from_is_err_and c.from_residual-in_err-set_by_value-in-Some.result c.from_residual-in_err-set_by_value-in-Some.ensures.1 in
+    rw (error.1, error.2) (λ other.
     let s = c.args.subject in
     by_some (set_option_there s.call.now (length (args_view s.source.now s.args.now)) c.args.name.now c.args.value.now) options_key c.as_bytes.result.now s.source.now c.as_bytes.ensures.value s.args.now
     c.in_ok-found.found c.in_ok-found.ensures.found c.in-Some.found c.in-Some.is
-    ∙ c.in-Err.ensures.refused other
+    ∙ c.in_err-set_by_value-in-Some.ensures.refused other)
 
 pub returns-clause-meant : goal.returns-clause-meant
 returns-clause-meant c =
@@ -40,13 +42,13 @@ returns-clause-meant c =
     let start = c.new-steps.result.items in
     let after = c.match-found.steps.items in
     elim c.match-found.branch [
-      | in-Some+in-Ok w ↦
+      | in-Some+in_ok-set_by_value-in-Some w ↦
           (let v = expr_view s.source.now w.in-Some.found.value.now in
           let meant = set_by_value s.call.now w.in-Some.found.number name c.args.value.now v (entries v) in
           all_meant _ meant start after
           (by_some f options_key c.as_bytes.result.now s.source.now c.as_bytes.ensures.value s.args.now c.in_ok-found.found c.in_ok-found.ensures.found w.in-Some.found w.in-Some.is)
           c.new-steps.ensures.items
-          (subst (λ x. AreBehind meant start x.items) (sym w.steps-is) w.in-Ok.ensures.done))
+          (subst (λ x. AreBehind meant start x.items) (sym w.steps-is) w.in_ok-set_by_value-in-Some.ensures.done))
       | in-None+in_ok-entry-in-None+in_ok-list-in-None+in_ok-new-in-None+in_ok-put_behind-in-None w ↦
           (let new : Written (Argument Nowhere) = written_named options_key (written_list element.Text (entry ∷ [])) in
           let bytes =
