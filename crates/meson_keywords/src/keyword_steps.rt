@@ -7,7 +7,7 @@ ghost use Rattle.meson_syntax.specs.Tree.{Argument, Nowhere};
 ghost use Rattle.meson_syntax.specs.Grammar.{expression_words};
 ghost use Rattle.meson_syntax.specs.View.{args_view, expr_view};
 ghost use Rattle.meson_calls.specs.GoodLists.{GoodArgs};
-ghost use Rattle.meson_keywords.specs.KeywordEdits.{add_by_shape, add_steps, all_behind, all_known, behind_all, delete_steps, once_steps, passing, remove_by_shape, remove_equal, remove_steps, removed_from, says, set_steps, shape, text_in};
+ghost use Rattle.meson_keywords.specs.KeywordEdits.{add_by_shape, add_steps, add_to_lone, all_behind, all_known, behind_all, delete_steps, once_steps, passing, remove_by_shape, remove_equal, remove_steps, removed_from, says, set_steps, shape, text_in};
 ghost use Rattle.meson_keywords.specs.Keys.{written_element};
 ghost use Rattle.meson_steps.specs.ListSteps.{bare};
 ghost use Rattle.meson_steps.specs.WrittenValues.{WrittenFor, written};
@@ -171,6 +171,34 @@ pub(crate) fn once_steps(
     Ok(Vec::new(alloc))
 }
 
+/// Wraps a lone element into an array, and adds values to it.
+///
+/// # Errors
+/// It is no element of the kind, or memory is refused.
+fn add_to_lone(
+    alloc: Global,
+    subject: Subject<'_>,
+    found: Found<'_>,
+    key: &[u8],
+    kind: ElementKind,
+    values: &[&Text],
+    steps: &mut Vec<ListStep>,
+) -> Result<(), Refusal>
+    requires good { AreGood (expression_words (expr_view subject.source.now found.value.now)) }
+    requires utf8 { IsUtf8 key.now }
+    ensures done { OnOk result (AreBehind (add_to_lone subject.entry.call.now found.entry.number key.now kind (map (λ x. x.now) values.now) (text_in kind (expr_view subject.entry.source.now found.entry.value.now))) steps.old.items steps.new.items) }
+    ensures refused { IfErr result (λ e. e ≢ Refusal.OutOfMemory → add_to_lone subject.entry.call.now found.entry.number key.now kind (map (λ x. x.now) values.now) (text_in kind (expr_view subject.entry.source.now found.entry.value.now)) ≡ Err e) }
+{
+    let Found { number, value } = found;
+    if !is_element(alloc, subject.source, kind, value)? {
+        return Err(not_literal(alloc, key)?);
+    }
+    let new = other_values(alloc, subject.source, kind, value, values)?;
+    let list = value_place(alloc, subject.call, number)?;
+    push_edit(alloc, subject.call, ListEdit::Wrap(number), steps)?;
+    put_all_behind(alloc, &list, 1, kind, new.as_slice(), steps)
+}
+
 /// Adds values to the value of an argument: to an array, or to the array of a lone element.
 ///
 /// # Errors
@@ -189,21 +217,13 @@ fn add_to_value(
     ensures done { OnOk result (AreBehind (add_by_shape subject.entry.call.now found.entry.number key.now kind (map (λ x. x.now) values.now) (text_in kind (expr_view subject.entry.source.now found.entry.value.now)) (shape (expr_view subject.entry.source.now found.entry.value.now))) steps.old.items steps.new.items) }
     ensures refused { IfErr result (λ e. e ≢ Refusal.OutOfMemory → add_by_shape subject.entry.call.now found.entry.number key.now kind (map (λ x. x.now) values.now) (text_in kind (expr_view subject.entry.source.now found.entry.value.now)) (shape (expr_view subject.entry.source.now found.entry.value.now)) ≡ Err e) }
 {
-    let Found { number, value } = found;
-    let list = value_place(alloc, subject.call, number)?;
-    match array_in(value) {
+    match array_in(found.value) {
         Some(elements) => {
             let new = new_values(alloc, subject.source, kind, elements, values)?;
+            let list = value_place(alloc, subject.call, found.number)?;
             put_all_behind(alloc, &list, elements.len(), kind, new.as_slice(), steps)
         }
-        None => {
-            if !is_element(alloc, subject.source, kind, value)? {
-                return Err(not_literal(alloc, key)?);
-            }
-            let new = other_values(alloc, subject.source, kind, value, values)?;
-            push_edit(alloc, subject.call, ListEdit::Wrap(number), steps)?;
-            put_all_behind(alloc, &list, 1, kind, new.as_slice(), steps)
-        }
+        None => add_to_lone(alloc, subject, found, key, kind, values, steps),
     }
 }
 
