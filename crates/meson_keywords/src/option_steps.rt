@@ -5,11 +5,13 @@ ghost use Rattle.meson_syntax.specs.Grammar.{expression_words};
 ghost use Rattle.meson_syntax.specs.View.{args_view, expr_view};
 ghost use Rattle.meson_calls.specs.Calls.{literal};
 ghost use Rattle.meson_calls.specs.GoodLists.{GoodArgs};
-ghost use Rattle.meson_keywords.specs.KeywordEdits.{all_known, passing, shape};
+ghost use Rattle.meson_calls.specs.Project.{child};
+ghost use Rattle.meson_keywords.specs.KeywordEdits.{all_known, passing, removed_from, shape};
 ghost use Rattle.meson_steps.specs.ListSteps.{bare};
 ghost use Rattle.meson_keywords.specs.Options.{delete_by_shape, delete_by_value, delete_option_steps, entries, has_key, is_entry, is_entry_element, keys_known, option_text, options_key, set_by_shape, set_by_value, set_in_dictionary, set_in_list, set_in_lone, set_option_steps};
 ghost use Rattle.meson_calls.specs.Strings.{AreGood};
 ghost use Rattle.meson_steps.specs.Meanings.{AreBehind, AreMeant};
+ghost use Rattle.meson_keywords.specs.Tasking.{test_of};
 
 use crate::elements::{
     Found, Subject, Test, all_known, array_in, entries_in, is_element, is_entry, keys_known,
@@ -236,6 +238,25 @@ pub(crate) fn set_option_steps(
     Ok(steps)
 }
 
+/// Removes the elements of a list in an argument that pass.
+fn remove_passing(
+    alloc: Global,
+    subject: Subject<'_>,
+    number: usize,
+    elements: &[Arg],
+    test: Test<'_>,
+    steps: &mut Vec<ListStep>,
+) -> Result<(), AllocError>
+    requires { GoodArgs subject.source.now elements.now }
+    ensures { OnOk result (map Some steps.new.items ≡ map Some steps.old.items
+        ++ map bare (removed_from (child subject.entry.call.now number) 0 (passing (test_of test.entry) 0 (args_view subject.entry.source.now elements.now)))) }
+{
+    let gone = passing(alloc, subject.source, test, elements)?;
+    let list = value_place(alloc, subject.call, number)?;
+    remove_all(alloc, &list, gone.as_slice(), steps)?;
+    Ok(())
+}
+
 /// Deletes an option from the value of `default_options:`, which is no dictionary.
 ///
 /// # Errors
@@ -256,9 +277,7 @@ fn delete_in_value(
     match array_in(value) {
         Some(elements) => {
             only_literals(alloc, source, elements)?;
-            let entries = passing(alloc, source, Test::IsEntry(name), elements)?;
-            let list = value_place(alloc, subject.call, number)?;
-            remove_all(alloc, &list, entries.as_slice(), steps)?;
+            remove_passing(alloc, subject, number, elements, Test::IsEntry(name), steps)?;
         }
         None => {
             if !is_element(alloc, source, ElementKind::Text, value)? {
@@ -290,9 +309,8 @@ fn delete_by_value(
     match entries_in(found.value) {
         Some(pairs) => {
             only_literal_keys(alloc, subject.source, pairs)?;
-            let gone = passing(alloc, subject.source, Test::HasKey(name), pairs)?;
-            let list = value_place(alloc, subject.call, found.number)?;
-            remove_all(alloc, &list, gone.as_slice(), steps)?;
+            let test = Test::HasKey(name);
+            remove_passing(alloc, subject, found.number, pairs, test, steps)?;
             Ok(())
         }
         None => delete_in_value(alloc, subject, found, name, steps),

@@ -1,4 +1,4 @@
-use Rattle.std.proofs.Common.{◌∷◌, [], map, refl, sym, ap, ap₂, ◌∙◌}
+use Rattle.std.proofs.Common.{◌∷◌, [], map, refl, sym, ap, ◌∙◌}
 use Rattle.std.proofs.lemmas.Result.{err_from_is_err_and}
 use Rattle.std.specs.Prelude.{Err, Ok, Some}
 use Rattle.meson_syntax.specs.View.{args_view, expr_view}
@@ -12,13 +12,13 @@ use Rattle.meson_calls.specs.Project.{child}
 use Rattle.meson_steps.specs.Steps.{step_in}
 use Rattle.meson_keywords.proofs.StepsBehind.{behind_is, list_refused, list_taken, lone_refused, lone_taken, none_more, one_more}
 use Rattle.meson_keywords.proofs.option_steps.delete_in_value.Goals as goal
-use Rattle.meson_keywords.proofs.option_steps.delete_in_value.Goals.{in-Some+in_ok-only_literals-in-Some+in_ok-entries-in-Some+in_ok-list-in-Some+in_ok-remove_all-in-Some, in-None+in_ok-is_element-in-None+else-not-branch+in_ok-is_entry-in-None+then-branch+in_ok-push_edit-in-None, in-None+in_ok-is_element-in-None+else-not-branch+in_ok-is_entry-in-None+else-branch}
+use Rattle.meson_keywords.proofs.option_steps.delete_in_value.Goals.{in-Some+in_ok-only_literals-in-Some+in_ok-remove_passing-in-Some, in-None+in_ok-is_element-in-None+else-not-branch+in_ok-is_entry-in-None+then-branch+in_ok-push_edit-in-None, in-None+in_ok-is_element-in-None+else-not-branch+in_ok-is_entry-in-None+else-branch}
 
 pub only_literals-requires : goal.only_literals-requires
 only_literals-requires c = c.in-Some.ensures.good c.args.subject.source.now c.requires
 
-pub passing-requires : goal.passing-requires
-passing-requires c = c.in-Some.ensures.good c.args.subject.source.now c.requires
+pub remove_passing-requires : goal.remove_passing-requires
+remove_passing-requires c = c.in-Some.ensures.good c.args.subject.source.now c.requires
 
 pub returns-in_err-only_literals-in-Some-clause-refused : goal.returns-in_err-only_literals-in-Some-clause-refused
 returns-in_err-only_literals-in-Some-clause-refused c =
@@ -54,13 +54,12 @@ returns-clause-done c =
     let after = c.match-array_in.steps.items in
     let gone = step_in call (Remove call.path.steps n) in
     elim c.match-array_in.branch [
-      | in-Some+in_ok-only_literals-in-Some+in_ok-entries-in-Some+in_ok-list-in-Some+in_ok-remove_all-in-Some w ↦
+      | in-Some+in_ok-only_literals-in-Some+in_ok-remove_passing-in-Some w ↦
           (let xs = args_view source w.in-Some.elements.now in
           let entries = passing (is_entry_element name) 0 xs in
-          behind_is _ (removed_from w.in_ok-list-in-Some.list 0 w.as_slice.result.now) old after
-          (ap (delete_by_shape call n name o) (w.in-Some.ensures.shape source) ∙ list_taken (all_known element.Text xs) (removed_from (child call n) 0 entries) w.in_ok-only_literals-in-Some.ensures.all
-          ∙ ap₂ (λ p ns. Ok (removed_from p 0 ns)) (sym w.in_ok-list-in-Some.ensures) (sym (w.as_slice.ensures.value ∙ w.in_ok-entries-in-Some.ensures)))
-          (ap (λ v. map Some v.items) w.steps-is ∙ w.in_ok-remove_all-in-Some.ensures))
+          behind_is _ (removed_from (child call n) 0 entries) old after
+          (ap (delete_by_shape call n name o) (w.in-Some.ensures.shape source) ∙ list_taken (all_known element.Text xs) (removed_from (child call n) 0 entries) w.in_ok-only_literals-in-Some.ensures.all)
+          (ap (λ v. map Some v.items) w.steps-is ∙ w.in_ok-remove_passing-in-Some.ensures))
       | in-None+in_ok-is_element-in-None+else-not-branch+in_ok-is_entry-in-None+then-branch+in_ok-push_edit-in-None w ↦
           behind_is _ (gone ∷ []) old after
           (ap (delete_by_shape call n name o) (w.in-None.ensures.shape source)
