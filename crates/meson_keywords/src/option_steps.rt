@@ -8,7 +8,9 @@ ghost use Rattle.meson_calls.specs.GoodLists.{GoodArgs};
 ghost use Rattle.meson_calls.specs.Project.{child};
 ghost use Rattle.meson_keywords.specs.KeywordEdits.{all_known, passing, removed_from, shape};
 ghost use Rattle.meson_steps.specs.ListSteps.{bare};
-ghost use Rattle.meson_keywords.specs.Options.{delete_by_shape, delete_by_value, delete_option_steps, entries, has_key, is_entry, is_entry_element, keys_known, option_text, options_key, set_by_shape, set_by_value, set_in_dictionary, set_in_list, set_in_lone, set_option_steps};
+ghost use Rattle.meson_keywords.specs.Options.{delete_by_shape, delete_by_value, delete_option_steps, entries, has_key, keys_known};
+ghost use Rattle.meson_keywords.specs.Options.{is_entry, is_entry_element, option_text, options_key};
+ghost use Rattle.meson_keywords.specs.Options.{set_by_shape, set_by_value, set_in_dictionary, set_in_list, set_in_lone, set_option_steps};
 ghost use Rattle.meson_calls.specs.Strings.{AreGood};
 ghost use Rattle.meson_steps.specs.Meanings.{AreBehind, AreMeant};
 ghost use Rattle.meson_keywords.specs.Tasking.{test_of};
@@ -52,7 +54,8 @@ fn set_in_list(
     steps: &mut Vec<ListStep>,
 ) -> Result<(), Refusal>
     requires { GoodArgs source.now elements.now }
-    ensures done { OnOk result (map Some steps.new.items ≡ map Some steps.old.items ++ map bare (set_in_list list.now (length elements.now) entry.now (passing (is_entry_element name.now) 0 (args_view source.now elements.now)))) }
+    ensures done { let same = passing (is_entry_element name.now) 0 (args_view source.now elements.now) in
+        OnOk result (map Some steps.new.items ≡ map Some steps.old.items ++ map bare (set_in_list list.now (length elements.now) entry.now same)) }
     ensures refused { IfErr result (λ e. e ≡ Refusal.OutOfMemory) }
 {
     let entries = passing(alloc, source, Test::IsEntry(name), elements)?;
@@ -77,7 +80,8 @@ fn set_in_lone(
     steps: &mut Vec<ListStep>,
 ) -> Result<(), Refusal>
     requires { AreGood (expression_words (expr_view subject.source.now found.value.now)) }
-    ensures done { OnOk result (map Some steps.new.items ≡ map Some steps.old.items ++ map bare (set_in_lone subject.entry.call.now found.entry.number entry.now (is_entry name.now (literal (expr_view subject.entry.source.now found.entry.value.now))))) }
+    ensures done { let same = is_entry name.now (literal (expr_view subject.entry.source.now found.entry.value.now)) in
+        OnOk result (map Some steps.new.items ≡ map Some steps.old.items ++ map bare (set_in_lone subject.entry.call.now found.entry.number entry.now same)) }
     ensures refused { IfErr result (λ e. e ≡ Refusal.OutOfMemory) }
 {
     let Found { number, value } = found;
@@ -99,7 +103,8 @@ fn set_in_lone(
 fn only_literals(alloc: Global, source: &[u8], elements: &[Arg]) -> Result<(), Refusal>
     requires { GoodArgs source.now elements.now }
     ensures all { OnOk result (all_known ElementKind.Text (args_view source.now elements.now) ≡ true) }
-    ensures refused { IfErr result (λ e. e ≢ Refusal.OutOfMemory → (e ≡ Refusal.NotLiteral options_key) × (all_known ElementKind.Text (args_view source.now elements.now) ≡ false)) }
+    ensures refused { let args = args_view source.now elements.now in
+        IfErr result (λ e. e ≢ Refusal.OutOfMemory → (e ≡ Refusal.NotLiteral options_key) × (all_known ElementKind.Text args ≡ false)) }
 {
     if !all_known(alloc, source, ElementKind::Text, elements)? {
         return Err(not_literal(alloc, OPTIONS.as_bytes())?);
@@ -118,7 +123,8 @@ fn set_in_dictionary(
     steps: &mut Vec<ListStep>,
 ) -> Result<(), Refusal>
     requires { GoodArgs source.now pairs.now }
-    ensures done { OnOk result (map Some steps.new.items ≡ map Some steps.old.items ++ map bare (set_in_dictionary list.now (length pairs.now) name.now value.now (passing (has_key name.now) 0 (args_view source.now pairs.now)))) }
+    ensures done { let same = passing (has_key name.now) 0 (args_view source.now pairs.now) in
+        OnOk result (map Some steps.new.items ≡ map Some steps.old.items ++ map bare (set_in_dictionary list.now (length pairs.now) name.now value.now same)) }
     ensures refused { IfErr result (λ e. e ≡ Refusal.OutOfMemory) }
 {
     let same = passing(alloc, source, Test::HasKey(name), pairs)?;
@@ -141,7 +147,8 @@ fn set_in_dictionary(
 fn only_literal_keys(alloc: Global, source: &[u8], pairs: &[Arg]) -> Result<(), Refusal>
     requires { GoodArgs source.now pairs.now }
     ensures all { OnOk result (keys_known (args_view source.now pairs.now) ≡ true) }
-    ensures refused { IfErr result (λ e. e ≢ Refusal.OutOfMemory → (e ≡ Refusal.NotLiteral options_key) × (keys_known (args_view source.now pairs.now) ≡ false)) }
+    ensures refused { let args = args_view source.now pairs.now in
+        IfErr result (λ e. e ≢ Refusal.OutOfMemory → (e ≡ Refusal.NotLiteral options_key) × (keys_known args ≡ false)) }
 {
     if !keys_known(alloc, source, pairs)? {
         return Err(not_literal(alloc, OPTIONS.as_bytes())?);
@@ -162,8 +169,10 @@ fn set_in_value(
     steps: &mut Vec<ListStep>,
 ) -> Result<(), Refusal>
     requires { AreGood (expression_words (expr_view subject.source.now found.value.now)) }
-    ensures done { OnOk result (AreBehind (set_by_shape subject.entry.call.now found.entry.number name.now entry.now (literal (expr_view subject.entry.source.now found.entry.value.now)) (shape (expr_view subject.entry.source.now found.entry.value.now))) steps.old.items steps.new.items) }
-    ensures refused { IfErr result (λ e. e ≢ Refusal.OutOfMemory → set_by_shape subject.entry.call.now found.entry.number name.now entry.now (literal (expr_view subject.entry.source.now found.entry.value.now)) (shape (expr_view subject.entry.source.now found.entry.value.now)) ≡ Err e) }
+    ensures done { let held = expr_view subject.entry.source.now found.entry.value.now in let call = subject.entry.call.now in
+        OnOk result (AreBehind (set_by_shape call found.entry.number name.now entry.now (literal held) (shape held)) steps.old.items steps.new.items) }
+    ensures refused { let held = expr_view subject.entry.source.now found.entry.value.now in let call = subject.entry.call.now in
+        IfErr result (λ e. e ≢ Refusal.OutOfMemory → set_by_shape call found.entry.number name.now entry.now (literal held) (shape held) ≡ Err e) }
 {
     let source = subject.source;
     match array_in(found.value) {
@@ -194,8 +203,10 @@ fn set_by_value(
     steps: &mut Vec<ListStep>,
 ) -> Result<(), Refusal>
     requires { AreGood (expression_words (expr_view subject.source.now found.value.now)) }
-    ensures done { OnOk result (AreBehind (set_by_value subject.entry.call.now found.entry.number name.now value.now (expr_view subject.entry.source.now found.entry.value.now) (entries (expr_view subject.entry.source.now found.entry.value.now))) steps.old.items steps.new.items) }
-    ensures refused { IfErr result (λ e. e ≢ Refusal.OutOfMemory → set_by_value subject.entry.call.now found.entry.number name.now value.now (expr_view subject.entry.source.now found.entry.value.now) (entries (expr_view subject.entry.source.now found.entry.value.now)) ≡ Err e) }
+    ensures done { let held = expr_view subject.entry.source.now found.entry.value.now in let call = subject.entry.call.now in
+        OnOk result (AreBehind (set_by_value call found.entry.number name.now value.now held (entries held)) steps.old.items steps.new.items) }
+    ensures refused { let held = expr_view subject.entry.source.now found.entry.value.now in
+        IfErr result (λ e. e ≢ Refusal.OutOfMemory → set_by_value subject.entry.call.now found.entry.number name.now value.now held (entries held) ≡ Err e) }
 {
     match entries_in(found.value) {
         Some(pairs) => {
@@ -221,8 +232,10 @@ pub(crate) fn set_option_steps(
     value: &str,
 ) -> Result<Vec<ListStep>, Refusal>
     requires { GoodArgs subject.source.now subject.args.now }
-    ensures meant { IfOk result (λ steps. AreMeant (set_option_steps subject.entry.call.now (args_view subject.entry.source.now subject.entry.args.now) name.now value.now) steps.items) }
-    ensures refused { IfErr result (λ e. e ≢ Refusal.OutOfMemory → set_option_steps subject.entry.call.now (args_view subject.entry.source.now subject.entry.args.now) name.now value.now ≡ Err e) }
+    ensures meant { let args = args_view subject.entry.source.now subject.entry.args.now in
+        IfOk result (λ steps. AreMeant (set_option_steps subject.entry.call.now args name.now value.now) steps.items) }
+    ensures refused { let args = args_view subject.entry.source.now subject.entry.args.now in
+        IfErr result (λ e. e ≢ Refusal.OutOfMemory → set_option_steps subject.entry.call.now args name.now value.now ≡ Err e) }
 {
     let found = the_value(alloc, subject, OPTIONS.as_bytes())?;
     let mut steps = Vec::new(alloc);
@@ -248,8 +261,8 @@ fn remove_passing(
     steps: &mut Vec<ListStep>,
 ) -> Result<(), AllocError>
     requires { GoodArgs subject.source.now elements.now }
-    ensures { OnOk result (map Some steps.new.items ≡ map Some steps.old.items
-        ++ map bare (removed_from (child subject.entry.call.now number) 0 (passing (test_of test.entry) 0 (args_view subject.entry.source.now elements.now)))) }
+    ensures { let gone = passing (test_of test.entry) 0 (args_view subject.entry.source.now elements.now) in
+        OnOk result (map Some steps.new.items ≡ map Some steps.old.items ++ map bare (removed_from (child subject.entry.call.now number) 0 gone)) }
 {
     let gone = passing(alloc, subject.source, test, elements)?;
     let list = value_place(alloc, subject.call, number)?;
@@ -269,8 +282,10 @@ fn delete_in_value(
     steps: &mut Vec<ListStep>,
 ) -> Result<(), Refusal>
     requires { AreGood (expression_words (expr_view subject.source.now found.value.now)) }
-    ensures done { OnOk result (AreBehind (delete_by_shape subject.entry.call.now found.entry.number name.now (literal (expr_view subject.entry.source.now found.entry.value.now)) (shape (expr_view subject.entry.source.now found.entry.value.now))) steps.old.items steps.new.items) }
-    ensures refused { IfErr result (λ e. e ≢ Refusal.OutOfMemory → delete_by_shape subject.entry.call.now found.entry.number name.now (literal (expr_view subject.entry.source.now found.entry.value.now)) (shape (expr_view subject.entry.source.now found.entry.value.now)) ≡ Err e) }
+    ensures done { let held = expr_view subject.entry.source.now found.entry.value.now in let call = subject.entry.call.now in
+        OnOk result (AreBehind (delete_by_shape call found.entry.number name.now (literal held) (shape held)) steps.old.items steps.new.items) }
+    ensures refused { let held = expr_view subject.entry.source.now found.entry.value.now in
+        IfErr result (λ e. e ≢ Refusal.OutOfMemory → delete_by_shape subject.entry.call.now found.entry.number name.now (literal held) (shape held) ≡ Err e) }
 {
     let Found { number, value } = found;
     let source = subject.source;
@@ -303,8 +318,10 @@ fn delete_by_value(
     steps: &mut Vec<ListStep>,
 ) -> Result<(), Refusal>
     requires { AreGood (expression_words (expr_view subject.source.now found.value.now)) }
-    ensures done { OnOk result (AreBehind (delete_by_value subject.entry.call.now found.entry.number name.now (expr_view subject.entry.source.now found.entry.value.now) (entries (expr_view subject.entry.source.now found.entry.value.now))) steps.old.items steps.new.items) }
-    ensures refused { IfErr result (λ e. e ≢ Refusal.OutOfMemory → delete_by_value subject.entry.call.now found.entry.number name.now (expr_view subject.entry.source.now found.entry.value.now) (entries (expr_view subject.entry.source.now found.entry.value.now)) ≡ Err e) }
+    ensures done { let held = expr_view subject.entry.source.now found.entry.value.now in
+        OnOk result (AreBehind (delete_by_value subject.entry.call.now found.entry.number name.now held (entries held)) steps.old.items steps.new.items) }
+    ensures refused { let held = expr_view subject.entry.source.now found.entry.value.now in
+        IfErr result (λ e. e ≢ Refusal.OutOfMemory → delete_by_value subject.entry.call.now found.entry.number name.now held (entries held) ≡ Err e) }
 {
     match entries_in(found.value) {
         Some(pairs) => {
@@ -327,8 +344,10 @@ pub(crate) fn delete_option_steps(
     name: &Text,
 ) -> Result<Vec<ListStep>, Refusal>
     requires { GoodArgs subject.source.now subject.args.now }
-    ensures meant { IfOk result (λ steps. AreMeant (delete_option_steps subject.entry.call.now (args_view subject.entry.source.now subject.entry.args.now) name.now) steps.items) }
-    ensures refused { IfErr result (λ e. e ≢ Refusal.OutOfMemory → delete_option_steps subject.entry.call.now (args_view subject.entry.source.now subject.entry.args.now) name.now ≡ Err e) }
+    ensures meant { let args = args_view subject.entry.source.now subject.entry.args.now in
+        IfOk result (λ steps. AreMeant (delete_option_steps subject.entry.call.now args name.now) steps.items) }
+    ensures refused { let args = args_view subject.entry.source.now subject.entry.args.now in
+        IfErr result (λ e. e ≢ Refusal.OutOfMemory → delete_option_steps subject.entry.call.now args name.now ≡ Err e) }
 {
     let found = the_value(alloc, subject, OPTIONS.as_bytes())?;
     let mut steps = Vec::new(alloc);
