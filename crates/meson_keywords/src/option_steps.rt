@@ -1,12 +1,13 @@
 //! The steps by which default options are set and deleted.
 
-ghost use Rattle.std.specs.Prelude.{◌≡◌, ◌≢◌, ◌++◌, Err, IfErr, IfOk, OnOk, Some, false, length, map, true};
+ghost use Rattle.std.specs.Prelude.{◌≡◌, ◌≢◌, ◌++◌, ◌∷◌, [], Err, IfErr, IfOk, OnOk, Some, false, length, map, true};
 ghost use Rattle.meson_syntax.specs.Grammar.{expression_words};
 ghost use Rattle.meson_syntax.specs.View.{args_view, expr_view};
 ghost use Rattle.meson_calls.specs.Calls.{literal};
 ghost use Rattle.meson_calls.specs.GoodLists.{GoodArgs};
 ghost use Rattle.meson_calls.specs.Project.{child};
 ghost use Rattle.meson_keywords.specs.KeywordEdits.{all_known, passing, removed_from, shape};
+ghost use Rattle.meson_keywords.specs.Keys.{written_list, written_named};
 ghost use Rattle.meson_steps.specs.ListSteps.{bare};
 ghost use Rattle.meson_keywords.specs.Options.{delete_by_shape, delete_by_value, delete_option_steps, entries, has_key, keys_known};
 ghost use Rattle.meson_keywords.specs.Options.{is_entry, is_entry_element, option_text, options_key};
@@ -24,7 +25,7 @@ use crate::keyword_steps::{not_literal, push_edit, put_behind, remove_all};
 use crate::writing::{written_element, written_list, written_literal, written_named, written_pair};
 use meson_calls::place::value_place;
 use meson_calls::{CallRef, Refusal};
-use meson_splice::Text;
+use meson_splice::{Bytes, Text};
 use meson_steps::step::{ListEdit, ListStep};
 use meson_syntax::Arg;
 use std::alloc::{AllocError, Global};
@@ -41,6 +42,17 @@ fn option_text(alloc: Global, name: &Text, value: &str) -> Result<Text, AllocErr
     text.push_str("=")?;
     text.push_str(value)?;
     Ok(Text::of(text))
+}
+
+/// `default_options: ['NAME=VALUE']`.
+fn written_options(alloc: Global, name: &Text, value: &str) -> Result<Bytes, Refusal>
+    ensures done { let entries = option_text name.now value.now ∷ [] in
+        IfOk result (λ b. b ≡ (written_named options_key (written_list ElementKind.Text entries)).bytes) }
+    ensures refused { IfErr result (λ e. e ≡ Refusal.OutOfMemory) }
+{
+    let entry = option_text(alloc, name, value)?;
+    let list = written_list(alloc, ElementKind::Text, &[&entry])?;
+    Ok(written_named(alloc, OPTIONS.as_bytes(), &list)?)
 }
 
 /// The first entry of the option in a list becomes the new one and later ones go; without one it goes behind all others.
@@ -242,9 +254,7 @@ pub(crate) fn set_option_steps(
     match found {
         Some(found) => set_by_value(alloc, subject, found, name, value, &mut steps)?,
         None => {
-            let entry = option_text(alloc, name, value)?;
-            let list = written_list(alloc, ElementKind::Text, &[&entry])?;
-            let new = written_named(alloc, OPTIONS.as_bytes(), &list)?;
+            let new = written_options(alloc, name, value)?;
             put_behind(alloc, subject.call, subject.args.len(), new, &mut steps)?;
         }
     }
