@@ -116,10 +116,7 @@ fn tasks_done(
     ensures refused { (ts : List changes.Task) → TasksAre tasks.entry.items ts → IfErr result (λ e. e ≢ Refusal.OutOfMemory → MayNotBeDone (so_far work.old) (tasks_steps call.now ts (plain_trees (so_far work.old))) e) }
 {
     for task in tasks {
-        match do_task(alloc, work, call, task) {
-            Ok(()) => {}
-            Err(refusal) => return Err(refusal),
-        }
+        do_task(alloc, work, call, task)?;
     }
     work.within_limits()
 }

@@ -7,7 +7,8 @@ ghost use Rattle.meson_syntax.specs.Tree.{Argument, Nowhere};
 ghost use Rattle.meson_syntax.specs.Grammar.{expression_words};
 ghost use Rattle.meson_syntax.specs.View.{args_view, expr_view};
 ghost use Rattle.meson_calls.specs.GoodLists.{GoodArgs};
-ghost use Rattle.meson_keywords.specs.KeywordEdits.{add_by_shape, add_steps, all_behind, all_known, behind_all, delete_steps, once_steps, passing, remove_by_shape, remove_equal, remove_steps, removed_from, says, set_steps, shape, text_in};
+ghost use Rattle.meson_keywords.specs.KeywordEdits.{add_by_shape, add_steps, add_to_lone, all_behind, all_known, behind_all, delete_steps, once_steps};
+ghost use Rattle.meson_keywords.specs.KeywordEdits.{passing, remove_by_shape, remove_equal, remove_steps, removed_from, says, set_steps, shape, text_in};
 ghost use Rattle.meson_keywords.specs.Keys.{written_element};
 ghost use Rattle.meson_steps.specs.ListSteps.{bare};
 ghost use Rattle.meson_steps.specs.WrittenValues.{WrittenFor, written};
@@ -48,7 +49,8 @@ pub(crate) fn put_behind(
     new: Bytes,
     steps: &mut Vec<ListStep>,
 ) -> Result<(), AllocError>
-    ensures { (w : Written (Argument Nowhere)) → w.bytes ≡ new → OnOk result (map Some steps.new.items ≡ map Some steps.old.items ++ bare (behind_all list.now many w) ∷ []) }
+    ensures { (w : Written (Argument Nowhere)) → w.bytes ≡ new →
+        OnOk result (map Some steps.new.items ≡ map Some steps.old.items ++ bare (behind_all list.now many w) ∷ []) }
 {
     let edit = if many == 0 {
         ListEdit::First(new)
@@ -68,7 +70,8 @@ fn put_all_behind(
     steps: &mut Vec<ListStep>,
 ) -> Result<(), Refusal>
     requires { many < 2 ^ 63 }
-    ensures done { OnOk result (map Some steps.new.items ≡ map Some steps.old.items ++ map bare (all_behind list.now many (map (written_element kind) (map (λ x. x.now) texts.now)))) }
+    ensures done { let new = map (written_element kind) (map (λ x. x.now) texts.now) in
+        OnOk result (map Some steps.new.items ≡ map Some steps.old.items ++ map bare (all_behind list.now many new)) }
     ensures refused { IfErr result (λ e. e ≡ Refusal.OutOfMemory) }
 {
     for i in 0..texts.len() {
@@ -113,8 +116,10 @@ pub(crate) fn set_steps(
     new: Bytes,
 ) -> Result<Vec<ListStep>, Refusal>
     requires { GoodArgs subject.source.now subject.args.now }
-    ensures meant { (w : WrittenFor new) → IfOk result (λ steps. AreMeant (set_steps subject.entry.call.now (args_view subject.entry.source.now subject.entry.args.now) key.now (written new w)) steps.items) }
-    ensures refused { (w : WrittenFor new) → IfErr result (λ e. e ≢ Refusal.OutOfMemory → set_steps subject.entry.call.now (args_view subject.entry.source.now subject.entry.args.now) key.now (written new w) ≡ Err e) }
+    ensures meant { let args = args_view subject.entry.source.now subject.entry.args.now in (w : WrittenFor new) →
+        IfOk result (λ steps. AreMeant (set_steps subject.entry.call.now args key.now (written new w)) steps.items) }
+    ensures refused { let args = args_view subject.entry.source.now subject.entry.args.now in (w : WrittenFor new) →
+        IfErr result (λ e. e ≢ Refusal.OutOfMemory → set_steps subject.entry.call.now args key.now (written new w) ≡ Err e) }
 {
     let key = key.get().as_bytes();
     let found = the_value(alloc, subject, key)?;
@@ -142,8 +147,10 @@ pub(crate) fn delete_steps(
     key: &Text,
 ) -> Result<Vec<ListStep>, Refusal>
     requires { GoodArgs subject.source.now subject.args.now }
-    ensures meant { IfOk result (λ steps. AreMeant (delete_steps subject.entry.call.now (args_view subject.entry.source.now subject.entry.args.now) key.now) steps.items) }
-    ensures refused { IfErr result (λ e. e ≢ Refusal.OutOfMemory → delete_steps subject.entry.call.now (args_view subject.entry.source.now subject.entry.args.now) key.now ≡ Err e) }
+    ensures meant { let args = args_view subject.entry.source.now subject.entry.args.now in
+        IfOk result (λ steps. AreMeant (delete_steps subject.entry.call.now args key.now) steps.items) }
+    ensures refused { let args = args_view subject.entry.source.now subject.entry.args.now in
+        IfErr result (λ e. e ≢ Refusal.OutOfMemory → delete_steps subject.entry.call.now args key.now ≡ Err e) }
 {
     let found = the_value(alloc, subject, key.get().as_bytes())?;
     let mut steps = Vec::new(alloc);
@@ -171,6 +178,36 @@ pub(crate) fn once_steps(
     Ok(Vec::new(alloc))
 }
 
+/// Wraps a lone element into an array, and adds values to it.
+///
+/// # Errors
+/// It is no element of the kind, or memory is refused.
+fn add_to_lone(
+    alloc: Global,
+    subject: Subject<'_>,
+    found: Found<'_>,
+    key: &[u8],
+    kind: ElementKind,
+    values: &[&Text],
+    steps: &mut Vec<ListStep>,
+) -> Result<(), Refusal>
+    requires good { AreGood (expression_words (expr_view subject.source.now found.value.now)) }
+    requires utf8 { IsUtf8 key.now }
+    ensures done { let held = expr_view subject.entry.source.now found.entry.value.now in let texts = map (λ x. x.now) values.now in OnOk result (AreBehind
+        (add_to_lone subject.entry.call.now found.entry.number key.now kind texts (text_in kind held)) steps.old.items steps.new.items) }
+    ensures refused { let held = expr_view subject.entry.source.now found.entry.value.now in let texts = map (λ x. x.now) values.now in
+        IfErr result (λ e. e ≢ Refusal.OutOfMemory → add_to_lone subject.entry.call.now found.entry.number key.now kind texts (text_in kind held) ≡ Err e) }
+{
+    let Found { number, value } = found;
+    if !is_element(alloc, subject.source, kind, value)? {
+        return Err(not_literal(alloc, key)?);
+    }
+    let new = other_values(alloc, subject.source, kind, value, values)?;
+    let list = value_place(alloc, subject.call, number)?;
+    push_edit(alloc, subject.call, ListEdit::Wrap(number), steps)?;
+    put_all_behind(alloc, &list, 1, kind, new.as_slice(), steps)
+}
+
 /// Adds values to the value of an argument: to an array, or to the array of a lone element.
 ///
 /// # Errors
@@ -186,24 +223,18 @@ fn add_to_value(
 ) -> Result<(), Refusal>
     requires good { AreGood (expression_words (expr_view subject.source.now found.value.now)) }
     requires utf8 { IsUtf8 key.now }
-    ensures done { OnOk result (AreBehind (add_by_shape subject.entry.call.now found.entry.number key.now kind (map (λ x. x.now) values.now) (text_in kind (expr_view subject.entry.source.now found.entry.value.now)) (shape (expr_view subject.entry.source.now found.entry.value.now))) steps.old.items steps.new.items) }
-    ensures refused { IfErr result (λ e. e ≢ Refusal.OutOfMemory → add_by_shape subject.entry.call.now found.entry.number key.now kind (map (λ x. x.now) values.now) (text_in kind (expr_view subject.entry.source.now found.entry.value.now)) (shape (expr_view subject.entry.source.now found.entry.value.now)) ≡ Err e) }
+    ensures done { let held = expr_view subject.entry.source.now found.entry.value.now in let texts = map (λ x. x.now) values.now in OnOk result (AreBehind
+        (add_by_shape subject.entry.call.now found.entry.number key.now kind texts (text_in kind held) (shape held)) steps.old.items steps.new.items) }
+    ensures refused { let held = expr_view subject.entry.source.now found.entry.value.now in let texts = map (λ x. x.now) values.now in IfErr result (λ e.
+        e ≢ Refusal.OutOfMemory → add_by_shape subject.entry.call.now found.entry.number key.now kind texts (text_in kind held) (shape held) ≡ Err e) }
 {
-    let Found { number, value } = found;
-    let list = value_place(alloc, subject.call, number)?;
-    match array_in(value) {
+    match array_in(found.value) {
         Some(elements) => {
             let new = new_values(alloc, subject.source, kind, elements, values)?;
+            let list = value_place(alloc, subject.call, found.number)?;
             put_all_behind(alloc, &list, elements.len(), kind, new.as_slice(), steps)
         }
-        None => {
-            if !is_element(alloc, subject.source, kind, value)? {
-                return Err(not_literal(alloc, key)?);
-            }
-            let new = other_values(alloc, subject.source, kind, value, values)?;
-            push_edit(alloc, subject.call, ListEdit::Wrap(number), steps)?;
-            put_all_behind(alloc, &list, 1, kind, new.as_slice(), steps)
-        }
+        None => add_to_lone(alloc, subject, found, key, kind, values, steps),
     }
 }
 
@@ -219,17 +250,16 @@ pub(crate) fn add_steps(
     values: &[&Text],
 ) -> Result<Vec<ListStep>, Refusal>
     requires { GoodArgs subject.source.now subject.args.now }
-    ensures meant { IfOk result (λ steps. AreMeant (add_steps subject.entry.call.now (args_view subject.entry.source.now subject.entry.args.now) key.now kind (map (λ x. x.now) values.now)) steps.items) }
-    ensures refused { IfErr result (λ e. e ≢ Refusal.OutOfMemory → add_steps subject.entry.call.now (args_view subject.entry.source.now subject.entry.args.now) key.now kind (map (λ x. x.now) values.now) ≡ Err e) }
+    ensures meant { let args = args_view subject.entry.source.now subject.entry.args.now in let texts = map (λ x. x.now) values.now in
+        IfOk result (λ steps. AreMeant (add_steps subject.entry.call.now args key.now kind texts) steps.items) }
+    ensures refused { let args = args_view subject.entry.source.now subject.entry.args.now in let texts = map (λ x. x.now) values.now in
+        IfErr result (λ e. e ≢ Refusal.OutOfMemory → add_steps subject.entry.call.now args key.now kind texts ≡ Err e) }
 {
     let key = key.get().as_bytes();
     let found = the_value(alloc, subject, key)?;
     let mut steps = Vec::new(alloc);
     match found {
-        Some(found) => match add_to_value(alloc, subject, found, key, kind, values, &mut steps) {
-            Ok(()) => {}
-            Err(refusal) => return Err(refusal),
-        },
+        Some(found) => add_to_value(alloc, subject, found, key, kind, values, &mut steps)?,
         None => {
             let list = written_list(alloc, kind, values)?;
             let new = written_named(alloc, key, &list)?;
@@ -255,8 +285,10 @@ fn remove_from_array(
 ) -> Result<(), Refusal>
     requires good { GoodArgs source.now elements.now }
     requires utf8 { IsUtf8 key.now }
-    ensures done { OnOk result (AreBehind (remove_equal list.now key.now (all_known kind (args_view source.now elements.now)) (passing (says kind value.now) 0 (args_view source.now elements.now))) steps.old.items steps.new.items) }
-    ensures refused { IfErr result (λ e. e ≢ Refusal.OutOfMemory → remove_equal list.now key.now (all_known kind (args_view source.now elements.now)) (passing (says kind value.now) 0 (args_view source.now elements.now)) ≡ Err e) }
+    ensures done { let args = args_view source.now elements.now in
+        OnOk result (AreBehind (remove_equal list.now key.now (all_known kind args) (passing (says kind value.now) 0 args)) steps.old.items steps.new.items) }
+    ensures refused { let args = args_view source.now elements.now in
+        IfErr result (λ e. e ≢ Refusal.OutOfMemory → remove_equal list.now key.now (all_known kind args) (passing (says kind value.now) 0 args) ≡ Err e) }
 {
     let equal = passing(alloc, source, Test::Says(kind, value), elements)?;
     if equal.as_slice().is_empty() && !all_known(alloc, source, kind, elements)? {
@@ -281,8 +313,10 @@ fn remove_from_value(
 ) -> Result<(), Refusal>
     requires good { AreGood (expression_words (expr_view subject.source.now found.value.now)) }
     requires utf8 { IsUtf8 key.now }
-    ensures done { OnOk result (AreBehind (remove_by_shape subject.entry.call.now found.entry.number key.now kind text.now (text_in kind (expr_view subject.entry.source.now found.entry.value.now)) (shape (expr_view subject.entry.source.now found.entry.value.now))) steps.old.items steps.new.items) }
-    ensures refused { IfErr result (λ e. e ≢ Refusal.OutOfMemory → remove_by_shape subject.entry.call.now found.entry.number key.now kind text.now (text_in kind (expr_view subject.entry.source.now found.entry.value.now)) (shape (expr_view subject.entry.source.now found.entry.value.now)) ≡ Err e) }
+    ensures done { let held = expr_view subject.entry.source.now found.entry.value.now in let call = subject.entry.call.now in OnOk result (AreBehind
+        (remove_by_shape call found.entry.number key.now kind text.now (text_in kind held) (shape held)) steps.old.items steps.new.items) }
+    ensures refused { let held = expr_view subject.entry.source.now found.entry.value.now in let call = subject.entry.call.now in
+        IfErr result (λ e. e ≢ Refusal.OutOfMemory → remove_by_shape call found.entry.number key.now kind text.now (text_in kind held) (shape held) ≡ Err e) }
 {
     let Found { number, value } = found;
     let source = subject.source;
@@ -315,17 +349,16 @@ pub(crate) fn remove_steps(
     value: &Text,
 ) -> Result<Vec<ListStep>, Refusal>
     requires { GoodArgs subject.source.now subject.args.now }
-    ensures meant { IfOk result (λ steps. AreMeant (remove_steps subject.entry.call.now (args_view subject.entry.source.now subject.entry.args.now) key.now kind value.now) steps.items) }
-    ensures refused { IfErr result (λ e. e ≢ Refusal.OutOfMemory → remove_steps subject.entry.call.now (args_view subject.entry.source.now subject.entry.args.now) key.now kind value.now ≡ Err e) }
+    ensures meant { let args = args_view subject.entry.source.now subject.entry.args.now in
+        IfOk result (λ steps. AreMeant (remove_steps subject.entry.call.now args key.now kind value.now) steps.items) }
+    ensures refused { let args = args_view subject.entry.source.now subject.entry.args.now in
+        IfErr result (λ e. e ≢ Refusal.OutOfMemory → remove_steps subject.entry.call.now args key.now kind value.now ≡ Err e) }
 {
     let key = key.get().as_bytes();
     let found = the_value(alloc, subject, key)?;
     let mut steps = Vec::new(alloc);
     if let Some(found) = found {
-        match remove_from_value(alloc, subject, found, key, kind, value, &mut steps) {
-            Ok(()) => {}
-            Err(refusal) => return Err(refusal),
-        }
+        remove_from_value(alloc, subject, found, key, kind, value, &mut steps)?;
     }
     Ok(steps)
 }

@@ -1,15 +1,20 @@
 //! The steps by which default options are set and deleted.
 
-ghost use Rattle.std.specs.Prelude.{◌≡◌, ◌≢◌, ◌++◌, Err, IfErr, IfOk, OnOk, Some, false, length, map, true};
+ghost use Rattle.std.specs.Prelude.{◌≡◌, ◌≢◌, ◌++◌, ◌∷◌, [], Err, IfErr, IfOk, OnOk, Some, false, length, map, true};
 ghost use Rattle.meson_syntax.specs.Grammar.{expression_words};
 ghost use Rattle.meson_syntax.specs.View.{args_view, expr_view};
 ghost use Rattle.meson_calls.specs.Calls.{literal};
 ghost use Rattle.meson_calls.specs.GoodLists.{GoodArgs};
-ghost use Rattle.meson_keywords.specs.KeywordEdits.{all_known, passing, shape};
+ghost use Rattle.meson_calls.specs.Project.{child};
+ghost use Rattle.meson_keywords.specs.KeywordEdits.{all_known, passing, removed_from, shape};
+ghost use Rattle.meson_keywords.specs.Keys.{written_list, written_named};
 ghost use Rattle.meson_steps.specs.ListSteps.{bare};
-ghost use Rattle.meson_keywords.specs.Options.{delete_by_shape, delete_by_value, delete_option_steps, entries, has_key, is_entry, is_entry_element, keys_known, option_text, options_key, set_by_shape, set_by_value, set_in_dictionary, set_in_list, set_in_lone, set_option_steps};
+ghost use Rattle.meson_keywords.specs.Options.{delete_by_shape, delete_by_value, delete_option_steps, entries, has_key, keys_known};
+ghost use Rattle.meson_keywords.specs.Options.{is_entry, is_entry_element, option_text, options_key};
+ghost use Rattle.meson_keywords.specs.Options.{set_by_shape, set_by_value, set_in_dictionary, set_in_list, set_in_lone, set_option_steps};
 ghost use Rattle.meson_calls.specs.Strings.{AreGood};
 ghost use Rattle.meson_steps.specs.Meanings.{AreBehind, AreMeant};
+ghost use Rattle.meson_keywords.specs.Tasking.{test_of};
 
 use crate::elements::{
     Found, Subject, Test, all_known, array_in, entries_in, is_element, is_entry, keys_known,
@@ -20,7 +25,7 @@ use crate::keyword_steps::{not_literal, push_edit, put_behind, remove_all};
 use crate::writing::{written_element, written_list, written_literal, written_named, written_pair};
 use meson_calls::place::value_place;
 use meson_calls::{CallRef, Refusal};
-use meson_splice::Text;
+use meson_splice::{Bytes, Text};
 use meson_steps::step::{ListEdit, ListStep};
 use meson_syntax::Arg;
 use std::alloc::{AllocError, Global};
@@ -39,6 +44,17 @@ fn option_text(alloc: Global, name: &Text, value: &str) -> Result<Text, AllocErr
     Ok(Text::of(text))
 }
 
+/// `default_options: ['NAME=VALUE']`.
+fn written_options(alloc: Global, name: &Text, value: &str) -> Result<Bytes, Refusal>
+    ensures done { let entries = option_text name.now value.now ∷ [] in
+        IfOk result (λ b. b ≡ (written_named options_key (written_list ElementKind.Text entries)).bytes) }
+    ensures refused { IfErr result (λ e. e ≡ Refusal.OutOfMemory) }
+{
+    let entry = option_text(alloc, name, value)?;
+    let list = written_list(alloc, ElementKind::Text, &[&entry])?;
+    Ok(written_named(alloc, OPTIONS.as_bytes(), &list)?)
+}
+
 /// The first entry of the option in a list becomes the new one and later ones go; without one it goes behind all others.
 fn set_in_list(
     alloc: Global,
@@ -50,7 +66,8 @@ fn set_in_list(
     steps: &mut Vec<ListStep>,
 ) -> Result<(), Refusal>
     requires { GoodArgs source.now elements.now }
-    ensures done { OnOk result (map Some steps.new.items ≡ map Some steps.old.items ++ map bare (set_in_list list.now (length elements.now) entry.now (passing (is_entry_element name.now) 0 (args_view source.now elements.now)))) }
+    ensures done { let same = passing (is_entry_element name.now) 0 (args_view source.now elements.now) in
+        OnOk result (map Some steps.new.items ≡ map Some steps.old.items ++ map bare (set_in_list list.now (length elements.now) entry.now same)) }
     ensures refused { IfErr result (λ e. e ≡ Refusal.OutOfMemory) }
 {
     let entries = passing(alloc, source, Test::IsEntry(name), elements)?;
@@ -75,7 +92,8 @@ fn set_in_lone(
     steps: &mut Vec<ListStep>,
 ) -> Result<(), Refusal>
     requires { AreGood (expression_words (expr_view subject.source.now found.value.now)) }
-    ensures done { OnOk result (map Some steps.new.items ≡ map Some steps.old.items ++ map bare (set_in_lone subject.entry.call.now found.entry.number entry.now (is_entry name.now (literal (expr_view subject.entry.source.now found.entry.value.now))))) }
+    ensures done { let same = is_entry name.now (literal (expr_view subject.entry.source.now found.entry.value.now)) in
+        OnOk result (map Some steps.new.items ≡ map Some steps.old.items ++ map bare (set_in_lone subject.entry.call.now found.entry.number entry.now same)) }
     ensures refused { IfErr result (λ e. e ≡ Refusal.OutOfMemory) }
 {
     let Found { number, value } = found;
@@ -97,7 +115,8 @@ fn set_in_lone(
 fn only_literals(alloc: Global, source: &[u8], elements: &[Arg]) -> Result<(), Refusal>
     requires { GoodArgs source.now elements.now }
     ensures all { OnOk result (all_known ElementKind.Text (args_view source.now elements.now) ≡ true) }
-    ensures refused { IfErr result (λ e. e ≢ Refusal.OutOfMemory → (e ≡ Refusal.NotLiteral options_key) × (all_known ElementKind.Text (args_view source.now elements.now) ≡ false)) }
+    ensures refused { let args = args_view source.now elements.now in
+        IfErr result (λ e. e ≢ Refusal.OutOfMemory → (e ≡ Refusal.NotLiteral options_key) × (all_known ElementKind.Text args ≡ false)) }
 {
     if !all_known(alloc, source, ElementKind::Text, elements)? {
         return Err(not_literal(alloc, OPTIONS.as_bytes())?);
@@ -116,7 +135,8 @@ fn set_in_dictionary(
     steps: &mut Vec<ListStep>,
 ) -> Result<(), Refusal>
     requires { GoodArgs source.now pairs.now }
-    ensures done { OnOk result (map Some steps.new.items ≡ map Some steps.old.items ++ map bare (set_in_dictionary list.now (length pairs.now) name.now value.now (passing (has_key name.now) 0 (args_view source.now pairs.now)))) }
+    ensures done { let same = passing (has_key name.now) 0 (args_view source.now pairs.now) in
+        OnOk result (map Some steps.new.items ≡ map Some steps.old.items ++ map bare (set_in_dictionary list.now (length pairs.now) name.now value.now same)) }
     ensures refused { IfErr result (λ e. e ≡ Refusal.OutOfMemory) }
 {
     let same = passing(alloc, source, Test::HasKey(name), pairs)?;
@@ -139,7 +159,8 @@ fn set_in_dictionary(
 fn only_literal_keys(alloc: Global, source: &[u8], pairs: &[Arg]) -> Result<(), Refusal>
     requires { GoodArgs source.now pairs.now }
     ensures all { OnOk result (keys_known (args_view source.now pairs.now) ≡ true) }
-    ensures refused { IfErr result (λ e. e ≢ Refusal.OutOfMemory → (e ≡ Refusal.NotLiteral options_key) × (keys_known (args_view source.now pairs.now) ≡ false)) }
+    ensures refused { let args = args_view source.now pairs.now in
+        IfErr result (λ e. e ≢ Refusal.OutOfMemory → (e ≡ Refusal.NotLiteral options_key) × (keys_known args ≡ false)) }
 {
     if !keys_known(alloc, source, pairs)? {
         return Err(not_literal(alloc, OPTIONS.as_bytes())?);
@@ -160,16 +181,15 @@ fn set_in_value(
     steps: &mut Vec<ListStep>,
 ) -> Result<(), Refusal>
     requires { AreGood (expression_words (expr_view subject.source.now found.value.now)) }
-    ensures done { OnOk result (AreBehind (set_by_shape subject.entry.call.now found.entry.number name.now entry.now (literal (expr_view subject.entry.source.now found.entry.value.now)) (shape (expr_view subject.entry.source.now found.entry.value.now))) steps.old.items steps.new.items) }
-    ensures refused { IfErr result (λ e. e ≢ Refusal.OutOfMemory → set_by_shape subject.entry.call.now found.entry.number name.now entry.now (literal (expr_view subject.entry.source.now found.entry.value.now)) (shape (expr_view subject.entry.source.now found.entry.value.now)) ≡ Err e) }
+    ensures done { let held = expr_view subject.entry.source.now found.entry.value.now in let call = subject.entry.call.now in
+        OnOk result (AreBehind (set_by_shape call found.entry.number name.now entry.now (literal held) (shape held)) steps.old.items steps.new.items) }
+    ensures refused { let held = expr_view subject.entry.source.now found.entry.value.now in let call = subject.entry.call.now in
+        IfErr result (λ e. e ≢ Refusal.OutOfMemory → set_by_shape call found.entry.number name.now entry.now (literal held) (shape held) ≡ Err e) }
 {
     let source = subject.source;
     match array_in(found.value) {
         Some(elements) => {
-            match only_literals(alloc, source, elements) {
-                Ok(()) => {}
-                Err(refusal) => return Err(refusal),
-            }
+            only_literals(alloc, source, elements)?;
             let list = value_place(alloc, subject.call, found.number)?;
             set_in_list(alloc, source, &list, elements, name, entry, steps)
         }
@@ -195,15 +215,14 @@ fn set_by_value(
     steps: &mut Vec<ListStep>,
 ) -> Result<(), Refusal>
     requires { AreGood (expression_words (expr_view subject.source.now found.value.now)) }
-    ensures done { OnOk result (AreBehind (set_by_value subject.entry.call.now found.entry.number name.now value.now (expr_view subject.entry.source.now found.entry.value.now) (entries (expr_view subject.entry.source.now found.entry.value.now))) steps.old.items steps.new.items) }
-    ensures refused { IfErr result (λ e. e ≢ Refusal.OutOfMemory → set_by_value subject.entry.call.now found.entry.number name.now value.now (expr_view subject.entry.source.now found.entry.value.now) (entries (expr_view subject.entry.source.now found.entry.value.now)) ≡ Err e) }
+    ensures done { let held = expr_view subject.entry.source.now found.entry.value.now in let call = subject.entry.call.now in
+        OnOk result (AreBehind (set_by_value call found.entry.number name.now value.now held (entries held)) steps.old.items steps.new.items) }
+    ensures refused { let held = expr_view subject.entry.source.now found.entry.value.now in
+        IfErr result (λ e. e ≢ Refusal.OutOfMemory → set_by_value subject.entry.call.now found.entry.number name.now value.now held (entries held) ≡ Err e) }
 {
     match entries_in(found.value) {
         Some(pairs) => {
-            match only_literal_keys(alloc, subject.source, pairs) {
-                Ok(()) => {}
-                Err(refusal) => return Err(refusal),
-            }
+            only_literal_keys(alloc, subject.source, pairs)?;
             let list = value_place(alloc, subject.call, found.number)?;
             set_in_dictionary(alloc, subject.source, &list, pairs, name, value, steps)
         }
@@ -225,24 +244,40 @@ pub(crate) fn set_option_steps(
     value: &str,
 ) -> Result<Vec<ListStep>, Refusal>
     requires { GoodArgs subject.source.now subject.args.now }
-    ensures meant { IfOk result (λ steps. AreMeant (set_option_steps subject.entry.call.now (args_view subject.entry.source.now subject.entry.args.now) name.now value.now) steps.items) }
-    ensures refused { IfErr result (λ e. e ≢ Refusal.OutOfMemory → set_option_steps subject.entry.call.now (args_view subject.entry.source.now subject.entry.args.now) name.now value.now ≡ Err e) }
+    ensures meant { let args = args_view subject.entry.source.now subject.entry.args.now in
+        IfOk result (λ steps. AreMeant (set_option_steps subject.entry.call.now args name.now value.now) steps.items) }
+    ensures refused { let args = args_view subject.entry.source.now subject.entry.args.now in
+        IfErr result (λ e. e ≢ Refusal.OutOfMemory → set_option_steps subject.entry.call.now args name.now value.now ≡ Err e) }
 {
     let found = the_value(alloc, subject, OPTIONS.as_bytes())?;
     let mut steps = Vec::new(alloc);
     match found {
-        Some(found) => match set_by_value(alloc, subject, found, name, value, &mut steps) {
-            Ok(()) => {}
-            Err(refusal) => return Err(refusal),
-        },
+        Some(found) => set_by_value(alloc, subject, found, name, value, &mut steps)?,
         None => {
-            let entry = option_text(alloc, name, value)?;
-            let list = written_list(alloc, ElementKind::Text, &[&entry])?;
-            let new = written_named(alloc, OPTIONS.as_bytes(), &list)?;
+            let new = written_options(alloc, name, value)?;
             put_behind(alloc, subject.call, subject.args.len(), new, &mut steps)?;
         }
     }
     Ok(steps)
+}
+
+/// Removes the elements of a list in an argument that pass.
+fn remove_passing(
+    alloc: Global,
+    subject: Subject<'_>,
+    number: usize,
+    elements: &[Arg],
+    test: Test<'_>,
+    steps: &mut Vec<ListStep>,
+) -> Result<(), AllocError>
+    requires { GoodArgs subject.source.now elements.now }
+    ensures { let gone = passing (test_of test.entry) 0 (args_view subject.entry.source.now elements.now) in
+        OnOk result (map Some steps.new.items ≡ map Some steps.old.items ++ map bare (removed_from (child subject.entry.call.now number) 0 gone)) }
+{
+    let gone = passing(alloc, subject.source, test, elements)?;
+    let list = value_place(alloc, subject.call, number)?;
+    remove_all(alloc, &list, gone.as_slice(), steps)?;
+    Ok(())
 }
 
 /// Deletes an option from the value of `default_options:`, which is no dictionary.
@@ -257,20 +292,17 @@ fn delete_in_value(
     steps: &mut Vec<ListStep>,
 ) -> Result<(), Refusal>
     requires { AreGood (expression_words (expr_view subject.source.now found.value.now)) }
-    ensures done { OnOk result (AreBehind (delete_by_shape subject.entry.call.now found.entry.number name.now (literal (expr_view subject.entry.source.now found.entry.value.now)) (shape (expr_view subject.entry.source.now found.entry.value.now))) steps.old.items steps.new.items) }
-    ensures refused { IfErr result (λ e. e ≢ Refusal.OutOfMemory → delete_by_shape subject.entry.call.now found.entry.number name.now (literal (expr_view subject.entry.source.now found.entry.value.now)) (shape (expr_view subject.entry.source.now found.entry.value.now)) ≡ Err e) }
+    ensures done { let held = expr_view subject.entry.source.now found.entry.value.now in let call = subject.entry.call.now in
+        OnOk result (AreBehind (delete_by_shape call found.entry.number name.now (literal held) (shape held)) steps.old.items steps.new.items) }
+    ensures refused { let held = expr_view subject.entry.source.now found.entry.value.now in
+        IfErr result (λ e. e ≢ Refusal.OutOfMemory → delete_by_shape subject.entry.call.now found.entry.number name.now (literal held) (shape held) ≡ Err e) }
 {
     let Found { number, value } = found;
     let source = subject.source;
     match array_in(value) {
         Some(elements) => {
-            match only_literals(alloc, source, elements) {
-                Ok(()) => {}
-                Err(refusal) => return Err(refusal),
-            }
-            let entries = passing(alloc, source, Test::IsEntry(name), elements)?;
-            let list = value_place(alloc, subject.call, number)?;
-            remove_all(alloc, &list, entries.as_slice(), steps)?;
+            only_literals(alloc, source, elements)?;
+            remove_passing(alloc, subject, number, elements, Test::IsEntry(name), steps)?;
         }
         None => {
             if !is_element(alloc, source, ElementKind::Text, value)? {
@@ -296,18 +328,16 @@ fn delete_by_value(
     steps: &mut Vec<ListStep>,
 ) -> Result<(), Refusal>
     requires { AreGood (expression_words (expr_view subject.source.now found.value.now)) }
-    ensures done { OnOk result (AreBehind (delete_by_value subject.entry.call.now found.entry.number name.now (expr_view subject.entry.source.now found.entry.value.now) (entries (expr_view subject.entry.source.now found.entry.value.now))) steps.old.items steps.new.items) }
-    ensures refused { IfErr result (λ e. e ≢ Refusal.OutOfMemory → delete_by_value subject.entry.call.now found.entry.number name.now (expr_view subject.entry.source.now found.entry.value.now) (entries (expr_view subject.entry.source.now found.entry.value.now)) ≡ Err e) }
+    ensures done { let held = expr_view subject.entry.source.now found.entry.value.now in
+        OnOk result (AreBehind (delete_by_value subject.entry.call.now found.entry.number name.now held (entries held)) steps.old.items steps.new.items) }
+    ensures refused { let held = expr_view subject.entry.source.now found.entry.value.now in
+        IfErr result (λ e. e ≢ Refusal.OutOfMemory → delete_by_value subject.entry.call.now found.entry.number name.now held (entries held) ≡ Err e) }
 {
     match entries_in(found.value) {
         Some(pairs) => {
-            match only_literal_keys(alloc, subject.source, pairs) {
-                Ok(()) => {}
-                Err(refusal) => return Err(refusal),
-            }
-            let gone = passing(alloc, subject.source, Test::HasKey(name), pairs)?;
-            let list = value_place(alloc, subject.call, found.number)?;
-            remove_all(alloc, &list, gone.as_slice(), steps)?;
+            only_literal_keys(alloc, subject.source, pairs)?;
+            let test = Test::HasKey(name);
+            remove_passing(alloc, subject, found.number, pairs, test, steps)?;
             Ok(())
         }
         None => delete_in_value(alloc, subject, found, name, steps),
@@ -324,16 +354,15 @@ pub(crate) fn delete_option_steps(
     name: &Text,
 ) -> Result<Vec<ListStep>, Refusal>
     requires { GoodArgs subject.source.now subject.args.now }
-    ensures meant { IfOk result (λ steps. AreMeant (delete_option_steps subject.entry.call.now (args_view subject.entry.source.now subject.entry.args.now) name.now) steps.items) }
-    ensures refused { IfErr result (λ e. e ≢ Refusal.OutOfMemory → delete_option_steps subject.entry.call.now (args_view subject.entry.source.now subject.entry.args.now) name.now ≡ Err e) }
+    ensures meant { let args = args_view subject.entry.source.now subject.entry.args.now in
+        IfOk result (λ steps. AreMeant (delete_option_steps subject.entry.call.now args name.now) steps.items) }
+    ensures refused { let args = args_view subject.entry.source.now subject.entry.args.now in
+        IfErr result (λ e. e ≢ Refusal.OutOfMemory → delete_option_steps subject.entry.call.now args name.now ≡ Err e) }
 {
     let found = the_value(alloc, subject, OPTIONS.as_bytes())?;
     let mut steps = Vec::new(alloc);
     if let Some(found) = found {
-        match delete_by_value(alloc, subject, found, name, &mut steps) {
-            Ok(()) => {}
-            Err(refusal) => return Err(refusal),
-        }
+        delete_by_value(alloc, subject, found, name, &mut steps)?;
     }
     Ok(steps)
 }

@@ -74,10 +74,7 @@ fn delete_tasks<'c>(alloc: Global, role: Role, keys: &'c [Text]) -> Result<Vec<T
     let mut tasks = Vec::new(alloc);
     for i in 0..keys.len() {
         let key = &keys[i];
-        match kind_of(role, key) {
-            Ok(_) => {}
-            Err(refusal) => return Err(refusal),
-        }
+        kind_of(role, key)?;
         push_task(&mut tasks, Task::Delete(key))?;
     }
     Ok(tasks)
@@ -157,10 +154,7 @@ fn remove_tasks<'c>(
 {
     let mut tasks = Vec::new(alloc);
     for i in 0..pairs.len() {
-        match remove_one(alloc, role, &pairs[i], &mut tasks) {
-            Ok(()) => {}
-            Err(refusal) => return Err(refusal),
-        }
+        remove_one(alloc, role, &pairs[i], &mut tasks)?;
     }
     Ok(tasks)
 }
@@ -205,10 +199,7 @@ fn set_option_tasks<'c>(alloc: Global, pairs: &'c [(Text, Text)]) -> Result<Vec<
     let mut tasks = Vec::new(alloc);
     for i in 0..pairs.len() {
         let (name, value) = &pairs[i];
-        match checked_option(name) {
-            Ok(()) => {}
-            Err(refusal) => return Err(refusal),
-        }
+        checked_option(name)?;
         push_task(&mut tasks, Task::SetOption(name, value.get()))?;
     }
     Ok(tasks)
@@ -225,10 +216,7 @@ fn delete_option_tasks<'c>(alloc: Global, names: &'c [Text]) -> Result<Vec<Task<
     let mut tasks = Vec::new(alloc);
     for i in 0..names.len() {
         let name = &names[i];
-        match checked_option(name) {
-            Ok(()) => {}
-            Err(refusal) => return Err(refusal),
-        }
+        checked_option(name)?;
         push_task(&mut tasks, Task::DeleteOption(name))?;
     }
     Ok(tasks)

@@ -2,6 +2,7 @@ use Rattle.std.proofs.Common.{◌∙◌, sym, subst}
 use Rattle.std.specs.Prelude.{◌≢◌}
 use Rattle.std.specs.Vec.Iter.{into_iter_items}
 use Rattle.std.proofs.lemmas.List.{nil_from_length}
+use Rattle.std.proofs.lemmas.Result.{err_from_is_err_and}
 use Rattle.meson_calls.specs.declared.refusal.Refusal.TheVariants.{OutOfMemory}
 use Rattle.meson_steps.specs.Done.{MayNotBeDone}
 use Rattle.meson_steps.specs.Results.{plain_trees}
@@ -40,19 +41,21 @@ loop-task-preserved c = record {
       let whole = tasks_steps call ts (plain_trees old) in
       let more = into_iter_items c.next.new.self in
       let u = subst (λ cs. TasksLeft old call whole cs w) c.in-Some.ensures.steps.0 (c.loop-task.invariant.left ts are) in
-      tasks_more old call whole c.in-Some.task more w u c.do_task.new.work (c.in-Ok.ensures.done old);
-  restores = λ first r. c.in-Ok.ensures.restores first (c.loop-task.invariant.restores first r);
+      tasks_more old call whole c.in-Some.task more w u c.do_task.new.work (c.in_ok-do_task.ensures.done old);
+  restores = λ first r. c.in_ok-do_task.ensures.restores first (c.loop-task.invariant.restores first r);
 }
 
-pub returns-in-Err-clause-refused : goal.returns-in-Err-clause-refused
-returns-in-Err-clause-refused c = λ ts are other.
+pub returns-in_err-do_task-clause-refused : goal.returns-in_err-do_task-clause-refused
+returns-in_err-do_task-clause-refused c = λ ts are.
+    let error = err_from_is_err_and c.from_residual.result c.from_residual.ensures.1 in
+    rw (error.1, error.2) (λ other.
     let old = so_far c.args.work.now in
     let call = c.args.call.now in
     let w = c.loop-task.work in
     let whole = tasks_steps call ts (plain_trees old) in
     let more = into_iter_items c.next.new.self in
     let u = subst (λ cs. TasksLeft old call whole cs w) c.in-Some.ensures.steps.0 (c.loop-task.invariant.left ts are) in
-    task_refused old call whole c.in-Some.task more w u c.in-Err.refusal (λ before t b is may. c.in-Err.ensures.refused old before t b is may other)
+    task_refused old call whole c.in-Some.task more w u c.in_err-do_task.field-0.0 (λ before t b is may. c.in_err-do_task.ensures.refused old before t b is may other))
 
 pub returns-clause-done : goal.returns-clause-done
 returns-clause-done c = λ ts are.

@@ -10,15 +10,17 @@ use Rattle.meson_keywords.specs.KeywordEdits.{add_by_shape, add_there, behind_al
 use Rattle.meson_steps.specs.Meanings.{AreBehind}
 use Rattle.meson_keywords.proofs.StepsBehind.{all_meant, behind_is, by_none, by_some}
 use Rattle.meson_keywords.proofs.keyword_steps.add_steps.Goals as goal
-use Rattle.meson_keywords.proofs.keyword_steps.add_steps.Goals.{in-Some+in-Ok, in-None+in_ok-list-in-None+in_ok-new-in-None+in_ok-put_behind-in-None}
+use Rattle.meson_keywords.proofs.keyword_steps.add_steps.Goals.{in-Some+in_ok-add_to_value-in-Some, in-None+in_ok-list-in-None+in_ok-new-in-None+in_ok-put_behind-in-None}
 
 pub returns-in_err-found-clause-refused : goal.returns-in_err-found-clause-refused
 returns-in_err-found-clause-refused c =
     let error = err_from_is_err_and c.from_residual.result c.from_residual.ensures.1 in
     rw (error.1, error.2) (search rules)
 
-pub returns-in-Err-clause-refused : goal.returns-in-Err-clause-refused
-returns-in-Err-clause-refused c = λ other.
+pub returns-in_err-add_to_value-in-Some-clause-refused : goal.returns-in_err-add_to_value-in-Some-clause-refused
+returns-in_err-add_to_value-in-Some-clause-refused c =
+    let error = err_from_is_err_and c.from_residual-in_err-add_to_value-in-Some.result c.from_residual-in_err-add_to_value-in-Some.ensures.1 in
+    rw (error.1, error.2) (λ other.
     let s = c.args.subject in
     let v = expr_view s.source.now c.in-Some.found.value.now in
     let k = c.args.kind in
@@ -27,7 +29,7 @@ returns-in-Err-clause-refused c = λ other.
     by_some (add_there s.call.now (length (args_view s.source.now s.args.now)) c.args.key.now k values) c.args.key.now c.as_bytes-key.result.now s.source.now key_is s.args.now c.in_ok-found.found c.in_ok-found.ensures.found
     c.in-Some.found c.in-Some.is
     ∙ ap (λ key. add_by_shape s.call.now c.in-Some.found.number key k values (text_in k v) (shape v)) (sym key_is)
-    ∙ c.in-Err.ensures.refused other
+    ∙ c.in_err-add_to_value-in-Some.ensures.refused other)
 
 pub returns-clause-meant : goal.returns-clause-meant
 returns-clause-meant c =
@@ -38,14 +40,14 @@ returns-clause-meant c =
     let xs = args_view s.source.now s.args.now in
     let f = add_there s.call.now (length xs) c.args.key.now k values in
     elim c.match-found.branch [
-      | in-Some+in-Ok w ↦
+      | in-Some+in_ok-add_to_value-in-Some w ↦
           (let v = expr_view s.source.now w.in-Some.found.value.now in
           let meant = add_by_shape s.call.now w.in-Some.found.number c.as_bytes-key.result.now k values (text_in k v) (shape v) in
           all_meant _ meant c.new-steps.result.items c.match-found.steps.items
           (by_some f c.args.key.now c.as_bytes-key.result.now s.source.now key_is s.args.now c.in_ok-found.found c.in_ok-found.ensures.found w.in-Some.found w.in-Some.is
           ∙ ap (λ key. add_by_shape s.call.now w.in-Some.found.number key k values (text_in k v) (shape v)) (sym key_is))
           c.new-steps.ensures.items
-          (subst (λ x. AreBehind meant c.new-steps.result.items x.items) (sym w.steps-is) w.in-Ok.ensures.done))
+          (subst (λ x. AreBehind meant c.new-steps.result.items x.items) (sym w.steps-is) w.in_ok-add_to_value-in-Some.ensures.done))
       | in-None+in_ok-list-in-None+in_ok-new-in-None+in_ok-put_behind-in-None w ↦
           (let new : Written (Argument Nowhere) = written_named c.args.key.now (written_list k values) in
           let bytes = w.in_ok-new-in-None.ensures ∙ ap₂ (λ key l. key ++ (codes ": " ++ l)) key_is w.in_ok-list-in-None.ensures.done in

@@ -1,29 +1,20 @@
-use Rattle.std.proofs.Common.{◌≡◌, ◌∷◌, List, ℕ, length, map, refl, sym, ap, ◌∙◌}
-use Rattle.std.specs.Prelude.{Err, Ok}
+use Rattle.std.proofs.Common.{◌≡◌, List, ℕ, length, map, sym, ap, ◌∙◌, subst}
+use Rattle.std.specs.Prelude.{◌≢◌, Err, IfErr, Ok, OnOk}
 use Rattle.std.proofs.lemmas.List.{length-map}
 use Rattle.meson_syntax.specs.View.{arg_view, args_view, expr_view}
-use Rattle.meson_edit.specs.Edits.{Wrap}
+use Rattle.meson_calls.specs.declared.refusal.Refusal.TheVariants.{OutOfMemory}
 use Rattle.meson_keywords.specs.Keys.{written_element}
-use Rattle.meson_keywords.specs.KeywordEdits.{add_by_shape, add_to_lone, all_behind, text_in}
+use Rattle.meson_keywords.specs.KeywordEdits.{add_by_shape, all_behind, text_in}
 use Rattle.meson_calls.specs.Project.{child}
-use Rattle.meson_steps.specs.Steps.{step_in}
-use Rattle.meson_keywords.proofs.StepsBehind.{add_none, behind_result, some_there, then_result}
+use Rattle.meson_steps.specs.Meanings.{AreBehind}
+use Rattle.meson_keywords.proofs.StepsBehind.{behind_result}
 use Rattle.meson_keywords.proofs.keyword_steps.add_to_value.Goals as goal
 
 pub new_values-requires : goal.new_values-requires
 new_values-requires c = c.in-Some.ensures.good c.args.subject.source.now c.requires.good
 
-pub returns-then-not-branch-clause-refused : goal.returns-then-not-branch-clause-refused
-returns-then-not-branch-clause-refused c = λ other.
-    let source = c.args.subject.source.now in
-    let o = text_in c.args.kind (expr_view source c.args.found.value.now) in
-    let values : List (List ℕ) = map (λ x. x.now) c.args.values.now in
-    ap (add_by_shape c.args.subject.call.now c.args.found.number c.args.key.now c.args.kind values o) (c.in-None.ensures.shape source)
-    ∙ add_none c.args.subject.call.now c.args.found.number c.args.key.now c.args.kind values o (sym c.in_ok-is_element-in-None.ensures ∙ c.if-not-branch.true)
-    ∙ ap Err (sym c.in_ok-not_literal-in-None.ensures)
-
-pub returns-in-Some-clause-done : goal.returns-in-Some-clause-done
-returns-in-Some-clause-done c =
+pub returns-in_ok-list-in-Some-clause-done : goal.returns-in_ok-list-in-Some-clause-done
+returns-in_ok-list-in-Some-clause-done c =
     let source = c.args.subject.source.now in
     let call = c.args.subject.call.now in
     let k = c.args.kind in
@@ -32,31 +23,26 @@ returns-in-Some-clause-done c =
     let given : List (List ℕ) = map (λ x. x.now) c.as_slice.result.now in
     let same : given ≡ map (λ x. x.now) c.in_ok-new-in-Some.new.items = ap (λ xs. map (λ x. x.now) xs) c.as_slice.ensures.value in
     let many = length-map c.in-Some.elements.now (arg_view source) in
-    let l = c.in_ok-list.list in
+    let l = c.in_ok-list-in-Some.list in
     behind_result c.put_all_behind.result _ (all_behind l (length c.in-Some.elements.now) (map (written_element k) given)) c.args.steps.now.items c.put_all_behind.new.steps.items
     (ap (add_by_shape call c.args.found.number c.args.key.now k values o) (c.in-Some.ensures.shape source)
     ∙ ap (λ ts. Ok (all_behind (child call c.args.found.number) (length (args_view source c.in-Some.elements.now)) (map (written_element k) ts))) (sym (same ∙ c.in_ok-new-in-Some.ensures))
     ∙ ap (λ m. Ok (all_behind (child call c.args.found.number) m (map (written_element k) given))) many
-    ∙ ap (λ p. Ok (all_behind p (length c.in-Some.elements.now) (map (written_element k) given))) (sym c.in_ok-list.ensures))
+    ∙ ap (λ p. Ok (all_behind p (length c.in-Some.elements.now) (map (written_element k) given))) (sym c.in_ok-list-in-Some.ensures))
     c.put_all_behind.ensures.done
 
-pub returns-clause-done : goal.returns-clause-done
-returns-clause-done c =
+pub returns-in-None-clause-done : goal.returns-in-None-clause-done
+returns-in-None-clause-done c =
     let source = c.args.subject.source.now in
-    let call = c.args.subject.call.now in
-    let n = c.args.found.number in
     let k = c.args.kind in
-    let o = text_in k (expr_view source c.args.found.value.now) in
     let values : List (List ℕ) = map (λ x. x.now) c.args.values.now in
-    let given : List (List ℕ) = map (λ x. x.now) c.as_slice-in-None.result.now in
-    let text = some_there o (sym c.in_ok-is_element-in-None.ensures ∙ c.if-not-branch.false) in
-    let same : given ≡ map (λ x. x.now) c.in_ok-new-in-None.new.items = ap (λ xs. map (λ x. x.now) xs) c.as_slice-in-None.ensures.value in
-    let l = c.in_ok-list.list in
-    let w = step_in call (Wrap call.path.steps n) in
-    behind_result c.put_all_behind-in-None.result _ (w ∷ all_behind l 1 (map (written_element k) given)) c.args.steps.now.items c.put_all_behind-in-None.new.steps.items
-    (ap (add_by_shape call n c.args.key.now k values o) (c.in-None.ensures.shape source)
-    ∙ ap (add_to_lone call n c.args.key.now k values) text.1
-    ∙ ap (λ ts. Ok (w ∷ all_behind (child call n) 1 (map (written_element k) ts))) (sym (same ∙ c.in_ok-new-in-None.ensures text.0 text.1))
-    ∙ ap (λ p. Ok (w ∷ all_behind p 1 (map (written_element k) given))) (sym c.in_ok-list.ensures))
-    (then_result c.put_all_behind-in-None.result c.args.steps.now.items c.push_edit.new.steps.items c.put_all_behind-in-None.new.steps.items _ w (all_behind l 1 (map (written_element k) given)) c.in_ok-push_edit-in-None.ensures refl
-    c.put_all_behind-in-None.ensures.done)
+    let is = ap (add_by_shape c.args.subject.call.now c.args.found.number c.args.key.now k values (text_in k (expr_view source c.args.found.value.now))) (sym (c.in-None.ensures.shape source)) in
+    subst (λ m. OnOk c.add_to_lone.result (AreBehind m c.args.steps.now.items c.add_to_lone.new.steps.items)) is c.add_to_lone.ensures.done
+
+pub returns-in-None-clause-refused : goal.returns-in-None-clause-refused
+returns-in-None-clause-refused c =
+    let source = c.args.subject.source.now in
+    let k = c.args.kind in
+    let values : List (List ℕ) = map (λ x. x.now) c.args.values.now in
+    let is = ap (add_by_shape c.args.subject.call.now c.args.found.number c.args.key.now k values (text_in k (expr_view source c.args.found.value.now))) (sym (c.in-None.ensures.shape source)) in
+    subst (λ m. IfErr c.add_to_lone.result (λ e. e ≢ OutOfMemory → m ≡ Err e)) is c.add_to_lone.ensures.refused

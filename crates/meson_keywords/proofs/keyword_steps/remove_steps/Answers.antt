@@ -6,22 +6,24 @@ use Rattle.meson_keywords.specs.KeywordEdits.{remove_by_shape, remove_there, sha
 use Rattle.meson_steps.specs.Meanings.{AreBehind}
 use Rattle.meson_keywords.proofs.StepsBehind.{all_meant, behind_is, by_none, by_some, none_more}
 use Rattle.meson_keywords.proofs.keyword_steps.remove_steps.Goals as goal
-use Rattle.meson_keywords.proofs.keyword_steps.remove_steps.Goals.{in-Some+in-Ok, in_default}
+use Rattle.meson_keywords.proofs.keyword_steps.remove_steps.Goals.{in-Some+in_ok-remove_from_value, in_default}
 
 pub returns-in_err-found-clause-refused : goal.returns-in_err-found-clause-refused
 returns-in_err-found-clause-refused c =
     let error = err_from_is_err_and c.from_residual.result c.from_residual.ensures.1 in
     rw (error.1, error.2) (search rules)
 
-pub returns-in-Err-clause-refused : goal.returns-in-Err-clause-refused
-returns-in-Err-clause-refused c = λ other.
+pub returns-in_err-remove_from_value-clause-refused : goal.returns-in_err-remove_from_value-clause-refused
+returns-in_err-remove_from_value-clause-refused c =
+    let error = err_from_is_err_and c.from_residual-in_err-remove_from_value.result c.from_residual-in_err-remove_from_value.ensures.1 in
+    rw (error.1, error.2) (λ other.
     let s = c.args.subject in
     let v = expr_view s.source.now c.in-Some.found.value.now in
     let k = c.args.kind in
     let key_is = c.as_bytes-key.ensures.value ∙ c.get.ensures in
     by_some (remove_there s.call.now c.args.key.now k c.args.value.now) c.args.key.now c.as_bytes-key.result.now s.source.now key_is s.args.now c.in_ok-found.found c.in_ok-found.ensures.found c.in-Some.found c.in-Some.is
     ∙ ap (λ key. remove_by_shape s.call.now c.in-Some.found.number key k c.args.value.now (text_in k v) (shape v)) (sym key_is)
-    ∙ c.in-Err.ensures.refused other
+    ∙ c.in_err-remove_from_value.ensures.refused other)
 
 pub returns-clause-meant : goal.returns-clause-meant
 returns-clause-meant c =
@@ -30,14 +32,14 @@ returns-clause-meant c =
     let key_is = c.as_bytes-key.ensures.value ∙ c.get.ensures in
     let f = remove_there s.call.now c.args.key.now k c.args.value.now in
     elim c.match-found.branch [
-      | in-Some+in-Ok w ↦
+      | in-Some+in_ok-remove_from_value w ↦
           (let v = expr_view s.source.now w.in-Some.found.value.now in
           let meant = remove_by_shape s.call.now w.in-Some.found.number c.as_bytes-key.result.now k c.args.value.now (text_in k v) (shape v) in
           all_meant _ meant c.new-steps.result.items c.match-found.steps.items
           (by_some f c.args.key.now c.as_bytes-key.result.now s.source.now key_is s.args.now c.in_ok-found.found c.in_ok-found.ensures.found w.in-Some.found w.in-Some.is
           ∙ ap (λ key. remove_by_shape s.call.now w.in-Some.found.number key k c.args.value.now (text_in k v) (shape v)) (sym key_is))
           c.new-steps.ensures.items
-          (subst (λ x. AreBehind meant c.new-steps.result.items x.items) (sym w.steps-is) w.in-Ok.ensures.done))
+          (subst (λ x. AreBehind meant c.new-steps.result.items x.items) (sym w.steps-is) w.in_ok-remove_from_value.ensures.done))
       | in_default w ↦
           all_meant _ (Ok []) c.new-steps.result.items c.match-found.steps.items
           (by_none f c.args.key.now c.as_bytes-key.result.now s.source.now key_is s.args.now c.in_ok-found.found c.in_ok-found.ensures.found w.in_default.is)

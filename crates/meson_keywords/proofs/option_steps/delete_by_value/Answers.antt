@@ -1,5 +1,6 @@
-use Rattle.std.proofs.Common.{sym, ap, ap₂, ◌∙◌, subst}
-use Rattle.std.specs.Prelude.{Err, IfErr, Ok, OnOk, ◌≢◌, ◌≡◌}
+use Rattle.std.proofs.Common.{sym, ap, ◌∙◌, subst}
+use Rattle.std.proofs.lemmas.Result.{err_from_is_err_and}
+use Rattle.std.specs.Prelude.{Err, IfErr, OnOk, ◌≢◌, ◌≡◌}
 use Rattle.meson_syntax.specs.View.{args_view, expr_view}
 use Rattle.meson_calls.specs.declared.refusal.Refusal.TheVariants.{OutOfMemory}
 use Rattle.meson_calls.specs.Project.{child}
@@ -12,32 +13,33 @@ use Rattle.meson_keywords.proofs.option_steps.delete_by_value.Goals as goal
 pub only_literal_keys-requires : goal.only_literal_keys-requires
 only_literal_keys-requires c = c.in-Some.ensures.good c.args.subject.source.now c.requires
 
-pub passing-requires : goal.passing-requires
-passing-requires c = c.in-Some.ensures.good c.args.subject.source.now c.requires
+pub remove_passing-requires : goal.remove_passing-requires
+remove_passing-requires c = c.in-Some.ensures.good c.args.subject.source.now c.requires
 
-pub returns-in-Err-clause-refused : goal.returns-in-Err-clause-refused
-returns-in-Err-clause-refused c = λ other.
+pub returns-in_err-only_literal_keys-in-Some-clause-refused : goal.returns-in_err-only_literal_keys-in-Some-clause-refused
+returns-in_err-only_literal_keys-in-Some-clause-refused c =
+    let error = err_from_is_err_and c.from_residual.result c.from_residual.ensures.1 in
+    rw (error.1, error.2) (λ other.
     let source = c.args.subject.source.now in
     let call = c.args.subject.call.now in
     let n = c.args.found.number in
     let xs = args_view source c.in-Some.pairs.now in
-    let why = c.in-Err.ensures.refused other in
+    let why = c.in_err-only_literal_keys-in-Some.ensures.refused other in
     ap (delete_by_value call n c.args.name.now (expr_view source c.args.found.value.now)) (c.in-Some.ensures.entries source)
     ∙ list_refused (keys_known xs) (removed_from (child call n) 0 (passing (has_key c.args.name.now) 0 xs)) why.1
-    ∙ ap Err (sym why.0)
+    ∙ ap Err (sym why.0))
 
-pub returns-in_ok-remove_all-in-Some-clause-done : goal.returns-in_ok-remove_all-in-Some-clause-done
-returns-in_ok-remove_all-in-Some-clause-done c =
+pub returns-in_ok-remove_passing-in-Some-clause-done : goal.returns-in_ok-remove_passing-in-Some-clause-done
+returns-in_ok-remove_passing-in-Some-clause-done c =
     let source = c.args.subject.source.now in
     let call = c.args.subject.call.now in
     let n = c.args.found.number in
     let name = c.args.name.now in
     let xs = args_view source c.in-Some.pairs.now in
-    behind_is _ (removed_from c.in_ok-list-in-Some.list 0 c.as_slice.result.now) c.args.steps.now.items c.remove_all.new.steps.items
-    (ap (delete_by_value call n name (expr_view source c.args.found.value.now)) (c.in-Some.ensures.entries source)
-    ∙ list_taken (keys_known xs) (removed_from (child call n) 0 (passing (has_key name) 0 xs)) c.in-Ok.ensures.all
-    ∙ ap₂ (λ p ns. Ok (removed_from p 0 ns)) (sym c.in_ok-list-in-Some.ensures) (sym (c.as_slice.ensures.value ∙ c.in_ok-gone-in-Some.ensures)))
-    c.in_ok-remove_all-in-Some.ensures
+    let gone = removed_from (child call n) 0 (passing (has_key name) 0 xs) in
+    behind_is _ gone c.args.steps.now.items c.remove_passing.new.steps.items
+    (ap (delete_by_value call n name (expr_view source c.args.found.value.now)) (c.in-Some.ensures.entries source) ∙ list_taken (keys_known xs) gone c.in_ok-only_literal_keys-in-Some.ensures.all)
+    c.in_ok-remove_passing-in-Some.ensures
 
 pub returns-in-None-clause-done : goal.returns-in-None-clause-done
 returns-in-None-clause-done c =

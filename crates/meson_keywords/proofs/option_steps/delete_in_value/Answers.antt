@@ -1,4 +1,5 @@
-use Rattle.std.proofs.Common.{◌∷◌, [], map, refl, sym, ap, ap₂, ◌∙◌}
+use Rattle.std.proofs.Common.{◌∷◌, [], map, refl, sym, ap, ◌∙◌}
+use Rattle.std.proofs.lemmas.Result.{err_from_is_err_and}
 use Rattle.std.specs.Prelude.{Err, Ok, Some}
 use Rattle.meson_syntax.specs.View.{args_view, expr_view}
 use Rattle.meson_edit.specs.Edits.{Remove}
@@ -11,24 +12,26 @@ use Rattle.meson_calls.specs.Project.{child}
 use Rattle.meson_steps.specs.Steps.{step_in}
 use Rattle.meson_keywords.proofs.StepsBehind.{behind_is, list_refused, list_taken, lone_refused, lone_taken, none_more, one_more}
 use Rattle.meson_keywords.proofs.option_steps.delete_in_value.Goals as goal
-use Rattle.meson_keywords.proofs.option_steps.delete_in_value.Goals.{in-Some+in-Ok+in_ok-entries-in-Some+in_ok-list-in-Some+in_ok-remove_all-in-Some, in-None+in_ok-is_element-in-None+else-not-branch+in_ok-is_entry-in-None+then-branch+in_ok-push_edit-in-None, in-None+in_ok-is_element-in-None+else-not-branch+in_ok-is_entry-in-None+else-branch}
+use Rattle.meson_keywords.proofs.option_steps.delete_in_value.Goals.{in-Some+in_ok-only_literals-in-Some+in_ok-remove_passing-in-Some, in-None+in_ok-is_element-in-None+else-not-branch+in_ok-is_entry-in-None+then-branch+in_ok-push_edit-in-None, in-None+in_ok-is_element-in-None+else-not-branch+in_ok-is_entry-in-None+else-branch}
 
 pub only_literals-requires : goal.only_literals-requires
 only_literals-requires c = c.in-Some.ensures.good c.args.subject.source.now c.requires
 
-pub passing-requires : goal.passing-requires
-passing-requires c = c.in-Some.ensures.good c.args.subject.source.now c.requires
+pub remove_passing-requires : goal.remove_passing-requires
+remove_passing-requires c = c.in-Some.ensures.good c.args.subject.source.now c.requires
 
-pub returns-in-Err-clause-refused : goal.returns-in-Err-clause-refused
-returns-in-Err-clause-refused c = λ other.
+pub returns-in_err-only_literals-in-Some-clause-refused : goal.returns-in_err-only_literals-in-Some-clause-refused
+returns-in_err-only_literals-in-Some-clause-refused c =
+    let error = err_from_is_err_and c.from_residual.result c.from_residual.ensures.1 in
+    rw (error.1, error.2) (λ other.
     let source = c.args.subject.source.now in
     let call = c.args.subject.call.now in
     let n = c.args.found.number in
     let xs = args_view source c.in-Some.elements.now in
-    let why = c.in-Err.ensures.refused other in
+    let why = c.in_err-only_literals-in-Some.ensures.refused other in
     ap (delete_by_shape call n c.args.name.now (literal (expr_view source c.args.found.value.now))) (c.in-Some.ensures.shape source)
     ∙ list_refused (all_known element.Text xs) (removed_from (child call n) 0 (passing (is_entry_element c.args.name.now) 0 xs)) why.1
-    ∙ ap Err (sym why.0)
+    ∙ ap Err (sym why.0))
 
 pub returns-then-not-branch-clause-refused : goal.returns-then-not-branch-clause-refused
 returns-then-not-branch-clause-refused c = λ other.
@@ -51,13 +54,12 @@ returns-clause-done c =
     let after = c.match-array_in.steps.items in
     let gone = step_in call (Remove call.path.steps n) in
     elim c.match-array_in.branch [
-      | in-Some+in-Ok+in_ok-entries-in-Some+in_ok-list-in-Some+in_ok-remove_all-in-Some w ↦
+      | in-Some+in_ok-only_literals-in-Some+in_ok-remove_passing-in-Some w ↦
           (let xs = args_view source w.in-Some.elements.now in
           let entries = passing (is_entry_element name) 0 xs in
-          behind_is _ (removed_from w.in_ok-list-in-Some.list 0 w.as_slice.result.now) old after
-          (ap (delete_by_shape call n name o) (w.in-Some.ensures.shape source) ∙ list_taken (all_known element.Text xs) (removed_from (child call n) 0 entries) w.in-Ok.ensures.all
-          ∙ ap₂ (λ p ns. Ok (removed_from p 0 ns)) (sym w.in_ok-list-in-Some.ensures) (sym (w.as_slice.ensures.value ∙ w.in_ok-entries-in-Some.ensures)))
-          (ap (λ v. map Some v.items) w.steps-is ∙ w.in_ok-remove_all-in-Some.ensures))
+          behind_is _ (removed_from (child call n) 0 entries) old after
+          (ap (delete_by_shape call n name o) (w.in-Some.ensures.shape source) ∙ list_taken (all_known element.Text xs) (removed_from (child call n) 0 entries) w.in_ok-only_literals-in-Some.ensures.all)
+          (ap (λ v. map Some v.items) w.steps-is ∙ w.in_ok-remove_passing-in-Some.ensures))
       | in-None+in_ok-is_element-in-None+else-not-branch+in_ok-is_entry-in-None+then-branch+in_ok-push_edit-in-None w ↦
           behind_is _ (gone ∷ []) old after
           (ap (delete_by_shape call n name o) (w.in-None.ensures.shape source)

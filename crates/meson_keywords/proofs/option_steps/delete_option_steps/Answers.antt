@@ -6,18 +6,20 @@ use Rattle.meson_keywords.specs.Options.{delete_by_value, delete_option_there, e
 use Rattle.meson_steps.specs.Meanings.{AreBehind}
 use Rattle.meson_keywords.proofs.StepsBehind.{all_meant, behind_is, by_none, by_some, none_more}
 use Rattle.meson_keywords.proofs.option_steps.delete_option_steps.Goals as goal
-use Rattle.meson_keywords.proofs.option_steps.delete_option_steps.Goals.{in-Some+in-Ok, in_default}
+use Rattle.meson_keywords.proofs.option_steps.delete_option_steps.Goals.{in-Some+in_ok-delete_by_value, in_default}
 
 pub returns-in_err-found-clause-refused : goal.returns-in_err-found-clause-refused
 returns-in_err-found-clause-refused c =
     let error = err_from_is_err_and c.from_residual.result c.from_residual.ensures.1 in
     rw (error.1, error.2) (search rules)
 
-pub returns-in-Err-clause-refused : goal.returns-in-Err-clause-refused
-returns-in-Err-clause-refused c = λ other.
+pub returns-in_err-delete_by_value-clause-refused : goal.returns-in_err-delete_by_value-clause-refused
+returns-in_err-delete_by_value-clause-refused c =
+    let error = err_from_is_err_and c.from_residual-in_err-delete_by_value.result c.from_residual-in_err-delete_by_value.ensures.1 in
+    rw (error.1, error.2) (λ other.
     let s = c.args.subject in
     by_some (delete_option_there s.call.now c.args.name.now) options_key c.as_bytes.result.now s.source.now c.as_bytes.ensures.value s.args.now c.in_ok-found.found c.in_ok-found.ensures.found c.in-Some.found c.in-Some.is
-    ∙ c.in-Err.ensures.refused other
+    ∙ c.in_err-delete_by_value.ensures.refused other)
 
 pub returns-clause-meant : goal.returns-clause-meant
 returns-clause-meant c =
@@ -26,13 +28,13 @@ returns-clause-meant c =
     let start = c.new-steps.result.items in
     let after = c.match-found.steps.items in
     elim c.match-found.branch [
-      | in-Some+in-Ok w ↦
+      | in-Some+in_ok-delete_by_value w ↦
           (let v = expr_view s.source.now w.in-Some.found.value.now in
           let meant = delete_by_value s.call.now w.in-Some.found.number c.args.name.now v (entries v) in
           all_meant _ meant start after
           (by_some f options_key c.as_bytes.result.now s.source.now c.as_bytes.ensures.value s.args.now c.in_ok-found.found c.in_ok-found.ensures.found w.in-Some.found w.in-Some.is)
           c.new-steps.ensures.items
-          (subst (λ x. AreBehind meant start x.items) (sym w.steps-is) w.in-Ok.ensures.done))
+          (subst (λ x. AreBehind meant start x.items) (sym w.steps-is) w.in_ok-delete_by_value.ensures.done))
       | in_default w ↦
           all_meant _ (Ok []) start after
           (by_none f options_key c.as_bytes.result.now s.source.now c.as_bytes.ensures.value s.args.now c.in_ok-found.found c.in_ok-found.ensures.found w.in_default.is)

@@ -1,4 +1,5 @@
 use Rattle.std.proofs.Common.{length, sym, ap, ap₂, ◌∙◌, subst}
+use Rattle.std.proofs.lemmas.Result.{err_from_is_err_and}
 use Rattle.std.specs.Prelude.{Err, IfErr, Ok, OnOk, ◌≢◌, ◌≡◌}
 use Rattle.std.proofs.lemmas.List.{length-map}
 use Rattle.meson_syntax.specs.View.{arg_view, args_view, expr_view}
@@ -17,16 +18,18 @@ only_literal_keys-requires c = c.in-Some.ensures.good c.args.subject.source.now 
 pub set_in_dictionary-requires : goal.set_in_dictionary-requires
 set_in_dictionary-requires c = c.in-Some.ensures.good c.args.subject.source.now c.requires
 
-pub returns-in-Err-clause-refused : goal.returns-in-Err-clause-refused
-returns-in-Err-clause-refused c = λ other.
+pub returns-in_err-only_literal_keys-in-Some-clause-refused : goal.returns-in_err-only_literal_keys-in-Some-clause-refused
+returns-in_err-only_literal_keys-in-Some-clause-refused c =
+    let error = err_from_is_err_and c.from_residual.result c.from_residual.ensures.1 in
+    rw (error.1, error.2) (λ other.
     let source = c.args.subject.source.now in
     let call = c.args.subject.call.now in
     let n = c.args.found.number in
     let xs = args_view source c.in-Some.pairs.now in
-    let why = c.in-Err.ensures.refused other in
+    let why = c.in_err-only_literal_keys-in-Some.ensures.refused other in
     ap (set_by_value call n c.args.name.now c.args.value.now (expr_view source c.args.found.value.now)) (c.in-Some.ensures.entries source)
     ∙ list_refused (keys_known xs) (set_in_dictionary (child call n) (length xs) c.args.name.now c.args.value.now (passing (has_key c.args.name.now) 0 xs)) why.1
-    ∙ ap Err (sym why.0)
+    ∙ ap Err (sym why.0))
 
 pub returns-in_ok-list-in-Some-clause-done : goal.returns-in_ok-list-in-Some-clause-done
 returns-in_ok-list-in-Some-clause-done c =
@@ -39,7 +42,7 @@ returns-in_ok-list-in-Some-clause-done c =
     let keys = passing (has_key name) 0 xs in
     behind_result c.set_in_dictionary.result _ (set_in_dictionary c.in_ok-list-in-Some.list (length c.in-Some.pairs.now) name value keys) c.args.steps.now.items c.set_in_dictionary.new.steps.items
     (ap (set_by_value call n name value (expr_view source c.args.found.value.now)) (c.in-Some.ensures.entries source)
-    ∙ list_taken (keys_known xs) (set_in_dictionary (child call n) (length xs) name value keys) c.in-Ok.ensures.all
+    ∙ list_taken (keys_known xs) (set_in_dictionary (child call n) (length xs) name value keys) c.in_ok-only_literal_keys-in-Some.ensures.all
     ∙ ap₂ (λ p m. Ok (set_in_dictionary p m name value keys)) (sym c.in_ok-list-in-Some.ensures) (length-map c.in-Some.pairs.now (arg_view source)))
     c.set_in_dictionary.ensures.done
 

@@ -1,4 +1,5 @@
 use Rattle.std.proofs.Common.{length, sym, ap, ap₂, ◌∙◌}
+use Rattle.std.proofs.lemmas.Result.{err_from_is_err_and}
 use Rattle.std.specs.Prelude.{Err, Ok}
 use Rattle.meson_syntax.specs.View.{arg_view, args_view, expr_view}
 use Rattle.std.proofs.lemmas.List.{length-map}
@@ -17,16 +18,18 @@ only_literals-requires c = c.in-Some.ensures.good c.args.subject.source.now c.re
 pub set_in_list-requires : goal.set_in_list-requires
 set_in_list-requires c = c.in-Some.ensures.good c.args.subject.source.now c.requires
 
-pub returns-in-Err-clause-refused : goal.returns-in-Err-clause-refused
-returns-in-Err-clause-refused c = λ other.
+pub returns-in_err-only_literals-in-Some-clause-refused : goal.returns-in_err-only_literals-in-Some-clause-refused
+returns-in_err-only_literals-in-Some-clause-refused c =
+    let error = err_from_is_err_and c.from_residual.result c.from_residual.ensures.1 in
+    rw (error.1, error.2) (λ other.
     let source = c.args.subject.source.now in
     let call = c.args.subject.call.now in
     let n = c.args.found.number in
     let xs = args_view source c.in-Some.elements.now in
-    let why = c.in-Err.ensures.refused other in
+    let why = c.in_err-only_literals-in-Some.ensures.refused other in
     ap (set_by_shape call n c.args.name.now c.args.entry.now (literal (expr_view source c.args.found.value.now))) (c.in-Some.ensures.shape source)
     ∙ list_refused (all_known element.Text xs) (set_in_list (child call n) (length xs) c.args.entry.now (passing (is_entry_element c.args.name.now) 0 xs)) why.1
-    ∙ ap Err (sym why.0)
+    ∙ ap Err (sym why.0))
 
 pub returns-then-not-branch-clause-refused : goal.returns-then-not-branch-clause-refused
 returns-then-not-branch-clause-refused c = λ other.
@@ -48,6 +51,6 @@ returns-in_ok-list-in-Some-clause-done c =
     let entry = c.args.entry.now in
     behind_result c.set_in_list.result _ (set_in_list c.in_ok-list-in-Some.list (length c.in-Some.elements.now) entry entries) c.args.steps.now.items c.set_in_list.new.steps.items
     (ap (set_by_shape call n c.args.name.now entry (literal (expr_view source c.args.found.value.now))) (c.in-Some.ensures.shape source)
-    ∙ list_taken (all_known element.Text xs) (set_in_list (child call n) (length xs) entry entries) c.in-Ok.ensures.all
+    ∙ list_taken (all_known element.Text xs) (set_in_list (child call n) (length xs) entry entries) c.in_ok-only_literals-in-Some.ensures.all
     ∙ ap₂ (λ p m. Ok (set_in_list p m entry entries)) (sym c.in_ok-list-in-Some.ensures) (length-map c.in-Some.elements.now (arg_view source)))
     c.set_in_list.ensures.done

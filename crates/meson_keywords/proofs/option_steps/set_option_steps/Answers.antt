@@ -1,5 +1,5 @@
-use Rattle.std.proofs.Common.{◌++◌, ◌∷◌, [], length, refl, sym, ap, ap₂, ◌∙◌, subst}
-use Rattle.std.specs.Prelude.{Ok, codes}
+use Rattle.std.proofs.Common.{◌∷◌, [], length, refl, sym, ap, ◌∙◌, subst}
+use Rattle.std.specs.Prelude.{Ok}
 use Rattle.std.proofs.lemmas.List.{length-map}
 use Rattle.std.proofs.lemmas.Result.{err_from_is_err_and}
 use Rattle.meson_splice.specs.Patch.{then_ok}
@@ -13,7 +13,7 @@ use Rattle.meson_keywords.specs.Options.{entries, option_text, options_key, set_
 use Rattle.meson_steps.specs.Meanings.{AreBehind}
 use Rattle.meson_keywords.proofs.StepsBehind.{all_meant, behind_is, by_none, by_some}
 use Rattle.meson_keywords.proofs.option_steps.set_option_steps.Goals as goal
-use Rattle.meson_keywords.proofs.option_steps.set_option_steps.Goals.{in-Some+in-Ok, in-None+in_ok-entry-in-None+in_ok-list-in-None+in_ok-new-in-None+in_ok-put_behind-in-None}
+use Rattle.meson_keywords.proofs.option_steps.set_option_steps.Goals.{in-Some+in_ok-set_by_value-in-Some, in-None+in_ok-new-in-None+in_ok-put_behind-in-None}
 
 pub returns-in_err-found-clause-refused : goal.returns-in_err-found-clause-refused
 returns-in_err-found-clause-refused c =
@@ -24,12 +24,14 @@ returns-in_err-found-clause-refused c =
     ap (λ r. then_ok r (set_option_there s.call.now (length xs) c.args.name.now c.args.value.now))
     (ap (λ key. the_value key xs) (sym c.as_bytes.ensures.value) ∙ c.in_err-found.ensures.refused other))
 
-pub returns-in-Err-clause-refused : goal.returns-in-Err-clause-refused
-returns-in-Err-clause-refused c = λ other.
+pub returns-in_err-set_by_value-in-Some-clause-refused : goal.returns-in_err-set_by_value-in-Some-clause-refused
+returns-in_err-set_by_value-in-Some-clause-refused c =
+    let error = err_from_is_err_and c.from_residual-in_err-set_by_value-in-Some.result c.from_residual-in_err-set_by_value-in-Some.ensures.1 in
+    rw (error.1, error.2) (λ other.
     let s = c.args.subject in
     by_some (set_option_there s.call.now (length (args_view s.source.now s.args.now)) c.args.name.now c.args.value.now) options_key c.as_bytes.result.now s.source.now c.as_bytes.ensures.value s.args.now
     c.in_ok-found.found c.in_ok-found.ensures.found c.in-Some.found c.in-Some.is
-    ∙ c.in-Err.ensures.refused other
+    ∙ c.in_err-set_by_value-in-Some.ensures.refused other)
 
 pub returns-clause-meant : goal.returns-clause-meant
 returns-clause-meant c =
@@ -40,22 +42,20 @@ returns-clause-meant c =
     let start = c.new-steps.result.items in
     let after = c.match-found.steps.items in
     elim c.match-found.branch [
-      | in-Some+in-Ok w ↦
+      | in-Some+in_ok-set_by_value-in-Some w ↦
           (let v = expr_view s.source.now w.in-Some.found.value.now in
           let meant = set_by_value s.call.now w.in-Some.found.number name c.args.value.now v (entries v) in
           all_meant _ meant start after
           (by_some f options_key c.as_bytes.result.now s.source.now c.as_bytes.ensures.value s.args.now c.in_ok-found.found c.in_ok-found.ensures.found w.in-Some.found w.in-Some.is)
           c.new-steps.ensures.items
-          (subst (λ x. AreBehind meant start x.items) (sym w.steps-is) w.in-Ok.ensures.done))
-      | in-None+in_ok-entry-in-None+in_ok-list-in-None+in_ok-new-in-None+in_ok-put_behind-in-None w ↦
+          (subst (λ x. AreBehind meant start x.items) (sym w.steps-is) w.in_ok-set_by_value-in-Some.ensures.done))
+      | in-None+in_ok-new-in-None+in_ok-put_behind-in-None w ↦
           (let new : Written (Argument Nowhere) = written_named options_key (written_list element.Text (entry ∷ [])) in
-          let bytes =
-          w.in_ok-new-in-None.ensures ∙ ap₂ (λ key l. key ++ (codes ": " ++ l)) w.as_bytes-in-None.ensures.value (w.in_ok-list-in-None.ensures.done ∙ ap (λ x. (written_list element.Text (x ∷ [])).bytes) w.in_ok-entry-in-None.ensures) in
           let steps = behind_all s.call.now (length s.args.now) new ∷ [] in
           all_meant _ (Ok steps) start after
           (by_none f options_key c.as_bytes.result.now s.source.now c.as_bytes.ensures.value s.args.now c.in_ok-found.found c.in_ok-found.ensures.found w.in-None.is
           ∙ ap (λ m. Ok (behind_all s.call.now m new ∷ [])) (length-map s.args.now (arg_view s.source.now)))
           c.new-steps.ensures.items
           (subst (λ x. AreBehind (Ok steps) start x.items) (sym w.steps-is)
-          (behind_is (Ok steps) steps start w.put_behind.new.steps.items refl (w.in_ok-put_behind-in-None.ensures new (sym bytes)))))
+          (behind_is (Ok steps) steps start w.put_behind.new.steps.items refl (w.in_ok-put_behind-in-None.ensures new (sym w.in_ok-new-in-None.ensures.done)))))
     ]

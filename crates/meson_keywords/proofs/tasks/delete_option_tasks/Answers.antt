@@ -11,6 +11,6 @@ loop-i-init c = let whole = each_made delete_option_entry c.args.names.now in su
 pub loop-i-preserved : goal.loop-i-preserved
 loop-i-preserved c =
     let whole = each_made delete_option_entry c.args.names.now in
-    let here = delete_option_made c.index-names-i.result (sym c.checked_option.ensures.checked ∙ c.in-Ok.is) in
+    let here = delete_option_made c.index-names-i.result (sym c.checked_option.ensures.checked ∙ c.in_ok-checked_option.was) in
     subst (TasksSoFar whole (each_made delete_option_entry (drop (c.loop-i.i + 1) c.args.names.now))) (sym c.in_ok-push_task.ensures)
     (one_made delete_option_entry c.args.names.now whole c.loop-i.tasks.items c.loop-i.i c.loop-i.invariant c.index-names-i.result c.loop-i-test.true _ _ (ap delete_option_entry (sym c.index-names-i.is) ∙ here) (one_is _ _ refl tt))

@@ -11,6 +11,6 @@ loop-i-init c = let whole = each_made (delete_entry c.args.role) c.args.keys.now
 pub loop-i-preserved : goal.loop-i-preserved
 loop-i-preserved c =
     let whole = each_made (delete_entry c.args.role) c.args.keys.now in
-    let here = delete_made c.args.role c.index-keys-i.result c.in-Ok.field-0 c.in-Ok.ensures.found in
+    let here = delete_made c.args.role c.index-keys-i.result c.in_ok-kind_of.field-0 c.in_ok-kind_of.ensures.found in
     subst (TasksSoFar whole (each_made (delete_entry c.args.role) (drop (c.loop-i.i + 1) c.args.keys.now))) (sym c.in_ok-push_task.ensures)
     (one_made (delete_entry c.args.role) c.args.keys.now whole c.loop-i.tasks.items c.loop-i.i c.loop-i.invariant c.index-keys-i.result c.loop-i-test.true _ _ (ap (delete_entry c.args.role) (sym c.index-keys-i.is) ∙ here) (one_is _ _ refl tt))

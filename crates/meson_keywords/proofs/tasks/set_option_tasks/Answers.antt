@@ -13,6 +13,6 @@ pub loop-i-preserved : goal.loop-i-preserved
 loop-i-preserved c =
     let whole = each_made set_option_entry c.args.pairs.now in
     let pair = c.index-pairs-i.result in
-    let here = set_option_made c.index-pairs-i.result (sym c.checked_option.ensures.checked ∙ c.in-Ok.is) in
+    let here = set_option_made c.index-pairs-i.result (sym c.checked_option.ensures.checked ∙ c.in_ok-checked_option.was) in
     subst (TasksSoFar whole (each_made set_option_entry (drop (c.loop-i.i + 1) c.args.pairs.now))) (sym c.in_ok-push_task.ensures)
     (one_made set_option_entry c.args.pairs.now whole c.loop-i.tasks.items c.loop-i.i c.loop-i.invariant c.index-pairs-i.result c.loop-i-test.true _ _ (ap set_option_entry (sym c.index-pairs-i.is) ∙ here) (one_is _ _ (ap (set_option pair.0) (sym c.get.ensures)) (c.checked_option.ensures.utf8, subst IsUtf8 c.get.ensures c.get.utf8)))
