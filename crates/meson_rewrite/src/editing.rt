@@ -108,6 +108,26 @@ pub(crate) struct Edit {
     pub said: Said,
 }
 
+/// Does a step on a session whose history is text and is logged in this text, and gives what is to be written.
+fn edit_of(alloc: Global, session: &mut Session, log: Vec<u8>, step: &Step) -> Result<Edit, Stop>
+    requires text { has_text session.old.history ≡ true }
+    requires title { IsTitled step.now }
+    ensures edited { IfOk result (IsEdited session.old log.items step.now) }
+    ensures same_names { IfOk result (λ edit. map (λ f. f.name) edit.before ≡ map (λ f. f.name) edit.after) }
+    ensures refused { IfErr result (λ why. WantsMemory why ⊎ MayRefuse step.now session.old why) }
+{
+    let before = with_log(alloc, session.project(), log)?;
+    let report = act(alloc, session, step)?;
+    let said = Said::of(alloc, step, &report)?;
+    let text = new_log(alloc, session)?;
+    let after = with_log(alloc, session.project(), text)?;
+    Ok(Edit {
+        before,
+        after,
+        said,
+    })
+}
+
 /// What a step makes of a session whose history is text.
 pub(crate) fn edited(alloc: Global, opened: Opened, step: &Step) -> Result<Edit, Stop>
     requires text { has_text opened.session.history ≡ true }
@@ -117,18 +137,10 @@ pub(crate) fn edited(alloc: Global, opened: Opened, step: &Step) -> Result<Edit,
     ensures refused { IfErr result (λ why. WantsMemory why ⊎ MayRefuse step.now opened.session why) }
 {
     let Opened { mut session, log } = opened;
-    let before = with_log(alloc, session.project(), log)?;
-    let report = act(alloc, &mut session, step)?;
-    let said = Said::of(alloc, step, &report)?;
-    let text = new_log(alloc, &session)?;
-    let after = with_log(alloc, session.project(), text)?;
+    let edit = edit_of(alloc, &mut session, log, step);
     // What comes is the end of the program, which lets all memory go at once.
     mem::forget(session);
-    Ok(Edit {
-        before,
-        after,
-        said,
-    })
+    edit
 }
 
 /// What is to be told of a step on a session.

@@ -3,18 +3,18 @@ use Rattle.meson_script.proofs.RunFacts.{names}
 use Rattle.meson_rewrite.proofs.Listings.{does-plain}
 use Rattle.meson_rewrite.proofs.Names.{logged-names, step-names}
 use Rattle.meson_rewrite.specs.Logs.{with_log}
-use Rattle.meson_rewrite.proofs.editing.edited.Goals as goal
+use Rattle.meson_rewrite.proofs.editing.edit_of.Goals as goal
 
 pub returns-clause-same_names : goal.returns-clause-same_names
 returns-clause-same_names c =
-    let old = c.args.opened.session in
+    let old = c.args.session.now in
     let new = c.act.new.session in
     ap names c.in_ok-before.ensures
     ∙ logged-names _ _ _ _ (ap (λ p. names p.files) c.project.ensures ∙ step-names c.args.step.now old new c.in_ok-report.report c.in_ok-report.ensures.does ∙ ap (λ p. names p.files) (sym c.project-2.ensures))
     ∙ ap names (sym c.in_ok-after.ensures)
 
 pub of-requires : goal.of-requires
-of-requires c = does-plain c.args.step.now c.args.opened.session c.act.new.session c.in_ok-report.report c.in_ok-report.ensures.does
+of-requires c = does-plain c.args.step.now c.args.session.now c.act.new.session c.in_ok-report.report c.in_ok-report.ensures.does
 
 pub returns-clause-edited : goal.returns-clause-edited
 returns-clause-edited c = record {
@@ -24,7 +24,7 @@ returns-clause-edited c = record {
   does = c.in_ok-report.ensures.does;
   new_log = c.in_ok-text.text.items;
   is_log = c.in_ok-text.ensures.log;
-  before = c.in_ok-before.ensures ∙ ap (λ p. with_log p.files c.args.opened.log.items) c.project.ensures;
+  before = c.in_ok-before.ensures ∙ ap (λ p. with_log p.files c.args.log.items) c.project.ensures;
   after = c.in_ok-after.ensures ∙ ap (λ p. with_log p.files c.in_ok-text.text.items) c.project-2.ensures;
   said = c.in_ok-said.ensures;
 }
