@@ -90,16 +90,17 @@ fn folder(alloc: Global, dir: Option<&str>) -> Result<Option<Text>, UsageFault>
     }
 }
 
-/// A title that is named.
-fn checked_title(alloc: Global, word: &str) -> Result<Text, UsageFault>
-    ensures ok { IfOk result (λ t. (is_title t ≡ true) × (t ≡ word.now)) }
+/// What was read before the title, and the title that is named.
+fn with_title<T: Drop>(alloc: Global, read: T, word: &str) -> Result<(T, Text), UsageFault>
+    ensures read { IfOk result (λ p. p.0 ≡ read) }
+    ensures ok { IfOk result (λ p. (is_title p.1 ≡ true) × (p.1 ≡ word.now)) }
     ensures refused { IfErr result (λ e. e ≢ OutOfMemory → (e ≡ BadTitle) × (is_title word.now ≡ false)) }
 {
-    if is_title(word) {
-        Ok(owned(alloc, word)?)
-    } else {
-        Err(UsageFault::BadTitle)
+    if !is_title(word) {
+        return Err(UsageFault::BadTitle);
     }
+    let title = owned(alloc, word)?;
+    Ok((read, title))
 }
 
 /// What words that clap took ask for.
@@ -114,7 +115,9 @@ fn asked_from(alloc: Global, matches: &ArgMatches<'_>) -> Result<Asked, UsageFau
     };
     let dir = folder(alloc, matches.get_str("DIR"))?;
     let action = action_of(alloc, subcommand, words)?;
-    let title = checked_title(alloc, word_or(matches, "TEXT", ""))?;
+    let word = word_or(matches, "TEXT", "");
+    let titled = with_title(alloc, (dir, action), word)?;
+    let ((dir, action), title) = titled;
     Ok(Asked { dir, title, action })
 }
 

@@ -1,14 +1,14 @@
 //! The parts of a listing.
 
-ghost use Rattle.std.specs.Prelude.{◌≡◌, IfOk, OnOk};
-ghost use Rattle.serde_json.specs.Data.{put};
+ghost use Rattle.std.specs.Prelude.{◌≡◌, IfOk, OnOk, codes};
+ghost use Rattle.serde_json.specs.Data.{member, no_members, number, put as with_member, string, unsigned};
 ghost use Rattle.serde_json.specs.View.{members_view, view};
 ghost use Rattle.meson_calls.specs.Loading.{name_at};
 ghost use Rattle.meson_listing.specs.Entries.{id_data, ids_data, item_data, items_data, keywords_data, shown_data, text_or_null, texts_data};
 
 use meson_plan::{Shown, SourceItem};
 use meson_splice::{FileSet, Many, Text};
-use serde_json::{Map, Value, json};
+use serde_json::{Map, Value, json, put};
 use std::alloc::{AllocError, Global};
 
 /// The name of the file of a number.
@@ -32,6 +32,27 @@ pub(crate) fn text_or_null(text: Option<Text>) -> Value
     }
 }
 
+/// What a source or an extra file begins with: where it stands, and its text.
+fn item_members(
+    alloc: Global,
+    at: usize,
+    file: &str,
+    value: Text,
+) -> Result<Map<String, Value>, AllocError>
+    ensures { IfOk result (λ m. members_view m.entries ≡ member (codes "at") (number (unsigned at)) (member (codes "file") (string file.now) (member (codes "value") (string value) no_members))) }
+{
+    let mut members = Map::new(alloc);
+    put(&mut members, alloc, "at", Value::from(at))?;
+    put(
+        &mut members,
+        alloc,
+        "file",
+        Value::try_from_str(alloc, file)?,
+    )?;
+    put(&mut members, alloc, "value", Value::String(value.take()))?;
+    Ok(members)
+}
+
 /// A source or an extra file.
 fn item_value(alloc: Global, files: &FileSet, item: SourceItem) -> Result<Value, AllocError>
     ensures { IfOk result (λ v. view v ≡ item_data files.now item) }
@@ -43,11 +64,9 @@ fn item_value(alloc: Global, files: &FileSet, item: SourceItem) -> Result<Value,
         list: _,
         variable,
     } = item;
-    let at = span.from;
-    let file = file_name(files, file);
-    let value = value.take();
-    let variable = text_or_null(variable);
-    json!(in alloc; {"at": at, "file": file, "value": value, "variable": variable})
+    let mut members = item_members(alloc, span.from, file_name(files, file), value)?;
+    put(&mut members, alloc, "variable", text_or_null(variable))?;
+    Ok(Value::Object(members))
 }
 
 /// Sources or extra files, in their order.
@@ -117,7 +136,7 @@ fn put_keyword(
     key: Text,
     shown: Shown,
 ) -> Result<(), AllocError>
-    ensures { OnOk result (members_view members.new.entries ≡ put key (shown_data shown) (members_view members.old.entries)) }
+    ensures { OnOk result (members_view members.new.entries ≡ with_member key (shown_data shown) (members_view members.old.entries)) }
 {
     let value = shown_value(alloc, shown)?;
     let _none = members.insert(key.take(), value)?;

@@ -1,7 +1,7 @@
 //! Whole listings, member by member.
 
 ghost use Rattle.std.specs.Prelude.{◌≡◌, IfOk, OnOk, codes};
-ghost use Rattle.serde_json.specs.Data.{boolean, member, no_members, number, put as with_member, string, unsigned};
+ghost use Rattle.serde_json.specs.Data.{boolean, member, no_members, number, object, put as with_member, string, unsigned};
 ghost use Rattle.serde_json.specs.View.{members_view, view};
 ghost use Rattle.meson_calls.specs.Loading.{name_at};
 ghost use Rattle.meson_listing.specs.Entries.{call_data, items_data, target_data};
@@ -41,6 +41,16 @@ fn head_members(
     Ok(members)
 }
 
+/// The listing of this type.
+fn typed_object(alloc: Global, members: Map<String, Value>, kind: &str) -> Result<Value, AllocError>
+    ensures { IfOk result (λ v. view v ≡ object (with_member (codes "type") (string kind.now) (members_view members.entries))) }
+{
+    let mut members = members;
+    let kind = Value::try_from_str(alloc, kind)?;
+    put(&mut members, alloc, "type", kind)?;
+    Ok(Value::Object(members))
+}
+
 /// Puts sources or extra files at a name, and at another one how many expressions are not known.
 fn put_sources(
     alloc: Global,
@@ -69,10 +79,9 @@ pub(crate) fn target_object(
 ) -> Result<Value, AllocError>
     ensures { IfOk result (λ v. view v ≡ target_data files.now file head sources extra) }
 {
-    let name = text_or_null(head.name);
     let file = file_name(files, file);
     let mut members = head_members(alloc, head.at, file, head.function, head.hidden)?;
-    put(&mut members, alloc, "name", name)?;
+    put(&mut members, alloc, "name", text_or_null(head.name))?;
     put_sources(
         alloc,
         &mut members,
@@ -89,13 +98,7 @@ pub(crate) fn target_object(
         files,
         sources,
     )?;
-    put(
-        &mut members,
-        alloc,
-        "type",
-        Value::try_from_str(alloc, "target")?,
-    )?;
-    Ok(Value::Object(members))
+    typed_object(alloc, members, "target")
 }
 
 /// The listing of the keyword arguments of a call that stands in the file of this number.
@@ -113,11 +116,5 @@ pub(crate) fn call_object(
     let file = file_name(files, file);
     let mut members = head_members(alloc, head.at, file, head.function, head.hidden)?;
     put(&mut members, alloc, "kwargs", keywords)?;
-    put(
-        &mut members,
-        alloc,
-        "type",
-        Value::try_from_str(alloc, "kwargs")?,
-    )?;
-    Ok(Value::Object(members))
+    typed_object(alloc, members, "kwargs")
 }

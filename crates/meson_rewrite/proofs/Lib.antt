@@ -9,3 +9,4 @@ pub mod Opened
 pub mod Untold
 pub mod Reading
 pub mod LogName
+mod Statuses

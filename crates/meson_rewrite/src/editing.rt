@@ -1,6 +1,6 @@
 //! A step on a session, and the files that are to be written then.
 
-ghost use Rattle.std.specs.Prelude.{◌≡◌, ◌<◌, ◌⊎◌, IfOk, IfErr, Ok, OnOk, length, map, true};
+ghost use Rattle.std.specs.Prelude.{◌≡◌, ◌<◌, ◌⊎◌, IfOk, IfErr, List, Ok, OnOk, length, map, true, ℕ};
 ghost use Rattle.meson_calls.specs.Loading.{IsProject, name_at};
 ghost use Rattle.meson_json.specs.Log.{has_text, log_of};
 ghost use Rattle.meson_rewrite.specs.Edited.{IsEdited, IsTold, IsWithin};
@@ -99,6 +99,17 @@ fn with_log(alloc: Global, project: &Project, text: Vec<u8>) -> Result<FileSet, 
     Ok(all)
 }
 
+/// The files of a session whose history is text, and its log behind them.
+fn logged(alloc: Global, session: &Session) -> Result<FileSet, Stop>
+    requires { has_text session.now.history ≡ true }
+    ensures files { IfOk result (λ all. (text : List ℕ) × (log_of session.now.history ≡ Ok text) × (all ≡ with_log session.now.project.files text)) }
+    ensures none { IfErr result WantsMemory }
+{
+    let text = new_log(alloc, session)?;
+    let all = with_log(alloc, session.project(), text)?;
+    Ok(all)
+}
+
 /// What is to be written, and what is then to be said.
 #[derive(Drop)]
 pub(crate) struct Edit {
@@ -106,6 +117,25 @@ pub(crate) struct Edit {
     pub before: FileSet,
     pub after: FileSet,
     pub said: Said,
+}
+
+/// Does a step on a session whose history is text and is logged in this text, and gives what is to be written.
+fn edit_of(alloc: Global, session: &mut Session, log: Vec<u8>, step: &Step) -> Result<Edit, Stop>
+    requires text { has_text session.old.history ≡ true }
+    requires title { IsTitled step.now }
+    ensures edited { IfOk result (IsEdited session.old log.items step.now) }
+    ensures same_names { IfOk result (λ edit. map (λ f. f.name) edit.before ≡ map (λ f. f.name) edit.after) }
+    ensures refused { IfErr result (λ why. WantsMemory why ⊎ MayRefuse step.now session.old why) }
+{
+    let before = with_log(alloc, session.project(), log)?;
+    let report = act(alloc, session, step)?;
+    let said = Said::of(alloc, step, &report)?;
+    let after = logged(alloc, session)?;
+    Ok(Edit {
+        before,
+        after,
+        said,
+    })
 }
 
 /// What a step makes of a session whose history is text.
@@ -117,18 +147,10 @@ pub(crate) fn edited(alloc: Global, opened: Opened, step: &Step) -> Result<Edit,
     ensures refused { IfErr result (λ why. WantsMemory why ⊎ MayRefuse step.now opened.session why) }
 {
     let Opened { mut session, log } = opened;
-    let before = with_log(alloc, session.project(), log)?;
-    let report = act(alloc, &mut session, step)?;
-    let said = Said::of(alloc, step, &report)?;
-    let text = new_log(alloc, &session)?;
-    let after = with_log(alloc, session.project(), text)?;
+    let edit = edit_of(alloc, &mut session, log, step);
     // What comes is the end of the program, which lets all memory go at once.
     mem::forget(session);
-    Ok(Edit {
-        before,
-        after,
-        said,
-    })
+    edit
 }
 
 /// What is to be told of a step on a session.

@@ -8,7 +8,7 @@ ghost use Rattle.meson_rewrite.specs.Lines.{status, store_fault_status, usage_st
 ghost use Rattle.meson_rewrite.specs.Reads.{MayRead, ReadsAll, ReadsAtMost, ReadsProject};
 ghost use Rattle.meson_rewrite.specs.Requests.{shows_help};
 ghost use Rattle.meson_rewrite.specs.Steps.{IsTitled, only_tells};
-ghost use Rattle.meson_rewrite.specs.Runs.{CannotSay, Ends, IsUnchanged, NeedsNoStore, OnlyAsks, RanOut, Run, Says, StepEnds};
+ghost use Rattle.meson_rewrite.specs.Runs.{CannotSay, Ends, IsUnchanged, NeedsNoStore, OnlyAsks, RanOut, Run, Says, StepEnds, Tells};
 
 use crate::editing::{edited, told};
 use crate::lines::tell_stop;
@@ -140,6 +140,21 @@ fn status(end: &Result<Said, Stop>) -> u8
     }
 }
 
+/// Writes the lines of the ending. Gives its status, or 3 where a writer failed.
+fn ended<O: Output, E: Output>(
+    alloc: Global,
+    out: &mut O,
+    err: &mut E,
+    end: &Result<Said, Stop>,
+) -> u8
+    ensures { Tells result (O.heard out.old) (O.heard out.new) (E.heard err.old) (E.heard err.new) end.now }
+{
+    match tell(alloc, out, err, end) {
+        Ok(()) => status(end),
+        Err(_) => 3,
+    }
+}
+
 /// Runs the program on these words, of which the first is its name: reads the build files of a project in the store, does
 /// what the words ask for, replaces the files that changed and then the undo log, and tells what it did on `out`, and
 /// listings and faults on `err`. Answers the exit status.
@@ -170,8 +185,7 @@ pub fn rewrite<S: Store, O: Output, E: Output>(
     ensures reads_all { (result ≡ 0) → ReadsAll (asked_by (map string_bytes words.now)) (S.content store.old) (S.reads store.old) (S.reads store.new) }
 {
     let end = run(alloc, store, words);
-    match tell(alloc, out, err, &end) {
-        Ok(()) => status(&end),
-        Err(_) => 3,
-    }
+    let status = ended(alloc, out, err, &end);
+    drop(end);
+    status
 }

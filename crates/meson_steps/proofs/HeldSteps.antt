@@ -1,6 +1,6 @@
 -- A further step on a list that is held back.
 use Rattle.std.proofs.Common.{◌≡◌, ℕ, ◌<◌, true, List, [], ◌∷◌, ◌++◌, length, get_or, Option, Some, None, sym, ap, ◌∙◌, subst}
-use Rattle.std.specs.Prelude.{option_map}
+use Rattle.std.specs.Prelude.{IfOk, Result, option_map}
 use Rattle.meson_lex.specs.declared.kinds.Span.{Span}
 use Rattle.meson_lex.specs.Items.{Lexeme, IsItemList}
 use Rattle.meson_layout.specs.declared.primitive.Primitive.{Primitive}
@@ -22,6 +22,7 @@ use Rattle.meson_steps.specs.declared.step.ListStep.{ListStep}
 use Rattle.meson_steps.specs.declared.work.Work.{Work}
 use Rattle.meson_steps.specs.Held.{IsHeld, settled}
 use Rattle.meson_steps.specs.Journal.{settled_tree}
+use Rattle.meson_steps.specs.Laying.{AreLaid}
 use Rattle.meson_steps.specs.ListSteps.{bare, edits_list}
 use Rattle.meson_steps.specs.Steps.{Step, effective}
 use Rattle.meson_steps.specs.Working.{HasReached, IsChanged, MayChangeList, Standing, list_again, looked_at, placed_edit, placed_in}
@@ -30,7 +31,7 @@ use Rattle.meson_steps.proofs.ListTaken.{no_tree}
 use Rattle.meson_steps.proofs.PlacedEdits.{placed_at}
 use Rattle.meson_steps.proofs.Restoring.{changed_there}
 use Rattle.meson_steps.proofs.SameRead.{same_read}
-use Rattle.meson_steps.proofs.StepTaken.{code_in_files, code_laid, code_may_be_laid, code_may_list, code_new_list, code_same, file_is}
+use Rattle.meson_steps.proofs.StepTaken.{code_are_laid, code_in_files, code_laid, code_may_be_laid, file_is, step_may_list, step_new_list, step_same}
 
 module _ (old : Loaded) (w : Work) (h : HeldList) (held : IsHeld w h) (edit : ListEdit) (of_list : edits_list edit ≡ true)
     (before rest : List Step) (s : Step) (is : bare s ≡ Some (record { list = h.list.place; edit = edit })) (r : HasReached old before (s ∷ rest) (settled (Some h) w)) where
@@ -87,14 +88,22 @@ module _ (old : Loaded) (w : Work) (h : HeldList) (held : IsHeld w h) (edit : Li
     pub held_ready : IsReadyIn bs (rust.out-List h.list.list).span p
     held_ready = code_may_be_laid old now step before rest s is r t there p (placed (Some p) is_p) bs is_bytes true (sym of_list) (Some (rust.out-List h.list.list).span) looked
 
-    module _ (nm : List ℕ) (d : File) (is_name : nm ≡ (get_or w.files file d).name) (splices : List Splice) (done : (list : List Lexeme) → IsItemList bs list → splices ≡ effective (layout_of nm list p)) where
-      pub held_same : splices ≡ [] → HasReached old (before ++ s ∷ []) rest now
-      held_same empty = code_same old now step before rest s is r t there p (placed (Some p) is_p) bs is_bytes nm d is_name splices done empty
+    -- the layout, in the tree with the list
+    pub held_are_laid : {V E : Type 0} (nm : List ℕ) (d : File) → nm ≡ (get_or w.files file d).name → (e : Parsed) (r : Result V E) (items_of : V → List Splice)
+        → ((list : List Lexeme) → IsItemList bs list → IfOk r (λ v. items_of v ≡ effective (layout_of nm list p)))
+        → IfOk r (λ v. AreLaid w.files (get_or now.trees file e) step (items_of v))
+    held_are_laid = code_are_laid old now step before rest s is r t there p (placed (Some p) is_p) bs is_bytes
 
-      pub held_may : (e : Parsed) → MayChangeList w.files h.list.place splices (settled_tree h.list (get_or w.trees.items file e))
-      held_may e =
-          subst (MayChangeList w.files h.list.place splices) (changed_there file (settled_tree h.list) w.trees.items e held.there)
-          (code_may_list old now step before rest s is r t there p (placed (Some p) is_p) bs is_bytes nm d is_name splices done of_list e)
+  module _ (splices : List Splice) (l : AreLaid w.files (get_or now.trees file no_tree) step splices) where
+    pub held_same : splices ≡ [] → HasReached old (before ++ s ∷ []) rest now
+    held_same empty = step_same old now step before rest s is r no_tree splices l empty
 
-      pub held_new : (splices ≡ [] → ⊥) → (new : Standing) → IsChanged now new file splices (list_again w.files new.files h.list.place t) → HasReached old (before ++ s ∷ []) rest new
-      held_new some new changed = code_new_list old now step before rest s is r t there p (placed (Some p) is_p) bs is_bytes nm d is_name splices done some new of_list changed
+    pub held_may : (e : Parsed) → MayChangeList w.files h.list.place splices (settled_tree h.list (get_or w.trees.items file e))
+    held_may e =
+        subst (MayChangeList w.files h.list.place splices) (changed_there file (settled_tree h.list) w.trees.items e held.there)
+        (step_may_list old now step before rest s is r no_tree splices l of_list e)
+
+    pub held_new : (splices ≡ [] → ⊥) → (new : Standing) → IsChanged now new file splices (list_again w.files new.files h.list.place t) → HasReached old (before ++ s ∷ []) rest new
+    held_new some new changed =
+        step_new_list old now step before rest s is r no_tree splices l some new of_list
+        (subst (λ u. IsChanged now new file splices (list_again w.files new.files h.list.place u)) (sym (changed_there file (settled_tree h.list) w.trees.items no_tree held.there)) changed)

@@ -1,6 +1,6 @@
 -- One step as the code takes it: by the number of its file and the tree that it reads there.
 use Rattle.std.proofs.Common.{◌≡◌, ℕ, ◌<◌, List, [], ◌∷◌, ◌++◌, length, get_or, refl, sym, ap, ◌∙◌, subst, arith}
-use Rattle.std.specs.Prelude.{Bool, true, false, ◌==◌, OnOk, Option, Result, Some, None, Ok, Err, option_and_then, option_map}
+use Rattle.std.specs.Prelude.{Bool, true, false, ◌==◌, IfOk, OnOk, Option, Result, Some, None, Ok, Err, option_and_then, option_map}
 use Rattle.std.proofs.lemmas.Bool.{eqb-true}
 use Rattle.meson_lex.specs.declared.kinds.Span.{Span}
 use Rattle.meson_lex.specs.Items.{Lexeme, IsItemList}
@@ -18,6 +18,7 @@ use Rattle.meson_steps.specs.declared.step.ListStep.{ListStep}
 use Rattle.meson_steps.specs.ListSteps.{bare, bare_edit, edits_list, path_of}
 use Rattle.meson_calls.specs.Loading.{Loaded, name_at}
 use Rattle.meson_calls.specs.Project.{place}
+use Rattle.meson_steps.specs.Laying.{AreLaid}
 use Rattle.meson_steps.specs.Steps.{Step, bytes_again, effective}
 use Rattle.meson_steps.specs.Working.{HasReached, IsChanged, MayBeLaid, MayChange, MayChangeList, Standing, list_again, looked_at, placed_edit}
 use Rattle.meson_steps.proofs.SameRead.{same_read}
@@ -82,6 +83,20 @@ module _ (old : Loaded) (w : Standing) (step : ListStep) (before rest : List Ste
       code_may_be_laid true of list is_list = code_ready_in list is_list (sym of)
       code_may_be_laid false of list is_list = subst (λ o. MayBeLaid bs o p) (sym is_list) code_ready
 
+      -- the layout, in the tree that stands there
+      pub code_are_laid : {V E : Type 0} (nm : List ℕ) (d : File) → nm ≡ (get_or w.files step.list.file d).name → (e : Parsed) (r : Result V E) (items_of : V → List Splice)
+          → ((list : List Lexeme) → IsItemList bs list → IfOk r (λ v. items_of v ≡ effective (layout_of nm list p)))
+          → IfOk r (λ v. AreLaid w.files (get_or w.trees step.list.file e) step (items_of v))
+      code_are_laid nm d is_name e (Err x) items_of done = tt
+      code_are_laid nm d is_name e (Ok v) items_of done =
+          let same : t ≡ get_or w.trees step.list.file e = there ∙ same_read w.trees step.list.file t e code_in_trees in
+          let name : nm ≡ name_at step.list.file w.files = is_name ∙ sym (nth_name w.files step.list.file d code_in_files) in
+          subst (λ u. AreLaid w.files u step (items_of v)) same (record {
+            primitive = p;
+            is_primitive = subst (λ i. Some p ≡ placed_edit (view (bytes_at i w.files) t) step.list.path.steps step.edit) (sym file_is) laid;
+            are = λ list of. done list (subst (λ b. IsItemList b list) (sym is_bytes) of) ∙ ap (λ n. effective (layout_of n list p)) name;
+          })
+
       module _ (nm : List ℕ) (d : File) (is_name : nm ≡ (get_or w.files step.list.file d).name) (splices : List Splice) (done : (list : List Lexeme) → IsItemList bs list → splices ≡ effective (layout_of nm list p)) where
         name : nm ≡ name_at s.file w.files
         name = is_name ∙ sym (nth_name w.files step.list.file d code_in_files) ∙ ap (λ i. name_at i w.files) file_is
@@ -115,3 +130,37 @@ module _ (old : Loaded) (w : Standing) (step : ListStep) (before rest : List Ste
               let count = ap (λ i. bytes_again (list_at (view (bytes_at i w.files) t) step.list.path.steps) (bytes_at i w.files) (bytes_at i new.files)) file_is
               ∙ ap (λ o. bytes_again (option_and_then (list_at f) o) (bytes_at s.file w.files) (bytes_at s.file new.files)) (sym (step_list s step is of_list)) in
               new_reached old w before rest s r t at splices are some new _ (subst (λ i. IsChanged w new i splices (list_again w.files new.files step.list t)) file_is c) count
+
+  -- ---- as it is laid out
+
+  abbrev no_file : File
+  no_file = record { name = []; bytes = [] }
+
+  module _ (d : Parsed) (splices : List Splice) (l : AreLaid w.files (get_or w.trees step.list.file d) step splices) where
+    abbrev u : Parsed
+    u = get_or w.trees step.list.file d
+
+    is_u : u ≡ get_or w.trees step.list.file u
+    is_u = same_read w.trees step.list.file d u code_in_trees
+
+    is_p : IsLaid u is_u (Some l.primitive)
+    is_p = subst (λ i. Some l.primitive ≡ placed_edit (view (bytes_at i w.files) u) step.list.path.steps step.edit) file_is l.is_primitive
+
+    is_name : name_at step.list.file w.files ≡ (get_or w.files step.list.file no_file).name
+    is_name = nth_name w.files step.list.file no_file code_in_files
+
+    pub step_same : splices ≡ [] → HasReached old (before ++ s ∷ []) rest w
+    step_same empty = code_same u is_u l.primitive is_p (bytes_at step.list.file w.files) refl (name_at step.list.file w.files) no_file is_name splices l.are empty
+
+    pub step_may_list : edits_list step.edit ≡ true → (e : Parsed) → MayChangeList w.files step.list splices (get_or w.trees step.list.file e)
+    step_may_list of_list = code_may_list u is_u l.primitive is_p (bytes_at step.list.file w.files) refl (name_at step.list.file w.files) no_file is_name splices l.are of_list
+
+    pub step_may : MayChange w.files step.list.file splices
+    step_may = code_may u is_u l.primitive is_p (bytes_at step.list.file w.files) refl (name_at step.list.file w.files) no_file is_name splices l.are
+
+    module _ (some : splices ≡ [] → ⊥) (new : Standing) where
+      pub step_new : edits_list step.edit ≡ false → IsChanged w new step.list.file splices (length (bytes_at step.list.file new.files)) → HasReached old (before ++ s ∷ []) rest new
+      step_new = code_new u is_u l.primitive is_p (bytes_at step.list.file w.files) refl (name_at step.list.file w.files) no_file is_name splices l.are some new
+
+      pub step_new_list : edits_list step.edit ≡ true → IsChanged w new step.list.file splices (list_again w.files new.files step.list u) → HasReached old (before ++ s ∷ []) rest new
+      step_new_list = code_new_list u is_u l.primitive is_p (bytes_at step.list.file w.files) refl (name_at step.list.file w.files) no_file is_name splices l.are some new

@@ -5,6 +5,7 @@ ghost use Rattle.meson_syntax.specs.declared.tree.Parsed.{Parsed};
 ghost use Rattle.meson_calls.specs.Loading.{Loaded};
 ghost use Rattle.meson_steps.specs.Held.{IsHeld, IsReadAgain, IsSettled, MayHold, settled};
 ghost use Rattle.meson_steps.specs.Journal.{settled_tree};
+ghost use Rattle.meson_steps.specs.Laying.{AreLaid};
 ghost use Rattle.meson_steps.specs.ListSteps.{bare, edits_list};
 ghost use Rattle.meson_steps.specs.Steps as meant;
 ghost use Rattle.meson_steps.specs.Working.{HasReached, IsChanged, IsNext, MayChangeList, MayReadList, Restores, list_again, standing};
@@ -74,22 +75,42 @@ impl Work {
         ensures restores { (first : List Parsed) → Restores self.old first → Restores self.new first }
         ensures refused { IfErr result (λ e. e ≡ Refusal.OutOfMemory) }
     {
-        let Some(primitive) = list_primitive(&held.list.list, edit) else {
-            unreachable!();
-        };
-        let file = held.list.place.file;
-        let span = held.list.list.span;
-        let splices = laid(
-            alloc,
-            self.files.name(file),
-            self.files.bytes(file),
-            Some(span),
-            &primitive,
-        )?;
+        let splices = self.laid_again(alloc, &held, edit)?;
         if splices.as_slice().is_empty() {
             return Ok(Some(held));
         }
         Ok(Some(self.change_again(alloc, held, splices)?))
+    }
+
+    /// The splices of an edit of the list that is held back, but for those that change nothing.
+    ///
+    /// # Errors
+    /// Memory is refused.
+    fn laid_again(
+        &self,
+        alloc: Global,
+        held: &HeldList,
+        edit: ListEdit,
+    ) -> Result<Vec<Splice>, Refusal>
+        requires next { (old : Loaded) × IsNext old (settled (Some held.now) self.now) (record { list = held.now.list.place; edit = edit }) }
+        requires held { IsHeld self.now held.now }
+        requires of_list { edits_list edit ≡ true }
+        ensures done { (d : Parsed) → let place = held.now.list.place in
+            IfOk result (λ v. AreLaid self.now.files (slice_index_or (settled (Some held.now) self.now).trees place.file d) (record { list = place; edit = edit }) v.items) }
+        ensures refused { IfErr result (λ e. e ≡ Refusal.OutOfMemory) }
+    {
+        let list = &held.list.list;
+        let Some(primitive) = list_primitive(list, edit) else {
+            unreachable!();
+        };
+        let file = held.list.place.file;
+        laid(
+            alloc,
+            self.files.name(file),
+            self.files.bytes(file),
+            Some(list.span),
+            &primitive,
+        )
     }
 
     /// Makes the splices of a step on a list in the list's file, and reads its new text. Gives the list, in its place, and how many

@@ -1,11 +1,12 @@
 //! Steps done on the files and trees of a project, one after another.
 
-ghost use Rattle.std.specs.Prelude.{[], ◌++◌, ◌<◌, ◌≡◌, ◌≢◌, ◌≤◌, ◌∷◌, IfErr, IfOk, List, OnOk, Ok, length, true, false, ℕ};
+ghost use Rattle.std.specs.Prelude.{[], ◌++◌, ◌<◌, ◌≡◌, ◌≢◌, ◌≤◌, ◌∷◌, IfErr, IfOk, List, OnOk, Ok, length, slice_index_or, true, false, ℕ};
 ghost use Rattle.meson_splice.specs.declared.file_set.File.{File};
 ghost use Rattle.meson_splice.specs.Files.{bytes_at};
 ghost use Rattle.meson_splice.specs.Patch.{patched_all};
 ghost use Rattle.meson_steps.specs.Done.{IsDone, MayNotBeDone, Meaning};
 ghost use Rattle.meson_calls.specs.Loading.{IsProject, Loaded};
+ghost use Rattle.meson_steps.specs.Laying.{AreLaid};
 ghost use Rattle.meson_steps.specs.Plans.{ArePlanned};
 ghost use Rattle.meson_steps.specs.Steps as meant;
 ghost use Rattle.meson_steps.specs.Working.{AreShallowSoFar, HasDeep, HasLarge, HasReached, IsChanged, IsFresh, IsNext, IsUnderWay, MayChange, Reached, Restores, so_far, standing};
@@ -16,8 +17,8 @@ use crate::held::HeldList;
 use crate::journal::{Saved, exchange, is_saved};
 use crate::layouts::{laid, looked_at, primitive_of, unmade};
 use crate::reading::unread;
-use crate::step::ListStep;
-use meson_calls::Refusal;
+use crate::step::{ListEdit, ListStep};
+use meson_calls::{CallRef, Refusal};
 use meson_edit::nests_within;
 use meson_splice::{Change, FileSet, Many, Splice, apply_all};
 use meson_syntax::{MAX_LEN, Parsed, parse_wide};
@@ -114,31 +115,48 @@ impl Work {
         ensures refused { IfErr result (λ e. e ≡ Refusal.OutOfMemory) }
     {
         let ListStep { list: place, edit } = step;
-        let file = place.file;
-        if file >= self.trees.len() {
-            unreachable!();
-        }
         let of_list = edit.is_of_list();
-        let tree = &self.trees[file];
-        let list = looked_at(tree, &place.path, of_list);
-        let Some(primitive) = primitive_of(tree, &place.path, edit) else {
-            unreachable!();
-        };
-        let splices = laid(
-            alloc,
-            self.files.name(file),
-            self.files.bytes(file),
-            list,
-            &primitive,
-        )?;
+        let splices = self.laid_at(alloc, &place, edit)?;
         if splices.as_slice().is_empty() {
             return Ok(None);
         }
         if of_list {
             return Ok(Some(self.change_list(alloc, place, splices)?));
         }
-        self.change(alloc, file, splices)?;
+        self.change(alloc, place.file, splices)?;
         Ok(None)
+    }
+
+    /// The splices of an edit of the list or the block at a place, but for those that change nothing.
+    ///
+    /// # Errors
+    /// Memory is refused.
+    fn laid_at(
+        &self,
+        alloc: Global,
+        place: &CallRef,
+        edit: ListEdit,
+    ) -> Result<Vec<Splice>, Refusal>
+        requires { (old : Loaded) × IsNext old (standing self.now) (record { list = place.now; edit = edit }) }
+        ensures done { (d : Parsed) → IfOk result (λ v. AreLaid self.now.files (slice_index_or self.now.trees.items place.now.file d) (record { list = place.now; edit = edit }) v.items) }
+        ensures refused { IfErr result (λ e. e ≡ Refusal.OutOfMemory) }
+    {
+        let file = place.file;
+        if file >= self.trees.len() {
+            unreachable!();
+        }
+        let tree = &self.trees[file];
+        let list = looked_at(tree, &place.path, edit.is_of_list());
+        let Some(primitive) = primitive_of(tree, &place.path, edit) else {
+            unreachable!();
+        };
+        laid(
+            alloc,
+            self.files.name(file),
+            self.files.bytes(file),
+            list,
+            &primitive,
+        )
     }
 
     /// Makes the splices of a step in its file, and reads that again.

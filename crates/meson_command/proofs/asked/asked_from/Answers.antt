@@ -31,17 +31,20 @@ pub returns-clause-ok : goal.returns-clause-ok
 returns-clause-ok c =
     let m = c.args.matches.now in
     let dir = c.get_str.ensures ∙ first_value-rows (found_of m) (codes "DIR") in
-    let title = c.in_ok-title.ensures.ok in
-    let same = title.1 ∙ c.word_or.ensures in
+    let title = c.in_ok-titled.ensures.ok in
+    let same = title.1 ∙ c.word_or-word.ensures in
+    let read = c.in_ok-titled.ensures.read in
+    rw read (
     asks _ _ _ _ _ _ _ (entered_by (out-ArgMatches m).subcommand _ _ c.in-Some.ensures.name c.in-Some.ensures.rows)
     (sym (ap names_no_folder dir) ∙ c.in_ok-dir.ensures.ok.0) (c.in_ok-dir.ensures.ok.1 ∙ dir) c.in_ok-action.ensures.ok (subst (λ t. is_title t ≡ true) same title.0) same
+    )
 
-pub returns-in_err-title-clause-refused : goal.returns-in_err-title-clause-refused
-returns-in_err-title-clause-refused c =
+pub returns-in_err-titled-clause-refused : goal.returns-in_err-titled-clause-refused
+returns-in_err-titled-clause-refused c =
     let m = c.args.matches.now in
     let dir = c.get_str.ensures ∙ first_value-rows (found_of m) (codes "DIR") in
-    let p = err_from_is_err_and c.from_residual-in_err-title.result c.from_residual-in_err-title.ensures.1 in
+    let p = err_from_is_err_and c.from_residual-in_err-titled.result c.from_residual-in_err-titled.ensures.1 in
     rw (p.1, p.2) (λ n.
-    let refused = c.in_err-title.ensures.refused n in
+    let refused = c.in_err-titled.ensures.refused n in
     refuses_title _ _ _ _ _ (entered_by (out-ArgMatches m).subcommand _ _ c.in-Some.ensures.name c.in-Some.ensures.rows)
-    (sym (ap names_no_folder dir) ∙ c.in_ok-dir.ensures.ok.0) c.in_ok-action.ensures.ok (sym (ap is_title c.word_or.ensures) ∙ refused.1) ∙ ap (λ (u : UsageFault). Err u) (sym refused.0))
+    (sym (ap names_no_folder dir) ∙ c.in_ok-dir.ensures.ok.0) c.in_ok-action.ensures.ok (sym (ap is_title c.word_or-word.ensures) ∙ refused.1) ∙ ap (λ (u : UsageFault). Err u) (sym refused.0))

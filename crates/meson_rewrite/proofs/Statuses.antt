@@ -1,0 +1,33 @@
+-- What a status says of the ending that was told.
+use Rattle.std.proofs.Common.{◌≡◌, ◌⊎◌, ℕ, Result, inl, inr, sym, ◌∙◌, subst, arith}
+use Rattle.std.specs.Prelude.{OnOk}
+use Rattle.meson_command.specs.declared.asked.Asked.{Asked}
+use Rattle.meson_command.specs.declared.fault.UsageFault.{UsageFault}
+use Rattle.meson_store.specs.Output.{Heard}
+use Rattle.meson_store.specs.Seen.{Seen}
+use Rattle.meson_rewrite.proofs.Endings.{status-keeps}
+use Rattle.meson_rewrite.proofs.Reading.{done-by-status}
+use Rattle.meson_rewrite.specs.Lines.{status}
+use Rattle.meson_rewrite.specs.Runs.{Ends, RanOut, Tells}
+use Rattle.meson_rewrite.specs.declared.said.Said.{Said}
+use Rattle.meson_rewrite.specs.declared.stop.Stop.{Stop}
+
+module _ (code : ℕ) (out out' err err' : Heard) (end : Result Said Stop) where
+  pub told-refusing : Tells code out out' err err' end → (code ≡ 1) ⊎ (code ≡ 2) → code ≡ status end
+  told-refusing (inl told) s = told.0
+  told-refusing (inr failed) (inl is) = absurd (omega (arith, failed.0, is))
+  told-refusing (inr failed) (inr is) = absurd (omega (arith, failed.0, is))
+
+  pub told-done : Tells code out out' err err' end → code ≡ 0 → status end ≡ 0
+  told-done (inl told) is = sym told.0 ∙ is
+  told-done (inr failed) is = absurd (omega (arith, failed.0, is))
+
+  pub told-keeps : (asked : Result Asked UsageFault) (before after : Seen) → Ends asked before after end → Tells code out out' err err' end → (code ≡ 1) ⊎ (code ≡ 2)
+      → (after.content ≡ before.content) × ((after.replaces ≡ before.replaces) ⊎ ((code ≡ 1) × RanOut asked before after))
+  told-keeps asked before after ends told s =
+      let is = told-refusing told s in
+      subst (λ n. (after.content ≡ before.content) × ((after.replaces ≡ before.replaces) ⊎ ((n ≡ 1) × RanOut asked before after))) (sym is)
+      (status-keeps asked before after end ends (subst (λ n. (n ≡ 1) ⊎ (n ≡ 2)) is s))
+
+  pub told-reads : (P : Type 0) → OnOk end P → Tells code out out' err err' end → code ≡ 0 → P
+  told-reads P read told is = done-by-status P end read (told-done told is)
