@@ -1,6 +1,6 @@
 // Strings: what opens one, and where it ends.
 ghost use Rattle.std.specs.Prelude.{◌≡◌, ◌+◌, ◌<◌, ◌≤◌, ◌^◌, Some, None, length, take, IfSome};
-ghost use Rattle.meson_lex.specs.Bytes.{first_bare_return as bare_return};
+ghost use Rattle.meson_lex.specs.Bytes.{first_bare_return};
 ghost use Rattle.meson_lex.specs.Kinds.{opener};
 ghost use Rattle.meson_lex.specs.Faults.{quote_kind, opens};
 ghost use Rattle.meson_lex.specs.Scan.{quoted_len, tripled_len, rest_len, string_front};
@@ -130,7 +130,7 @@ fn searched_front(bytes: &[u8], kind: Kind, at: usize) -> Result<(Kind, usize), 
 #[inline(always)]
 fn simple_len(bytes: &[u8]) -> Option<usize>
     ensures value { IfSome result (λ len. quoted_len bytes.now ≡ Some len) }
-    ensures no_return { IfSome result (λ len. bare_return (take len bytes.now) ≡ None) }
+    ensures no_return { IfSome result (λ len. first_bare_return (take len bytes.now) ≡ None) }
     ensures within { IfSome result (λ len. len ≤ length bytes.now) }
 {
     let i = memchr3(b'\'', b'\\', b'\r', bytes)?;
