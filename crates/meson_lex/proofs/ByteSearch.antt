@@ -56,7 +56,7 @@ module _ (needle : ℕ) (f : List ℕ → Option ℕ) (nil : f [] ≡ None) (pas
 
 -- ---- bare CRs
 
-return_over : (b : ℕ) (bs : List ℕ) → (b ≡ 13 → ⊥) → first_bare_return (b ∷ bs) ≡ option_map (λ k. 1 + k) (first_bare_return bs)
+pub return_over : (b : ℕ) (bs : List ℕ) → (b ≡ 13 → ⊥) → first_bare_return (b ∷ bs) ≡ option_map (λ k. 1 + k) (first_bare_return bs)
 return_over b bs other = cond-false (begins_bare_return (b ∷ bs)) _ _ (and_left _ _ (ne_eqb b 13 other)) ∙ suc_one (first_bare_return bs)
   where
     suc_one : (o : Option ℕ) → option_map suc o ≡ option_map (λ k. 1 + k) o

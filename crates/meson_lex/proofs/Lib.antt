@@ -18,6 +18,7 @@ pub mod Runs
 pub mod ScanItems
 pub mod ScanLexed
 pub mod Seams
+pub mod SimpleStrings
 pub mod Standing
 pub mod StringEnds
 pub mod StringSearch

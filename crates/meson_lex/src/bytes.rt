@@ -29,10 +29,22 @@ pub fn is_digit(b: u8) -> bool
     b >= b'0' && b <= b'9'
 }
 
+/// For each byte itself, where it is a letter, a digit or `_`; else a dot.
+static WORD_BYTES: [u8; 256] = *b"\
+    ................................\
+    ................0123456789......\
+    .ABCDEFGHIJKLMNOPQRSTUVWXYZ...._\
+    .abcdefghijklmnopqrstuvwxyz.....\
+    ................................\
+    ................................\
+    ................................\
+    ................................";
+
+#[inline]
 pub fn is_word_byte(b: u8) -> bool
     ensures { result ≡ is_word_byte b }
 {
-    is_word_start(b) || is_digit(b)
+    WORD_BYTES[b as usize] != b'.'
 }
 
 pub fn is_hexadecimal(b: u8) -> bool

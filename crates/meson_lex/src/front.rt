@@ -6,12 +6,13 @@ use crate::bytes::{is_blank, is_digit, is_line_byte, is_word_start};
 use crate::fault::LexFault;
 use crate::kinds::Kind;
 use crate::lines::{blank_len, comment_front, continuation_front, line_front};
-use crate::marks::mark_front;
+use crate::marks::{lone_mark, mark_front};
 use crate::numbers::number_front;
 use crate::strings::{opens, string_front};
 use crate::words::word_front;
 
 /// What stands at the front, where it is no string.
+#[inline(always)]
 #[tactic(auto, unfolding(crate::specs::Scan::plain))]
 fn plain(b: u8, after: &[u8], bytes: &[u8], at: usize) -> Result<(Kind, usize), LexFault>
     requires fits { at + length bytes.now < 2 ^ 64 }
@@ -36,6 +37,7 @@ fn plain(b: u8, after: &[u8], bytes: &[u8], at: usize) -> Result<(Kind, usize), 
 }
 
 /// The kind and the length of the item at the front, or the fault that stands there.
+#[inline(always)]
 #[tactic(auto, unfolding(crate::specs::Scan::front))]
 pub fn front(bytes: &[u8], at: usize) -> Result<(Kind, usize), LexFault>
     requires { at + length bytes.now < 2 ^ 64 }
@@ -44,6 +46,10 @@ pub fn front(bytes: &[u8], at: usize) -> Result<(Kind, usize), LexFault>
     let [b, after @ ..] = bytes else {
         return Err(LexFault::StrayByte(at));
     };
+    // Brackets, commas and dots are nearly half of all items that are no blanks.
+    if let Some(kind) = lone_mark(*b) {
+        return Ok((kind, 1));
+    }
     match opens(bytes) {
         Some(kind) => string_front(bytes, kind, at),
         None => plain(*b, after, bytes, at),

@@ -49,6 +49,7 @@ impl<'a> Iterator for Items<'a> {
 
     ghost remaining = { item_count (λ left. left) };
 
+    #[inline(always)]
     fn next(&mut self) -> Option<Result<Item, LexFault>> {
         if self.rest.is_empty() {
             return None;

@@ -1,10 +1,30 @@
 // Punctuation.
-ghost use Rattle.std.specs.Prelude.{◌≡◌};
-ghost use Rattle.meson_lex.specs.Scan.{plain_mark, equal_mark, mark_front};
+ghost use Rattle.std.specs.Prelude.{◌≡◌, ℕ, List, ◌∷◌, Ok, IfSome};
+ghost use Rattle.meson_lex.specs.Scan.{plain_mark, equal_mark, mark_front, front};
 
 use crate::bytes::begins_byte;
 use crate::fault::LexFault;
 use crate::kinds::Kind;
+
+/// The mark that a byte is whatever stands behind it.
+#[inline(always)]
+pub fn lone_mark(b: u8) -> Option<Kind>
+    ensures { IfSome result (λ kind. (at : ℕ) → (after : List ℕ) → front at (b ∷ after) ≡ Ok (kind, 1)) }
+{
+    match b {
+        b'(' => Some(Kind::OpenRound),
+        b')' => Some(Kind::CloseRound),
+        b'[' => Some(Kind::OpenSquare),
+        b']' => Some(Kind::CloseSquare),
+        b'{' => Some(Kind::OpenCurly),
+        b'}' => Some(Kind::CloseCurly),
+        b',' => Some(Kind::Comma),
+        b'.' => Some(Kind::Dot),
+        b':' => Some(Kind::Colon),
+        b'?' => Some(Kind::Question),
+        _ => None,
+    }
+}
 
 /// The mark that a byte is by itself.
 fn plain_mark(b: u8) -> Option<Kind>

@@ -1,5 +1,6 @@
 // Strings: what opens one, and where it ends.
-ghost use Rattle.std.specs.Prelude.{◌≡◌, ◌+◌, ◌<◌, ◌≤◌, ◌^◌, length, IfSome};
+ghost use Rattle.std.specs.Prelude.{◌≡◌, ◌+◌, ◌<◌, ◌≤◌, ◌^◌, Some, None, length, take, IfSome};
+ghost use Rattle.meson_lex.specs.Bytes.{first_bare_return};
 ghost use Rattle.meson_lex.specs.Kinds.{opener};
 ghost use Rattle.meson_lex.specs.Faults.{quote_kind, opens};
 ghost use Rattle.meson_lex.specs.Scan.{quoted_len, tripled_len, rest_len, string_front};
@@ -7,18 +8,18 @@ ghost use Rattle.meson_lex.specs.Scan.{quoted_len, tripled_len, rest_len, string
 use crate::bytes::{begins_byte, begins_three_quotes, first_bare_return};
 use crate::fault::LexFault;
 use crate::kinds::Kind;
-use memchr::{memchr, memchr2};
+use memchr::{memchr, memchr2, memchr3};
 
 /// The kind of string that quotes at the front open.
 fn quote_kind(bytes: &[u8]) -> Option<Kind>
     ensures { result ≡ quote_kind bytes.now }
 {
-    if begins_three_quotes(bytes) {
-        Some(Kind::MultilineString)
-    } else if begins_byte(bytes, b'\'') {
-        Some(Kind::PlainString)
-    } else {
+    if !begins_byte(bytes, b'\'') {
         None
+    } else if begins_three_quotes(bytes) {
+        Some(Kind::MultilineString)
+    } else {
+        Some(Kind::PlainString)
     }
 }
 
@@ -104,9 +105,10 @@ fn rest_len(kind: Kind, rest: &[u8]) -> Option<usize>
     }
 }
 
-/// The string that `bytes` open.
+/// The string that `bytes` open, by one search for its end and one for a bare CR.
+#[inline(never)]
 #[tactic(auto, unfolding(crate::specs::Scan::string_front))]
-pub fn string_front(bytes: &[u8], kind: Kind, at: usize) -> Result<(Kind, usize), LexFault>
+fn searched_front(bytes: &[u8], kind: Kind, at: usize) -> Result<(Kind, usize), LexFault>
     requires fits { at + length bytes.now < 2 ^ 64 }
     requires opened { length (opener kind) ≤ length bytes.now }
     ensures { result ≡ string_front at kind bytes.now }
@@ -122,4 +124,31 @@ pub fn string_front(bytes: &[u8], kind: Kind, at: usize) -> Result<(Kind, usize)
             Some(place) => Err(LexFault::BareCarriageReturn(at + place)),
         },
     }
+}
+
+/// How many bytes follow a quote up to and with the one that closes, where no backslash and no CR stands before that.
+#[inline(always)]
+fn simple_len(bytes: &[u8]) -> Option<usize>
+    ensures value { IfSome result (λ len. quoted_len bytes.now ≡ Some len) }
+    ensures no_return { IfSome result (λ len. first_bare_return (take len bytes.now) ≡ None) }
+    ensures within { IfSome result (λ len. len ≤ length bytes.now) }
+{
+    let i = memchr3(b'\'', b'\\', b'\r', bytes)?;
+    if bytes[i] == b'\'' { Some(i + 1) } else { None }
+}
+
+/// The string that `bytes` open.
+#[inline(always)]
+pub fn string_front(bytes: &[u8], kind: Kind, at: usize) -> Result<(Kind, usize), LexFault>
+    requires fits { at + length bytes.now < 2 ^ 64 }
+    requires opened { length (opener kind) ≤ length bytes.now }
+    requires opens { opens bytes.now ≡ Some kind }
+    ensures { result ≡ string_front at kind bytes.now }
+{
+    if let Kind::PlainString = kind {
+        if let Some(len) = simple_len(&bytes[1..]) {
+            return Ok((kind, 1 + len));
+        }
+    }
+    searched_front(bytes, kind, at)
 }

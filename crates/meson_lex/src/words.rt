@@ -85,6 +85,7 @@ pub fn is_identifier(name: &str) -> bool
 }
 
 /// The word that `bytes` begin with.
+#[inline(always)]
 #[tactic(auto, unfolding(crate::specs::Scan::word_front))]
 pub fn word_front(bytes: &[u8]) -> Result<(Kind, usize), LexFault>
     ensures { result ≡ word_front bytes.now }

@@ -1,5 +1,6 @@
 -- A row of any level is what stands behind its first operand.
-use Rattle.std.proofs.Common.{◌≡◌, ℕ, zero, suc, ◌-◌, Bool, false, ◌==◌, [], Some, None, refl, ap, sym, ◌∙◌, arith}
+use Rattle.std.proofs.Common.{◌≡◌, ℕ, zero, suc, ◌+◌, ◌-◌, ◌<◌, Bool, false, ◌==◌, [], Some, None, refl, ap, sym, ◌∙◌, ⊎_elim, arith}
+use Rattle.std.proofs.lemmas.Bool.{cases_lt}
 use Rattle.std.proofs.lemmas.Grind.{common_steps}
 use Rattle.meson_lex.specs.declared.kinds.Span.{Span}
 use Rattle.meson_syntax.specs.Input.{Input, Outcome, Parser, and_then, from, kind, left, span_from}
@@ -55,3 +56,36 @@ module _ (room : Bool) (inner : Parser (Expression Span)) where
       row_with-suc n start e i
       ∙ ap (λ o. and_then o (behind n start)) (row_with-none n start e i none)
       ∙ ap (λ o. and_then o (λ os k. Some (with_operands (span_from start k) e os, k))) (operands-other (suc n) i (let other : (row_of (kind i) == suc n) ≡ false = grind (arith, common_steps) in other))
+
+  -- the row of the next level is what stands behind the one that is read
+  row_with-more : (n start : ℕ) (e e' : Expression Span) (i j : Input) (o : Outcome (Expression Span)) → row_with room inner n start e i ≡ Some (e', j) → behind n start e' j ≡ o → row_with room inner (suc n) start e i ≡ o
+  row_with-more n start e e' i j o so_far more = row_with-suc n start e i ∙ ap (λ o. and_then o (behind n start)) so_far ∙ more
+
+  next : (n : ℕ) → n + 1 ≡ suc n
+  next n = let e : n + 1 ≡ suc n = omega arith in e
+
+  -- an operator of the next level follows
+  pub row_with-longer : (n start : ℕ) (e e' : Expression Span) (i j : Input) (o : Outcome (Expression Span)) → row_with room inner n start e i ≡ Some (e', j)
+      → and_then (operands room inner (n + 1) j) (λ os k. Some (with_operands (span_from start k) e' os, k)) ≡ o → row_with room inner (n + 1) start e i ≡ o
+  row_with-longer n start e e' i j o so_far more =
+      ap (λ m. row_with room inner m start e i) (next n)
+      ∙ row_with-more n start e e' i j o so_far (ap (λ m. and_then (operands room inner m j) (λ os k. Some (with_operands (span_from start k) e' os, k))) (sym (next n)) ∙ more)
+
+  -- none does
+  pub row_with-same : (n start : ℕ) (e e' : Expression Span) (i j : Input) → row_with room inner n start e i ≡ Some (e', j) → (row_of (kind j) == n + 1) ≡ false → row_with room inner (n + 1) start e i ≡ Some (e', j)
+  unfolding with_operands
+  row_with-same n start e e' i j so_far other =
+      row_with-longer n start e e' i j (Some (e', j)) so_far (ap (λ o. and_then o (λ os k. Some (with_operands (span_from start k) e' os, k))) (operands-other (n + 1) j other))
+
+  -- where a tighter row is refused, each row is
+  fails : (n m start : ℕ) (e : Expression Span) (i : Input) → row_with room inner (suc n) start e i ≡ None → n < m → row_with room inner m start e i ≡ None
+  fails n zero start e i none below = absurd (omega (arith, below))
+  fails n (suc m) start e i none below = ⊎_elim
+      (λ under. row_with-suc m start e i ∙ ap (λ o. and_then o (behind m start)) (fails n m start e i none under))
+      (λ over. let same : suc n ≡ suc m = omega arith in ap (λ k. row_with room inner k start e i) (sym same) ∙ none)
+      (cases_lt n m)
+
+  pub row_with-fails : (n m start : ℕ) (e e' : Expression Span) (i j : Input) → row_with room inner n start e i ≡ Some (e', j) → n < m
+      → and_then (operands room inner (n + 1) j) (λ os k. Some (with_operands (span_from start k) e' os, k)) ≡ None → row_with room inner m start e i ≡ None
+  row_with-fails n m start e e' i j so_far below refused =
+      fails n m start e i (ap (λ m. row_with room inner m start e i) (sym (next n)) ∙ row_with-longer n start e e' i j None so_far refused) below

@@ -98,7 +98,7 @@ impl<'a, F: Fn(Global, &[u8], &mut Cursor<'_>, usize) -> Result<Expr, ParseFault
         for _turn in 0..self.left(tokens) {
             let element = self.element(tokens, bracket, seen)?;
             seen = is_named(&element);
-            found.push(element)?;
+            found.push_before(element, self.sees(tokens, Kind::Comma))?;
             if !self.eat(tokens, Kind::Comma) {
                 self.expect(tokens, closes(bracket))?;
                 return Ok((false, found));

@@ -65,14 +65,31 @@ impl<T> Many<T> {
 }
 
 impl<T: Drop> Many<T> {
+    /// Most lists of this kind have one element or two: their memory is doubled from there on.
     pub(crate) fn push(&mut self, item: T) -> Result<(), AllocError>
         ensures ok { OnOk result (self.new ≡ self.old ++ item ∷ []) }
         ensures err { OnErr result (self.new ≡ self.old) }
     {
-        // Most lists have one element or two: their memory is doubled from there on.
-        let len = self.vec.len();
-        if len == self.vec.capacity() {
-            self.vec.reserve_exact(len.max(2))?;
+        let room = self.vec.len().max(2);
+        self.push_with_room(item, room)
+    }
+
+    /// An element behind which others are to come, or none: the last one takes no more memory than it needs.
+    pub(crate) fn push_before(&mut self, item: T, others: bool) -> Result<(), AllocError>
+        ensures ok { OnOk result (self.new ≡ self.old ++ item ∷ []) }
+        ensures err { OnErr result (self.new ≡ self.old) }
+    {
+        let room = if others { self.vec.len().max(4) } else { 1 };
+        self.push_with_room(item, room)
+    }
+
+    /// Where no memory is left, it is made for so many more.
+    fn push_with_room(&mut self, item: T, room: usize) -> Result<(), AllocError>
+        ensures ok { OnOk result (self.new ≡ self.old ++ item ∷ []) }
+        ensures err { OnErr result (self.new ≡ self.old) }
+    {
+        if self.vec.len() == self.vec.capacity() {
+            self.vec.reserve_exact(room)?;
         }
         self.vec.reserve(1)?;
         self.vec.push_reserved(item);

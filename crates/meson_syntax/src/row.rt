@@ -2,7 +2,8 @@
 //!
 //! The rules are those of the Syntax page of the Meson manual.
 
-ghost use Rattle.std.specs.Prelude.{◌≡◌, ◌≤◌, IfOk};
+ghost use Rattle.std.specs.Prelude.{◌≡◌, ◌≤◌, Some, IfOk};
+ghost use Rattle.meson_syntax.specs.Input.{and_then, span_from};
 ghost use Rattle.meson_syntax.specs.Nests.{Follows, Nests, Runs, operator_view};
 ghost use Rattle.meson_syntax.specs.Reading as spec;
 ghost use Rattle.meson_syntax.specs.Rows.{operands, row_with};
@@ -63,7 +64,6 @@ impl<'a, F: Fn(Global, &[u8], &mut Cursor<'_>, usize) -> Result<Expr, ParseFault
 
     /// The row of this level, or the tighter expression, that begins with this operand, which is read and began at `start`.
     #[cycle(row)]
-    #[tactic(auto, unfolding(crate::specs::Rows::row_with))]
     fn row_with(
         &self,
         tokens: &mut Cursor<'_>,
@@ -75,17 +75,31 @@ impl<'a, F: Fn(Global, &[u8], &mut Cursor<'_>, usize) -> Result<Expr, ParseFault
         requires at_most { level ≤ 6 }
         ensures { Follows (λ room inner. row_with room inner level start (expr_view self.now.source.now first)) expr_view self.now.source.now self.now.depth tokens.old result tokens.new }
     {
-        if level == 0 {
-            return Ok(first);
+        let mut read = first;
+        // From the tightest row on: what is read is the first operand of the next one.
+        for tighter in 0..level {
+            if row_of(self.peek(tokens)) == tighter + 1 {
+                read = self.longer(tokens, tighter + 1, start, read)?;
+            }
         }
-        // Most operands stand alone, whatever the level.
-        if row_of(self.peek(tokens)) == 0 {
-            return Ok(first);
-        }
-        let first = self.row_with(tokens, level - 1, start, first)?;
-        if row_of(self.peek(tokens)) != level {
-            return Ok(first);
-        }
+        Ok(read)
+    }
+
+    /// The row of this level alone that begins with this operand, which is read and began at `start`.
+    #[cycle(row)]
+    #[inline(never)]
+    fn longer(
+        &self,
+        tokens: &mut Cursor<'_>,
+        level: u8,
+        start: usize,
+        first: Expr,
+    ) -> Result<Expr, ParseFault>
+        requires nests { Nests self.now.depth (F.pre self.now.deeper) (F.post self.now.deeper) }
+        requires at_least { 1 ≤ level }
+        requires at_most { level ≤ 6 }
+        ensures { Follows (λ room inner i. and_then (operands room inner level i) (λ os j. Some (spec.with_operands (span_from start j) (expr_view self.now.source.now first) os, j))) expr_view self.now.source.now self.now.depth tokens.old result tokens.new }
+    {
         let rest = self.operands(tokens, level)?;
         let span = self.since(tokens, start);
         Ok(self.with_operands(span, first, rest)?)
@@ -126,6 +140,7 @@ impl<'a, F: Fn(Global, &[u8], &mut Cursor<'_>, usize) -> Result<Expr, ParseFault
     }
 
     /// An expression with this operator before it, which comes next.
+    #[inline(never)]
     fn prefixed(&self, tokens: &mut Cursor<'_>, operator: UnaryOperator) -> Result<Expr, ParseFault>
         requires { Nests self.now.depth (F.pre self.now.deeper) (F.post self.now.deeper) }
         ensures { Follows (λ room inner. spec.unary_by room inner (Some operator)) expr_view self.now.source.now self.now.depth tokens.old result tokens.new }

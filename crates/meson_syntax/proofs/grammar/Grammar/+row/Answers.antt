@@ -1,13 +1,15 @@
-use Rattle.std.proofs.Common.{arith, suc, ◌-◌}
+use Rattle.std.proofs.Common.{◌≡◌, ◌==◌, ◌+◌, ◌<◌, false, refl, arith, ◌-◌, Some}
 use Rattle.std.proofs.lemmas.Grind.{common_steps}
 use Rattle.meson_syntax.specs.Cursor.{input}
-use Rattle.meson_syntax.specs.Reading.{operands_from, row_at, expression, room, with_operands}
+use Rattle.meson_syntax.specs.Input.{kind}
+use Rattle.meson_syntax.specs.Reading.{operands_from, row_at, row_of, expression, room}
 use Rattle.meson_syntax.specs.Rows.{operands, row_with}
 use Rattle.meson_syntax.specs.View.{expr_view, operands_view}
-use Rattle.meson_syntax.proofs.Rows.{operands-other, row_at-with, row_with-none}
-use Rattle.meson_syntax.proofs.Turns.{one_more, deeper}
+use Rattle.meson_syntax.proofs.Rows.{row_at-with, row_with-fails, row_with-longer, row_with-none, row_with-same}
+use Rattle.meson_syntax.proofs.Turns.{one_more}
 use Rattle.meson_syntax.proofs.Views.{operands_view-push}
 use Rattle.meson_syntax.proofs.grammar.Grammar.+row.Goals as goal
+use Rattle.meson_syntax.proofs.grammar.Grammar.+row.Goals.{row_with-then-row_of-tighter+in_ok-read, row_with-else-row_of-tighter}
 
 pub operands-loop-turn-init : goal.operands-loop-turn-init
 unfolding operands
@@ -43,34 +45,10 @@ row-returns g t c =
     let e = row_at-with (room c.args.self.now.depth) (expression c.args.self.now.depth) c.args.level (input c.args.self.now.source.now c.args.tokens.now) in
     grind (arith, common_steps)
 
-pub row_with-returns-in_err-first : goal.row_with-returns-in_err-first
-unfolding row_with
-row_with-returns-in_err-first g t c =
-    let e = deeper (λ n. row_with (room c.args.self.now.depth) (expression c.args.self.now.depth) n c.args.start (expr_view c.args.self.now.source.now c.args.first) (input c.args.self.now.source.now c.args.tokens.now)) c.args.level (omega arith) in
-    grind (arith, common_steps)
-
-pub row_with-returns-in_err-rest : goal.row_with-returns-in_err-rest
-unfolding row_with
-row_with-returns-in_err-rest g t c =
-    let e = deeper (λ n. row_with (room c.args.self.now.depth) (expression c.args.self.now.depth) n c.args.start (expr_view c.args.self.now.source.now c.args.first) (input c.args.self.now.source.now c.args.tokens.now)) c.args.level (omega arith) in
-    grind (arith, common_steps)
-
-pub row_with-returns-then-row_of-eq0 : goal.row_with-returns-then-row_of-eq0
-row_with-returns-then-row_of-eq0 g t c =
-    let e = row_with-none (room c.args.self.now.depth) (expression c.args.self.now.depth) c.args.level c.args.start (expr_view c.args.self.now.source.now c.args.first) (input c.args.self.now.source.now c.args.tokens.now) in
-    grind (arith, common_steps)
-
 pub row-returns-then-row_of-eq0 : goal.row-returns-then-row_of-eq0
 row-returns-then-row_of-eq0 g t c =
     let e = row_at-with (room c.args.self.now.depth) (expression c.args.self.now.depth) c.args.level (input c.args.self.now.source.now c.args.tokens.now) in
     let f = row_with-none (room c.args.self.now.depth) (expression c.args.self.now.depth) c.args.level c.from-start.result (expr_view c.args.self.now.source.now c.in_ok-first.first) (input c.args.self.now.source.now c.unaried.new.tokens) in
-    grind (arith, common_steps)
-
-pub row_with-returns-then-row_of-level : goal.row_with-returns-then-row_of-level
-unfolding row_with with_operands
-row_with-returns-then-row_of-level g t c =
-    let e = deeper (λ n. row_with (room c.args.self.now.depth) (expression c.args.self.now.depth) n c.args.start (expr_view c.args.self.now.source.now c.args.first) (input c.args.self.now.source.now c.args.tokens.now)) c.args.level (omega arith) in
-    let f = operands-other (room c.args.self.now.depth) (expression c.args.self.now.depth) (suc (c.args.level - 1)) (input c.args.self.now.source.now c.row_with.new.tokens) in
     grind (arith, common_steps)
 
 pub operands-returns : goal.operands-returns
@@ -81,10 +59,23 @@ pub operands-returns-then-row_of-level : goal.operands-returns-then-row_of-level
 unfolding operands_from
 operands-returns-then-row_of-level g t c = grind (arith, common_steps)
 
-pub row_with-returns : goal.row_with-returns
+pub row_with-loop-tighter-init : goal.row_with-loop-tighter-init
 unfolding row_with
-row_with-returns g t c = grind (arith, common_steps)
+row_with-loop-tighter-init g t c = refl
 
-pub row_with-returns-then-level-eq0 : goal.row_with-returns-then-level-eq0
-unfolding row_with
-row_with-returns-then-level-eq0 g t c = grind (arith, common_steps)
+pub row_with-returns-in_err-read : goal.row_with-returns-in_err-read
+row_with-returns-in_err-read g t c =
+    let below : c.loop-tighter.tighter < c.args.level = grind (arith, common_steps) in
+    let f = row_with-fails (room c.args.self.now.depth) (expression c.args.self.now.depth) c.loop-tighter.tighter c.args.level c.args.start (expr_view c.args.self.now.source.now c.args.first) (expr_view c.args.self.now.source.now c.loop-tighter.read) (input c.args.self.now.source.now c.args.tokens.now) (input c.args.self.now.source.now c.loop-tighter.tokens) c.loop-tighter.invariant below in
+    grind (arith, common_steps)
+
+pub row_with-loop-tighter-preserved : goal.row_with-loop-tighter-preserved
+row_with-loop-tighter-preserved g t c = elim c.if-row_of-tighter.branch [
+  | row_with-then-row_of-tighter+in_ok-read w ↦
+      row_with-longer (room c.args.self.now.depth) (expression c.args.self.now.depth) c.loop-tighter.tighter c.args.start (expr_view c.args.self.now.source.now c.args.first) (expr_view c.args.self.now.source.now c.loop-tighter.read) (input c.args.self.now.source.now c.args.tokens.now) (input c.args.self.now.source.now c.loop-tighter.tokens) (Some (expr_view c.args.self.now.source.now c.if-row_of-tighter.read, input c.args.self.now.source.now c.if-row_of-tighter.tokens)) c.loop-tighter.invariant
+      (grind (arith, common_steps))
+  | row_with-else-row_of-tighter w ↦
+      let other : (row_of (kind (input c.args.self.now.source.now c.loop-tighter.tokens)) == c.loop-tighter.tighter + 1) ≡ false = grind (arith, common_steps) in
+      let f = row_with-same (room c.args.self.now.depth) (expression c.args.self.now.depth) c.loop-tighter.tighter c.args.start (expr_view c.args.self.now.source.now c.args.first) (expr_view c.args.self.now.source.now c.loop-tighter.read) (input c.args.self.now.source.now c.args.tokens.now) (input c.args.self.now.source.now c.loop-tighter.tokens) c.loop-tighter.invariant other in
+      grind (arith, common_steps)
+]
