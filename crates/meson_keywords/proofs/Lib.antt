@@ -18,7 +18,7 @@ mod OptionsDoable
 mod PassingElements
 mod RemovalsDoable
 mod Requests
-mod RequestsLeave
+pub mod RequestsLeave
 mod StepsBehind
 mod StepsLeave
 mod TaskMay
