@@ -26,7 +26,7 @@ mod RemovedSpots
 mod Renamed
 mod RenamedStrings
 mod SourcesAddable
-mod SourcesAdded
+pub mod SourcesAdded
 pub mod SourcesMeant
 mod SpotsApart
 mod SpotsFound

@@ -1,4 +1,4 @@
-mod AddedTargets
+pub mod AddedTargets
 mod ErasedParts
 mod NewTargets
 mod SetNames
