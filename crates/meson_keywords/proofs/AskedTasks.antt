@@ -26,16 +26,13 @@ use Rattle.meson_keywords.proofs.KeyNames.{identifier_list_key, switch_key, text
 use Rattle.meson_keywords.proofs.TasksSoFar.{value_may}
 use Rattle.meson_keywords.proofs.WrittenElements.{elements_are, list_level, list_shallow, list_written, switch_is}
 use Rattle.meson_steps.proofs.StepsDoable.{text_written}
+use Rattle.meson_steps.proofs.WentWell.{then_was}
 use Rattle.meson_steps.specs.WrittenValues.{written}
 
 abbrev pub MayAll : List Task → Type 0
 MayAll ts = AllByRecursion MayBeWritten ts
 
 -- ---- what a result gives
-
-pub first_ok : {A B : Type 0} (r : Result A Refusal) (f : A → Result B Refusal) (b : B) → then_ok r f ≡ Ok b → (a : A) × (r ≡ Ok a) × (f a ≡ Ok b)
-first_ok (Ok a) f b is = (a, refl, is)
-first_ok (Err e) f b is = absurd cc
 
 abbrev ok_of : {A : Type 0} → A → Result A Refusal
 ok_of a = Ok a
@@ -74,7 +71,7 @@ checked_by e ts us false is h utf8 = absurd cc
 
 values_may : (e : ElementKind) (key : List ℕ) (s : Setting) (us : List (List ℕ)) → IsSettingText s → list_values e key s ≡ Ok us → AreElements e us
 values_may e key s us utf8 is =
-    let f = first_ok (of_kind key (texts_of s)) (checked_values e) us is in
+    let f = then_was (of_kind key (texts_of s)) (checked_values e) us is in
     checked_by e f.0 us (are_elements e f.0) refl f.2 (are_given s f.0 utf8 (given key (texts_of s) f.0 f.1))
 
 switch_may : (b : Bool) → IsValue (written_switch b)
@@ -95,7 +92,7 @@ value_by : (k : ValueKind) (key : List ℕ) (s : Setting) (new : Written (Expres
 value_by value.Text key s new utf8 is = text_by key s new utf8 is
 value_by value.Switch key s new utf8 is = switch_by key (truth_of s) new is
 value_by (value.ListOf e) key s new utf8 is =
-    let f = first_ok (list_values e key s) (λ texts. Ok (written_list e texts)) new is in
+    let f = then_was (list_values e key s) (λ texts. Ok (written_list e texts)) new is in
     let are = values_may e key s f.0 utf8 f.1 in
     subst IsValue (ok_is (written_list e f.0) new f.2) (list_written e f.0 are, list_level e f.0 are, list_shallow e f.0 are)
 
@@ -108,14 +105,14 @@ may_append (t ∷ ts) us may more = (may.0, may_append ts us may.1 more)
 may_each : {X : Type 0} (P : X → Type 0) (make : X → Result (List Task) Refusal) → ((x : X) (ts : List Task) → P x → make x ≡ Ok ts → MayAll ts) → (xs : List X) (ts : List Task) → AllByRecursion P xs → each_made make xs ≡ Ok ts → MayAll ts
 may_each P make one [] ts all is = let same : [] ≡ ts = cc in subst MayAll same tt
 may_each P make one (x ∷ xs) ts all is =
-    let f = first_ok (make x) (λ here. then_ok (each_made make xs) (λ later. Ok (here ++ later))) ts is in
-    let g = first_ok (each_made make xs) (λ later. Ok (f.0 ++ later)) ts f.2 in
+    let f = then_was (make x) (λ here. then_ok (each_made make xs) (λ later. Ok (here ++ later))) ts is in
+    let g = then_was (each_made make xs) (λ later. Ok (f.0 ++ later)) ts f.2 in
     subst MayAll (ok_is (f.0 ++ g.0) ts g.2) (may_append f.0 g.0 (one x f.0 all.0 f.1) (may_each P make one xs g.0 all.1 g.1))
 
 set_may : (r : Role) (pair : List ℕ × Setting) (ts : List Task) → IsPairText pair → set_entry r pair ≡ Ok ts → MayAll ts
 set_may r pair ts utf8 is =
-    let f = first_ok (kind_of r pair.0) (λ k. then_ok (written_value k pair.0 pair.1) (λ new. Ok (set pair.0 new ∷ []))) ts is in
-    let g = first_ok (written_value f.0 pair.0 pair.1) (λ new. Ok (set pair.0 new ∷ [])) ts f.2 in
+    let f = then_was (kind_of r pair.0) (λ k. then_ok (written_value k pair.0 pair.1) (λ new. Ok (set pair.0 new ∷ []))) ts is in
+    let g = then_was (written_value f.0 pair.0 pair.1) (λ new. Ok (set pair.0 new ∷ [])) ts f.2 in
     subst MayAll (ok_is (set pair.0 g.0 ∷ []) ts g.2) ((key_may r pair.0 utf8.0 f.0 f.1, value_by f.0 pair.0 pair.1 g.0 utf8.1 g.1), tt)
 
 -- the key of a list and its values
@@ -123,9 +120,9 @@ list_may : (r : Role) (pair : List ℕ × Setting) (make : ElementKind → List 
     → then_ok (then_ok (kind_of r pair.0) (list_kind pair.0)) (λ e. then_ok (list_values e pair.0 pair.1) (λ values. Ok (make e values))) ≡ Ok ts
     → (e : ElementKind) × (values : List (List ℕ)) × IsKey pair.0 × AreElements e values × (make e values ≡ ts)
 list_may r pair make ts utf8 is =
-    let f = first_ok (then_ok (kind_of r pair.0) (list_kind pair.0)) (λ e. then_ok (list_values e pair.0 pair.1) (λ values. Ok (make e values))) ts is in
-    let g = first_ok (kind_of r pair.0) (list_kind pair.0) f.0 f.1 in
-    let h = first_ok (list_values f.0 pair.0 pair.1) (λ values. Ok (make f.0 values)) ts f.2 in
+    let f = then_was (then_ok (kind_of r pair.0) (list_kind pair.0)) (λ e. then_ok (list_values e pair.0 pair.1) (λ values. Ok (make e values))) ts is in
+    let g = then_was (kind_of r pair.0) (list_kind pair.0) f.0 f.1 in
+    let h = then_was (list_values f.0 pair.0 pair.1) (λ values. Ok (make f.0 values)) ts f.2 in
     (f.0, h.0, key_may r pair.0 utf8.0 g.0 g.1, values_may f.0 pair.0 pair.1 h.0 utf8.1 h.1, ok_is (make f.0 h.0) ts h.2)
 
 add_may : (r : Role) (pair : List ℕ × Setting) (ts : List Task) → IsPairText pair → add_entry r pair ≡ Ok ts → MayAll ts
@@ -144,17 +141,17 @@ remove_may r pair ts utf8 is =
 
 delete_may : (r : Role) (key : List ℕ) (ts : List Task) → Unit {0} → delete_entry r key ≡ Ok ts → MayAll ts
 delete_may r key ts u is =
-    let f = first_ok (kind_of r key) (λ k. Ok (delete key ∷ [])) ts is in
+    let f = then_was (kind_of r key) (λ k. Ok (delete key ∷ [])) ts is in
     subst MayAll (ok_is (delete key ∷ []) ts f.2) (tt, tt)
 
 set_option_may : (pair : List ℕ × List ℕ) (ts : List Task) → IsUtf8 pair.0 × IsUtf8 pair.1 → set_option_entry pair ≡ Ok ts → MayAll ts
 set_option_may pair ts utf8 is =
-    let f = first_ok (checked_option pair.0) (λ _. Ok (set_option pair.0 pair.1 ∷ [])) ts is in
+    let f = then_was (checked_option pair.0) (λ _. Ok (set_option pair.0 pair.1 ∷ [])) ts is in
     subst MayAll (ok_is (set_option pair.0 pair.1 ∷ []) ts f.2) (utf8, tt)
 
 delete_option_may : (name : List ℕ) (ts : List Task) → Unit {0} → delete_option_entry name ≡ Ok ts → MayAll ts
 delete_option_may name ts u is =
-    let f = first_ok (checked_option name) (λ _. Ok (delete_option name ∷ [])) ts is in
+    let f = then_was (checked_option name) (λ _. Ok (delete_option name ∷ [])) ts is in
     subst MayAll (ok_is (delete_option name ∷ []) ts f.2) (tt, tt)
 
 any : {X : Type 0} (xs : List X) → AllByRecursion (λ (x : X). Unit {0}) xs

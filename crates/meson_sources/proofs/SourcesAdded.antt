@@ -7,6 +7,7 @@ use Rattle.meson_syntax.specs.Operators.{holds_pairs, holds_values}
 use Rattle.meson_syntax.specs.Grammar.{LevelArguments, LevelFile}
 use Rattle.meson_syntax.specs.Paths.{ListAt, list_at, nth}
 use Rattle.meson_syntax.specs.Tree.{Nowhere, Plain, Argument, plain, named, pair, arguments_of, erase}
+use Rattle.meson_syntax.proofs.parsing.Steps.{some-injective}
 use Rattle.meson_syntax.proofs.paths.Reaching.{and-then-some, list-fits, map-some}
 use Rattle.meson_edit.specs.Edits.{Edit, First, After, edited, edited_elements, edited_list, elements, first_element, inserted, with_elements}
 use Rattle.meson_calls.specs.declared.call.CallRef.{CallRef}
@@ -30,9 +31,6 @@ use Rattle.meson_sources.proofs.PlainCounts.{count_erased, elements_are, plain_c
 use Rattle.meson_sources.proofs.SourcesAddable.{sources_home}
 use Rattle.meson_sources.proofs.TargetMarks.{sources_stand}
 use Rattle.meson_sources.proofs.TargetsFound.{targets_stand}
-
-some_is : {A : Type 0} (a b : A) → Some a ≡ Some b → a ≡ b
-some_is a b same = cc
 
 -- ---- a step, by what it leaves
 
@@ -67,7 +65,7 @@ module _ (list : CallRef) (e : Edit) (of_list : (t : Plain) → edited e t ≡ e
       let p = and-then-some (λ q. option_map (λ l. q.back (with_elements q.list l)) (edited_elements e (elements q.list))) (list_at c.old path) c.new (sym (of_list c.old) ∙ c.is) in
       let y = map-some (λ l. p.0.back (with_elements p.0.list l)) (edited_elements e (elements p.0.list)) c.new p.2 in
       let again = there_again c.old path p.0 p.1 y.0 in
-      let same : elements p.0.list ≡ xs = some_is _ _ (sym (ap (λ o. option_and_then (λ t. option_map (λ l. elements l.list) (list_at t path)) o) c.was ∙ ap (option_map (λ (l : ListAt Nowhere). elements l.list)) p.1) ∙ had) in
+      let same : elements p.0.list ≡ xs = some-injective _ _ (sym (ap (λ o. option_and_then (λ t. option_map (λ l. elements l.list) (list_at t path)) o) c.was ∙ ap (option_map (λ (l : ListAt Nowhere). elements l.list)) p.1) ∙ had) in
       record {
         ys = y.0;
         are = ap (edited_elements e) (sym same) ∙ y.1;
@@ -92,7 +90,7 @@ drop_front [] back = refl
 drop_front (x ∷ front) back = drop_front front back
 
 none_before : (a : Argument Nowhere) (xs ys : List (Argument Nowhere)) → first_element a xs ≡ Some ys → (xs ≡ []) × (a ∷ [] ≡ ys)
-none_before a [] ys is = (refl, some_is _ _ is)
+none_before a [] ys is = (refl, some-injective _ _ is)
 none_before a (x ∷ xs) ys is = absurd cc
 
 module _ (list : CallRef) where
@@ -101,7 +99,7 @@ module _ (list : CallRef) where
 
   puts : (names : List (List ℕ)) (front back : List (Argument Nowhere)) (trees after : List Plain) → elements_in list trees ≡ Some (front ++ back) → all_stepped (edits.inserted list (length front) names) trees ≡ Some after
       → elements_in list after ≡ Some (front ++ (strings names ++ back))
-  puts [] front back trees after had made = ap (elements_in list) (sym (some_is _ _ made)) ∙ had
+  puts [] front back trees after had made = ap (elements_in list) (sym (some-injective _ _ made)) ∙ had
   puts (name ∷ more) [] back trees after had made =
       let new = written_source name in
       let s = and-then-some (all_stepped (edits.inserted list 1 more)) (stepped (step_in list (First path new)) trees) after made in
@@ -117,7 +115,7 @@ module _ (list : CallRef) where
       let last = nth_last x front back in
       let put : inserted n new.node (x ∷ (front ++ back)) last.0 ≡ (x ∷ front ++ new.node ∷ []) ++ back =
       ap₂ (λ l m. x ∷ (l ++ new.node ∷ m)) (take_front front back) (drop_front front back) ∙ ap (λ l. x ∷ l) (sym (append_assoc front (new.node ∷ []) back)) in
-      let are : e.ys ≡ (x ∷ front ++ new.node ∷ []) ++ back = some_is _ _ (sym e.are ∙ ap (option_map (inserted n new.node (x ∷ (front ++ back)))) last.1) ∙ put in
+      let are : e.ys ≡ (x ∷ front ++ new.node ∷ []) ++ back = some-injective _ _ (sym e.are ∙ ap (option_map (inserted n new.node (x ∷ (front ++ back)))) last.1) ∙ put in
       let longer : length (x ∷ front ++ new.node ∷ []) ≡ suc (suc n) = omega (arith, length-append front (new.node ∷ [])) in
       puts more (x ∷ front ++ new.node ∷ []) back s.0 after (e.has ∙ ap Some are) (ap (λ m. all_stepped (edits.inserted list m more) s.0) longer ∙ s.2)
       ∙ ap (λ l. Some (x ∷ l)) (append_assoc front (new.node ∷ []) (strings more ++ back))

@@ -23,6 +23,8 @@ use Rattle.meson_calls.specs.Loading.{named_trees, project, views}
 use Rattle.meson_calls.specs.Parts.{Part, arguments_parts, file_parts, parts, parts_from, statement_parts, statements_parts}
 use Rattle.meson_calls.specs.Project.{Placed, Project, child, place, placed}
 use Rattle.meson_calls.specs.Roles.{assigned_values, one_of, or_else, target_functions, with_name, with_role}
+use Rattle.meson_steps.proofs.WentWell.{then_was}
+use Rattle.meson_syntax.proofs.parsing.Steps.{some-injective}
 use Rattle.meson_steps.specs.Names.{checked_names, distinct}
 use Rattle.meson_steps.specs.Results.{plain_trees}
 use Rattle.meson_steps.specs.Steps.{Step, all_stepped, changed_at}
@@ -63,9 +65,6 @@ record Comes (id : List ℕ) (n : ℕ) (p : Project Nowhere) (x : Statement Nowh
   in_file : at.file ≡ n + i
   are : named_among id (parts_from n p) ≡ named_among id (statement_parts at x)
 
-some_is : {A : Type 0} (a b : A) → Some a ≡ Some b → a ≡ b
-some_is a b same = cc
-
 module _ (id : List ℕ) (new : Written (Statement Nowhere)) where
   comes : (files : List File) (parsed : List Parsed) (n i : ℕ) (after : List Plain) → changed_at i (edited (Append new)) (map erase (views files parsed)) ≡ Some after
       → named_among id (parts_from n (named_trees files (map erase (views files parsed)))) ≡ [] → Comes id n (named_trees files after) new.node i
@@ -74,7 +73,7 @@ module _ (id : List ℕ) (new : Written (Statement Nowhere)) where
   comes (f ∷ files) (d ∷ parsed) n zero after is none =
       let t = erase (view f.bytes d) in
       let rest = map erase (views files parsed) in
-      let same : file_and_last t new.node ∷ rest ≡ after = some_is _ _ is in
+      let same : file_and_last t new.node ∷ rest ≡ after = some-injective _ _ is in
       let l = last_in n t new.node in
       let here = statement_parts (child (place n []) l.0) new.node in
       let behind = parts_from (n + 1) (named_trees files rest) in
@@ -95,7 +94,7 @@ module _ (id : List ℕ) (new : Written (Statement Nowhere)) where
       later on (Some ts) changed made =
           let t = erase (view f.bytes d) in
           let behind = parts_from (n + 1) (named_trees files (map erase (views files parsed))) in
-          let same : t ∷ ts ≡ after = some_is _ _ made in
+          let same : t ∷ ts ≡ after = some-injective _ _ made in
           let empty = both_empty (named_among id (file_parts n t)) (named_among id behind) (sym (joined id (file_parts n t) behind) ∙ none) in
           let c = on ts changed empty.1 in
           let counted = c.in_file in
@@ -125,10 +124,6 @@ module _ (kind name : List ℕ) (more : List (List ℕ)) (utf8 : IsUtf8 name) (k
 
 -- ---- the command
 
-first_ok : {A B : Type 0} (r : Result A Refusal) (f : A → Result B Refusal) (b : B) → then_ok r f ≡ Ok b → (a : A) × (r ≡ Ok a) × (f a ≡ Ok b)
-first_ok (Ok a) f b done = (a, refl, done)
-first_ok (Err e) f b done = absurd cc
-
 abbrev ok_of : {A : Type 0} → A → Result A Refusal
 ok_of a = Ok a
 
@@ -150,10 +145,10 @@ pub added-targets-are-named : AddedTargetsAreNamed
 added-targets-are-named old name kind folder sources steps after utf8 made done =
     let p = project old in
     let place_it : ℕ → Result (List Step) Refusal = λ file. Ok (appended kind (name ∷ distinct sources) file) in
-    let a = first_ok (checked_kind kind) (λ _. then_ok (checked_names (name ∷ sources)) (λ _. then_ok (not_taken (targets_named p name)) (λ _. then_ok (number_in p folder) place_it))) steps made in
-    let b = first_ok (checked_names (name ∷ sources)) (λ _. then_ok (not_taken (targets_named p name)) (λ _. then_ok (number_in p folder) place_it)) steps a.2 in
-    let c = first_ok (not_taken (targets_named p name)) (λ _. then_ok (number_in p folder) place_it) steps b.2 in
-    let d = first_ok (number_in p folder) place_it steps c.2 in
+    let a = then_was (checked_kind kind) (λ _. then_ok (checked_names (name ∷ sources)) (λ _. then_ok (not_taken (targets_named p name)) (λ _. then_ok (number_in p folder) place_it))) steps made in
+    let b = then_was (checked_names (name ∷ sources)) (λ _. then_ok (not_taken (targets_named p name)) (λ _. then_ok (number_in p folder) place_it)) steps a.2 in
+    let c = then_was (not_taken (targets_named p name)) (λ _. then_ok (number_in p folder) place_it) steps b.2 in
+    let d = then_was (number_in p folder) place_it steps c.2 in
     let new = written_target kind (name ∷ distinct sources) in
     let stepped : all_stepped (appended kind (name ∷ distinct sources) d.0) (plain_trees old) ≡ Some after = ap (λ s. all_stepped s (plain_trees old)) (ok_is (appended kind (name ∷ distinct sources) d.0) steps d.2) ∙ done in
     let none : named_among name (parts_from 0 (named_trees old.files (plain_trees old))) ≡ [] =
