@@ -1,5 +1,5 @@
 -- One edit of an array or a dictionary that is the value of an argument of a call that stands: it may be done, and the call stands with it so edited.
-use Rattle.std.proofs.Common.{◌≡◌, ℕ, zero, suc, ◌+◌, ◌≤◌, List, [], ◌∷◌, ◌++◌, length, length-append, map, take, drop, Some, refl, sym, ap, ap₂, ◌∙◌, subst, arith, false}
+use Rattle.std.proofs.Common.{◌≡◌, ℕ, zero, suc, ◌+◌, ◌≤◌, List, [], ◌∷◌, ◌++◌, append-nil, append_assoc, length, length-append, map, take, drop, Some, refl, sym, ap, ap₂, ◌∙◌, subst, subst₂, arith, false}
 use Rattle.std.specs.Prelude.{All, max, option_and_then, option_map, slice_set}
 use Rattle.meson_syntax.specs.Tree.{Nowhere, Plain, Expression, array, Listing, listing, Argument, plain, named, pair, arguments_of}
 use Rattle.meson_syntax.specs.Grammar.{LevelArgument, LevelExpression, LevelFile, argument_depth, argument_words, arguments_depth, expression_words, expression_depth, listing_depth}
@@ -10,7 +10,8 @@ use Rattle.meson_edit.specs.Places.{IsWritten, Writes}
 use Rattle.meson_edit.specs.Sequences.{MayFollow}
 use Rattle.meson_edit.proofs.sequences.Levelled.{firsts-keep-levels, insertions-keep-levels, removals-keep-levels, replacements-keep-levels}
 use Rattle.meson_calls.specs.declared.call.CallRef.{CallRef}
-use Rattle.meson_keywords.specs.Changing.{CallStands, LeavesCall}
+use Rattle.meson_keywords.specs.Changing.{CallStands}
+use Rattle.meson_keywords.specs.Effects.{put_behind}
 use Rattle.meson_keywords.specs.declared.keys.ElementKind.{ElementKind}
 use Rattle.meson_keywords.specs.KeywordEdits.{all_behind, behind_all}
 use Rattle.meson_keywords.specs.Keys.{element_node, written_element}
@@ -21,7 +22,7 @@ use Rattle.meson_steps.specs.Steps.{step_in}
 use Rattle.meson_steps.specs.Steps.{Step}
 use Rattle.meson_keywords.specs.Tasking.{AreElements}
 use Rattle.std.proofs.lemmas.List.{take_all}
-use Rattle.meson_keywords.proofs.CallEdits.{CallStep, call_step, last_there, more_leaves, no_elements, none_leaves, wrap_step, depth_append, depth_drop, depth_nth, depth_of, depth_take, tree_level, value_depth, xs}
+use Rattle.meson_keywords.proofs.CallEdits.{CallStep, LeavesAs, call_step, last_there, more_leaves, no_elements, none_leaves, wrap_step, depth_append, depth_drop, depth_nth, depth_of, depth_take, tree_level, value_depth, xs}
 use Rattle.meson_keywords.proofs.InnerPlaces.{Container, InnerPlace, array_container, exchanged_at, inner_place}
 use Rattle.meson_steps.proofs.Insertable.{edited_there, elements_with, first_there}
 use Rattle.meson_keywords.proofs.WrittenElements.{element_flat, element_level, element_written}
@@ -141,9 +142,14 @@ module _ (k : Container) (c : CallRef) (trees : List Plain) (all : All MayStand 
         go zero many = record { edit = First path new; is = refl; step = first_put many }
         go (suc m) many = record { edit = After path m new; is = refl; step = after_put m many }
 
--- ---- one behind the other
+-- ---- steps that leave the call, with these elements in the list that one of its arguments is
 
-pub nth_put : {A : Type 0} (ys : List A) (n : ℕ) (it b : A) → nth ys n ≡ Some it → nth (take n ys ++ b ∷ drop (suc n) ys) n ≡ Some b
+pub record HoldsAs (k : Container) (c : CallRef) (steps : List Step) (trees : List Plain) (n : ℕ) (a : Argument Nowhere) (outer : List (Argument Nowhere)) (ys : List (Argument Nowhere)) : Type 0 where
+  pub list : Listing Nowhere
+  pub leaves : LeavesAs c steps trees (exchanged_at n a outer (k.make list))
+  pub are : elements list ≡ ys
+
+nth_put : {A : Type 0} (ys : List A) (n : ℕ) (it b : A) → nth ys n ≡ Some it → nth (take n ys ++ b ∷ drop (suc n) ys) n ≡ Some b
 nth_put [] n it b is = absurd cc
 nth_put (y ∷ ys) zero it b is = refl
 nth_put (y ∷ ys) (suc n) it b is = nth_put ys n it b is
@@ -153,30 +159,84 @@ value_put (plain e) v w is = refl
 value_put (named s x e) v w is = refl
 value_put (pair s e f) v w is = refl
 
-pub puts_leave : (c : CallRef) (k : ElementKind) (ts : List (List ℕ)) → AreElements k ts → (trees : List Plain) (all : All MayStand trees) (s : CallStands c trees) (n : ℕ) (a : Argument Nowhere) (l : Listing Nowhere)
-    → nth (xs c trees all s) n ≡ Some a → value_of a ≡ Some (array l) → LeavesCall c (all_behind (child c n) (length (elements l)) (map (written_element k) ts)) trees
-puts_leave c k [] are trees all s n a l there value = none_leaves c trees all s
-puts_leave c k (t ∷ ts) are trees all s n a l there value =
+same_value : (a : Argument Nowhere) (v : Expression Nowhere) → value_of a ≡ Some v → with_value v a ≡ a
+same_value (plain e) v is = ap plain (sym (some-injective e v is))
+same_value (named s x e) v is = ap (named s x) (sym (some-injective e v is))
+same_value (pair s e f) v is = ap (pair s e) (sym (some-injective f v is))
+
+put_same : (ys : List (Argument Nowhere)) (n : ℕ) (a : Argument Nowhere) (v : Expression Nowhere) → nth ys n ≡ Some a → value_of a ≡ Some v → exchanged_at n a ys v ≡ ys
+put_same [] n a v there value = absurd cc
+put_same (y ∷ ys) zero a v there value = ap (λ z. z ∷ ys) (same_value a v value ∙ sym (some-injective y a there))
+put_same (y ∷ ys) (suc n) a v there value = ap (λ l. y ∷ l) (put_same ys n a v there value)
+
+value_twice : (a : Argument Nowhere) (v w : Expression Nowhere) → with_value w (with_value v a) ≡ with_value w a
+value_twice (plain e) v w = refl
+value_twice (named s x e) v w = refl
+value_twice (pair s e f) v w = refl
+
+put_twice : (ys : List (Argument Nowhere)) (n : ℕ) (a : Argument Nowhere) (v w : Expression Nowhere) → nth ys n ≡ Some a → exchanged_at n (with_value v a) (exchanged_at n a ys v) w ≡ exchanged_at n a ys w
+put_twice [] n a v w there = absurd cc
+put_twice (y ∷ ys) zero a v w there = ap (λ z. z ∷ ys) (value_twice a v w)
+put_twice (y ∷ ys) (suc n) a v w there = ap (λ l. y ∷ l) (put_twice ys n a v w there)
+
+pub holds_same : (k : Container) (c : CallRef) (trees : List Plain) (all : All MayStand trees) (s : CallStands c trees) (n : ℕ) (a : Argument Nowhere) (l : Listing Nowhere) → nth (xs c trees all s) n ≡ Some a
+    → value_of a ≡ Some (k.make l) → HoldsAs k c [] trees n a (xs c trees all s) (elements l)
+holds_same k c trees all s n a l there value =
+    record { list = l; leaves = subst (LeavesAs c [] trees) (sym (put_same (xs c trees all s) n a (k.make l) there value)) (none_leaves c trees all s); are = refl }
+
+-- a step that puts another value there, and steps on that
+module _ (c : CallRef) (trees : List Plain) (all : All MayStand trees) (s : CallStands c trees) (n : ℕ) (a : Argument Nowhere) (there : nth (xs c trees all s) n ≡ Some a) (e : Edit) (w : Expression Nowhere)
+    (st : CallStep c trees all s e (exchanged_at n a (xs c trees all s) w)) where
+  abbrev later : List Plain
+  later = slice_set trees c.file st.now
+
+  abbrev then_there : List (Argument Nowhere)
+  then_there = xs c later st.all_stand st.stands
+
+  pub still_there : nth then_there n ≡ Some (with_value w a)
+  still_there = ap (λ ys. nth ys n) st.are ∙ nth_put (xs c trees all s) n a (with_value w a) there
+
+  pub more_hold : (k : Container) (steps : List Step) (ys : List (Argument Nowhere)) → HoldsAs k c steps later n (with_value w a) then_there ys → HoldsAs k c (step_in c e ∷ steps) trees n a (xs c trees all s) ys
+  more_hold k steps ys r =
+      let same : exchanged_at n (with_value w a) then_there (k.make r.list) ≡ exchanged_at n a (xs c trees all s) (k.make r.list) =
+      ap (λ l. exchanged_at n (with_value w a) l (k.make r.list)) st.are ∙ put_twice (xs c trees all s) n a w (k.make r.list) there in
+      record {
+        list = r.list;
+        leaves = more_leaves c trees all s e _ st steps (exchanged_at n a (xs c trees all s) (k.make r.list)) (subst (LeavesAs c steps later) same r.leaves);
+        are = r.are;
+      }
+
+-- ---- elements one behind the other
+
+pub puts_hold : (c : CallRef) (k : ElementKind) (ts : List (List ℕ)) → AreElements k ts → (trees : List Plain) (all : All MayStand trees) (s : CallStands c trees) (n : ℕ) (a : Argument Nowhere) (l : Listing Nowhere)
+    → nth (xs c trees all s) n ≡ Some a → value_of a ≡ Some (array l)
+    → HoldsAs array_container c (all_behind (child c n) (length (elements l)) (map (written_element k) ts)) trees n a (xs c trees all s) (elements l ++ put_behind k ts)
+puts_hold c k [] are trees all s n a l there value =
+    subst (HoldsAs array_container c [] trees n a (xs c trees all s)) (sym (append-nil (elements l))) (holds_same array_container c trees all s n a l there value)
+puts_hold c k (t ∷ ts) are trees all s n a l there value =
     let e = element_node k t in
     let level = element_level k t in
     let put = put_step array_container c trees all s n a l there value (written_element k t) (element_written k t are.0) (element_flat k t) (refl, refl, level) (λ it. level) in
     let more = elements l ++ plain e ∷ [] in
     let now = with_elements l more in
-    let b = with_value (array now) a in
     let st = put.step in
-    let here = ap (λ ys. nth ys n) st.are ∙ nth_put (xs c trees all s) n a b there in
-    let later = puts_leave c k ts are.1 (slice_set trees c.file st.now) st.all_stand st.stands n b now here (value_put a (array l) (array now) value) in
-    let long : length (elements now) ≡ suc (length (elements l)) = omega (arith, ap length (elements_with l more), length-append (elements l) (plain e ∷ [])) in
+    let after = slice_set trees c.file st.now in
+    let outer = xs c after st.all_stand st.stands in
+    let b = with_value (array now) a in
     let rest = map (written_element k) ts in
-    subst (λ x. LeavesCall c (x ∷ all_behind (child c n) (suc (length (elements l))) rest) trees) (sym put.is)
-    (more_leaves c trees all s put.edit _ st (all_behind (child c n) (suc (length (elements l))) rest) (subst (λ m. LeavesCall c (all_behind (child c n) m rest) (slice_set trees c.file st.now)) long later))
+    let later = puts_hold c k ts are.1 after st.all_stand st.stands n b now (still_there c trees all s n a there put.edit (array now) st) (value_put a (array l) (array now) value) in
+    let long : length (elements now) ≡ suc (length (elements l)) = omega (arith, ap length (elements_with l more), length-append (elements l) (plain e ∷ [])) in
+    let whole : elements now ++ put_behind k ts ≡ elements l ++ put_behind k (t ∷ ts) = ap (λ ys. ys ++ put_behind k ts) (elements_with l more) ∙ append_assoc (elements l) (plain e ∷ []) (put_behind k ts) in
+    subst (λ x. HoldsAs array_container c (x ∷ all_behind (child c n) (suc (length (elements l))) rest) trees n a (xs c trees all s) (elements l ++ put_behind k (t ∷ ts))) (sym put.is)
+    (more_hold c trees all s n a there put.edit (array now) st array_container (all_behind (child c n) (suc (length (elements l))) rest) (elements l ++ put_behind k (t ∷ ts))
+    (subst₂ (λ m ys. HoldsAs array_container c (all_behind (child c n) m rest) after n b outer ys) long whole later))
 
 -- a lone value is wrapped, and elements go behind it
-pub wrap_leaves : (c : CallRef) (k : ElementKind) (ts : List (List ℕ)) → AreElements k ts → (trees : List Plain) (all : All MayStand trees) (s : CallStands c trees) (n : ℕ) (a : Argument Nowhere) (v : Expression Nowhere)
-    → nth (xs c trees all s) n ≡ Some a → value_of a ≡ Some v → expression_depth v ≡ 0 → LeavesCall c (step_in c (Wrap c.path.steps n) ∷ all_behind (child c n) 1 (map (written_element k) ts)) trees
-wrap_leaves c k ts are trees all s n a v there value flat =
+pub wrap_holds : (c : CallRef) (k : ElementKind) (ts : List (List ℕ)) → AreElements k ts → (trees : List Plain) (all : All MayStand trees) (s : CallStands c trees) (n : ℕ) (a : Argument Nowhere) (v : Expression Nowhere)
+    → nth (xs c trees all s) n ≡ Some a → value_of a ≡ Some v → expression_depth v ≡ 0
+    → HoldsAs array_container c (step_in c (Wrap c.path.steps n) ∷ all_behind (child c n) 1 (map (written_element k) ts)) trees n a (xs c trees all s) (plain v ∷ put_behind k ts)
+wrap_holds c k ts are trees all s n a v there value flat =
     let st = wrap_step c trees all s n a v there value flat in
     let l = listing tt false (arguments_of (plain v ∷ [])) in
-    let here = ap (λ ys. nth ys n) st.are ∙ nth_put (xs c trees all s) n a (with_value (array l) a) there in
-    more_leaves c trees all s (Wrap c.path.steps n) _ st (all_behind (child c n) 1 (map (written_element k) ts))
-    (puts_leave c k ts are (slice_set trees c.file st.now) st.all_stand st.stands n (with_value (array l) a) l here (value_put a v (array l) value))
+    more_hold c trees all s n a there (Wrap c.path.steps n) (array l) st array_container (all_behind (child c n) 1 (map (written_element k) ts)) (plain v ∷ put_behind k ts)
+    (puts_hold c k ts are (slice_set trees c.file st.now) st.all_stand st.stands n (with_value (array l) a) l (still_there c trees all s n a there (Wrap c.path.steps n) (array l) st) (value_put a v (array l) value))

@@ -1,7 +1,8 @@
 -- One edit of the list of a call that stands: it may be done, and the call stands.
-use Rattle.std.proofs.Common.{◌≡◌, ℕ, zero, suc, ◌≤◌, List, [], ◌∷◌, ◌++◌, length, take, drop, Some, refl, sym, ap, ◌∙◌, subst, arith, false}
+use Rattle.std.proofs.Common.{◌≡◌, ℕ, zero, suc, ◌≤◌, List, [], ◌∷◌, ◌++◌, length, take, drop, Some, refl, sym, ap, ap₂, ◌∙◌, subst, arith, false}
 use Rattle.std.specs.Prelude.{All, max, option_and_then, option_map, slice_set}
 use Rattle.std.proofs.lemmas.List.Elements.{All-set}
+use Rattle.std.proofs.lemmas.List.{take_all}
 use Rattle.meson_syntax.specs.declared.operator.Bracket.TheVariants as bracket
 use Rattle.meson_syntax.specs.Tree.{Nowhere, Plain, Expression, Listing, listing, Argument, plain, named, pair, arguments_of}
 use Rattle.meson_syntax.specs.Grammar.{LevelArgument, LevelExpression, LevelFile, argument_words, argument_depth, arguments_depth, expression_depth, file_depth, listing_depth}
@@ -19,7 +20,7 @@ use Rattle.meson_keywords.specs.KeywordEdits.{behind_all}
 use Rattle.meson_steps.specs.ListSteps.{AreDoable, MayStand, none, one, wide_depth}
 use Rattle.meson_steps.specs.Steps.{step_in}
 use Rattle.meson_steps.specs.Steps.{Step, all_stepped, stepped}
-use Rattle.meson_keywords.specs.TaskSteps.{elements_in, list_elements, or_same}
+use Rattle.meson_keywords.specs.TaskSteps.{elements_in, list_elements, or_same, trees_after}
 use Rattle.meson_steps.proofs.Insertable.{edited_there, elements_with, first_there, there_again}
 use Rattle.meson_steps.proofs.StepsDoable.{step_doable}
 use Rattle.meson_steps.proofs.WithOne.{all_nth, change_there, changed_there}
@@ -147,64 +148,85 @@ module _ (c : CallRef) (trees : List Plain) (all : All MayStand trees) (s : Call
   no_elements [] empty = refl
   no_elements (y ∷ ys) empty = absurd (omega (arith, empty))
 
-  pub record InsertStep (st : Step) : Type 0 where
+  pub record InsertStep (st : Step) (ys : List (Argument Nowhere)) : Type 0 where
     pub edit : Edit
     pub is : st ≡ step_in c edit
-    pub ys : List (Argument Nowhere)
     pub step : CallStep edit ys
 
   module _ (key : List ℕ) (new : Written (Expression Nowhere)) (writes : IsWritten (written_named key new).bytes (argument_words (written_named key new).node)) (level : LevelExpression new.node) (small : expression_depth new.node ≤ 1) where
     abbrev it : Written (Argument Nowhere)
     it = written_named key new
 
-    first_step : length xs ≡ 0 → CallStep (First path it) (it.node ∷ [])
+    abbrev more : List (Argument Nowhere)
+    more = xs ++ it.node ∷ []
+
+    first_step : length xs ≡ 0 → CallStep (First path it) more
     first_step empty =
         let ys : List (Argument Nowhere) = it.node ∷ [] in
         let made = edited_there s.tree path s.place s.is_place (First path it) ys (first_there it.node xs (no_elements xs empty)) in
         let low : LevelArgument it.node s.place.bracket false = subst (λ b. LevelArgument it.node b false) (sym s.is_round) (refl, level) in
-        call_step (First path it) ys writes made (firsts-keep-levels path it s.tree (s.place.back (with_elements s.place.list ys)) s.place s.is_place low tree_level made) (omega (arith, small))
+        let step = call_step (First path it) ys writes made (firsts-keep-levels path it s.tree (s.place.back (with_elements s.place.list ys)) s.place s.is_place low tree_level made) (omega (arith, small)) in
+        subst (λ l. CallStep (First path it) (l ++ it.node ∷ [])) (sym (no_elements xs empty)) step
 
-    after_step : (m : ℕ) (many : length xs ≡ suc m) → CallStep (After path m it) (inserted m it.node xs (last_there xs m many).0)
+    after_step : (m : ℕ) (many : length xs ≡ suc m) → CallStep (After path m it) more
     after_step m many =
         let last = last_there xs m many in
         let ys = inserted m it.node xs last.0 in
         let made = edited_there s.tree path s.place s.is_place (After path m it) ys (ap (option_map (inserted m it.node xs)) last.1) in
         let follows : MayFollow bracket.Round last.0 (drop (suc m) xs) it.node = (last.2, level) in
-        call_step (After path m it) ys writes made
+        let step = call_step (After path m it) ys writes made
         (insertions-keep-levels path m it s.tree (s.place.back (with_elements s.place.list ys)) s.place s.is_place last.0 last.1 (subst (λ b. MayFollow b last.0 (drop (suc m) xs) it.node) (sym s.is_round) follows) tree_level made)
-        (depth_put (suc m) (suc m) xs it.node (omega (arith, small)))
+        (depth_put (suc m) (suc m) xs it.node (omega (arith, small))) in
+        subst (CallStep (After path m it)) (ap₂ (λ front back. front ++ it.node ∷ back) (take_all (suc m) xs (omega (arith, many))) last.2) step
 
-    pub insert_step : InsertStep (behind_all c (length xs) it)
+    pub insert_step : InsertStep (behind_all c (length xs) it) more
     insert_step = go (length xs) refl
       where
-        go : (n : ℕ) → length xs ≡ n → InsertStep (behind_all c n it)
-        go zero many = record { edit = First path it; is = refl; ys = it.node ∷ []; step = first_step many }
-        go (suc m) many = record { edit = After path m it; is = refl; ys = inserted m it.node xs (last_there xs m many).0; step = after_step m many }
-
-  -- ---- no step, and one
-
-  pub none_leaves : LeavesCall c [] trees
-  none_leaves = record { doable = none trees; stands = s }
-
-  pub one_leaves : (e : Edit) (ys : List (Argument Nowhere)) → CallStep e ys → LeavesCall c (step_in c e ∷ []) trees
-  one_leaves e ys k =
-      let after = ap (λ o. or_same trees (option_and_then (all_stepped []) o)) k.is_stepped in
-      record { doable = k.doable [] (none (slice_set trees c.file k.now)); stands = subst (CallStands c) (sym after) k.stands }
-
-  pub inserted_leaves : (st : Step) → InsertStep st → LeavesCall c (st ∷ []) trees
-  inserted_leaves st i = subst (λ x. LeavesCall c (x ∷ []) trees) (sym i.is) (one_leaves i.edit i.ys i.step)
-
-  stepped_on : (steps : List Step) (ts : List Plain) → AreDoable steps ts → (after : List Plain) × (all_stepped steps ts ≡ Some after)
-  stepped_on steps ts (none now) = (now, refl)
-  stepped_on steps ts (one st more now between writes is stand rest) =
-      let r = stepped_on more between rest in
-      (r.0, ap (option_and_then (all_stepped more)) is ∙ r.1)
-
-  pub more_leaves : (e : Edit) (ys : List (Argument Nowhere)) (k : CallStep e ys) (steps : List Step) → LeavesCall c steps (slice_set trees c.file k.now) → LeavesCall c (step_in c e ∷ steps) trees
-  more_leaves e ys k steps r =
-      let there = stepped_on steps (slice_set trees c.file k.now) r.doable in
-      let after = ap (λ o. or_same trees (option_and_then (all_stepped steps) o)) k.is_stepped ∙ ap (or_same trees) there.1 ∙ sym (ap (or_same (slice_set trees c.file k.now)) there.1) in
-      record { doable = k.doable steps r.doable; stands = subst (CallStands c) (sym after) r.stands }
+        go : (n : ℕ) → length xs ≡ n → InsertStep (behind_all c n it) more
+        go zero many = record { edit = First path it; is = refl; step = first_step many }
+        go (suc m) many = record { edit = After path m it; is = refl; step = after_step m many }
 
   pub elements_are : elements_in c trees ≡ xs
   elements_are = ap (λ o. list_elements (option_and_then (λ t. list_at t path) o)) s.is_tree ∙ ap list_elements s.is_place
+
+-- ---- steps that leave the call, with these elements
+
+pub record LeavesAs (c : CallRef) (steps : List Step) (trees : List Plain) (ys : List (Argument Nowhere)) : Type 0 where
+  pub call : LeavesCall c steps trees
+  pub are : elements_in c (trees_after steps trees) ≡ ys
+
+stepped_on : (steps : List Step) (ts : List Plain) → AreDoable steps ts → (after : List Plain) × (all_stepped steps ts ≡ Some after)
+stepped_on steps ts (none now) = (now, refl)
+stepped_on steps ts (one st more now between writes is stand rest) =
+    let r = stepped_on more between rest in
+    (r.0, ap (option_and_then (all_stepped more)) is ∙ r.1)
+
+-- the trees after a step and further ones that may be done
+pub after_one : (st : Step) (steps : List Step) (ts between : List Plain) → stepped st ts ≡ Some between → AreDoable steps between → trees_after (st ∷ steps) ts ≡ trees_after steps between
+after_one st steps ts between is rest =
+    let there = stepped_on steps between rest in
+    ap (λ o. or_same ts (option_and_then (all_stepped steps) o)) is ∙ ap (or_same ts) there.1 ∙ sym (ap (or_same between) there.1)
+
+module _ (c : CallRef) (trees : List Plain) (all : All MayStand trees) (s : CallStands c trees) where
+  pub none_leaves : LeavesAs c [] trees (xs c trees all s)
+  none_leaves = record { call = record { doable = none trees; stands = s }; are = elements_are c trees all s }
+
+  module _ (e : Edit) (ys : List (Argument Nowhere)) (k : CallStep c trees all s e ys) where
+    abbrev now : List Plain
+    now = slice_set trees c.file k.now
+
+    pub more_leaves : (steps : List Step) (zs : List (Argument Nowhere)) → LeavesAs c steps now zs → LeavesAs c (step_in c e ∷ steps) trees zs
+    more_leaves steps zs r =
+        let after = after_one (step_in c e) steps trees now k.is_stepped r.call.doable in
+        record {
+          call = record { doable = k.doable steps r.call.doable; stands = subst (CallStands c) (sym after) r.call.stands };
+          are = ap (elements_in c) after ∙ r.are;
+        }
+
+    pub one_leaves : LeavesAs c (step_in c e ∷ []) trees ys
+    one_leaves =
+        let last : LeavesAs c [] now ys = record { call = record { doable = none now; stands = k.stands }; are = elements_are c now k.all_stand k.stands ∙ k.are } in
+        more_leaves [] ys last
+
+  pub inserted_leaves : (st : Step) (ys : List (Argument Nowhere)) → InsertStep c trees all s st ys → LeavesAs c (st ∷ []) trees ys
+  inserted_leaves st ys i = subst (λ x. LeavesAs c (x ∷ []) trees ys) (sym i.is) (one_leaves i.edit ys i.step)

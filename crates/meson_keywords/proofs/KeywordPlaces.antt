@@ -20,7 +20,7 @@ one_behind a xs n v t =
     record { number = suc t.number; is_number = omega (arith, is); it = t.it; is_it = t.is_it; is_value = t.is_value }
 
 module _ (key : List ℕ) where
-  abbrev named_from : List (Argument Nowhere) → ℕ → List (Numbered (Expression Nowhere))
+  abbrev pub named_from : List (Argument Nowhere) → ℕ → List (Numbered (Expression Nowhere))
   named_from xs n = filter_map (kept_number (value_with_name key)) (numbered n (arguments_of xs))
 
   by_name : (s : Nowhere) (x : Name Nowhere) (e : Expression Nowhere) (xs : List (Argument Nowhere)) (n : ℕ) (v : Numbered (Expression Nowhere)) (more : List (Numbered (Expression Nowhere))) (b : Bool)

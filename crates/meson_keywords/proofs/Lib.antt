@@ -1,19 +1,26 @@
 mod ArrayEdits
+mod AskedTasks
 mod CallEdits
 mod CallKnown
 mod CallRoom
+mod Does
 mod ElementTests
 mod ElementsSay
 mod ErasedSteps
 mod IdentifierTexts
 mod InnerPlaces
+mod KeptArguments
 mod KeyNames
 mod KeywordPlaces
 mod NamedWritten
+mod OptionEntries
 mod OptionsDoable
+mod PassingElements
 mod RemovalsDoable
 mod Requests
+pub mod RequestsLeave
 mod StepsBehind
+mod StepsLeave
 mod TaskMay
 mod TasksDoable
 mod TasksGo

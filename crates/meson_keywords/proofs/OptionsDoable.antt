@@ -1,17 +1,19 @@
--- A default option set: this may be done where the project's call stands, and leaves it standing.
-use Rattle.std.proofs.Common.{◌≡◌, ℕ, zero, suc, ◌+◌, ◌-◌, true, false, List, [], ◌∷◌, ◌++◌, length, take, drop, codes, IsUtf8, Option, Some, None, refl, sym, ap, ◌∙◌, subst, arith}
-use Rattle.std.specs.Prelude.{All, Bool, if◌then◌else◌, Ok, slice_set}
+-- The task that sets a default option of a call that stands.
+use Rattle.std.proofs.Common.{◌≡◌, ℕ, zero, suc, ◌+◌, ◌-◌, true, false, List, [], ◌∷◌, ◌++◌, append_assoc, length, length-append, map, take, drop, codes, IsUtf8, Option, Some, None, refl, sym, ap, ap₂, ◌∙◌, subst, arith}
+use Rattle.std.specs.Prelude.{All, Bool, if◌then◌else◌, not, Ok, slice_set}
 use Rattle.std.specs.Char.{encode_utf8}
+use Rattle.std.specs.List.{filter}
+use Rattle.std.proofs.Math.Seq.{take-append_seam}
 use Rattle.meson_lex.specs.Literals.{literal}
 use Rattle.meson_splice.specs.Patch.{then_ok}
 use Rattle.meson_syntax.specs.Tree.{Nowhere, Plain, Expression, array, dictionary, Listing, Argument, plain, named, pair}
-use Rattle.meson_syntax.specs.Grammar.{expression_depth}
 use Rattle.meson_syntax.specs.Paths.{nth, value_of}
 use Rattle.meson_edit.specs.Edits.{Replace, elements, with_elements, with_value}
 use Rattle.meson_calls.specs.declared.call.CallRef.{CallRef}
 use Rattle.meson_keywords.specs.declared.keys.ElementKind.TheVariants as element
 use Rattle.meson_calls.specs.Calls.{Numbered}
-use Rattle.meson_keywords.specs.Changing.{CallStands, LeavesCall, TaskMayBeDone}
+use Rattle.meson_keywords.specs.Changing.{CallStands}
+use Rattle.meson_keywords.specs.Effects.{Holds, TaskLeaves, held, held_by, holds, is_of, option_value, put_behind}
 use Rattle.meson_keywords.specs.KeywordEdits.{all_known, behind_all, keyword_in, one_at_most, passing, removed_from, shape, text_in}
 use Rattle.meson_keywords.specs.Keys.{written_list, written_named}
 use Rattle.meson_steps.specs.ListSteps.{MayStand}
@@ -19,52 +21,22 @@ use Rattle.meson_keywords.specs.Options.{entries, has_key, is_entry, is_entry_el
 use Rattle.meson_calls.specs.Project.{child}
 use Rattle.meson_steps.specs.WrittenTexts.{string_of, written_text}
 use Rattle.meson_steps.specs.Steps.{Step, step_in}
-use Rattle.meson_keywords.specs.Tasks.{set_option}
-use Rattle.meson_keywords.proofs.ArrayEdits.{nth_put, put_step, puts_leave, swap_step, value_put, wrap_leaves}
-use Rattle.meson_keywords.proofs.CallEdits.{elements_are, insert_step, inserted_leaves, more_leaves, one_leaves, replace_step, xs}
+use Rattle.meson_keywords.specs.Tasks.{before_equals, set_option}
+use Rattle.meson_keywords.proofs.ArrayEdits.{HoldsAs, more_hold, put_step, puts_hold, still_there, swap_step, value_put, wrap_holds, holds_same}
+use Rattle.meson_keywords.proofs.CallEdits.{elements_are, insert_step, inserted_leaves, one_leaves, replace_step, xs}
+use Rattle.meson_keywords.proofs.Does.{Does, TaskDoes, does}
 use Rattle.meson_keywords.proofs.IdentifierTexts.{identifier_true}
 use Rattle.meson_keywords.proofs.InnerPlaces.{Container, array_container, dictionary_container}
 use Rattle.meson_steps.proofs.Insertable.{elements_with}
-use Rattle.meson_keywords.proofs.KeywordPlaces.{value_there}
+use Rattle.meson_keywords.proofs.KeptArguments.{OneNamed, come_others, come_value, drop_seam, is_it, it, none_there, nth_seam, one_named, put_others, put_value, value_there}
 use Rattle.meson_keywords.proofs.NamedWritten.{named_written, pair_written}
-use Rattle.meson_keywords.proofs.RemovalsDoable.{Left, of_list_leaves, of_lone_leaves, passing_left, removes_leave, same_leaves}
+use Rattle.meson_keywords.proofs.OptionEntries.{EntrySet, behind_set, first_put, lone_put, new_entry, new_pair, known_plain, known_pair}
+use Rattle.meson_keywords.proofs.PassingElements.{FirstPasses, entry_tests, first_passes, key_tests, left_after, passing_gone}
+use Rattle.meson_keywords.proofs.RemovalsDoable.{Left, of_list_known, passing_left, removes_hold}
 use Rattle.meson_steps.proofs.StepsDoable.{text_written}
-use Rattle.meson_keywords.proofs.TasksDoable.{flat_text}
+use Rattle.meson_keywords.proofs.TasksDoable.{flat_text, holds_these, lone_held}
 use Rattle.meson_keywords.proofs.TasksSoFar.{option_may}
 use Rattle.meson_keywords.proofs.WrittenElements.{list_level, list_shallow, list_written}
-
--- ---- the first entry of an option
-
-record FirstThere (test : Argument Nowhere → Bool) (ys : List (Argument Nowhere)) (start m : ℕ) : Type 0 where
-  number : ℕ
-  is_number : m ≡ start + number
-  it : Argument Nowhere
-  is_it : nth ys number ≡ Some it
-  passes : test it ≡ true
-
-first_there : (test : Argument Nowhere → Bool) (ys : List (Argument Nowhere)) (start m : ℕ) (more : List ℕ) → passing test start ys ≡ m ∷ more → FirstThere test ys start m
-first_there test [] start m more is = absurd cc
-first_there test (y ∷ ys) start m more is = first_by test y ys start m more (test y) refl is (λ h. first_there test ys (suc start) m more h)
-  where
-    first_by : (test : Argument Nowhere → Bool) (y : Argument Nowhere) (ys : List (Argument Nowhere)) (start m : ℕ) (more : List ℕ) (b : Bool) → test y ≡ b
-        → (if b then start ∷ passing test (suc start) ys else passing test (suc start) ys) ≡ m ∷ more → (passing test (suc start) ys ≡ m ∷ more → FirstThere test ys (suc start) m) → FirstThere test (y ∷ ys) start m
-    first_by test y ys start m more true passes is later =
-        let same : start ≡ m = cc in
-        record { number = 0; is_number = omega (arith, same); it = y; is_it = refl; passes = passes }
-    first_by test y ys start m more false passes is later =
-        let t = later is in
-        let number = t.is_number in
-        record { number = suc t.number; is_number = omega (arith, number); it = t.it; is_it = t.is_it; passes = t.passes }
-
-entry_value : (name : List ℕ) (a : Argument Nowhere) → is_entry_element name a ≡ true → (e : Expression Nowhere) × (value_of a ≡ Some e)
-entry_value name (plain e) is = (e, refl)
-entry_value name (named s x e) is = absurd cc
-entry_value name (pair s e f) is = absurd cc
-
-key_value : (name : List ℕ) (a : Argument Nowhere) → has_key name a ≡ true → (e : Expression Nowhere) × (value_of a ≡ Some e)
-key_value name (plain e) is = absurd cc
-key_value name (named s x e) is = absurd cc
-key_value name (pair s e f) is = (f, refl)
 
 wider : (gone many : ℕ) (ns : List ℕ) → Left (suc gone) (many - 1) ns → Left gone many ns
 wider gone many [] left = tt
@@ -75,64 +47,69 @@ as_many [] n y z is = absurd cc
 as_many (x ∷ ys) zero y z is = refl
 as_many (x ∷ ys) (suc n) y z is = ap suc (as_many ys n y z is)
 
--- ---- the steps
-
 default_text : IsUtf8 (codes "default_options")
 unfolding encode_utf8
 default_text = (codes "default_options", (refl, refl))
 
--- the value of the first element that passes becomes a text, and then later ones that pass go
-module _ (k : Container) (test : Argument Nowhere → Bool) (values : (a : Argument Nowhere) → test a ≡ true → (e : Expression Nowhere) × (value_of a ≡ Some e)) (text : List ℕ) (utf8 : IsUtf8 text) (c : CallRef) (trees : List Plain)
-    (all : All MayStand trees) (s : CallStands c trees) where
-  first_set : (n : ℕ) (a : Argument Nowhere) (l : Listing Nowhere) → nth (xs c trees all s) n ≡ Some a → value_of a ≡ Some (k.make l) → (m : ℕ) (more : List ℕ) → passing test 0 (elements l) ≡ m ∷ more
-      → LeavesCall c (step_in (child c n) (Replace (child c n).path.steps m (written_text text)) ∷ removed_from (child c n) 0 more) trees
-  first_set n a l there value m more is =
-      let f = first_there test (elements l) 0 m more is in
-      let number : f.number ≡ m = (let h = f.is_number in omega (arith, h)) in
-      let it : nth (elements l) m ≡ Some f.it = ap (nth (elements l)) (sym number) ∙ f.is_it in
-      let old = values f.it f.passes in
-      let st = swap_step k c trees all s n a l there value m f.it old.0 (literal text) (string_of text) it old.1 (text_written text utf8) tt refl in
-      let ys = take m (elements l) ++ with_value (string_of text) f.it ∷ drop (suc m) (elements l) in
-      let now = with_elements l ys in
+old_value : (name : List ℕ) (a : Argument Nowhere) → is_of name a ≡ true → (e : Expression Nowhere) × (value_of a ≡ Some e)
+old_value name (plain e) is = (e, refl)
+old_value name (named s x e) is = absurd cc
+old_value name (pair s e f) is = (f, refl)
+
+-- ---- the value of the first entry becomes a text, and then later ones go
+
+module _ (k : Container) (name text : List ℕ) (utf8 : IsUtf8 text) (c : CallRef) (trees : List Plain) (all : All MayStand trees) (s : CallStands c trees) (n : ℕ) (a : Argument Nowhere) (l : Listing Nowhere)
+    (there : nth (xs c trees all s) n ≡ Some a) (value : value_of a ≡ Some (k.make l)) (m : ℕ) (more : List ℕ) (is : passing (is_of name) 0 (elements l) ≡ m ∷ more) where
+  abbrev pub first : FirstPasses (is_of name) (elements l) 0 m more
+  first = first_passes (is_of name) (elements l) 0 m more is
+
+  abbrev new : Argument Nowhere
+  new = with_value (string_of text) first.it
+
+  abbrev put : List (Argument Nowhere)
+  put = take m (elements l) ++ new ∷ drop (suc m) (elements l)
+
+  at : m ≡ length first.front
+  at = let number = first.number in omega (arith, number)
+
+  is_first : nth (elements l) m ≡ Some first.it
+  is_first = ap₂ nth first.joined at ∙ nth_seam first.front first.it first.back
+
+  put_is : put ≡ (first.front ++ new ∷ []) ++ first.back
+  put_is =
+      ap₂ (λ i ys. take i ys ++ new ∷ drop (suc i) ys) at first.joined
+      ∙ ap₂ (λ front back. front ++ new ∷ back) (take-append_seam first.front (first.it ∷ first.back)) (drop_seam first.front first.it first.back)
+      ∙ sym (append_assoc first.front (new ∷ []) first.back)
+
+  left_is : left_after 0 more put ≡ first.front ++ new ∷ filter (λ x. not (is_of name x)) first.back
+  left_is =
+      let counted : suc m ≡ 0 + length (first.front ++ new ∷ []) = omega (arith, at, length-append first.front (new ∷ [])) in
+      ap₂ (left_after 0) (first.rest ∙ ap (λ i. passing (is_of name) i first.back) counted) put_is
+      ∙ passing_gone (is_of name) first.back 0 (first.front ++ new ∷ [])
+      ∙ append_assoc first.front (new ∷ []) (filter (λ x. not (is_of name x)) first.back)
+
+  pub first_holds : HoldsAs k c (step_in (child c n) (Replace (child c n).path.steps m (written_text text)) ∷ removed_from (child c n) 0 more) trees n a (xs c trees all s)
+      (first.front ++ with_value (string_of text) first.it ∷ filter (λ x. not (is_of name x)) first.back)
+  first_holds =
+      let old = old_value name first.it first.passes in
+      let st = swap_step k c trees all s n a l there value m first.it old.0 (literal text) (string_of text) is_first old.1 (text_written text utf8) tt refl in
+      let now = with_elements l put in
       let b = with_value (k.make now) a in
-      let here = ap (λ zs. nth zs n) st.are ∙ nth_put (xs c trees all s) n a b there in
+      let e = Replace (c.path.steps ++ n ∷ []) m (written_text text) in
+      let after = slice_set trees c.file st.now in
       let len : 0 - 0 + length (elements l) ≡ length (elements l) = omega arith in
-      let whole : Left 0 (length (elements l)) (m ∷ more) = subst (λ j. Left 0 j (m ∷ more)) len (subst (Left 0 (0 - 0 + length (elements l))) is (passing_left test (elements l) 0 0 (omega arith))) in
-      let many : length (elements l) ≡ length (elements now) = sym (ap length (elements_with l ys) ∙ as_many (elements l) m f.it (with_value (string_of text) f.it) it) in
-      more_leaves c trees all s (Replace (c.path.steps ++ n ∷ []) m (written_text text)) _ st (removed_from (child c n) 0 more)
-      (removes_leave k c more 0 (slice_set trees c.file st.now) st.all_stand st.stands n b now here (value_put a (k.make l) (k.make now) value)
-      (subst (λ j. Left 0 j more) many (wider 0 (length (elements l)) more whole.1)))
+      let whole : Left 0 (length (elements l)) (m ∷ more) = subst (λ j. Left 0 j (m ∷ more)) len (subst (Left 0 (0 - 0 + length (elements l))) is (passing_left (is_of name) (elements l) 0 0 (omega arith))) in
+      let many : length (elements l) ≡ length (elements now) = sym (ap length (elements_with l put) ∙ as_many (elements l) m first.it new is_first) in
+      let later = removes_hold k c more 0 after st.all_stand st.stands n b now (still_there c trees all s n a there e (k.make now) st) (value_put a (k.make l) (k.make now) value)
+      (subst (λ j. Left 0 j more) many (wider 0 (length (elements l)) more whole.1)) in
+      more_hold c trees all s n a there e (k.make now) st k (removed_from (child c n) 0 more) _
+      (subst (HoldsAs k c (removed_from (child c n) 0 more) after n b (xs c after st.all_stand st.stands)) (ap (left_after 0 more) (elements_with l put) ∙ left_is) later)
 
-module _ (name entry : List ℕ) (utf8 : IsUtf8 entry) (c : CallRef) (trees : List Plain) (all : All MayStand trees) (s : CallStands c trees) (steps : List Step) where
-  in_list : (n : ℕ) (a : Argument Nowhere) (l : Listing Nowhere) → nth (xs c trees all s) n ≡ Some a → value_of a ≡ Some (array l) → (ns : List ℕ) → passing (is_entry_element name) 0 (elements l) ≡ ns
-      → LeavesCall c (set_in_list (child c n) (length (elements l)) entry ns) trees
-  in_list n a l there value [] is = puts_leave c element.Text (entry ∷ []) (utf8, tt) trees all s n a l there value
-  in_list n a l there value (m ∷ more) is = first_set array_container (is_entry_element name) (entry_value name) entry utf8 c trees all s n a l there value m more is
-
-  in_lone : (n : ℕ) (it : Argument Nowhere) (e : Expression Nowhere) → nth (xs c trees all s) n ≡ Some it → value_of it ≡ Some e → expression_depth e ≡ 0 → (b : Bool) → LeavesCall c (set_in_lone c n entry b) trees
-  in_lone n it e there value flat true =
-      one_leaves c trees all s (Replace c.path.steps n (written_text entry)) _ (replace_step c trees all s n it e (written_text entry) there value (text_written entry utf8) tt (omega arith))
-  in_lone n it e there value flat false = wrap_leaves c element.Text (entry ∷ []) (utf8, tt) trees all s n it e there value flat
-
-  lone_set : (n : ℕ) (it : Argument Nowhere) (e : Expression Nowhere) → nth (xs c trees all s) n ≡ Some it → value_of it ≡ Some e → (o : Option (List ℕ)) → text_in element.Text e ≡ o
-      → of_lone o (set_in_lone c n entry (is_entry name o)) ≡ Ok steps → LeavesCall c steps trees
-  lone_set n it e there value None is h = absurd cc
-  lone_set n it e there value (Some text) is h =
-      of_lone_leaves name c trees all s steps (Some text) (set_in_lone c n entry (is_entry name (Some text))) (in_lone n it e there value (flat_text element.Text e text is) (is_entry name (Some text))) h
-
-  set_value : (n : ℕ) (it : Argument Nowhere) (e : Expression Nowhere) → nth (xs c trees all s) n ≡ Some it → value_of it ≡ Some e → set_by_shape c n name entry (text_in element.Text e) (shape e) ≡ Ok steps → LeavesCall c steps trees
-  set_value n it (array l) there value h =
-      of_list_leaves name c trees all s steps (all_known element.Text (elements l)) (set_in_list (child c n) (length (elements l)) entry (passing (is_entry_element name) 0 (elements l)))
-      (in_list n it l there value (passing (is_entry_element name) 0 (elements l)) refl) h
-  set_value n it e there value h = lone_set n it e there value (text_in element.Text e) refl h
+-- ---- the task
 
 module _ (name value : List ℕ) (name_utf8 : IsUtf8 name) (value_utf8 : IsUtf8 value) (c : CallRef) (trees : List Plain) (all : All MayStand trees) (s : CallStands c trees) (steps : List Step) where
-  in_dictionary : (n : ℕ) (a : Argument Nowhere) (l : Listing Nowhere) → nth (xs c trees all s) n ≡ Some a → value_of a ≡ Some (dictionary l) → (ns : List ℕ) → passing (has_key name) 0 (elements l) ≡ ns
-      → LeavesCall c (set_in_dictionary (child c n) (length (elements l)) name value ns) trees
-  in_dictionary n a l there is_value [] is =
-      let put = put_step dictionary_container c trees all s n a l there is_value (written_pair name value) (pair_written name value name_utf8 value_utf8) refl (refl, tt, tt) (λ it. (tt, tt)) in
-      subst (λ x. LeavesCall c (x ∷ []) trees) (sym put.is) (one_leaves c trees all s put.edit _ put.step)
-  in_dictionary n a l there is_value (m ∷ more) is = first_set dictionary_container (has_key name) (key_value name) value value_utf8 c trees all s n a l there is_value m more is
+  abbrev arguments : List (Argument Nowhere)
+  arguments = xs c trees all s
 
   abbrev entry : List ℕ
   entry = option_text name value
@@ -140,23 +117,121 @@ module _ (name value : List ℕ) (name_utf8 : IsUtf8 name) (value_utf8 : IsUtf8 
   entry_utf8 : IsUtf8 entry
   entry_utf8 = option_may name value name_utf8 value_utf8
 
-  set_any : (n : ℕ) (it : Argument Nowhere) (e : Expression Nowhere) → nth (xs c trees all s) n ≡ Some it → value_of it ≡ Some e → set_by_value c n name value e (entries e) ≡ Ok steps → LeavesCall c steps trees
-  set_any n it (dictionary l) there is_value h =
-      of_list_leaves name c trees all s steps (keys_known (elements l)) (set_in_dictionary (child c n) (length (elements l)) name value (passing (has_key name) 0 (elements l)))
-      (in_dictionary n it l there is_value (passing (has_key name) 0 (elements l)) refl) h
-  set_any n it e there is_value h = set_value name entry entry_utf8 c trees all s steps n it e there is_value h
+  -- the entries before and after
+  abbrev Sets : (bs ys : List (Argument Nowhere)) → Type 0
+  Sets bs ys = before_equals name ≡ None → EntrySet name value bs ys
 
-  set_by : (vs : List (Numbered (Expression Nowhere))) → keyword_in options_key (xs c trees all s) ≡ vs → then_ok (one_at_most options_key vs) (set_option_there c (length (xs c trees all s)) name value) ≡ Ok steps → LeavesCall c steps trees
-  set_by [] there h =
+  set_is : (bs ys : List (Argument Nowhere)) → holds options_key arguments ≡ bs → Sets bs ys → (after : List (Argument Nowhere)) → Holds options_key ys arguments after → TaskLeaves (set_option name value) arguments after
+  set_is bs ys is sets after h = λ bare_name. record {
+    values = ap (λ zs. map option_value (filter (is_of name) zs)) h.holds ∙ (sets bare_name).values;
+    entries = ap (filter (λ x. not (is_of name x))) h.holds ∙ (sets bare_name).others ∙ ap (filter (λ x. not (is_of name x))) (sym is);
+    arguments = h.others;
+  }
+
+  module _ (n : ℕ) (e : Expression Nowhere) (o : OneNamed options_key arguments n e) where
+    abbrev a : Argument Nowhere
+    a = it options_key arguments n e o
+
+    there : nth arguments n ≡ Some a
+    there = is_it options_key arguments n e o
+
+    set_done : (made : List Step) (k : Container) → ((l : Listing Nowhere) → held (k.make l) ≡ elements l) → (ys : List (Argument Nowhere)) → HoldsAs k c made trees n a arguments ys → Sets (held e) ys → made ≡ steps
+        → Does (set_option name value) c trees steps
+    set_done made k all_held ys h sets same =
+        subst (Does (set_option name value) c trees) same
+        (does (set_option name value) c trees all s made _ h.leaves
+        (set_is (held e) ys (ap held_by (value_there options_key arguments n e o)) sets _ (holds_these options_key k all_held c made trees arguments ys n e o h)))
+
+    in_lone : (text : List ℕ) → text_in element.Text e ≡ Some text → (b : Bool) → is_entry name (text_in element.Text e) ≡ b → set_in_lone c n entry b ≡ steps → Does (set_option name value) c trees steps
+    in_lone text lone true is same =
+        let one = lone_held element.Text e text lone in
+        let new = string_of entry in
+        let sets : Sets (held e) (plain new ∷ []) = λ bare_name. lone_put name value (held e) (plain e) (plain new) one is (new_entry name value entry_utf8 bare_name) in
+        subst (Does (set_option name value) c trees) same
+        (does (set_option name value) c trees all s _ _
+        (one_leaves c trees all s (Replace c.path.steps n (written_text entry)) _ (replace_step c trees all s n a e (written_text entry) there refl (text_written entry entry_utf8) tt (omega arith)))
+        (set_is (held e) (plain new ∷ []) (ap held_by (value_there options_key arguments n e o)) sets _
+        (record { holds = ap held_by (put_value options_key arguments n e o new); others = put_others options_key arguments n e o new })))
+    in_lone text lone false is same =
+        let one = lone_held element.Text e text lone in
+        let sets : Sets (held e) (plain e ∷ put_behind element.Text (entry ∷ [])) = λ bare_name.
+        subst (λ bs. EntrySet name value bs (plain e ∷ plain (string_of entry) ∷ [])) (sym one)
+        (behind_set name value (plain e ∷ []) (plain (string_of entry)) (ap (λ t. if t then 0 ∷ [] else []) is) (new_entry name value entry_utf8 bare_name)) in
+        set_done _ array_container (λ l. refl) (plain e ∷ put_behind element.Text (entry ∷ []))
+        (wrap_holds c element.Text (entry ∷ []) (entry_utf8, tt) trees all s n a e there refl (flat_text element.Text e text lone)) sets same
+
+    lone_set : (t : Option (List ℕ)) → text_in element.Text e ≡ t → of_lone t (set_in_lone c n entry (is_entry name (text_in element.Text e))) ≡ Ok steps → Does (set_option name value) c trees steps
+    lone_set None is h = absurd cc
+    lone_set (Some text) is h = in_lone text is (is_entry name (text_in element.Text e)) refl cc
+
+  in_list : (n : ℕ) (l : Listing Nowhere) (o : OneNamed options_key arguments n (array l)) → all_known element.Text (elements l) ≡ true → (ns : List ℕ) → passing (is_of name) 0 (elements l) ≡ ns
+      → set_in_list (child c n) (length (elements l)) entry ns ≡ steps → Does (set_option name value) c trees steps
+  in_list n l o known [] is same =
+      set_done n (array l) o _ array_container (λ m. refl) (elements l ++ put_behind element.Text (entry ∷ []))
+      (puts_hold c element.Text (entry ∷ []) (entry_utf8, tt) trees all s n (it options_key arguments n (array l) o) l (is_it options_key arguments n (array l) o) refl)
+      (λ bare_name. behind_set name value (elements l) (plain (string_of entry)) is (new_entry name value entry_utf8 bare_name)) same
+  in_list n l o known (m ∷ more) is same =
+      let a = it options_key arguments n (array l) o in
+      let there = is_it options_key arguments n (array l) o in
+      let f = first_passes (is_of name) (elements l) 0 m more is in
+      let sets : Sets (elements l) (f.front ++ with_value (string_of entry) f.it ∷ filter (λ x. not (is_of name x)) f.back) = λ bare_name.
+      first_put name value (elements l) m more f (with_value (string_of entry) f.it)
+      (known_plain name value f.front f.it f.back (subst (λ ys. all_known element.Text ys ≡ true) f.joined known) entry (new_entry name value entry_utf8 bare_name)) in
+      set_done n (array l) o _ array_container (λ j. refl) _ (first_holds array_container name entry entry_utf8 c trees all s n a l there refl m more is) sets same
+
+  in_dictionary : (n : ℕ) (l : Listing Nowhere) (o : OneNamed options_key arguments n (dictionary l)) → keys_known (elements l) ≡ true → (ns : List ℕ) → passing (is_of name) 0 (elements l) ≡ ns
+      → set_in_dictionary (child c n) (length (elements l)) name value ns ≡ steps → Does (set_option name value) c trees steps
+  in_dictionary n l o known [] is same =
+      let a = it options_key arguments n (dictionary l) o in
+      let there = is_it options_key arguments n (dictionary l) o in
+      let put = put_step dictionary_container c trees all s n a l there refl (written_pair name value) (pair_written name value name_utf8 value_utf8) refl (refl, tt, tt) (λ x. (tt, tt)) in
+      let more = elements l ++ pair tt (string_of name) (string_of value) ∷ [] in
+      let now = with_elements l more in
+      let hold : HoldsAs dictionary_container c (step_in c put.edit ∷ []) trees n a arguments more =
+      more_hold c trees all s n a there put.edit (dictionary now) put.step dictionary_container [] more
+      (subst (HoldsAs dictionary_container c [] (slice_set trees c.file put.step.now) n (with_value (dictionary now) a) (xs c (slice_set trees c.file put.step.now) put.step.all_stand put.step.stands)) (elements_with l more)
+      (holds_same dictionary_container c (slice_set trees c.file put.step.now) put.step.all_stand put.step.stands n (with_value (dictionary now) a) now
+      (still_there c trees all s n a there put.edit (dictionary now) put.step) (value_put a (dictionary l) (dictionary now) refl))) in
+      set_done n (dictionary l) o _ dictionary_container (λ m. refl) more
+      (subst (λ x. HoldsAs dictionary_container c (x ∷ []) trees n a arguments more) (sym put.is) hold)
+      (λ bare_name. behind_set name value (elements l) (pair tt (string_of name) (string_of value)) is (new_pair name value name_utf8 value_utf8)) same
+  in_dictionary n l o known (m ∷ more) is same =
+      let a = it options_key arguments n (dictionary l) o in
+      let there = is_it options_key arguments n (dictionary l) o in
+      let f = first_passes (is_of name) (elements l) 0 m more is in
+      let sets : Sets (elements l) (f.front ++ with_value (string_of value) f.it ∷ filter (λ x. not (is_of name x)) f.back) = λ bare_name.
+      first_put name value (elements l) m more f (with_value (string_of value) f.it)
+      (known_pair name value value_utf8 f.front f.it f.back (subst (λ ys. keys_known ys ≡ true) f.joined known) f.passes) in
+      set_done n (dictionary l) o _ dictionary_container (λ j. refl) _ (first_holds dictionary_container name value value_utf8 c trees all s n a l there refl m more is) sets same
+
+  set_value : (n : ℕ) (e : Expression Nowhere) (o : OneNamed options_key arguments n e) → set_by_shape c n name entry (text_in element.Text e) (shape e) ≡ Ok steps → Does (set_option name value) c trees steps
+  set_value n (array l) o h =
+      let known = of_list_known (all_known element.Text (elements l)) (set_in_list (child c n) (length (elements l)) entry (passing (is_entry_element name) 0 (elements l))) steps h in
+      in_list n l o known.0 (passing (is_of name) 0 (elements l)) refl (ap (set_in_list (child c n) (length (elements l)) entry) (sym (entry_tests name (elements l) 0 known.0)) ∙ known.1)
+  set_value n e o h = lone_set n e o (text_in element.Text e) refl h
+
+  set_any : (n : ℕ) (e : Expression Nowhere) (o : OneNamed options_key arguments n e) → set_by_value c n name value e (entries e) ≡ Ok steps → Does (set_option name value) c trees steps
+  set_any n (dictionary l) o h =
+      let known = of_list_known (keys_known (elements l)) (set_in_dictionary (child c n) (length (elements l)) name value (passing (has_key name) 0 (elements l))) steps h in
+      in_dictionary n l o known.0 (passing (is_of name) 0 (elements l)) refl (ap (set_in_dictionary (child c n) (length (elements l)) name value) (sym (key_tests name (elements l) 0 known.0)) ∙ known.1)
+  set_any n e o h = set_value n e o h
+
+  set_by : (vs : List (Numbered (Expression Nowhere))) → keyword_in options_key arguments ≡ vs → then_ok (one_at_most options_key vs) (set_option_there c (length arguments) name value) ≡ Ok steps → Does (set_option name value) c trees steps
+  set_by [] none h =
       let new = written_list element.Text (entry ∷ []) in
-      same_leaves name c trees all s steps (behind_all c (length (xs c trees all s)) (written_named options_key new) ∷ [])
-      (inserted_leaves c trees all s _
+      let same : behind_all c (length arguments) (written_named options_key new) ∷ [] ≡ steps = cc in
+      let nothing : holds options_key arguments ≡ [] = ap held_by (none_there options_key arguments none) in
+      let sets : Sets [] (plain (string_of entry) ∷ []) = λ bare_name. behind_set name value [] (plain (string_of entry)) refl (new_entry name value entry_utf8 bare_name) in
+      subst (Does (set_option name value) c trees) same
+      (does (set_option name value) c trees all s _ _
+      (inserted_leaves c trees all s _ _
       (insert_step c trees all s options_key new (named_written options_key new.bytes new.node (identifier_true options_key refl) default_text (list_written element.Text (entry ∷ []) (entry_utf8, tt)))
-      (list_level element.Text (entry ∷ []) (entry_utf8, tt)) (list_shallow element.Text (entry ∷ []) (entry_utf8, tt)))) h
-  set_by (v ∷ []) there h = let t = value_there options_key (xs c trees all s) v [] there in set_any v.number t.it v.value t.is_it t.is_value h
+      (list_level element.Text (entry ∷ []) (entry_utf8, tt)) (list_shallow element.Text (entry ∷ []) (entry_utf8, tt))))
+      (set_is [] (plain (string_of entry) ∷ []) nothing sets _ (record { holds = ap held_by (come_value options_key arguments new.node none); others = come_others options_key arguments new.node })))
+  set_by (v ∷ []) there h = set_any v.number v.value (one_named options_key arguments v there) h
   set_by (v ∷ w ∷ more) there h = absurd cc
 
-pub set_option_may : (name value : List ℕ) → IsUtf8 name → IsUtf8 value → TaskMayBeDone (set_option name value)
-set_option_may name value name_utf8 value_utf8 c trees all s steps made =
+pub set_option_does : (name value : List ℕ) → IsUtf8 name → IsUtf8 value → TaskDoes (set_option name value)
+set_option_does name value name_utf8 value_utf8 c trees all s steps made =
     set_by name value name_utf8 value_utf8 c trees all s steps (keyword_in options_key (xs c trees all s)) refl
     (sym (ap (λ ys. set_option_steps c ys name value) (elements_are c trees all s)) ∙ made)

@@ -1,8 +1,9 @@
--- Values removed from a keyword argument, and default options deleted: this may be done where the call stands, and leaves it standing.
+-- Tasks that take something away: values are removed from a keyword argument, and a default option is deleted.
 use Rattle.std.proofs.Common.{◌≡◌, ℕ, zero, suc, ◌+◌, ◌-◌, ◌<◌, ◌≤◌, true, false, List, [], ◌∷◌, ◌++◌, length, take, drop, Option, Some, None, refl, sym, ap, ◌∙◌, subst, arith}
-use Rattle.std.specs.Prelude.{All, Bool, bytes_eq, if◌then◌else◌, Result, Ok, Err, slice_set}
+use Rattle.std.specs.Prelude.{All, Bool, bytes_eq, cond, if◌then◌else◌, not, Result, Ok, Err, map, slice_set}
+use Rattle.std.specs.List.{filter}
 use Rattle.meson_splice.specs.Patch.{then_ok}
-use Rattle.meson_syntax.specs.Tree.{Nowhere, Plain, Expression, array, dictionary, Listing, Argument}
+use Rattle.meson_syntax.specs.Tree.{Nowhere, Plain, Expression, array, dictionary, Listing, Argument, plain}
 use Rattle.meson_syntax.specs.Paths.{nth, value_of}
 use Rattle.meson_edit.specs.Edits.{Remove, elements, removed, with_elements, with_value}
 use Rattle.meson_calls.specs.declared.call.CallRef.{CallRef}
@@ -10,20 +11,24 @@ use Rattle.meson_keywords.specs.declared.keys.ElementKind.{ElementKind}
 use Rattle.meson_keywords.specs.declared.keys.ElementKind.TheVariants as element
 use Rattle.meson_calls.specs.declared.refusal.Refusal.{Refusal}
 use Rattle.meson_calls.specs.declared.refusal.Refusal.TheVariants.{NotLiteral}
+use Rattle.meson_calls.specs.Calls as calls
 use Rattle.meson_calls.specs.Calls.{Numbered}
-use Rattle.meson_keywords.specs.Changing.{CallStands, LeavesCall, TaskMayBeDone}
+use Rattle.meson_keywords.specs.Changing.{CallStands}
+use Rattle.meson_keywords.specs.Effects.{Holds, OptionIs, held, held_by, holds, is_of, option_value, values_of}
 use Rattle.meson_keywords.specs.KeywordEdits.{all_known, keyword_in, one_at_most, passing, remove_by_shape, remove_equal, remove_lone, remove_steps, remove_there, removed_from, says, shape, text_in}
 use Rattle.meson_steps.specs.ListSteps.{MayStand}
 use Rattle.meson_keywords.specs.Options.{delete_by_shape, delete_by_value, delete_lone, delete_option_steps, delete_option_there, entries, has_key, is_entry, is_entry_element, keys_known, of_list, of_lone, options_key}
 use Rattle.meson_calls.specs.Project.{child}
-use Rattle.meson_steps.specs.Steps.{step_in}
-use Rattle.meson_steps.specs.Steps.{Step}
+use Rattle.meson_steps.specs.Steps.{Step, step_in}
 use Rattle.meson_keywords.specs.Tasks.{remove, delete_option}
-use Rattle.meson_keywords.proofs.ArrayEdits.{gone_step, nth_put, value_put}
-use Rattle.meson_keywords.proofs.CallEdits.{elements_are, more_leaves, none_leaves, one_leaves, remove_step, xs}
-use Rattle.meson_keywords.proofs.InnerPlaces.{Container, array_container, dictionary_container}
+use Rattle.meson_keywords.proofs.ArrayEdits.{HoldsAs, gone_step, holds_same, more_hold, still_there, value_put}
+use Rattle.meson_keywords.proofs.CallEdits.{elements_are, none_leaves, one_leaves, remove_step, xs}
+use Rattle.meson_keywords.proofs.Does.{Does, TaskDoes, does}
+use Rattle.meson_keywords.proofs.InnerPlaces.{Container, array_container, dictionary_container, exchanged_at}
 use Rattle.meson_steps.proofs.Insertable.{elements_with}
-use Rattle.meson_keywords.proofs.KeywordPlaces.{value_there}
+use Rattle.meson_keywords.proofs.KeptArguments.{OneNamed, gone_others, gone_value, is_it, it, none_there, one_named, value_there}
+use Rattle.meson_keywords.proofs.PassingElements.{entry_tests, key_tests, kept_again, left_after, none_left, passing_gone}
+use Rattle.meson_keywords.proofs.TasksDoable.{holds_these, lone_held}
 
 -- ---- elements by their numbers
 
@@ -56,25 +61,30 @@ one_fewer [] n within = absurd (omega (arith, within))
 one_fewer (y ∷ ys) zero within = omega arith
 one_fewer (y ∷ ys) (suc n) within = let below : n < length ys = omega (arith, within) in omega (arith, one_fewer ys n below, below)
 
-pub removes_leave : (k : Container) (c : CallRef) (ns : List ℕ) (gone : ℕ) (trees : List Plain) (all : All MayStand trees) (s : CallStands c trees) (n : ℕ) (a : Argument Nowhere) (l : Listing Nowhere) → nth (xs c trees all s) n ≡ Some a → value_of a ≡ Some (k.make l)
-    → Left gone (length (elements l)) ns → LeavesCall c (removed_from (child c n) gone ns) trees
-removes_leave k c [] gone trees all s n a l there value left = none_leaves c trees all s
-removes_leave k c (m ∷ ns) gone trees all s n a l there value left =
+pub removes_hold : (k : Container) (c : CallRef) (ns : List ℕ) (gone : ℕ) (trees : List Plain) (all : All MayStand trees) (s : CallStands c trees) (n : ℕ) (a : Argument Nowhere) (l : Listing Nowhere) → nth (xs c trees all s) n ≡ Some a → value_of a ≡ Some (k.make l)
+    → Left gone (length (elements l)) ns → HoldsAs k c (removed_from (child c n) gone ns) trees n a (xs c trees all s) (left_after gone ns (elements l))
+removes_hold k c [] gone trees all s n a l there value left = holds_same k c trees all s n a l there value
+removes_hold k c (m ∷ ns) gone trees all s n a l there value left =
     let it = nth_within (elements l) (m - gone) left.0 in
     let st = gone_step k c trees all s n a l there value (m - gone) it.0 it.1 in
     let ys = removed (m - gone) (elements l) it.0 in
     let now = with_elements l ys in
     let b = with_value (k.make now) a in
-    let here = ap (λ zs. nth zs n) st.are ∙ nth_put (xs c trees all s) n a b there in
+    let after = slice_set trees c.file st.now in
+    let outer = xs c after st.all_stand st.stands in
     let many : length (elements l) - 1 ≡ length (elements now) = sym (ap length (elements_with l ys) ∙ one_fewer (elements l) (m - gone) left.0) in
-    more_leaves c trees all s (Remove (c.path.steps ++ n ∷ []) (m - gone)) _ st (removed_from (child c n) (suc gone) ns)
-    (removes_leave k c ns (suc gone) (slice_set trees c.file st.now) st.all_stand st.stands n b now here (value_put a (k.make l) (k.make now) value) (subst (λ m. Left (suc gone) m ns) many left.1))
+    let later = removes_hold k c ns (suc gone) after st.all_stand st.stands n b now (still_there c trees all s n a there (Remove (c.path.steps ++ n ∷ []) (m - gone)) (k.make now) st) (value_put a (k.make l) (k.make now) value)
+    (subst (λ m. Left (suc gone) m ns) many left.1) in
+    more_hold c trees all s n a there (Remove (c.path.steps ++ n ∷ []) (m - gone)) (k.make now) st k (removed_from (child c n) (suc gone) ns) (left_after gone (m ∷ ns) (elements l))
+    (subst (λ zs. HoldsAs k c (removed_from (child c n) (suc gone) ns) after n b outer (left_after (suc gone) ns zs)) (elements_with l ys) later)
 
-passing_leave : (k : Container) (test : Argument Nowhere → Bool) (c : CallRef) (trees : List Plain) (all : All MayStand trees) (s : CallStands c trees) (n : ℕ) (a : Argument Nowhere) (l : Listing Nowhere) → nth (xs c trees all s) n ≡ Some a
-    → value_of a ≡ Some (k.make l) → LeavesCall c (removed_from (child c n) 0 (passing test 0 (elements l))) trees
-passing_leave k test c trees all s n a l there value =
+-- the elements that pass a test go
+passing_hold : (k : Container) (test : Argument Nowhere → Bool) (c : CallRef) (trees : List Plain) (all : All MayStand trees) (s : CallStands c trees) (n : ℕ) (a : Argument Nowhere) (l : Listing Nowhere) → nth (xs c trees all s) n ≡ Some a
+    → value_of a ≡ Some (k.make l) → HoldsAs k c (removed_from (child c n) 0 (passing test 0 (elements l))) trees n a (xs c trees all s) (filter (λ x. not (test x)) (elements l))
+passing_hold k test c trees all s n a l there value =
     let many : 0 - 0 + length (elements l) ≡ length (elements l) = omega arith in
-    removes_leave k c (passing test 0 (elements l)) 0 trees all s n a l there value (subst (λ m. Left 0 m (passing test 0 (elements l))) many (passing_left test (elements l) 0 0 (omega arith)))
+    subst (HoldsAs k c (removed_from (child c n) 0 (passing test 0 (elements l))) trees n a (xs c trees all s)) (passing_gone test (elements l) 0 [])
+    (removes_hold k c (passing test 0 (elements l)) 0 trees all s n a l there value (subst (λ m. Left 0 m (passing test 0 (elements l))) many (passing_left test (elements l) 0 0 (omega arith))))
 
 -- ---- values removed
 
@@ -82,72 +92,142 @@ abbrev pub done_with : List Step → Result (List Step) Refusal
 done_with steps = Ok steps
 
 module _ (key : List ℕ) (k : ElementKind) (wanted : List ℕ) (c : CallRef) (trees : List Plain) (all : All MayStand trees) (s : CallStands c trees) (steps : List Step) where
-  lone_by : (n : ℕ) (it : Argument Nowhere) → nth (xs c trees all s) n ≡ Some it → (b : Bool) → done_with (if b then step_in c (Remove c.path.steps n) ∷ [] else []) ≡ Ok steps → LeavesCall c steps trees
-  lone_by n it there true h =
-      let same : step_in c (Remove c.path.steps n) ∷ [] ≡ steps = cc in
-      subst (λ l. LeavesCall c l trees) same (one_leaves c trees all s (Remove c.path.steps n) _ (remove_step c trees all s n it there))
-  lone_by n it there false h = let same : [] ≡ steps = cc in subst (λ l. LeavesCall c l trees) same (none_leaves c trees all s)
+  abbrev outer : List (Argument Nowhere)
+  outer = xs c trees all s
 
-  remove_from_lone : (n : ℕ) (it : Argument Nowhere) → nth (xs c trees all s) n ≡ Some it → (o : Option (List ℕ)) → remove_lone c n key wanted o ≡ Ok steps → LeavesCall c steps trees
-  remove_from_lone n it there None h = absurd cc
-  remove_from_lone n it there (Some text) h = lone_by n it there (bytes_eq wanted text) h
+  abbrev other : Argument Nowhere → Bool
+  other x = not (says k wanted x)
 
-  nothing_by : (known : Bool) → (if known then done_with [] else Err (NotLiteral key)) ≡ Ok steps → LeavesCall c steps trees
-  nothing_by true h = let same : [] ≡ steps = cc in subst (λ l. LeavesCall c l trees) same (none_leaves c trees all s)
-  nothing_by false h = absurd cc
+  -- what the argument holds then, by the values that it has
+  abbrev fewer : List (Expression Nowhere) → List (Argument Nowhere)
+  fewer vs = filter other (held_by vs)
 
-  remove_from_array : (n : ℕ) (known : Bool) (ns : List ℕ) → LeavesCall c (removed_from (child c n) 0 ns) trees → remove_equal (child c n) key known ns ≡ Ok steps → LeavesCall c steps trees
-  remove_from_array n known [] leaves h = nothing_by known h
-  remove_from_array n known (m ∷ ns) leaves h = let same : removed_from (child c n) 0 (m ∷ ns) ≡ steps = cc in subst (λ l. LeavesCall c l trees) same leaves
+  -- nothing is done where nothing is held that is equal
+  same_holds : (vs : List (Expression Nowhere)) → values_of key outer ≡ vs → held_by vs ≡ fewer vs → [] ≡ steps → Does (remove key k wanted) c trees steps
+  same_holds vs is none same =
+      let whole : holds key outer ≡ fewer (values_of key outer) = ap held_by is ∙ none ∙ ap fewer (sym is) in
+      subst (Does (remove key k wanted) c trees) same (does (remove key k wanted) c trees all s [] outer (none_leaves c trees all s) (record { holds = whole; others = refl }))
 
-  remove_value : (n : ℕ) (it : Argument Nowhere) (e : Expression Nowhere) → nth (xs c trees all s) n ≡ Some it → value_of it ≡ Some e → remove_by_shape c n key k wanted (text_in k e) (shape e) ≡ Ok steps → LeavesCall c steps trees
-  remove_value n it (array l) there value h =
-      remove_from_array n (all_known k (elements l)) (passing (says k wanted) 0 (elements l)) (passing_leave array_container (says k wanted) c trees all s n it l there value) h
-  remove_value n it e there value h = remove_from_lone n it there (text_in k e) h
+  module _ (n : ℕ) (e : Expression Nowhere) (o : OneNamed key outer n e) where
+    abbrev a : Argument Nowhere
+    a = it key outer n e o
 
-  remove_by : (vs : List (Numbered (Expression Nowhere))) → keyword_in key (xs c trees all s) ≡ vs → then_ok (one_at_most key vs) (remove_there c key k wanted) ≡ Ok steps → LeavesCall c steps trees
-  remove_by [] there h = let same : [] ≡ steps = cc in subst (λ l. LeavesCall c l trees) same (none_leaves c trees all s)
-  remove_by (v ∷ []) there h = let t = value_there key (xs c trees all s) v [] there in remove_value v.number t.it v.value t.is_it t.is_value h
+    lone_by : (b : Bool) → says k wanted (plain e) ≡ b → held e ≡ plain e ∷ [] → done_with (if b then step_in c (Remove c.path.steps n) ∷ [] else []) ≡ Ok steps → Does (remove key k wanted) c trees steps
+    lone_by true is lone h =
+        let same : step_in c (Remove c.path.steps n) ∷ [] ≡ steps = cc in
+        let nothing : [] ≡ fewer (values_of key outer) = sym (ap fewer (value_there key outer n e o) ∙ ap (filter other) lone ∙ ap (λ t. cond (not t) (plain e ∷ []) []) is) in
+        subst (Does (remove key k wanted) c trees) same
+        (does (remove key k wanted) c trees all s _ _ (one_leaves c trees all s (Remove c.path.steps n) _ (remove_step c trees all s n a (is_it key outer n e o)))
+        (record { holds = ap held_by (gone_value key outer n e o) ∙ nothing; others = gone_others key outer n e o }))
+    lone_by false is lone h =
+        let same : [] ≡ steps = cc in
+        let all_stay : held e ≡ filter other (held e) = lone ∙ sym (ap (filter other) lone ∙ ap (λ t. cond (not t) (plain e ∷ []) []) is) in
+        same_holds (e ∷ []) (value_there key outer n e o) all_stay same
+
+    remove_from_lone : (t : Option (List ℕ)) → text_in k e ≡ t → remove_lone c n key wanted t ≡ Ok steps → Does (remove key k wanted) c trees steps
+    remove_from_lone None is h = absurd cc
+    remove_from_lone (Some text) is h = lone_by (bytes_eq wanted text) (ap (calls.is wanted) is) (lone_held k e text is) h
+
+    removed_as : (made : List Step) → HoldsAs array_container c made trees n a outer (fewer (e ∷ [])) → made ≡ steps → Does (remove key k wanted) c trees steps
+    removed_as made h same =
+        let whole : fewer (e ∷ []) ≡ fewer (values_of key outer) = ap fewer (sym (value_there key outer n e o)) in
+        let after = exchanged_at n a outer (array h.list) in
+        subst (Does (remove key k wanted) c trees) same
+        (does (remove key k wanted) c trees all s made after h.leaves (subst (λ zs. Holds key zs outer after) whole (holds_these key array_container (λ l. refl) c made trees outer (fewer (e ∷ [])) n e o h)))
+
+    nothing_by : (known : Bool) → HoldsAs array_container c [] trees n a outer (fewer (e ∷ [])) → (if known then done_with [] else Err (NotLiteral key)) ≡ Ok steps → Does (remove key k wanted) c trees steps
+    nothing_by true hold h = removed_as [] hold cc
+    nothing_by false hold h = absurd cc
+
+    remove_from_array : (known : Bool) (ns : List ℕ) → HoldsAs array_container c (removed_from (child c n) 0 ns) trees n a outer (fewer (e ∷ [])) → remove_equal (child c n) key known ns ≡ Ok steps → Does (remove key k wanted) c trees steps
+    remove_from_array known [] hold h = nothing_by known hold h
+    remove_from_array known (m ∷ ns) hold h = removed_as (removed_from (child c n) 0 (m ∷ ns)) hold cc
+
+  remove_value : (n : ℕ) (e : Expression Nowhere) (o : OneNamed key outer n e) → remove_by_shape c n key k wanted (text_in k e) (shape e) ≡ Ok steps → Does (remove key k wanted) c trees steps
+  remove_value n (array l) o h =
+      remove_from_array n (array l) o (all_known k (elements l)) (passing (says k wanted) 0 (elements l))
+      (passing_hold array_container (says k wanted) c trees all s n (it key outer n (array l) o) l (is_it key outer n (array l) o) refl) h
+  remove_value n e o h = remove_from_lone n e o (text_in k e) refl h
+
+  remove_by : (vs : List (Numbered (Expression Nowhere))) → keyword_in key outer ≡ vs → then_ok (one_at_most key vs) (remove_there c key k wanted) ≡ Ok steps → Does (remove key k wanted) c trees steps
+  remove_by [] none h = same_holds [] (none_there key outer none) refl cc
+  remove_by (v ∷ []) there h = remove_value v.number v.value (one_named key outer v there) h
   remove_by (v ∷ w ∷ more) there h = absurd cc
 
-pub remove_may : (key : List ℕ) (k : ElementKind) (wanted : List ℕ) → TaskMayBeDone (remove key k wanted)
-remove_may key k wanted c trees all s steps made =
+pub remove_does : (key : List ℕ) (k : ElementKind) (wanted : List ℕ) → TaskDoes (remove key k wanted)
+remove_does key k wanted c trees all s steps made =
     remove_by key k wanted c trees all s steps (keyword_in key (xs c trees all s)) refl (sym (ap (λ ys. remove_steps c ys key k wanted) (elements_are c trees all s)) ∙ made)
 
 -- ---- an option deleted
 
+pub of_list_known : (known : Bool) (made steps : List Step) → of_list known made ≡ Ok steps → (known ≡ true) × (made ≡ steps)
+of_list_known true made steps h = (refl, cc)
+of_list_known false made steps h = absurd cc
+
 module _ (name : List ℕ) (c : CallRef) (trees : List Plain) (all : All MayStand trees) (s : CallStands c trees) (steps : List Step) where
-  pub same_leaves : (made : List Step) → LeavesCall c made trees → done_with made ≡ Ok steps → LeavesCall c steps trees
-  same_leaves made leaves h = let same : made ≡ steps = cc in subst (λ l. LeavesCall c l trees) same leaves
+  abbrev arguments : List (Argument Nowhere)
+  arguments = xs c trees all s
 
-  lone_deleted : (n : ℕ) (it : Argument Nowhere) → nth (xs c trees all s) n ≡ Some it → (b : Bool) → LeavesCall c (delete_lone c n b) trees
-  lone_deleted n it there true = one_leaves c trees all s (Remove c.path.steps n) _ (remove_step c trees all s n it there)
-  lone_deleted n it there false = none_leaves c trees all s
+  abbrev kept : List (Argument Nowhere) → List (Argument Nowhere)
+  kept ys = filter (λ x. not (is_of name x)) ys
 
-  pub of_lone_leaves : (o : Option (List ℕ)) (made : List Step) → LeavesCall c made trees → of_lone o made ≡ Ok steps → LeavesCall c steps trees
-  of_lone_leaves None made leaves h = absurd cc
-  of_lone_leaves (Some text) made leaves h = same_leaves made leaves h
+  -- the entries of the option, of which none is left, and the other ones
+  gone_is : (bs : List (Argument Nowhere)) → holds options_key arguments ≡ bs → (after : List (Argument Nowhere)) → Holds options_key (kept bs) arguments after → OptionIs name [] arguments after
+  gone_is bs is after h = record {
+    values = ap (λ ys. map option_value (filter (is_of name) ys)) h.holds ∙ ap (map option_value) (none_left (is_of name) bs);
+    entries = ap kept h.holds ∙ kept_again (is_of name) bs ∙ ap kept (sym is);
+    arguments = h.others;
+  }
 
-  pub of_list_leaves : (known : Bool) (made : List Step) → LeavesCall c made trees → of_list known made ≡ Ok steps → LeavesCall c steps trees
-  of_list_leaves true made leaves h = same_leaves made leaves h
-  of_list_leaves false made leaves h = absurd cc
+  deleted : (made : List Step) (n : ℕ) (e : Expression Nowhere) (o : OneNamed options_key arguments n e) (k : Container) → ((l : Listing Nowhere) → held (k.make l) ≡ elements l)
+      → HoldsAs k c made trees n (it options_key arguments n e o) arguments (kept (held e)) → made ≡ steps → Does (delete_option name) c trees steps
+  deleted made n e o k all_held h same =
+      subst (Does (delete_option name) c trees) same
+      (does (delete_option name) c trees all s made _ h.leaves
+      (gone_is (held e) (ap held_by (value_there options_key arguments n e o)) _ (holds_these options_key k all_held c made trees arguments (kept (held e)) n e o h)))
 
-  delete_value : (n : ℕ) (it : Argument Nowhere) (e : Expression Nowhere) → nth (xs c trees all s) n ≡ Some it → value_of it ≡ Some e → delete_by_shape c n name (text_in element.Text e) (shape e) ≡ Ok steps → LeavesCall c steps trees
-  delete_value n it (array l) there value h =
-      of_list_leaves (all_known element.Text (elements l)) (removed_from (child c n) 0 (passing (is_entry_element name) 0 (elements l))) (passing_leave array_container (is_entry_element name) c trees all s n it l there value) h
-  delete_value n it e there value h =
-      of_lone_leaves (text_in element.Text e) (delete_lone c n (is_entry name (text_in element.Text e))) (lone_deleted n it there (is_entry name (text_in element.Text e))) h
+  nothing_gone : (bs : List (Argument Nowhere)) → holds options_key arguments ≡ bs → bs ≡ kept bs → [] ≡ steps → Does (delete_option name) c trees steps
+  nothing_gone bs is all_stay same =
+      subst (Does (delete_option name) c trees) same
+      (does (delete_option name) c trees all s [] arguments (none_leaves c trees all s) (gone_is bs is arguments (record { holds = is ∙ all_stay; others = refl })))
 
-  delete_any : (n : ℕ) (it : Argument Nowhere) (e : Expression Nowhere) → nth (xs c trees all s) n ≡ Some it → value_of it ≡ Some e → delete_by_value c n name e (entries e) ≡ Ok steps → LeavesCall c steps trees
-  delete_any n it (dictionary l) there value h =
-      of_list_leaves (keys_known (elements l)) (removed_from (child c n) 0 (passing (has_key name) 0 (elements l))) (passing_leave dictionary_container (has_key name) c trees all s n it l there value) h
-  delete_any n it e there value h = delete_value n it e there value h
+  module _ (n : ℕ) (e : Expression Nowhere) (o : OneNamed options_key arguments n e) where
+    lone_deleted : (text : List ℕ) → text_in element.Text e ≡ Some text → (b : Bool) → is_entry name (text_in element.Text e) ≡ b → delete_lone c n b ≡ steps → Does (delete_option name) c trees steps
+    lone_deleted text lone true is same =
+        let one = lone_held element.Text e text lone in
+        let nothing : kept (held e) ≡ [] = ap kept one ∙ ap (λ t. cond (not t) (plain e ∷ []) []) is in
+        subst (Does (delete_option name) c trees) same
+        (does (delete_option name) c trees all s _ _ (one_leaves c trees all s (Remove c.path.steps n) _ (remove_step c trees all s n (it options_key arguments n e o) (is_it options_key arguments n e o)))
+        (gone_is (held e) (ap held_by (value_there options_key arguments n e o)) _ (record { holds = ap held_by (gone_value options_key arguments n e o) ∙ sym nothing; others = gone_others options_key arguments n e o })))
+    lone_deleted text lone false is same =
+        let one = lone_held element.Text e text lone in
+        nothing_gone (held e) (ap held_by (value_there options_key arguments n e o)) (one ∙ sym (ap kept one ∙ ap (λ t. cond (not t) (plain e ∷ []) []) is)) same
 
-  delete_by : (vs : List (Numbered (Expression Nowhere))) → keyword_in options_key (xs c trees all s) ≡ vs → then_ok (one_at_most options_key vs) (delete_option_there c name) ≡ Ok steps → LeavesCall c steps trees
-  delete_by [] there h = let same : [] ≡ steps = cc in subst (λ l. LeavesCall c l trees) same (none_leaves c trees all s)
-  delete_by (v ∷ []) there h = let t = value_there options_key (xs c trees all s) v [] there in delete_any v.number t.it v.value t.is_it t.is_value h
+    lone_by_text : (t : Option (List ℕ)) → text_in element.Text e ≡ t → of_lone t (delete_lone c n (is_entry name (text_in element.Text e))) ≡ Ok steps → Does (delete_option name) c trees steps
+    lone_by_text None is h = absurd cc
+    lone_by_text (Some text) is h = lone_deleted text is (is_entry name (text_in element.Text e)) refl cc
+
+  delete_value : (n : ℕ) (e : Expression Nowhere) (o : OneNamed options_key arguments n e) → delete_by_shape c n name (text_in element.Text e) (shape e) ≡ Ok steps → Does (delete_option name) c trees steps
+  delete_value n (array l) o h =
+      let known = of_list_known (all_known element.Text (elements l)) (removed_from (child c n) 0 (passing (is_entry_element name) 0 (elements l))) steps h in
+      let same = ap (removed_from (child c n) 0) (sym (entry_tests name (elements l) 0 known.0)) ∙ known.1 in
+      deleted _ n (array l) o array_container (λ m. refl)
+      (passing_hold array_container (is_of name) c trees all s n (it options_key arguments n (array l) o) l (is_it options_key arguments n (array l) o) refl) same
+  delete_value n e o h = lone_by_text n e o (text_in element.Text e) refl h
+
+  delete_any : (n : ℕ) (e : Expression Nowhere) (o : OneNamed options_key arguments n e) → delete_by_value c n name e (entries e) ≡ Ok steps → Does (delete_option name) c trees steps
+  delete_any n (dictionary l) o h =
+      let known = of_list_known (keys_known (elements l)) (removed_from (child c n) 0 (passing (has_key name) 0 (elements l))) steps h in
+      let same = ap (removed_from (child c n) 0) (sym (key_tests name (elements l) 0 known.0)) ∙ known.1 in
+      deleted _ n (dictionary l) o dictionary_container (λ m. refl)
+      (passing_hold dictionary_container (is_of name) c trees all s n (it options_key arguments n (dictionary l) o) l (is_it options_key arguments n (dictionary l) o) refl) same
+  delete_any n e o h = delete_value n e o h
+
+  delete_by : (vs : List (Numbered (Expression Nowhere))) → keyword_in options_key arguments ≡ vs → then_ok (one_at_most options_key vs) (delete_option_there c name) ≡ Ok steps → Does (delete_option name) c trees steps
+  delete_by [] none h = nothing_gone [] (ap held_by (none_there options_key arguments none)) refl cc
+  delete_by (v ∷ []) there h = delete_any v.number v.value (one_named options_key arguments v there) h
   delete_by (v ∷ w ∷ more) there h = absurd cc
 
-pub delete_option_may : (name : List ℕ) → TaskMayBeDone (delete_option name)
-delete_option_may name c trees all s steps made =
+pub delete_option_does : (name : List ℕ) → TaskDoes (delete_option name)
+delete_option_does name c trees all s steps made =
     delete_by name c trees all s steps (keyword_in options_key (xs c trees all s)) refl (sym (ap (λ ys. delete_option_steps c ys name) (elements_are c trees all s)) ∙ made)

@@ -29,7 +29,7 @@ use Rattle.meson_keywords.proofs.CallKnown.{ListKnown, known_stand, list_known}
 use Rattle.meson_keywords.proofs.ErasedSteps.{steps_erased}
 use Rattle.meson_calls.proofs.Nested.{good_args}
 use Rattle.meson_steps.proofs.OneMoreStep.{all_after}
-use Rattle.meson_keywords.proofs.TaskMay.{task_may}
+use Rattle.meson_keywords.proofs.TaskMay.{task_does}
 
 module _ (old : Loaded) (c : CallRef) (w : Work) (before : List Step) (b : Between old c before w) where
   -- the arguments of the call in the code
@@ -67,7 +67,7 @@ module _ (old : Loaded) (c : CallRef) (w : Work) (before : List Step) (b : Betwe
     here = plain_trees (so_far w)
 
     leaves : LeavesCall c steps here
-    leaves = task_may t may c here (known_stand w.saved.items w.files w.trees.items b.reached.known) b.stands steps are
+    leaves = (task_does t may c here (known_stand w.saved.items w.files w.trees.items b.reached.known) b.stands steps are).call
 
     pub task_under_way : (code : List ListStep) → AreBare steps code → IsUnderWay old (before ++ steps) code w
     task_under_way code bare = record {

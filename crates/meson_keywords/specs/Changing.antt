@@ -1,5 +1,5 @@
 -- The call whose arguments a command changes, between two of its tasks.
-use Rattle.std.specs.Prelude.{◌≡◌, ℕ, ◌≤◌, List, [], ◌++◌, All, Some, Result, Ok}
+use Rattle.std.specs.Prelude.{◌≡◌, ℕ, ◌≤◌, List, [], ◌++◌, Some, Result, Ok}
 use Rattle.meson_syntax.specs.declared.operator.Bracket.TheVariants as bracket
 use Rattle.meson_syntax.specs.Grammar.{file_depth, listing_depth}
 use Rattle.meson_syntax.specs.Paths.{ListAt, list_at, nth}
@@ -8,7 +8,7 @@ use Rattle.meson_calls.specs.declared.call.CallRef.{CallRef}
 use Rattle.meson_calls.specs.declared.refusal.Refusal.{Refusal}
 use Rattle.meson_keywords.specs.declared.tasks.Task as code
 use Rattle.meson_steps.specs.declared.work.Work.{Work}
-use Rattle.meson_steps.specs.ListSteps.{AreDoable, MayStand, wide_depth}
+use Rattle.meson_steps.specs.ListSteps.{AreDoable, wide_depth}
 use Rattle.meson_calls.specs.Loading.{Loaded}
 use Rattle.meson_steps.specs.Results.{plain_trees}
 use Rattle.meson_calls.specs.Finding.{the_call}
@@ -38,9 +38,6 @@ pub record CallStands (c : CallRef) (trees : List Plain) : Type 0 where
 pub record LeavesCall (c : CallRef) (steps : List Step) (trees : List Plain) : Type 0 where
   pub doable : AreDoable steps trees
   pub stands : CallStands c (trees_after steps trees)
-
-abbrev pub TaskMayBeDone : Task → Type 0
-TaskMayBeDone t = (c : CallRef) (trees : List Plain) → All MayStand trees → CallStands c trees → (steps : List Step) → task_steps t c (elements_in c trees) ≡ Ok steps → LeavesCall c steps trees
 
 -- ---- the answers of the work
 

@@ -1,4 +1,5 @@
 pub mod Changing
+pub mod Effects
 pub mod Keys
 pub mod KeywordEdits
 pub mod Options

@@ -5,6 +5,7 @@ pub mod changing;
 mod elements;
 pub mod keys;
 mod keyword_steps;
+pub mod laws;
 mod option_steps;
 pub mod request;
 mod tasks;

@@ -9,3 +9,4 @@ mod CalledNames
 mod DetailsThere
 mod ValuesAreTexts
 mod ChangedKeys
+mod CommandsLeave

@@ -4,3 +4,4 @@ pub mod Called
 pub mod Details
 pub mod ValueTexts
 pub mod Orders
+pub mod Effects

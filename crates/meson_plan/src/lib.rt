@@ -4,6 +4,7 @@
 mod called;
 mod details;
 mod info;
+pub mod laws;
 mod order;
 mod planning;
 mod project;

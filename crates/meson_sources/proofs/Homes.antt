@@ -67,7 +67,7 @@ marked_home p ms c stand is = go (first_list ms) (λ l found. listed_home p ms l
 
 -- ---- what may be put there
 
-list_levels : (l : Listing Nowhere) (b : Bracket) → LevelListing l b → LevelArguments (arguments_of (elements l)) b false
+pub list_levels : (l : Listing Nowhere) (b : Bracket) → LevelListing l b → LevelArguments (arguments_of (elements l)) b false
 list_levels (listing s trailing list) b l = subst (λ xs. LevelArguments xs b false) (sym (list-of-arguments list)) l.1
 
 module _ (old : Loaded) (are : AreParsed old.files old.parsed) (c : CallRef) where

@@ -26,13 +26,14 @@ mod RemovedSpots
 mod Renamed
 mod RenamedStrings
 mod SourcesAddable
+pub mod SourcesAdded
 pub mod SourcesMeant
 mod SpotsApart
 mod SpotsFound
 mod SpotsOnce
+mod StringsDoable
 mod StringsStay
 mod StringsThere
 mod TargetCalls
 mod TargetMarks
 mod TargetsFound
-mod StringsDoable

@@ -48,7 +48,7 @@ target_home p c t = record { there = t.there; holds = inr (subst (λ l. 0 < plai
 
 -- ---- sources
 
-sources_home : (p : Project Span) (c : Placed (Call Span)) → TargetThere p c → (ms : List (Mark Span)) → All (MarkStands p) ms → Home p (home c.place ms)
+pub sources_home : (p : Project Span) (c : Placed (Call Span)) → TargetThere p c → (ms : List (Mark Span)) → All (MarkStands p) ms → Home p (home c.place ms)
 sources_home p c t ms stand = go (or_option (first_list ms) (first_empty ms)) (λ l is. marked_home p ms l stand is)
   where
     go : (o : Option CallRef) → ((l : CallRef) → o ≡ Some l → Home p l) → Home p (or_call c.place o)

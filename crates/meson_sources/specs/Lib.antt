@@ -5,3 +5,4 @@ pub mod Extras
 pub mod Spots
 pub mod Standings
 pub mod Targeted
+pub mod Effects

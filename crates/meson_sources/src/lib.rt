@@ -5,5 +5,6 @@ pub mod editing;
 mod extra;
 pub mod extras;
 mod inserting;
+pub mod laws;
 mod removing;
 pub mod targeting;

@@ -1,8 +1,10 @@
+pub mod AddedTargets
+mod ErasedParts
 mod NewTargets
 mod SetNames
 mod StatementsDoable
 mod StatementsRemoved
 mod TargetText
-pub mod TargetsDoable
 mod Throughs
 mod UsesFound
+pub mod TargetsDoable

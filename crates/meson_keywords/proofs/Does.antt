@@ -1,0 +1,23 @@
+-- A task that is done on a call that stands: it may be done, leaves the call standing, and leaves of it what it should.
+use Rattle.std.proofs.Common.{◌≡◌, List, sym, subst₂}
+use Rattle.std.specs.Prelude.{All, Ok}
+use Rattle.meson_syntax.specs.Tree.{Nowhere, Plain, Argument}
+use Rattle.meson_calls.specs.declared.call.CallRef.{CallRef}
+use Rattle.meson_steps.specs.ListSteps.{MayStand}
+use Rattle.meson_steps.specs.Steps.{Step}
+use Rattle.meson_keywords.specs.Changing.{CallStands, LeavesCall}
+use Rattle.meson_keywords.specs.Effects.{TaskLeaves}
+use Rattle.meson_keywords.specs.Tasks.{Task}
+use Rattle.meson_keywords.specs.TaskSteps.{elements_in, task_steps, trees_after}
+use Rattle.meson_keywords.proofs.CallEdits.{LeavesAs, elements_are, xs}
+
+pub record Does (t : Task) (c : CallRef) (trees : List Plain) (steps : List Step) : Type 0 where
+  pub call : LeavesCall c steps trees
+  pub leaves : TaskLeaves t (elements_in c trees) (elements_in c (trees_after steps trees))
+
+abbrev pub TaskDoes : Task → Type 0
+TaskDoes t = (c : CallRef) (trees : List Plain) → All MayStand trees → CallStands c trees → (steps : List Step) → task_steps t c (elements_in c trees) ≡ Ok steps → Does t c trees steps
+
+pub does : (t : Task) (c : CallRef) (trees : List Plain) (all : All MayStand trees) (s : CallStands c trees) (steps : List Step) (ys : List (Argument Nowhere)) → LeavesAs c steps trees ys → TaskLeaves t (xs c trees all s) ys
+    → Does t c trees steps
+does t c trees all s steps ys l leaves = record { call = l.call; leaves = subst₂ (TaskLeaves t) (sym (elements_are c trees all s)) (sym l.are) leaves }

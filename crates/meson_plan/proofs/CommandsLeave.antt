@@ -1,0 +1,52 @@
+-- What a command that is performed leaves of the call that it changes.
+use Rattle.std.proofs.Common.{◌≡◌, ℕ, List, Some, sym, ap, ◌∙◌, subst}
+use Rattle.std.specs.Prelude.{Ok}
+use Rattle.std.specs.Str.{IsUtf8}
+use Rattle.meson_splice.specs.Patch.{then_ok}
+use Rattle.meson_calls.specs.declared.call.Role.{Role}
+use Rattle.meson_calls.specs.declared.call.Role.TheVariants as role
+use Rattle.meson_calls.specs.Finding.{the_call}
+use Rattle.meson_calls.specs.Loading.{IsProject, Loaded, project}
+use Rattle.meson_keywords.specs.Changing.{request_steps}
+use Rattle.meson_keywords.specs.Effects.{CallLeft}
+use Rattle.meson_keywords.specs.Tasking.{Asked, to_set, to_add, to_remove, to_delete, to_set_options, to_delete_options}
+use Rattle.meson_keywords.specs.TaskSteps.{or_same}
+use Rattle.meson_keywords.proofs.RequestsLeave.{requests-leave}
+use Rattle.meson_steps.specs.declared.command.Command.{Command}
+use Rattle.meson_steps.specs.declared.command.Command.TheVariants as command
+use Rattle.meson_steps.specs.declared.command.Done.{Done}
+use Rattle.meson_steps.specs.Results.{plain_trees}
+use Rattle.meson_sources.specs.SourceEdits.{sources_added}
+use Rattle.meson_sources.proofs.SourcesAdded.{sources-are-added}
+use Rattle.meson_steps.proofs.WentWell.{then_was}
+use Rattle.meson_targets.specs.TargetEdits.{target_added}
+use Rattle.meson_targets.proofs.AddedTargets.{added-targets-are-named}
+use Rattle.meson_plan.specs.Effects.{CommandsLeave, LeavesOf, SourcesCome, TargetComes}
+use Rattle.meson_plan.specs.Performing.{Performs}
+
+module _ (old new : Loaded) (c : Command) (done : Done) (is : IsProject old) (p : Performs old c done new) where
+  leaves : (r : Role) (id : List ℕ) (asked : Asked) → request_steps (project old) (r, id, asked) ≡ Ok p.made.steps → LeavesOf old r id asked new
+  leaves r id asked made texts =
+      let after = ap (or_same (plain_trees old)) p.made.are_trees ∙ sym p.are_trees in
+      subst (CallLeft old r id asked) after (requests-leave old is r id asked texts p.made.steps made)
+
+  sources_come : (id : List ℕ) (names : List (List ℕ)) → then_ok (the_call (project old) role.Target id) (λ k. sources_added (project old) k names) ≡ Ok p.made.steps → SourcesCome old id names new
+  sources_come id names made =
+      let k = then_was (the_call (project old) role.Target id) (λ k. sources_added (project old) k names) p.made.steps made in
+      record { call = k.0; is_call = k.1; gets = sources-are-added old is id k.0 k.1 names p.made.steps (plain_trees new) k.2 (p.made.are_trees ∙ ap Some (sym p.are_trees)) }
+
+  target_comes : (name kind folder : List ℕ) (sources : List (List ℕ)) → target_added (project old) name kind folder sources ≡ Ok p.made.steps → IsUtf8 name → TargetComes old name kind folder sources new
+  target_comes name kind folder sources made utf8 =
+      let t = added-targets-are-named old name kind folder sources p.made.steps (plain_trees new) utf8 made (p.made.are_trees ∙ ap Some (sym p.are_trees)) in
+      record { file = t.0; is_file = t.1; named = t.2 }
+
+pub commands-leave : CommandsLeave
+commands-leave old new (command.SourcesAdd id names) done is p = sources_come old new (command.SourcesAdd id names) done is p id names p.made.are_planned
+commands-leave old new (command.TargetAdd name kind folder sources) done is p = λ utf8. target_comes old new (command.TargetAdd name kind folder sources) done is p name kind folder sources p.made.are_planned utf8
+commands-leave old new (command.KwargsSet r id pairs) done is p = leaves old new (command.KwargsSet r id pairs) done is p r id (to_set pairs) p.made.are_planned
+commands-leave old new (command.KwargsAdd r id pairs) done is p = leaves old new (command.KwargsAdd r id pairs) done is p r id (to_add pairs) p.made.are_planned
+commands-leave old new (command.KwargsRemove r id pairs) done is p = leaves old new (command.KwargsRemove r id pairs) done is p r id (to_remove pairs) p.made.are_planned
+commands-leave old new (command.KwargsDelete r id keys) done is p = leaves old new (command.KwargsDelete r id keys) done is p r id (to_delete keys) p.made.are_planned
+commands-leave old new (command.OptionsSet pairs) done is p = leaves old new (command.OptionsSet pairs) done is p _ _ (to_set_options pairs) p.made.are_planned
+commands-leave old new (command.OptionsDelete names) done is p = leaves old new (command.OptionsDelete names) done is p _ _ (to_delete_options names) p.made.are_planned
+commands-leave old new _ done is p = tt

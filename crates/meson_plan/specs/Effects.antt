@@ -1,0 +1,55 @@
+-- What is there after a command, said of the arguments of the call that it changes, of the list that gets sources, and of the calls that a name names.
+-- Meson manual, Rewriter.
+use Rattle.std.specs.Prelude.{◌≡◌, ℕ, List, ◌∷◌, codes, Ok}
+use Rattle.std.specs.Str.{IsUtf8}
+use Rattle.meson_lex.specs.declared.kinds.Span.{Span}
+use Rattle.meson_calls.specs.declared.call.Role.{Role}
+use Rattle.meson_calls.specs.declared.call.Role.TheVariants as role
+use Rattle.meson_calls.specs.Calls.{Call}
+use Rattle.meson_calls.specs.Finding.{the_call}
+use Rattle.meson_calls.specs.Loading.{IsProject, Loaded, named_trees, project}
+use Rattle.meson_calls.specs.Project.{Placed}
+use Rattle.meson_calls.specs.Sources.{home, source_marks}
+use Rattle.meson_keywords.specs.Effects.{AreAskedTexts, CallLeft}
+use Rattle.meson_keywords.specs.Tasking.{Asked, to_set, to_add, to_remove, to_delete, to_set_options, to_delete_options}
+use Rattle.meson_steps.specs.declared.command.Command.{Command}
+use Rattle.meson_steps.specs.declared.command.Command.TheVariants as command
+use Rattle.meson_steps.specs.declared.command.Done.{Done}
+use Rattle.meson_sources.specs.Effects.{ListGets}
+use Rattle.meson_sources.specs.SourceEdits.{new_names}
+use Rattle.meson_steps.specs.Names.{distinct}
+use Rattle.meson_steps.specs.Results.{plain_trees}
+use Rattle.meson_targets.specs.Effects.{NamesTarget, call_with_texts}
+use Rattle.meson_targets.specs.TargetEdits.{number_in}
+use Rattle.meson_plan.specs.Performing.{Performs}
+
+-- what the request leaves of its call, where its texts are UTF-8
+abbrev pub LeavesOf : Loaded → Role → List ℕ → Asked → Loaded → Type 0
+LeavesOf old r id asked new = AreAskedTexts asked → CallLeft old r id asked (plain_trees new)
+
+-- The target is the only one that the id names, and where its further sources go is each new one once.
+pub record SourcesCome (old : Loaded) (id : List ℕ) (names : List (List ℕ)) (new : Loaded) : Type 0 where
+  pub call : Placed (Call Span)
+  pub is_call : the_call (project old) role.Target id ≡ Ok call
+  pub gets : ListGets (home call.place (source_marks (project old) call)) (new_names (source_marks (project old) call) names) (plain_trees old) (plain_trees new)
+
+-- The name names the new target alone, in the build file of the folder.
+pub record TargetComes (old : Loaded) (name kind folder : List ℕ) (sources : List (List ℕ)) (new : Loaded) : Type 0 where
+  pub file : ℕ
+  pub is_file : number_in (project old) folder ≡ Ok file
+  pub named : NamesTarget (named_trees old.files (plain_trees new)) name (call_with_texts kind (name ∷ distinct sources)) file
+
+abbrev pub HasEffect : Loaded → Command → Loaded → Type 0
+HasEffect old (command.SourcesAdd id names) new = SourcesCome old id names new
+HasEffect old (command.TargetAdd name kind folder sources) new = IsUtf8 name → TargetComes old name kind folder sources new
+HasEffect old (command.KwargsSet r id pairs) new = LeavesOf old r id (to_set pairs) new
+HasEffect old (command.KwargsAdd r id pairs) new = LeavesOf old r id (to_add pairs) new
+HasEffect old (command.KwargsRemove r id pairs) new = LeavesOf old r id (to_remove pairs) new
+HasEffect old (command.KwargsDelete r id keys) new = LeavesOf old r id (to_delete keys) new
+HasEffect old (command.OptionsSet pairs) new = LeavesOf old role.Project (codes "/") (to_set_options pairs) new
+HasEffect old (command.OptionsDelete names) new = LeavesOf old role.Project (codes "/") (to_delete_options names) new
+HasEffect old _ new = Unit {0}
+
+-- the law: what a command that is performed leaves of the call that it changes
+abbrev pub CommandsLeave : Type 0
+CommandsLeave = (old new : Loaded) (c : Command) (done : Done) → IsProject old → Performs old c done new → HasEffect old c new

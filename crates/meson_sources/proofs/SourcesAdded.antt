@@ -1,0 +1,170 @@
+-- The list that gets sources has its elements in their order, and the new ones behind those without a name.
+use Rattle.std.proofs.Common.{◌≡◌, ℕ, zero, suc, true, false, List, [], ◌∷◌, ◌++◌, append_assoc, length, length-append, take, drop, Option, Some, refl, sym, ap, ap₂, ◌∙◌, arith}
+use Rattle.std.specs.Prelude.{Bool, option_and_then, option_map}
+use Rattle.std.specs.List.{filter}
+use Rattle.meson_syntax.specs.declared.operator.Bracket.{Bracket}
+use Rattle.meson_syntax.specs.Operators.{holds_pairs, holds_values}
+use Rattle.meson_syntax.specs.Grammar.{LevelArguments, LevelFile}
+use Rattle.meson_syntax.specs.Paths.{ListAt, list_at, nth}
+use Rattle.meson_syntax.specs.Tree.{Nowhere, Plain, Argument, plain, named, pair, arguments_of, erase}
+use Rattle.meson_syntax.proofs.parsing.Steps.{some-injective}
+use Rattle.meson_syntax.proofs.paths.Reaching.{and-then-some, list-fits, map-some}
+use Rattle.meson_edit.specs.Edits.{Edit, First, After, edited, edited_elements, edited_list, elements, first_element, inserted, with_elements}
+use Rattle.meson_calls.specs.declared.call.CallRef.{CallRef}
+use Rattle.meson_calls.specs.Calls.{keyword}
+use Rattle.meson_calls.specs.Loading.{IsProject, Loaded, project}
+use Rattle.meson_calls.specs.Sources.{home, once, source_marks, sources_key}
+use Rattle.meson_calls.proofs.ListNodes.{values_no_pairs}
+use Rattle.meson_steps.specs.ListSteps.{MayStand}
+use Rattle.meson_steps.specs.Names.{checked_names}
+use Rattle.meson_steps.specs.Results.{plain_trees}
+use Rattle.meson_steps.specs.Steps.{all_stepped, changed_at, step_in, stepped}
+use Rattle.meson_steps.proofs.Insertable.{elements_with, there_again}
+use Rattle.meson_steps.proofs.PlainTrees.{plain_place, tree_is}
+use Rattle.meson_steps.proofs.WentWell.{once_was, then_was}
+use Rattle.meson_steps.proofs.WithOne.{all_nth}
+use Rattle.meson_sources.specs.Effects.{ListGets, SourcesAreAdded, elements_in, is_named, strings}
+use Rattle.meson_sources.specs.SourceEdits as edits
+use Rattle.meson_sources.specs.SourceEdits.{elements_there, inserted_in, is_plain, new_names, plain_len, written_source}
+use Rattle.meson_sources.proofs.Homes.{Home, all_stand, list_levels}
+use Rattle.meson_sources.proofs.PlainCounts.{count_erased, elements_are, plain_count, plain_count_is}
+use Rattle.meson_sources.proofs.SourcesAddable.{sources_home}
+use Rattle.meson_sources.proofs.TargetMarks.{sources_stand}
+use Rattle.meson_sources.proofs.TargetsFound.{targets_stand}
+
+-- ---- a step, by what it leaves
+
+record Changed {X : Type 0} (i : ℕ) (change : X → Option X) (xs ys : List X) : Type 0 where
+  old : X
+  was : nth xs i ≡ Some old
+  new : X
+  is : change old ≡ Some new
+  now : nth ys i ≡ Some new
+
+changed_was : {X : Type 0} (i : ℕ) (change : X → Option X) (xs ys : List X) → changed_at i change xs ≡ Some ys → Changed i change xs ys
+changed_was i change [] ys made = absurd cc
+changed_was zero change (x ∷ xs) ys made =
+    let o = map-some (λ y. y ∷ xs) (change x) ys made in
+    record { old = x; was = refl; new = o.0; is = o.1; now = ap (λ l. nth l 0) (sym o.2) }
+changed_was (suc i) change (x ∷ xs) ys made =
+    let o = map-some (λ l. x ∷ l) (changed_at i change xs) ys made in
+    let c = changed_was i change xs o.0 o.1 in
+    record { old = c.old; was = c.was; new = c.new; is = c.is; now = ap (λ l. nth l (suc i)) (sym o.2) ∙ c.now }
+
+module _ (list : CallRef) (e : Edit) (of_list : (t : Plain) → edited e t ≡ edited_list e list.path.steps t) (trees between : List Plain) (made : stepped (step_in list e) trees ≡ Some between) (xs : List (Argument Nowhere))
+    (had : elements_in list trees ≡ Some xs) where
+  record Edited : Type 0 where
+    ys : List (Argument Nowhere)
+    are : edited_elements e xs ≡ Some ys
+    has : elements_in list between ≡ Some ys
+
+  one_edit : Edited
+  one_edit =
+      let path = list.path.steps in
+      let c = changed_was list.file (edited e) trees between made in
+      let p = and-then-some (λ q. option_map (λ l. q.back (with_elements q.list l)) (edited_elements e (elements q.list))) (list_at c.old path) c.new (sym (of_list c.old) ∙ c.is) in
+      let y = map-some (λ l. p.0.back (with_elements p.0.list l)) (edited_elements e (elements p.0.list)) c.new p.2 in
+      let again = there_again c.old path p.0 p.1 y.0 in
+      let same : elements p.0.list ≡ xs = some-injective _ _ (sym (ap (λ o. option_and_then (λ t. option_map (λ l. elements l.list) (list_at t path)) o) c.was ∙ ap (option_map (λ (l : ListAt Nowhere). elements l.list)) p.1) ∙ had) in
+      record {
+        ys = y.0;
+        are = ap (edited_elements e) (sym same) ∙ y.1;
+        has =
+            ap (λ o. option_and_then (λ t. option_map (λ l. elements l.list) (list_at t path)) o) c.now
+            ∙ ap (λ t. option_map (λ (l : ListAt Nowhere). elements l.list) (list_at t path)) (sym y.2)
+            ∙ ap (option_map (λ (l : ListAt Nowhere). elements l.list)) again.is_there ∙ ap (λ l. Some (elements l)) again.list ∙ ap Some (elements_with p.0.list y.0);
+      }
+
+-- ---- strings one behind the other
+
+nth_last : {A : Type 0} (x : A) (front back : List A) → (it : A) × (nth (x ∷ (front ++ back)) (length front) ≡ Some it)
+nth_last x [] back = (x, refl)
+nth_last x (y ∷ front) back = nth_last y front back
+
+take_front : {A : Type 0} (front back : List A) → take (length front) (front ++ back) ≡ front
+take_front [] back = refl
+take_front (x ∷ front) back = ap (λ l. x ∷ l) (take_front front back)
+
+drop_front : {A : Type 0} (front back : List A) → drop (length front) (front ++ back) ≡ back
+drop_front [] back = refl
+drop_front (x ∷ front) back = drop_front front back
+
+none_before : (a : Argument Nowhere) (xs ys : List (Argument Nowhere)) → first_element a xs ≡ Some ys → (xs ≡ []) × (a ∷ [] ≡ ys)
+none_before a [] ys is = (refl, some-injective _ _ is)
+none_before a (x ∷ xs) ys is = absurd cc
+
+module _ (list : CallRef) where
+  abbrev path : List ℕ
+  path = list.path.steps
+
+  puts : (names : List (List ℕ)) (front back : List (Argument Nowhere)) (trees after : List Plain) → elements_in list trees ≡ Some (front ++ back) → all_stepped (edits.inserted list (length front) names) trees ≡ Some after
+      → elements_in list after ≡ Some (front ++ (strings names ++ back))
+  puts [] front back trees after had made = ap (elements_in list) (sym (some-injective _ _ made)) ∙ had
+  puts (name ∷ more) [] back trees after had made =
+      let new = written_source name in
+      let s = and-then-some (all_stepped (edits.inserted list 1 more)) (stepped (step_in list (First path new)) trees) after made in
+      let e = one_edit list (First path new) (λ t. refl) trees s.0 s.1 back had in
+      let f = none_before new.node back e.ys e.are in
+      puts more (new.node ∷ []) [] s.0 after (e.has ∙ ap Some (sym f.1)) s.2
+      ∙ ap (λ l. Some (new.node ∷ (strings more ++ l))) (sym f.0)
+  puts (name ∷ more) (x ∷ front) back trees after had made =
+      let new = written_source name in
+      let n = length front in
+      let s = and-then-some (all_stepped (edits.inserted list (suc (suc n)) more)) (stepped (step_in list (After path n new)) trees) after made in
+      let e = one_edit list (After path n new) (λ t. refl) trees s.0 s.1 (x ∷ (front ++ back)) had in
+      let last = nth_last x front back in
+      let put : inserted n new.node (x ∷ (front ++ back)) last.0 ≡ (x ∷ front ++ new.node ∷ []) ++ back =
+      ap₂ (λ l m. x ∷ (l ++ new.node ∷ m)) (take_front front back) (drop_front front back) ∙ ap (λ l. x ∷ l) (sym (append_assoc front (new.node ∷ []) back)) in
+      let are : e.ys ≡ (x ∷ front ++ new.node ∷ []) ++ back = some-injective _ _ (sym e.are ∙ ap (option_map (inserted n new.node (x ∷ (front ++ back)))) last.1) ∙ put in
+      let longer : length (x ∷ front ++ new.node ∷ []) ≡ suc (suc n) = omega (arith, length-append front (new.node ∷ [])) in
+      puts more (x ∷ front ++ new.node ∷ []) back s.0 after (e.has ∙ ap Some are) (ap (λ m. all_stepped (edits.inserted list m more) s.0) longer ∙ s.2)
+      ∙ ap (λ l. Some (x ∷ l)) (append_assoc front (new.node ∷ []) (strings more ++ back))
+
+-- ---- those without a name stand first
+
+module _ (b : Bracket) (none : holds_pairs b ≡ false) where
+  all_named : (xs : List (Argument Nowhere)) → LevelArguments (arguments_of xs) b true → (filter is_plain xs ≡ []) × (filter is_named xs ≡ xs)
+  all_named [] level = (refl, refl)
+  all_named (plain e ∷ xs) level = let both : true ≡ false = level.0.1 in absurd cc
+  all_named (named s x e ∷ xs) level = let r = all_named xs level.1 in (r.0, ap (λ l. named s x e ∷ l) r.1)
+  all_named (pair s e f ∷ xs) level = let both : true ≡ false = sym level.0.0 ∙ none in absurd cc
+
+  in_order : (xs : List (Argument Nowhere)) (seen : Bool) → LevelArguments (arguments_of xs) b seen → xs ≡ filter is_plain xs ++ filter is_named xs
+  in_order [] seen level = refl
+  in_order (plain e ∷ xs) seen level = ap (λ l. plain e ∷ l) (in_order xs false level.1)
+  in_order (named s x e ∷ xs) seen level = let r = all_named xs level.1 in sym (ap₂ (λ l m. l ++ (named s x e ∷ m)) r.0 r.1)
+  in_order (pair s e f ∷ xs) seen level = let both : true ≡ false = sym level.0.0 ∙ none in absurd cc
+
+-- ---- the list where sources go
+
+module _ (old : Loaded) (is : IsProject old) (c : CallRef) (h : Home (project old) c) where
+  gets : (names : List (List ℕ)) (after : List Plain) → all_stepped (inserted_in (project old) c names) (plain_trees old) ≡ Some after → ListGets c names (plain_trees old) after
+  gets names after made =
+      let path = c.path.steps in
+      let tree = erase h.there.file.tree in
+      let q = plain_place h.there.file.tree path h.there.list h.there.is_list in
+      let xs = elements q.place.list in
+      let level : LevelFile tree = (all_nth MayStand (plain_trees old) c.file tree (all_stand old is.parsed c) (tree_is old c h.there)).0 in
+      let low = (list-fits Nowhere tree path q.place q.is_place).level level in
+      let no_pairs = values_no_pairs q.place.bracket (ap holds_values q.bracket ∙ h.values) in
+      let order = in_order q.place.bracket no_pairs xs false (list_levels q.place.list q.place.bracket low) in
+      let had : elements_in c (plain_trees old) ≡ Some xs =
+      ap (λ o. option_and_then (λ t. option_map (λ l. elements l.list) (list_at t path)) o) (tree_is old c h.there) ∙ ap (option_map (λ (l : ListAt Nowhere). elements l.list)) q.is_place in
+      let count : plain_len (project old) c ≡ length (filter is_plain xs) =
+      sym (plain_count_is (elements_there (project old) c)) ∙ ap plain_count (elements_are (project old) c h.there) ∙ sym (ap (λ l. plain_count (elements l)) q.list ∙ count_erased h.there.list.list) ∙ plain_count_is xs in
+      record {
+        elements = xs;
+        had = had;
+        has = puts c names (filter is_plain xs) (filter is_named xs) (plain_trees old) after (had ∙ ap Some order) (ap (λ n. all_stepped (edits.inserted c n names) (plain_trees old)) (sym count) ∙ made);
+      }
+
+pub sources-are-added : SourcesAreAdded
+sources-are-added old is id c found names steps after made done =
+    let p = project old in
+    let t = targets_stand p id c found in
+    let ms = source_marks p c in
+    let l = home c.place ms in
+    let new = new_names ms names in
+    let checked = then_was (checked_names names) (λ _. once sources_key (keyword sources_key c.it) (inserted_in p l new)) steps made in
+    let same = once_was sources_key (keyword sources_key c.it) (inserted_in p l new) steps checked.2 in
+    gets old is l (sources_home p c t ms (sources_stand old is.parsed c t)) new after (ap (λ s. all_stepped s (plain_trees old)) same ∙ done)

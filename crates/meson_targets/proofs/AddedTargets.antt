@@ -1,0 +1,164 @@
+-- A target that is added is the one that its name names.
+use Rattle.std.proofs.Common.{◌≡◌, ℕ, zero, suc, ◌+◌, true, false, List, [], ◌∷◌, ◌++◌, append-nil, append_assoc, map, Option, Some, None, refl, sym, ap, ap₂, ◌∙◌, arith}
+use Rattle.std.specs.Prelude.{Bool, ◌&&◌, bytes_eq, codes, if◌then◌else◌, not, option_and_then, option_map, Result, Ok, Err}
+use Rattle.std.specs.List.{cons_option}
+use Rattle.std.specs.Str.{IsUtf8}
+use Rattle.std.proofs.lemmas.List.Elements.{filter_map-append}
+use Rattle.std.proofs.lemmas.Slice.Eq.{bytes_eq-Decides}
+use Rattle.meson_lex.proofs.Written.{literal_value}
+use Rattle.meson_splice.specs.Patch.{then_ok}
+use Rattle.meson_splice.specs.declared.file_set.File.{File}
+use Rattle.meson_syntax.specs.declared.tree.Parsed.{Parsed}
+use Rattle.meson_syntax.specs.ExchangeStatements.{and_last, file_and_last}
+use Rattle.meson_syntax.specs.Tree.{Nowhere, Plain, plain, Statement, Statements, no_statements, statement, block, file, arguments_of, erase}
+use Rattle.meson_syntax.specs.View.{view}
+use Rattle.meson_edit.specs.Edits.{Append, Written, edited}
+use Rattle.meson_calls.specs.declared.call.CallRef.{CallRef}
+use Rattle.meson_calls.specs.declared.call.Role.TheVariants as role
+use Rattle.meson_calls.specs.declared.refusal.Refusal.{Refusal}
+use Rattle.meson_calls.specs.declared.refusal.Refusal.TheVariants.{WrongKind}
+use Rattle.meson_calls.specs.Calls.{Call, call_of, all_chosen, chosen, is, part_call}
+use Rattle.meson_calls.specs.Finding.{only_one}
+use Rattle.meson_calls.specs.Loading.{named_trees, project, views}
+use Rattle.meson_calls.specs.Parts.{Part, arguments_parts, file_parts, parts, parts_from, statement_parts, statements_parts}
+use Rattle.meson_calls.specs.Project.{Placed, Project, child, place, placed}
+use Rattle.meson_calls.specs.Roles.{assigned_values, one_of, or_else, target_functions, with_name, with_role}
+use Rattle.meson_steps.proofs.WentWell.{then_was}
+use Rattle.meson_syntax.proofs.parsing.Steps.{some-injective}
+use Rattle.meson_steps.specs.Names.{checked_names, distinct}
+use Rattle.meson_steps.specs.Results.{plain_trees}
+use Rattle.meson_steps.specs.Steps.{Step, all_stepped, changed_at}
+use Rattle.meson_steps.specs.WrittenTexts.{string_of}
+use Rattle.meson_targets.specs.Effects.{AddedTargetsAreNamed, call_with_texts}
+use Rattle.meson_targets.specs.TargetEdits.{appended, checked_kind, kind_key, not_taken, number_in, target_statement, targets_named, written_target}
+use Rattle.meson_targets.proofs.ErasedParts.{named_alike, named_among, parts_erased}
+
+-- ---- lists that are joined
+
+joined : {S : Type 0} (id : List ℕ) (xs ys : List (Placed (Part S))) → named_among id (xs ++ ys) ≡ named_among id xs ++ named_among id ys
+joined id xs ys =
+    ap (λ l. all_chosen (with_name id) (all_chosen (with_role role.Target) l)) (filter_map-append (chosen part_call) xs ys)
+    ∙ ap (all_chosen (with_name id)) (filter_map-append (chosen (with_role role.Target)) (all_chosen part_call xs) (all_chosen part_call ys))
+    ∙ filter_map-append (chosen (with_name id)) (all_chosen (with_role role.Target) (all_chosen part_call xs)) (all_chosen (with_role role.Target) (all_chosen part_call ys))
+
+both_empty : {A : Type 0} (xs ys : List A) → xs ++ ys ≡ [] → (xs ≡ []) × (ys ≡ [])
+both_empty [] ys none = (refl, none)
+both_empty (x ∷ xs) ys none = absurd cc
+
+none_mapped : {A B : Type 0} (f : A → B) (xs : List A) → xs ≡ [] → map f xs ≡ []
+none_mapped f xs none = ap (map f) none
+
+-- ---- a statement at the end of a file
+
+statements_and_last : (p : CallRef) (n : ℕ) (list : Statements Nowhere) (x : Statement Nowhere) → (k : ℕ) × (statements_parts p n (and_last list x) ≡ statements_parts p n list ++ statement_parts (child p k) x)
+statements_and_last p n no_statements x = (n, append-nil (statement_parts (child p n) x))
+statements_and_last p n (statement s more) x =
+    let r = statements_and_last p (n + 1) more x in
+    (r.0, ap (λ l. statement_parts (child p n) s ++ l) r.1 ∙ sym (append_assoc (statement_parts (child p n) s) (statements_parts p (n + 1) more) (statement_parts (child p r.0) x)))
+
+last_in : (n : ℕ) (t : Plain) (x : Statement Nowhere) → (k : ℕ) × (file_parts n (file_and_last t x) ≡ file_parts n t ++ statement_parts (child (place n []) k) x)
+last_in n (file s (block b list)) x = statements_and_last (place n []) 0 list x
+
+-- where no call has the name, the calls that have it then are those of the new statement
+record Comes (id : List ℕ) (n : ℕ) (p : Project Nowhere) (x : Statement Nowhere) (i : ℕ) : Type 0 where
+  at : CallRef
+  in_file : at.file ≡ n + i
+  are : named_among id (parts_from n p) ≡ named_among id (statement_parts at x)
+
+module _ (id : List ℕ) (new : Written (Statement Nowhere)) where
+  comes : (files : List File) (parsed : List Parsed) (n i : ℕ) (after : List Plain) → changed_at i (edited (Append new)) (map erase (views files parsed)) ≡ Some after
+      → named_among id (parts_from n (named_trees files (map erase (views files parsed)))) ≡ [] → Comes id n (named_trees files after) new.node i
+  comes [] parsed n i after is none = absurd cc
+  comes (f ∷ files) [] n i after is none = absurd cc
+  comes (f ∷ files) (d ∷ parsed) n zero after is none =
+      let t = erase (view f.bytes d) in
+      let rest = map erase (views files parsed) in
+      let same : file_and_last t new.node ∷ rest ≡ after = some-injective _ _ is in
+      let l = last_in n t new.node in
+      let here = statement_parts (child (place n []) l.0) new.node in
+      let behind = parts_from (n + 1) (named_trees files rest) in
+      let empty = both_empty (named_among id (file_parts n t)) (named_among id behind) (sym (joined id (file_parts n t) behind) ∙ none) in
+      record {
+        at = child (place n []) l.0;
+        in_file = omega arith;
+        are = ap (λ ts. named_among id (parts_from n (named_trees (f ∷ files) ts))) (sym same)
+            ∙ ap (λ m. named_among id (m ++ behind)) l.1 ∙ joined id (file_parts n t ++ here) behind
+            ∙ ap₂ (λ l m. l ++ m) (joined id (file_parts n t) here ∙ ap (λ m. m ++ named_among id here) empty.0) empty.1 ∙ append-nil (named_among id here);
+      }
+  comes (f ∷ files) (d ∷ parsed) n (suc i) after is none =
+      later (λ ts changed empty. comes files parsed (n + 1) i ts changed empty) (changed_at i (edited (Append new)) (map erase (views files parsed))) refl is
+    where
+      later : ((ts : List Plain) → changed_at i (edited (Append new)) (map erase (views files parsed)) ≡ Some ts → named_among id (parts_from (n + 1) (named_trees files (map erase (views files parsed)))) ≡ [] → Comes id (n + 1) (named_trees files ts) new.node i)
+          → (o : Option (List Plain)) → changed_at i (edited (Append new)) (map erase (views files parsed)) ≡ o → option_map (λ ys. erase (view f.bytes d) ∷ ys) o ≡ Some after → Comes id n (named_trees (f ∷ files) after) new.node (suc i)
+      later on None changed made = absurd cc
+      later on (Some ts) changed made =
+          let t = erase (view f.bytes d) in
+          let behind = parts_from (n + 1) (named_trees files (map erase (views files parsed))) in
+          let same : t ∷ ts ≡ after = some-injective _ _ made in
+          let empty = both_empty (named_among id (file_parts n t)) (named_among id behind) (sym (joined id (file_parts n t) behind) ∙ none) in
+          let c = on ts changed empty.1 in
+          let counted = c.in_file in
+          record {
+            at = c.at;
+            in_file = omega (arith, counted);
+            are = ap (λ us. named_among id (parts_from n (named_trees (f ∷ files) us))) (sym same)
+                ∙ joined id (file_parts n t) (parts_from (n + 1) (named_trees files ts)) ∙ ap (λ l. l ++ named_among id (parts_from (n + 1) (named_trees files ts))) empty.0 ∙ c.are;
+          }
+
+-- ---- the calls of the new statement
+
+no_calls : (p : CallRef) (n : ℕ) (texts : List (List ℕ)) → all_chosen part_call (arguments_parts p n (arguments_of (map plain (map string_of texts)))) ≡ []
+no_calls p n [] = refl
+no_calls p n (t ∷ texts) = no_calls p (n + 1) texts
+
+module _ (kind name : List ℕ) (more : List (List ℕ)) (utf8 : IsUtf8 name) (known : one_of target_functions kind ≡ true) where
+  abbrev it : Call Nowhere
+  it = call_with_texts kind (name ∷ more)
+
+  one_call : (q : CallRef) → named_among name (statement_parts q (target_statement kind (name ∷ more))) ≡ placed (child q 0) it ∷ []
+  one_call q =
+      ap (λ l. all_chosen (with_name name) (all_chosen (with_role role.Target) (placed (child q 0) it ∷ l))) (no_calls (child q 0) 0 (name ∷ more))
+      ∙ ap (λ b. all_chosen (with_name name) (cons_option (option_map (placed (child q 0)) (if b && true then Some it else None)) [])) known
+      ∙ ap (λ t. cons_option (option_map (placed (child q 0)) (if is name t then Some it else None)) []) (literal_value name utf8)
+      ∙ ap (λ b. cons_option (option_map (placed (child q 0)) (if b then Some it else None)) []) ((bytes_eq-Decides name name).1 refl)
+
+-- ---- the command
+
+abbrev ok_of : {A : Type 0} → A → Result A Refusal
+ok_of a = Ok a
+
+ok_is : {A : Type 0} (a b : A) → ok_of a ≡ Ok b → a ≡ b
+ok_is a b same = cc
+
+none_taken : {X : Type 0} (xs : List X) → not_taken xs ≡ Ok tt → xs ≡ []
+none_taken [] done = refl
+none_taken (x ∷ xs) done = absurd cc
+
+abbrev kind_if : Bool → Result (Unit {0}) Refusal
+kind_if t = if t then Ok tt else Err (WrongKind kind_key)
+
+kind_by : (a b : Bool) → kind_if (a && not b) ≡ Ok tt → a ≡ true
+kind_by true b done = refl
+kind_by false b done = absurd cc
+
+pub added-targets-are-named : AddedTargetsAreNamed
+added-targets-are-named old name kind folder sources steps after utf8 made done =
+    let p = project old in
+    let place_it : ℕ → Result (List Step) Refusal = λ file. Ok (appended kind (name ∷ distinct sources) file) in
+    let a = then_was (checked_kind kind) (λ _. then_ok (checked_names (name ∷ sources)) (λ _. then_ok (not_taken (targets_named p name)) (λ _. then_ok (number_in p folder) place_it))) steps made in
+    let b = then_was (checked_names (name ∷ sources)) (λ _. then_ok (not_taken (targets_named p name)) (λ _. then_ok (number_in p folder) place_it)) steps a.2 in
+    let c = then_was (not_taken (targets_named p name)) (λ _. then_ok (number_in p folder) place_it) steps b.2 in
+    let d = then_was (number_in p folder) place_it steps c.2 in
+    let new = written_target kind (name ∷ distinct sources) in
+    let stepped : all_stepped (appended kind (name ∷ distinct sources) d.0) (plain_trees old) ≡ Some after = ap (λ s. all_stepped s (plain_trees old)) (ok_is (appended kind (name ∷ distinct sources) d.0) steps d.2) ∙ done in
+    let none : named_among name (parts_from 0 (named_trees old.files (plain_trees old))) ≡ [] =
+    ap (named_among name) (parts_erased 0 old.files (views old.files old.parsed)) ∙ named_alike name (parts p) ∙ none_mapped _ (targets_named p name) (none_taken (targets_named p name) c.1) in
+    let k = comes name new old.files old.parsed 0 d.0 after (changed (changed_at d.0 (edited (Append new)) (plain_trees old)) after stepped) none in
+    let only = k.are ∙ one_call kind name (distinct sources) utf8 (kind_by (one_of target_functions kind) (bytes_eq kind (codes "build_target")) a.1) k.at in
+    let by_variable = all_chosen (with_role role.Target) (all_chosen call_of (assigned_values (named_trees old.files after) name)) in
+    let counted = k.in_file in
+    (d.0, d.1, record { place = child k.at 0; is_call = ap (λ l. only_one (or_else l by_variable)) only; in_file = omega (arith, counted) })
+  where
+    changed : (o : Option (List Plain)) (ts : List Plain) → option_and_then (all_stepped []) o ≡ Some ts → o ≡ Some ts
+    changed None ts same = absurd cc
+    changed (Some us) ts same = same
