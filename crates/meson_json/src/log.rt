@@ -199,10 +199,8 @@ fn splices_from(alloc: Global, list: &[Value]) -> Result<Many<Splice>, ScriptFau
 {
     let mut splices = Vec::new(alloc);
     for value in list {
-        match splice_from(alloc, value) {
-            Ok(splice) => splices.push(splice)?,
-            Err(fault) => return Err(fault),
-        }
+        let splice = splice_from(alloc, value)?;
+        splices.push(splice)?;
     }
     Ok(Many::of(splices))
 }
@@ -268,10 +266,8 @@ fn changes_from(
 {
     let mut changes = Vec::new(alloc);
     for value in list {
-        match change_from(alloc, version, value) {
-            Ok(change) => changes.push(change)?,
-            Err(fault) => return Err(fault),
-        }
+        let change = change_from(alloc, version, value)?;
+        changes.push(change)?;
     }
     Ok(Many::of(changes))
 }

@@ -70,10 +70,8 @@ fn entry_commands(alloc: Global, list: &[Value]) -> Result<Many<Command>, Script
 {
     let mut commands = Vec::new(alloc);
     for (index, entry) in list.iter().enumerate() {
-        match entry_command(alloc, index, entry) {
-            Ok(command) => commands.push(command)?,
-            Err(fault) => return Err(fault),
-        }
+        let command = entry_command(alloc, index, entry)?;
+        commands.push(command)?;
     }
     Ok(Many::of(commands))
 }
