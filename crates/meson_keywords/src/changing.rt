@@ -71,18 +71,15 @@ fn do_task(alloc: Global, work: &mut Work, call: &CallRef, task: Task<'_>) -> Re
         unreachable!();
     }
     let source = work.files.bytes(file);
-    let made = match work.trees[file].list_at(&call.path) {
+    let steps = match work.trees[file].list_at(&call.path) {
         Some(list) => {
             let args = list.items.get();
             let subject = Subject { call, source, args };
-            task_steps(alloc, subject, task)
+            task_steps(alloc, subject, task)?
         }
         None => unreachable!(),
     };
-    match made {
-        Ok(steps) => work.do_steps(alloc, steps),
-        Err(refusal) => Err(refusal),
-    }
+    work.do_steps(alloc, steps)
 }
 
 /// Refuses a call that may have hidden arguments.
@@ -156,8 +153,6 @@ pub fn changed(alloc: Global, work: &mut Work, request: Request<'_>) -> Result<(
     let call = place_named(alloc, &work.files, trees, request.role, request.id)?;
     let tasks = tasks_of(alloc, request.role, request.words)?;
     let args = list_of_call(trees, &call).items.get();
-    match not_hidden(work.files.bytes(call.file), args) {
-        Ok(()) => tasks_done(alloc, work, &call, tasks),
-        Err(refusal) => Err(refusal),
-    }
+    not_hidden(work.files.bytes(call.file), args)?;
+    tasks_done(alloc, work, &call, tasks)
 }

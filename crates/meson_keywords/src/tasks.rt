@@ -89,10 +89,8 @@ fn element_kind(role: Role, key: &Text) -> Result<ElementKind, Refusal>
     ensures key { IfOk result (λ e. IsKey key.now) }
     ensures refused { IfErr result (λ e. e ≢ Refusal.OutOfMemory → then_ok (keys.kind_of role key.now) (keys.list_kind key.now) ≡ Err e) }
 {
-    match kind_of(role, key) {
-        Ok(kind) => list_kind(key, kind),
-        Err(refusal) => Err(refusal),
-    }
+    let kind = kind_of(role, key)?;
+    list_kind(key, kind)
 }
 
 /// The tasks by which values are added to keyword arguments.

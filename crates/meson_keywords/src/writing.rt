@@ -224,10 +224,8 @@ fn list_value(
     ensures done { IfOk result (IsSet (written_value (ValueKind.ListOf kind) key.now setting.now)) }
     ensures refused { IfErr result (λ e. e ≢ Refusal.OutOfMemory → written_value (ValueKind.ListOf kind) key.now setting.now ≡ Err e) }
 {
-    match list_values(alloc, kind, key, setting) {
-        Ok(texts) => written_list(alloc, kind, texts.as_slice()),
-        Err(refusal) => Err(refusal),
-    }
+    let texts = list_values(alloc, kind, key, setting)?;
+    written_list(alloc, kind, texts.as_slice())
 }
 
 /// What is written for a value of a keyword argument.

@@ -72,6 +72,27 @@ bytes-requires c =
     let many = as_many files trees are in
     omega (arith, within, many)
 
+pub returns-in_err-not_hidden-clause-refused : goal.returns-in_err-not_hidden-clause-refused
+returns-in_err-not_hidden-clause-refused c =
+    let error = err_from_is_err_and c.from_residual-in_err-not_hidden.result c.from_residual-in_err-not_hidden.ensures.1 in
+    rw (error.1, error.2) (λ other.
+    let files = c.args.work.now.files in
+    let trees = c.as_slice-trees.result.now in
+    let r = c.args.request.role in
+    let id = c.args.request.id.now in
+    let words = asked c.args.request.words in
+    let place = c.in_ok-call.call in
+    let found = sym (place_is r id (named_trees files (views files trees))) ∙ c.in_ok-call.ensures.found in
+    let t = c.in_ok-tasks.ensures.made in
+    let bytes = bytes_at place.file files in
+    let list = c.list_of_call.result.now in
+    let arguments = c.list_of_call.ensures (in_trees files trees r id words place found (parsed_as files c.as_slice-trees.ensures.value c.requires.project)) in
+    let hidden = sym (c.not_hidden.ensures ∙ ap (λ s. not_hidden (kept_args s (value_with_name kwargs_key) 0 c.get-args.result.now)) c.bytes.ensures
+    ∙ ap (λ xs. not_hidden (kept_args bytes (value_with_name kwargs_key) 0 xs)) c.get-args.ensures) ∙ c.in_err-not_hidden.was in
+    let e = c.in_err-not_hidden.field-0.0 in
+    of_trees (λ l. MayNotBeDone l (request_steps (project l) (r, id, words)) e) files c.as_slice-trees.ensures.value
+    (unmeant e (hides files trees r id words place found t.tasks t.is bytes list arguments e hidden)))
+
 pub tasks_done-requires-clause-stands : goal.tasks_done-requires-clause-stands
 tasks_done-requires-clause-stands c =
     let files = c.args.work.now.files in
@@ -83,8 +104,8 @@ tasks_done-requires-clause-stands c =
     let is = c.as_slice-trees.ensures.value in
     of_trees (λ l. CallStands place (plain_trees l)) files is (stands files trees r id (asked c.args.request.words) place found (subst (λ ts. IsProject (record { files = files; parsed = ts })) (sym is) c.requires.project))
 
-pub returns-in-Ok-clause-done : goal.returns-in-Ok-clause-done
-returns-in-Ok-clause-done c =
+pub returns-clause-done : goal.returns-clause-done
+returns-clause-done c =
     let files = c.args.work.now.files in
     let trees = c.as_slice-trees.result.now in
     let r = c.args.request.role in
@@ -97,14 +118,14 @@ returns-in-Ok-clause-done c =
     let list = c.list_of_call.result.now in
     let arguments = c.list_of_call.ensures (in_trees files trees r id words place found (parsed_as files c.as_slice-trees.ensures.value c.requires.project)) in
     let hidden = sym (c.not_hidden.ensures ∙ ap (λ s. not_hidden (kept_args s (value_with_name kwargs_key) 0 c.get-args.result.now)) c.bytes.ensures
-    ∙ ap (λ xs. not_hidden (kept_args bytes (value_with_name kwargs_key) 0 xs)) c.get-args.ensures) ∙ c.in-Ok.is in
+    ∙ ap (λ xs. not_hidden (kept_args bytes (value_with_name kwargs_key) 0 xs)) c.get-args.ensures) ∙ c.in_ok-not_hidden.was in
     let same = of_trees (λ l. tasks_steps place t.tasks (plain_trees l) ≡ request_steps (project l) (r, id, words)) files c.as_slice-trees.ensures.value
     (task_by_task files trees r id words place found t.tasks t.is bytes list arguments hidden) in
     let old = so_far c.args.work.now in
     subst (λ m. OnOk c.tasks_done.result (IsDone old m c.tasks_done.new.work)) same (c.tasks_done.ensures.done t.tasks t.are)
 
-pub returns-in-Ok-clause-refused : goal.returns-in-Ok-clause-refused
-returns-in-Ok-clause-refused c =
+pub returns-clause-refused : goal.returns-clause-refused
+returns-clause-refused c =
     let files = c.args.work.now.files in
     let trees = c.as_slice-trees.result.now in
     let r = c.args.request.role in
@@ -117,27 +138,8 @@ returns-in-Ok-clause-refused c =
     let list = c.list_of_call.result.now in
     let arguments = c.list_of_call.ensures (in_trees files trees r id words place found (parsed_as files c.as_slice-trees.ensures.value c.requires.project)) in
     let hidden = sym (c.not_hidden.ensures ∙ ap (λ s. not_hidden (kept_args s (value_with_name kwargs_key) 0 c.get-args.result.now)) c.bytes.ensures
-    ∙ ap (λ xs. not_hidden (kept_args bytes (value_with_name kwargs_key) 0 xs)) c.get-args.ensures) ∙ c.in-Ok.is in
+    ∙ ap (λ xs. not_hidden (kept_args bytes (value_with_name kwargs_key) 0 xs)) c.get-args.ensures) ∙ c.in_ok-not_hidden.was in
     let same = of_trees (λ l. tasks_steps place t.tasks (plain_trees l) ≡ request_steps (project l) (r, id, words)) files c.as_slice-trees.ensures.value
     (task_by_task files trees r id words place found t.tasks t.is bytes list arguments hidden) in
     let old = so_far c.args.work.now in
     subst (λ m. IfErr c.tasks_done.result (λ e. e ≢ OutOfMemory → MayNotBeDone old m e)) same (c.tasks_done.ensures.refused t.tasks t.are)
-
-pub returns-clause-refused : goal.returns-clause-refused
-returns-clause-refused c = λ other.
-    let files = c.args.work.now.files in
-    let trees = c.as_slice-trees.result.now in
-    let r = c.args.request.role in
-    let id = c.args.request.id.now in
-    let words = asked c.args.request.words in
-    let place = c.in_ok-call.call in
-    let found = sym (place_is r id (named_trees files (views files trees))) ∙ c.in_ok-call.ensures.found in
-    let t = c.in_ok-tasks.ensures.made in
-    let bytes = bytes_at place.file files in
-    let list = c.list_of_call.result.now in
-    let arguments = c.list_of_call.ensures (in_trees files trees r id words place found (parsed_as files c.as_slice-trees.ensures.value c.requires.project)) in
-    let hidden = sym (c.not_hidden.ensures ∙ ap (λ s. not_hidden (kept_args s (value_with_name kwargs_key) 0 c.get-args.result.now)) c.bytes.ensures
-    ∙ ap (λ xs. not_hidden (kept_args bytes (value_with_name kwargs_key) 0 xs)) c.get-args.ensures) ∙ c.in-Err.is in
-    let e = c.in-Err.refusal in
-    of_trees (λ l. MayNotBeDone l (request_steps (project l) (r, id, words)) e) files c.as_slice-trees.ensures.value
-    (unmeant e (hides files trees r id words place found t.tasks t.is bytes list arguments e hidden))
