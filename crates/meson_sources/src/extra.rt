@@ -249,10 +249,8 @@ pub(crate) fn extra_added<'t>(
         }
         None => {
             let args = arguments.items.get();
-            match without_home(alloc, source, call, args, new.as_slice(), &mut steps) {
-                Ok(()) => Ok(steps),
-                Err(refusal) => Err(refusal),
-            }
+            without_home(alloc, source, call, args, new.as_slice(), &mut steps)?;
+            Ok(steps)
         }
     }
 }

@@ -58,11 +58,7 @@ pub fn parse_within(alloc: Global, source: &[u8], limits: Limits) -> Result<Pars
     ensures unreadable { (e : ParseFault) → IsUnreadableWithin limits source.now e → Refuses result e }
     ensures refused { IfErr result (MayRefuseWithin limits source.now) }
 {
-    if let Err(fault) = check_source(source, limits) {
-        return Err(fault);
-    }
-    match tokens(alloc, source) {
-        Ok(tokens) => read_tokens(alloc, source, tokens.as_slice(), limits.depth),
-        Err(fault) => Err(fault),
-    }
+    check_source(source, limits)?;
+    let tokens = tokens(alloc, source)?;
+    read_tokens(alloc, source, tokens.as_slice(), limits.depth)
 }

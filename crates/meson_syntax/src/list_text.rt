@@ -53,13 +53,9 @@ pub fn parse_list_within(
     ensures refused { IfErr result (MayRefuseListWithin depth bracket source.now) }
 {
     let limits = Limits { len: None, depth };
-    if let Err(fault) = check_source(source, limits) {
-        return Err(fault);
-    }
-    match tokens(alloc, source) {
-        Ok(tokens) => read_list(alloc, source, tokens.as_slice(), bracket, depth),
-        Err(fault) => Err(fault),
-    }
+    check_source(source, limits)?;
+    let tokens = tokens(alloc, source)?;
+    read_list(alloc, source, tokens.as_slice(), bracket, depth)
 }
 
 /// The list that is all of the source, whose significant tokens these are.

@@ -153,10 +153,8 @@ fn call_removed(
     let Some(held) = held_at(trees, &line) else {
         return Err(Refusal::NotStatement);
     };
-    match not_in_use(alloc, files, trees, noted, &line, held) {
-        Ok(()) => statement_removed(alloc, line),
-        Err(refusal) => Err(refusal),
-    }
+    not_in_use(alloc, files, trees, noted, &line, held)?;
+    statement_removed(alloc, line)
 }
 
 /// The step by which a target is taken out, with its whole statement.
@@ -175,8 +173,6 @@ pub fn target_removed(
     ensures meant { IfOk result (λ steps. AreMeant (then_ok (the_call (named_trees files.now (views files.now trees.now)) Role.Target target.now) (λ c. target_removed (named_trees files.now (views files.now trees.now)) c)) steps.items) }
     ensures refused { IfErr result (λ e. e ≢ Refusal.OutOfMemory → then_ok (the_call (named_trees files.now (views files.now trees.now)) Role.Target target.now) (λ c. target_removed (named_trees files.now (views files.now trees.now)) c) ≡ Err e) }
 {
-    match the_call(alloc, Role::Target, target, noted) {
-        Ok(call) => call_removed(alloc, files, trees, noted, &call),
-        Err(refusal) => Err(refusal),
-    }
+    let call = the_call(alloc, Role::Target, target, noted)?;
+    call_removed(alloc, files, trees, noted, &call)
 }

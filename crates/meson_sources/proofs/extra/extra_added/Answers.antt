@@ -34,8 +34,8 @@ returns-in-Some-clause-meant c = λ function.
     home_meant p c.args.call.now c.args.source.now c.args.arguments.now function names (c.in_ok-marks.ensures.checked function) t is (map (λ x. x.now) c.in_ok-new.new.items) new_is c.first_of.result c.first_of.ensures
     home c.in-Some.is n c.plain_len-from.ensures.counted c.insert.new.steps.items are
 
-pub returns-in-Ok-clause-meant : goal.returns-in-Ok-clause-meant
-returns-in-Ok-clause-meant c = λ function.
+pub returns-clause-meant : goal.returns-clause-meant
+returns-clause-meant c = λ function.
     let p = project_of c.args.variables.now in
     let call = c.args.call.now in
     let source = c.args.source.now in
@@ -48,13 +48,15 @@ returns-in-Ok-clause-meant c = λ function.
     let old = c.new-steps.result.items in
     let kept = kept_args source (value_with_name extra_key) 0 l.items in
     let first =
-    subst (λ xs. AreBehind (lone_or_new call (length xs) (kept_args source (value_with_name extra_key) 0 xs) (map (λ x. x.now) c.as_slice-in-None.result.now)) old new) c.get-args.ensures c.in-Ok.ensures.done in
+    subst (λ xs. AreBehind (lone_or_new call (length xs) (kept_args source (value_with_name extra_key) 0 xs) (map (λ x. x.now) c.as_slice-in-None.result.now)) old new) c.get-args.ensures c.in_ok-without_home-in-None.ensures.done in
     let second = subst (λ ns. AreBehind (lone_or_new call (length l.items) kept (map (λ x. x.now) ns)) old new) c.as_slice-in-None.ensures.value first in
     let third = subst (λ o. AreBehind (lone_or_new call (length l.items) kept (map (λ x. x.now) c.in_ok-new.new.items)) o new) c.new-steps.ensures.items second in
     call_meant p call source l function names (c.in_ok-marks.ensures.checked function) t is (map (λ x. x.now) c.in_ok-new.new.items) new_is c.first_of.result c.first_of.ensures c.in-None.is c.requires.there new third
 
-pub returns-clause-refused : goal.returns-clause-refused
-returns-clause-refused c = λ function other.
+pub returns-in_err-without_home-in-None-clause-refused : goal.returns-in_err-without_home-in-None-clause-refused
+returns-in_err-without_home-in-None-clause-refused c =
+    let error = err_from_is_err_and c.from_residual-in_err-without_home-in-None.result c.from_residual-in_err-without_home-in-None.ensures.1 in
+    rw (error.1, error.2) (λ function other.
     let p = project_of c.args.variables.now in
     let call = c.args.call.now in
     let source = c.args.source.now in
@@ -67,5 +69,5 @@ returns-clause-refused c = λ function other.
     let refused =
     ap (λ ns. lone_or_new call (length l.items) kept (map (λ x. x.now) ns)) (sym c.as_slice-in-None.ensures.value)
     ∙ ap (λ xs. lone_or_new call (length xs) (kept_args source (value_with_name extra_key) 0 xs) (map (λ x. x.now) c.as_slice-in-None.result.now)) (sym c.get-args.ensures)
-    ∙ c.in-Err.ensures.refused other in
-    call_refused p call source l function names (c.in_ok-marks.ensures.checked function) t is (map (λ x. x.now) c.in_ok-new.new.items) new_is c.first_of.result c.first_of.ensures c.in-None.is c.requires.there c.in-Err.refusal refused
+    ∙ c.in_err-without_home-in-None.ensures.refused other in
+    call_refused p call source l function names (c.in_ok-marks.ensures.checked function) t is (map (λ x. x.now) c.in_ok-new.new.items) new_is c.first_of.result c.first_of.ensures c.in-None.is c.requires.there c.in_err-without_home-in-None.field-0.0 refused)

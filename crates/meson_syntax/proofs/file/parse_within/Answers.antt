@@ -1,4 +1,5 @@
 use Rattle.std.proofs.Common.{◌∙◌, List, ap, subst, length}
+use Rattle.std.proofs.lemmas.Result.{err_from_is_err_and}
 use Rattle.meson_lex.specs.Located.{Token, located}
 use Rattle.meson_syntax.specs.Input.{GivesAll}
 use Rattle.meson_syntax.specs.ReadingFiles.{whole}
@@ -7,48 +8,58 @@ use Rattle.meson_syntax.specs.View.{view}
 use Rattle.meson_syntax.proofs.parsing.Answers.{gives-finds, gives-reads, gives-unreadable}
 use Rattle.meson_syntax.proofs.parsing.Refusals.{Stopped, gives-says, refused-finds, refused-unreadable, stopped-finds, stopped-from, stopped-says, stopped-unreadable}
 use Rattle.meson_syntax.proofs.file.parse_within.Goals as goal
-use Rattle.meson_syntax.proofs.file.parse_within.Goals.{After-drop-tokens, In-Err-tokens}
+use Rattle.meson_syntax.proofs.file.parse_within.Goals.{After-drop-tokens, After-from_residual-in_err-tokens}
 
 -- ---- refused before its items are asked
 
-pub returns-in-Err-clause-finds : goal.returns-in-Err-clause-finds
-returns-in-Err-clause-finds c = refused-finds c.args.limits c.args.source.now c.in-Err.fault c.in-Err.ensures.err
+pub returns-in_err-check_source-clause-finds : goal.returns-in_err-check_source-clause-finds
+returns-in_err-check_source-clause-finds c =
+    let error = err_from_is_err_and c.from_residual.result c.from_residual.ensures.1 in
+    rw (error.1, error.2) (refused-finds c.args.limits c.args.source.now c.in_err-check_source.field-0.0 c.in_err-check_source.ensures.err)
 
-pub returns-in-Err-clause-unreadable : goal.returns-in-Err-clause-unreadable
-returns-in-Err-clause-unreadable c = λ e h. refused-unreadable c.args.limits c.args.source.now c.in-Err.fault e c.in-Err.ensures.err h
+pub returns-in_err-check_source-clause-unreadable : goal.returns-in_err-check_source-clause-unreadable
+returns-in_err-check_source-clause-unreadable c =
+    let error = err_from_is_err_and c.from_residual.result c.from_residual.ensures.1 in
+    rw (error.1, error.2) (λ e h. refused-unreadable c.args.limits c.args.source.now c.in_err-check_source.field-0.0 e c.in_err-check_source.ensures.err h)
 
 -- ---- refused by a lexical fault
 
-stopped : (c : In-Err-tokens) → Stopped c.args.limits c.args.source.now c.in-Err-tokens.fault
-stopped c = stopped-from c.args.limits c.args.source.now c.in-Err-tokens.fault c.in_default.ensures.ok c.in-Err-tokens.ensures.faulty
+stopped : (c : After-from_residual-in_err-tokens) → Stopped c.args.limits c.args.source.now c.in_err-tokens.field-0.0
+stopped c = stopped-from c.args.limits c.args.source.now c.in_err-tokens.field-0.0 c.in_ok-check_source.ensures.ok c.in_err-tokens.ensures.faulty
 
-pub returns-in-Err-tokens-clause-finds : goal.returns-in-Err-tokens-clause-finds
-returns-in-Err-tokens-clause-finds c = stopped-finds c.args.limits c.args.source.now c.in-Err-tokens.fault (stopped c)
+pub returns-in_err-tokens-clause-finds : goal.returns-in_err-tokens-clause-finds
+returns-in_err-tokens-clause-finds c =
+    let error = err_from_is_err_and c.from_residual-in_err-tokens.result c.from_residual-in_err-tokens.ensures.1 in
+    rw (error.1, error.2) (stopped-finds c.args.limits c.args.source.now c.in_err-tokens.field-0.0 (stopped c))
 
-pub returns-in-Err-tokens-clause-unreadable : goal.returns-in-Err-tokens-clause-unreadable
-returns-in-Err-tokens-clause-unreadable c = λ e h. stopped-unreadable c.args.limits c.args.source.now c.in-Err-tokens.fault e (stopped c) h
+pub returns-in_err-tokens-clause-unreadable : goal.returns-in_err-tokens-clause-unreadable
+returns-in_err-tokens-clause-unreadable c =
+    let error = err_from_is_err_and c.from_residual-in_err-tokens.result c.from_residual-in_err-tokens.ensures.1 in
+    rw (error.1, error.2) (λ e h. stopped-unreadable c.args.limits c.args.source.now c.in_err-tokens.field-0.0 e (stopped c) h)
 
-pub returns-in-Err-tokens-clause-refused : goal.returns-in-Err-tokens-clause-refused
-returns-in-Err-tokens-clause-refused c = stopped-says c.args.limits c.args.source.now c.in-Err-tokens.fault (stopped c)
+pub returns-in_err-tokens-clause-refused : goal.returns-in_err-tokens-clause-refused
+returns-in_err-tokens-clause-refused c =
+    let error = err_from_is_err_and c.from_residual-in_err-tokens.result c.from_residual-in_err-tokens.ensures.1 in
+    rw (error.1, error.2) (stopped-says c.args.limits c.args.source.now c.in_err-tokens.field-0.0 (stopped c))
 
 -- ---- the tokens read
 
-gives : (c : After-drop-tokens) → GivesAll (view c.args.source.now) (whole c.args.limits.depth (length c.args.source.now) (located c.in-Ok.ensures.whole.items)) c.read_tokens.result
+gives : (c : After-drop-tokens) → GivesAll (view c.args.source.now) (whole c.args.limits.depth (length c.args.source.now) (located c.in_ok-tokens.ensures.whole.items)) c.read_tokens.result
 gives c =
     let source = c.args.source.now in
-    let are = ap (tokens_of source) c.as_slice.ensures.value ∙ c.in-Ok.ensures.whole.are_located in
+    let are = ap (tokens_of source) c.as_slice.ensures.value ∙ c.in_ok-tokens.ensures.whole.are_located in
     let Gives : List Token → Type 0 = λ ts. GivesAll (view source) (whole c.args.limits.depth (length source) ts) c.read_tokens.result in
     subst Gives are c.read_tokens.ensures.gives
 
-pub returns-in-Ok-clause-reads : goal.returns-in-Ok-clause-reads
-returns-in-Ok-clause-reads c = gives-reads c.args.limits c.args.source.now c.in-Ok.ensures.whole.items c.in_default.ensures.ok c.in-Ok.ensures.whole.are_items c.read_tokens.result (gives c)
+pub returns-clause-reads : goal.returns-clause-reads
+returns-clause-reads c = gives-reads c.args.limits c.args.source.now c.in_ok-tokens.ensures.whole.items c.in_ok-check_source.ensures.ok c.in_ok-tokens.ensures.whole.are_items c.read_tokens.result (gives c)
 
-pub returns-in-Ok-clause-finds : goal.returns-in-Ok-clause-finds
-returns-in-Ok-clause-finds c = gives-finds c.args.limits c.args.source.now c.in-Ok.ensures.whole.items c.in_default.ensures.ok c.in-Ok.ensures.whole.are_items c.read_tokens.result (gives c)
+pub returns-clause-finds : goal.returns-clause-finds
+returns-clause-finds c = gives-finds c.args.limits c.args.source.now c.in_ok-tokens.ensures.whole.items c.in_ok-check_source.ensures.ok c.in_ok-tokens.ensures.whole.are_items c.read_tokens.result (gives c)
 
-pub returns-in-Ok-clause-unreadable : goal.returns-in-Ok-clause-unreadable
-returns-in-Ok-clause-unreadable c = gives-unreadable c.args.limits c.args.source.now c.in-Ok.ensures.whole.items c.in_default.ensures.ok c.in-Ok.ensures.whole.are_items c.read_tokens.result
+pub returns-clause-unreadable : goal.returns-clause-unreadable
+returns-clause-unreadable c = gives-unreadable c.args.limits c.args.source.now c.in_ok-tokens.ensures.whole.items c.in_ok-check_source.ensures.ok c.in_ok-tokens.ensures.whole.are_items c.read_tokens.result
 
-pub returns-in-Ok-clause-refused : goal.returns-in-Ok-clause-refused
-returns-in-Ok-clause-refused c =
-    gives-says c.args.limits c.args.source.now c.in-Ok.ensures.whole.items c.in_default.ensures.ok c.in-Ok.ensures.whole.are_items c.read_tokens.result (gives c) c.read_tokens.ensures.refused
+pub returns-clause-refused : goal.returns-clause-refused
+returns-clause-refused c =
+    gives-says c.args.limits c.args.source.now c.in_ok-tokens.ensures.whole.items c.in_ok-check_source.ensures.ok c.in_ok-tokens.ensures.whole.are_items c.read_tokens.result (gives c) c.read_tokens.ensures.refused
