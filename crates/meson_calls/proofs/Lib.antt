@@ -41,3 +41,4 @@ pub mod CallsFound
 pub mod OneCall
 pub mod CallLists
 pub mod FirstValue
+mod PartsContained

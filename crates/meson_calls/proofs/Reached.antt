@@ -24,7 +24,7 @@ nth_right (x ∷ xs) ys j = let e : length (x ∷ xs) + j ≡ suc (length xs + j
 
 -- ---- how many children there are
 
-argument_count : (a : Argument Span) → argument_children a ≡ length (syntax.argument_parts a)
+pub argument_count : (a : Argument Span) → argument_children a ≡ length (syntax.argument_parts a)
 argument_count (plain e) = refl
 argument_count (named s x e) = refl
 argument_count (pair s e f) = refl
@@ -40,11 +40,11 @@ arguments_count (argument a more) =
 listing_count : (l : Listing Span) → listing_children l ≡ length (syntax.listing_parts l)
 listing_count (listing s trailing list) = arguments_count list
 
-tail_count : (t : Tail Span) → tail_children t ≡ length (syntax.tail_parts t)
+pub tail_count : (t : Tail Span) → tail_children t ≡ length (syntax.tail_parts t)
 tail_count (method s x l) = listing_count l
 tail_count (index s e) = refl
 
-branches_count : (bs : Branches Span) → branches_children bs ≡ length (syntax.branches_parts bs)
+pub branches_count : (bs : Branches Span) → branches_children bs ≡ length (syntax.branches_parts bs)
 branches_count no_branches = refl
 branches_count (branch e b more) = let others = branches_count more in omega (arith, others)
 

@@ -26,3 +26,4 @@ pub mod Finding
 pub mod OnePlace
 pub mod CallPlaces
 pub mod Messages
+pub mod AllParts

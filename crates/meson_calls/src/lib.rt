@@ -11,6 +11,7 @@ pub mod folders;
 pub mod keeper;
 pub mod keeping;
 pub mod known;
+pub mod laws;
 pub mod literals;
 pub mod load_fault;
 pub mod loading;

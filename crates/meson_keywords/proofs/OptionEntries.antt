@@ -10,7 +10,7 @@ use Rattle.meson_syntax.specs.Tree.{Nowhere, Argument, plain, named, pair}
 use Rattle.meson_edit.specs.Edits.{with_value}
 use Rattle.meson_calls.specs.Calls as calls
 use Rattle.meson_keywords.specs.declared.keys.ElementKind.TheVariants as element
-use Rattle.meson_keywords.specs.Effects.{after_equals, is_of, option_value}
+use Rattle.meson_keywords.specs.Effects.{after_equals, is_of, value_of_option}
 use Rattle.meson_keywords.specs.KeywordEdits.{all_known, element_text, passing}
 use Rattle.meson_keywords.specs.Options.{key_text, keys_known, option_text}
 use Rattle.meson_keywords.specs.Tasks.{before_equals}
@@ -51,7 +51,7 @@ module _ (value : List ℕ) where
 -- It is of the option, with this value.
 pub record NewEntry (name text : List ℕ) (x : Argument Nowhere) : Type 0 where
   pub is : is_of name x ≡ true
-  pub value : option_value x ≡ Some text
+  pub value : value_of_option x ≡ Some text
 
 same_name : (name : List ℕ) → calls.is name (Some name) ≡ true
 same_name name = (bytes_eq-Decides name name).1 refl
@@ -90,7 +90,7 @@ known_pair name value utf8 (y ∷ front) x back known is =
 
 -- The option has this value, and the other entries stay.
 pub record EntrySet (name value : List ℕ) (before after : List (Argument Nowhere)) : Type 0 where
-  pub values : map option_value (filter (is_of name) after) ≡ Some value ∷ []
+  pub values : map value_of_option (filter (is_of name) after) ≡ Some value ∷ []
   pub others : filter (λ x. not (is_of name x)) after ≡ filter (λ x. not (is_of name x)) before
 
 module _ (name value : List ℕ) where
@@ -102,9 +102,9 @@ module _ (name value : List ℕ) where
 
   module _ (new : Argument Nowhere) (n : NewEntry name value new) where
     -- among those before and behind it none is of the option
-    among : (front back : List (Argument Nowhere)) → filter test front ≡ [] → filter test back ≡ [] → map option_value (filter test (front ++ new ∷ back)) ≡ Some value ∷ []
+    among : (front back : List (Argument Nowhere)) → filter test front ≡ [] → filter test back ≡ [] → map value_of_option (filter test (front ++ new ∷ back)) ≡ Some value ∷ []
     among front back before behind =
-        ap (map option_value) (filter-append test front (new ∷ back) ∙ ap₂ (λ l t. l ++ cond t (new ∷ filter test back) (filter test back)) before n.is ∙ ap (λ l. new ∷ l) behind) ∙ ap (λ v. v ∷ []) n.value
+        ap (map value_of_option) (filter-append test front (new ∷ back) ∙ ap₂ (λ l t. l ++ cond t (new ∷ filter test back) (filter test back)) before n.is ∙ ap (λ l. new ∷ l) behind) ∙ ap (λ v. v ∷ []) n.value
 
     kept_around : (front back : List (Argument Nowhere)) (x : Argument Nowhere) → test x ≡ true → kept (front ++ x ∷ back) ≡ kept front ++ kept back
     kept_around front back x is = filter-append (λ y. not (test y)) front (x ∷ back) ∙ ap (λ t. kept front ++ cond (not t) (x ∷ kept back) (kept back)) is

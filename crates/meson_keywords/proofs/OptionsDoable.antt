@@ -13,7 +13,7 @@ use Rattle.meson_calls.specs.declared.call.CallRef.{CallRef}
 use Rattle.meson_keywords.specs.declared.keys.ElementKind.TheVariants as element
 use Rattle.meson_calls.specs.Calls.{Numbered}
 use Rattle.meson_keywords.specs.Changing.{CallStands}
-use Rattle.meson_keywords.specs.Effects.{Holds, TaskLeaves, held, held_by, holds, is_of, option_value, put_behind}
+use Rattle.meson_keywords.specs.Effects.{Holds, TaskLeaves, held, held_in, holds, is_of, value_of_option, put_behind}
 use Rattle.meson_keywords.specs.KeywordEdits.{all_known, behind_all, keyword_in, one_at_most, passing, removed_from, shape, text_in}
 use Rattle.meson_keywords.specs.Keys.{written_list, written_named}
 use Rattle.meson_steps.specs.ListSteps.{MayStand}
@@ -123,7 +123,7 @@ module _ (name value : List ℕ) (name_utf8 : IsUtf8 name) (value_utf8 : IsUtf8 
 
   set_is : (bs ys : List (Argument Nowhere)) → holds options_key arguments ≡ bs → Sets bs ys → (after : List (Argument Nowhere)) → Holds options_key ys arguments after → TaskLeaves (set_option name value) arguments after
   set_is bs ys is sets after h = λ bare_name. record {
-    values = ap (λ zs. map option_value (filter (is_of name) zs)) h.holds ∙ (sets bare_name).values;
+    values = ap (λ zs. map value_of_option (filter (is_of name) zs)) h.holds ∙ (sets bare_name).values;
     entries = ap (filter (λ x. not (is_of name x))) h.holds ∙ (sets bare_name).others ∙ ap (filter (λ x. not (is_of name x))) (sym is);
     arguments = h.others;
   }
@@ -140,7 +140,7 @@ module _ (name value : List ℕ) (name_utf8 : IsUtf8 name) (value_utf8 : IsUtf8 
     set_done made k all_held ys h sets same =
         subst (Does (set_option name value) c trees) same
         (does (set_option name value) c trees all s made _ h.leaves
-        (set_is (held e) ys (ap held_by (value_there options_key arguments n e o)) sets _ (holds_these options_key k all_held c made trees arguments ys n e o h)))
+        (set_is (held e) ys (ap held_in (value_there options_key arguments n e o)) sets _ (holds_these options_key k all_held c made trees arguments ys n e o h)))
 
     in_lone : (text : List ℕ) → text_in element.Text e ≡ Some text → (b : Bool) → is_entry name (text_in element.Text e) ≡ b → set_in_lone c n entry b ≡ steps → Does (set_option name value) c trees steps
     in_lone text lone true is same =
@@ -150,8 +150,8 @@ module _ (name value : List ℕ) (name_utf8 : IsUtf8 name) (value_utf8 : IsUtf8 
         subst (Does (set_option name value) c trees) same
         (does (set_option name value) c trees all s _ _
         (one_leaves c trees all s (Replace c.path.steps n (written_text entry)) _ (replace_step c trees all s n a e (written_text entry) there refl (text_written entry entry_utf8) tt (omega arith)))
-        (set_is (held e) (plain new ∷ []) (ap held_by (value_there options_key arguments n e o)) sets _
-        (record { holds = ap held_by (put_value options_key arguments n e o new); others = put_others options_key arguments n e o new })))
+        (set_is (held e) (plain new ∷ []) (ap held_in (value_there options_key arguments n e o)) sets _
+        (record { holds = ap held_in (put_value options_key arguments n e o new); others = put_others options_key arguments n e o new })))
     in_lone text lone false is same =
         let one = lone_held element.Text e text lone in
         let sets : Sets (held e) (plain e ∷ put_behind element.Text (entry ∷ [])) = λ bare_name.
@@ -220,14 +220,14 @@ module _ (name value : List ℕ) (name_utf8 : IsUtf8 name) (value_utf8 : IsUtf8 
   set_by [] none h =
       let new = written_list element.Text (entry ∷ []) in
       let same : behind_all c (length arguments) (written_named options_key new) ∷ [] ≡ steps = cc in
-      let nothing : holds options_key arguments ≡ [] = ap held_by (none_there options_key arguments none) in
+      let nothing : holds options_key arguments ≡ [] = ap held_in (none_there options_key arguments none) in
       let sets : Sets [] (plain (string_of entry) ∷ []) = λ bare_name. behind_set name value [] (plain (string_of entry)) refl (new_entry name value entry_utf8 bare_name) in
       subst (Does (set_option name value) c trees) same
       (does (set_option name value) c trees all s _ _
       (inserted_leaves c trees all s _ _
       (insert_step c trees all s options_key new (named_written options_key new.bytes new.node (identifier_true options_key refl) default_text (list_written element.Text (entry ∷ []) (entry_utf8, tt)))
       (list_level element.Text (entry ∷ []) (entry_utf8, tt)) (list_shallow element.Text (entry ∷ []) (entry_utf8, tt))))
-      (set_is [] (plain (string_of entry) ∷ []) nothing sets _ (record { holds = ap held_by (come_value options_key arguments new.node none); others = come_others options_key arguments new.node })))
+      (set_is [] (plain (string_of entry) ∷ []) nothing sets _ (record { holds = ap held_in (come_value options_key arguments new.node none); others = come_others options_key arguments new.node })))
   set_by (v ∷ []) there h = set_any v.number v.value (one_named options_key arguments v there) h
   set_by (v ∷ w ∷ more) there h = absurd cc
 

@@ -14,7 +14,7 @@ use Rattle.meson_calls.specs.declared.refusal.Refusal.TheVariants.{NotLiteral}
 use Rattle.meson_calls.specs.Calls as calls
 use Rattle.meson_calls.specs.Calls.{Numbered}
 use Rattle.meson_keywords.specs.Changing.{CallStands}
-use Rattle.meson_keywords.specs.Effects.{Holds, OptionIs, held, held_by, holds, is_of, option_value, values_of}
+use Rattle.meson_keywords.specs.Effects.{Holds, OptionIs, held, held_in, holds, is_of, value_of_option, values_of}
 use Rattle.meson_keywords.specs.KeywordEdits.{all_known, keyword_in, one_at_most, passing, remove_by_shape, remove_equal, remove_lone, remove_steps, remove_there, removed_from, says, shape, text_in}
 use Rattle.meson_steps.specs.ListSteps.{MayStand}
 use Rattle.meson_keywords.specs.Options.{delete_by_shape, delete_by_value, delete_lone, delete_option_steps, delete_option_there, entries, has_key, is_entry, is_entry_element, keys_known, of_list, of_lone, options_key}
@@ -100,12 +100,12 @@ module _ (key : List ℕ) (k : ElementKind) (wanted : List ℕ) (c : CallRef) (t
 
   -- what the argument holds then, by the values that it has
   abbrev fewer : List (Expression Nowhere) → List (Argument Nowhere)
-  fewer vs = filter other (held_by vs)
+  fewer vs = filter other (held_in vs)
 
   -- nothing is done where nothing is held that is equal
-  same_holds : (vs : List (Expression Nowhere)) → values_of key outer ≡ vs → held_by vs ≡ fewer vs → [] ≡ steps → Does (remove key k wanted) c trees steps
+  same_holds : (vs : List (Expression Nowhere)) → values_of key outer ≡ vs → held_in vs ≡ fewer vs → [] ≡ steps → Does (remove key k wanted) c trees steps
   same_holds vs is none same =
-      let whole : holds key outer ≡ fewer (values_of key outer) = ap held_by is ∙ none ∙ ap fewer (sym is) in
+      let whole : holds key outer ≡ fewer (values_of key outer) = ap held_in is ∙ none ∙ ap fewer (sym is) in
       subst (Does (remove key k wanted) c trees) same (does (remove key k wanted) c trees all s [] outer (none_leaves c trees all s) (record { holds = whole; others = refl }))
 
   module _ (n : ℕ) (e : Expression Nowhere) (o : OneNamed key outer n e) where
@@ -118,7 +118,7 @@ module _ (key : List ℕ) (k : ElementKind) (wanted : List ℕ) (c : CallRef) (t
         let nothing : [] ≡ fewer (values_of key outer) = sym (ap fewer (value_there key outer n e o) ∙ ap (filter other) lone ∙ ap (λ t. cond (not t) (plain e ∷ []) []) is) in
         subst (Does (remove key k wanted) c trees) same
         (does (remove key k wanted) c trees all s _ _ (one_leaves c trees all s (Remove c.path.steps n) _ (remove_step c trees all s n a (is_it key outer n e o)))
-        (record { holds = ap held_by (gone_value key outer n e o) ∙ nothing; others = gone_others key outer n e o }))
+        (record { holds = ap held_in (gone_value key outer n e o) ∙ nothing; others = gone_others key outer n e o }))
     lone_by false is lone h =
         let same : [] ≡ steps = cc in
         let all_stay : held e ≡ filter other (held e) = lone ∙ sym (ap (filter other) lone ∙ ap (λ t. cond (not t) (plain e ∷ []) []) is) in
@@ -174,7 +174,7 @@ module _ (name : List ℕ) (c : CallRef) (trees : List Plain) (all : All MayStan
   -- the entries of the option, of which none is left, and the other ones
   gone_is : (bs : List (Argument Nowhere)) → holds options_key arguments ≡ bs → (after : List (Argument Nowhere)) → Holds options_key (kept bs) arguments after → OptionIs name [] arguments after
   gone_is bs is after h = record {
-    values = ap (λ ys. map option_value (filter (is_of name) ys)) h.holds ∙ ap (map option_value) (none_left (is_of name) bs);
+    values = ap (λ ys. map value_of_option (filter (is_of name) ys)) h.holds ∙ ap (map value_of_option) (none_left (is_of name) bs);
     entries = ap kept h.holds ∙ kept_again (is_of name) bs ∙ ap kept (sym is);
     arguments = h.others;
   }
@@ -184,7 +184,7 @@ module _ (name : List ℕ) (c : CallRef) (trees : List Plain) (all : All MayStan
   deleted made n e o k all_held h same =
       subst (Does (delete_option name) c trees) same
       (does (delete_option name) c trees all s made _ h.leaves
-      (gone_is (held e) (ap held_by (value_there options_key arguments n e o)) _ (holds_these options_key k all_held c made trees arguments (kept (held e)) n e o h)))
+      (gone_is (held e) (ap held_in (value_there options_key arguments n e o)) _ (holds_these options_key k all_held c made trees arguments (kept (held e)) n e o h)))
 
   nothing_gone : (bs : List (Argument Nowhere)) → holds options_key arguments ≡ bs → bs ≡ kept bs → [] ≡ steps → Does (delete_option name) c trees steps
   nothing_gone bs is all_stay same =
@@ -198,10 +198,10 @@ module _ (name : List ℕ) (c : CallRef) (trees : List Plain) (all : All MayStan
         let nothing : kept (held e) ≡ [] = ap kept one ∙ ap (λ t. cond (not t) (plain e ∷ []) []) is in
         subst (Does (delete_option name) c trees) same
         (does (delete_option name) c trees all s _ _ (one_leaves c trees all s (Remove c.path.steps n) _ (remove_step c trees all s n (it options_key arguments n e o) (is_it options_key arguments n e o)))
-        (gone_is (held e) (ap held_by (value_there options_key arguments n e o)) _ (record { holds = ap held_by (gone_value options_key arguments n e o) ∙ sym nothing; others = gone_others options_key arguments n e o })))
+        (gone_is (held e) (ap held_in (value_there options_key arguments n e o)) _ (record { holds = ap held_in (gone_value options_key arguments n e o) ∙ sym nothing; others = gone_others options_key arguments n e o })))
     lone_deleted text lone false is same =
         let one = lone_held element.Text e text lone in
-        nothing_gone (held e) (ap held_by (value_there options_key arguments n e o)) (one ∙ sym (ap kept one ∙ ap (λ t. cond (not t) (plain e ∷ []) []) is)) same
+        nothing_gone (held e) (ap held_in (value_there options_key arguments n e o)) (one ∙ sym (ap kept one ∙ ap (λ t. cond (not t) (plain e ∷ []) []) is)) same
 
     lone_by_text : (t : Option (List ℕ)) → text_in element.Text e ≡ t → of_lone t (delete_lone c n (is_entry name (text_in element.Text e))) ≡ Ok steps → Does (delete_option name) c trees steps
     lone_by_text None is h = absurd cc
@@ -224,7 +224,7 @@ module _ (name : List ℕ) (c : CallRef) (trees : List Plain) (all : All MayStan
   delete_any n e o h = delete_value n e o h
 
   delete_by : (vs : List (Numbered (Expression Nowhere))) → keyword_in options_key arguments ≡ vs → then_ok (one_at_most options_key vs) (delete_option_there c name) ≡ Ok steps → Does (delete_option name) c trees steps
-  delete_by [] none h = nothing_gone [] (ap held_by (none_there options_key arguments none)) refl cc
+  delete_by [] none h = nothing_gone [] (ap held_in (none_there options_key arguments none)) refl cc
   delete_by (v ∷ []) there h = delete_any v.number v.value (one_named options_key arguments v there) h
   delete_by (v ∷ w ∷ more) there h = absurd cc
 

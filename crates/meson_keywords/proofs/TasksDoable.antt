@@ -13,7 +13,7 @@ use Rattle.meson_keywords.specs.declared.keys.ElementKind.{ElementKind}
 use Rattle.meson_keywords.specs.declared.keys.ElementKind.TheVariants as element
 use Rattle.meson_calls.specs.Calls.{Numbered}
 use Rattle.meson_keywords.specs.Changing.{CallStands}
-use Rattle.meson_keywords.specs.Effects.{Holds, coming, held, held_by, put_behind, values_of}
+use Rattle.meson_keywords.specs.Effects.{Holds, coming, held, held_in, put_behind, values_of}
 use Rattle.meson_keywords.specs.KeywordEdits.{add_by_shape, add_steps, add_there, add_to_lone, all_behind, behind_all, element_text, new_elements, shape, text_in, delete_steps, delete_there, keyword_in, once_steps, one_at_most, set_steps, set_there}
 use Rattle.meson_keywords.specs.Keys.{element_node, written_list, written_named}
 use Rattle.meson_steps.specs.ListSteps.{MayStand}
@@ -94,7 +94,7 @@ once_does key c trees all s steps made =
 pub holds_these : (key : List ℕ) (k : Container) → ((l : _) → held (k.make l) ≡ elements l) → (c : CallRef) (steps : List Step) (trees : List Plain) (outer ys : List (Argument Nowhere)) (n : ℕ) (e : Expression Nowhere) (o : OneNamed key outer n e)
     (h : HoldsAs k c steps trees n (it key outer n e o) outer ys) → Holds key ys outer (exchanged_at n (it key outer n e o) outer (k.make h.list))
 holds_these key k all_held c steps trees outer ys n e o h = record {
-  holds = ap held_by (put_value key outer n e o (k.make h.list)) ∙ all_held h.list ∙ h.are;
+  holds = ap held_in (put_value key outer n e o (k.make h.list)) ∙ all_held h.list ∙ h.are;
   others = put_others key outer n e o (k.make h.list);
 }
 
@@ -123,7 +123,7 @@ module _ (key : List ℕ) (k : ElementKind) (values : List (List ℕ)) (is_key :
 
   -- what the argument holds then, by the values that it has
   abbrev grown : List (Expression Nowhere) → List (Argument Nowhere)
-  grown vs = held_by vs ++ put_behind k (coming k values vs)
+  grown vs = held_in vs ++ put_behind k (coming k values vs)
 
   grows : (made : List Step) (n : ℕ) (e : Expression Nowhere) (o : OneNamed key arguments n e) (ys : List (Argument Nowhere)) → HoldsAs array_container c made trees n (it key arguments n e o) arguments ys → ys ≡ grown (e ∷ []) → made ≡ steps
       → Does (add key k values) c trees steps
@@ -161,7 +161,7 @@ module _ (key : List ℕ) (k : ElementKind) (values : List (List ℕ)) (is_key :
       subst (Does (add key k values) c trees) same
       (does (add key k values) c trees all s _ _
       (inserted_leaves c trees all s _ _ (insert_step c trees all s key new (named_written key new.bytes new.node is_key utf8 (list_written k values are)) (list_level k values are) (list_shallow k values are)))
-      (record { holds = ap held_by (come_value key arguments new.node none) ∙ holds_new ∙ whole; others = come_others key arguments new.node }))
+      (record { holds = ap held_in (come_value key arguments new.node none) ∙ holds_new ∙ whole; others = come_others key arguments new.node }))
   add_by (v ∷ []) there h = add_value v.number v.value (one_named key arguments v there) h
   add_by (v ∷ w ∷ more) there h = absurd cc
 

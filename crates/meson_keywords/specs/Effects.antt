@@ -47,13 +47,13 @@ held (dictionary l) = elements l
 held e = plain e ∷ []
 
 -- nothing where there is no value (of more than one value no command changes any)
-abbrev pub held_by : {S : Type 0} → List (Expression S) → List (Argument S)
-held_by [] = []
-held_by (v ∷ more) = held v
+abbrev pub held_in : {S : Type 0} → List (Expression S) → List (Argument S)
+held_in [] = []
+held_in (v ∷ more) = held v
 
 -- what the argument of a name holds
 abbrev pub holds : {S : Type 0} → List ℕ → List (Argument S) → List (Argument S)
-holds key xs = held_by (values_of key xs)
+holds key xs = held_in (values_of key xs)
 
 -- ---- keyword arguments
 
@@ -88,17 +88,17 @@ option_name (plain e) = option_and_then before_equals (calls.literal e)
 option_name (named s x e) = None
 option_name (pair s k v) = calls.literal k
 
-abbrev pub option_value : {S : Type 0} → Argument S → Option (List ℕ)
-option_value (plain e) = option_and_then after_equals (calls.literal e)
-option_value (named s x e) = None
-option_value (pair s k v) = calls.literal v
+abbrev pub value_of_option : {S : Type 0} → Argument S → Option (List ℕ)
+value_of_option (plain e) = option_and_then after_equals (calls.literal e)
+value_of_option (named s x e) = None
+value_of_option (pair s k v) = calls.literal v
 
 abbrev pub is_of : {S : Type 0} → List ℕ → Argument S → Bool
 is_of name x = calls.is name (option_name x)
 
 -- The entries of the option have these values; all other entries stay, and so do all other arguments.
 pub record OptionIs (name : List ℕ) (now : List (Option (List ℕ))) (before after : List (Argument Nowhere)) : Type 0 where
-  pub values : map option_value (filter (is_of name) (holds options_key after)) ≡ now
+  pub values : map value_of_option (filter (is_of name) (holds options_key after)) ≡ now
   pub entries : filter (λ x. not (is_of name x)) (holds options_key after) ≡ filter (λ x. not (is_of name x)) (holds options_key before)
   pub arguments : others options_key after ≡ others options_key before
 

@@ -23,7 +23,7 @@ use Rattle.meson_steps.proofs.Insertable.{elements_with, there_again}
 use Rattle.meson_steps.proofs.PlainTrees.{plain_place, tree_is}
 use Rattle.meson_steps.proofs.WentWell.{once_was, then_was}
 use Rattle.meson_steps.proofs.WithOne.{all_nth}
-use Rattle.meson_sources.specs.Effects.{ListGets, SourcesAreAdded, elements_in, is_named, strings}
+use Rattle.meson_sources.specs.Effects.{ListGets, SourcesAreAdded, elements_found, not_plain, strings}
 use Rattle.meson_sources.specs.SourceEdits as edits
 use Rattle.meson_sources.specs.SourceEdits.{elements_there, inserted_in, is_plain, new_names, plain_len, written_source}
 use Rattle.meson_sources.proofs.Homes.{Home, all_stand, list_levels}
@@ -52,11 +52,11 @@ changed_was (suc i) change (x ∷ xs) ys made =
     record { old = c.old; was = c.was; new = c.new; is = c.is; now = ap (λ l. nth l (suc i)) (sym o.2) ∙ c.now }
 
 module _ (list : CallRef) (e : Edit) (of_list : (t : Plain) → edited e t ≡ edited_list e list.path.steps t) (trees between : List Plain) (made : stepped (step_in list e) trees ≡ Some between) (xs : List (Argument Nowhere))
-    (had : elements_in list trees ≡ Some xs) where
+    (had : elements_found list trees ≡ Some xs) where
   record Edited : Type 0 where
     ys : List (Argument Nowhere)
     are : edited_elements e xs ≡ Some ys
-    has : elements_in list between ≡ Some ys
+    has : elements_found list between ≡ Some ys
 
   one_edit : Edited
   one_edit =
@@ -97,9 +97,9 @@ module _ (list : CallRef) where
   abbrev path : List ℕ
   path = list.path.steps
 
-  puts : (names : List (List ℕ)) (front back : List (Argument Nowhere)) (trees after : List Plain) → elements_in list trees ≡ Some (front ++ back) → all_stepped (edits.inserted list (length front) names) trees ≡ Some after
-      → elements_in list after ≡ Some (front ++ (strings names ++ back))
-  puts [] front back trees after had made = ap (elements_in list) (sym (some-injective _ _ made)) ∙ had
+  puts : (names : List (List ℕ)) (front back : List (Argument Nowhere)) (trees after : List Plain) → elements_found list trees ≡ Some (front ++ back) → all_stepped (edits.inserted list (length front) names) trees ≡ Some after
+      → elements_found list after ≡ Some (front ++ (strings names ++ back))
+  puts [] front back trees after had made = ap (elements_found list) (sym (some-injective _ _ made)) ∙ had
   puts (name ∷ more) [] back trees after had made =
       let new = written_source name in
       let s = and-then-some (all_stepped (edits.inserted list 1 more)) (stepped (step_in list (First path new)) trees) after made in
@@ -123,13 +123,13 @@ module _ (list : CallRef) where
 -- ---- those without a name stand first
 
 module _ (b : Bracket) (none : holds_pairs b ≡ false) where
-  all_named : (xs : List (Argument Nowhere)) → LevelArguments (arguments_of xs) b true → (filter is_plain xs ≡ []) × (filter is_named xs ≡ xs)
+  all_named : (xs : List (Argument Nowhere)) → LevelArguments (arguments_of xs) b true → (filter is_plain xs ≡ []) × (filter not_plain xs ≡ xs)
   all_named [] level = (refl, refl)
   all_named (plain e ∷ xs) level = let both : true ≡ false = level.0.1 in absurd cc
   all_named (named s x e ∷ xs) level = let r = all_named xs level.1 in (r.0, ap (λ l. named s x e ∷ l) r.1)
   all_named (pair s e f ∷ xs) level = let both : true ≡ false = sym level.0.0 ∙ none in absurd cc
 
-  in_order : (xs : List (Argument Nowhere)) (seen : Bool) → LevelArguments (arguments_of xs) b seen → xs ≡ filter is_plain xs ++ filter is_named xs
+  in_order : (xs : List (Argument Nowhere)) (seen : Bool) → LevelArguments (arguments_of xs) b seen → xs ≡ filter is_plain xs ++ filter not_plain xs
   in_order [] seen level = refl
   in_order (plain e ∷ xs) seen level = ap (λ l. plain e ∷ l) (in_order xs false level.1)
   in_order (named s x e ∷ xs) seen level = let r = all_named xs level.1 in sym (ap₂ (λ l m. l ++ (named s x e ∷ m)) r.0 r.1)
@@ -148,14 +148,14 @@ module _ (old : Loaded) (is : IsProject old) (c : CallRef) (h : Home (project ol
       let low = (list-fits Nowhere tree path q.place q.is_place).level level in
       let no_pairs = values_no_pairs q.place.bracket (ap holds_values q.bracket ∙ h.values) in
       let order = in_order q.place.bracket no_pairs xs false (list_levels q.place.list q.place.bracket low) in
-      let had : elements_in c (plain_trees old) ≡ Some xs =
+      let had : elements_found c (plain_trees old) ≡ Some xs =
       ap (λ o. option_and_then (λ t. option_map (λ l. elements l.list) (list_at t path)) o) (tree_is old c h.there) ∙ ap (option_map (λ (l : ListAt Nowhere). elements l.list)) q.is_place in
       let count : plain_len (project old) c ≡ length (filter is_plain xs) =
       sym (plain_count_is (elements_there (project old) c)) ∙ ap plain_count (elements_are (project old) c h.there) ∙ sym (ap (λ l. plain_count (elements l)) q.list ∙ count_erased h.there.list.list) ∙ plain_count_is xs in
       record {
         elements = xs;
         had = had;
-        has = puts c names (filter is_plain xs) (filter is_named xs) (plain_trees old) after (had ∙ ap Some order) (ap (λ n. all_stepped (edits.inserted c n names) (plain_trees old)) (sym count) ∙ made);
+        has = puts c names (filter is_plain xs) (filter not_plain xs) (plain_trees old) after (had ∙ ap Some order) (ap (λ n. all_stepped (edits.inserted c n names) (plain_trees old)) (sym count) ∙ made);
       }
 
 pub sources-are-added : SourcesAreAdded

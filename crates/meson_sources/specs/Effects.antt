@@ -18,20 +18,20 @@ use Rattle.meson_steps.specs.WrittenTexts.{string_of}
 use Rattle.meson_sources.specs.SourceEdits.{is_plain, new_names, sources_added}
 
 -- the elements of the list at a place
-abbrev pub elements_in : CallRef → List Plain → Option (List (Argument Nowhere))
-elements_in c trees = option_and_then (λ t. option_map (λ l. elements l.list) (list_at t c.path.steps)) (nth trees c.file)
+abbrev pub elements_found : CallRef → List Plain → Option (List (Argument Nowhere))
+elements_found c trees = option_and_then (λ t. option_map (λ l. elements l.list) (list_at t c.path.steps)) (nth trees c.file)
 
 abbrev pub strings : List (List ℕ) → List (Argument Nowhere)
 strings names = map (λ name. plain (string_of name)) names
 
-abbrev pub is_named : Argument Nowhere → Bool
-is_named x = not (is_plain x)
+abbrev pub not_plain : Argument Nowhere → Bool
+not_plain x = not (is_plain x)
 
 -- The list has its elements in their order, and behind those without a name these strings.
 pub record ListGets (list : CallRef) (names : List (List ℕ)) (before after : List Plain) : Type 0 where
   pub elements : List (Argument Nowhere)
-  pub had : elements_in list before ≡ Some elements
-  pub has : elements_in list after ≡ Some (filter is_plain elements ++ (strings names ++ filter is_named elements))
+  pub had : elements_found list before ≡ Some elements
+  pub has : elements_found list after ≡ Some (filter is_plain elements ++ (strings names ++ filter not_plain elements))
 
 -- the law: the list where further sources of the target go gets those that are no sources of it yet, each once
 abbrev pub SourcesAreAdded : Type 0
