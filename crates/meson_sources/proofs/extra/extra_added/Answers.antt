@@ -1,12 +1,11 @@
-use Rattle.std.proofs.Common.{◌++◌, length, map, sym, ap, ◌∙◌, subst}
-use Rattle.std.specs.Prelude.{Some}
+use Rattle.std.proofs.Common.{length, map, refl, sym, ap, ◌∙◌, subst}
 use Rattle.std.proofs.lemmas.Result.{err_from_is_err_and}
 use Rattle.meson_calls.specs.Calls.{value_with_name}
 use Rattle.meson_steps.specs.ListSteps.{bare}
 use Rattle.meson_calls.specs.Named.{project_of}
 use Rattle.meson_sources.specs.Naming.{new_among}
 use Rattle.meson_calls.specs.Sourced.{kept_args}
-use Rattle.meson_sources.specs.SourceEdits.{extra_key, inserted}
+use Rattle.meson_sources.specs.SourceEdits.{extra_key, inserted, plain_len}
 use Rattle.meson_calls.specs.Tallies.{gathered}
 use Rattle.meson_sources.specs.Targeted.{lone_or_new}
 use Rattle.meson_steps.specs.Meanings.{AreBehind}
@@ -27,12 +26,9 @@ returns-in-Some-clause-meant c = λ function.
     let is = ap (λ g. g.tally) c.in_ok-marks.ensures.met in
     let new_is = c.in_ok-new.ensures ∙ ap (λ xs. new_among xs names) c.as_slice.ensures.value in
     let home = c.in-Some.home in
-    let n = c.plain_len-from.result in
-    let are =
-    c.in_ok-insert-in-Some.ensures.done ∙ ap (λ xs. map Some xs ++ map bare (inserted home n (map (λ x. x.now) c.as_slice-in-Some.result.now))) c.new-steps.ensures.items
-    ∙ ap (λ ns. map bare (inserted home n (map (λ x. x.now) ns))) c.as_slice-in-Some.ensures.value in
+    let are = c.in_ok-steps-in-Some.ensures.done ∙ ap (λ ns. map bare (inserted home (plain_len p home) (map (λ x. x.now) ns))) c.as_slice-in-Some.ensures.value in
     home_meant p c.args.call.now c.args.source.now c.args.arguments.now function names (c.in_ok-marks.ensures.checked function) t is (map (λ x. x.now) c.in_ok-new.new.items) new_is c.first_of.result c.first_of.ensures
-    home c.in-Some.is n c.plain_len-from.ensures.counted c.insert.new.steps.items are
+    home c.in-Some.is (plain_len p home) refl c.in_ok-steps-in-Some.steps.items are
 
 pub returns-clause-meant : goal.returns-clause-meant
 returns-clause-meant c = λ function.
