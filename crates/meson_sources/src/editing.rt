@@ -15,10 +15,10 @@ ghost use Rattle.meson_calls.specs.Sourced.{kept_args};
 ghost use Rattle.meson_steps.specs.ListSteps.{bare};
 ghost use Rattle.meson_steps.specs.Meanings.{AreMeant};
 
-use crate::inserting::{insert, new_names};
+use crate::inserting::{insert, new_names, places_of};
 use crate::removing::names_removed;
 use meson_calls::arguments::{count_named, is_plain};
-use meson_calls::marks::{Marks, text_of_name};
+use meson_calls::marks::text_of_name;
 use meson_calls::sourcing::{MAX_FOLLOWED, home_of, met};
 use meson_calls::variables::Variables;
 use meson_calls::{CallRef, Refusal};
@@ -121,14 +121,7 @@ pub(crate) fn sources_added<'t>(
     at_most_once(alloc, source, arguments, b"sources".as_slice())?;
     let marks = met(variables, MAX_FOLLOWED, call, source, arguments.items.get())?;
     let new = new_names(alloc, marks.items.as_slice(), names)?;
-    let Marks {
-        items: _,
-        numbers: _,
-        unknown: _,
-        list,
-        vacant,
-        followed: _,
-    } = marks;
+    let (list, vacant) = places_of(marks);
     let home = home_of(alloc, call, list, vacant)?;
     let steps = insertions(variables, &home, new.as_slice())?;
     Ok(steps)

@@ -22,7 +22,7 @@ ghost use Rattle.meson_sources.specs.Targeted.{extra_gathered, lone_or_new, new_
 ghost use Rattle.meson_steps.specs.Meanings.{AreBehind, AreMeant};
 
 use crate::editing::{at_most_once, insertions};
-use crate::inserting::{insert, new_names};
+use crate::inserting::{insert, new_names, places_of};
 use crate::removing::names_removed;
 use meson_calls::arguments::{count_named, first_named};
 use meson_calls::literals::literal;
@@ -232,14 +232,7 @@ pub(crate) fn extra_added<'t>(
     let alloc = variables.alloc;
     let marks = checked_extra(variables, call, source, arguments, names)?;
     let new = new_names(alloc, marks.items.as_slice(), names)?;
-    let Marks {
-        items: _,
-        numbers: _,
-        unknown: _,
-        list,
-        vacant,
-        followed: _,
-    } = marks;
+    let (list, vacant) = places_of(marks);
     match first_of(list, vacant) {
         Some(home) => {
             let steps = insertions(variables, &home, new.as_slice())?;
