@@ -1,6 +1,6 @@
 -- The steps that commands on extra files mean, by what the code finds.
-use Rattle.std.proofs.Common.{◌≡◌, ℕ, ◌<◌, ◌≤◌, List, [], ◌∷◌, length, map, refl, sym, ap, ◌∙◌, arith}
-use Rattle.std.specs.Prelude.{Some, Result, Ok, Err}
+use Rattle.std.proofs.Common.{◌≡◌, ℕ, ◌<◌, ◌≤◌, List, [], ◌∷◌, length, refl, sym, ap, ◌∙◌, arith}
+use Rattle.std.specs.Prelude.{Result, Ok, Err}
 use Rattle.meson_lex.specs.declared.kinds.Span.{Span}
 use Rattle.meson_splice.specs.Patch.{then_ok}
 use Rattle.meson_syntax.specs.declared.tree.List as rust
@@ -12,12 +12,11 @@ use Rattle.meson_steps.specs.declared.step.ListStep.{ListStep}
 use Rattle.meson_calls.specs.Project.{Project, Placed, placed}
 use Rattle.meson_calls.specs.Calls.{Call, keyword, value_with_name}
 use Rattle.meson_calls.specs.Expansion.{Mark, fixed, max_followed}
-use Rattle.meson_steps.specs.ListSteps.{bare}
 use Rattle.meson_calls.specs.Picking.{call_with}
 use Rattle.meson_sources.specs.Spots.{spots_of_names}
 use Rattle.meson_calls.specs.Sources.{kwargs_key, once, expand_arguments}
 use Rattle.meson_calls.specs.Sourced.{kept_args}
-use Rattle.meson_sources.specs.SourceEdits.{extra_key, extra_marks, checked_extra, Spot, spots_named, removed, distinct_spots, extra_removed}
+use Rattle.meson_sources.specs.SourceEdits.{extra_key, extra_marks, checked_extra, spots_named, removed, distinct_spots, extra_removed}
 use Rattle.meson_steps.specs.Names.{checked_names, distinct}
 use Rattle.meson_calls.specs.Sources.{not_hidden}
 use Rattle.meson_steps.specs.Steps.{Step}
@@ -91,9 +90,8 @@ module _ (p : Project Span) (c : CallRef) (source : List ℕ) (l : rust.List) (f
     after_checks : extra_removed p it names ≡ then_ok (spots_of_names t.items t.numbers t.unknown (distinct names)) (λ spots. Ok (removed (distinct_spots spots)))
     after_checks = ap after_marks checked ∙ ap (λ r. then_ok r (λ spots. Ok (removed (distinct_spots spots)))) (sym (told_spots t extras (extra_fields t is) (distinct names)))
 
-    pub extra_gone : (spots : List Spot) → spots_of_names t.items t.numbers t.unknown (distinct names) ≡ Ok spots → (steps : List ListStep) → map Some steps ≡ map bare (removed (distinct_spots spots))
-        → AreMeant (extra_removed p it names) steps
-    extra_gone spots found steps are = record { steps = removed (distinct_spots spots); is = after_checks ∙ ap (λ r. then_ok r (λ spots. Ok (removed (distinct_spots spots)))) found; bare = sym are }
+    pub extra_gone : (steps : List ListStep) → AreMeant (then_ok (spots_of_names t.items t.numbers t.unknown (distinct names)) (λ spots. Ok (removed (distinct_spots spots)))) steps → AreMeant (extra_removed p it names) steps
+    extra_gone steps meant = record { steps = meant.steps; is = after_checks ∙ meant.is; bare = meant.bare }
 
-    pub extra_not_gone : (e : Refusal) → spots_of_names t.items t.numbers t.unknown (distinct names) ≡ Err e → extra_removed p it names ≡ Err e
-    extra_not_gone e found = after_checks ∙ ap (λ r. then_ok r (λ spots. Ok (removed (distinct_spots spots)))) found
+    pub extra_not_gone : (e : Refusal) → then_ok (spots_of_names t.items t.numbers t.unknown (distinct names)) (λ spots. Ok (removed (distinct_spots spots))) ≡ Err e → extra_removed p it names ≡ Err e
+    extra_not_gone e refused = after_checks ∙ refused

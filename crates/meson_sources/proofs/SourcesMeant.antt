@@ -18,7 +18,7 @@ use Rattle.meson_calls.specs.Picking.{call_with}
 use Rattle.meson_sources.specs.Spots.{spots_of_names}
 use Rattle.meson_calls.specs.Sources.{sources_key, source_marks, home, once, or_call, or_option, first_list}
 use Rattle.meson_calls.specs.Sourced.{kept_args, all_gathered}
-use Rattle.meson_sources.specs.SourceEdits.{new_names, inserted, plain_len, Spot, spots_named, removed, distinct_spots, sources_added, sources_removed}
+use Rattle.meson_sources.specs.SourceEdits.{new_names, inserted, plain_len, spots_named, removed, distinct_spots, sources_added, sources_removed}
 use Rattle.meson_steps.specs.Names.{checked_names, distinct}
 use Rattle.meson_calls.specs.Tallies.{Tally}
 use Rattle.meson_steps.specs.Meanings.{AreMeant}
@@ -85,9 +85,8 @@ module _ (p : Project Span) (c : CallRef) (source : List ℕ) (l : rust.List) (f
           ap (λ r. then_ok r (λ _. then_ok (once sources_key (keyword sources_key it.it) ms) rest)) checked ∙ ap (λ r. then_ok r rest) (few_are ms few)
           ∙ ap (λ r. then_ok r (λ spots. Ok (removed (distinct_spots spots)))) (sym (told_spots t ms (fields t is) (distinct names)))
 
-      pub gone : (spots : List Spot) → spots_of_names t.items t.numbers t.unknown (distinct names) ≡ Ok spots → (steps : List ListStep) → map Some steps ≡ map bare (removed (distinct_spots spots))
-          → AreMeant (sources_removed p it names) steps
-      gone spots found steps are = record { steps = removed (distinct_spots spots); is = after_checks ∙ ap (λ r. then_ok r (λ spots. Ok (removed (distinct_spots spots)))) found; bare = sym are }
+      pub gone : (steps : List ListStep) → AreMeant (then_ok (spots_of_names t.items t.numbers t.unknown (distinct names)) (λ spots. Ok (removed (distinct_spots spots)))) steps → AreMeant (sources_removed p it names) steps
+      gone steps meant = record { steps = meant.steps; is = after_checks ∙ meant.is; bare = meant.bare }
 
-      pub not_gone : (e : Refusal) → spots_of_names t.items t.numbers t.unknown (distinct names) ≡ Err e → sources_removed p it names ≡ Err e
-      not_gone e found = after_checks ∙ ap (λ r. then_ok r (λ spots. Ok (removed (distinct_spots spots)))) found
+      pub not_gone : (e : Refusal) → then_ok (spots_of_names t.items t.numbers t.unknown (distinct names)) (λ spots. Ok (removed (distinct_spots spots))) ≡ Err e → sources_removed p it names ≡ Err e
+      not_gone e refused = after_checks ∙ refused

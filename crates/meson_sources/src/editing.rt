@@ -1,6 +1,6 @@
 //! The steps of commands on the sources of a target.
 
-ghost use Rattle.std.specs.Prelude.{◌≡◌, ◌≢◌, ◌<◌, ◌≤◌, ◌^◌, All, Err, IfErr, IfOk, OnOk, length};
+ghost use Rattle.std.specs.Prelude.{◌≡◌, ◌≢◌, ◌<◌, ◌≤◌, ◌^◌, All, Err, IfErr, IfOk, OnOk, Some, length, map};
 ghost use Rattle.std.specs.Str.{IsUtf8};
 ghost use Rattle.std.specs.List.{filter};
 ghost use Rattle.meson_syntax.specs.View.{args_view, list_view};
@@ -10,19 +10,20 @@ ghost use Rattle.meson_calls.specs.Loading.{AreParsed};
 ghost use Rattle.meson_calls.specs.Named.{AreVariables, project_of};
 ghost use Rattle.meson_calls.specs.Picking.{Source, call_with};
 ghost use Rattle.meson_calls.specs.Project.{placed};
-ghost use Rattle.meson_sources.specs.SourceEdits.{is_plain, plain_len, sources_added, sources_removed};
+ghost use Rattle.meson_sources.specs.SourceEdits.{inserted, is_plain, plain_len, sources_added, sources_removed};
 ghost use Rattle.meson_calls.specs.Sourced.{kept_args};
+ghost use Rattle.meson_steps.specs.ListSteps.{bare};
 ghost use Rattle.meson_steps.specs.Meanings.{AreMeant};
 
-use crate::inserting::{insert, new_names};
-use crate::removing::{removed, spots_of};
+use crate::inserting::{insert, new_names, places_of};
+use crate::removing::names_removed;
 use meson_calls::arguments::{count_named, is_plain};
-use meson_calls::marks::{Marks, text_of_name};
+use meson_calls::marks::text_of_name;
 use meson_calls::sourcing::{MAX_FOLLOWED, home_of, met};
 use meson_calls::variables::Variables;
 use meson_calls::{CallRef, Refusal};
 use meson_splice::Text;
-use meson_steps::names::{checked_names, distinct};
+use meson_steps::names::checked_names;
 use meson_steps::step::ListStep;
 use meson_syntax::{Arg, List, Parsed};
 use std::alloc::Global;
@@ -55,6 +56,25 @@ pub(crate) fn plain_len(variables: &Variables<'_>, list: &CallRef) -> usize
         Some(list) => count_plain(list.items.get()),
         None => 0,
     }
+}
+
+/// The steps by which names are put into a list, behind its elements without a name.
+///
+/// # Errors
+/// Memory is refused.
+pub(crate) fn insertions(
+    variables: &Variables<'_>,
+    list: &CallRef,
+    names: &[&Text],
+) -> Result<Vec<ListStep>, Refusal>
+    requires { AreParsed variables.now.files.now variables.now.trees.now }
+    ensures done { IfOk result (λ steps. map Some steps.items ≡ map bare (inserted list.now (plain_len (project_of variables.now) list.now) (map (λ x. x.now) names.now))) }
+    ensures refused { IfErr result (λ e. e ≡ Refusal.OutOfMemory) }
+{
+    let mut steps = Vec::new(variables.alloc);
+    let from = plain_len(variables, list);
+    insert(variables.alloc, list, from, names, &mut steps)?;
+    Ok(steps)
 }
 
 /// Refuses a call that has more than one argument of this name.
@@ -101,18 +121,9 @@ pub(crate) fn sources_added<'t>(
     at_most_once(alloc, source, arguments, b"sources".as_slice())?;
     let marks = met(variables, MAX_FOLLOWED, call, source, arguments.items.get())?;
     let new = new_names(alloc, marks.items.as_slice(), names)?;
-    let Marks {
-        items: _,
-        numbers: _,
-        unknown: _,
-        list,
-        vacant,
-        followed: _,
-    } = marks;
+    let (list, vacant) = places_of(marks);
     let home = home_of(alloc, call, list, vacant)?;
-    let mut steps = Vec::new(alloc);
-    let from = plain_len(variables, &home);
-    insert(alloc, &home, from, new.as_slice(), &mut steps)?;
+    let steps = insertions(variables, &home, new.as_slice())?;
     Ok(steps)
 }
 
@@ -137,8 +148,6 @@ pub(crate) fn sources_removed<'t>(
     checked_names(names)?;
     at_most_once(alloc, source, arguments, b"sources".as_slice())?;
     let marks = met(variables, MAX_FOLLOWED, call, source, arguments.items.get())?;
-    let names = distinct(alloc, names)?;
-    let spots = spots_of(alloc, &marks, names.as_slice())?;
-    let steps = removed(alloc, spots.as_slice())?;
+    let steps = names_removed(alloc, &marks, names)?;
     Ok(steps)
 }

@@ -21,9 +21,9 @@ ghost use Rattle.meson_calls.specs.Tallies.{gathered};
 ghost use Rattle.meson_sources.specs.Targeted.{extra_gathered, lone_or_new, new_list_steps};
 ghost use Rattle.meson_steps.specs.Meanings.{AreBehind, AreMeant};
 
-use crate::editing::{at_most_once, plain_len};
-use crate::inserting::{insert, new_names};
-use crate::removing::{removed, spots_of};
+use crate::editing::{at_most_once, insertions};
+use crate::inserting::{insert, new_names, places_of};
+use crate::removing::names_removed;
 use meson_calls::arguments::{count_named, first_named};
 use meson_calls::literals::literal;
 use meson_calls::marks::{Marks, Site};
@@ -33,7 +33,7 @@ use meson_calls::variables::Variables;
 use meson_calls::{CallRef, Refusal};
 use meson_splice::{Bytes, Text};
 use meson_steps::literals::push_literal;
-use meson_steps::names::{checked_names, distinct};
+use meson_steps::names::checked_names;
 use meson_steps::step::{ListEdit, ListStep, push_step};
 use meson_syntax::{Arg, Expr, List};
 use std::alloc::{AllocError, Global};
@@ -232,22 +232,14 @@ pub(crate) fn extra_added<'t>(
     let alloc = variables.alloc;
     let marks = checked_extra(variables, call, source, arguments, names)?;
     let new = new_names(alloc, marks.items.as_slice(), names)?;
-    let Marks {
-        items: _,
-        numbers: _,
-        unknown: _,
-        list,
-        vacant,
-        followed: _,
-    } = marks;
-    let mut steps = Vec::new(alloc);
+    let (list, vacant) = places_of(marks);
     match first_of(list, vacant) {
         Some(home) => {
-            let from = plain_len(variables, &home);
-            insert(alloc, &home, from, new.as_slice(), &mut steps)?;
+            let steps = insertions(variables, &home, new.as_slice())?;
             Ok(steps)
         }
         None => {
+            let mut steps = Vec::new(alloc);
             let args = arguments.items.get();
             without_home(alloc, source, call, args, new.as_slice(), &mut steps)?;
             Ok(steps)
@@ -273,10 +265,7 @@ pub(crate) fn extra_removed<'t>(
     ensures refused { (function : Source) → IfErr result (λ e. e ≢ Refusal.OutOfMemory → extra_removed (project_of variables.now) (placed call.now (call_with function (list_view source.entry.now arguments.entry.now))) names.now ≡ Err e) }
     ensures utf8 { IfOk result (λ steps. All IsUtf8 names.now) }
 {
-    let alloc = variables.alloc;
     let marks = checked_extra(variables, call, source, arguments, names)?;
-    let names = distinct(alloc, names)?;
-    let spots = spots_of(alloc, &marks, names.as_slice())?;
-    let steps = removed(alloc, spots.as_slice())?;
+    let steps = names_removed(variables.alloc, &marks, names)?;
     Ok(steps)
 }

@@ -7,6 +7,7 @@ ghost use Rattle.meson_sources.specs.Naming.{has_value, new_among};
 ghost use Rattle.meson_sources.specs.SourceEdits.{inserted};
 ghost use Rattle.meson_steps.specs.Names.{distinct};
 
+use meson_calls::marks::Marks;
 use meson_calls::place::copy_place;
 use meson_calls::{CallRef, Refusal, SourceItem};
 use meson_splice::Text;
@@ -38,6 +39,22 @@ pub(crate) fn new_names<'n>(
     let mut new = distinct(alloc, names)?;
     new.retain(|name| !is_known(items, name));
     Ok(new)
+}
+
+/// The list of the first item that stands in one, and the first list that holds nothing.
+pub(crate) fn places_of(marks: Marks<'_>) -> (Option<CallRef>, Option<CallRef>)
+    ensures list { result.0 ≡ marks.entry.list }
+    ensures vacant { result.1 ≡ marks.entry.vacant }
+{
+    let Marks {
+        items: _,
+        numbers: _,
+        unknown: _,
+        list,
+        vacant,
+        followed: _,
+    } = marks;
+    (list, vacant)
 }
 
 /// Puts names into a list, one behind the other, where so many elements are to stand before them.

@@ -2,7 +2,10 @@
 
 ghost use Rattle.std.specs.Prelude.{◌≡◌, ◌≢◌, ◌++◌, ◌∷◌, [], Err, IfErr, IfOk, None, Ok, OnOk, Some, true, length, map, option_map};
 ghost use Rattle.std.specs.List.{list_any};
+ghost use Rattle.meson_splice.specs.Patch.{then_ok};
 ghost use Rattle.meson_steps.specs.ListSteps.{bare};
+ghost use Rattle.meson_steps.specs.Meanings.{AreMeant};
+ghost use Rattle.meson_steps.specs.Names.{distinct};
 ghost use Rattle.meson_sources.specs.Spots.{after_each, all_there, before_all, is_some_there, spot_at, spot_view, spots_at, spots_of_names};
 ghost use Rattle.meson_sources.specs.SourceEdits.{distinct_spots, moved_up, path_after, removed, same_spot, spot_after};
 
@@ -10,6 +13,7 @@ use meson_calls::marks::Marks;
 use meson_calls::place::place_of;
 use meson_calls::{CallRef, Refusal, SourceItem};
 use meson_splice::Text;
+use meson_steps::names::distinct;
 use meson_steps::step::{ListEdit, ListStep, push_step};
 use std::alloc::{AllocError, Global};
 
@@ -210,4 +214,23 @@ pub(crate) fn spots_of(
         }
     }
     Ok(spots)
+}
+
+/// The steps by which all items of names go, each from where it stands then.
+///
+/// # Errors
+/// A name is none of the items, or one of them stands in no list, or memory is refused.
+pub(crate) fn names_removed(
+    alloc: Global,
+    marks: &Marks<'_>,
+    names: &[Text],
+) -> Result<Vec<ListStep>, Refusal>
+    requires { length marks.now.numbers.items ≡ length marks.now.items.items }
+    ensures meant { IfOk result (λ steps. AreMeant (then_ok (spots_of_names marks.now.items.items marks.now.numbers.items (length marks.now.unknown.items) (distinct names.now)) (λ spots. Ok (removed (distinct_spots spots)))) steps.items) }
+    ensures refused { IfErr result (λ e. e ≢ Refusal.OutOfMemory → then_ok (spots_of_names marks.now.items.items marks.now.numbers.items (length marks.now.unknown.items) (distinct names.now)) (λ spots. Ok (removed (distinct_spots spots))) ≡ Err e) }
+{
+    let names = distinct(alloc, names)?;
+    let spots = spots_of(alloc, marks, names.as_slice())?;
+    let steps = removed(alloc, spots.as_slice())?;
+    Ok(steps)
 }

@@ -1,6 +1,6 @@
-use Rattle.std.proofs.Common.{◌≡◌, ◌<◌, ◌≤◌, ◌++◌, length, map, sym, ap, ◌∙◌, subst}
+use Rattle.std.proofs.Common.{◌≡◌, ◌<◌, ◌≤◌, length, map, refl, sym, ap, ◌∙◌, subst}
 use Rattle.std.specs.Str.{IsUtf8}
-use Rattle.std.specs.Prelude.{Some, Ok, Err}
+use Rattle.std.specs.Prelude.{Ok, Err}
 use Rattle.std.proofs.lemmas.Result.{err_from_is_err_and}
 use Rattle.meson_calls.specs.declared.refusal.Refusal.TheVariants.{DuplicateKeyword}
 use Rattle.meson_calls.specs.Calls.{value_with_name}
@@ -8,8 +8,9 @@ use Rattle.meson_calls.specs.Expansion.{max_followed}
 use Rattle.meson_steps.specs.ListSteps.{bare}
 use Rattle.meson_calls.specs.Named.{project_of}
 use Rattle.meson_sources.specs.Naming.{new_among}
+use Rattle.meson_calls.specs.Sources.{or_call, or_option}
 use Rattle.meson_calls.specs.Sourced.{kept_args, all_gathered}
-use Rattle.meson_sources.specs.SourceEdits.{inserted}
+use Rattle.meson_sources.specs.SourceEdits.{inserted, plain_len}
 use Rattle.meson_steps.specs.Names.{checked_names}
 use Rattle.meson_calls.specs.Tallies.{gathered}
 use Rattle.meson_sources.proofs.SourcesMeant.{added, added_twice}
@@ -41,10 +42,9 @@ returns-clause-meant c = λ function.
     let few = subst (λ k. length (kept_args source (value_with_name k) 0 l.items) ≤ 1) c.as_slice.ensures c.in_ok-at_most_once.ensures.few in
     let is = ap (λ g. g.tally) (c.in_ok-marks.ensures ∙ ap (all_gathered p max_followed c.args.call.now source) c.get.ensures) in
     let home = c.in_ok-home.home in
-    let n = c.plain_len-from.result in
+    let places = c.places_of-list.ensures in
+    let is_home = c.in_ok-home.ensures ∙ ap (λ o. or_call c.args.call.now (or_option o c.places_of-list.result.1)) places.list ∙ ap (λ o. or_call c.args.call.now (or_option c.in_ok-marks.marks.list o)) places.vacant in
     let new_is = c.in_ok-new.ensures ∙ ap (λ xs. new_among xs names) c.as_slice-2.ensures.value in
-    let are =
-    c.in_ok-insert.ensures.done ∙ ap (λ xs. map Some xs ++ map bare (inserted home n (map (λ x. x.now) c.as_slice-3.result.now))) c.new-steps.ensures.items
-    ∙ ap (λ ns. map bare (inserted home n (map (λ x. x.now) ns))) c.as_slice-3.ensures.value in
-    added p c.args.call.now source l function names checked few (gathered c.in_ok-marks.marks).tally is home c.in_ok-home.ensures n c.plain_len-from.ensures.counted (map (λ x. x.now) c.in_ok-new.new.items) new_is
-    c.insert.new.steps.items are
+    let are = c.in_ok-steps.ensures.done ∙ ap (λ ns. map bare (inserted home (plain_len p home) (map (λ x. x.now) ns))) c.as_slice-3.ensures.value in
+    added p c.args.call.now source l function names checked few (gathered c.in_ok-marks.marks).tally is home is_home (plain_len p home) refl (map (λ x. x.now) c.in_ok-new.new.items) new_is
+    c.in_ok-steps.steps.items are

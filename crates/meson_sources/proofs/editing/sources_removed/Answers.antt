@@ -1,4 +1,4 @@
-use Rattle.std.proofs.Common.{◌≡◌, ◌<◌, ◌≤◌, [], length, map, sym, ap, ◌∙◌, subst}
+use Rattle.std.proofs.Common.{◌≡◌, ◌<◌, ◌≤◌, [], length, sym, ap, ◌∙◌, subst}
 use Rattle.std.specs.Str.{IsUtf8}
 use Rattle.std.specs.Prelude.{Ok, Err}
 use Rattle.std.proofs.lemmas.Result.{err_from_is_err_and}
@@ -7,10 +7,7 @@ use Rattle.meson_calls.specs.Calls.{value_with_name}
 use Rattle.meson_calls.specs.Expansion.{max_followed}
 use Rattle.meson_calls.specs.Named.{project_of}
 use Rattle.meson_calls.specs.Sourced.{kept_args, all_gathered}
-use Rattle.meson_sources.specs.SourceEdits.{removed, distinct_spots}
 use Rattle.meson_steps.specs.Names.{checked_names}
-use Rattle.meson_steps.specs.ListSteps.{bare}
-use Rattle.meson_sources.specs.Spots.{spot_view, spots_of_names}
 use Rattle.meson_calls.specs.Tallies.{gathered}
 use Rattle.meson_sources.proofs.Marked.{as_many_numbers}
 use Rattle.meson_sources.proofs.SourcesMeant.{ms, fields, removed_twice, gone, not_gone}
@@ -32,8 +29,8 @@ returns-in_err-at_most_once-clause-refused c =
     let many = subst (λ k. 1 < length (kept_args source (value_with_name k) 0 l.items)) c.as_slice.ensures twice.1 in
     removed_twice p c.args.call.now source l function c.args.names.now checked many ∙ ap (λ k. Err (DuplicateKeyword k)) (sym c.as_slice.ensures) ∙ ap Err (sym twice.0))
 
-pub spots_of-requires : goal.spots_of-requires
-spots_of-requires c =
+pub names_removed-requires : goal.names_removed-requires
+names_removed-requires c =
     let p = project_of c.args.variables.now in
     let source = c.args.source.now in
     let l = c.args.arguments.now in
@@ -41,9 +38,9 @@ spots_of-requires c =
     let is = ap (λ g. g.tally) (c.in_ok-marks.ensures ∙ ap (all_gathered p max_followed c.args.call.now source) c.get.ensures) in
     as_many_numbers t (ms p c.args.call.now source l [] c.args.names.now) (fields p c.args.call.now source l [] c.args.names.now t is)
 
-pub returns-in_err-spots-clause-refused : goal.returns-in_err-spots-clause-refused
-returns-in_err-spots-clause-refused c =
-    let error = err_from_is_err_and c.from_residual-in_err-spots.result c.from_residual-in_err-spots.ensures.1 in
+pub returns-in_err-steps-clause-refused : goal.returns-in_err-steps-clause-refused
+returns-in_err-steps-clause-refused c =
+    let error = err_from_is_err_and c.from_residual-in_err-steps.result c.from_residual-in_err-steps.ensures.1 in
     rw (error.1, error.2) (λ function other.
     let p = project_of c.args.variables.now in
     let source = c.args.source.now in
@@ -53,8 +50,7 @@ returns-in_err-spots-clause-refused c =
     let few = subst (λ k. length (kept_args source (value_with_name k) 0 l.items) ≤ 1) c.as_slice.ensures c.in_ok-at_most_once.ensures.few in
     let is = ap (λ g. g.tally) (c.in_ok-marks.ensures ∙ ap (all_gathered p max_followed c.args.call.now source) c.get.ensures) in
     let t = (gathered c.in_ok-marks.marks).tally in
-    let found = ap (λ ns. spots_of_names t.items t.numbers t.unknown ns) (sym c.in_ok-names.ensures) ∙ ap (λ ns. spots_of_names t.items t.numbers t.unknown (map (λ x. x.now) ns)) (sym c.as_slice-2.ensures.value) ∙ c.in_err-spots.ensures.refused other in
-    not_gone p c.args.call.now source l function names checked few t is c.in_err-spots.field-0.0 found)
+    not_gone p c.args.call.now source l function names checked few t is c.in_err-steps.field-0.0 (c.in_err-steps.ensures.refused other))
 
 pub returns-clause-meant : goal.returns-clause-meant
 returns-clause-meant c = λ function.
@@ -66,6 +62,4 @@ returns-clause-meant c = λ function.
     let few = subst (λ k. length (kept_args source (value_with_name k) 0 l.items) ≤ 1) c.as_slice.ensures c.in_ok-at_most_once.ensures.few in
     let is = ap (λ g. g.tally) (c.in_ok-marks.ensures ∙ ap (all_gathered p max_followed c.args.call.now source) c.get.ensures) in
     let t = (gathered c.in_ok-marks.marks).tally in
-    let found = ap (λ ns. spots_of_names t.items t.numbers t.unknown ns) (sym c.in_ok-names.ensures) ∙ ap (λ ns. spots_of_names t.items t.numbers t.unknown (map (λ x. x.now) ns)) (sym c.as_slice-2.ensures.value) ∙ c.in_ok-spots.ensures.found in
-    let are = c.in_ok-steps.ensures ∙ ap (λ ss. map bare (removed (distinct_spots (map spot_view ss)))) c.as_slice-3.ensures.value in
-    gone p c.args.call.now source l function names checked few t is (map spot_view c.in_ok-spots.spots.items) found c.in_ok-steps.steps.items are
+    gone p c.args.call.now source l function names checked few t is c.in_ok-steps.steps.items c.in_ok-steps.ensures.meant

@@ -1,12 +1,12 @@
-use Rattle.std.proofs.Common.{◌++◌, length, map, sym, ap, ◌∙◌, subst}
-use Rattle.std.specs.Prelude.{Some}
+use Rattle.std.proofs.Common.{length, map, refl, sym, ap, ◌∙◌, subst}
 use Rattle.std.proofs.lemmas.Result.{err_from_is_err_and}
 use Rattle.meson_calls.specs.Calls.{value_with_name}
 use Rattle.meson_steps.specs.ListSteps.{bare}
 use Rattle.meson_calls.specs.Named.{project_of}
 use Rattle.meson_sources.specs.Naming.{new_among}
+use Rattle.meson_calls.specs.Sources.{or_option}
 use Rattle.meson_calls.specs.Sourced.{kept_args}
-use Rattle.meson_sources.specs.SourceEdits.{extra_key, inserted}
+use Rattle.meson_sources.specs.SourceEdits.{extra_key, inserted, plain_len}
 use Rattle.meson_calls.specs.Tallies.{gathered}
 use Rattle.meson_sources.specs.Targeted.{lone_or_new}
 use Rattle.meson_steps.specs.Meanings.{AreBehind}
@@ -25,14 +25,13 @@ returns-in-Some-clause-meant c = λ function.
     let names = c.args.names.now in
     let t = (gathered c.in_ok-marks.marks).tally in
     let is = ap (λ g. g.tally) c.in_ok-marks.ensures.met in
+    let places = c.places_of-list.ensures in
+    let is_first = c.first_of.ensures ∙ ap (λ o. or_option o c.places_of-list.result.1) places.list ∙ ap (or_option c.in_ok-marks.marks.list) places.vacant in
     let new_is = c.in_ok-new.ensures ∙ ap (λ xs. new_among xs names) c.as_slice.ensures.value in
     let home = c.in-Some.home in
-    let n = c.plain_len-from.result in
-    let are =
-    c.in_ok-insert-in-Some.ensures.done ∙ ap (λ xs. map Some xs ++ map bare (inserted home n (map (λ x. x.now) c.as_slice-in-Some.result.now))) c.new-steps.ensures.items
-    ∙ ap (λ ns. map bare (inserted home n (map (λ x. x.now) ns))) c.as_slice-in-Some.ensures.value in
-    home_meant p c.args.call.now c.args.source.now c.args.arguments.now function names (c.in_ok-marks.ensures.checked function) t is (map (λ x. x.now) c.in_ok-new.new.items) new_is c.first_of.result c.first_of.ensures
-    home c.in-Some.is n c.plain_len-from.ensures.counted c.insert.new.steps.items are
+    let are = c.in_ok-steps-in-Some.ensures.done ∙ ap (λ ns. map bare (inserted home (plain_len p home) (map (λ x. x.now) ns))) c.as_slice-in-Some.ensures.value in
+    home_meant p c.args.call.now c.args.source.now c.args.arguments.now function names (c.in_ok-marks.ensures.checked function) t is (map (λ x. x.now) c.in_ok-new.new.items) new_is c.first_of.result is_first
+    home c.in-Some.is (plain_len p home) refl c.in_ok-steps-in-Some.steps.items are
 
 pub returns-clause-meant : goal.returns-clause-meant
 returns-clause-meant c = λ function.
@@ -43,6 +42,8 @@ returns-clause-meant c = λ function.
     let names = c.args.names.now in
     let t = (gathered c.in_ok-marks.marks).tally in
     let is = ap (λ g. g.tally) c.in_ok-marks.ensures.met in
+    let places = c.places_of-list.ensures in
+    let is_first = c.first_of.ensures ∙ ap (λ o. or_option o c.places_of-list.result.1) places.list ∙ ap (or_option c.in_ok-marks.marks.list) places.vacant in
     let new_is = c.in_ok-new.ensures ∙ ap (λ xs. new_among xs names) c.as_slice.ensures.value in
     let new = c.without_home.new.steps.items in
     let old = c.new-steps.result.items in
@@ -51,7 +52,7 @@ returns-clause-meant c = λ function.
     subst (λ xs. AreBehind (lone_or_new call (length xs) (kept_args source (value_with_name extra_key) 0 xs) (map (λ x. x.now) c.as_slice-in-None.result.now)) old new) c.get-args.ensures c.in_ok-without_home-in-None.ensures.done in
     let second = subst (λ ns. AreBehind (lone_or_new call (length l.items) kept (map (λ x. x.now) ns)) old new) c.as_slice-in-None.ensures.value first in
     let third = subst (λ o. AreBehind (lone_or_new call (length l.items) kept (map (λ x. x.now) c.in_ok-new.new.items)) o new) c.new-steps.ensures.items second in
-    call_meant p call source l function names (c.in_ok-marks.ensures.checked function) t is (map (λ x. x.now) c.in_ok-new.new.items) new_is c.first_of.result c.first_of.ensures c.in-None.is c.requires.there new third
+    call_meant p call source l function names (c.in_ok-marks.ensures.checked function) t is (map (λ x. x.now) c.in_ok-new.new.items) new_is c.first_of.result is_first c.in-None.is c.requires.there new third
 
 pub returns-in_err-without_home-in-None-clause-refused : goal.returns-in_err-without_home-in-None-clause-refused
 returns-in_err-without_home-in-None-clause-refused c =
@@ -64,10 +65,12 @@ returns-in_err-without_home-in-None-clause-refused c =
     let names = c.args.names.now in
     let t = (gathered c.in_ok-marks.marks).tally in
     let is = ap (λ g. g.tally) c.in_ok-marks.ensures.met in
+    let places = c.places_of-list.ensures in
+    let is_first = c.first_of.ensures ∙ ap (λ o. or_option o c.places_of-list.result.1) places.list ∙ ap (or_option c.in_ok-marks.marks.list) places.vacant in
     let new_is = c.in_ok-new.ensures ∙ ap (λ xs. new_among xs names) c.as_slice.ensures.value in
     let kept = kept_args source (value_with_name extra_key) 0 l.items in
     let refused =
     ap (λ ns. lone_or_new call (length l.items) kept (map (λ x. x.now) ns)) (sym c.as_slice-in-None.ensures.value)
     ∙ ap (λ xs. lone_or_new call (length xs) (kept_args source (value_with_name extra_key) 0 xs) (map (λ x. x.now) c.as_slice-in-None.result.now)) (sym c.get-args.ensures)
     ∙ c.in_err-without_home-in-None.ensures.refused other in
-    call_refused p call source l function names (c.in_ok-marks.ensures.checked function) t is (map (λ x. x.now) c.in_ok-new.new.items) new_is c.first_of.result c.first_of.ensures c.in-None.is c.requires.there c.in_err-without_home-in-None.field-0.0 refused)
+    call_refused p call source l function names (c.in_ok-marks.ensures.checked function) t is (map (λ x. x.now) c.in_ok-new.new.items) new_is c.first_of.result is_first c.in-None.is c.requires.there c.in_err-without_home-in-None.field-0.0 refused)
