@@ -171,10 +171,7 @@ fn with_subcommand<'h>(
 ) -> Result<Command<'h>, AllocError>
     ensures { (a : App) → IfOk subcommand.entry (IsTold a) → IfOk result (λ c. app_of c ≡ with_subcommand (app_of command.entry) a.top) }
 {
-    match subcommand {
-        Ok(subcommand) => command.subcommand(subcommand),
-        Err(refused) => Err(refused),
-    }
+    command.subcommand(subcommand?)
 }
 
 /// The program's command line.

@@ -253,10 +253,8 @@ pub fn gather<S: Store>(
     let mut trees = Vec::new(alloc);
     let mut looked = 0;
     'looking: while looked < files.len() {
-        match look(alloc, store, folder, &mut files, looked) {
-            Ok(tree) => trees.push(tree)?,
-            Err(fault) => return Err(fault),
-        }
+        let tree = look(alloc, store, folder, &mut files, looked)?;
+        trees.push(tree)?;
         looked += 1;
     }
     Ok(Project::of(files, trees))

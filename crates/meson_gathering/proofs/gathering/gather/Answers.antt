@@ -33,15 +33,16 @@ looking-init g c =
           (subst (Looks (S.content c.args.store.now) folder (S.reads c.args.store.now) (f ∷ []) 0) (sym c.in_ok-files.ensures.once) (root_read root.0 root.2));
     }
 
-pub returns-in-Err-clause-stopped : goal.returns-in-Err-clause-stopped
-returns-in-Err-clause-stopped g c =
+pub returns-in_err-tree-clause-stopped : goal.returns-in_err-tree-clause-stopped
+returns-in_err-tree-clause-stopped g c =
+    let error = err_from_is_err_and c.from_residual-in_err-tree.result c.from_residual-in_err-tree.ensures.1 in
     let folder = option_map (λ f. f.now) c.args.folder in
     let files = c.looking.files in
     let place = c.looking.looked in
     let P : Ending → Type 0 = λ end. Told (g.S.Store.content c.looking.store) (λ content. Gathers content folder (take place files) (drop place files) end) in
     let Q : Ending → Type 0 = Finds (g.S.Store.content c.args.store.now) folder in
-    stops_within P Q (λ end p content is. c.looking.invariant.ends content is end (p content (c.looking.invariant.kept ∙ is)))
-    (g.S.Store.failures c.args.store.now) (g.S.Store.failures c.looking.store) (g.S.Store.failures c.look.new.store) c.looking.invariant.counts c.look.ensures.counts c.in-Err.fault c.in-Err.ensures.stopped
+    rw (error.1, error.2) (stops_within P Q (λ end p content is. c.looking.invariant.ends content is end (p content (c.looking.invariant.kept ∙ is)))
+    (g.S.Store.failures c.args.store.now) (g.S.Store.failures c.looking.store) (g.S.Store.failures c.look.new.store) c.looking.invariant.counts c.look.ensures.counts c.in_err-tree.field-0.0 c.in_err-tree.ensures.stopped)
 
 pub looking-preserved : goal.looking-preserved
 looking-preserved g c =
@@ -55,22 +56,22 @@ looking-preserved g c =
     let within : place < length old = omega arith in
     let next : suc place ≡ place + 1 = omega arith in
     let trees = c.looking.trees.items in
-    let grows = c.in-Ok.ensures.grows in
+    let grows = c.in_ok-tree.ensures.grows in
     record {
-      kept = c.in-Ok.ensures.kept ∙ c.looking.invariant.kept;
+      kept = c.in_ok-tree.ensures.kept ∙ c.looking.invariant.kept;
       counts = omega (arith, c.looking.invariant.counts, c.look.ensures.counts);
       no_replace = c.look.ensures.no_replace ∙ c.looking.invariant.no_replace;
       few = grows.few;
       named = subst (All HasFileName) (sym grows.is_more) (All-append HasFileName old grows.more c.looking.invariant.named grows.named);
-      many = ap length c.in_ok-push-in-Ok.ensures.items ∙ length-append trees _ ∙ ap (λ n. n + 1) c.looking.invariant.many;
+      many = ap length c.in_ok-push.ensures.items ∙ length-append trees _ ∙ ap (λ n. n + 1) c.looking.invariant.many;
       parsed = subst (λ k. AreParsed (take k new) c.push.new.self.items) next
-          (parsed_more old grows.more new trees c.push.new.self.items c.in-Ok.tree place c.looking.invariant.many grows.is_more c.in_ok-push-in-Ok.ensures.items within c.in-Ok.ensures.reads c.looking.invariant.parsed);
+          (parsed_more old grows.more new trees c.push.new.self.items c.in_ok-tree.tree place c.looking.invariant.many grows.is_more c.in_ok-push.ensures.items within c.in_ok-tree.ensures.reads c.looking.invariant.parsed);
       ends = λ content is end gathers.
           c.looking.invariant.ends content is end
-          (looks content folder old place within new grows.more grows.is_more (c.in-Ok.ensures.looked content (c.looking.invariant.kept ∙ is)) end
+          (looks content folder old place within new grows.more grows.is_more (c.in_ok-tree.ensures.looked content (c.looking.invariant.kept ∙ is)) end
           (subst (λ k. Gathers content folder (take k new) (drop k new) end) (sym next) gathers));
       asks = subst (λ k. Looks (S.content c.args.store.now) folder (S.reads c.args.store.now) new k m) next
-          (next_file old new place n m c.looking.invariant.asks within (subst (λ b. EntersFor b folder old place n new m) c.looking.invariant.kept c.in-Ok.ensures.asks));
+          (next_file old new place n m c.looking.invariant.asks within (subst (λ b. EntersFor b folder old place n new m) c.looking.invariant.kept c.in_ok-tree.ensures.asks));
     }
 
 pub returns-clause-files : goal.returns-clause-files
@@ -98,17 +99,18 @@ returns-in_err-files-clause-asks_at_most g c =
     let p = err_from_is_err_and c.from_residual.result c.from_residual.ensures.1 in
     rw p.1 (stops_at_root c.root_set.ensures.at_most_once)
 
-pub returns-in-Err-clause-asks_at_most : goal.returns-in-Err-clause-asks_at_most
-returns-in-Err-clause-asks_at_most g c =
+pub returns-in_err-tree-clause-asks_at_most : goal.returns-in_err-tree-clause-asks_at_most
+returns-in_err-tree-clause-asks_at_most g c =
+    let error = err_from_is_err_and c.from_residual-in_err-tree.result c.from_residual-in_err-tree.ensures.1 in
     let S = g.S.Store in
     let folder = option_map (λ f. f.now) c.args.folder in
     let files = c.looking.files in
     let place = c.looking.looked in
     let n = S.reads c.looking.store in
-    stops_at_file files place n c.looking.invariant.asks (subst (λ b. StopsFor b folder files place n (S.reads c.look.new.store)) c.looking.invariant.kept c.in-Err.ensures.asks_at_most)
+    rw error.1 (stops_at_file files place n c.looking.invariant.asks (subst (λ b. StopsFor b folder files place n (S.reads c.look.new.store)) c.looking.invariant.kept c.in_err-tree.ensures.asks_at_most))
 
-pub returns-in_err-push-in-Ok-clause-asks_at_most : goal.returns-in_err-push-in-Ok-clause-asks_at_most
-returns-in_err-push-in-Ok-clause-asks_at_most g c =
+pub returns-in_err-push-clause-asks_at_most : goal.returns-in_err-push-clause-asks_at_most
+returns-in_err-push-clause-asks_at_most g c =
     let S = g.S.Store in
     let folder = option_map (λ f. f.now) c.args.folder in
     let old = c.looking.files in
@@ -117,5 +119,5 @@ returns-in_err-push-in-Ok-clause-asks_at_most g c =
     let n = S.reads c.looking.store in
     let m = S.reads c.look.new.store in
     let within : place < length old = omega arith in
-    let looked = next_file old new place n m c.looking.invariant.asks within (subst (λ b. EntersFor b folder old place n new m) c.looking.invariant.kept c.in-Ok.ensures.asks) in
-    on_err (StopsReading (S.content c.args.store.now) folder (S.reads c.args.store.now) m) (stops_at_file new (suc place) m looked (inl refl)) c.from_residual-in_err-push-in-Ok.result
+    let looked = next_file old new place n m c.looking.invariant.asks within (subst (λ b. EntersFor b folder old place n new m) c.looking.invariant.kept c.in_ok-tree.ensures.asks) in
+    on_err (StopsReading (S.content c.args.store.now) folder (S.reads c.args.store.now) m) (stops_at_file new (suc place) m looked (inl refl)) c.from_residual-in_err-push.result
