@@ -117,10 +117,8 @@ pub(crate) fn target_info(
     ensures refused { IfErr result (λ e. e ≢ Refusal.OutOfMemory → then_ok (the_call (named_trees files.now (views files.now trees.now)) Role.Target target.now) (λ c. target_told c.it) ≡ Err e) }
 {
     let call = the_call(alloc, Role::Target, target, noted)?;
-    match target_told(alloc, files.bytes(call.file), list_of_call(trees, &call)) {
-        Ok(()) => Ok(Vec::new(alloc)),
-        Err(refusal) => Err(refusal),
-    }
+    target_told(alloc, files.bytes(call.file), list_of_call(trees, &call))?;
+    Ok(Vec::new(alloc))
 }
 
 /// What a command means that asks of the keyword arguments of a call: no steps.
@@ -141,13 +139,11 @@ pub(crate) fn call_info(
     ensures refused { IfErr result (λ e. e ≢ Refusal.OutOfMemory → then_ok (the_call (named_trees files.now (views files.now trees.now)) role id.now) (λ c. call_told role c.it) ≡ Err e) }
 {
     let call = the_call(alloc, role, id, noted)?;
-    match call_told(
+    call_told(
         alloc,
         files.bytes(call.file),
         list_of_call(trees, &call),
         role,
-    ) {
-        Ok(()) => Ok(Vec::new(alloc)),
-        Err(refusal) => Err(refusal),
-    }
+    )?;
+    Ok(Vec::new(alloc))
 }

@@ -270,10 +270,8 @@ fn performed(alloc: Global, work: &mut Work, command: &Command) -> Result<(), Re
 {
     match order_of(command) {
         Order::Planned(plan) => {
-            match planned(alloc, &work.files, work.trees.as_slice(), plan) {
-                Ok(steps) => done(alloc, work, steps),
-                Err(refusal) => Err(refusal),
-            }
+            let steps = planned(alloc, &work.files, work.trees.as_slice(), plan)?;
+            done(alloc, work, steps)
         }
         Order::Changed(request) => changed(alloc, work, request),
     }

@@ -65,13 +65,9 @@ pub(crate) fn listed(
     ensures refused { IfErr result (λ e. e ≢ OutOfMemory → told project.now command.now ≡ Err e) }
 {
     let mut listings = Vec::new(alloc);
-    match told(alloc, project, command) {
-        Ok(Some(listing)) => {
-            listings.reserve(1)?;
-            listings.push_reserved(listing);
-        }
-        Ok(None) => {}
-        Err(refusal) => return Err(refusal),
+    if let Some(listing) = told(alloc, project, command)? {
+        listings.reserve(1)?;
+        listings.push_reserved(listing);
     }
     Ok(listings)
 }

@@ -44,8 +44,8 @@ list_of_call-requires c =
     let found = sym (place_is c.args.role id (named_trees files (views files trees))) ∙ ap (the_place c.args.role id) (sym c.requires.taken) ∙ c.in_ok-call.ensures.found in
     call_in files trees c.requires.whole.parsed c.args.role id c.in_ok-call.call found
 
-pub returns-in-Ok-clause-plan : goal.returns-in-Ok-clause-plan
-returns-in-Ok-clause-plan c =
+pub returns-clause-plan : goal.returns-clause-plan
+returns-clause-plan c =
     let files = c.args.files.now in
     let trees = c.args.trees.now in
     let are = c.requires.whole.parsed in
@@ -54,14 +54,16 @@ returns-in-Ok-clause-plan c =
     let found = sym (place_is c.args.role id (named_trees files (views files trees))) ∙ ap (the_place c.args.role id) (sym c.requires.taken) ∙ c.in_ok-call.ensures.found in
     let is = told_is files trees are c.args.role id c.in_ok-call.call found (call_told c.args.role) c.bytes.result.now c.list_of_call.result.now c.bytes.ensures c.list_of_call.ensures in
     nothing_planned old (then_ok (the_call (named_trees files (views files trees)) c.args.role id) (λ k. call_told c.args.role k.it)) c.new.result.items
-    (is ∙ c.in-Ok.ensures.told (function files trees are c.args.role id c.in_ok-call.call found)) c.new.ensures.items
+    (is ∙ c.in_ok-call_told.ensures.told (function files trees are c.args.role id c.in_ok-call.call found)) c.new.ensures.items
 
-pub returns-clause-refused : goal.returns-clause-refused
-returns-clause-refused c = λ other.
+pub returns-in_err-call_told-clause-refused : goal.returns-in_err-call_told-clause-refused
+returns-in_err-call_told-clause-refused c =
+    let error = err_from_is_err_and c.from_residual-in_err-call_told.result c.from_residual-in_err-call_told.ensures.1 in
+    rw (error.1, error.2) (λ other.
     let files = c.args.files.now in
     let trees = c.args.trees.now in
     let are = c.requires.whole.parsed in
     let id = c.args.id.now in
     let found = sym (place_is c.args.role id (named_trees files (views files trees))) ∙ ap (the_place c.args.role id) (sym c.requires.taken) ∙ c.in_ok-call.ensures.found in
     let is = told_is files trees are c.args.role id c.in_ok-call.call found (call_told c.args.role) c.bytes.result.now c.list_of_call.result.now c.bytes.ensures c.list_of_call.ensures in
-    is ∙ c.in-Err.ensures.refused (function files trees are c.args.role id c.in_ok-call.call found) other
+    is ∙ c.in_err-call_told.ensures.refused (function files trees are c.args.role id c.in_ok-call.call found) other)

@@ -1,6 +1,7 @@
 -- What a command orders is what it means: its steps are planned and done, or its call is changed.
 use Rattle.std.proofs.Common.{◌≡◌, ◌≢◌, List, sym, subst, ◌∙◌}
 use Rattle.std.specs.Prelude.{Err, IfErr, OnOk}
+use Rattle.std.proofs.lemmas.Result.{err_from_is_err_and}
 use Rattle.meson_splice.specs.declared.file_set.File.{File}
 use Rattle.meson_syntax.specs.declared.tree.Parsed.{Parsed}
 use Rattle.meson_calls.specs.declared.refusal.Refusal.TheVariants.{OutOfMemory}
@@ -28,29 +29,31 @@ pub done-requires-clause-planned : goal.done-requires-clause-planned
 done-requires-clause-planned c =
     let w = c.args.work.now in
     let meant = planned (project (so_far w)) c.args.command.now in
-    (meant, planned_there w.files c.as_slice.result.now w.trees.items c.as_slice.ensures.value c.in-Planned.plan meant (c.in-Planned.ensures (project (so_far w))) c.in-Ok.steps.items c.in-Ok.ensures.plan)
+    (meant, planned_there w.files c.as_slice.result.now w.trees.items c.as_slice.ensures.value c.in-Planned.plan meant (c.in-Planned.ensures (project (so_far w))) c.in_ok-steps-in-Planned.steps.items c.in_ok-steps-in-Planned.ensures.plan)
 
-pub returns-in-Ok-clause-done : goal.returns-in-Ok-clause-done
-returns-in-Ok-clause-done c =
+pub returns-in_ok-steps-in-Planned-clause-done : goal.returns-in_ok-steps-in-Planned-clause-done
+returns-in_ok-steps-in-Planned-clause-done c =
     let w = c.args.work.now in
     let meant = planned (project (so_far w)) c.args.command.now in
     c.done.ensures.done meant
-    (planned_there w.files c.as_slice.result.now w.trees.items c.as_slice.ensures.value c.in-Planned.plan meant (c.in-Planned.ensures (project (so_far w))) c.in-Ok.steps.items c.in-Ok.ensures.plan)
+    (planned_there w.files c.as_slice.result.now w.trees.items c.as_slice.ensures.value c.in-Planned.plan meant (c.in-Planned.ensures (project (so_far w))) c.in_ok-steps-in-Planned.steps.items c.in_ok-steps-in-Planned.ensures.plan)
 
-pub returns-in-Ok-clause-refused : goal.returns-in-Ok-clause-refused
-returns-in-Ok-clause-refused c =
+pub returns-in_ok-steps-in-Planned-clause-refused : goal.returns-in_ok-steps-in-Planned-clause-refused
+returns-in_ok-steps-in-Planned-clause-refused c =
     let w = c.args.work.now in
     let meant = planned (project (so_far w)) c.args.command.now in
     c.done.ensures.refused meant
-    (planned_there w.files c.as_slice.result.now w.trees.items c.as_slice.ensures.value c.in-Planned.plan meant (c.in-Planned.ensures (project (so_far w))) c.in-Ok.steps.items c.in-Ok.ensures.plan)
+    (planned_there w.files c.as_slice.result.now w.trees.items c.as_slice.ensures.value c.in-Planned.plan meant (c.in-Planned.ensures (project (so_far w))) c.in_ok-steps-in-Planned.steps.items c.in_ok-steps-in-Planned.ensures.plan)
 
-pub returns-in-Err-clause-refused : goal.returns-in-Err-clause-refused
-returns-in-Err-clause-refused c = λ other.
+pub returns-in_err-steps-in-Planned-clause-refused : goal.returns-in_err-steps-in-Planned-clause-refused
+returns-in_err-steps-in-Planned-clause-refused c =
+    let error = err_from_is_err_and c.from_residual.result c.from_residual.ensures.1 in
+    rw (error.1, error.2) (λ other.
     let old = so_far c.args.work.now in
     let of : _ → Loaded = λ ts. record { files = c.args.work.now.files; parsed = ts } in
-    let e = c.in-Err.refusal in
-    let why = subst (λ ts. plan_steps (project (of ts)) c.in-Planned.plan ≡ Err e) c.as_slice.ensures.value (c.in-Err.ensures.refused other) in
-    unmeant e (sym (c.in-Planned.ensures (project old)) ∙ why)
+    let e = c.in_err-steps-in-Planned.field-0.0 in
+    let why = subst (λ ts. plan_steps (project (of ts)) c.in-Planned.plan ≡ Err e) c.as_slice.ensures.value (c.in_err-steps-in-Planned.ensures.refused other) in
+    unmeant e (sym (c.in-Planned.ensures (project old)) ∙ why))
 
 pub returns-in-Changed-clause-done : goal.returns-in-Changed-clause-done
 returns-in-Changed-clause-done c =
