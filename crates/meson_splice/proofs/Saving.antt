@@ -14,7 +14,7 @@ with_bytes-beyond (f ∷ files) zero b beyond = absurd (omega arith)
 with_bytes-beyond (f ∷ files) (suc i) b beyond = ap (λ more. f ∷ more) (with_bytes-beyond files i b (omega arith))
 
 -- the last bytes written stay
-with_bytes-twice : (files : List File) (i : ℕ) (b c : List ℕ) → with_bytes i c (with_bytes i b files) ≡ with_bytes i c files
+pub with_bytes-twice : (files : List File) (i : ℕ) (b c : List ℕ) → with_bytes i c (with_bytes i b files) ≡ with_bytes i c files
 with_bytes-twice [] i b c = refl
 with_bytes-twice (f ∷ files) zero b c = refl
 with_bytes-twice (f ∷ files) (suc i) b c = ap (λ more. f ∷ more) (with_bytes-twice files i b c)

@@ -44,7 +44,7 @@ then_ok-then_ok : {A B C E : Type 0} (r : Result A E) (f : A → Result B E) (g 
 then_ok-then_ok (Ok x) f g = refl
 then_ok-then_ok (Err e) f g = refl
 
-patched_in-at : (files : List File) (s : Splice) (i : ℕ) (d : File) → i < length files → bytes_eq (get_or files i d).name s.file ≡ true
+pub patched_in-at : (files : List File) (s : Splice) (i : ℕ) (d : File) → i < length files → bytes_eq (get_or files i d).name s.file ≡ true
     → ((k : ℕ) → k < i → bytes_eq (get_or files k d).name s.file ≡ false) → patched_in files s ≡ then_ok (patched (bytes_at i files) s) (λ b. Ok (with_bytes i b files))
 patched_in-at [] s i d within here before = absurd (omega arith)
 patched_in-at (f ∷ files) s zero d within here before = rw here
@@ -53,7 +53,7 @@ patched_in-at (f ∷ files) s (suc i) d within here before =
     let rest = patched_in-at files s i d (omega arith) here (λ k below. before (suc k) (omega arith)) in
     rw (first, rest, then_ok-then_ok (patched (bytes_at i files) s) (λ b. Ok (with_bytes i b files)) (λ more. Ok (f ∷ more)))
 
-nobody : File
+pub nobody : File
 nobody = record { name = []; bytes = [] }
 
 pub found-within : (name : List ℕ) (files : List File) (i : ℕ) → found name files ≡ Some i → i < length files

@@ -1,7 +1,9 @@
 -- What holds of splices, changes and their inverses.
-use Rattle.std.specs.Prelude.{◌≡◌, ℕ, List, ◌↔◌, Ok}
-use Rattle.meson_splice.specs.Patch.{Patches, inverse_of, inverses_of, patched, patched_all, patched_in}
+use Rattle.std.specs.Prelude.{◌≡◌, ℕ, ◌+◌, List, ◌↔◌, Ok}
+use Rattle.meson_splice.specs.Past.{undone, undone_times}
+use Rattle.meson_splice.specs.Patch.{Patches, inverse_of, inverses_of, patched, patched_all, patched_in, then_ok}
 use Rattle.meson_splice.specs.declared.file_set.File.{File}
+use Rattle.meson_splice.specs.declared.history.History.{History}
 use Rattle.meson_splice.specs.declared.splice.Splice.{Splice}
 
 abbrev pub PatchedMeansPatches : Type 0
@@ -15,3 +17,12 @@ InverseRestoresFiles = (files more : List File) (s : Splice) → patched_in file
 
 abbrev pub InversesRestore : Type 0
 InversesRestore = (files more : List File) (splices : List Splice) → patched_all files splices ≡ Ok more → patched_all more (inverses_of splices) ≡ Ok files
+
+-- one undo of so many is an undo
+abbrev pub OneIsAnUndo : Type 0
+OneIsAnUndo = (h : History) (files : List File) → undone_times 1 h files ≡ undone h files
+
+-- so many undos and then so many more are as many as both
+abbrev pub UndosFollow : Type 0
+UndosFollow = (first more : ℕ) (h : History) (files : List File)
+    → undone_times (first + more) h files ≡ then_ok (undone_times first h files) (λ s. undone_times more s.0 s.1)

@@ -1,5 +1,5 @@
 -- What undo and redo do to a history and the files.
-use Rattle.std.specs.Prelude.{List, [], ◌∷◌, ◌++◌, reverse, Result, Ok, Err}
+use Rattle.std.specs.Prelude.{◌≡◌, ℕ, zero, suc, List, [], ◌∷◌, ◌++◌, length, reverse, Result, Ok, Err}
 use Rattle.meson_splice.specs.Patch.{inverses_of, patched_all, then_ok}
 use Rattle.meson_splice.specs.declared.change.Change.{Change}
 use Rattle.meson_splice.specs.declared.fault.SpliceFault.{SpliceFault}
@@ -16,6 +16,11 @@ undone_from (c ∷ older) future files =
 abbrev pub undone : History → List File → Result (History × List File) SpliceFault
 undone h files = undone_from (reverse h.past) h.future files
 
+-- so many undos, one after another
+abbrev pub undone_times : ℕ → History → List File → Result (History × List File) SpliceFault
+undone_times zero h files = Ok (h, files)
+undone_times (suc n) h files = then_ok (undone_times n h files) (λ s. undone s.0 s.1)
+
 -- the next to redo comes first: it is done again, and is the newest
 abbrev pub redone_from : List Change → List Change → List File → Result (History × List File) SpliceFault
 redone_from [] past files = Err NothingToRedo
@@ -24,3 +29,10 @@ redone_from (c ∷ later) past files =
 
 abbrev pub redone : History → List File → Result (History × List File) SpliceFault
 redone h files = redone_from (reverse h.future) h.past files
+
+-- So many of the oldest changes are forgotten: they stood first, and what is left stands as it did.
+pub record Forgets (count : ℕ) (old new : History) : Type 0 where
+  pub gone : List Change
+  pub many : length gone ≡ count
+  pub past : old.past ≡ gone ++ new.past
+  pub future : new.future ≡ old.future

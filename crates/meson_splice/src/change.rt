@@ -1,16 +1,20 @@
 //! Changes: splices one after another, all or none of them.
 
-ghost use Rattle.std.specs.Prelude.{◌≡◌, ◌≢◌, [], Err, IfErr, IfOk, Ok, OnErr, OnOk};
-ghost use Rattle.meson_splice.specs.Borrowed.{splice_of};
-ghost use Rattle.meson_splice.specs.Patch.{inverses_of, patched_all, patched_in};
+ghost use Rattle.std.specs.Prelude.{◌≡◌, ◌≢◌, ◌<◌, ◌≤◌, [], Err, IfErr, IfOk, Ok, OnErr, OnOk, drop, length};
+ghost use Rattle.meson_splice.specs.Files.{with_bytes};
+ghost use Rattle.meson_splice.specs.Gap.{LeadsTo, StopsBy};
+ghost use Rattle.meson_splice.specs.Ordered.{ordered};
+ghost use Rattle.meson_splice.specs.Patch.{inverses_of, patched_all};
 ghost use Rattle.meson_splice.specs.Saved.{is_saved, put_back};
 ghost use Rattle.meson_splice.specs.declared.fault.SpliceFault.TheVariants.{OutOfMemory};
 
 use crate::fault::SpliceFault;
 use crate::file_set::FileSet;
-use crate::splice::{Borrowed, Splice};
+use crate::gap_text::GapText;
+use crate::splice::Splice;
+use crate::way::Way;
 use meson_values::{Bytes, Many, Text};
-use std::alloc::Global;
+use std::alloc::{AllocError, Global};
 
 /// Splices that are done first to last. Each offset counts in the bytes that the earlier ones left.
 #[derive(Debug, Drop)]
@@ -46,18 +50,17 @@ fn is_saved(saved: &[Saved], place: usize) -> bool
     saved.iter().any(|s| s.place == place)
 }
 
-/// Does one splice, and saves the bytes of a file that it is the first to touch.
-fn step(
-    alloc: Global,
+/// Puts other bytes into the file at that place. Those that it had are saved, unless bytes of it are saved already.
+fn exchange(
     files: &mut FileSet,
     saved: &mut Vec<Saved>,
-    splice: Borrowed<'_>,
-) -> Result<(), SpliceFault>
-    ensures done { OnOk result (patched_in files.old (splice_of splice.entry) ≡ Ok files.new) }
-    ensures refused { IfErr result (λ e. e ≢ OutOfMemory → patched_in files.old (splice_of splice.entry) ≡ Err e) }
+    place: usize,
+    bytes: Bytes,
+) -> Result<(), AllocError>
+    requires { place < length files.old }
+    ensures files { OnOk result (files.new ≡ with_bytes place bytes files.old) }
     ensures saved { put_back saved.new.items files.new ≡ put_back saved.old.items files.old }
 {
-    let (place, bytes) = splice.patched_in(alloc, files)?;
     if is_saved(saved, place) {
         files.exchange(place, bytes);
         return Ok(());
@@ -66,6 +69,56 @@ fn step(
     let bytes = files.exchange(place, bytes);
     saved.push_reserved(Saved { place, bytes });
     Ok(())
+}
+
+/// Does the splices behind the first `done`, up to the first that is at another file than this, on the bytes of it.
+/// Gives the bytes, and how many splices are done then.
+fn patched_on(
+    alloc: Global,
+    file: &Text,
+    bytes: Bytes,
+    way: Way,
+    splices: &[Splice],
+    done: usize,
+) -> Result<(Bytes, usize), SpliceFault>
+    ensures ahead { IfOk result (λ r. done ≤ r.1) }
+    ensures done { IfOk result (λ r. LeadsTo file.now bytes (drop done (ordered way splices.now)) r.0 (drop r.1 (ordered way splices.now))) }
+    ensures refused { IfErr result (λ e. e ≢ OutOfMemory → StopsBy file.now bytes (drop done (ordered way splices.now)) e) }
+{
+    let mut text = GapText::of(alloc, bytes);
+    let mut next = done;
+    while next < splices.len() {
+        let splice = way.at(splices, next);
+        if splice.file != file {
+            break;
+        }
+        text.patch(splice)?;
+        next += 1;
+    }
+    Ok((text.close()?, next))
+}
+
+/// Does the splice behind the first `done`, and those behind it up to the first that is at another file. Gives how many
+/// are done then.
+fn step(
+    alloc: Global,
+    files: &mut FileSet,
+    saved: &mut Vec<Saved>,
+    way: Way,
+    splices: &[Splice],
+    done: usize,
+) -> Result<usize, SpliceFault>
+    requires { done < length splices.now }
+    ensures ahead { IfOk result (λ next. done < next) }
+    ensures done { IfOk result (λ next. patched_all files.old (drop done (ordered way splices.now)) ≡ patched_all files.new (drop next (ordered way splices.now))) }
+    ensures refused { IfErr result (λ e. e ≢ OutOfMemory → patched_all files.old (drop done (ordered way splices.now)) ≡ Err e) }
+    ensures saved { put_back saved.new.items files.new ≡ put_back saved.old.items files.old }
+{
+    let splice = way.at(splices, done);
+    let (place, bytes) = splice.patched_in(alloc, files)?;
+    let (bytes, next) = patched_on(alloc, splice.file, bytes, way, splices, done + 1)?;
+    exchange(files, saved, place, bytes)?;
+    Ok(next)
 }
 
 /// Puts saved bytes back.
@@ -79,6 +132,32 @@ pub(crate) fn put_back(files: &mut FileSet, saved: Vec<Saved>)
     }
 }
 
+/// Does all splices that way, or none, and gives what to put back.
+fn changed(
+    alloc: Global,
+    files: &mut FileSet,
+    way: Way,
+    splices: &[Splice],
+) -> Result<Vec<Saved>, SpliceFault>
+    ensures done { OnOk result (patched_all files.old (ordered way splices.now) ≡ Ok files.new) }
+    ensures saved { IfOk result (λ saved. put_back saved.items files.new ≡ files.old) }
+    ensures refused { IfErr result (λ e. e ≢ OutOfMemory → patched_all files.old (ordered way splices.now) ≡ Err e) }
+    ensures kept { OnErr result (files.new ≡ files.old) }
+{
+    let mut saved = Vec::new(alloc);
+    let mut done = 0;
+    while done < splices.len() {
+        match step(alloc, files, &mut saved, way, splices, done) {
+            Ok(next) => done = next,
+            Err(fault) => {
+                put_back(files, saved);
+                return Err(fault);
+            }
+        }
+    }
+    Ok(saved)
+}
+
 /// Does all splices of a change, first to last, or none, and gives what to put back.
 pub(crate) fn applied(
     alloc: Global,
@@ -90,17 +169,7 @@ pub(crate) fn applied(
     ensures refused { IfErr result (λ e. e ≢ OutOfMemory → patched_all files.old change.now.splices ≡ Err e) }
     ensures kept { OnErr result (files.new ≡ files.old) }
 {
-    let mut saved = Vec::new(alloc);
-    for splice in change.splices.get() {
-        match step(alloc, files, &mut saved, Borrowed::forward(splice)) {
-            Ok(()) => {}
-            Err(fault) => {
-                put_back(files, saved);
-                return Err(fault);
-            }
-        }
-    }
-    Ok(saved)
+    changed(alloc, files, Way::Forward, change.splices.get())
 }
 
 /// Takes all splices of a change back, last to first, or none, and gives what to put back.
@@ -114,20 +183,11 @@ pub(crate) fn reverted(
     ensures refused { IfErr result (λ e. e ≢ OutOfMemory → patched_all files.old (inverses_of change.now.splices) ≡ Err e) }
     ensures kept { OnErr result (files.new ≡ files.old) }
 {
-    let mut saved = Vec::new(alloc);
-    for splice in change.splices.get().iter().rev() {
-        match step(alloc, files, &mut saved, Borrowed::backward(splice)) {
-            Ok(()) => {}
-            Err(fault) => {
-                put_back(files, saved);
-                return Err(fault);
-            }
-        }
-    }
-    Ok(saved)
+    changed(alloc, files, Way::Backward, change.splices.get())
 }
 
-/// Does all splices of a change, first to last, or none. Copies a file once for each splice at it.
+/// Does all splices of a change, first to last, or none. Splices at one file that follow one another copy it once, and then
+/// move what lies between their places.
 pub fn apply_all(alloc: Global, files: &mut FileSet, change: &Change) -> Result<(), SpliceFault>
     ensures done { OnOk result (patched_all files.old change.now.splices ≡ Ok files.new) }
     ensures refused { IfErr result (λ e. e ≢ OutOfMemory → patched_all files.old change.now.splices ≡ Err e) }
@@ -137,7 +197,8 @@ pub fn apply_all(alloc: Global, files: &mut FileSet, change: &Change) -> Result<
     Ok(())
 }
 
-/// Takes all splices of a change back, last to first, or none. Copies a file once for each splice at it.
+/// Takes all splices of a change back, last to first, or none. Splices at one file that follow one another copy it once, and
+/// then move what lies between their places.
 pub fn revert(alloc: Global, files: &mut FileSet, change: &Change) -> Result<(), SpliceFault>
     ensures done { OnOk result (patched_all files.old (inverses_of change.now.splices) ≡ Ok files.new) }
     ensures refused { IfErr result (λ e. e ≢ OutOfMemory → patched_all files.old (inverses_of change.now.splices) ≡ Err e) }

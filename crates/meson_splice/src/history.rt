@@ -1,14 +1,15 @@
 //! What was done to the files, and what was undone.
 
-ghost use Rattle.std.specs.Prelude.{◌≡◌, ◌≢◌, ◌++◌, ◌∷◌, [], Err, IfErr, Ok, OnErr, OnOk, length};
-ghost use Rattle.meson_splice.specs.Past.{redone, undone};
-ghost use Rattle.meson_splice.specs.declared.fault.SpliceFault.TheVariants.{OutOfMemory};
+ghost use Rattle.std.specs.Prelude.{◌≡◌, ◌≢◌, ◌<◌, ◌++◌, ◌∷◌, [], Err, IfErr, Ok, OnErr, OnOk, length};
+ghost use Rattle.meson_splice.specs.Past.{Forgets, redone, undone};
+ghost use Rattle.meson_splice.specs.declared.fault.SpliceFault.TheVariants.{NothingToUndo, OutOfMemory};
 
 use crate::change::{Change, applied, put_back, reverted};
 use crate::fault::SpliceFault;
 use crate::file_set::FileSet;
 use meson_values::Many;
 use std::alloc::{AllocFailed, Global};
+use std::mem;
 
 /// The changes that stand and those that were undone. In each the next to undo or redo comes last.
 #[derive(Debug, Drop)]
@@ -100,5 +101,31 @@ impl History {
                 Err(SpliceFault::from(refused))
             }
         }
+    }
+
+    /// Lets the oldest changes go, so many of those that can be undone. Takes no memory.
+    ///
+    /// # Errors
+    /// There are fewer. Nothing is changed then.
+    pub fn forget_oldest(&mut self, alloc: Global, count: usize) -> Result<(), SpliceFault>
+        ensures done { OnOk result (Forgets count self.old self.new) }
+        ensures refused { IfErr result (λ e. (e ≡ NothingToUndo) × (length self.old.past < count)) }
+        ensures kept { OnErr result (self.new ≡ self.old) }
+    {
+        if self.past.get().len() < count {
+            return Err(SpliceFault::NothingToUndo);
+        }
+        let mut past = mem::replace(&mut self.past, Many::new(alloc)).take();
+        past.drain(..count);
+        self.past = Many::of(past);
+        Ok(())
+    }
+
+    /// Lets all changes go, those that can be undone and those that can be redone. Takes no memory.
+    pub fn forget_all(&mut self)
+        ensures { self.new ≡ record { past = []; future = [] } }
+    {
+        self.past.clear();
+        self.future.clear();
     }
 }

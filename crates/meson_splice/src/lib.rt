@@ -4,9 +4,11 @@
 mod change;
 mod fault;
 mod file_set;
+mod gap_text;
 mod history;
 pub mod laws;
 mod splice;
+mod way;
 
 pub use change::{Change, apply_all, revert};
 pub use fault::SpliceFault;

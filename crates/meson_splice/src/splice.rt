@@ -1,8 +1,8 @@
 //! One splice: bytes of a file that become other bytes.
 
-ghost use Rattle.std.specs.Prelude.{◌≡◌, ◌≢◌, ◌<◌, ◌++◌, Err, IfErr, IfOk, Ok, OnErr, OnOk, length};
+ghost use Rattle.std.specs.Prelude.{◌≡◌, ◌≢◌, ◌<◌, ◌++◌, Err, IfErr, IfOk, Ok, OnErr, OnOk, Some, length};
 ghost use Rattle.meson_splice.specs.Borrowed.{splice_of};
-ghost use Rattle.meson_splice.specs.Files.{with_bytes};
+ghost use Rattle.meson_splice.specs.Files.{found, with_bytes};
 ghost use Rattle.meson_splice.specs.Patch.{inverse_of, patched, patched_in};
 ghost use Rattle.meson_splice.specs.declared.fault.SpliceFault.TheVariants.{OutOfMemory};
 
@@ -37,7 +37,8 @@ pub fn inverse(splice: Splice) -> Splice
 fn replaced(alloc: Global, front: &[u8], new: &[u8], rest: &[u8]) -> Result<Bytes, AllocError>
     ensures { IfOk result (λ b. b ≡ front.now ++ new.now ++ rest.now) }
 {
-    let mut bytes = Vec::new(alloc);
+    let len = front.len().saturating_add(new.len());
+    let mut bytes = Vec::with_capacity(alloc, len.saturating_add(rest.len()))?;
     bytes.extend_from_slice(front)?;
     bytes.extend_from_slice(new)?;
     bytes.extend_from_slice(rest)?;
@@ -97,7 +98,8 @@ impl<'a> Borrowed<'a> {
         alloc: Global,
         files: &FileSet,
     ) -> Result<(usize, Bytes), SpliceFault>
-        ensures done { IfOk result (λ r. (r.0 < length files.now) × (patched_in files.now (splice_of self.entry) ≡ Ok (with_bytes r.0 r.1 files.now))) }
+        ensures place { IfOk result (λ r. (found self.entry.file.now files.now ≡ Some r.0) × (r.0 < length files.now)) }
+        ensures done { IfOk result (λ r. patched_in files.now (splice_of self.entry) ≡ Ok (with_bytes r.0 r.1 files.now)) }
         ensures refused { IfErr result (λ e. e ≢ OutOfMemory → patched_in files.now (splice_of self.entry) ≡ Err e) }
     {
         let Some(place) = files.find(self.file.get()) else {

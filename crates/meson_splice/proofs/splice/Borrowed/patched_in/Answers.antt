@@ -23,10 +23,17 @@ returns-in_err-bytes-clause-refused c =
     let refused = ap (λ b. patched b (splice_of c.args.self)) (sym c.bytes.ensures) ∙ c.in_err-bytes.ensures.refused some in
     patched_in-refused files (splice_of c.args.self) place c.in_err-bytes.field-0.0 here refused)
 
+pub returns-clause-place : goal.returns-clause-place
+returns-clause-place c =
+    let files = c.args.files.now in
+    let place = c.in-Some.place in
+    let here : found c.args.self.file.now files ≡ Some place = ap (λ n. found n files) (sym c.get.ensures) ∙ sym c.find.ensures ∙ c.in-Some.is in
+    (here, found-within c.args.self.file.now files place here)
+
 pub returns-clause-done : goal.returns-clause-done
 returns-clause-done c =
     let files = c.args.files.now in
     let place = c.in-Some.place in
     let here : found c.args.self.file.now files ≡ Some place = ap (λ n. found n files) (sym c.get.ensures) ∙ sym c.find.ensures ∙ c.in-Some.is in
     let done = ap (λ b. patched b (splice_of c.args.self)) (sym c.bytes.ensures) ∙ c.in_ok-bytes.ensures.done in
-    (found-within c.args.self.file.now files place here, patched_in-done files (splice_of c.args.self) place c.in_ok-bytes.bytes here done)
+    patched_in-done files (splice_of c.args.self) place c.in_ok-bytes.bytes here done
