@@ -20,3 +20,7 @@ module _ {X Y : Type 0} (f : Y → Bool) (g : X → Y) where
 
   pub none_at_all : (xs : List X) (i : ℕ) → length xs ≤ i → list_any f (map g (take i xs)) ≡ false → list_any f (map g xs) ≡ false
   none_at_all xs i past before = ap (λ ys. list_any f (map g ys)) (sym (take_all i xs past)) ∙ before
+
+  pub any_more : (xs : List X) (i : ℕ) (d : X) → i < length xs → list_any f (map g (take (i + 1) xs)) ≡ (list_any f (map g (take i xs)) || f (g (get_or xs i d)))
+  any_more xs i d within =
+      any-map f g (take (i + 1) xs) ∙ list_any_more (λ x. f (g x)) xs i d within ∙ ap (λ b. b || f (g (get_or xs i d))) (sym (any-map f g (take i xs)))

@@ -20,6 +20,8 @@ pub mod GoodLiterals
 pub mod GoodNotes
 pub mod Anys
 pub mod Singles
+pub mod Assignments
+pub mod FollowedNames
 pub mod Listed
 pub mod Measures
 pub mod Nested

@@ -11,7 +11,7 @@ use Rattle.meson_calls.specs.Parts.{Part, an_expression, a_statement, parts}
 use Rattle.meson_calls.specs.Calls.{Call, call_of, part_call, all_chosen}
 use Rattle.meson_calls.specs.Variables.{Assigned, part_assigned, assignments, is_outermost, only_value, is_iterated, sets_variable, all_known, single, one_of_names}
 use Rattle.meson_calls.specs.Notes.{Note, a_call, an_assignment, a_loop, note_of, noted, notes}
-use Rattle.meson_calls.specs.Noted.{assigned_notes, is_set_by, rank, note_rank, notes_rank}
+use Rattle.meson_calls.specs.Noted.{assigned_notes, is_set_by, by_notes, rank, note_rank, notes_rank}
 use Rattle.meson_calls.specs.Strings.{AreGood, NotesGood}
 
 module _ (x : List ℕ) where
@@ -72,25 +72,10 @@ module _ (x : List ℕ) where
 
   -- ---- the one expression
 
-  abbrev pub by_notes : Bool → List (Placed (Note Span)) → Option (Placed (Expression Span))
-  by_notes known ns = if known && not (is_set_by x ns) then only_value (assigned_notes x ns) else None
-
-  pub single_notes : (p : Project Span) → single p x ≡ by_notes (all_known p) (notes p)
+  pub single_notes : (p : Project Span) → single p x ≡ by_notes x (all_known p) (notes p)
   single_notes p =
       ap (λ b. if all_known p && not b then only_value (assignments p x) else None) (set_parts (parts p))
       ∙ ap (λ vs. if all_known p && not (is_set_by x (notes p)) then only_value vs else None) (assigned_parts (parts p))
-
-  pub unknown : (ns : List (Placed (Note Span))) → by_notes false ns ≡ None
-  unknown ns = refl
-
-  pub set_otherwise : (known b : Bool) (v : Option (Placed (Expression Span))) → b ≡ true → (if known && not b then v else None) ≡ None
-  set_otherwise true true v is = refl
-  set_otherwise true false v is = cc
-  set_otherwise false b v is = refl
-
-  pub none_anyway : (b : Bool) (v : Option (Placed (Expression Span))) → v ≡ None → (if b then v else None) ≡ None
-  none_anyway true v is = is
-  none_anyway false v is = refl
 
   -- ---- it is one of the values of the notes
 

@@ -1,6 +1,8 @@
 -- Notes of calls that may set any variable, among files.
-use Rattle.std.specs.Prelude.{ℕ, Bool, false, not, ◌&&◌, ◌||◌, List, codes, bytes_eq, Option, Some, None, option_and_then}
+use Rattle.std.specs.Prelude.{◌≡◌, ℕ, Bool, false, not, ◌&&◌, ◌||◌, List, codes, bytes_eq, Option, Some, None, option_and_then}
+use Rattle.std.specs.HashSet.{HashSet, contains_by}
 use Rattle.std.specs.List.{list_any}
+use denote.Ref.{Bor}
 use Rattle.meson_splice.specs.declared.file_set.File.{File}
 use Rattle.meson_syntax.specs.Paths.{nth}
 use Rattle.meson_calls.specs.declared.call.CallRef.{CallRef}
@@ -13,6 +15,10 @@ use Rattle.meson_calls.specs.Notes.{Note, a_call, an_assignment, a_loop}
 -- whether a file of this name is among some files
 abbrev pub is_file : List File → List ℕ → Bool
 is_file files name = list_any (λ f. bytes_eq f.name name) files
+
+-- A set has the names of files and no others.
+pub record AreNames {H : Type 0} (names : HashSet (Bor (List ℕ)) H) (files : List File) : Type 0 where
+  pub same : (x : List ℕ) → contains_by (λ k. bytes_eq x k.now) names ≡ is_file files x
 
 abbrev pub is_entered : List File → Option (List ℕ) → Bool
 is_entered files None = false

@@ -1,10 +1,10 @@
 -- What notes say of variables.
-use Rattle.std.specs.Prelude.{ℕ, suc, ◌+◌, max, Bool, false, List, [], ◌∷◌, if◌then◌else◌, bytes_eq, Option, Some, None}
+use Rattle.std.specs.Prelude.{ℕ, suc, ◌+◌, max, Bool, false, not, ◌&&◌, List, [], ◌∷◌, if◌then◌else◌, bytes_eq, Option, Some, None}
 use Rattle.std.specs.List.{list_any}
 use Rattle.meson_syntax.specs.Tree.{Expression, array, call, row, Operands, no_operands, operand, Listing, listing, Argument, plain, Arguments, no_arguments, argument}
 use Rattle.meson_calls.specs.Project.{Placed}
 use Rattle.meson_calls.specs.Calls.{all_chosen}
-use Rattle.meson_calls.specs.Variables.{Assigned, one_of_names, sets_variable}
+use Rattle.meson_calls.specs.Variables.{Assigned, only_value, one_of_names, sets_variable}
 use Rattle.meson_calls.specs.Notes.{Note, a_call, an_assignment, a_loop}
 
 -- a note of an assignment to a variable
@@ -24,6 +24,10 @@ note_sets x (a_loop xs) = one_of_names xs x
 
 abbrev pub is_set_by : {S : Type 0} → List ℕ → List (Placed (Note S)) → Bool
 is_set_by x ns = list_any (λ n. note_sets x n.it) ns
+
+-- the one expression that a variable stands for, if it is known what sets variables
+abbrev pub by_notes : {S : Type 0} → List ℕ → Bool → List (Placed (Note S)) → Option (Placed (Expression S))
+by_notes x known ns = if known && not (is_set_by x ns) then only_value (assigned_notes x ns) else None
 
 -- how many arrays, calls and rows stand inside one another, as far as an expansion goes into them
 abbrev mutual
@@ -57,8 +61,3 @@ note_rank (a_loop xs) = 0
 abbrev pub notes_rank : {S : Type 0} → List (Placed (Note S)) → ℕ
 notes_rank [] = 0
 notes_rank (n ∷ ns) = note_rank n.it + notes_rank ns
-
--- the element that is there, or none
-abbrev pub option_list : {X : Type 0} → Option X → List X
-option_list None = []
-option_list (Some x) = x ∷ []

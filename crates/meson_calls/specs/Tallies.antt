@@ -4,6 +4,7 @@ use Rattle.meson_lex.specs.declared.kinds.Span.{Span}
 use Rattle.meson_syntax.specs.Tree.{Expression, Operands, Listing, Argument, Arguments}
 use Rattle.meson_calls.specs.declared.call.CallRef.{CallRef}
 use Rattle.meson_calls.specs.declared.call.SourceItem.{SourceItem}
+use Rattle.meson_calls.specs.declared.followed.Followed.{Followed}
 use Rattle.meson_calls.specs.declared.marks.Marks.{Marks}
 use Rattle.meson_calls.specs.declared.marks.Site.{Site}
 use Rattle.meson_calls.specs.Project.{Project, child, place}
@@ -51,9 +52,13 @@ with_mark g m = record { tally = marked g.tally m; followed = g.followed }
 abbrev pub no_marks : Gathered
 no_marks = record { tally = record { items = []; numbers = []; unknown = 0; list = None; vacant = None }; followed = [] }
 
--- what the code's marks stand for: the last variable that was followed stands first
+-- the variables that were followed, the last of them first
+abbrev pub followed_names : Followed → List (List ℕ)
+followed_names f = reverse (map (λ x. x.now) f.names.items)
+
+-- what the code's marks stand for
 abbrev pub gathered : Marks → Gathered
-gathered m = record { tally = record { items = m.items.items; numbers = m.numbers.items; unknown = length m.unknown.items; list = m.list; vacant = m.vacant }; followed = reverse (map (λ x. x.now) m.followed.items) }
+gathered m = record { tally = record { items = m.items.items; numbers = m.numbers.items; unknown = length m.unknown.items; list = m.list; vacant = m.vacant }; followed = followed_names m.followed }
 
 -- ---- where an expression stands: the n-th child of a list at a path, or at the path itself and in no list
 

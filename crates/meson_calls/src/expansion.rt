@@ -172,7 +172,7 @@ impl<'t> Variables<'t> {
         ensures back { OnOk result (path.new.items ≡ path.old.items) }
         ensures all { OnOk result (gathered marks.new ≡ expanded (gathered marks.old) (row_left (project_of self.now) left (expr_view site.entry.source.now first.now) (operands_of (operands_view site.entry.source.now rest.now)) (stand_at site.entry path.old.items slot))) }
     {
-        if !self.is_sum(site.source, first, rest)? {
+        if !self.is_sum(site.source, first, rest) {
             return marks.miss(site.file);
         }
         match slot {
@@ -247,7 +247,7 @@ impl<'t> Variables<'t> {
         if marks.has_followed(name) || left == 0 {
             return marks.miss(file);
         }
-        match self.single(name)? {
+        match self.single(name) {
             Some(value) => {
                 let mut path = Vec::from_slice(self.alloc, value.place.path)?;
                 path.push(0)?;

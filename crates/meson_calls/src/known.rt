@@ -6,7 +6,7 @@ ghost use Rattle.meson_syntax.specs.declared.operator.Bracket.TheVariants as bra
 ghost use Rattle.meson_syntax.specs.View.{text_at, list_view};
 ghost use Rattle.meson_calls.specs.Calls.{first_literal};
 ghost use Rattle.meson_calls.specs.Loading.{HasFileName};
-ghost use Rattle.meson_calls.specs.Knowns.{is_entered, is_unknown_in, has_unknown, meant_in, enters_none};
+ghost use Rattle.meson_calls.specs.Knowns.{AreNames, is_entered, is_unknown_in, has_unknown, meant_in, enters_none};
 ghost use Rattle.meson_calls.specs.Notes.{note_view, note_views};
 ghost use Rattle.meson_calls.specs.Picking.{Source, call_with};
 ghost use Rattle.meson_calls.specs.Project.{place_at};
@@ -14,6 +14,7 @@ ghost use Rattle.meson_calls.specs.Strings.{AreGood, NotesGood, note_words};
 ghost use Rattle.meson_calls.specs.Variables.{sets_unknown};
 
 use crate::entering::file_in;
+use crate::file_names::names_of;
 use crate::literals::first_literal;
 use crate::note::{Note, What};
 use crate::roles::text_of;
@@ -21,6 +22,7 @@ use meson_lex::Span;
 use meson_splice::FileSet;
 use meson_syntax::List;
 use std::alloc::{AllocError, Global};
+use std::collections::HashSet;
 
 /// Whether a call is a `set_variable` of a name that is no literal.
 fn sets_unknown(
@@ -44,11 +46,13 @@ fn sets_unknown(
 fn is_entered(
     alloc: Global,
     files: &FileSet,
+    names: &HashSet<&str>,
     file: usize,
     source: &[u8],
     arguments: &List,
 ) -> Result<bool, AllocError>
     requires named { All HasFileName files.now }
+    requires names { AreNames names.now files.now }
     requires good { AreGood (listing_words (list_view source.now arguments.now) bracket.Round) }
     ensures { (function : Source) → IfOk result (λ there. there ≡ is_entered files.now (meant_in files.now file (first_literal (call_with function (list_view source.now arguments.now))))) }
 {
@@ -61,24 +65,26 @@ fn is_entered(
     let Some(name) = file_in(alloc, files.name(file), folder.as_str())? else {
         return Ok(false);
     };
-    Ok(files.find(name.as_str()).is_some())
+    Ok(names.contains(name.as_str()))
 }
 
 /// Whether a call is a `subdir` that means none of the files.
 fn enters_none(
     alloc: Global,
     files: &FileSet,
+    names: &HashSet<&str>,
     file: usize,
     source: &[u8],
     function: Span,
     arguments: &List,
 ) -> Result<bool, AllocError>
     requires named { All HasFileName files.now }
+    requires names { AreNames names.now files.now }
     requires good { AreGood (listing_words (list_view source.now arguments.now) bracket.Round) }
     ensures { IfOk result (λ unknown. unknown ≡ enters_none files.now file (call_with (text_at source.now function) (list_view source.now arguments.now))) }
 {
     if text_of(source, function) == b"subdir".as_slice() {
-        let there = is_entered(alloc, files, file, source, arguments)?;
+        let there = is_entered(alloc, files, names, file, source, arguments)?;
         Ok(!there)
     } else {
         Ok(false)
@@ -86,8 +92,14 @@ fn enters_none(
 }
 
 /// Whether a note is a call that may set any variable.
-fn is_unknown(alloc: Global, files: &FileSet, note: &Note<'_>) -> Result<bool, AllocError>
+fn is_unknown(
+    alloc: Global,
+    files: &FileSet,
+    names: &HashSet<&str>,
+    note: &Note<'_>,
+) -> Result<bool, AllocError>
     requires named { All HasFileName files.now }
+    requires names { AreNames names.now files.now }
     requires good { AreGood (note_words (note_view note.now).it) }
     ensures { IfOk result (λ unknown. unknown ≡ is_unknown_in files.now (place_at note.now.place) (note_view note.now).it) }
 {
@@ -102,6 +114,7 @@ fn is_unknown(alloc: Global, files: &FileSet, note: &Note<'_>) -> Result<bool, A
             let unknown = enters_none(
                 alloc,
                 files,
+                names,
                 note.place.file,
                 note.source,
                 function,
@@ -119,8 +132,9 @@ pub fn all_known(alloc: Global, files: &FileSet, notes: &[Note<'_>]) -> Result<b
     requires good { NotesGood (note_views notes.now) }
     ensures { IfOk result (λ known. known ≡ not (has_unknown files.now (note_views notes.now))) }
 {
+    let names = names_of(alloc, files)?;
     for i in 0..notes.len() {
-        if is_unknown(alloc, files, &notes[i])? {
+        if is_unknown(alloc, files, &names, &notes[i])? {
             return Ok(false);
         }
     }

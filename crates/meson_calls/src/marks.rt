@@ -6,6 +6,7 @@ ghost use Rattle.meson_calls.specs.Project.{place};
 ghost use Rattle.meson_calls.specs.Roles.{one_of};
 
 use crate::call::{CallRef, SourceItem};
+use crate::followed::Followed;
 use crate::place::{copy_place, place_of};
 use meson_splice::Text;
 use std::alloc::{AllocError, Global};
@@ -28,7 +29,7 @@ pub struct Marks<'t> {
     pub unknown: Vec<usize>,
     pub list: Option<CallRef>,
     pub vacant: Option<CallRef>,
-    pub followed: Vec<&'t [u8]>,
+    pub followed: Followed<'t>,
 }
 
 /// A text of these bytes, which are UTF-8 as all that stands in a source.
@@ -59,7 +60,7 @@ impl<'t> Marks<'t> {
             unknown: Vec::new(alloc),
             list: None,
             vacant: None,
-            followed: Vec::new(alloc),
+            followed: Followed::new(alloc),
         }
     }
 
@@ -67,19 +68,14 @@ impl<'t> Marks<'t> {
     pub fn has_followed(&self, name: &[u8]) -> bool
         ensures { result ≡ one_of (gathered self.now).followed name.now }
     {
-        for i in 0..self.followed.len() {
-            if self.followed[i] == name {
-                return true;
-            }
-        }
-        false
+        self.followed.has(name)
     }
 
     /// Follows a variable.
     pub fn follow(&mut self, name: &'t [u8]) -> Result<(), AllocError>
         ensures { OnOk result (gathered self.new ≡ record { tally = (gathered self.old).tally; followed = name.entry.now ∷ (gathered self.old).followed }) }
     {
-        self.followed.push(name)?;
+        self.followed.put(name)?;
         Ok(())
     }
 

@@ -2,37 +2,59 @@
 
 use crate::known::all_known;
 use crate::note::Note;
-use crate::setters::is_set_by;
-use crate::values::{Value, only_value};
+use crate::values::{Value, Values};
 use meson_splice::FileSet;
 use meson_syntax::Parsed;
 use std::alloc::{AllocError, Global};
 
-/// The variables of a project, by its notes. All calls are known where none may set any variable.
-#[derive(Clone, Copy)]
+/// The variables of a project, with their values by name.
+#[derive(Drop)]
 pub struct Variables<'t> {
     pub alloc: Global,
     pub files: &'t FileSet,
     pub trees: &'t [Parsed],
-    pub notes: &'t [Note<'t>],
-    pub known: bool,
+    values: Values<'t>,
 }
 
 impl<'t> Variables<'t> {
-    ghost use Rattle.std.specs.Prelude.{◌≡◌, All, IfOk, length, option_map};
+    ghost use Rattle.std.specs.Prelude.{◌≡◌, ℕ, List, not, All, IfOk, length, option_map};
+    ghost use Rattle.meson_calls.specs.Knowns.{has_unknown};
     ghost use Rattle.meson_calls.specs.Loading.{HasFileName, named_trees, views};
+    ghost use Rattle.meson_calls.specs.Noted.{by_notes};
     ghost use Rattle.meson_calls.specs.Notes.{notes, note_views};
     ghost use Rattle.meson_calls.specs.Strings.{NotesGood};
-    ghost use Rattle.meson_calls.specs.Values.{value_view};
+    ghost use Rattle.meson_calls.specs.Values.{value_in, value_view};
     ghost use Rattle.meson_calls.specs.Variables.{single};
     ghost use Rattle.meson_calls.specs.Named.{AreVariables, project_of};
 
+    /// The values by the notes of files: none where a call may set any variable.
+    fn known_values(
+        alloc: Global,
+        files: &FileSet,
+        found: &[Note<'t>],
+    ) -> Result<Values<'t>, AllocError>
+        requires named { All HasFileName files.now }
+        requires good { NotesGood (note_views found.now) }
+        ensures { IfOk result (λ values. (x : List ℕ) → value_in values x
+            ≡ by_notes x (not (has_unknown files.now (note_views found.now))) (note_views found.now)) }
+    {
+        if all_known(alloc, files, found)? {
+            let values = Values::by_notes(alloc, found)?;
+            Ok(values)
+        } else {
+            Ok(Values::new(alloc))
+        }
+    }
+
     /// Those of files with trees and the notes of these.
+    ///
+    /// # Errors
+    /// Memory was refused.
     pub fn of(
         alloc: Global,
         files: &'t FileSet,
         trees: &'t [Parsed],
-        found: &'t [Note<'t>],
+        found: &[Note<'t>],
     ) -> Result<Variables<'t>, AllocError>
         requires named { All HasFileName files.now }
         requires whole { length trees.now ≡ length files.now }
@@ -42,33 +64,20 @@ impl<'t> Variables<'t> {
         ensures files { IfOk result (λ v. v.files.now ≡ files.entry.now) }
         ensures trees { IfOk result (λ v. v.trees.now ≡ trees.entry.now) }
     {
-        let known = all_known(alloc, files, found)?;
+        let values = Self::known_values(alloc, files, found)?;
         Ok(Variables {
             alloc,
             files,
             trees,
-            notes: found,
-            known,
+            values,
         })
     }
 
     /// The one expression that a variable stands for.
-    pub fn single(&self, name: &[u8]) -> Result<Option<Value<'t>>, AllocError>
+    pub fn single(&self, name: &[u8]) -> Option<Value<'t>>
         requires { AreVariables self.now }
-        ensures { IfOk result (λ value. option_map value_view value ≡ single (project_of self.now) name.now) }
+        ensures { option_map value_view result ≡ single (project_of self.now) name.now }
     {
-        if !self.known {
-            return Ok(None);
-        }
-        match only_value(self.notes, name) {
-            Some(value) => {
-                if is_set_by(self.alloc, self.notes, name)? {
-                    Ok(None)
-                } else {
-                    Ok(Some(value))
-                }
-            }
-            None => Ok(None),
-        }
+        self.values.of(name)
     }
 }

@@ -23,7 +23,7 @@ use Rattle.meson_steps.specs.Steps.{Step}
 use Rattle.meson_keywords.specs.Tasking.{AreElements}
 use Rattle.std.proofs.lemmas.List.{take_all}
 use Rattle.meson_keywords.proofs.CallEdits.{CallStep, LeavesAs, call_step, last_there, more_leaves, no_elements, none_leaves, wrap_step, depth_append, depth_drop, depth_nth, depth_of, depth_take, tree_level, value_depth, xs}
-use Rattle.meson_keywords.proofs.InnerPlaces.{Container, InnerPlace, array_container, exchanged_at, inner_place}
+use Rattle.meson_steps.proofs.InnerPlaces.{Container, InnerPlace, array_container, exchanged_at, inner_place}
 use Rattle.meson_steps.proofs.Insertable.{edited_there, elements_with, first_there}
 use Rattle.meson_keywords.proofs.WrittenElements.{element_flat, element_level, element_written}
 use Rattle.meson_syntax.specs.Operators.{holds_pairs}

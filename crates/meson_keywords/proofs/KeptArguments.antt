@@ -11,7 +11,7 @@ use Rattle.meson_edit.specs.Edits.{removed}
 use Rattle.meson_calls.specs.Calls.{Numbered, value_with_name}
 use Rattle.meson_keywords.specs.Effects.{is_other, others, values_of}
 use Rattle.meson_keywords.specs.KeywordEdits.{keyword_in}
-use Rattle.meson_keywords.proofs.InnerPlaces.{exchanged_at}
+use Rattle.meson_steps.proofs.InnerPlaces.{exchanged_at}
 use Rattle.meson_keywords.proofs.KeywordPlaces.{named_from}
 
 -- ---- lists that are cut at an element

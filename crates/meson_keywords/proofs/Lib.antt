@@ -8,7 +8,6 @@ mod ElementTests
 mod ElementsSay
 mod ErasedSteps
 mod IdentifierTexts
-mod InnerPlaces
 mod KeptArguments
 mod KeyNames
 mod KeywordPlaces

@@ -26,7 +26,7 @@ use Rattle.meson_keywords.proofs.ArrayEdits.{HoldsAs, more_hold, put_step, puts_
 use Rattle.meson_keywords.proofs.CallEdits.{elements_are, insert_step, inserted_leaves, one_leaves, replace_step, xs}
 use Rattle.meson_keywords.proofs.Does.{Does, TaskDoes, does}
 use Rattle.meson_keywords.proofs.IdentifierTexts.{identifier_true}
-use Rattle.meson_keywords.proofs.InnerPlaces.{Container, array_container, dictionary_container}
+use Rattle.meson_steps.proofs.InnerPlaces.{Container, array_container, dictionary_container}
 use Rattle.meson_steps.proofs.Insertable.{elements_with}
 use Rattle.meson_keywords.proofs.KeptArguments.{OneNamed, come_others, come_value, drop_seam, is_it, it, none_there, nth_seam, one_named, put_others, put_value, value_there}
 use Rattle.meson_keywords.proofs.NamedWritten.{named_written, pair_written}

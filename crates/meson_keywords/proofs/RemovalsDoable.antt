@@ -24,7 +24,7 @@ use Rattle.meson_keywords.specs.Tasks.{remove, delete_option}
 use Rattle.meson_keywords.proofs.ArrayEdits.{HoldsAs, gone_step, holds_same, more_hold, still_there, value_put}
 use Rattle.meson_keywords.proofs.CallEdits.{elements_are, none_leaves, one_leaves, remove_step, xs}
 use Rattle.meson_keywords.proofs.Does.{Does, TaskDoes, does}
-use Rattle.meson_keywords.proofs.InnerPlaces.{Container, array_container, dictionary_container, exchanged_at}
+use Rattle.meson_steps.proofs.InnerPlaces.{Container, array_container, dictionary_container, exchanged_at}
 use Rattle.meson_steps.proofs.Insertable.{elements_with}
 use Rattle.meson_keywords.proofs.KeptArguments.{OneNamed, gone_others, gone_value, is_it, it, none_there, one_named, value_there}
 use Rattle.meson_keywords.proofs.PassingElements.{entry_tests, key_tests, kept_again, left_after, none_left, passing_gone}

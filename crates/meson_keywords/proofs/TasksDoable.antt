@@ -26,7 +26,7 @@ use Rattle.meson_steps.proofs.Insertable.{elements_back}
 use Rattle.meson_keywords.proofs.ArrayEdits.{HoldsAs, puts_hold, wrap_holds}
 use Rattle.meson_keywords.proofs.CallEdits.{elements_are, insert_step, inserted_leaves, none_leaves, one_leaves, remove_step, replace_step, xs}
 use Rattle.meson_keywords.proofs.Does.{Does, TaskDoes, does}
-use Rattle.meson_keywords.proofs.InnerPlaces.{Container, array_container, exchanged_at}
+use Rattle.meson_steps.proofs.InnerPlaces.{Container, array_container, exchanged_at}
 use Rattle.meson_keywords.proofs.KeptArguments.{OneNamed, come_others, come_value, gone_others, gone_value, is_it, it, none_there, one_named, put_others, put_value, value_there}
 use Rattle.meson_keywords.proofs.NamedWritten.{named_written}
 use Rattle.meson_keywords.proofs.WrittenElements.{distinct_elements, list_level, list_shallow, list_written}

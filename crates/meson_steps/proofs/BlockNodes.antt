@@ -222,7 +222,7 @@ module _ {S : Type 0} where
   none_among path (a_block b ∷ xs) all zero none = absurd all.0
   none_among path (x ∷ xs) all (suc n) none = none_among path xs all.1 n none
 
-  no_block : (path : List ℕ) (e : Expression S) → option_and_then block_any (node_at (an_expression e) path) ≡ None
+  pub no_block : (path : List ℕ) (e : Expression S) → option_and_then block_any (node_at (an_expression e) path) ≡ None
   no_block [] e = refl
   no_block (n ∷ path) e = none_among path (expression_parts e) (expression_all e) n (no_block path)
 
@@ -277,3 +277,9 @@ module _ {S : Type 0} where
   next_below (an_expression e) n path = no_block (n ∷ path) e
   next_below (a_statement s) n path = among_children path (statement_parts s) (statement_all s) n
   next_below (a_block (block s list)) n path = ap (λ o. below o path) (among_statements list n)
+
+  -- no block is reached in an expression
+  pub no_block_reached : (e : Expression S) (path : List ℕ) (h : Hole S (Expression S)) → reach S of_expression e path ≡ Some h → block_any (any_of S h.sort h.inside) ≡ None
+  unfolding inside_of
+  no_block_reached e path h is =
+      ap (λ o. option_and_then block_any (option_map (inside_of S) o)) (sym is) ∙ ap (option_and_then block_any) (sym (reached S of_expression e path)) ∙ no_block path e

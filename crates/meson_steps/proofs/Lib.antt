@@ -1,7 +1,8 @@
-mod BlockNodes
+pub mod BlockNodes
 mod StatementsThere
 pub mod ArgumentValues
 pub mod WithOne
+pub mod InnerPlaces
 pub mod OtherBytes
 mod Spliced
 mod Restoring

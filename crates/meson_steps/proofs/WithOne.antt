@@ -5,6 +5,7 @@ use Rattle.std.proofs.lemmas.List.Elements.{All-head, All-tail}
 use Rattle.std.proofs.lemmas.List.{get_or-set_same, length-set}
 use Rattle.meson_syntax.specs.Paths.{nth}
 use Rattle.meson_syntax.proofs.parsing.Steps.{some-injective}
+use Rattle.meson_syntax.proofs.paths.Reaching.{map-some}
 use Rattle.meson_steps.specs.Steps.{changed_at}
 
 -- ---- what stands at a number
@@ -60,3 +61,32 @@ module _ {X : Type 0} (change : X → Option X) where
   changed_from [] ys i is = absurd cc
   changed_from (x ∷ xs) ys zero is = first_changed x xs ys (change x) refl is
   changed_from (x ∷ xs) ys (suc i) is = later_changed x xs ys i (changed_at i change xs) (λ zs here. changed_from xs zs i here) is
+
+-- ---- a change in one place, by what it leaves
+
+pub record ChangeMade {X : Type 0} (i : ℕ) (change : X → Option X) (xs ys : List X) : Type 0 where
+  pub old : X
+  pub was : nth xs i ≡ Some old
+  pub new : X
+  pub is : change old ≡ Some new
+  pub now : nth ys i ≡ Some new
+  pub others : (k : ℕ) → (i ≡ k → ⊥) → nth ys k ≡ nth xs k
+
+module _ {X : Type 0} where
+  behind_first : (x y : X) (xs ys : List X) → y ∷ xs ≡ ys → (k : ℕ) → (zero ≡ k → ⊥) → nth ys k ≡ nth (x ∷ xs) k
+  behind_first x y xs ys same zero other = absurd (other refl)
+  behind_first x y xs ys same (suc k) other = ap (λ l. nth l (suc k)) (sym same)
+
+  behind_one : (x : X) (xs zs ys : List X) (i : ℕ) → x ∷ zs ≡ ys → ((k : ℕ) → (i ≡ k → ⊥) → nth zs k ≡ nth xs k) → (k : ℕ) → (suc i ≡ k → ⊥) → nth ys k ≡ nth (x ∷ xs) k
+  behind_one x xs zs ys i same others zero other = ap (λ l. nth l 0) (sym same)
+  behind_one x xs zs ys i same others (suc k) other = ap (λ l. nth l (suc k)) (sym same) ∙ others k (λ equal. other (ap suc equal))
+
+  pub change_made : (i : ℕ) (change : X → Option X) (xs ys : List X) → changed_at i change xs ≡ Some ys → ChangeMade i change xs ys
+  change_made i change [] ys made = absurd cc
+  change_made zero change (x ∷ xs) ys made =
+      let o = map-some (λ y. y ∷ xs) (change x) ys made in
+      record { old = x; was = refl; new = o.0; is = o.1; now = ap (λ l. nth l 0) (sym o.2); others = behind_first x o.0 xs ys o.2 }
+  change_made (suc i) change (x ∷ xs) ys made =
+      let o = map-some (λ l. x ∷ l) (changed_at i change xs) ys made in
+      let c = change_made i change xs o.0 o.1 in
+      record { old = c.old; was = c.was; new = c.new; is = c.is; now = ap (λ l. nth l (suc i)) (sym o.2) ∙ c.now; others = behind_one x xs o.0 ys i o.2 c.others }

@@ -1,5 +1,5 @@
 use Rattle.std.proofs.Common.{◌<◌, [], ◌∙◌, sym, ap, length, arith, get_or, subst}
-use Rattle.std.specs.Prelude.{option_map, string_bytes, is_some}
+use Rattle.std.specs.Prelude.{option_map, string_bytes}
 use Rattle.std.proofs.lemmas.List.Elements.{All-get_or}
 use Rattle.meson_splice.specs.declared.file_set.File.{File}
 use Rattle.meson_syntax.specs.View.{list_view}
@@ -8,7 +8,7 @@ use Rattle.meson_calls.specs.Directories.{IsFileName, file_in}
 use Rattle.meson_calls.specs.Loading.{HasFileName}
 use Rattle.meson_calls.specs.Knowns.{is_file, is_entered, meant_in}
 use Rattle.meson_calls.specs.Picking.{call_with}
-use Rattle.meson_calls.proofs.SubdirNames.{meant_at, no_folder, found_is_file}
+use Rattle.meson_calls.proofs.SubdirNames.{meant_at, no_folder}
 use Rattle.meson_calls.proofs.known.is_entered.Goals as goal
 
 nobody : File
@@ -43,7 +43,7 @@ returns c = λ function.
     let within : c.args.file < length files = omega arith in
     let folder = sym (c.in_ok-folder.ensures function) ∙ ap (option_map string_bytes) c.in-Some.is in
     let means = meant_at files c.args.file nobody within (first_literal call) _ folder in
-    c.is_some.ensures ∙ ap is_some c.find.ensures ∙ found_is_file _ files
+    c.contains.ensures ∙ c.requires.names.same c.as_str-2.result.now
     ∙ ap (is_file files) c.as_str-2.ensures.value
     ∙ ap (λ o. is_entered files (option_map string_bytes o)) (sym c.in-Some-2.is)
     ∙ ap (is_entered files) (c.in_ok-name.ensures ∙ ap (λ n. file_in n c.as_str.result.now) (c.name.ensures nobody) ∙ ap (file_in (get_or files c.args.file nobody).name) c.as_str.ensures.value ∙ sym means)

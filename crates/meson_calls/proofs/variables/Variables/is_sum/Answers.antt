@@ -1,5 +1,5 @@
-use Rattle.std.proofs.Common.{◌≡◌, ◌∙◌, sym, ap, subst}
-use Rattle.std.specs.Prelude.{◌&&◌, IfOk}
+use Rattle.std.proofs.Common.{◌∙◌, sym, ap}
+use Rattle.std.specs.Prelude.{◌&&◌}
 use Rattle.meson_syntax.specs.View.{expr_view}
 use Rattle.meson_calls.specs.Expansion.{is_list_operand}
 use Rattle.meson_calls.specs.Named.{project_of}
@@ -11,7 +11,7 @@ returns-then-are_plus c =
     let source = c.args.source.now in
     let e = expr_view source c.args.first.now in
     let sums = sym (c.are_plus.ensures source) ∙ c.if-are_plus.true in
-    subst (λ x. IfOk c.is_list_operand.result (λ b. b ≡ (x && is_list_operand (project_of c.args.self.now) e))) (sym sums) c.is_list_operand.ensures
+    c.is_list_operand.ensures ∙ ap (λ x. x && is_list_operand (project_of c.args.self.now) e) (sym sums)
 
 pub returns-else-are_plus : goal.returns-else-are_plus
 returns-else-are_plus c =
