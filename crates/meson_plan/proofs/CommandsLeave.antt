@@ -1,12 +1,16 @@
 -- What a command that is performed leaves of the call that it changes.
 use Rattle.std.proofs.Common.{◌≡◌, ℕ, List, Some, sym, ap, ◌∙◌, subst}
-use Rattle.std.specs.Prelude.{Ok}
+use Rattle.std.specs.Prelude.{Result, Ok}
 use Rattle.std.specs.Str.{IsUtf8}
+use Rattle.meson_lex.specs.declared.kinds.Span.{Span}
 use Rattle.meson_splice.specs.Patch.{then_ok}
 use Rattle.meson_calls.specs.declared.call.Role.{Role}
 use Rattle.meson_calls.specs.declared.call.Role.TheVariants as role
+use Rattle.meson_calls.specs.declared.refusal.Refusal.{Refusal}
+use Rattle.meson_calls.specs.Calls.{Call}
 use Rattle.meson_calls.specs.Finding.{the_call}
 use Rattle.meson_calls.specs.Loading.{IsProject, Loaded, project}
+use Rattle.meson_calls.specs.Project.{Placed, Project}
 use Rattle.meson_keywords.specs.Changing.{request_steps}
 use Rattle.meson_keywords.specs.Effects.{CallLeft}
 use Rattle.meson_keywords.specs.Tasking.{Asked, to_set, to_add, to_remove, to_delete, to_set_options, to_delete_options}
@@ -16,12 +20,16 @@ use Rattle.meson_steps.specs.declared.command.Command.{Command}
 use Rattle.meson_steps.specs.declared.command.Command.TheVariants as command
 use Rattle.meson_steps.specs.declared.command.Done.{Done}
 use Rattle.meson_steps.specs.Results.{plain_trees}
-use Rattle.meson_sources.specs.SourceEdits.{sources_added}
+use Rattle.meson_steps.specs.Steps.{Step, all_stepped}
+use Rattle.meson_sources.specs.SourceEdits.{extra_added, extra_removed, sources_added, sources_removed}
+use Rattle.meson_sources.proofs.ExtraAdded.{extra-is-added}
 use Rattle.meson_sources.proofs.SourcesAdded.{sources-are-added}
+use Rattle.meson_sources.proofs.SourcesGone.{extra-is-removed, sources-are-removed}
 use Rattle.meson_steps.proofs.WentWell.{then_was}
-use Rattle.meson_targets.specs.TargetEdits.{target_added}
+use Rattle.meson_targets.specs.TargetEdits.{target_added, target_removed}
 use Rattle.meson_targets.proofs.AddedTargets.{added-targets-are-named}
-use Rattle.meson_plan.specs.Effects.{CommandsLeave, LeavesOf, SourcesCome, TargetComes}
+use Rattle.meson_targets.proofs.RemovedTargets.{removed-targets-are-gone}
+use Rattle.meson_plan.specs.Effects.{CommandsLeave, ExtrasCome, ExtrasGo, LeavesOf, SourcesCome, SourcesGo, TargetComes, TargetGoes}
 use Rattle.meson_plan.specs.Performing.{Performs}
 
 module _ (old new : Loaded) (c : Command) (done : Done) (is : IsProject old) (p : Performs old c done new) where
@@ -35,6 +43,34 @@ module _ (old new : Loaded) (c : Command) (done : Done) (is : IsProject old) (p 
       let k = then_was (the_call (project old) role.Target id) (λ k. sources_added (project old) k names) p.made.steps made in
       record { call = k.0; is_call = k.1; gets = sources-are-added old is id k.0 k.1 names p.made.steps (plain_trees new) k.2 (p.made.are_trees ∙ ap Some (sym p.are_trees)) }
 
+  -- the call of a target, whose steps these are
+  module _ (id : List ℕ) (meant : Project Span → Placed (Call Span) → Result (List Step) Refusal) (made : then_ok (the_call (project old) role.Target id) (meant (project old)) ≡ Ok p.made.steps) where
+    abbrev one : (k : Placed (Call Span)) × (the_call (project old) role.Target id ≡ Ok k) × (meant (project old) k ≡ Ok p.made.steps)
+    one = then_was (the_call (project old) role.Target id) (meant (project old)) p.made.steps made
+
+  stepped : all_stepped p.made.steps (plain_trees old) ≡ Some (plain_trees new)
+  stepped = p.made.are_trees ∙ ap Some (sym p.are_trees)
+
+  sources_go : (id : List ℕ) (names : List (List ℕ)) → then_ok (the_call (project old) role.Target id) (λ k. sources_removed (project old) k names) ≡ Ok p.made.steps → SourcesGo old id names new
+  sources_go id names made =
+      let k = one id (λ q k. sources_removed q k names) made in
+      record { call = k.0; is_call = k.1; go = sources-are-removed old is id k.0 k.1 names p.made.steps (plain_trees new) k.2 stepped }
+
+  extras_come : (id : List ℕ) (names : List (List ℕ)) → then_ok (the_call (project old) role.Target id) (λ k. extra_added (project old) k names) ≡ Ok p.made.steps → ExtrasCome old id names new
+  extras_come id names made =
+      let k = one id (λ q k. extra_added q k names) made in
+      record { call = k.0; is_call = k.1; come = extra-is-added old is id k.0 k.1 names p.made.steps (plain_trees new) k.2 stepped }
+
+  extras_go : (id : List ℕ) (names : List (List ℕ)) → then_ok (the_call (project old) role.Target id) (λ k. extra_removed (project old) k names) ≡ Ok p.made.steps → ExtrasGo old id names new
+  extras_go id names made =
+      let k = one id (λ q k. extra_removed q k names) made in
+      record { call = k.0; is_call = k.1; go = extra-is-removed old is id k.0 k.1 names p.made.steps (plain_trees new) k.2 stepped }
+
+  target_goes : (id : List ℕ) → then_ok (the_call (project old) role.Target id) (λ k. target_removed (project old) k) ≡ Ok p.made.steps → TargetGoes old id new
+  target_goes id made =
+      let k = one id (λ q k. target_removed q k) made in
+      record { call = k.0; is_call = k.1; removed = removed-targets-are-gone old is id k.0 k.1 p.made.steps (plain_trees new) k.2 stepped }
+
   target_comes : (name kind folder : List ℕ) (sources : List (List ℕ)) → target_added (project old) name kind folder sources ≡ Ok p.made.steps → IsUtf8 name → TargetComes old name kind folder sources new
   target_comes name kind folder sources made utf8 =
       let t = added-targets-are-named old name kind folder sources p.made.steps (plain_trees new) utf8 made (p.made.are_trees ∙ ap Some (sym p.are_trees)) in
@@ -43,6 +79,10 @@ module _ (old new : Loaded) (c : Command) (done : Done) (is : IsProject old) (p 
 pub commands-leave : CommandsLeave
 commands-leave old new (command.SourcesAdd id names) done is p = sources_come old new (command.SourcesAdd id names) done is p id names p.made.are_planned
 commands-leave old new (command.TargetAdd name kind folder sources) done is p = λ utf8. target_comes old new (command.TargetAdd name kind folder sources) done is p name kind folder sources p.made.are_planned utf8
+commands-leave old new (command.SourcesRemove id names) done is p = sources_go old new (command.SourcesRemove id names) done is p id names p.made.are_planned
+commands-leave old new (command.ExtraAdd id names) done is p = extras_come old new (command.ExtraAdd id names) done is p id names p.made.are_planned
+commands-leave old new (command.ExtraRemove id names) done is p = extras_go old new (command.ExtraRemove id names) done is p id names p.made.are_planned
+commands-leave old new (command.TargetRemove id) done is p = target_goes old new (command.TargetRemove id) done is p id p.made.are_planned
 commands-leave old new (command.KwargsSet r id pairs) done is p = leaves old new (command.KwargsSet r id pairs) done is p r id (to_set pairs) p.made.are_planned
 commands-leave old new (command.KwargsAdd r id pairs) done is p = leaves old new (command.KwargsAdd r id pairs) done is p r id (to_add pairs) p.made.are_planned
 commands-leave old new (command.KwargsRemove r id pairs) done is p = leaves old new (command.KwargsRemove r id pairs) done is p r id (to_remove pairs) p.made.are_planned

@@ -1,5 +1,6 @@
 mod Performed
 pub mod SplicesDone
+pub mod PlacesFound
 mod Told
 mod CallsIn
 mod CallsThere

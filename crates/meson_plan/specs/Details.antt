@@ -1,5 +1,5 @@
 -- What an info command tells of a call: its head, and its keyword arguments that commands change. Meson manual, Rewriter.
-use Rattle.std.specs.Prelude.{ℕ, Bool, List, [], ◌∷◌, if◌then◌else◌, Option, Some, None, is_some, option_map, option_and_then, Result, Ok}
+use Rattle.std.specs.Prelude.{◌≡◌, ℕ, Bool, List, [], ◌∷◌, if◌then◌else◌, Option, Some, None, is_some, option_map, option_and_then, Result, Ok, Err}
 use Rattle.std.specs.List.{filter_map}
 use Rattle.meson_lex.specs.Literals.{value}
 use Rattle.meson_lex.specs.declared.kinds.Span.{Span}
@@ -12,15 +12,20 @@ use Rattle.meson_syntax.specs.View.{text_at}
 use Rattle.meson_edit.specs.Edits.{elements}
 use Rattle.meson_calls.specs.declared.call.CallRef.{CallRef}
 use Rattle.meson_calls.specs.declared.call.Role.{Role}
+use Rattle.meson_calls.specs.declared.call.Role.TheVariants.{Target}
+use Rattle.meson_calls.specs.declared.call.Sources.{Sources}
 use Rattle.meson_calls.specs.declared.refusal.Refusal.{Refusal}
 use Rattle.meson_calls.specs.Calls.{Call, first, first_literal, keyword, literal, value_without_name}
 use Rattle.meson_calls.specs.Loading.{Loaded, project}
 use Rattle.meson_calls.specs.Picking.{call_with}
 use Rattle.meson_calls.specs.Project.{Project, Placed, expression_at}
-use Rattle.meson_calls.specs.Sources.{call_at, kwargs_key}
+use Rattle.meson_calls.specs.Finding.{the_call}
+use Rattle.meson_calls.specs.Sources.{call_at, kwargs_key, sources}
 use Rattle.meson_keywords.specs.KeywordEdits.{name_of}
 use Rattle.meson_keywords.specs.Keys.{is_key}
+use Rattle.meson_sources.specs.Extras.{extra_files}
 use Rattle.meson_plan.specs.declared.details.Head.{Head}
+use Rattle.meson_plan.specs.declared.details.TargetDetails.{TargetDetails}
 use Rattle.meson_plan.specs.declared.details.Shown.{Shown}
 use Rattle.meson_plan.specs.declared.details.Shown.TheVariants as shown
 use Rattle.meson_plan.specs.Planning.{call_told}
@@ -46,6 +51,29 @@ head_of _ = None
 
 abbrev pub head : Project Span → CallRef → Option Head
 head p c = option_and_then head_of (expression_at p c)
+
+-- ---- a target
+
+-- the place of the one target that an id names
+abbrev pub target_place : Project Span → List ℕ → Result CallRef Refusal
+target_place p id = place_found (the_call p Target id)
+
+-- what is told of the target at a place
+pub record AreDetails (p : Project Span) (place : CallRef) (told : TargetDetails) : Type 0 where
+  pub is_place : told.place ≡ place
+  pub is_head : head p place ≡ Some told.head
+  pub are_sources : sources p place ≡ Some (Ok told.sources)
+  pub are_extra : extra_files p place ≡ Some (Ok told.extra_files)
+
+-- one of two keyword arguments is there twice, the sources first
+pub data NoDetails (p : Project Span) (place : CallRef) : Refusal → Type 0 where
+  no_sources : (refusal : Refusal) → sources p place ≡ Some (Err refusal) → NoDetails p place refusal
+  no_extra : (found : Sources) (refusal : Refusal) → sources p place ≡ Some (Ok found) → extra_files p place ≡ Some (Err refusal) → NoDetails p place refusal
+
+-- the id names no target, or more than one; or of the one that it names there are no details
+pub data NoTarget (p : Project Span) (id : List ℕ) : Refusal → Type 0 where
+  not_found : (refusal : Refusal) → target_place p id ≡ Err refusal → NoTarget p id refusal
+  untold : (place : CallRef) (refusal : Refusal) → target_place p id ≡ Ok place → NoDetails p place refusal → NoTarget p id refusal
 
 -- ---- the value of a keyword argument
 

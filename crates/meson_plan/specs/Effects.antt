@@ -1,4 +1,4 @@
--- What is there after a command, said of the arguments of the call that it changes, of the list that gets sources, and of the calls that a name names.
+-- What is there after a command, said of the arguments of the call that it changes, of the lists that get or lose sources or extra files, and of the calls that a name names.
 -- Meson manual, Rewriter.
 use Rattle.std.specs.Prelude.{◌≡◌, ℕ, List, ◌∷◌, codes, Ok}
 use Rattle.std.specs.Str.{IsUtf8}
@@ -15,11 +15,11 @@ use Rattle.meson_keywords.specs.Tasking.{Asked, to_set, to_add, to_remove, to_de
 use Rattle.meson_steps.specs.declared.command.Command.{Command}
 use Rattle.meson_steps.specs.declared.command.Command.TheVariants as command
 use Rattle.meson_steps.specs.declared.command.Done.{Done}
-use Rattle.meson_sources.specs.Effects.{ListGets}
-use Rattle.meson_sources.specs.SourceEdits.{new_names}
+use Rattle.meson_sources.specs.Effects.{ExtraComes, ListGets, NamesGo, extra_home}
+use Rattle.meson_sources.specs.SourceEdits.{extra_marks, new_names}
 use Rattle.meson_steps.specs.Names.{distinct}
 use Rattle.meson_steps.specs.Results.{plain_trees}
-use Rattle.meson_targets.specs.Effects.{NamesTarget, call_with_texts}
+use Rattle.meson_targets.specs.Effects.{NamesTarget, TargetRemoved, call_with_texts}
 use Rattle.meson_targets.specs.TargetEdits.{number_in}
 use Rattle.meson_plan.specs.Performing.{Performs}
 
@@ -33,6 +33,30 @@ pub record SourcesCome (old : Loaded) (id : List ℕ) (names : List (List ℕ)) 
   pub is_call : the_call (project old) role.Target id ≡ Ok call
   pub gets : ListGets (home call.place (source_marks (project old) call)) (new_names (source_marks (project old) call) names) (plain_trees old) (plain_trees new)
 
+-- Of the sources those that are named are gone.
+pub record SourcesGo (old : Loaded) (id : List ℕ) (names : List (List ℕ)) (new : Loaded) : Type 0 where
+  pub call : Placed (Call Span)
+  pub is_call : the_call (project old) role.Target id ≡ Ok call
+  pub go : NamesGo (source_marks (project old) call) names (plain_trees old) (plain_trees new)
+
+-- Each new extra file is there once.
+pub record ExtrasCome (old : Loaded) (id : List ℕ) (names : List (List ℕ)) (new : Loaded) : Type 0 where
+  pub call : Placed (Call Span)
+  pub is_call : the_call (project old) role.Target id ≡ Ok call
+  pub come : ExtraComes call (extra_home (project old) call) (new_names (extra_marks (project old) call) names) (plain_trees old) (plain_trees new)
+
+-- Of the extra files those that are named are gone.
+pub record ExtrasGo (old : Loaded) (id : List ℕ) (names : List (List ℕ)) (new : Loaded) : Type 0 where
+  pub call : Placed (Call Span)
+  pub is_call : the_call (project old) role.Target id ≡ Ok call
+  pub go : NamesGo (extra_marks (project old) call) names (plain_trees old) (plain_trees new)
+
+-- The target is gone with its statement, and its name names none.
+pub record TargetGoes (old : Loaded) (id : List ℕ) (new : Loaded) : Type 0 where
+  pub call : Placed (Call Span)
+  pub is_call : the_call (project old) role.Target id ≡ Ok call
+  pub removed : TargetRemoved old id call.place (plain_trees new)
+
 -- The name names the new target alone, in the build file of the folder.
 pub record TargetComes (old : Loaded) (name kind folder : List ℕ) (sources : List (List ℕ)) (new : Loaded) : Type 0 where
   pub file : ℕ
@@ -41,6 +65,10 @@ pub record TargetComes (old : Loaded) (name kind folder : List ℕ) (sources : L
 
 abbrev pub HasEffect : Loaded → Command → Loaded → Type 0
 HasEffect old (command.SourcesAdd id names) new = SourcesCome old id names new
+HasEffect old (command.SourcesRemove id names) new = SourcesGo old id names new
+HasEffect old (command.ExtraAdd id names) new = ExtrasCome old id names new
+HasEffect old (command.ExtraRemove id names) new = ExtrasGo old id names new
+HasEffect old (command.TargetRemove id) new = TargetGoes old id new
 HasEffect old (command.TargetAdd name kind folder sources) new = IsUtf8 name → TargetComes old name kind folder sources new
 HasEffect old (command.KwargsSet r id pairs) new = LeavesOf old r id (to_set pairs) new
 HasEffect old (command.KwargsAdd r id pairs) new = LeavesOf old r id (to_add pairs) new

@@ -1,5 +1,17 @@
 //! What is told of a call.
 
+ghost use Rattle.std.specs.Prelude.{◌≢◌, IfErr, IfOk, IsTrue};
+ghost use Rattle.meson_calls.specs.Loading.{AreParsed};
+ghost use Rattle.meson_calls.specs.Named.{AreVariables, project_of};
+ghost use Rattle.meson_calls.specs.Roles.{is_target};
+ghost use Rattle.meson_plan.specs.Details.{AreDetails, NoDetails};
+
+use crate::called::call_at;
+use crate::showing::head_of;
+use meson_calls::arriving::sources_at;
+use meson_calls::variables::Variables;
+use meson_calls::{CallRef, Refusal, Sources};
+use meson_sources::extras::extra_files_of;
 use meson_splice::{Many, Text};
 
 /// A call without its arguments, and its name.
@@ -13,6 +25,16 @@ pub struct Head {
     pub hidden: bool,
     /// The text of its first argument without a name, where that is a literal.
     pub name: Option<Text>,
+}
+
+/// A target: where its call stands, and what is told of it.
+#[derive(Drop)]
+pub struct TargetDetails {
+    pub place: CallRef,
+    pub head: Head,
+    pub sources: Sources,
+    /// Where none stands in a list, and no empty list is met, a further one would go into the call.
+    pub extra_files: Sources,
 }
 
 /// The value of a keyword argument.
@@ -30,4 +52,30 @@ pub enum Shown {
     Ids(Many<Text>),
     /// Anything else, by its text in the file.
     Opaque(Text),
+}
+
+/// What is told of the target at a place.
+///
+/// # Errors
+/// It has `sources:` or `extra_files:` twice, or memory is refused.
+pub(crate) fn details_at(
+    variables: &Variables<'_>,
+    place: CallRef,
+) -> Result<TargetDetails, Refusal>
+    requires holds { AreVariables variables.now }
+    requires parsed { AreParsed variables.now.files.now variables.now.trees.now }
+    requires target { IsTrue (is_target (project_of variables.now) place) }
+    ensures told { IfOk result (AreDetails (project_of variables.now) place) }
+    ensures refused { IfErr result (λ e. e ≢ Refusal.OutOfMemory → NoDetails (project_of variables.now) place e) }
+{
+    let sources = sources_at(variables, &place)?;
+    let called = call_at(variables.files, variables.trees, &place);
+    let extra_files = extra_files_of(variables, &place, called.source, called.arguments)?;
+    let head = head_of(variables.alloc, called)?;
+    Ok(TargetDetails {
+        place,
+        head,
+        sources,
+        extra_files,
+    })
 }

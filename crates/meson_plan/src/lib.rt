@@ -10,7 +10,7 @@ mod planning;
 mod project;
 mod showing;
 
-pub use details::{Head, Shown};
+pub use details::{Head, Shown, TargetDetails};
 pub use meson_calls::{
     CallRef, LoadFault, MAX_FILES, Refusal, Role, SourceItem, Sources, Unloaded, subdirs,
 };

@@ -12,11 +12,11 @@ ghost use Rattle.meson_plan.specs.Planning.{planned};
 ghost use Rattle.meson_calls.specs.Roles.{targets, found, is_target, places};
 ghost use Rattle.meson_calls.specs.Finding.{the_call};
 ghost use Rattle.meson_calls.specs.Sources.{sources};
-ghost use Rattle.meson_plan.specs.Details.{head, is_call, keywords, place_found};
+ghost use Rattle.meson_plan.specs.Details.{AreDetails, NoTarget, head, is_call, keywords, place_found, target_place};
 ghost use Rattle.meson_sources.specs.Extras.{extra_files};
 
 use crate::called::call_at;
-use crate::details::{Head, Shown};
+use crate::details::{Head, Shown, TargetDetails, details_at};
 use crate::order::{Order, order_of};
 use crate::planning::planned;
 use crate::showing::{head_of, keywords_of};
@@ -36,12 +36,13 @@ use meson_steps::command::{Command, Done};
 use meson_steps::journal::put_back;
 use meson_steps::work::{Work, done};
 use meson_syntax::Parsed;
-use std::alloc::Global;
+use std::alloc::{AllocError, Global};
+use std::fmt;
 use std::marker::Model;
 use std::mem;
 
 /// Files that are a project. Contracts see the files and the tree of each.
-#[derive(Debug, Drop)]
+#[derive(Drop)]
 pub struct Project {
     files: FileSet,
     trees: Vec<Parsed>,
@@ -59,6 +60,15 @@ impl Model for Project {
     ghost view = { λ p. record { files = p.files; parsed = p.trees.items } };
 
     ghost invariant = { λ p. IsProject (record { files = p.files; parsed = p.trees.items }) };
+}
+
+/// A project is shown as its files; its trees are those of the files.
+impl fmt::Debug for Project {
+    fn fmt<W: fmt::Write>(&self, f: &mut fmt::Formatter<W>) -> fmt::Result {
+        f.debug_struct("Project")
+            .field("files", &self.files)
+            .finish_non_exhaustive()
+    }
 }
 
 impl Project {
@@ -89,6 +99,13 @@ impl Project {
         ensures { result.now ≡ self.now.files }
     {
         &self.files
+    }
+
+    /// The tree of each file.
+    pub fn trees(&self) -> &[Parsed]
+        ensures { result.now ≡ self.now.parsed }
+    {
+        self.trees.as_slice()
     }
 
     /// Does nothing. That the files read as the trees is true of every project, and this says so to callers.
@@ -183,6 +200,22 @@ impl Project {
         extra_files_of(&variables, call, called.source, called.arguments)
     }
 
+    /// What is told of the one target that an id names.
+    ///
+    /// # Errors
+    /// There is no such target or more than one, or it has `sources:` or `extra_files:` twice, or memory is refused.
+    pub fn target_details(&self, alloc: Global, id: &str) -> Result<TargetDetails, Refusal>
+        ensures told { IfOk result (λ told. (target_place (project self.now) id.now ≡ Ok told.place) × AreDetails (project self.now) told.place told) }
+        ensures refused { IfErr result (λ e. e ≢ Refusal.OutOfMemory → NoTarget (project self.now) id.now e) }
+    {
+        let trees = self.trees.as_slice();
+        let taken = notes_of(alloc, &self.files, trees)?;
+        let notes = taken.all(alloc)?;
+        let place = the_call(alloc, Role::Target, id, notes.as_slice())?;
+        let variables = Variables::of(alloc, &self.files, trees, notes.as_slice())?;
+        details_at(&variables, place)
+    }
+
     /// What is told of a call before its arguments.
     ///
     /// # Errors
@@ -192,9 +225,17 @@ impl Project {
         ensures told { IfOk result (λ h. head (project self.now) call.now ≡ Some h) }
         ensures refused { IfErr result (λ e. e ≡ Refusal.OutOfMemory) }
     {
-        let called = call_at(&self.files, self.trees.as_slice(), call);
-        let head = head_of(alloc, called)?;
+        let head = self.head_at(alloc, call)?;
         Ok(head)
+    }
+
+    /// The same, whose one error is a growth that is refused.
+    pub fn head_at(&self, alloc: Global, call: &CallRef) -> Result<Head, AllocError>
+        requires { IsTrue (is_call (project self.now) call.now) }
+        ensures { IfOk result (λ h. head (project self.now) call.now ≡ Some h) }
+    {
+        let called = call_at(&self.files, self.trees.as_slice(), call);
+        head_of(alloc, called)
     }
 
     /// The keyword arguments of a call that commands of that role change, in the call's order, with their values.

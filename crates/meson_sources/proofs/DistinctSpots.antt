@@ -13,7 +13,7 @@ abbrev pub AreApart : List Spot → Type 0
 AreApart [] = ⊤
 AreApart (s ∷ more) = Every (Apart s) more × AreApart more
 
-apart_of : (s t : Spot) → same_spot t s ≡ false → Apart s t
+pub apart_of : (s t : Spot) → same_spot t s ≡ false → Apart s t
 apart_of s t not_same = λ same.
     let files = eq-eqb t.list.file s.list.file (sym same.0) in
     let paths = is_same_path t.list.path.steps s.list.path.steps (sym same.1) in

@@ -20,7 +20,7 @@ any_list (Some (an_expression e)) = refl
 any_list (Some (a_statement s)) = refl
 any_list (Some (a_block b)) = refl
 
-lists_there : (t : Plain) (path : List ℕ) → option_map (λ (p : ListAt Nowhere). p.list) (list_at t path) ≡ option_and_then list_any (node_at (root t) path)
+pub lists_there : (t : Plain) (path : List ℕ) → option_map (λ (p : ListAt Nowhere). p.list) (list_at t path) ≡ option_and_then list_any (node_at (root t) path)
 lists_there t path =
     list-reached Nowhere t path ∙ ap (option_and_then (λ e. option_map (λ (l : ListIn Nowhere). l.list) (list_in e))) (expression-reached Nowhere t path) ∙ any_list (node_at (root t) path)
 

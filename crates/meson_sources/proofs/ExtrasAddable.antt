@@ -41,11 +41,11 @@ many_erased : (list : Arguments Span) → length (argument_list (erase_arguments
 many_erased no_arguments = refl
 many_erased (argument a more) = ap suc (many_erased more)
 
-as_many : (l : Listing Span) → length (elements (erase_listing l)) ≡ length (elements l)
+pub as_many : (l : Listing Span) → length (elements (erase_listing l)) ≡ length (elements l)
 as_many (listing s trailing list) = many_erased list
 
 -- a list with an element without a name is not empty
-not_empty : (xs : List (Argument Span)) → 0 < plain_count xs → length xs ≡ 0 → ⊥
+pub not_empty : (xs : List (Argument Span)) → 0 < plain_count xs → length xs ≡ 0 → ⊥
 unfolding plain_count
 not_empty [] some is = omega (arith, some)
 not_empty (x ∷ xs) some is = omega (arith, is)
@@ -115,7 +115,7 @@ module _ (old : Loaded) (are : AreParsed old.files old.parsed) (c : Placed (Call
       let same : inserted_in (project old) l (name ∷ more) ≡ steps = cc in
       subst (λ s. AreDoable s (plain_trees old)) same (home_doable old are l (found l refl) (name ∷ more) utf8)
 
-checked_marks : (p : Project Span) (c : Placed (Call Span)) (names : List (List ℕ)) (ms : List (Mark Span)) → checked_extra p c names ≡ Ok ms → extra_marks p c ≡ ms
+pub checked_marks : (p : Project Span) (c : Placed (Call Span)) (names : List (List ℕ)) (ms : List (Mark Span)) → checked_extra p c names ≡ Ok ms → extra_marks p c ≡ ms
 checked_marks p c names ms is =
     let marks = once extra_key (keyword extra_key c.it) (extra_marks p c) in
     let a = then_was (checked_names names) (λ _. then_ok (not_hidden (keyword kwargs_key c.it)) (λ _. marks)) ms is in

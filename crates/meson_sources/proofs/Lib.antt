@@ -1,6 +1,9 @@
+mod ArgumentsGrow
+mod ChildrenLeft
 mod DistinctSpots
 mod ElementsAt
 mod ElementsThere
+pub mod ExtraAdded
 mod ExtrasAddable
 mod ExtrasAdded
 mod ExtrasMeant
@@ -9,10 +12,14 @@ mod Homes
 pub mod KeyTexts
 mod KeywordText
 mod Marked
+mod ListsBut
 mod MarksStand
 mod MarksThere
 mod NamedPlaces
+mod NamedSpots
 mod NewLists
+mod OneStringGone
+mod OnlyLists
 mod OneGone
 mod PartsPut
 mod PathsAfter
@@ -28,10 +35,12 @@ mod RenamedStrings
 mod SourcesAddable
 pub mod SourcesAdded
 pub mod SourcesMeant
+pub mod SourcesGone
 mod SpotsApart
 mod SpotsFound
 mod SpotsOnce
 mod StringsDoable
+mod StringsGone
 mod StringsStay
 mod StringsThere
 mod TargetCalls

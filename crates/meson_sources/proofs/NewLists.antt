@@ -1,5 +1,5 @@
 -- A new list in a call, and a lone value in its array: strings may be put behind the first.
-use Rattle.std.proofs.Common.{◌≡◌, ℕ, zero, suc, ◌+◌, ◌≤◌, false, List, [], ◌∷◌, ◌++◌, length, take, drop, Some, refl, sym, ap, ◌∙◌, subst, arith, IsUtf8, true}
+use Rattle.std.proofs.Common.{◌≡◌, ℕ, zero, suc, ◌+◌, ◌≤◌, false, List, [], ◌∷◌, ◌++◌, length, take, drop, Some, refl, sym, ap, ◌∙◌, subst, arith, IsUtf8}
 use Rattle.std.specs.Prelude.{All, option_map, option_and_then, slice_set}
 use Rattle.std.proofs.lemmas.List.Elements.{All-set}
 use Rattle.meson_syntax.specs.declared.operator.Bracket.TheVariants as bracket
@@ -27,7 +27,7 @@ use Rattle.meson_syntax.specs.Operators.{holds_values, holds_pairs}
 
 -- ---- elements
 
-last_there : {A : Type 0} (xs : List A) (m : ℕ) → length xs ≡ suc m → (x : A) × (nth xs m ≡ Some x) × (drop (suc m) xs ≡ [])
+pub last_there : {A : Type 0} (xs : List A) (m : ℕ) → length xs ≡ suc m → (x : A) × (nth xs m ≡ Some x) × (drop (suc m) xs ≡ [])
 last_there [] m many = absurd (omega (arith, many))
 last_there (x ∷ []) zero many = (x, refl, refl)
 last_there (x ∷ y ∷ xs) zero many = absurd (omega (arith, many))

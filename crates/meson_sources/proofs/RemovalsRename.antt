@@ -67,14 +67,16 @@ string_holds : (l : Listing Nowhere) (b : Bracket) (n : ℕ) (it : Argument Nowh
 string_holds (listing s trailing list) b n it is_string is level = plain_holds list b false n (string tt is_string.kind is_string.text) level.1 (is ∙ ap Some is_string.is)
 
 -- how a string goes from its list
-record Goes (t now : Plain) (list : List ℕ) (gone : ℕ) : Type 0 where
-  old : Any Nowhere
-  new : Any Nowhere
-  xs : List (Argument Nowhere)
-  loses : LosesString old new xs gone
-  put : PutAt Nowhere old new list (root t) (root now)
+pub record Goes (t now : Plain) (list : List ℕ) (gone : ℕ) : Type 0 where
+  pub old : Any Nowhere
+  pub new : Any Nowhere
+  pub xs : List (Argument Nowhere)
+  pub loses : LosesString old new xs gone
+  pub listing : Listing Nowhere
+  pub is_listing : list_any new ≡ Some listing
+  pub put : PutAt Nowhere old new list (root t) (root now)
 
-goes : (t now : Plain) → LevelFile t → (list : List ℕ) (gone : ℕ) (it : Argument Nowhere) → StandsIn t list gone it → IsString it → edited (Remove list gone) t ≡ Some now → Goes t now list gone
+pub goes : (t now : Plain) → LevelFile t → (list : List ℕ) (gone : ℕ) (it : Argument Nowhere) → StandsIn t list gone it → IsString it → edited (Remove list gone) t ≡ Some now → Goes t now list gone
 goes t now level list gone it here is_string is =
     let c = changed (Remove list gone) list t now is in
     let q = c.place in
@@ -90,6 +92,8 @@ goes t now level list gone it here is_string is =
       new = p.new_node;
       xs = xs;
       loses = loses p.old_node p.new_node q.list gone p.old_list new_list it here_too is_string (one_part q.list q.bracket (values_no_pairs q.bracket (string_holds q.list q.bracket gone it is_string here_too (fits.level level))) (fits.level level));
+      listing = with_elements q.list (without gone xs);
+      is_listing = new_list;
       put = subst (λ u. PutAt Nowhere p.old_node p.new_node list (root t) (root u)) c.is_now p.put;
     }
 

@@ -29,12 +29,12 @@ use Rattle.meson_steps.proofs.WithOne.{change_there, changed_there, others_there
 -- ---- one string goes
 
 -- The tree without the string at a spot.
-record Without (trees : List Plain) (s : Spot) (there : StringIn trees s) : Type 0 where
-  now : Plain
-  is_now : edited (Remove s.list.path.steps s.number) there.tree ≡ Some now
-  may : MayStand now
+pub record Without (trees : List Plain) (s : Spot) (there : StringIn trees s) : Type 0 where
+  pub now : Plain
+  pub is_now : edited (Remove s.list.path.steps s.number) there.tree ≡ Some now
+  pub may : MayStand now
 
-goes : (trees : List Plain) → All MayStand trees → (s : Spot) (there : StringIn trees s) → Without trees s there
+pub goes : (trees : List Plain) → All MayStand trees → (s : Spot) (there : StringIn trees s) → Without trees s there
 goes trees all s there =
     let q = there.stands.place in
     let path = s.list.path.steps in
@@ -52,13 +52,13 @@ module _ (trees : List Plain) (all : All MayStand trees) (s : Spot) (there : Str
   abbrev gone : Without trees s there
   gone = goes trees all s there
 
-  abbrev between : List Plain
+  abbrev pub between : List Plain
   between = slice_set trees s.list.file gone.now
 
-  between_stand : All MayStand between
+  pub between_stand : All MayStand between
   between_stand = All-set MayStand trees s.list.file gone.now gone.may all
 
-  level : LevelFile there.tree
+  pub level : LevelFile there.tree
   level = (all_nth MayStand trees s.list.file there.tree all there.is_tree).0
 
   module _ (t : Spot) (here : StringIn trees t) (apart : Apart s t) where
@@ -68,7 +68,7 @@ module _ (trees : List Plain) (all : All MayStand trees) (s : Spot) (there : Str
     stands_too : s.list.file ≡ t.list.file → StandsIn there.tree t.list.path.steps t.number here.it
     stands_too file = subst (λ u. StandsIn u t.list.path.steps t.number here.it) (same_tree file) here.stands
 
-    clear : Clear s t
+    pub clear : Clear s t
     clear = record {
       above = λ file. removals_apart there.tree gone.now level s.list.path.steps s.number there.it there.stands there.is_string gone.is_now t.list.path.steps t.number here.it (stands_too file);
       other = apart;
@@ -102,7 +102,7 @@ module _ (trees : List Plain) (all : All MayStand trees) (s : Spot) (there : Str
 
   -- ---- the others
 
-  all_between : (ts : List Spot) → Every (StringIn trees) ts → Every (Apart s) ts → Every (StringIn between) (spots_after s ts)
+  pub all_between : (ts : List Spot) → Every (StringIn trees) ts → Every (Apart s) ts → Every (StringIn between) (spots_after s ts)
   all_between [] are apart = tt
   all_between (t ∷ ts) are apart = (in_between t are.0 apart.0, all_between ts are.1 apart.1)
 
@@ -111,7 +111,7 @@ module _ (trees : List Plain) (all : All MayStand trees) (s : Spot) (there : Str
   one_apart t here apart_t (u ∷ us) are apart others =
       (apart_after s t u (clear t here apart_t) (clear u are.0 apart.0) others.0, one_apart t here apart_t us are.1 apart.1 others.1)
 
-  all_apart : (ts : List Spot) → Every (StringIn trees) ts → Every (Apart s) ts → AreApart ts → AreApart (spots_after s ts)
+  pub all_apart : (ts : List Spot) → Every (StringIn trees) ts → Every (Apart s) ts → AreApart ts → AreApart (spots_after s ts)
   all_apart [] are apart others = tt
   all_apart (t ∷ ts) are apart others = (one_apart t are.0 apart.0 ts are.1 apart.1 others.0, all_apart ts are.1 apart.1 others.1)
 
@@ -128,7 +128,7 @@ removed_doable (suc left) (s ∷ more) trees all are apart =
     (between_stand trees all s are.0)
     (removed_doable left (spots_after s more) now (between_stand trees all s are.0) (all_between trees all s are.0 more are.1 apart.0) (all_apart trees all s are.0 more are.1 apart.0 apart.1))
 
-all_in : (old : Loaded) (spots : List Spot) → All (SpotStands (project old)) spots → Every (StringIn (plain_trees old)) spots
+pub all_in : (old : Loaded) (spots : List Spot) → All (SpotStands (project old)) spots → Every (StringIn (plain_trees old)) spots
 all_in old [] all = tt
 all_in old (s ∷ more) all = (spot_in old s (All-head (SpotStands (project old)) s more all), all_in old more (All-tail (SpotStands (project old)) s more all))
 

@@ -21,7 +21,7 @@ Node = Any Nowhere
 abbrev pub element_at : Node → List ℕ → ℕ → Option (Argument Nowhere)
 element_at x path n = option_and_then (λ y. element_any y n) (node_at x path)
 
-abbrev a_string : StringKind → List ℕ → Node
+abbrev pub a_string : StringKind → List ℕ → Node
 a_string q t = an_expression (string tt q t)
 
 -- a string has no elements, and nothing under it has
@@ -47,7 +47,7 @@ pub record LosesString (old new : Node) (xs : List (Argument Nowhere)) (gone : �
 
 module _ (old new : Node) (xs : List (Argument Nowhere)) (gone : ℕ) (g : LosesString old new xs gone) where
   -- what loses an element is no string
-  not_string : (q : StringKind) (t : List ℕ) → a_string q t ≡ old → ⊥
+  pub not_string : (q : StringKind) (t : List ℕ) → a_string q t ≡ old → ⊥
   not_string q t same = let is = g.old_elements gone ∙ g.is_string in let none = ap (λ x. element_any x gone) same in cc
 
   not_under : (list : List ℕ) (q : StringKind) (t : List ℕ) (now : Node) → PutAt Nowhere old new list (a_string q t) now → ⊥
@@ -64,7 +64,7 @@ module _ (old new : Node) (xs : List (Argument Nowhere)) (gone : ℕ) (g : Loses
       let none = ap (λ o. option_and_then (λ y. element_any y n) (option_and_then (λ y. node_at y path) o)) child ∙ no_element g.kind g.text path n in
       cc
 
-  child_moved : (x now : Node) → x ≡ old → now ≡ new → (k : ℕ) → (gone ≡ k → ⊥) → nth (parts now) (moved_up gone k) ≡ nth (parts x) k
+  pub child_moved : (x now : Node) → x ≡ old → now ≡ new → (k : ℕ) → (gone ≡ k → ⊥) → nth (parts now) (moved_up gone k) ≡ nth (parts x) k
   child_moved x now same_old same_new k other =
       let j = moved_up gone k in
       ap (λ y. nth (parts y) j) same_new ∙ ap (λ ps. nth ps j) g.new_parts ∙ nth_map part (without gone xs) j ∙ ap (option_map part) (moved xs gone k other)

@@ -1,5 +1,5 @@
 -- The list that gets sources has its elements in their order, and the new ones behind those without a name.
-use Rattle.std.proofs.Common.{◌≡◌, ℕ, zero, suc, true, false, List, [], ◌∷◌, ◌++◌, append_assoc, length, length-append, take, drop, Option, Some, refl, sym, ap, ap₂, ◌∙◌, arith}
+use Rattle.std.proofs.Common.{◌≡◌, ℕ, suc, true, false, List, [], ◌∷◌, ◌++◌, append_assoc, length, length-append, take, drop, Some, refl, sym, ap, ap₂, ◌∙◌, arith}
 use Rattle.std.specs.Prelude.{Bool, option_and_then, option_map}
 use Rattle.std.specs.List.{filter}
 use Rattle.meson_syntax.specs.declared.operator.Bracket.{Bracket}
@@ -18,38 +18,22 @@ use Rattle.meson_calls.proofs.ListNodes.{values_no_pairs}
 use Rattle.meson_steps.specs.ListSteps.{MayStand}
 use Rattle.meson_steps.specs.Names.{checked_names}
 use Rattle.meson_steps.specs.Results.{plain_trees}
-use Rattle.meson_steps.specs.Steps.{all_stepped, changed_at, step_in, stepped}
+use Rattle.meson_steps.specs.Steps.{all_stepped, step_in, stepped}
 use Rattle.meson_steps.proofs.Insertable.{elements_with, there_again}
 use Rattle.meson_steps.proofs.PlainTrees.{plain_place, tree_is}
 use Rattle.meson_steps.proofs.WentWell.{once_was, then_was}
-use Rattle.meson_steps.proofs.WithOne.{all_nth}
+use Rattle.meson_steps.proofs.WithOne.{all_nth, change_made}
 use Rattle.meson_sources.specs.Effects.{ListGets, SourcesAreAdded, elements_found, not_plain, strings}
 use Rattle.meson_sources.specs.SourceEdits as edits
 use Rattle.meson_sources.specs.SourceEdits.{elements_there, inserted_in, is_plain, new_names, plain_len, written_source}
 use Rattle.meson_sources.proofs.Homes.{Home, all_stand, list_levels}
+use Rattle.meson_sources.proofs.OnlyLists.{inserted_only, unchanged}
 use Rattle.meson_sources.proofs.PlainCounts.{count_erased, elements_are, plain_count, plain_count_is}
 use Rattle.meson_sources.proofs.SourcesAddable.{sources_home}
 use Rattle.meson_sources.proofs.TargetMarks.{sources_stand}
 use Rattle.meson_sources.proofs.TargetsFound.{targets_stand}
 
 -- ---- a step, by what it leaves
-
-record Changed {X : Type 0} (i : ℕ) (change : X → Option X) (xs ys : List X) : Type 0 where
-  old : X
-  was : nth xs i ≡ Some old
-  new : X
-  is : change old ≡ Some new
-  now : nth ys i ≡ Some new
-
-changed_was : {X : Type 0} (i : ℕ) (change : X → Option X) (xs ys : List X) → changed_at i change xs ≡ Some ys → Changed i change xs ys
-changed_was i change [] ys made = absurd cc
-changed_was zero change (x ∷ xs) ys made =
-    let o = map-some (λ y. y ∷ xs) (change x) ys made in
-    record { old = x; was = refl; new = o.0; is = o.1; now = ap (λ l. nth l 0) (sym o.2) }
-changed_was (suc i) change (x ∷ xs) ys made =
-    let o = map-some (λ l. x ∷ l) (changed_at i change xs) ys made in
-    let c = changed_was i change xs o.0 o.1 in
-    record { old = c.old; was = c.was; new = c.new; is = c.is; now = ap (λ l. nth l (suc i)) (sym o.2) ∙ c.now }
 
 module _ (list : CallRef) (e : Edit) (of_list : (t : Plain) → edited e t ≡ edited_list e list.path.steps t) (trees between : List Plain) (made : stepped (step_in list e) trees ≡ Some between) (xs : List (Argument Nowhere))
     (had : elements_found list trees ≡ Some xs) where
@@ -61,7 +45,7 @@ module _ (list : CallRef) (e : Edit) (of_list : (t : Plain) → edited e t ≡ e
   one_edit : Edited
   one_edit =
       let path = list.path.steps in
-      let c = changed_was list.file (edited e) trees between made in
+      let c = change_made list.file (edited e) trees between made in
       let p = and-then-some (λ q. option_map (λ l. q.back (with_elements q.list l)) (edited_elements e (elements q.list))) (list_at c.old path) c.new (sym (of_list c.old) ∙ c.is) in
       let y = map-some (λ l. p.0.back (with_elements p.0.list l)) (edited_elements e (elements p.0.list)) c.new p.2 in
       let again = there_again c.old path p.0 p.1 y.0 in
@@ -138,7 +122,7 @@ module _ (b : Bracket) (none : holds_pairs b ≡ false) where
 -- ---- the list where sources go
 
 module _ (old : Loaded) (is : IsProject old) (c : CallRef) (h : Home (project old) c) where
-  gets : (names : List (List ℕ)) (after : List Plain) → all_stepped (inserted_in (project old) c names) (plain_trees old) ≡ Some after → ListGets c names (plain_trees old) after
+  pub gets : (names : List (List ℕ)) (after : List Plain) → all_stepped (inserted_in (project old) c names) (plain_trees old) ≡ Some after → ListGets c names (plain_trees old) after
   gets names after made =
       let path = c.path.steps in
       let tree = erase h.there.file.tree in
@@ -156,6 +140,7 @@ module _ (old : Loaded) (is : IsProject old) (c : CallRef) (h : Home (project ol
         elements = xs;
         had = had;
         has = puts c names (filter is_plain xs) (filter not_plain xs) (plain_trees old) after (had ∙ ap Some order) (ap (λ n. all_stepped (edits.inserted c n names) (plain_trees old)) (sym count) ∙ made);
+        only = inserted_only c names (plain_len (project old) c) (plain_trees old) (plain_trees old) after (unchanged c (plain_trees old) xs had) made;
       }
 
 pub sources-are-added : SourcesAreAdded

@@ -1,21 +1,24 @@
--- What is there after sources are added, said of the list that gets them.
-use Rattle.std.specs.Prelude.{◌≡◌, ℕ, Bool, not, List, ◌++◌, map, Option, Some, Ok, option_and_then, option_map}
-use Rattle.std.specs.List.{filter}
+-- What is there after sources or extra files are added or removed, said of the lists that get or lose them.
+use Rattle.std.specs.Prelude.{◌≡◌, ℕ, zero, suc, Bool, true, false, not, ◌&&◌, if◌then◌else◌, List, [], ◌∷◌, ◌++◌, length, map, Option, Some, None, Ok, option_and_then, option_map}
+use Rattle.std.specs.List.{AllByRecursion, filter, list_any}
 use Rattle.meson_lex.specs.declared.kinds.Span.{Span}
-use Rattle.meson_syntax.specs.Paths.{list_at, nth}
-use Rattle.meson_syntax.specs.Tree.{Nowhere, Plain, Argument, plain}
-use Rattle.meson_edit.specs.Edits.{elements}
+use Rattle.meson_syntax.specs.Parts.{Any, an_expression, a_block, node_at, parts}
+use Rattle.meson_syntax.specs.Paths.{ListAt, block_of, list_at, nth, value_of}
+use Rattle.meson_syntax.specs.Tree.{bare, Nowhere, Plain, Expression, array, string, Listing, listing, Argument, plain, named, arguments_of}
+use Rattle.meson_edit.specs.Edits.{elements, with_value}
 use Rattle.meson_calls.specs.declared.call.CallRef.{CallRef}
 use Rattle.meson_calls.specs.declared.call.Role.TheVariants as role
-use Rattle.meson_calls.specs.Calls.{Call}
+use Rattle.meson_calls.specs.Calls.{Call, Numbered, keyword}
+use Rattle.meson_calls.specs.Expansion.{Item, Mark, Slot, fixed, in_list}
 use Rattle.meson_calls.specs.Finding.{the_call}
 use Rattle.meson_calls.specs.Loading.{IsProject, Loaded, project}
-use Rattle.meson_calls.specs.Project.{Placed}
-use Rattle.meson_calls.specs.Sources.{home, source_marks}
+use Rattle.meson_calls.specs.Project.{Placed, Project}
+use Rattle.meson_calls.specs.Sources.{first_empty, first_list, home, items, or_option, source_marks}
+use Rattle.meson_steps.specs.Names.{distinct}
 use Rattle.meson_steps.specs.Results.{plain_trees}
 use Rattle.meson_steps.specs.Steps.{Step, all_stepped}
 use Rattle.meson_steps.specs.WrittenTexts.{string_of}
-use Rattle.meson_sources.specs.SourceEdits.{is_plain, new_names, sources_added}
+use Rattle.meson_sources.specs.SourceEdits.{Spot, distinct_spots, extra_added, extra_key, extra_marks, extra_removed, has_text, is_plain, new_names, same_spot, sources_added, sources_removed, spot_after, spots_after, spots_named}
 
 -- the elements of the list at a place
 abbrev pub elements_found : CallRef → List Plain → Option (List (Argument Nowhere))
@@ -27,14 +30,165 @@ strings names = map (λ name. plain (string_of name)) names
 abbrev pub not_plain : Argument Nowhere → Bool
 not_plain x = not (is_plain x)
 
--- The list has its elements in their order, and behind those without a name these strings.
+-- Of the file of the place nothing but the list there has become another one, and every other file's tree is as it was.
+pub record OnlyList (c : CallRef) (before after : List Plain) : Type 0 where
+  pub tree : Plain
+  pub was : nth before c.file ≡ Some tree
+  pub place : ListAt Nowhere
+  pub is_place : list_at tree c.path.steps ≡ Some place
+  pub other : Listing Nowhere
+  pub now : nth after c.file ≡ Some (place.back other)
+  pub others : (i : ℕ) → (c.file ≡ i → ⊥) → nth after i ≡ nth before i
+
+-- The list has its elements in their order, and behind those without a name these strings; and all else is as it was.
 pub record ListGets (list : CallRef) (names : List (List ℕ)) (before after : List Plain) : Type 0 where
   pub elements : List (Argument Nowhere)
   pub had : elements_found list before ≡ Some elements
   pub has : elements_found list after ≡ Some (filter is_plain elements ++ (strings names ++ filter not_plain elements))
+  pub only : OnlyList list before after
 
 -- the law: the list where further sources of the target go gets those that are no sources of it yet, each once
 abbrev pub SourcesAreAdded : Type 0
 SourcesAreAdded = (old : Loaded) → IsProject old → (id : List ℕ) (c : Placed (Call Span)) → the_call (project old) role.Target id ≡ Ok c → (names : List (List ℕ)) (steps : List Step) (after : List Plain)
     → sources_added (project old) c names ≡ Ok steps → all_stepped steps (plain_trees old) ≡ Some after
     → ListGets (home c.place (source_marks (project old) c)) (new_names (source_marks (project old) c) names) (plain_trees old) after
+
+-- ---- extra files that are added
+
+abbrev pub array_holding : List (Argument Nowhere) → Expression Nowhere
+array_holding xs = array (listing tt false (arguments_of xs))
+
+-- `extra_files: ['NAME', ..]`
+abbrev pub extra_argument : List (List ℕ) → Argument Nowhere
+extra_argument names = named tt (bare extra_key) (array_holding (strings names))
+
+-- The call has its arguments in their order, and this one behind them; and all else is as it was.
+pub record ArgumentComes (c : CallRef) (new : Argument Nowhere) (before after : List Plain) : Type 0 where
+  pub arguments : List (Argument Nowhere)
+  pub had : elements_found c before ≡ Some arguments
+  pub has : elements_found c after ≡ Some (arguments ++ new ∷ [])
+  pub only : OnlyList c before after
+
+-- The argument of this number has the array of its value and these strings behind it, and the call's other arguments stay; and all else is as it was.
+pub record ArgumentGrows (c : CallRef) (number : ℕ) (names : List (List ℕ)) (before after : List Plain) : Type 0 where
+  pub front : List (Argument Nowhere)
+  pub it : Argument Nowhere
+  pub back : List (Argument Nowhere)
+  pub value : Expression Nowhere
+  pub is_number : number ≡ length front
+  pub is_value : value_of it ≡ Some value
+  pub had : elements_found c before ≡ Some (front ++ it ∷ back)
+  pub has : elements_found c after ≡ Some (front ++ with_value (array_holding (plain value ∷ strings names)) it ∷ back)
+  pub only : OnlyList c before after
+
+-- by the values of `extra_files:`, of which there is one or none
+abbrev pub ArgumentHolds : CallRef → List (Numbered (Expression Span)) → List (List ℕ) → (before after : List Plain) → Type 0
+ArgumentHolds c [] names before after = ArgumentComes c (extra_argument names) before after
+ArgumentHolds c (v ∷ more) names before after = ArgumentGrows c v.number names before after
+
+-- The list of the extra files gets those that are none yet, or, where no list is met, the argument does.
+abbrev pub ExtraComes : Placed (Call Span) → Option CallRef → List (List ℕ) → (before after : List Plain) → Type 0
+ExtraComes c list [] before after = after ≡ before
+ExtraComes c None (name ∷ more) before after = ArgumentHolds c.place (keyword extra_key c.it) (name ∷ more) before after
+ExtraComes c (Some list) (name ∷ more) before after = ListGets list (name ∷ more) before after
+
+-- where further extra files go, if a list is met
+abbrev pub extra_home : Project Span → Placed (Call Span) → Option CallRef
+extra_home p c = or_option (first_list (extra_marks p c)) (first_empty (extra_marks p c))
+
+-- the law: of extra files that are added those come that are none of the target yet, each once
+abbrev pub ExtraIsAdded : Type 0
+ExtraIsAdded = (old : Loaded) → IsProject old → (id : List ℕ) (c : Placed (Call Span)) → the_call (project old) role.Target id ≡ Ok c → (names : List (List ℕ)) (steps : List Step) (after : List Plain)
+    → extra_added (project old) c names ≡ Ok steps → all_stepped steps (plain_trees old) ≡ Some after
+    → ExtraComes c (extra_home (project old) c) (new_names (extra_marks (project old) c) names) (plain_trees old) after
+
+-- ---- sources and extra files that are removed
+
+-- the children of what stands at a place: of an array its elements, of a call the values of its arguments
+abbrev pub children_found : CallRef → List Plain → Option (List (Any Nowhere))
+children_found c trees = option_and_then (λ t. option_map parts (node_at (a_block (block_of t)) c.path.steps)) (nth trees c.file)
+
+-- a child that is a string
+abbrev pub string_child : Any Nowhere → Option (Expression Nowhere)
+string_child (an_expression (string s q x)) = Some (string s q x)
+string_child _ = None
+
+-- the list without the elements at some numbers
+abbrev pub but : {X : Type 0} → (ℕ → Bool) → List X → List X
+but gone [] = []
+but gone (x ∷ xs) = if gone 0 then but (λ n. gone (suc n)) xs else x ∷ but (λ n. gone (suc n)) xs
+
+abbrev pub spot_at : CallRef → ℕ → Spot
+spot_at c n = record { list = c; number = n }
+
+-- whether the child of this number is one of those that go
+abbrev pub goes : List Spot → CallRef → ℕ → Bool
+goes spots c n = list_any (λ s. same_spot s (spot_at c n)) spots
+
+-- where a place is after so many of these spots have gone
+abbrev pub place_after : ℕ → List Spot → CallRef → CallRef
+place_after zero spots c = c
+place_after (suc left) [] c = c
+place_after (suc left) (s ∷ more) c = place_after left (spots_after s more) (spot_after s (spot_at c 0)).list
+
+-- Of these children the strings at the spots are gone. All others stay in their order, and each that is a string is as it was.
+pub record OnlyTheseGo (spots : List Spot) (c : CallRef) (children : List (Any Nowhere)) (after : List Plain) : Type 0 where
+  pub left : List (Any Nowhere)
+  pub has : children_found (place_after (length spots) spots c) after ≡ Some left
+  pub strings : map string_child left ≡ but (goes spots c) (map string_child children)
+
+-- At each place that has children only these go.
+abbrev pub StringsGo : List Spot → (before after : List Plain) → Type 0
+StringsGo spots before after = (c : CallRef) (children : List (Any Nowhere)) → children_found c before ≡ Some children → (children ≡ [] → ⊥) → OnlyTheseGo spots c children after
+
+-- what stands at a place
+abbrev pub node_found : CallRef → List Plain → Option (Any Nowhere)
+node_found c trees = option_and_then (λ t. node_at (a_block (block_of t)) c.path.steps) (nth trees c.file)
+
+-- no other list that loses a string stands in what stands at the place
+abbrev pub NoneUnder : List Spot → CallRef → Type 0
+NoneUnder spots c = AllByRecursion (λ s. (n : ℕ) (rest : List ℕ) → s.list.file ≡ c.file → s.list.path.steps ≡ c.path.steps ++ n ∷ rest → ⊥) spots
+
+-- A list in which no other list loses any has all its elements in their order but those at the spots.
+abbrev pub ListsLose : List Spot → (before after : List Plain) → Type 0
+ListsLose spots before after = (list : CallRef) (elements : List (Argument Nowhere)) → elements_found list before ≡ Some elements → NoneUnder spots list
+    → elements_found (place_after (length spots) spots list) after ≡ Some (but (goes spots list) elements)
+
+-- no spot is one of what stands at the place, or of what stands in that
+abbrev pub NoneIn : List Spot → CallRef → Type 0
+NoneIn spots c = AllByRecursion (λ s. (rest : List ℕ) → s.list.file ≡ c.file → s.list.path.steps ≡ c.path.steps ++ rest → ⊥) spots
+
+-- All else in which nothing goes is as it was, where its place has moved to.
+abbrev pub OthersStay : List Spot → (before after : List Plain) → Type 0
+OthersStay spots before after = (c : CallRef) (x : Any Nowhere) → node_found c before ≡ Some x → string_child x ≡ None → NoneIn spots c → node_found (place_after (length spots) spots c) after ≡ Some x
+
+abbrev pub has_one_of : List (List ℕ) → Item Span → Bool
+has_one_of names i = list_any (λ name. has_text name i) names
+
+-- whether what has the slot stands at the spot
+abbrev pub is_at : Spot → Slot → Bool
+is_at s (in_list c n) = same_spot s (spot_at c n)
+is_at s fixed = false
+
+-- Each of the items that has one of these names stands at one of the spots, and at each spot stands such an item.
+pub record AreSpotsOf (is : List (Item Span)) (names : List (List ℕ)) (spots : List Spot) : Type 0 where
+  pub each : AllByRecursion (λ i. has_one_of names i ≡ true → list_any (λ s. is_at s i.slot) spots ≡ true) is
+  pub only : AllByRecursion (λ s. list_any (λ i. has_one_of names i && is_at s i.slot) is ≡ true) spots
+
+-- The spots are those of all items with these names, and they are gone, and nothing else is.
+pub record NamesGo (marks : List (Mark Span)) (names : List (List ℕ)) (before after : List Plain) : Type 0 where
+  pub spots : List Spot
+  pub are_spots : spots_named marks (distinct names) ≡ Ok spots
+  pub of_names : AreSpotsOf (items marks) (distinct names) spots
+  pub lists : ListsLose (distinct_spots spots) before after
+  pub gone : StringsGo (distinct_spots spots) before after
+  pub others : OthersStay (distinct_spots spots) before after
+
+-- the laws: of the target's sources, or of its extra files, those that are named are gone from all lists that held them, and nothing else is
+abbrev pub SourcesAreRemoved : Type 0
+SourcesAreRemoved = (old : Loaded) → IsProject old → (id : List ℕ) (c : Placed (Call Span)) → the_call (project old) role.Target id ≡ Ok c → (names : List (List ℕ)) (steps : List Step) (after : List Plain)
+    → sources_removed (project old) c names ≡ Ok steps → all_stepped steps (plain_trees old) ≡ Some after → NamesGo (source_marks (project old) c) names (plain_trees old) after
+
+abbrev pub ExtraIsRemoved : Type 0
+ExtraIsRemoved = (old : Loaded) → IsProject old → (id : List ℕ) (c : Placed (Call Span)) → the_call (project old) role.Target id ≡ Ok c → (names : List (List ℕ)) (steps : List Step) (after : List Plain)
+    → extra_removed (project old) c names ≡ Ok steps → all_stepped steps (plain_trees old) ≡ Some after → NamesGo (extra_marks (project old) c) names (plain_trees old) after

@@ -1,8 +1,25 @@
 //! Laws of sources. The functions do nothing: what they ensure is the law.
 
-ghost use Rattle.meson_sources.specs.Effects.{SourcesAreAdded};
+ghost use Rattle.meson_sources.specs.Effects.{ExtraIsAdded, ExtraIsRemoved, SourcesAreAdded, SourcesAreRemoved};
 
 /// The list where further sources of a target go has its elements in their order afterwards, and behind those without a name each new source once.
 pub fn sources_are_added()
     ensures { SourcesAreAdded }
+{}
+
+/// The list of a target's extra files has its elements in their order afterwards, and behind those without a name each new extra file once. Where there is no
+/// list, the call has a new argument `extra_files` that holds them, or the array of the lone value that was there and of them. All else is as it was.
+pub fn extra_is_added()
+    ensures { ExtraIsAdded }
+{}
+
+/// After sources are removed each list that held them has its other elements in their order: those at the places of all sources with these names are gone, and
+/// all else is as it was, where its place has moved to.
+pub fn sources_are_removed()
+    ensures { SourcesAreRemoved }
+{}
+
+/// The same of the extra files of a target.
+pub fn extra_is_removed()
+    ensures { ExtraIsRemoved }
 {}

@@ -195,7 +195,7 @@ module _ {S : Type 0} where
   role_by c true = refl
   role_by c false = refl
 
-  role_alike : (c : Call S) → with_role role.Target (bare_call c) ≡ option_map bare_call (with_role role.Target c)
+  pub role_alike : (c : Call S) → with_role role.Target (bare_call c) ≡ option_map bare_call (with_role role.Target c)
   role_alike c =
       ap (λ t. if one_of target_functions c.function && t then Some (bare_call c) else None) (ap is_some (argument_alike c) ∙ is_there (first_argument c)) ∙ role_by c (has_role role.Target c)
 
@@ -217,7 +217,7 @@ module _ {S : Type 0} where
   literals None = refl
   literals (Some e) = literal_alike e
 
-  name_alike : (id : List ℕ) (c : Call S) → with_name id (bare_call c) ≡ option_map bare_call (with_name id c)
+  pub name_alike : (id : List ℕ) (c : Call S) → with_name id (bare_call c) ≡ option_map bare_call (with_name id c)
   name_alike id c =
       ap (λ t. if is id t then Some (bare_call c) else None) (ap (option_and_then literal) (argument_alike c) ∙ literals (first_argument c)) ∙ role_by c (is id (first_literal c))
 

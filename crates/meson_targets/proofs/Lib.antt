@@ -1,7 +1,16 @@
 pub mod AddedTargets
 mod ErasedParts
+mod ChosenParts
+mod ToldAnywhere
+mod ToldParts
+mod GoneStatements
+mod StatementTargets
+mod SetTargets
+pub mod RemovedTargets
 mod NewTargets
 mod SetNames
+mod SetVariables
+pub mod VariableStatements
 mod StatementsDoable
 mod StatementsRemoved
 mod TargetText

@@ -75,6 +75,20 @@ numbered p folder n is =
     let o = and-then-some (file_number p) (file_of_folder folder) n (some_number _ n is) in
     found_within (λ f. bytes_eq f.name o.0) p n o.2
 
+-- ---- statements
+
+nth_erased : (list : Statements Span) (n : ℕ) → nth (statement_list (erase_statements list)) n ≡ option_map erase_statement (nth (statement_list list) n)
+nth_erased no_statements n = refl
+nth_erased (statement s more) zero = refl
+nth_erased (statement s more) (suc n) = nth_erased more n
+
+pub statement_erased : (b : Block Span) (n : ℕ) → statement_in (erase_block b) n ≡ option_map erase_statement (statement_in b n)
+statement_erased (block s list) n = nth_erased list n
+
+pub some_there : (o : Option Holder) (h : Holder) → some_holder o ≡ Ok h → o ≡ Some h
+some_there None h is = absurd cc
+some_there (Some g) h is = let same : g ≡ h = cc in ap Some same
+
 module _ (old : Loaded) (whole : IsProject old) where
   abbrev p : Project Span
   p = project old
@@ -105,14 +119,6 @@ module _ (old : Loaded) (whole : IsProject old) where
 
   -- ---- a target that goes
 
-  nth_erased : (list : Statements Span) (n : ℕ) → nth (statement_list (erase_statements list)) n ≡ option_map erase_statement (nth (statement_list list) n)
-  nth_erased no_statements n = refl
-  nth_erased (statement s more) zero = refl
-  nth_erased (statement s more) (suc n) = nth_erased more n
-
-  statement_erased : (b : Block Span) (n : ℕ) → statement_in (erase_block b) n ≡ option_map erase_statement (statement_in b n)
-  statement_erased (block s list) n = nth_erased list n
-
   gone_there : (f : tree.File Span) (path : List ℕ) (n : ℕ) (s : Statement Span) → option_and_then (λ b. statement_in b.inside n) (block_at f path) ≡ Some s → (now : Plain) × (edited (RemoveStatement path n) (erase f) ≡ Some now)
   gone_there f path n s is =
       let o = and-then-some (λ (b : BlockAt Span). statement_in b.inside n) (block_at f path) s is in
@@ -129,10 +135,6 @@ module _ (old : Loaded) (whole : IsProject old) where
       let o = and-then-some (λ (f : BuildFile Span). option_and_then (λ b. statement_in b.inside line.number) (block_at f.tree line.block.path.steps)) (nth_file p line.block.file) s is in
       let g = gone_there o.0.tree line.block.path.steps line.number s o.2 in
       removal_doable (plain_trees old) line.block.file line.block.path.steps line.number (erase o.0.tree) g.0 (plain_there old.files old.parsed line.block.file o.0 o.1) (trees_stand old.files old.parsed whole.parsed) g.1
-
-  some_there : (o : Option Holder) (h : Holder) → some_holder o ≡ Ok h → o ≡ Some h
-  some_there None h is = absurd cc
-  some_there (Some g) h is = let same : g ≡ h = cc in ap Some same
 
   removed_doable : (c : Placed (Call Span)) (steps : List Step) → target_removed p c ≡ Ok steps → AreDoable steps (plain_trees old)
   removed_doable c steps is =

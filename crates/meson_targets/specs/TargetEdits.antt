@@ -114,6 +114,14 @@ pub record Holder : Type 0 where
 abbrev pub holder : {S : Type 0} → Project S → CallRef → Option Holder
 holder p c = option_and_then (λ statement. option_map (λ held. record { statement = statement; held = held }) (option_and_then held_by (statement_there p statement))) (statement_of c)
 
+-- the variable that a statement sets to the call at this place
+abbrev pub name_set : Held → Option (List ℕ)
+name_set alone = None
+name_set (set_to x) = Some x
+
+abbrev pub variable_of : {S : Type 0} → Project S → CallRef → Option (List ℕ)
+variable_of p c = option_and_then (λ h. name_set h.held) (holder p c)
+
 abbrev pub some_holder : Option Holder → Result Holder Refusal
 some_holder None = Err NotStatement
 some_holder (Some h) = Ok h

@@ -5,3 +5,4 @@ pub mod laws;
 pub mod target_adding;
 pub mod target_removing;
 mod uses;
+pub mod variable;

@@ -54,7 +54,10 @@ fn held_by(stmt: &Stmt) -> Option<Held>
 }
 
 /// The statement whose expression would stand at the place.
-fn statement_of(alloc: Global, call: &CallRef) -> Result<Option<StatementPlace>, AllocError>
+pub(crate) fn statement_of(
+    alloc: Global,
+    call: &CallRef,
+) -> Result<Option<StatementPlace>, AllocError>
     ensures { IfOk result (λ line. option_map place_view line ≡ statement_of call.now) }
 {
     let steps = call.path.steps.get();
@@ -75,7 +78,7 @@ fn statement_of(alloc: Global, call: &CallRef) -> Result<Option<StatementPlace>,
 }
 
 /// What the statement there does with its expression, if there is one.
-fn held_at(trees: &[Parsed], line: &StatementPlace) -> Option<Held>
+pub(crate) fn held_at(trees: &[Parsed], line: &StatementPlace) -> Option<Held>
     ensures there { MatchOption result ⊤ (λ held. line.now.block.file < length trees.now) }
     ensures held { (files : List File) → length trees.now ≡ length files → option_map (held_view (bytes_at line.now.block.file files)) result ≡ option_and_then held_by (statement_there (named_trees files (views files trees.now)) (place_view line.now)) }
 {

@@ -1,0 +1,293 @@
+-- A string goes from its list: what is then at each place of the trees, and where the strings that go later stand.
+use Rattle.std.specs.Prelude.{All, ◌&&◌, ◌||◌, nat_eq, if◌then◌else◌, option_map}
+use Rattle.std.specs.List.{AllByRecursion, list_any}
+use Rattle.std.proofs.Common.{◌≡◌, ℕ, Bool, true, false, List, [], ◌∷◌, ◌++◌, append-nil, length, length-append, Option, Some, None, refl, sym, ap, ◌∙◌, arith}
+use Rattle.std.proofs.lemmas.Bool.{eqb-true, eq-eqb}
+use Rattle.meson_syntax.specs.Parts.{an_expression, node_at}
+use Rattle.meson_syntax.specs.Paths.{nth}
+use Rattle.meson_syntax.specs.Tree.{Nowhere, Plain, Expression, string, Listing, Argument}
+use Rattle.meson_syntax.proofs.parsing.Steps.{some-injective}
+use Rattle.meson_syntax.proofs.paths.Every.{Every}
+use Rattle.meson_syntax.proofs.paths.Reaching.{map-some}
+use Rattle.meson_edit.specs.Edits.{elements}
+use Rattle.meson_calls.specs.declared.call.CallRef.{CallRef}
+use Rattle.meson_calls.specs.Project.{place}
+use Rattle.meson_steps.specs.ListSteps.{MayStand}
+use Rattle.meson_steps.proofs.WithOne.{changed_there, others_there}
+use Rattle.meson_sources.specs.Effects.{ListsLose, NoneIn, NoneUnder, OthersStay, StringsGo, but, elements_found, place_after, spot_at, string_child}
+use Rattle.meson_sources.specs.Effects as effects
+use Rattle.meson_sources.specs.SourceEdits.{Spot, is_path, moved_up, path_after, same_spot, spot_after, spots_after}
+use Rattle.meson_sources.proofs.ChildrenLeft.{at_list, clear_path, elements_left, kept, path_stays, seen, seen_left}
+use Rattle.meson_sources.proofs.ElementsThere.{root}
+use Rattle.meson_sources.proofs.OneGone.{without}
+use Rattle.meson_sources.proofs.PathsAfter.{length_after, is_same_path, same_paths}
+use Rattle.meson_sources.proofs.RemovalsRename as renaming
+use Rattle.meson_sources.proofs.RemovedSpots.{Without, all_apart, all_between, between, between_stand, clear, level}
+use Rattle.meson_sources.proofs.RemovedSpots as removing
+use Rattle.meson_sources.proofs.SpotsApart.{Apart, Clear, leads_back}
+use Rattle.meson_sources.proofs.RenamedStrings.{Node}
+use Rattle.meson_sources.proofs.StringsStay as lists
+use Rattle.meson_sources.proofs.StringsThere.{StringIn}
+use Rattle.meson_sources.proofs.ListsBut.{any_still, apart_not_same, but_same, but_without}
+
+-- ---- one string goes
+
+-- no element of the spot's list stands at the place or under it
+abbrev pub Untouched : Spot → CallRef → Type 0
+Untouched s c = (rest : List ℕ) → s.list.file ≡ c.file → s.list.path.steps ≡ c.path.steps ++ rest → ⊥
+
+-- nor in what stands there
+abbrev pub NotUnder : Spot → CallRef → Type 0
+NotUnder s c = (n : ℕ) (rest : List ℕ) → s.list.file ≡ c.file → s.list.path.steps ≡ c.path.steps ++ n ∷ rest → ⊥
+
+-- the elements of a list
+abbrev pub elements_any : Node → Option (List (Argument Nowhere))
+elements_any y = option_map elements (lists.list_any y)
+
+-- a spot after another one has gone, by whether it is in the same file
+abbrev pub renamed : Bool → Spot → Spot → Spot
+renamed b s u = if b then record {
+  list = place u.list.file (path_after s.list.path.steps s.number u.list.path.steps);
+  number = if is_path s.list.path.steps u.list.path.steps then moved_up s.number u.number else u.number;
+} else u
+
+-- what stands at a place, and is no string
+pub record NodeIn (trees : List Plain) (c : CallRef) (y : Node) : Type 0 where
+  pub tree : Plain
+  pub is_tree : nth trees c.file ≡ Some tree
+  pub is_node : node_at (root tree) c.path.steps ≡ Some y
+  pub other : string_child y ≡ None
+
+module _ (trees : List Plain) (all : All MayStand trees) (s : Spot) (there : StringIn trees s) where
+  abbrev path : List ℕ
+  path = s.list.path.steps
+
+  abbrev k : ℕ
+  k = s.number
+
+  abbrev gone : Without trees s there
+  gone = removing.goes trees all s there
+
+  abbrev g : renaming.Goes there.tree gone.now path k
+  g = renaming.goes there.tree gone.now (level trees all s there) path k there.it there.stands there.is_string gone.is_now
+
+  new_other : string_child g.new ≡ None
+  new_other = listed g.new g.listing g.is_listing where
+    listed : (x : Node) (l : Listing Nowhere) → lists.list_any x ≡ Some l → string_child x ≡ None
+    listed (an_expression (string t q x)) l is = absurd cc
+    listed _ l is = refl
+
+  module _ (c : CallRef) (y : Node) (h : NodeIn trees c y) where
+    in_tree : s.list.file ≡ c.file → node_at (root there.tree) c.path.steps ≡ Some y
+    in_tree file = ap (λ t. node_at (root t) c.path.steps) (some-injective _ _ (sym there.is_tree ∙ ap (nth trees) file ∙ h.is_tree)) ∙ h.is_node
+
+    clear_of : (n : ℕ) → Apart s (spot_at c n) → Clear s (spot_at c n)
+    clear_of n apart = record {
+      above = λ file. clear_path g.old g.new g.xs k g.loses new_other path (root there.tree) (root gone.now) g.put c.path.steps y (in_tree file) h.other;
+      other = apart;
+    }
+
+    -- where it is then, and what is seen of its children
+    record Moved (there_now : CallRef) (strings : List (Option (Expression Nowhere))) (left : List (Argument Nowhere) → List (Argument Nowhere)) : Type 0 where
+      node : Node
+      is : NodeIn (between trees all s there) there_now node
+      seen_is : seen node ≡ strings
+      whole : Untouched s c → node ≡ y
+      elements_are : (xs : List (Argument Nowhere)) → elements_any y ≡ Some xs → NotUnder s c → elements_any node ≡ Some (left xs)
+
+    now_in : s.list.file ≡ c.file → nth (between trees all s there) c.file ≡ Some gone.now
+    now_in file = ap (nth (between trees all s there)) (sym file) ∙ changed_there trees s.list.file there.tree gone.now there.is_tree
+
+    of_list : s.list.file ≡ c.file → path ≡ c.path.steps → Moved (place c.file (path_after path k c.path.steps)) (without k (seen y)) (without k)
+    of_list file same =
+        let at = at_list g.old g.new g.xs k g.loses new_other path (root there.tree) (root gone.now) g.put in
+        let is_old : g.old ≡ y = some-injective _ _ (sym at.0 ∙ ap (node_at (root there.tree)) same ∙ in_tree file) in
+        let stays : path_after path k c.path.steps ≡ path = ap (path_after path k) (sym same) ∙ path_stays path k in
+        record {
+          node = g.new;
+          is = record { tree = gone.now; is_tree = now_in file; is_node = ap (node_at (root gone.now)) stays ∙ at.1; other = new_other };
+          seen_is = seen_left g.old g.new g.xs k g.loses new_other ∙ ap (λ x. without k (seen x)) is_old;
+          whole = λ clear_of_it. absurd (clear_of_it [] file (same ∙ sym (append-nil c.path.steps)));
+          elements_are = λ xs are not_under.
+              let l = map-some elements (lists.list_any y) xs are in
+              ap (option_map elements) g.is_listing
+              ∙ ap Some (elements_left g.old g.new g.xs k g.loses new_other l.0 g.listing (ap lists.list_any is_old ∙ l.1) g.is_listing ∙ ap (without k) l.2);
+        }
+
+    of_other : s.list.file ≡ c.file → (path ≡ c.path.steps → ⊥) → Moved (place c.file (path_after path k c.path.steps)) (seen y) (λ xs. xs)
+    of_other file apart =
+        let r = kept g.old g.new g.xs k g.loses new_other path (root there.tree) (root gone.now) g.put c.path.steps y (in_tree file) h.other apart in
+        record {
+          node = r.node;
+          is = record { tree = gone.now; is_tree = now_in file; is_node = r.is_node; other = r.other };
+          seen_is = r.same;
+          whole = λ untouched. r.whole (λ rest equal. untouched rest file equal);
+          elements_are = λ xs are not_under. ap elements_any (r.whole (outside apart (λ n rest equal. not_under n rest file equal))) ∙ are;
+        }
+      where
+        outside : (path ≡ c.path.steps → ⊥) → ((n : ℕ) (rest : List ℕ) → path ≡ c.path.steps ++ n ∷ rest → ⊥) → (rest : List ℕ) → path ≡ c.path.steps ++ rest → ⊥
+        outside other not_under [] equal = other (equal ∙ append-nil c.path.steps)
+        outside other not_under (n ∷ rest) equal = not_under n rest equal
+
+    of_file : (s.list.file ≡ c.file → ⊥) → Moved c (seen y) (λ xs. xs)
+    of_file apart = record {
+      node = y;
+      is = record { tree = h.tree; is_tree = others_there trees s.list.file c.file gone.now apart ∙ h.is_tree; is_node = h.is_node; other = h.other };
+      seen_is = refl;
+      whole = λ untouched. refl;
+      elements_are = λ xs are not_under. are;
+    }
+
+    -- ---- what has no spot in it has none later
+
+    still_none : s.list.file ≡ c.file → (u : Spot) → Clear s u → Untouched u c → (b : Bool) → nat_eq s.list.file u.list.file ≡ b → Untouched (renamed b s u) (place c.file (path_after path k c.path.steps))
+    still_none file u clear_u untouched true is rest same equal =
+        let back = leads_back path k c.path.steps u.list.path.steps rest
+        (clear_path g.old g.new g.xs k g.loses new_other path (root there.tree) (root gone.now) g.put c.path.steps y (in_tree file) h.other) (clear_u.above (eqb-true s.list.file u.list.file is)) equal in
+        untouched back.0 same back.1
+    still_none file u clear_u untouched false is rest same equal = let yes = eq-eqb s.list.file u.list.file (file ∙ sym same) in absurd cc
+
+    all_untouched : s.list.file ≡ c.file → (ts : List Spot) → Every (Clear s) ts → AllByRecursion (λ u. Untouched u c) ts → AllByRecursion (λ u. Untouched u (place c.file (path_after path k c.path.steps))) (spots_after s ts)
+    all_untouched file [] every none = tt
+    all_untouched file (t ∷ ts) every none = (still_none file t every.0 none.0 (nat_eq s.list.file t.list.file) refl, all_untouched file ts every.1 none.1)
+
+    none_elsewhere : (s.list.file ≡ c.file → ⊥) → (u : Spot) → Untouched u c → (b : Bool) → nat_eq s.list.file u.list.file ≡ b → Untouched (renamed b s u) c
+    none_elsewhere apart u untouched true is rest same equal = absurd (apart (eqb-true s.list.file u.list.file is ∙ same))
+    none_elsewhere apart u untouched false is rest same equal = untouched rest same equal
+
+    elsewhere : (s.list.file ≡ c.file → ⊥) → (ts : List Spot) → AllByRecursion (λ u. Untouched u c) ts → AllByRecursion (λ u. Untouched u c) (spots_after s ts)
+    elsewhere apart [] none = tt
+    elsewhere apart (t ∷ ts) none = (none_elsewhere apart t none.0 (nat_eq s.list.file t.list.file) refl, elsewhere apart ts none.1)
+
+    -- and no other list in it
+
+    below : s.list.file ≡ c.file → (u : Spot) → Clear s u → NotUnder u c → (b : Bool) → nat_eq s.list.file u.list.file ≡ b → NotUnder (renamed b s u) (place c.file (path_after path k c.path.steps))
+    below file u clear_u not_under true is n rest same equal =
+        let back = leads_back path k c.path.steps u.list.path.steps (n ∷ rest)
+        (clear_path g.old g.new g.xs k g.loses new_other path (root there.tree) (root gone.now) g.put c.path.steps y (in_tree file) h.other) (clear_u.above (eqb-true s.list.file u.list.file is)) equal in
+        some back.0 back.1
+      where
+        some : (more : List ℕ) → u.list.path.steps ≡ c.path.steps ++ more → ⊥
+        some [] same_path =
+            let lengths = ap length equal in
+            let others = ap length (same_path ∙ append-nil c.path.steps) in
+            absurd (omega (
+              arith,
+              lengths,
+              others,
+              length_after path u.list.path.steps k,
+              length_after path c.path.steps k,
+              length-append (path_after path k c.path.steps) (n ∷ rest),
+            ))
+        some (m ∷ more) same_path = not_under m more same same_path
+    below file u clear_u not_under false is n rest same equal = let yes = eq-eqb s.list.file u.list.file (file ∙ sym same) in absurd cc
+
+    all_below : s.list.file ≡ c.file → (ts : List Spot) → Every (Clear s) ts → AllByRecursion (λ u. NotUnder u c) ts → AllByRecursion (λ u. NotUnder u (place c.file (path_after path k c.path.steps))) (spots_after s ts)
+    all_below file [] every none = tt
+    all_below file (t ∷ ts) every none = (below file t every.0 none.0 (nat_eq s.list.file t.list.file) refl, all_below file ts every.1 none.1)
+
+    below_elsewhere : (s.list.file ≡ c.file → ⊥) → (u : Spot) → NotUnder u c → (b : Bool) → nat_eq s.list.file u.list.file ≡ b → NotUnder (renamed b s u) c
+    below_elsewhere apart u not_under true is n rest same equal = absurd (apart (eqb-true s.list.file u.list.file is ∙ same))
+    below_elsewhere apart u not_under false is n rest same equal = not_under n rest same equal
+
+    all_elsewhere : (s.list.file ≡ c.file → ⊥) → (ts : List Spot) → AllByRecursion (λ u. NotUnder u c) ts → AllByRecursion (λ u. NotUnder u c) (spots_after s ts)
+    all_elsewhere apart [] none = tt
+    all_elsewhere apart (t ∷ ts) none = (below_elsewhere apart t none.0 (nat_eq s.list.file t.list.file) refl, all_elsewhere apart ts none.1)
+
+    -- ---- those that go later are the same
+
+    module _ (more : List Spot) (every : Every (Clear s) more) where
+      abbrev before : ℕ → Bool
+      before n = effects.goes (s ∷ more) c n
+
+      abbrev after_by : Bool → ℕ → Spot
+      after_by b n = if b then record {
+        list = place c.file (path_after path k c.path.steps);
+        number = if is_path path c.path.steps then moved_up k n else n;
+      } else spot_at c n
+
+      pub record Next (now : CallRef) : Type 0 where
+        pub node : Node
+        pub is : NodeIn (between trees all s there) now node
+        pub strings : but (effects.goes (spots_after s more) now) (seen node) ≡ but before (seen y)
+        pub whole : Untouched s c → node ≡ y
+        pub untouched : AllByRecursion (λ u. Untouched u c) more → AllByRecursion (λ u. Untouched u now) (spots_after s more)
+        pub left : List (Argument Nowhere) → List (Argument Nowhere)
+        pub elements_are : (xs : List (Argument Nowhere)) → elements_any y ≡ Some xs → NotUnder s c → elements_any node ≡ Some (left xs)
+        pub left_are : (xs : List (Argument Nowhere)) → but (effects.goes (spots_after s more) now) (left xs) ≡ but before xs
+        pub under : AllByRecursion (λ u. NotUnder u c) more → AllByRecursion (λ u. NotUnder u now) (spots_after s more)
+
+      -- another spot of the place goes later where it went
+      later : (n : ℕ) → Apart s (spot_at c n) → list_any (λ u. same_spot u (spot_after s (spot_at c n))) (spots_after s more) ≡ before n
+      later n apart = any_still s (spot_at c n) (clear_of n apart) more every ∙ ap (λ b. b || effects.goes more c n) (sym (apart_not_same s (spot_at c n) apart))
+
+      by_path : nat_eq s.list.file c.file ≡ true → (b : Bool) → is_path path c.path.steps ≡ b → Next (place c.file (path_after path k c.path.steps))
+      by_path file true is =
+          let files = eqb-true s.list.file c.file file in
+          let same = same_paths path c.path.steps is in
+          let m = of_list files same in
+          let now = place c.file (path_after path k c.path.steps) in
+          let gone_here : before k ≡ true =
+          ap (λ b. (b && (is_path path c.path.steps && nat_eq k k)) || effects.goes more c k) file
+          ∙ ap (λ b. (b && nat_eq k k) || effects.goes more c k) is ∙ ap (λ b. b || effects.goes more c k) (eq-eqb k k refl) in
+          let moves : (n : ℕ) → spot_after s (spot_at c n) ≡ spot_at now (moved_up k n) = λ n.
+          ap (λ b. after_by b n) file ∙ ap (λ b. record { list = now; number = if b then moved_up k n else n }) is in
+          let later_same : (n : ℕ) → (k ≡ n → ⊥) → effects.goes (spots_after s more) now (moved_up k n) ≡ before n = λ n other.
+          ap (λ t. list_any (λ u. same_spot u t) (spots_after s more)) (sym (moves n)) ∙ later n (λ equal. other equal.2) in
+          record {
+            node = m.node;
+            is = m.is;
+            strings = ap (but (effects.goes (spots_after s more) now)) m.seen_is ∙ but_without k (effects.goes (spots_after s more) now) before gone_here later_same (seen y);
+            whole = m.whole;
+            untouched = all_untouched files more every;
+            left = without k;
+            elements_are = m.elements_are;
+            left_are = but_without k (effects.goes (spots_after s more) now) before gone_here later_same;
+            under = all_below files more every;
+          }
+      by_path file false is =
+          let files = eqb-true s.list.file c.file file in
+          let not_same : path ≡ c.path.steps → ⊥ = λ same. let yes = is_same_path path c.path.steps same in cc in
+          let m = of_other files not_same in
+          let now = place c.file (path_after path k c.path.steps) in
+          let moves : (n : ℕ) → spot_after s (spot_at c n) ≡ spot_at now n = λ n.
+          ap (λ b. after_by b n) file ∙ ap (λ b. record { list = now; number = if b then moved_up k n else n }) is in
+          let later_same : (n : ℕ) → effects.goes (spots_after s more) now n ≡ before n = λ n.
+          ap (λ t. list_any (λ u. same_spot u t) (spots_after s more)) (sym (moves n)) ∙ later n (λ equal. not_same equal.1) in
+          record {
+            node = m.node;
+            is = m.is;
+            strings = ap (but (effects.goes (spots_after s more) now)) m.seen_is ∙ but_same (effects.goes (spots_after s more) now) before later_same (seen y);
+            whole = m.whole;
+            untouched = all_untouched files more every;
+            left = λ xs. xs;
+            elements_are = m.elements_are;
+            left_are = but_same (effects.goes (spots_after s more) now) before later_same;
+            under = all_below files more every;
+          }
+
+      by_file : (b : Bool) → nat_eq s.list.file c.file ≡ b → Next (after_by b 0).list
+      by_file true is = by_path is (is_path path c.path.steps) refl
+      by_file false is =
+          let not_same : s.list.file ≡ c.file → ⊥ = λ same. let yes = eq-eqb s.list.file c.file same in cc in
+          let m = of_file not_same in
+          let later_same : (n : ℕ) → effects.goes (spots_after s more) c n ≡ before n = λ n.
+          ap (λ t. list_any (λ u. same_spot u t) (spots_after s more)) (sym (ap (λ b. after_by b n) is)) ∙ later n (λ equal. not_same equal.0) in
+          record {
+            node = m.node;
+            is = m.is;
+            strings = ap (but (effects.goes (spots_after s more) c)) m.seen_is ∙ but_same (effects.goes (spots_after s more) c) before later_same (seen y);
+            whole = m.whole;
+            untouched = elsewhere not_same more;
+            left = λ xs. xs;
+            elements_are = m.elements_are;
+            left_are = but_same (effects.goes (spots_after s more) c) before later_same;
+            under = all_elsewhere not_same more;
+          }
+
+      pub next : Next (spot_after s (spot_at c 0)).list
+      next = by_file (nat_eq s.list.file c.file) refl
+
+  pub all_clear : (ts : List Spot) → Every (StringIn trees) ts → Every (Apart s) ts → Every (Clear s) ts
+  all_clear [] are apart = tt
+  all_clear (t ∷ ts) are apart = (clear trees all s there t are.0 apart.0, all_clear ts are.1 apart.1)

@@ -1,0 +1,70 @@
+-- The sources and the extra files that are named are gone from all lists that held them, and nothing else is.
+use Rattle.std.specs.Prelude.{All, Result, Ok}
+use Rattle.std.proofs.Common.{◌≡◌, ℕ, List, Some, ap, ◌∙◌}
+use Rattle.meson_lex.specs.declared.kinds.Span.{Span}
+use Rattle.meson_splice.specs.Patch.{then_ok}
+use Rattle.meson_syntax.specs.Tree.{Plain}
+use Rattle.meson_calls.specs.declared.refusal.Refusal.{Refusal}
+use Rattle.meson_calls.specs.Calls as calls
+use Rattle.meson_calls.specs.Expansion.{Mark}
+use Rattle.meson_calls.specs.Loading.{IsProject, Loaded, project}
+use Rattle.meson_calls.specs.Sources.{once, source_marks, sources_key}
+use Rattle.meson_steps.specs.Names.{checked_names, distinct}
+use Rattle.meson_steps.specs.Results.{plain_trees}
+use Rattle.meson_steps.specs.Steps.{Step, all_stepped}
+use Rattle.meson_steps.proofs.PlainTrees.{trees_stand}
+use Rattle.meson_steps.proofs.WentWell.{once_was, then_was}
+use Rattle.meson_sources.specs.Effects.{ExtraIsRemoved, NamesGo, SourcesAreRemoved}
+use Rattle.meson_sources.specs.SourceEdits.{checked_extra, distinct_spots, extra_marks, removed, spots_named}
+use Rattle.meson_sources.specs.Standings.{MarkStands}
+use Rattle.meson_sources.proofs.DistinctSpots.{distinct_apart, every_distinct}
+use Rattle.meson_sources.proofs.ExtrasAddable.{checked_marks}
+use Rattle.meson_sources.proofs.NamedSpots.{named_spots}
+use Rattle.meson_sources.proofs.RemovedSources.{named_stand}
+use Rattle.meson_sources.proofs.RemovedSpots.{all_in}
+use Rattle.meson_sources.proofs.StringsGone.{lists_lose, others_stay, strings_go}
+use Rattle.meson_sources.proofs.StringsThere.{StringIn}
+use Rattle.meson_sources.proofs.TargetMarks.{extras_stand, sources_stand}
+use Rattle.meson_sources.proofs.TargetsFound.{targets_stand}
+
+module _ (old : Loaded) (is : IsProject old) (marks : List (Mark Span)) (stand : All (MarkStands (project old)) marks) where
+  abbrev spots_steps : List (List ℕ) → List (Mark Span) → Result (List Step) Refusal
+  spots_steps names ms = then_ok (spots_named ms (distinct names)) (λ spots. Ok (removed (distinct_spots spots)))
+
+  names_go : (names : List (List ℕ)) (steps : List Step) (after : List Plain) → spots_steps names marks ≡ Ok steps → all_stepped steps (plain_trees old) ≡ Some after → NamesGo marks names (plain_trees old) after
+  names_go names steps after made done =
+      let found = then_was (spots_named marks (distinct names)) (λ spots. Ok (removed (distinct_spots spots))) steps made in
+      let there = distinct_spots found.0 in
+      let same : removed there ≡ steps = let r = found.2 in cc in
+      let stepped : all_stepped (removed there) (plain_trees old) ≡ Some after = ap (λ s. all_stepped s (plain_trees old)) same ∙ done in
+      let stands = trees_stand old.files old.parsed is.parsed in
+      let are = all_in old found.0 (named_stand (project old) marks stand (distinct names) found.0 found.1) in
+      let each = every_distinct (StringIn (plain_trees old)) found.0 are in
+      record {
+        spots = found.0;
+        are_spots = found.1;
+        of_names = named_spots marks (distinct names) found.0 found.1;
+        lists = lists_lose there (plain_trees old) after stands each (distinct_apart found.0) stepped;
+        gone = strings_go there (plain_trees old) after stands each (distinct_apart found.0) stepped;
+        others = others_stay there (plain_trees old) after stands each (distinct_apart found.0) stepped;
+      }
+
+pub sources-are-removed : SourcesAreRemoved
+sources-are-removed old is id c found names steps after made done =
+    let p = project old in
+    let marks = source_marks p c in
+    let stand = sources_stand old is.parsed c (targets_stand p id c found) in
+    let keys = calls.keyword sources_key c.it in
+    let a = then_was (checked_names names) (λ _. then_ok (once sources_key keys marks) (spots_steps old is marks stand names)) steps made in
+    let b = then_was (once sources_key keys marks) (spots_steps old is marks stand names) steps a.2 in
+    let same = once_was sources_key keys marks b.0 b.1 in
+    names_go old is marks stand names steps after (ap (spots_steps old is marks stand names) same ∙ b.2) done
+
+pub extra-is-removed : ExtraIsRemoved
+extra-is-removed old is id c found names steps after made done =
+    let p = project old in
+    let marks = extra_marks p c in
+    let stand = extras_stand old is.parsed c (targets_stand p id c found) in
+    let a = then_was (checked_extra p c names) (spots_steps old is marks stand names) steps made in
+    let same = checked_marks p c names a.0 a.1 in
+    names_go old is marks stand names steps after (ap (spots_steps old is marks stand names) same ∙ a.2) done
