@@ -1,0 +1,9 @@
+pub mod Cuts
+pub mod Joins
+pub mod Meetings
+pub mod Runs
+pub mod Counting
+pub mod Files
+pub mod Pieces
+pub mod Written
+pub mod Patched

@@ -1,0 +1,48 @@
+-- Alignments of two texts: each line is kept, goes or comes.
+use Rattle.std.specs.Prelude.{◌≡◌, ℕ, ◌<◌, Bool, true, false, List, filter, get_or, length, map}
+use Rattle.meson_diff.specs.Lines.{lines}
+use Rattle.meson_diff.specs.declared.entry.Entry.{Entry}
+use Rattle.meson_diff.specs.declared.entry.Mark.{Mark}
+use Rattle.meson_diff.specs.declared.entry.Mark.TheVariants.{Kept, Gone, Come}
+
+-- whether a line of that mark is one of the old text
+abbrev pub is_old : Mark → Bool
+is_old Kept = true
+is_old Gone = true
+is_old Come = false
+
+-- whether it is one of the new text
+abbrev pub is_new : Mark → Bool
+is_new Kept = true
+is_new Gone = false
+is_new Come = true
+
+abbrev pub is_changed : Mark → Bool
+is_changed Kept = false
+is_changed Gone = true
+is_changed Come = true
+
+-- the lines of the old text: those that are kept or go, in order
+abbrev pub old_lines : List Entry → List (List ℕ)
+old_lines entries = map (λ e. e.line) (filter (λ e. is_old e.mark) entries)
+
+-- the lines of the new text: those that are kept or come, in order
+abbrev pub new_lines : List Entry → List (List ℕ)
+new_lines entries = map (λ e. e.line) (filter (λ e. is_new e.mark) entries)
+
+-- the entries are the lines of both texts
+pub record IsAlignment (old new : List ℕ) (entries : List Entry) : Type 0 where
+  pub of_old : old_lines entries ≡ lines old
+  pub of_new : new_lines entries ≡ lines new
+
+-- ---- how one is made
+
+-- these lines, all of that mark
+abbrev pub marked : Mark → List (List ℕ) → List Entry
+marked mark these = map (λ line. record { mark = mark; line = line }) these
+
+-- behind so many lines each, both texts go on with one line
+pub record IsMeeting (old new : List (List ℕ)) (gone come : ℕ) : Type 0 where
+  pub in_old : gone < length old
+  pub in_new : come < length new
+  pub one_line : (d : List ℕ) → get_or old gone d ≡ get_or new come d

@@ -1,0 +1,5 @@
+pub mod Lines
+pub mod Alignment
+pub mod Hunks
+pub mod Diff
+pub mod Laws

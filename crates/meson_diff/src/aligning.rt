@@ -1,0 +1,119 @@
+//! The alignment of two texts: which lines are kept.
+
+ghost use Rattle.std.specs.Prelude.{◌≡◌, ◌+◌, ◌++◌, ◌-◌, ◌<◌, ◌≤◌, IfOk, IfSome, OnOk, drop, length, true};
+ghost use Rattle.meson_diff.specs.Alignment.{IsMeeting, new_lines, old_lines};
+
+use crate::entry::{Entry, Mark, push_all};
+use crate::line::Line;
+use std::alloc::{AllocError, Global};
+
+/// How many lines of each text are looked at for one that both go on with.
+const REACH: usize = 64;
+
+/// How many lines go and how many come before both texts go on with one line.
+#[derive(Drop)]
+struct Meeting {
+    gone: usize,
+    come: usize,
+}
+
+/// Whether both texts go on with one line behind so many lines each.
+fn is_meeting(old: &[Line<'_>], new: &[Line<'_>], gone: usize, come: usize) -> bool
+    ensures { result ≡ true → IsMeeting old.now new.now gone come }
+{
+    gone < old.len() && come < new.len() && old[gone].text() == new[come].text()
+}
+
+/// The nearest place where both texts go on with one line: that with the fewest lines in between.
+fn next_meeting(old: &[Line<'_>], new: &[Line<'_>]) -> Option<Meeting>
+    ensures { IfSome result (λ m. IsMeeting old.now new.now m.gone m.come) }
+{
+    for distance in 0..2 * REACH + 1 {
+        for gone in distance.saturating_sub(REACH)..distance.min(REACH) + 1 {
+            let come = distance - gone;
+            if is_meeting(old, new, gone, come) {
+                return Some(Meeting { gone, come });
+            }
+        }
+    }
+    None
+}
+
+/// With how many lines both texts end.
+fn common_tail(old: &[Line<'_>], new: &[Line<'_>]) -> usize
+    ensures in_old { result ≤ length old.now }
+    ensures in_new { result ≤ length new.now }
+    ensures same { drop (length old.now - result) old.now ≡ drop (length new.now - result) new.now }
+{
+    let most = old.len().min(new.len());
+    for n in 0..most {
+        if !is_meeting(old, new, old.len() - 1 - n, new.len() - 1 - n) {
+            return n;
+        }
+    }
+    most
+}
+
+/// Adds the lines that go and those that come before both texts go on with one line, and that line.
+fn push_meeting<'a>(
+    entries: &mut Vec<Entry<'a>>,
+    old: &[Line<'a>],
+    new: &[Line<'a>],
+    at: &Meeting,
+) -> Result<(), AllocError>
+    requires { IsMeeting old.now new.now at.now.gone at.now.come }
+    ensures of_old { OnOk result (old_lines entries.new.items ++ drop (at.now.gone + 1) old.now ≡ old_lines entries.old.items ++ old.now) }
+    ensures of_new { OnOk result (new_lines entries.new.items ++ drop (at.now.come + 1) new.now ≡ new_lines entries.old.items ++ new.now) }
+{
+    push_all(entries, Mark::Gone, &old[..at.gone])?;
+    push_all(entries, Mark::Come, &new[..at.come])?;
+    push_all(entries, Mark::Kept, &old[at.gone..at.gone + 1])?;
+    Ok(())
+}
+
+/// The lines behind one of them.
+fn behind<'s, 'a>(lines: &'s [Line<'a>], at: usize) -> &'s [Line<'a>]
+    requires { at < length lines.now }
+    ensures { result.now ≡ drop (at + 1) lines.entry.now }
+{
+    &lines[at + 1..]
+}
+
+/// Adds the entries of two texts, each line by the nearest equal one; where none is near, the rest goes and comes.
+fn push_between<'a>(
+    entries: &mut Vec<Entry<'a>>,
+    old: &[Line<'a>],
+    new: &[Line<'a>],
+) -> Result<(), AllocError>
+    ensures of_old { OnOk result (old_lines entries.new.items ≡ old_lines entries.old.items ++ old.now) }
+    ensures of_new { OnOk result (new_lines entries.new.items ≡ new_lines entries.old.items ++ new.now) }
+{
+    let mut old_left = old;
+    let mut new_left = new;
+    while let Some(at) = next_meeting(old_left, new_left) {
+        push_meeting(entries, old_left, new_left, &at)?;
+        old_left = behind(old_left, at.gone);
+        new_left = behind(new_left, at.come);
+    }
+    push_all(entries, Mark::Gone, old_left)?;
+    push_all(entries, Mark::Come, new_left)?;
+    Ok(())
+}
+
+/// The entries of two texts: the lines that both end with are kept, and so are those before them that are found again.
+pub(crate) fn aligned<'a>(
+    alloc: Global,
+    old: &[Line<'a>],
+    new: &[Line<'a>],
+) -> Result<Vec<Entry<'a>>, AllocError>
+    ensures of_old { IfOk result (λ v. old_lines v.items ≡ old.now) }
+    ensures of_new { IfOk result (λ v. new_lines v.items ≡ new.now) }
+{
+    let tail = common_tail(old, new);
+    let (old_front, end) = old.split_at(old.len() - tail);
+    let (new_front, _) = new.split_at(new.len() - tail);
+    let mut entries = Vec::new(alloc);
+    push_between(&mut entries, old_front, new_front)?;
+    push_all(&mut entries, Mark::Kept, end)?;
+    Ok(entries)
+}
