@@ -1,5 +1,5 @@
 -- A listing is made and refused as its info command is planned, and so as it is performed.
-use Rattle.std.proofs.Common.{◌≡◌, ℕ, List, [], ◌∷◌, Some, refl, sym, ap, ◌∙◌, subst}
+use Rattle.std.proofs.Common.{◌≡◌, ℕ, List, [], ◌∷◌, Some, arith, refl, sym, ap, ◌∙◌, subst}
 use Rattle.std.specs.Prelude.{Result, Ok, Err, length, option_map, option_and_then, ◌≤◌}
 use Rattle.std.proofs.lemmas.List.Elements.{All-cons, All-nil}
 use Rattle.serde_json.specs.Data.{Data}
@@ -24,26 +24,27 @@ use Rattle.meson_sources.specs.Extras.{extra_files, extra_of_call}
 use Rattle.meson_sources.specs.SourceEdits.{extra_key, extra_marks}
 use Rattle.meson_steps.specs.declared.command.Command.{Command}
 use Rattle.meson_steps.specs.declared.command.Command.TheVariants as command
-use Rattle.meson_steps.specs.Results.{AreShallow, AreSmall, plain_trees}
+use Rattle.meson_steps.specs.declared.command.Done.{Done}
+use Rattle.meson_steps.specs.Results.{AreShallow, AreSmall, plain_trees, saturated}
 use Rattle.meson_steps.specs.Steps.{Step, StepsMake, none, step, all_stepped}
 use Rattle.meson_steps.proofs.PlainTrees.{parsed_shallow}
 use Rattle.meson_calls.proofs.CallsFound.{CallAt, role_found}
 use Rattle.meson_plan.specs.declared.details.Head.{Head}
 use Rattle.meson_plan.specs.Details.{head, head_of, keywords, keywords_of_call}
-use Rattle.meson_plan.specs.Performing.{MayRefuse, unplanned, deep, large}
+use Rattle.meson_plan.specs.Performing.{MayRefuse, Performs, unplanned, deep, large}
 use Rattle.meson_plan.specs.Planning.{call_told, key_told, keys_told, planned, target_told}
 use Rattle.meson_listing.specs.Entries.{call_data, target_data}
-use Rattle.meson_listing.specs.Laws.{CallsAgree, CallsListed, IsListedAs, TargetsAgree, TargetsListed, no_steps}
+use Rattle.meson_listing.specs.Laws.{CallsAgree, CallsListed, DoesNothing, IsListedAs, TargetsAgree, TargetsListed, no_steps}
 use Rattle.meson_listing.specs.Listing as listing
 use Rattle.meson_listing.specs.Listing.{kwargs_listing, or_not_found, target_at, target_listing}
 
 -- ---- the call that is found has a head
 
-record HasHead (value : Expression Span) : Type 0 where
-  told : Head
-  is_told : head_of value ≡ Some told
+pub record HasHead (value : Expression Span) : Type 0 where
+  pub told : Head
+  pub is_told : head_of value ≡ Some told
 
-has_head : (value : Expression Span) (it : Call Span) → call_of value ≡ Some it → HasHead value
+pub has_head : (value : Expression Span) (it : Call Span) → call_of value ≡ Some it → HasHead value
 has_head (call s f l) it is = record { told = _; is_told = refl }
 has_head _ it is = absurd cc
 
@@ -51,10 +52,10 @@ module _ (l : Loaded) (c : Placed (Call Span)) (at : CallAt (project l) c) where
   abbrev p : Project Span
   p = project l
 
-  abbrev its_head : HasHead at.value
+  abbrev pub its_head : HasHead at.value
   its_head = has_head at.value c.it at.is_call
 
-  head_is : head p c.place ≡ Some its_head.told
+  pub head_is : head p c.place ≡ Some its_head.told
   head_is = ap (option_and_then head_of) at.is_at ∙ its_head.is_told
 
   call_is : call_at p c.place ≡ Some c
@@ -63,7 +64,7 @@ module _ (l : Loaded) (c : Placed (Call Span)) (at : CallAt (project l) c) where
   sources_are : sources p c.place ≡ Some (sources_of_call p c)
   sources_are = ap (option_map (sources_of_call p)) call_is
 
-  extras_are : extra_files p c.place ≡ Some (extra_of_call p c)
+  pub extras_are : extra_files p c.place ≡ Some (extra_of_call p c)
   extras_are = ap (option_map (extra_of_call p)) call_is
 
   keywords_are : (r : Role) → keywords l r c.place ≡ Some (keywords_of_call (bytes_at c.place.file l.files) r c.it)
@@ -163,8 +164,25 @@ parsed_small (f ∷ files) (t ∷ parsed) are = All-cons Small f files are.0.rea
 same_trees : (l : Loaded) (steps : List Step) (trees : List Plain) → steps ≡ [] → all_stepped steps (plain_trees l) ≡ Some trees → trees ≡ plain_trees l
 same_trees l steps trees empty is = let same : Some (plain_trees l) ≡ Some trees = ap (λ s. all_stepped s (plain_trees l)) (sym empty) ∙ is in cc
 
+none_saturated : 0 ≡ saturated 0
+none_saturated = omega arith
+
+-- without steps nothing changes, and the limits are those of the files
+nothing_done : (l : Loaded) (c : Command) (done : Done) → planned (project l) c ≡ Ok [] → IsProject l → DoesNothing done → Performs l c done l
+nothing_done l c done planned_none whole nothing = record {
+  made = record { steps = []; are_planned = planned_none; trees = plain_trees l; are_trees = refl; splices = []; files = l.files; bytes = 0; are_done = none l.files };
+  shallow = parsed_shallow l.files l.parsed whole.parsed;
+  small = parsed_small l.files l.parsed whole.parsed;
+  is_change = nothing.no_splices;
+  is_untitled = nothing.untitled;
+  is_relexed = nothing.nothing_lexed ∙ none_saturated;
+  are_files = refl;
+  are_trees = refl;
+}
+
 listed_as : (l : Loaded) (c : Command) (x : Result Data Refusal) → no_steps x ≡ planned (project l) c → IsListedAs l c x
 listed_as l c x agree = record {
+  done = λ d done is whole nothing. nothing_done l c done (sym agree ∙ ap no_steps is) whole nothing;
   made = λ done new performs. is_made x performs.made.steps (agree ∙ performs.made.are_planned);
   refused = λ e refuses whole. by e refuses whole;
 }

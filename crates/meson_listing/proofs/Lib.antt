@@ -1,8 +1,12 @@
+mod CallsHeld
+mod CallPlacesListed
+mod FoundListed
 mod Names
+mod FileSteps
 mod Puts
 mod Rising
 pub mod Agreeing
-mod Found
+mod TargetsTold
 pub mod ByTrees
 pub mod ReadTexts
 pub mod OnTexts

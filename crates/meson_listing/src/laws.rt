@@ -1,7 +1,9 @@
 //! Laws of the listings. The functions do nothing; each one's contract is a law.
 
-ghost use Rattle.meson_listing.specs.Laws.{CallsAgree, CallsListed, NamesRise, TargetsAgree, TargetsListed};
+ghost use Rattle.meson_listing.specs.Laws.{CallsAgree, CallsListed, FoundAreListed, NamesRise, TargetsAgree, TargetsListed};
 ghost use Rattle.meson_listing.specs.Rows.{DependencyRow, ProjectRow, RefusedRows, TargetRow};
+
+use meson_calls::laws::parts_are_all;
 
 /// The listing of a target is made where its info command is planned, and refused with the same refusal.
 pub fn targets_agree()
@@ -27,6 +29,14 @@ pub fn calls_listed()
 pub fn names_rise()
     ensures { NamesRise }
 {}
+
+/// Each call that an id finds is among the targets that are listed of a project, and has the id there as its name or as its
+/// variable.
+pub fn found_are_listed()
+    ensures { FoundAreListed }
+{
+    parts_are_all();
+}
 
 /// What is listed of some build files.
 pub fn rows()

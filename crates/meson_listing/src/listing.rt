@@ -5,7 +5,7 @@ ghost use Rattle.serde_json.specs.View.{view};
 ghost use Rattle.meson_listing.specs.Listing.{kwargs_listing, target_listing};
 
 use crate::objects::{call_object, target_object};
-use meson_plan::{Project, Refusal, Role};
+use meson_plan::{Project, Refusal, Role, TargetDetails};
 use serde_json::Value;
 use std::alloc::Global;
 
@@ -17,12 +17,14 @@ pub fn info_target(alloc: Global, project: &Project, id: &str) -> Result<Value, 
     ensures listed { IfOk result (λ v. target_listing project.now id.now ≡ Ok (view v)) }
     ensures refused { IfErr result (λ e. e ≢ Refusal.OutOfMemory → target_listing project.now id.now ≡ Err e) }
 {
-    let call = project.find_one(alloc, Role::Target, id)?;
-    let sources = project.sources(alloc, &call)?;
-    let extra = project.extra_files(alloc, &call)?;
-    let head = project.head(alloc, &call)?;
-    let listing = target_object(alloc, project.files(), call.file, head, sources, extra)?;
-    Ok(listing)
+    let TargetDetails {
+        place,
+        head,
+        sources,
+        extra_files,
+    } = project.target_details(alloc, id)?;
+    let files = project.files();
+    Ok(target_object(alloc, files, place.file, head, sources, extra_files)?)
 }
 
 /// What is told of a call of a role: its head, and the values of its keyword arguments that commands change.

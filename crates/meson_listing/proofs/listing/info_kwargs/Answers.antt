@@ -1,4 +1,4 @@
-use Rattle.meson_listing.proofs.Found.{call_found}
+use Rattle.meson_plan.proofs.PlacesFound.{call_found}
 use Rattle.meson_listing.proofs.listing.info_kwargs.Goals as goal
 
 pub keywords-requires : goal.keywords-requires
