@@ -5,3 +5,4 @@ pub mod Places
 pub mod FileNames
 pub mod Parsed
 pub mod Asking
+pub mod NameSets

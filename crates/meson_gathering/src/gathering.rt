@@ -13,9 +13,10 @@ ghost use Rattle.meson_gathering.specs.Reading.{EntersEach, EntersFor, EntersOne
 ghost use Rattle.meson_store.specs.Calls.{one_more};
 
 use crate::fault::GatherFault;
+use crate::named_files::NamedFiles;
 use meson_calls::{MAX_FILES, entered_by};
 use meson_plan::Project;
-use meson_splice::{FileSet, Text};
+use meson_splice::Text;
 use meson_store::{Store, StoreError, StoreFault, path_in};
 use meson_syntax::{ParseFault, Parsed, parse};
 use std::alloc::{AllocError, Global};
@@ -60,7 +61,7 @@ pub fn read_file<S: Store>(
 }
 
 /// Puts a file behind the others, of which none has its name.
-fn add(alloc: Global, files: &mut FileSet, name: &str, bytes: Vec<u8>) -> Result<(), GatherFault>
+fn add(alloc: Global, files: &mut NamedFiles, name: &str, bytes: Vec<u8>) -> Result<(), GatherFault>
     requires named { IsFileName name.now }
     requires few { length files.old ≤ max_files }
     requires new { IsNone (found name.now files.old) }
@@ -71,8 +72,7 @@ fn add(alloc: Global, files: &mut FileSet, name: &str, bytes: Vec<u8>) -> Result
     if files.len() >= MAX_FILES {
         return Err(GatherFault::TooManyFiles);
     }
-    let name = String::from_str(alloc, name)?;
-    files.push_new(name, bytes)?;
+    files.push(alloc, name, bytes)?;
     Ok(())
 }
 
@@ -81,7 +81,7 @@ fn enter<S: Store>(
     alloc: Global,
     store: &mut S,
     folder: Option<&str>,
-    files: &mut FileSet,
+    files: &mut NamedFiles,
     name: &str,
 ) -> Result<(), GatherFault>
     requires named { IsFileName name.now }
@@ -97,7 +97,7 @@ fn enter<S: Store>(
     ensures asks { OnOk result (EntersOne (S.content store.old) (option_map (λ f. f.now) folder.entry) name.now files.old (S.reads store.old) files.new (S.reads store.new)) }
     ensures asks_at_most { OnErr result (OnceIfNew name.now files.old (S.reads store.old) (S.reads store.new)) }
 {
-    if files.find(name).is_some() {
+    if files.has(name) {
         return Ok(());
     }
     match read_file(alloc, store, folder, name) {
@@ -112,7 +112,7 @@ fn enter_all<S: Store>(
     alloc: Global,
     store: &mut S,
     folder: Option<&str>,
-    files: &mut FileSet,
+    files: &mut NamedFiles,
     names: &[String],
 ) -> Result<(), GatherFault>
     requires named { All IsFileName (map string_bytes names.now) }
@@ -156,7 +156,7 @@ fn unparsed(alloc: Global, name: &str, fault: ParseFault) -> GatherFault
 }
 
 /// The tree of one of the files, and the names that it enters.
-fn entry_at(alloc: Global, files: &FileSet, place: usize) -> Result<Entry, GatherFault>
+fn entry_at(alloc: Global, files: &NamedFiles, place: usize) -> Result<Entry, GatherFault>
     requires within { place < length files.now }
     requires named { All HasFileName files.now }
     ensures reads { IfOk result (λ entry. IsSpanned (bytes_at place files.now) (view (bytes_at place files.now) entry.tree)) }
@@ -179,7 +179,7 @@ fn look<S: Store>(
     alloc: Global,
     store: &mut S,
     folder: Option<&str>,
-    files: &mut FileSet,
+    files: &mut NamedFiles,
     place: usize,
 ) -> Result<Parsed, GatherFault>
     requires within { place < length files.old }
@@ -207,7 +207,7 @@ fn root_set<S: Store>(
     alloc: Global,
     store: &mut S,
     folder: Option<&str>,
-) -> Result<FileSet, GatherFault>
+) -> Result<NamedFiles, GatherFault>
     ensures root { IfOk result (λ files. (bytes : List ℕ) × (files ≡ file_of build_file bytes ∷ [])
         × Told (S.content store.old) (λ content. held content (option_map (λ f. f.now) folder.entry) build_file ≡ Some bytes)) }
     ensures stopped { IfErr result (StopsAt (S.failures store.old) (S.failures store.new)
@@ -224,8 +224,8 @@ fn root_set<S: Store>(
         Ok(None) => return Err(GatherFault::Store(StoreFault::NoFile(name))),
         Err(fault) => return Err(GatherFault::Store(fault)),
     };
-    let mut files = FileSet::new(alloc);
-    files.push_new(name.take(), bytes)?;
+    let mut files = NamedFiles::new(alloc);
+    files.push(alloc, ROOT, bytes)?;
     Ok(files)
 }
 
@@ -257,5 +257,5 @@ pub fn gather<S: Store>(
         trees.push(tree)?;
         looked += 1;
     }
-    Ok(Project::of(files, trees))
+    Ok(Project::of(files.take(), trees))
 }

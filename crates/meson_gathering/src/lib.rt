@@ -3,6 +3,7 @@
 
 mod fault;
 mod gathering;
+mod named_files;
 
 pub use fault::GatherFault;
 pub use gathering::{gather, read_file};

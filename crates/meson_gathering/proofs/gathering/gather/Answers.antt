@@ -79,12 +79,17 @@ returns-clause-files g c =
     let past : length c.looking.files ≤ c.looking.looked = omega arith in
     let folder = option_map (λ f. f.now) c.args.folder in
     λ content is. subst (λ p. Collects content folder (whole p.files)) (sym c.of.ensures)
-    (c.looking.invariant.ends content is (whole c.looking.files) (ended_all content folder c.looking.files c.looking.looked past))
+    (subst (λ fs. Collects content folder (whole fs)) (sym c.take.ensures)
+    (c.looking.invariant.ends content is (whole c.looking.files) (ended_all content folder c.looking.files c.looking.looked past)))
 
 pub of-requires : goal.of-requires
 of-requires g c =
     let past : length c.looking.files ≤ c.looking.looked = omega arith in
-    record { few = c.looking.invariant.few; named = c.looking.invariant.named; parsed = all_parsed c.looking.files c.looking.trees.items c.looking.looked past c.looking.invariant.parsed }
+    record {
+      few = subst (λ fs. length fs ≤ max_files) (sym c.take.ensures) c.looking.invariant.few;
+      named = subst (All HasFileName) (sym c.take.ensures) c.looking.invariant.named;
+      parsed = subst (λ fs. AreParsed fs c.looking.trees.items) (sym c.take.ensures) (all_parsed c.looking.files c.looking.trees.items c.looking.looked past c.looking.invariant.parsed);
+    }
 
 pub returns-clause-asks : goal.returns-clause-asks
 returns-clause-asks g c =
@@ -92,7 +97,8 @@ returns-clause-asks g c =
     let folder = option_map (λ f. f.now) c.args.folder in
     let past : length c.looking.files ≤ c.looking.looked = omega arith in
     subst (λ p. ReadsFiles (S.content c.args.store.now) folder (S.reads c.args.store.now) p.files (S.reads c.looking.store)) (sym c.of.ensures)
-    (record { place = c.looking.looked; past = past; looks = c.looking.invariant.asks })
+    (subst (λ fs. ReadsFiles (S.content c.args.store.now) folder (S.reads c.args.store.now) fs (S.reads c.looking.store)) (sym c.take.ensures)
+    (record { place = c.looking.looked; past = past; looks = c.looking.invariant.asks }))
 
 pub returns-in_err-files-clause-asks_at_most : goal.returns-in_err-files-clause-asks_at_most
 returns-in_err-files-clause-asks_at_most g c =

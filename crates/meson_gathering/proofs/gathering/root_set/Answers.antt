@@ -1,5 +1,4 @@
 use Rattle.std.proofs.Common.{◌++◌, ◌∷◌, [], ◌∙◌, sym, ap, option_map}
-use Rattle.std.specs.Prelude.{string_bytes}
 use Rattle.meson_calls.specs.Directories.{build_file}
 use Rattle.meson_gathering.specs.Gathering.{Finds, file_of, no_root, unread_root}
 use Rattle.meson_gathering.proofs.Stopping.{unread_stops}
@@ -20,6 +19,6 @@ returns-clause-root g c =
     let bytes = c.in-Ok-Some.bytes.items in
     let read = rw c.in-Ok-Some.field-0-is at c.in-Ok-Some.ensures.read in (
       bytes,
-      c.in_ok-push_new.ensures.ok ∙ ap (λ fs. fs ++ file_of (string_bytes c.take.result) bytes ∷ []) c.new-files.ensures ∙ ap (λ n. file_of n bytes ∷ []) (c.take.ensures ∙ c.in_ok-name.ensures),
+      c.in_ok-push.ensures.ok ∙ ap (λ fs. fs ++ file_of build_file bytes ∷ []) c.new-files.ensures,
       λ content is. sym (read content is),
     )
