@@ -8,3 +8,4 @@ pub mod Counts
 pub mod Outcomes
 pub mod SameTrees
 pub mod Scripts
+pub mod Undos

@@ -7,6 +7,7 @@ use Rattle.std.proofs.lemmas.List.Folds.{list_all-append}
 use Rattle.meson_splice.specs.declared.change.Change.{Change}
 use Rattle.meson_splice.specs.declared.history.History.{History}
 use Rattle.meson_splice.specs.declared.splice.Splice.{Splice}
+use Rattle.meson_splice.specs.Past.{Forgets}
 use Rattle.meson_layout.specs.Laws.{AreTexts}
 use Rattle.meson_json.specs.Log.{are_text, change_has_text, has_text, is_text}
 use Rattle.meson_json.specs.Titles.{is_title}
@@ -57,3 +58,10 @@ redone-text h k c is gone t =
     let parts = both (are_text h.future) (are_text h.past) t in
     let moved = moved-text h.future h.past k.future k.past c is gone parts.0 parts.1 in
     join (are_text k.future) (are_text k.past) moved.0 moved.1
+
+-- what is left where the oldest changes are let go
+pub forgets-text : (count : ℕ) (h k : History) → Forgets count h k → has_text h ≡ true → has_text k ≡ true
+forgets-text count h k f t =
+    let parts = both (are_text h.future) (are_text h.past) t in
+    let past = both (are_text f.gone) (are_text k.past) (sym (list_all-append change_has_text f.gone k.past) ∙ sym (ap are_text f.past) ∙ parts.1) in
+    join (are_text k.future) (are_text k.past) (ap are_text f.future ∙ parts.0) past.1

@@ -6,7 +6,7 @@ use Rattle.meson_splice.specs.declared.fault.SpliceFault.TheVariants.{NothingToR
 use Rattle.meson_splice.specs.declared.file_set.File.{File}
 use Rattle.meson_splice.specs.declared.history.History.{History}
 use Rattle.meson_splice.specs.declared.splice.Splice.{Splice}
-use Rattle.meson_splice.specs.Past.{redone, undone}
+use Rattle.meson_splice.specs.Past.{redone, undone, undone_times}
 use Rattle.meson_splice.specs.Patch.{patched_all}
 use Rattle.meson_layout.specs.Laws.{AreTexts}
 use Rattle.meson_calls.specs.declared.load_fault.LoadFault.{LoadFault}
@@ -34,6 +34,11 @@ UndoIsAStep = (h : History) (files : List File) (s t : Stack) → Stands h files
 
 abbrev pub NothingIsUndone : Type 0
 NothingIsUndone = (h : History) (files : List File) (s : Stack) → Stands h files s → undo s ≡ None → undone h files ≡ Err NothingToUndo
+
+-- so many undos of a history that fits are as many undos of the stack
+abbrev pub UndosAreSteps : Type 0
+UndosAreSteps = (count : ℕ) (h : History) (files : List File) (s t : Stack) → Stands h files s → undos count s ≡ Some t
+    → (k : History) × (undone_times count h files ≡ Ok (k, t.present)) × Stands k t.present t
 
 abbrev pub RedoIsAStep : Type 0
 RedoIsAStep = (h : History) (files : List File) (s t : Stack) → Stands h files s → redo s ≡ Some t → (k : History) × (redone h files ≡ Ok (k, t.present)) × Stands k t.present t

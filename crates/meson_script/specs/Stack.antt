@@ -1,5 +1,5 @@
 -- The undo stack: whole file sets, and which history and files stand for one.
-use Rattle.std.specs.Prelude.{◌≡◌, ◌≤◌, ⊤, ℕ, zero, suc, All, List, [], ◌∷◌, length, reverse, Option, Some, None, option_map, option_and_then, Result, Ok, Err}
+use Rattle.std.specs.Prelude.{◌≡◌, ◌≢◌, ◌<◌, ◌≤◌, ⊤, ℕ, zero, suc, All, List, [], ◌∷◌, length, reverse, Option, Some, None, option_map, option_and_then, Result, Ok, Err}
 use Rattle.meson_splice.specs.declared.change.Change.{Change}
 use Rattle.meson_splice.specs.declared.fault.SpliceFault.TheVariants as splice
 use Rattle.meson_splice.specs.declared.file_set.File.{File}
@@ -100,6 +100,10 @@ RefusesUndo s (Load load.TooManyFiles) = ⊥
 RefusesUndo s (Load (load.BadFileName i)) = ⊥
 RefusesUndo s (Load (load.Parse i fault)) = ⊥
 RefusesUndo s (Load load.OutOfMemory) = ⊤
+
+-- the same of one among so many undos, on what those before it left
+abbrev pub RefusesUndos : ℕ → Stack → UndoFault → Type 0
+RefusesUndos count s fault = (done : ℕ) × (t : Stack) × (fault ≢ Splice splice.OutOfMemory → done < count) × (undos done s ≡ Some t) × RefusesUndo t fault
 
 -- nothing is there to redo, or memory is refused
 abbrev pub RefusesRedo : Stack → UndoFault → Type 0

@@ -1,5 +1,6 @@
 -- A change that is taken back or done again on the files of a project, whatever they are.
-use Rattle.std.specs.Prelude.{◌≡◌, ◌≢◌, List, [], ◌∷◌, ◌++◌, length, Result, Ok, Err}
+use Rattle.std.specs.Prelude.{◌≡◌, ◌≢◌, ◌<◌, ℕ, List, [], ◌∷◌, ◌++◌, length, Result, Ok, Err}
+use Rattle.std.specs.List.{sum_by}
 use Rattle.serde_json.specs.Data.{array, no_items}
 use Rattle.serde_json.specs.View.{view}
 use Rattle.meson_splice.specs.declared.change.Change.{Change}
@@ -7,7 +8,9 @@ use Rattle.meson_splice.specs.declared.fault.SpliceFault.{SpliceFault}
 use Rattle.meson_splice.specs.declared.fault.SpliceFault.TheVariants.{OutOfMemory}
 use Rattle.meson_splice.specs.declared.file_set.File.{File}
 use Rattle.meson_splice.specs.declared.history.History.{History}
+use Rattle.meson_splice.specs.Past.{undone, undone_times}
 use Rattle.meson_calls.specs.Loading.{MayNotLoad}
+use Rattle.meson_steps.specs.Results.{saturated}
 use Rattle.meson_script.specs.declared.fault.UndoFault.{UndoFault}
 use Rattle.meson_script.specs.declared.fault.UndoFault.TheVariants.{Splice, Load}
 use Rattle.meson_script.specs.declared.session.Report.{Report}
@@ -36,3 +39,30 @@ pub record Steps (old : Session) (from : List Change) (step : Result (History ×
   pub title : report.title ≡ change.title
   pub relexed : report.relexed ≡ 0
   pub info : view report.info ≡ array no_items
+
+-- ---- so many undos, one after another
+
+-- of changes that are taken back, the oldest first, the title of the one that goes last
+abbrev pub oldest_title : List Change → List ℕ
+oldest_title [] = []
+oldest_title (c ∷ newer) = c.title
+
+-- The newest changes are taken back, so many: the history and files are those of as many undos. The report counts the files that
+-- differ and the splices of these changes, has the title of the oldest of them, and lists nothing.
+pub record StepsBack (count : ℕ) (old : Session) (report : Report) (new : Session) : Type 0 where
+  pub taken : List Change
+  pub are_last : old.history.past ≡ new.history.past ++ taken
+  pub many : length taken ≡ count
+  pub are_steps : undone_times count old.history old.project.files ≡ Ok (new.history, new.project.files)
+  pub files : report.files ≡ differing old.project.files new.project.files
+  pub splices : report.splices ≡ saturated (sum_by (λ c. length c.splices) taken)
+  pub title : report.title ≡ oldest_title taken
+  pub relexed : report.relexed ≡ 0
+  pub info : view report.info ≡ array no_items
+
+-- An undo among them is refused so, and those before it are done.
+pub record StopsBack (count : ℕ) (old : Session) (fault : UndoFault) (new : Session) : Type 0 where
+  pub done : ℕ
+  pub fewer : fault ≢ Splice OutOfMemory → done < count
+  pub are_done : undone_times done old.history old.project.files ≡ Ok (new.history, new.project.files)
+  pub refused : MayNotStep (undone new.history new.project.files) fault

@@ -1,6 +1,6 @@
 //! Laws of runs, undos and redos. The functions do nothing: what they ensure is the law.
 
-ghost use Rattle.meson_script.specs.Laws.{BeginsAStack, LoadsOrWantsMemory, NothingIsRedone, NothingIsUndone, RedoIsAStep, RunIsAStep, RunsPatch, RunsText, RunsThenUndosRestore, UndoIsAStep};
+ghost use Rattle.meson_script.specs.Laws.{BeginsAStack, LoadsOrWantsMemory, NothingIsRedone, NothingIsUndone, RedoIsAStep, RunIsAStep, RunsPatch, RunsText, RunsThenUndosRestore, UndoIsAStep, UndosAreSteps};
 ghost use Rattle.meson_script.specs.Outcomes.{NotRefused, NotStopped, OneOutcome, OneProject, OneRefusal, OneResult, OneStop};
 
 /// From every state, runs and then as many undos give the files before them.
@@ -22,6 +22,11 @@ pub fn run_is_a_step()
 pub fn undo_is_a_step()
     ensures step { UndoIsAStep }
     ensures none { NothingIsUndone }
+{}
+
+/// So many undos of a history that fits are as many undos of the stack.
+pub fn undos_are_steps()
+    ensures { UndosAreSteps }
 {}
 
 /// Redoing a history that fits is a redo of the stack, and nothing is refused where the stack has a future.

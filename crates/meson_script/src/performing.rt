@@ -1,15 +1,17 @@
 //! The commands of a script, one after another.
 
-ghost use Rattle.std.specs.Prelude.{◌≡◌, ◌≢◌, ◌+◌, ◌++◌, Err, IfErr, IfOk, Ok, OnOk, map, option_to_list};
+ghost use Rattle.std.specs.Prelude.{◌≡◌, ◌≢◌, ◌+◌, ◌++◌, Err, IfErr, IfOk, Ok, OnErr, OnOk, map, option_to_list};
 ghost use Rattle.serde_json.specs.View.{view};
 ghost use Rattle.meson_steps.specs.Results.{saturated};
 ghost use Rattle.meson_calls.specs.declared.refusal.Refusal.TheVariants.{OutOfMemory};
+ghost use Rattle.meson_calls.specs.Loading.{IsProject};
+ghost use Rattle.meson_plan.specs.Performing.{MayRefuse, Performs};
 ghost use Rattle.meson_script.specs.Running.{MayStop, Reaches, Runs, told};
 
 use crate::fault::RunFault;
 use meson_listing::{info_kwargs, info_target};
 use meson_plan::{Command, Done, Project, Refusal};
-use meson_splice::{Change, Splice};
+use meson_splice::{Change, Many, Splice};
 use serde_json::Value;
 use std::alloc::{AllocError, Global};
 
@@ -25,14 +27,13 @@ pub(crate) struct Ran {
 
 impl Ran {
     /// Puts what one more command did and told behind it.
-    fn add(&mut self, done: Done, listing: Option<Value>) -> Result<(), AllocError>
+    fn add(&mut self, done: Done, listings: Vec<Value>) -> Result<(), AllocError>
         ensures splices { OnOk result (self.new.splices.items ≡ self.old.splices.items ++ done.change.splices) }
         ensures relexed { OnOk result (self.new.relexed ≡ saturated (self.old.relexed + done.relexed)) }
-        ensures listings { OnOk result (self.new.listings.items ≡ self.old.listings.items ++ option_to_list listing) }
+        ensures listings { OnOk result (self.new.listings.items ≡ self.old.listings.items ++ listings.items) }
     {
-        if let Some(listing) = listing {
-            self.listings.push(listing)?;
-        }
+        let mut listings = listings;
+        self.listings.append(&mut listings)?;
         let Done { change, relexed } = done;
         let Change { splices, title: _ } = change;
         self.splices.append(&mut splices.take())?;
@@ -72,6 +73,32 @@ pub(crate) fn listed(
     Ok(listings)
 }
 
+/// Does a command that tells this, or nothing. One that tells something changes nothing.
+///
+/// # Errors
+/// The first refusal that holds, or want of memory.
+pub(crate) fn performed(
+    alloc: Global,
+    project: &mut Project,
+    command: &Command,
+    listings: &[Value],
+) -> Result<Done, Refusal>
+    requires { told project.old command.now ≡ Ok (map view listings.now) }
+    ensures done { IfOk result (λ done. Performs project.old command.now done project.new) }
+    ensures refused { IfErr result (λ e. e ≢ OutOfMemory → MayRefuse project.old command.now e) }
+    ensures kept { OnErr result (project.new ≡ project.old) }
+    ensures project { IsProject project.new }
+{
+    if listings.is_empty() {
+        return project.perform(alloc, command);
+    }
+    project.reads();
+    Ok(Done {
+        change: Change::untitled(alloc, Many::new(alloc)),
+        relexed: 0,
+    })
+}
+
 /// Does the commands in order. Where one is refused, those before it are done.
 ///
 /// # Errors
@@ -92,15 +119,15 @@ pub(crate) fn perform_all(
     };
     for (index, command) in commands.iter().enumerate() {
         project.reads();
-        let listing = match told(alloc, project, command) {
-            Ok(listing) => listing,
+        let listings = match listed(alloc, project, command) {
+            Ok(listings) => listings,
             Err(refusal) => return Err(RunFault { index, refusal }),
         };
-        let done = match project.perform(alloc, command) {
+        let done = match performed(alloc, project, command, listings.as_slice()) {
             Ok(done) => done,
             Err(refusal) => return Err(RunFault { index, refusal }),
         };
-        if let Err(refused) = ran.add(done, listing) {
+        if let Err(refused) = ran.add(done, listings) {
             return Err(RunFault {
                 index,
                 refusal: Refusal::from(refused),

@@ -6,13 +6,13 @@ ghost use Rattle.meson_calls.specs.declared.refusal.Refusal.TheVariants.{OutOfMe
 ghost use Rattle.meson_json.specs.Log.{has_text};
 ghost use Rattle.meson_json.specs.Titles.{is_title};
 ghost use Rattle.meson_script.specs.Running.{Keeps, MayStop, Reaches};
-ghost use Rattle.meson_script.specs.Stack.{RefusesRedo, RefusesUndo, Stack, Stands, ran, redo, undo};
-ghost use Rattle.meson_script.specs.Undoing.{MayNotStep, Steps};
+ghost use Rattle.meson_script.specs.Stack.{RefusesRedo, RefusesUndo, RefusesUndos, Stack, Stands, ran, redo, undo, undos};
+ghost use Rattle.meson_script.specs.Undoing.{MayNotStep, Steps, StepsBack, StopsBack};
 ghost use Rattle.meson_splice.specs.Past.{redone, undone};
 
 use crate::counting::count_differing;
 use crate::fault::{RunFault, UndoFault, Unstarted};
-use crate::performing::{listed, perform_all};
+use crate::performing::{listed, perform_all, performed};
 use crate::stepping::{done_again, taken_back};
 use meson_json::Script;
 use meson_plan::{Command, Done, Project, Refusal};
@@ -60,6 +60,14 @@ fn unmade(refused: AllocError) -> RunFault
         index: 0,
         refusal: Refusal::from(refused),
     }
+}
+
+/// How many splices were done, and what the change is for.
+fn counted(report: Report) -> (usize, Text)
+    ensures { result ≡ (report.splices, report.title) }
+{
+    let Report { splices, title, .. } = report;
+    (splices, title)
 }
 
 impl Session {
@@ -180,7 +188,7 @@ impl Session {
             self.history.past = Many::of(past);
             return Err(unmade(refused));
         }
-        match self.project.perform(alloc, command) {
+        match performed(alloc, &mut self.project, command, listings.as_slice()) {
             Ok(done) => {
                 self.project.reads();
                 let Done { change, relexed } = done;
@@ -278,6 +286,40 @@ impl Session {
         self.project = project;
         Ok(Report {
             files,
+            splices,
+            relexed: 0,
+            info: Value::Array(Vec::new(alloc)),
+            title,
+        })
+    }
+
+    /// Takes the newest changes back, so many, one after another as that many undos do. The report counts the splices of all of them,
+    /// up to the greatest number, and has the title of the change that was taken back last; where none is, it counts nothing and has no title.
+    ///
+    /// # Errors
+    /// An undo among them is refused. Those before it are done then.
+    pub fn undo_to(&mut self, alloc: Global, count: usize) -> Result<Report, UndoFault>
+        ensures done { IfOk result (λ r. StepsBack count self.old r self.new) }
+        ensures refused { IfErr result (λ f. StopsBack count self.old f self.new) }
+        // Of a history that fits, these are undos of the stack, and only an empty past is refused.
+        ensures step { OnOk result ((s : Stack) → Stands self.old.history self.old.project.files s
+            → (t : Stack) × (undos count s ≡ Some t) × Stands self.new.history self.new.project.files t) }
+        ensures fits { IfErr result (λ f. (s : Stack) → Stands self.old.history self.old.project.files s → RefusesUndos count s f) }
+        ensures text { OnOk result (has_text self.old.history ≡ true → has_text self.new.history ≡ true) }
+        // The new files read as the new trees.
+        ensures project { OnOk result (IsProject self.new.project) }
+    {
+        let before = self.project.files().clone()?;
+        let mut splices: usize = 0;
+        let mut title = Text::of(String::new(alloc));
+        for _ in 0..count {
+            let (more, last) = counted(self.undo(alloc)?);
+            splices = splices.saturating_add(more);
+            title = last;
+        }
+        self.project.reads();
+        Ok(Report {
+            files: count_differing(&before, self.project.files()),
             splices,
             relexed: 0,
             info: Value::Array(Vec::new(alloc)),

@@ -11,9 +11,9 @@ loop-index-init c = nothing-run c.args.project.now c.new.result.items c.new-2.re
 pub loop-index-preserved : goal.loop-index-preserved
 loop-index-preserved c =
     let l = c.loop-index in
-    one-more c.args.project.now l.project c.perform.new.self c.args.commands.now l.index l.ran.splices.items c.add.new.self.splices.items l.ran.relexed c.add.new.self.relexed
-    l.ran.listings.items c.add.new.self.listings.items (option_to_list c.in-Ok.listing) c.index-commands-index.result c.in-Ok-perform.done
-    l.invariant c.reads.ensures c.loop-index-test.true c.index-commands-index.is c.in-Ok.ensures.told c.in-Ok-perform.ensures.done c.in_default.ensures.splices c.in_default.ensures.relexed c.in_default.ensures.listings
+    one-more c.args.project.now l.project c.performed.new.project c.args.commands.now l.index l.ran.splices.items c.add.new.self.splices.items l.ran.relexed c.add.new.self.relexed
+    l.ran.listings.items c.add.new.self.listings.items c.in-Ok.listings.items c.index-commands-index.result c.in-Ok-performed.done
+    l.invariant c.reads.ensures c.loop-index-test.true c.index-commands-index.is c.in-Ok.ensures.told c.in-Ok-performed.ensures.done c.in_default.ensures.splices c.in_default.ensures.relexed c.in_default.ensures.listings
 
 pub returns-in-Err-clause-refused : goal.returns-in-Err-clause-refused
 returns-in-Err-clause-refused c = λ told.
@@ -21,11 +21,11 @@ returns-in-Err-clause-refused c = λ told.
     stops-there c.args.project.now l.project c.args.commands.now l.index l.ran.splices.items l.ran.relexed (map view l.ran.listings.items) c.index-commands-index.result c.in-Err.refusal
     l.invariant c.reads.ensures c.loop-index-test.true c.index-commands-index.is (told-refused l.project c.index-commands-index.result c.in-Err.refusal (c.in-Err.ensures.refused told))
 
-pub returns-in-Err-perform-clause-refused : goal.returns-in-Err-perform-clause-refused
-returns-in-Err-perform-clause-refused c = λ told.
+pub returns-in-Err-performed-clause-refused : goal.returns-in-Err-performed-clause-refused
+returns-in-Err-performed-clause-refused c = λ told.
     let l = c.loop-index in
-    stops-there c.args.project.now l.project c.args.commands.now l.index l.ran.splices.items l.ran.relexed (map view l.ran.listings.items) c.index-commands-index.result c.in-Err-perform.refusal
-    l.invariant c.reads.ensures c.loop-index-test.true c.index-commands-index.is (c.in-Err-perform.ensures.refused told)
+    stops-there c.args.project.now l.project c.args.commands.now l.index l.ran.splices.items l.ran.relexed (map view l.ran.listings.items) c.index-commands-index.result c.in-Err-performed.refusal
+    l.invariant c.reads.ensures c.loop-index-test.true c.index-commands-index.is (c.in-Err-performed.ensures.refused told)
 
 pub returns-clause-done : goal.returns-clause-done
 returns-clause-done c =
@@ -37,8 +37,8 @@ returns-in-Err-clause-index c =
     let l = c.loop-index in
     reaches c.args.project.now l.project c.args.commands.now l.index l.ran.splices.items l.ran.relexed (map view l.ran.listings.items) l.invariant (omega (arith, c.loop-index-test.true))
 
-pub returns-in-Err-perform-clause-index : goal.returns-in-Err-perform-clause-index
-returns-in-Err-perform-clause-index c =
+pub returns-in-Err-performed-clause-index : goal.returns-in-Err-performed-clause-index
+returns-in-Err-performed-clause-index c =
     let l = c.loop-index in
     reaches c.args.project.now l.project c.args.commands.now l.index l.ran.splices.items l.ran.relexed (map view l.ran.listings.items) l.invariant (omega (arith, c.loop-index-test.true))
 

@@ -16,28 +16,28 @@ pub count_differing-requires : goal.count_differing-requires
 count_differing-requires c =
     let old = c.args.self.now.project in
     ap names (c.in-Ok.ensures.cases ∙ c.files.ensures)
-    ∙ change-names old.files c.in-Ok-perform.done.change.splices c.perform.new.self.files (performs-patch old c.args.command.now c.in-Ok-perform.done c.perform.new.self c.in-Ok-perform.ensures.done)
-    ∙ ap names (sym c.files-in-Ok-perform.ensures)
+    ∙ change-names old.files c.in-Ok-performed.done.change.splices c.performed.new.project.files (performs-patch old c.args.command.now c.in-Ok-performed.done c.performed.new.project c.in-Ok-performed.ensures.done)
+    ∙ ap names (sym c.files-in-Ok-performed.ensures)
 
-pub returns-in-Ok-perform-clause-done : goal.returns-in-Ok-perform-clause-done
-returns-in-Ok-perform-clause-done c =
+pub returns-in-Ok-performed-clause-done : goal.returns-in-Ok-performed-clause-done
+returns-in-Ok-performed-clause-done c =
     let old = c.args.self.now in
-    let done = c.in-Ok-perform.done in
+    let done = c.in-Ok-performed.done in
     let made : Change = record { splices = done.change.splices; title = c.args.title.now } in
     let pushed : Change = record { splices = done.change.splices; title = c.in-Ok-titles.both.0 } in
     let is : pushed ≡ made = ap (λ both. let x : Change = record { splices = done.change.splices; title = both.0 } in x) c.in-Ok-titles.ensures in
-    let past : c.of-in-Ok-perform.result ≡ old.history.past ++ made ∷ [] =
-    c.of-in-Ok-perform.ensures ∙ c.push_reserved.ensures.items ∙ ap (λ cs. cs ++ pushed ∷ []) (c.reserve.ensures.items ∙ c.take-past.ensures ∙ c.replace.ensures.value) ∙ ap (λ x. old.history.past ++ x ∷ []) is in
+    let past : c.of-in-Ok-performed.result ≡ old.history.past ++ made ∷ [] =
+    c.of-in-Ok-performed.ensures ∙ c.push_reserved.ensures.items ∙ ap (λ cs. cs ++ pushed ∷ []) (c.reserve.ensures.items ∙ c.take-past.ensures ∙ c.replace.ensures.value) ∙ ap (λ x. old.history.past ++ x ∷ []) is in
     record {
       splices = done.change.splices;
       listings = map view c.in-Ok-listed.listings.items;
-      runs = one-run old.project c.perform.new.self c.args.command.now done (map view c.in-Ok-listed.listings.items) c.reads.ensures c.in-Ok-listed.ensures.told c.in-Ok-perform.ensures.done;
+      runs = one-run old.project c.performed.new.project c.args.command.now done (map view c.in-Ok-listed.listings.items) c.reads.ensures c.in-Ok-listed.ensures.told c.in-Ok-performed.ensures.done;
       kept = ap₂ (λ before behind. let h : History = record { past = before; future = behind } in h) past c.clear.ensures;
-      files = c.count_differing.ensures ∙ ap₂ differing (c.in-Ok.ensures.cases ∙ c.files.ensures) c.files-in-Ok-perform.ensures;
+      files = c.count_differing.ensures ∙ ap₂ differing (c.in-Ok.ensures.cases ∙ c.files.ensures) c.files-in-Ok-performed.ensures;
       count = ap length c.get.ensures;
       info = view-Array c.in-Ok-listed.listings;
       is_title = ap (λ both. both.1) c.in-Ok-titles.ensures;
     }
 
 pub returns-clause-refused : goal.returns-clause-refused
-returns-clause-refused c = λ other. one-stops c.args.self.now.project c.args.command.now c.in-Err-perform.refusal c.reads.ensures (c.in-Err-perform.ensures.refused other)
+returns-clause-refused c = λ other. one-stops c.args.self.now.project c.args.command.now c.in-Err-performed.refusal c.reads.ensures (c.in-Err-performed.ensures.refused other)
