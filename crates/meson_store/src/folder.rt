@@ -12,7 +12,10 @@ use std::os::unix::fs::{MetadataExt, OpenOptionsExt, fchown};
 use std::rt::Files;
 use std::{fs, io};
 
-/// A longer file counts as a failed read.
+/// The name by which standard input is read. A file of that name is `./-`.
+const STANDARD_INPUT: &str = "-";
+
+/// A longer file, or more on standard input, counts as a failed read.
 const MOST_BYTES: usize = 67_108_864;
 
 /// What stands behind a file's name while it is written: the first of these that is free.
@@ -40,9 +43,10 @@ const FOR_ALL: u32 = 0o666;
 /// The files of the file system, read and written through the runtime.
 ///
 /// A file is replaced as a whole: its new bytes are written to a new file beside it, which then takes its name.
-/// Only regular files are read. A name below a regular file is that of an absent one.
+/// Only regular files are read, and standard input, to its end, by the name `-`. A name below a regular file is that of an
+/// absent one.
 #[derive(Drop)]
-pub struct Folder<R: Files + Drop> {
+pub struct Folder<R: Files + Input + Drop> {
     rt: R,
     names: Names,
     failures: u64,
@@ -50,7 +54,7 @@ pub struct Folder<R: Files + Drop> {
     replaces: u64,
 }
 
-impl<R: Files + Drop> Folder<R>
+impl<R: Files + Input + Drop> Folder<R>
 where
     R::File: AsFd,
 {
@@ -85,7 +89,7 @@ where
     }
 }
 
-/// A regular file that is open, and how many bytes it had then.
+/// What is to be read: a regular file that is open, and how many bytes it had then; or standard input, as if it had none.
 #[derive(Drop)]
 struct Opened<F: Drop> {
     file: F,
@@ -124,8 +128,24 @@ fn is_absent(kind: ErrorKind) -> bool {
     kind == ErrorKind::NotFound || kind == ErrorKind::NotADirectory
 }
 
+/// The bytes of standard input, to its end.
+fn read_input<R: Input>(rt: &R, alloc: Global) -> Result<Vec<u8>, StoreError> {
+    let opened = Opened {
+        file: rt.reader(),
+        len: 0,
+    };
+    contents_of(alloc, opened)
+}
+
 /// The bytes of a file, or none where there is no such file.
-fn read_file<R: Files>(rt: &R, alloc: Global, name: &str) -> Result<Option<Vec<u8>>, StoreError> {
+fn read_file<R: Files + Input>(
+    rt: &R,
+    alloc: Global,
+    name: &str,
+) -> Result<Option<Vec<u8>>, StoreError> {
+    if name == STANDARD_INPUT {
+        return Ok(Some(read_input(rt, alloc)?));
+    }
     match open_regular(rt, name) {
         Ok(opened) => Ok(Some(contents_of(alloc, opened)?)),
         Err(e) => {
@@ -294,7 +314,7 @@ where
     end
 }
 
-impl<R: Files + Drop> Store for Folder<R>
+impl<R: Files + Input + Drop> Store for Folder<R>
 where
     R::File: AsFd,
 {
