@@ -1,4 +1,4 @@
--- Where help is among the kinds of fault that may come, it is the one that comes.
+-- Where help or the version is among the kinds of fault that may come, it is the one that comes.
 use Rattle.std.proofs.Common.{◌≡◌, ◌&&◌, ◌||◌, ℕ, Bool, true, false, not, zero, suc, List, [], ◌∷◌, length, drop, Option, Some, None, is_some, inl, inr, codes, refl, sym, ap, encode_utf8}
 use Rattle.std.specs.Prelude.{◌==◌, if◌then◌else◌, find, nat_lt, slice_get}
 use Rattle.std.specs.Option.{option_map_or}
@@ -15,16 +15,20 @@ use Rattle.clap.specs.declared.builder.action.ArgAction.{ArgAction}
 use Rattle.clap.specs.declared.builder.action.ArgAction.TheVariants as action
 use Rattle.clap.specs.declared.builder.value_parser.ValueParser.{ValueParser}
 use Rattle.clap.specs.declared.error.kind.ErrorKind.{ErrorKind}
-use Rattle.clap.specs.declared.error.kind.ErrorKind.TheVariants.{DisplayHelp}
+use Rattle.clap.specs.declared.error.kind.ErrorKind.TheVariants.{DisplayHelp, DisplayVersion}
 
 pub record Clean (ks : Kinds) : Type 0 where
   pub alone : IsAmong DisplayHelp ks → ks ≡ DisplayHelp ∷ []
+  pub version_alone : IsAmong DisplayVersion ks → ks ≡ DisplayVersion ∷ []
 
 none : Clean []
-none = record { alone = λ h. absurd h }
+none = record { alone = λ h. absurd h; version_alone = λ h. absurd h }
+
+only : (k x : ErrorKind) → IsAmong x (k ∷ []) → k ∷ [] ≡ x ∷ []
+only k x h = elim h [ inl e ↦ ap (λ z. z ∷ []) (sym e) | inr e ↦ absurd e ]
 
 one : (k : ErrorKind) → Clean (k ∷ [])
-one k = record { alone = λ h. elim h [ inl e ↦ ap (λ x. x ∷ []) (sym e) | inr e ↦ absurd e ] }
+one k = record { alone = only k DisplayHelp; version_alone = only k DisplayVersion }
 
 or : (a b : Kinds) → Clean a → Clean b → Clean (or_else a b)
 or [] b h k = k
@@ -122,7 +126,10 @@ other s e (Some name) word h = rw (and_not (bytes_eq name (codes "help")) s.disa
 other s e None word h = choose (bytes_eq word (45 ∷ 45 ∷ [])) _ _ none (flag_word s.rules s.args_override_self (long_of word) word h)
 
 stray : (s : Shape) → Clean (stray_fault s)
-stray s = choose s.is_leaf _ _ (one _) (record { alone = λ h. elim h [ inl e ↦ cc | inr k ↦ elim k [ inl e ↦ cc | inr e ↦ absurd e ] ] })
+stray s = choose s.is_leaf _ _ (one _) (record {
+  alone = λ h. elim h [ inl e ↦ cc | inr k ↦ elim k [ inl e ↦ cc | inr e ↦ absurd e ] ];
+  version_alone = λ h. elim h [ inl e ↦ cc | inr k ↦ elim k [ inl e ↦ cc | inr e ↦ absurd e ] ];
+})
 
 step_is : (s : Shape) (position : ℕ) (h : Held) (x : Step) → Clean (step_fault s position h x)
 step_is s position h step.value = found (arg_by_index s.rules position)

@@ -1,4 +1,5 @@
 pub mod Reading
+pub mod Counting
 pub mod NoHelp
 pub mod HelpAlone
 pub mod Taken

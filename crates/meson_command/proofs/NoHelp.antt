@@ -1,16 +1,18 @@
--- No subcommand asks for help.
-use Rattle.std.proofs.Common.{◌≡◌, Bool, true, false, List, Option, Result, Ok, Err, codes, refl, ap, subst}
+-- No subcommand asks for help or the version.
+use Rattle.std.proofs.Common.{◌≡◌, Bool, true, false, List, Option, Some, None, Result, Ok, Err, codes, refl, ap, subst}
 use Rattle.std.specs.Prelude.{IfOk, bytes_eq, if◌then◌else◌, ok_or}
 use Rattle.clap.specs.Words.{Row, Text, first_of}
 use Rattle.meson_calls.specs.declared.call.Role.{Role}
 use Rattle.meson_splice.specs.Patch.{then_ok}
-use Rattle.meson_command.specs.Actions.{action_of, kwargs_action, kwargs_by, options_action, options_by, is_json, script_action, target_action, target_by, target_words, word_at, words_at}
+use Rattle.meson_command.specs.Actions.{action_of, kwargs_action, history_by, kwargs_by, list_action, options_action, options_by, is_json, other_action, script_action, target_action, target_by, target_words, undo_by, word_at, words_at}
 use Rattle.meson_command.specs.Asking.{asked_from, names_no_folder, title_in, with_title, without_help_text, without_text}
 use Rattle.meson_command.specs.declared.asked.Action.{Action}
-use Rattle.meson_command.specs.declared.asked.Action.TheVariants.{Run, Info, ScriptText, ScriptFile, Undo, Redo, Help}
+use Rattle.meson_command.specs.declared.asked.Action.TheVariants as action
+use Rattle.meson_command.specs.declared.asked.Action.TheVariants.{Run, Info, ScriptText, ScriptFile, Undo, UndoTo, Redo, History, ForgetOldest, ForgetAll, Help, Version}
 use Rattle.meson_command.specs.declared.asked.Asked.{Asked}
 use Rattle.meson_json.specs.Titles.{is_title}
 use Rattle.meson_json.specs.Operations.{kwargs_operation, options_operation, role_of}
+use Rattle.meson_command.specs.Counts.{count_of}
 use Rattle.meson_command.specs.Pairs.{pairs_of}
 use Rattle.meson_command.specs.declared.fault.UsageFault.TheVariants.{Usage, BadTitle}
 use Rattle.meson_json.specs.declared.names.KwargsOperation.{KwargsOperation}
@@ -23,6 +25,7 @@ use Rattle.meson_json.specs.declared.target.TargetMembers.{TargetMembers}
 
 abbrev pub IsPlain : Action → Type 0
 IsPlain (Help text) = ⊥
+IsPlain Version = ⊥
 IsPlain _ = Unit {0}
 
 -- what it answers, if it answers, is so
@@ -94,15 +97,25 @@ script_action-plain : (rows : List Row) → IsPlain (script_action rows)
 unfolding script_action
 script_action-plain rows = script-plain (is_json (word_at (codes "JSON") rows)) (word_at (codes "JSON") rows)
 
+undo-plain : (word : Option Text) → Answers IsPlain (undo_by word)
+undo-plain None = ok _ tt
+undo-plain (Some word) = after (ok_or (count_of word) Usage) _ (λ n. ok _ tt)
+
+history-plain : (word : Option Text) → Answers IsPlain (history_by word)
+history-plain None = ok _ tt
+history-plain (Some word) = either (bytes_eq word (codes "all")) _ _ (ok _ tt) (after (ok_or (count_of word) Usage) _ (λ n. ok _ tt))
+
 action-plain : (name : Text) (rows : List Row) → Answers IsPlain (action_of name rows)
-unfolding action_of
+unfolding action_of other_action
 action-plain name rows =
     either (bytes_eq name (codes "target")) _ _ (target_action-plain rows)
     (either (bytes_eq name (codes "kwargs")) _ _ (kwargs_action-plain rows)
     (either (bytes_eq name (codes "default-options")) _ _ (options_action-plain rows)
     (either (bytes_eq name (codes "command")) _ _ (ok (script_action rows) (script_action-plain rows))
-    (either (bytes_eq name (codes "undo")) _ _ (ok Undo tt)
-    (either (bytes_eq name (codes "redo")) _ _ (ok Redo tt) (err Usage))))))
+    (either (bytes_eq name (codes "undo")) _ _ (undo-plain (first_of (codes "N") rows))
+    (either (bytes_eq name (codes "redo")) _ _ (ok Redo tt)
+    (either (bytes_eq name (codes "history")) _ _ (history-plain (first_of (codes "N") rows))
+    (either (bytes_eq name (codes "list")) _ _ (ok (list_action rows) tt) (err Usage))))))))
 
 titled : (rows : List Row) (a : Action) → IsPlain a → Answers (λ x. IsPlain x.action) (with_title rows a)
 titled rows a plain = either (is_title (title_in rows)) _ _ (ok _ plain) (err BadTitle)
@@ -121,8 +134,14 @@ same (Info command) h = refl
 same (ScriptText text) h = refl
 same (ScriptFile name) h = refl
 same Undo h = refl
+same (UndoTo count) h = refl
 same Redo h = refl
+same History h = refl
+same (ForgetOldest count) h = refl
+same ForgetAll h = refl
+same (action.List json) h = refl
 same (Help text) h = absurd h
+same Version h = absurd h
 
 pub no_help : (rows : List Row) (subcommand : Option (Text × List Row)) (a : Asked) → asked_from rows subcommand ≡ Ok a → without_text a ≡ a
 no_help rows subcommand a is = ap (λ (x : Action). record a { action = x }) (same a.action (not_help rows subcommand a is))

@@ -1,5 +1,5 @@
--- Where help is answered, and where the usage is wrong though clap takes the words.
-use Rattle.std.proofs.Common.{◌≡◌, ◌∙◌, ◌∷◌, ◌||◌, ◌&&◌, ◌⊎◌, inl, inr, Bool, true, false, not, List, [], Option, Some, None, Result, Ok, Err, is_some, bytes_eq, codes, refl, sym, ap}
+-- Where help and the version are answered, and where the usage is wrong though clap takes the words.
+use Rattle.std.proofs.Common.{◌≡◌, ◌≢◌, ◌∙◌, ◌∷◌, ◌||◌, ◌&&◌, ◌⊎◌, inl, inr, Bool, true, false, not, List, [], Option, Some, None, Result, Ok, Err, is_some, bytes_eq, codes, refl, sym, ap}
 use Rattle.std.specs.Prelude.{find, option_map, unwrap_or, if◌then◌else◌, ok_or}
 use Rattle.std.specs.List.{list_any}
 use Rattle.std.proofs.lemmas.Slice.Eq.{bytes_eq-Decides}
@@ -10,39 +10,44 @@ use Rattle.clap.specs.Simple.{App, Shape, argument_words, built, entered, label_
 use Rattle.clap.specs.Takes.{is_given}
 use Rattle.clap.specs.Walk.{Held, Names, answers_to, finished, nothing_held, settled, walk, walk_from}
 use Rattle.clap.specs.Words.{Row, Text, fault_of, first_of, matches_of, subcommand_of}
-use Rattle.clap.specs.declared.error.kind.ErrorKind.TheVariants.{DisplayHelp}
+use Rattle.clap.specs.declared.error.kind.ErrorKind.TheVariants.{DisplayHelp, DisplayVersion}
 use Rattle.meson_calls.specs.declared.call.Role.{Role}
 use Rattle.meson_splice.specs.Patch.{then_ok}
-use Rattle.meson_command.specs.Actions.{action_of, kwargs_action, kwargs_by, options_action, target_action, word_at, words_at}
-use Rattle.meson_command.specs.Asking.{answer, asked_from, asked_of, help, is_help, names_no_folder, title_in, with_title}
-use Rattle.meson_command.specs.Laws.{HelpWhereAsked, IsUnknown, UsageMeansUnknown}
+use Rattle.meson_command.specs.Actions.{action_of, history_by, kwargs_action, kwargs_by, options_action, other_action, target_action, undo_by, word_at, words_at}
+use Rattle.meson_command.specs.Asking.{answer, asked_from, asked_of, help, is_dry, names_no_folder, title_in, version, with_title}
+use Rattle.meson_command.specs.Counts.{count_of}
+use Rattle.meson_command.specs.Laws.{HelpWhereAsked, IsNoCount, IsUnknown, UsageMeansUnknown, VersionWhereAsked}
 use Rattle.meson_json.specs.Titles.{is_title}
 use Rattle.meson_json.specs.Operations.{kwargs_operation, options_operation, role_of}
 use Rattle.meson_command.specs.Operations.{target_operation}
 use Rattle.meson_command.specs.Pairs.{in_pairs, names, pairs_of, repeats}
-use Rattle.meson_command.specs.Program.{command, default_options, kwargs, program, redo, target, undo}
+use Rattle.meson_command.specs.Program.{command, default_options, history, kwargs, list, program, redo, target, undo}
 use Rattle.meson_command.specs.declared.asked.Action.{Action}
 use Rattle.meson_command.specs.declared.asked.Asked.{Asked}
 use Rattle.meson_command.specs.declared.fault.UsageFault.{UsageFault}
 use Rattle.meson_command.specs.declared.fault.UsageFault.TheVariants.{Usage, OddWords, RepeatedKey, BadTitle}
+use Rattle.meson_command.specs.declared.asked.Action.TheVariants.{ForgetAll, ForgetOldest}
 use Rattle.meson_json.specs.declared.names.KwargsOperation.{KwargsOperation}
 use Rattle.meson_json.specs.declared.names.KwargsOperation.TheVariants as of_kwargs
 use Rattle.meson_command.proofs.HelpAlone.{Clean}
 use Rattle.meson_command.proofs.NoHelp.{not_help}
-use Rattle.meson_command.proofs.Taken.{as_taken, help_alone, help_is}
+use Rattle.meson_command.proofs.Taken.{as_taken, by_help, by_version, help_alone}
 
--- ---- help
-
-is_first : (b : Bool) → (if b then Ok help else Err Usage) ≡ Ok help → b ≡ true
-is_first true e = refl
-is_first false e = cc
+-- ---- help and the version
 
 shown_by : (ks : Kinds) (words : List Text) → Clean ks → answer ks (asked_of words) ≡ Ok help → ks ≡ DisplayHelp ∷ []
 shown_by [] words c e = absurd (not_help _ _ _ e)
-shown_by (k ∷ ks) words c e = c.alone (inl (sym (help_is k (is_first (is_help k) e))))
+shown_by (k ∷ ks) words c e = c.alone (inl (sym (by_help k e)))
+
+version_by : (ks : Kinds) (words : List Text) → Clean ks → answer ks (asked_of words) ≡ Ok version → ks ≡ DisplayVersion ∷ []
+version_by [] words c e = absurd (not_help _ _ _ e)
+version_by (k ∷ ks) words c e = c.version_alone (inl (sym (by_version k e)))
 
 pub help-law : HelpWhereAsked
 help-law words = (λ e. shown_by (fault_of program words) words (help_alone words) e, λ e. ap (λ ks. answer ks (asked_of words)) e)
+
+pub version-law : VersionWhereAsked
+version-law words = (λ e. version_by (fault_of program words) words (help_alone words) e, λ e. ap (λ ks. answer ks (asked_of words)) e)
 
 -- ---- a command whose subcommand has to be there has one where nothing is wrong
 
@@ -73,12 +78,12 @@ level-some s names h words has below needs e =
 
 -- where clap takes the words, there is a subcommand
 entered_one : (words : List Text) → fault_of program words ≡ [] → is_some (subcommand_of program words) ≡ true
-unfolding program target kwargs default_options command undo redo
+unfolding program target kwargs default_options command undo redo history list
 entered_one words e =
     let stop = (walk (built program).top.rules (names_of (built program)) nothing_held (argument_words program words)).stopped in
     level-some (built program).top (names_of (built program)) nothing_held (argument_words program words) (is_some (entered (built program) stop)) (entered_fault (built program) stop) refl e
 
--- ---- it is one of the six
+-- ---- it is one of the eight
 
 or_true : (b : Bool) → (b || true) ≡ true
 or_true true = refl
@@ -102,10 +107,10 @@ entered-name a (Some p) name rows e = found-name (λ s. answers_to p.0 (label_of
 
 abbrev is_known : Text → Bool
 is_known name = bytes_eq name (codes "target") || (bytes_eq name (codes "kwargs") || (bytes_eq name (codes "default-options")
-    || (bytes_eq name (codes "command") || (bytes_eq name (codes "undo") || (bytes_eq name (codes "redo") || false)))))
+    || (bytes_eq name (codes "command") || (bytes_eq name (codes "undo") || (bytes_eq name (codes "redo") || (bytes_eq name (codes "history") || (bytes_eq name (codes "list") || false)))))))
 
 known : (words : List Text) (name : Text) (rows : List Row) → subcommand_of program words ≡ Some (name, rows) → is_known name ≡ true
-unfolding program target kwargs default_options command undo redo
+unfolding program target kwargs default_options command undo redo history list
 known words name rows e =
     entered-name (built program) (walk (built program).top.rules (names_of (built program)) nothing_held (argument_words program words)).stopped name rows e
 
@@ -161,6 +166,30 @@ options-unknown : (rows : List Row) → options_action rows ≡ Err Usage → op
 unfolding options_action
 options-unknown rows e = missing (options_operation (word_at (codes "OPERATION") rows)) _ (λ o. after_pairs (pairs_of (words_at (codes "OPTION VALUE") rows)) _ (pairs-not _) (λ ps x. cc)) e
 
+undo-unknown : (o : Option Text) → undo_by o ≡ Err Usage → (word : Text) × IsNoCount o word
+undo-unknown None e = cc
+undo-unknown (Some word) e = (word, (refl, missing (count_of word) _ (λ n x. cc) e))
+
+abbrev forgets : Bool → Text → Result Action UsageFault
+forgets every word = if every then Ok ForgetAll else then_ok (ok_or (count_of word) Usage) (λ count. Ok (ForgetOldest count))
+
+not_all : (every : Bool) (word : Text) → forgets every word ≡ Err Usage → (every ≡ false) × (count_of word ≡ None)
+not_all true word e = cc
+not_all false word e = (refl, missing (count_of word) _ (λ n x. cc) e)
+
+differ : (b : Bool) → b ≡ true → b ≡ false → ⊥
+differ true t f = cc
+differ false t f = cc
+
+another : (word x : Text) → bytes_eq word x ≡ false → word ≢ x
+another word x e is = differ (bytes_eq word x) ((bytes_eq-Decides word x).1 is) e
+
+history-unknown : (o : Option Text) → history_by o ≡ Err Usage → (word : Text) × (word ≢ codes "all") × IsNoCount o word
+history-unknown None e = cc
+history-unknown (Some word) e =
+    let not = not_all (bytes_eq word (codes "all")) word e in
+    (word, another word (codes "all") not.0, (refl, not.1))
+
 by_name : {P : Type 0} (b : Bool) (x y : Result Action UsageFault) (rest : Bool) → (if b then x else y) ≡ Err Usage → (b || rest) ≡ true
     → (b ≡ true → x ≡ Err Usage → P) → (y ≡ Err Usage → rest ≡ true → P) → P
 by_name true x y rest e k h n = h refl e
@@ -170,14 +199,16 @@ named : (name x : Text) → bytes_eq name x ≡ true → name ≡ x
 named name x e = (bytes_eq-Decides name x).0 e
 
 unknown : (name : Text) (rows : List Row) → is_known name ≡ true → action_of name rows ≡ Err Usage → IsUnknown name rows
-unfolding action_of
+unfolding action_of other_action
 unknown name rows k e =
     by_name (bytes_eq name (codes "target")) _ _ _ e k (λ b x. inl (named _ _ b, target-unknown rows x)) (λ e k.
     by_name (bytes_eq name (codes "kwargs")) _ _ _ e k (λ b x. inr (inl (named _ _ b, kwargs-unknown rows x))) (λ e k.
-    by_name (bytes_eq name (codes "default-options")) _ _ _ e k (λ b x. inr (inr (named _ _ b, options-unknown rows x))) (λ e k.
+    by_name (bytes_eq name (codes "default-options")) _ _ _ e k (λ b x. inr (inr (inl (named _ _ b, options-unknown rows x)))) (λ e k.
     by_name (bytes_eq name (codes "command")) _ _ _ e k (λ b x. cc) (λ e k.
-    by_name (bytes_eq name (codes "undo")) _ _ _ e k (λ b x. cc) (λ e k.
-    by_name (bytes_eq name (codes "redo")) _ _ _ e k (λ b x. cc) (λ e k. cc))))))
+    by_name (bytes_eq name (codes "undo")) _ _ _ e k (λ b x. inr (inr (inr (inl (named _ _ b, undo-unknown _ x))))) (λ e k.
+    by_name (bytes_eq name (codes "redo")) _ _ _ e k (λ b x. cc) (λ e k.
+    by_name (bytes_eq name (codes "history")) _ _ _ e k (λ b x. inr (inr (inr (inr (named _ _ b, history-unknown _ x))))) (λ e k.
+    by_name (bytes_eq name (codes "list")) _ _ _ e k (λ b x. cc) (λ e k. cc))))))))
 
 -- ---- wrong usage
 
@@ -188,7 +219,7 @@ abbrev wrong : Result Asked UsageFault
 wrong = Err Usage
 
 -- a title that is none is no wrong usage
-by_title : (rows : List Row) (a : Action) (b : Bool) → (if b then Ok (record { dir = first_of (codes "DIR") rows; title = title_in rows; action = a }) else Err BadTitle) ≡ wrong → ⊥
+by_title : (rows : List Row) (a : Action) (b : Bool) → (if b then Ok (record { dir = first_of (codes "DIR") rows; title = title_in rows; dry_run = is_dry rows; action = a }) else Err BadTitle) ≡ wrong → ⊥
 by_title rows a true e = cc
 by_title rows a false e = cc
 

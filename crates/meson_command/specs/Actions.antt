@@ -1,5 +1,5 @@
 -- What the words of a subcommand ask for.
-use Rattle.std.specs.Prelude.{ℕ, Bool, false, ◌||◌, ◌==◌, not, List, [], ◌∷◌, codes, bytes_eq, find, map, if◌then◌else◌, ok_or, unwrap_or, Result, Ok, Err}
+use Rattle.std.specs.Prelude.{ℕ, Bool, false, ◌||◌, ◌==◌, not, List, [], ◌∷◌, codes, bytes_eq, find, map, if◌then◌else◌, Option, Some, None, ok_or, unwrap_or, Result, Ok, Err}
 use Rattle.std.specs.Option.{option_map_or}
 use Rattle.clap.specs.Words.{Row, Text, all_of, first_of}
 use Rattle.meson_calls.specs.declared.call.Role.{Role}
@@ -10,10 +10,12 @@ use Rattle.meson_steps.specs.declared.command.Setting.{Setting}
 use Rattle.meson_steps.specs.declared.command.Setting.TheVariants as setting
 use Rattle.meson_json.specs.Operations.{kwargs_operation, options_operation, role_of}
 use Rattle.meson_json.specs.Targets.{target_command}
+use Rattle.meson_command.specs.Counts.{count_of}
 use Rattle.meson_command.specs.Operations.{target_operation}
 use Rattle.meson_command.specs.Pairs.{names, pairs_of}
 use Rattle.meson_command.specs.declared.asked.Action.{Action}
-use Rattle.meson_command.specs.declared.asked.Action.TheVariants.{Run, Info, ScriptText, ScriptFile, Undo, Redo}
+use Rattle.meson_command.specs.declared.asked.Action.TheVariants as action
+use Rattle.meson_command.specs.declared.asked.Action.TheVariants.{Run, Info, ScriptText, ScriptFile, Undo, UndoTo, Redo, History, ForgetOldest, ForgetAll}
 use Rattle.meson_command.specs.declared.fault.UsageFault.{UsageFault}
 use Rattle.meson_command.specs.declared.fault.UsageFault.TheVariants.{Usage, Unsupported}
 use Rattle.meson_json.specs.declared.names.KwargsOperation.{KwargsOperation}
@@ -35,6 +37,10 @@ word_at name rows = word_or [] name rows
 
 abbrev pub words_at : Text → List Row → List Text
 words_at name rows = unwrap_or (all_of name rows) []
+
+-- whether a flag is there
+abbrev pub is_set : Text → List Row → Bool
+is_set name rows = bytes_eq (word_at name rows) (codes "true")
 
 -- the script of one command
 abbrev pub run : Command → Action
@@ -104,7 +110,39 @@ is_json word = option_map_or (λ b. b == 91 || b == 123) (find (λ b. not (is_bl
 unfoldable pub script_action : List Row → Action
 script_action rows = let word = word_at (codes "JSON") rows in if is_json word then ScriptText word else ScriptFile word
 
+-- ---- undo [--to N], history [--forget N]
+
+abbrev pub undo_by : Option Text → Result Action UsageFault
+undo_by None = Ok Undo
+undo_by (Some word) = then_ok (ok_or (count_of word) Usage) (λ count. Ok (UndoTo count))
+
+abbrev pub undo_action : List Row → Result Action UsageFault
+undo_action rows = undo_by (first_of (codes "N") rows)
+
+abbrev pub history_by : Option Text → Result Action UsageFault
+history_by None = Ok History
+history_by (Some word) =
+    if bytes_eq word (codes "all") then Ok ForgetAll
+    else then_ok (ok_or (count_of word) Usage) (λ count. Ok (ForgetOldest count))
+
+abbrev pub history_action : List Row → Result Action UsageFault
+history_action rows = history_by (first_of (codes "N") rows)
+
+-- ---- list [--json]
+
+abbrev pub list_action : List Row → Action
+list_action rows = action.List (is_set (codes "json") rows)
+
 -- ---- any subcommand
+
+-- of those that make no command
+unfoldable pub other_action : Text → List Row → Result Action UsageFault
+other_action subcommand rows =
+    if bytes_eq subcommand (codes "undo") then undo_action rows
+    else (if bytes_eq subcommand (codes "redo") then Ok Redo
+    else (if bytes_eq subcommand (codes "history") then history_action rows
+    else (if bytes_eq subcommand (codes "list") then Ok (list_action rows)
+    else Err Usage)))
 
 unfoldable pub action_of : Text → List Row → Result Action UsageFault
 action_of subcommand rows =
@@ -112,6 +150,4 @@ action_of subcommand rows =
     else (if bytes_eq subcommand (codes "kwargs") then kwargs_action rows
     else (if bytes_eq subcommand (codes "default-options") then options_action rows
     else (if bytes_eq subcommand (codes "command") then Ok (script_action rows)
-    else (if bytes_eq subcommand (codes "undo") then Ok Undo
-    else (if bytes_eq subcommand (codes "redo") then Ok Redo
-    else Err Usage)))))
+    else other_action subcommand rows)))

@@ -1,15 +1,16 @@
 -- What a command line asks for.
-use Rattle.std.specs.Prelude.{Bool, false, true, List, [], ◌∷◌, length, ◌==◌, codes, if◌then◌else◌, Option, None, ok_or, Result, Ok, Err}
+use Rattle.std.specs.Prelude.{Bool, false, List, [], ◌∷◌, length, ◌==◌, codes, if◌then◌else◌, Option, None, ok_or, Result, Ok, Err}
 use Rattle.std.specs.Option.{option_map_or}
 use Rattle.clap.specs.Words.{Kinds, Row, Text, fault_of, first_of, matches_of, subcommand_of}
 use Rattle.clap.specs.declared.error.kind.ErrorKind.{ErrorKind}
-use Rattle.clap.specs.declared.error.kind.ErrorKind.TheVariants.{DisplayHelp}
+use Rattle.clap.specs.declared.error.kind.ErrorKind.TheVariants.{DisplayHelp, DisplayVersion}
 use Rattle.meson_splice.specs.Patch.{then_ok}
 use Rattle.meson_json.specs.Titles.{is_title}
-use Rattle.meson_command.specs.Actions.{action_of, word_at}
+use Rattle.meson_command.specs.Actions.{action_of, is_set, word_at}
 use Rattle.meson_command.specs.Program.{program}
 use Rattle.meson_command.specs.declared.asked.Action.{Action}
-use Rattle.meson_command.specs.declared.asked.Action.TheVariants.{Run, Info, ScriptText, ScriptFile, Undo, Redo, Help}
+use Rattle.meson_command.specs.declared.asked.Action.TheVariants as action
+use Rattle.meson_command.specs.declared.asked.Action.TheVariants.{Run, Info, ScriptText, ScriptFile, Undo, UndoTo, Redo, History, ForgetOldest, ForgetAll, Help, Version}
 use Rattle.meson_command.specs.declared.asked.Asked.{Asked}
 use Rattle.meson_command.specs.declared.fault.UsageFault.{UsageFault}
 use Rattle.meson_command.specs.declared.fault.UsageFault.TheVariants.{Usage, BadTitle}
@@ -22,10 +23,15 @@ names_no_folder dir = option_map_or (λ d. length d == 0) dir false
 abbrev pub title_in : List Row → Text
 title_in rows = word_at (codes "TEXT") rows
 
+-- whether what is asked for is shown, and not done
+abbrev pub is_dry : List Row → Bool
+is_dry rows = is_set (codes "dry-run") rows
+
 -- this action, in the folder and of the title that are named
 abbrev pub with_title : List Row → Action → Result Asked UsageFault
 with_title rows action =
-    if is_title (title_in rows) then Ok (record { dir = first_of (codes "DIR") rows; title = title_in rows; action = action }) else Err BadTitle
+    if is_title (title_in rows) then Ok (record { dir = first_of (codes "DIR") rows; title = title_in rows; dry_run = is_dry rows; action = action })
+    else Err BadTitle
 
 -- what is asked by the words before the subcommand, and by its name and words
 unfoldable pub asked_from : List Row → Option (Text × List Row) → Result Asked UsageFault
@@ -40,16 +46,22 @@ asked_of words = asked_from (matches_of program words) (subcommand_of program wo
 
 -- `--help`, of the text of which nothing is said
 abbrev pub help : Asked
-help = record { dir = None; title = []; action = Help [] }
+help = record { dir = None; title = []; dry_run = false; action = Help [] }
 
-abbrev pub is_help : ErrorKind → Bool
-is_help DisplayHelp = true
-is_help _ = false
+-- `--version`
+abbrev pub version : Asked
+version = record { dir = None; title = []; dry_run = false; action = Version }
 
--- by the kinds of fault that clap finds: it takes the words, shows help, or refuses them
+-- by a kind of fault that clap finds: it shows help or the version, or refuses the words
+abbrev pub answer_by : ErrorKind → Result Asked UsageFault
+answer_by DisplayHelp = Ok help
+answer_by DisplayVersion = Ok version
+answer_by _ = Err Usage
+
+-- by all that it finds, of which the first counts; it takes the words where it finds none
 abbrev pub answer : Kinds → Result Asked UsageFault → Result Asked UsageFault
 answer [] asked = asked
-answer (kind ∷ kinds) asked = if is_help kind then Ok help else Err Usage
+answer (kind ∷ kinds) asked = answer_by kind
 
 -- for any words
 abbrev pub asked_by : List Text → Result Asked UsageFault
@@ -62,8 +74,14 @@ without_help_text (Info command) = Info command
 without_help_text (ScriptText text) = ScriptText text
 without_help_text (ScriptFile name) = ScriptFile name
 without_help_text Undo = Undo
+without_help_text (UndoTo count) = UndoTo count
 without_help_text Redo = Redo
+without_help_text History = History
+without_help_text (ForgetOldest count) = ForgetOldest count
+without_help_text ForgetAll = ForgetAll
+without_help_text (action.List json) = action.List json
 without_help_text (Help text) = Help []
+without_help_text Version = Version
 
 abbrev pub without_text : Asked → Asked
 without_text a = record a { action = without_help_text a.action }

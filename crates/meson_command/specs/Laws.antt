@@ -1,11 +1,12 @@
 -- What holds of any command line.
-use Rattle.std.specs.Prelude.{◌≡◌, ◌≢◌, ◌↔◌, ◌⊎◌, ◌%◌, List, [], ◌∷◌, length, codes, true, Some, None, Ok, Err}
+use Rattle.std.specs.Prelude.{◌≡◌, ◌≢◌, ◌↔◌, ◌⊎◌, ◌%◌, List, [], ◌∷◌, length, codes, true, Option, Some, None, Ok, Err}
 use Rattle.std.specs.List.{AllPairs}
 use Rattle.clap.specs.Words.{Row, Text, fault_of, first_of, matches_of, subcommand_of}
-use Rattle.clap.specs.declared.error.kind.ErrorKind.TheVariants.{DisplayHelp}
+use Rattle.clap.specs.declared.error.kind.ErrorKind.TheVariants.{DisplayHelp, DisplayVersion}
 use Rattle.meson_command.specs.Actions.{word_at}
-use Rattle.meson_command.specs.Asking.{asked_by, help, names_no_folder}
+use Rattle.meson_command.specs.Asking.{asked_by, help, names_no_folder, version}
 use Rattle.meson_json.specs.Operations.{kwargs_operation, options_operation, role_of}
+use Rattle.meson_command.specs.Counts.{count_of}
 use Rattle.meson_command.specs.Operations.{target_operation}
 use Rattle.meson_command.specs.Pairs.{names, pairs_of}
 use Rattle.meson_command.specs.Program.{program}
@@ -24,20 +25,30 @@ PairsAreTheWords = (words : List Text) (pairs : List (Text × Text)) → (pairs_
 abbrev pub OddWordsAreOdd : Type 0
 OddWordsAreOdd = (words : List Text) → (pairs_of words ≡ Err OddWords) ↔ (length words % 2 ≡ 1)
 
--- ---- help and wrong usage
+-- ---- help, the version and wrong usage
 
 -- help is answered exactly where it is the first fault that clap finds, so never where clap takes the words
 abbrev pub HelpWhereAsked : Type 0
 HelpWhereAsked = (words : List Text) → (asked_by words ≡ Ok help) ↔ (fault_of program words ≡ DisplayHelp ∷ [])
 
--- the subcommand's operation or function is no such word
+-- and so is the version
+abbrev pub VersionWhereAsked : Type 0
+VersionWhereAsked = (words : List Text) → (asked_by words ≡ Ok version) ↔ (fault_of program words ≡ DisplayVersion ∷ [])
+
+-- the word that is given says no number
+abbrev pub IsNoCount : Option Text → Text → Type 0
+IsNoCount given word = (given ≡ Some word) × (count_of word ≡ None)
+
+-- the subcommand's operation, function or number is no such word
 abbrev pub IsUnknown : Text → List Row → Type 0
 IsUnknown subcommand rows =
     ((subcommand ≡ codes "target") × (target_operation (word_at (codes "OPERATION") rows) ≡ None))
     ⊎ (((subcommand ≡ codes "kwargs") × ((kwargs_operation (word_at (codes "OPERATION") rows) ≡ None) ⊎ (role_of (word_at (codes "FUNCTION") rows) ≡ None)))
-    ⊎ ((subcommand ≡ codes "default-options") × (options_operation (word_at (codes "OPERATION") rows) ≡ None)))
+    ⊎ (((subcommand ≡ codes "default-options") × (options_operation (word_at (codes "OPERATION") rows) ≡ None))
+    ⊎ (((subcommand ≡ codes "undo") × ((word : Text) × IsNoCount (first_of (codes "N") rows) word))
+    ⊎ ((subcommand ≡ codes "history") × ((word : Text) × (word ≢ codes "all") × IsNoCount (first_of (codes "N") rows) word)))))
 
--- where clap takes the words and the usage is wrong, the folder is empty or a word is unknown
+-- where clap takes the words and the usage is wrong, the folder is empty or a word is unknown or no number
 abbrev pub UsageMeansUnknown : Type 0
 UsageMeansUnknown = (words : List Text) → fault_of program words ≡ [] → asked_by words ≡ Err Usage
     → (names_no_folder (first_of (codes "DIR") (matches_of program words)) ≡ true)

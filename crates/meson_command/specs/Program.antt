@@ -17,9 +17,17 @@ many id = record (new_rule id) { action = Some action.Append }
 abbrev pub option : Text → Text → Rule
 option id long = record (new_rule id) { long = Some long; action = Some action.Set }
 
+-- an option without a value
+abbrev pub flag : Text → Text → Rule
+flag id long = record (new_rule id) { long = Some long; action = Some action.SetTrue }
+
 -- `--help`, and no short form of it
 abbrev pub help : Rule
 help = record (new_rule (codes "help")) { long = Some (codes "help"); action = Some action.Help }
+
+-- `--version`, which the program has and no subcommand
+abbrev pub version : Rule
+version = record (new_rule (codes "version")) { long = Some (codes "version"); action = Some action.Version }
 
 abbrev pub of_words : Text → List Rule → App
 of_words name rules = fold with_rule (new_app name) rules
@@ -42,11 +50,20 @@ default_options = of_words (codes "default-options") (one (codes "OPERATION") �
 unfoldable pub command : App
 command = of_words (codes "command") (one (codes "JSON") ∷ help ∷ [])
 
+-- undo [--to N]
 unfoldable pub undo : App
-undo = of_words (codes "undo") (help ∷ [])
+undo = of_words (codes "undo") (option (codes "N") (codes "to") ∷ help ∷ [])
 
 unfoldable pub redo : App
 redo = of_words (codes "redo") (help ∷ [])
+
+-- history [--forget N]
+unfoldable pub history : App
+history = of_words (codes "history") (option (codes "N") (codes "forget") ∷ help ∷ [])
+
+-- list [--json]
+unfoldable pub list : App
+list = of_words (codes "list") (flag (codes "json") (codes "json") ∷ help ∷ [])
 
 -- a subcommand has to be there; clap adds no `help` subcommand and no help flag of its own
 abbrev pub bare : Text → App
@@ -54,14 +71,15 @@ bare name = record (new_app name) {
   top = record (new_app name).top { subcommand_required = true; disable_help_flag = true; disable_help_subcommand = true };
 }
 
--- meson_rewrite [--sourcedir DIR] [--title TEXT]
+-- meson_rewrite [--sourcedir DIR] [--title TEXT] [--dry-run]
 abbrev pub own_words : App
 own_words =
-    with_rule (with_rule (with_rule (bare (codes "meson_rewrite")) (option (codes "DIR") (codes "sourcedir"))) (option (codes "TEXT") (codes "title"))) help
+    fold with_rule (bare (codes "meson_rewrite")) (option (codes "DIR") (codes "sourcedir") ∷ option (codes "TEXT") (codes "title")
+    ∷ flag (codes "dry-run") (codes "dry-run") ∷ help ∷ version ∷ [])
 
--- meson_rewrite [--sourcedir DIR] [--title TEXT] SUBCOMMAND
+-- meson_rewrite [--sourcedir DIR] [--title TEXT] [--dry-run] SUBCOMMAND
 unfoldable pub program : App
-program = fold (λ a s. with_subcommand a s.top) own_words (target ∷ kwargs ∷ default_options ∷ command ∷ undo ∷ redo ∷ [])
+program = fold (λ a s. with_subcommand a s.top) own_words (target ∷ kwargs ∷ default_options ∷ command ∷ undo ∷ redo ∷ history ∷ list ∷ [])
 
 -- clap is told this, and no word counts for all subcommands at once
 abbrev pub IsTold : App → Command → Type 0

@@ -1,12 +1,13 @@
 -- Command lines, each with what it asks for.
-use Rattle.std.specs.Prelude.{◌≡◌, ℕ, ◌==◌, List, [], ◌∷◌, ◌++◌, codes, if◌then◌else◌, Some, None, Result, Ok, Err}
+use Rattle.std.specs.Prelude.{◌≡◌, ℕ, ◌==◌, false, true, List, [], ◌∷◌, ◌++◌, codes, if◌then◌else◌, Some, None, Result, Ok, Err}
 use Rattle.meson_calls.specs.declared.call.Role.TheVariants as role
 use Rattle.meson_steps.specs.declared.command.Command.TheVariants as command
 use Rattle.meson_steps.specs.declared.command.Setting.TheVariants as setting
 use Rattle.meson_command.specs.Actions.{run}
-use Rattle.meson_command.specs.Asking.{asked_by, help}
+use Rattle.meson_command.specs.Asking.{asked_by, help, version}
 use Rattle.meson_command.specs.declared.asked.Action.{Action}
-use Rattle.meson_command.specs.declared.asked.Action.TheVariants.{Info, ScriptText, ScriptFile, Undo, Redo}
+use Rattle.meson_command.specs.declared.asked.Action.TheVariants as action
+use Rattle.meson_command.specs.declared.asked.Action.TheVariants.{Info, ScriptText, ScriptFile, Undo, UndoTo, Redo, History, ForgetOldest, ForgetAll}
 use Rattle.meson_command.specs.declared.asked.Asked.{Asked}
 use Rattle.meson_command.specs.declared.fault.UsageFault.{UsageFault}
 use Rattle.meson_command.specs.declared.fault.UsageFault.TheVariants.{Usage, OddWords, RepeatedKey, Unsupported, BadTitle}
@@ -22,13 +23,17 @@ words_in [] = [] ∷ []
 words_in (b ∷ bytes) = if b == 32 then [] ∷ words_in bytes else onto b (words_in bytes)
 
 abbrev here : Action → Result Asked UsageFault
-here action = Ok (record { dir = None; title = []; action = action })
+here action = Ok (record { dir = None; title = []; dry_run = false; action = action })
 
 abbrev there : List ℕ → Action → Result Asked UsageFault
-there dir action = Ok (record { dir = Some dir; title = []; action = action })
+there dir action = Ok (record { dir = Some dir; title = []; dry_run = false; action = action })
 
 abbrev named : List ℕ → Action → Result Asked UsageFault
-named title action = Ok (record { dir = None; title = title; action = action })
+named title action = Ok (record { dir = None; title = title; dry_run = false; action = action })
+
+-- the same, shown and not done
+abbrev shown : Action → Result Asked UsageFault
+shown action = Ok (record { dir = None; title = []; dry_run = true; action = action })
 
 -- a line after the program's name asks for this
 abbrev asks : List ℕ → Result Asked UsageFault → Type 0
@@ -56,12 +61,17 @@ Done =
     × asks (codes "default-options delete cpp_std c++20") (here (run (command.OptionsDelete (codes "cpp_std" ∷ []))))
     × asks (codes "--sourcedir d undo") (there (codes "d") Undo)
     × asks (codes "redo") (here Redo)
+    × asks (codes "--sourcedir d undo --to 3") (there (codes "d") (UndoTo 3))
+    × asks (codes "undo --to=007") (here (UndoTo 7))
+    × asks (codes "undo --to 18446744073709551615") (here (UndoTo 18446744073709551615))
+    × asks (codes "history --forget 2") (here (ForgetOldest 2))
+    × asks (codes "--sourcedir d history --forget all") (there (codes "d") ForgetAll)
 
 -- what it is for
 abbrev pub Titled : Type 0
 Titled =
     asks (codes "--title more target e rm a.c") (named (codes "more") (run (command.SourcesRemove (codes "e") (codes "a.c" ∷ []))))
-    × asks (codes "--title a --sourcedir d redo") (Ok (record { dir = Some (codes "d"); title = codes "a"; action = Redo }))
+    × asks (codes "--title a --sourcedir d redo") (Ok (record { dir = Some (codes "d"); title = codes "a"; dry_run = false; action = Redo }))
     × asks_titled (codes "add B") (named (codes "add B") Undo)
     × asks_titled [] (here Undo)
     × asks_titled (codes "a\tb") (Err BadTitle)
@@ -70,16 +80,36 @@ Titled =
     × asks (codes "undo --title a") (Err Usage)
     × (asked_by (codes "T" ∷ codes "--title" ∷ codes "\t" ∷ codes "kwargs" ∷ codes "remove_regex" ∷ codes "target" ∷ codes "e" ∷ []) ≡ Err Unsupported)
 
--- what is listed, which scripts are meant, and help
+-- what is shown, and not done
+abbrev pub Shown : Type 0
+Shown =
+    asks (codes "--dry-run undo") (shown Undo)
+    × asks (codes "--dry-run target e rm a.c") (shown (run (command.SourcesRemove (codes "e") (codes "a.c" ∷ []))))
+    × asks (codes "--sourcedir d --dry-run --title a redo") (Ok (record { dir = Some (codes "d"); title = codes "a"; dry_run = true; action = Redo }))
+    × asks (codes "--dry-run undo --to 2") (shown (UndoTo 2))
+    × asks (codes "--dry-run list --json") (shown (action.List true))
+    × asks (codes "undo --dry-run") (Err Usage)
+    × asks (codes "--dry-run --dry-run undo") (Err Usage)
+    × asks (codes "--dry-run=true undo") (Err Usage)
+
+-- what is listed, which scripts are meant, help and the version
 abbrev pub Other : Type 0
 Other =
     asks (codes "target e info a.c") (here (Info (command.TargetInfo (codes "e"))))
     × asks (codes "kwargs info project / version") (here (Info (command.KwargsInfo role.Project (codes "/"))))
+    × asks (codes "--sourcedir d history") (there (codes "d") History)
+    × asks (codes "list") (here (action.List false))
+    × asks (codes "--sourcedir d list --json") (there (codes "d") (action.List true))
     × asks (codes "command [1]") (here (ScriptText (codes "[1]")))
     × (asked_by (codes "T" ∷ codes "command" ∷ codes " \t{" ∷ []) ≡ here (ScriptText (codes " \t{")))
     × asks (codes "command changes.json") (here (ScriptFile (codes "changes.json")))
+    × asks (codes "command -") (here (ScriptFile (codes "-")))
     × asks (codes "--help") (Ok help)
     × asks (codes "target e add --help") (Ok help)
+    × asks (codes "--version") (Ok version)
+    × asks (codes "--title a --version undo") (Ok version)
+    × asks (codes "--version now") (Ok version)
+    × asks (codes "--help --version") (Ok help)
 
 -- what is refused, and by which fault
 abbrev pub Refused : Type 0
@@ -90,8 +120,26 @@ Refused =
     × asks (codes "target e grow") (Err Usage)
     × asks (codes "kwargs set variable x a 1") (Err Usage)
     × asks (codes "undo now") (Err Usage)
+    × asks (codes "history 1") (Err Usage)
+    × asks (codes "undo --to") (Err Usage)
+    × asks (codes "undo --to 0") (Err Usage)
+    × asks (codes "undo --to +1") (Err Usage)
+    × asks (codes "undo --to=-1") (Err Usage)
+    × asks (codes "undo --to 1a") (Err Usage)
+    × asks (codes "undo --to all") (Err Usage)
+    × asks (codes "undo --to 18446744073709551616") (Err Usage)
+    × asks (codes "undo --to 1 --to 1") (Err Usage)
+    × asks (codes "redo --to 1") (Err Usage)
+    × asks (codes "history --forget=") (Err Usage)
+    × asks (codes "history --forget 0") (Err Usage)
+    × asks (codes "history --forget All") (Err Usage)
+    × asks (codes "list tide") (Err Usage)
+    × asks (codes "list --json --json") (Err Usage)
+    × asks (codes "--json list") (Err Usage)
     × asks (codes "help") (Err Usage)
     × asks (codes "-h") (Err Usage)
+    × asks (codes "-V") (Err Usage)
+    × asks (codes "undo --version") (Err Usage)
     × asks (codes "target e add -x") (Err Usage)
     × asks (codes "--sourcedir a --sourcedir b undo") (Err Usage)
     × (asked_by (codes "T" ∷ codes "--sourcedir" ∷ [] ∷ codes "undo" ∷ []) ≡ Err Usage)

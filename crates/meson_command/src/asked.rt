@@ -1,20 +1,21 @@
 //! What a command line asks for.
 
-ghost use Rattle.std.specs.Prelude.{◌≡◌, ◌≢◌, Err, IfErr, IfOk, Ok, false, true, map, option_map, string_bytes};
+ghost use Rattle.std.specs.Prelude.{◌≡◌, ◌≢◌, [], Err, IfErr, IfOk, None, Ok, false, true, map, option_map, string_bytes};
 ghost use Rattle.clap.specs.Words.{Row, Text as Word, found_of, rows_of, subcommand_rows_of, takes};
 ghost use Rattle.meson_json.specs.Titles.{is_title};
-ghost use Rattle.meson_command.specs.Actions.{action_of};
+ghost use Rattle.meson_command.specs.Actions.{action_of, other_action};
 ghost use Rattle.meson_command.specs.Asking.{asked_by, asked_from, asked_of, names_no_folder, without_text};
 ghost use Rattle.meson_command.specs.Program.{program};
 ghost use Rattle.meson_command.specs.declared.fault.UsageFault.TheVariants.{BadTitle, OutOfMemory, Usage};
 
 use crate::fault::UsageFault;
+use crate::history::{history_action, undo_action};
 use crate::kwargs::kwargs_action;
 use crate::options::options_action;
 use crate::program::named_program;
 use crate::script::script_action;
 use crate::target::target_action;
-use crate::words::{owned, word_or};
+use crate::words::{is_set, owned, word_or};
 use clap::ArgMatches;
 use clap::error::ErrorKind;
 use meson_json::{Script, is_title};
@@ -31,14 +32,26 @@ pub enum Action {
     Info(Command),
     /// Do the commands of this text of JSON.
     ScriptText(Text),
-    /// Do the commands in the file of this name.
+    /// Do the commands in the file of this name; a folder reads `-` from standard input.
     ScriptFile(Text),
     /// Take back the newest change.
     Undo,
+    /// Take back the newest changes, as many as this says: all of them or none.
+    UndoTo(usize),
     /// Do the change again that was taken back last.
     Redo,
+    /// List what can be taken back and done again, and change nothing.
+    History,
+    /// Drop the oldest changes that can be taken back from the log, as many as this says.
+    ForgetOldest(usize),
+    /// Drop all changes from the log, those that can be done again too.
+    ForgetAll,
+    /// List the targets and files of the project, and the `subdir` calls that were not entered, as JSON or as lines; change nothing.
+    List { json: bool },
     /// Print this text.
     Help(Text),
+    /// Print the program's name and version.
+    Version,
 }
 
 /// What a command line asks for.
@@ -48,7 +61,30 @@ pub struct Asked {
     pub dir: Option<Text>,
     /// What the run is for; empty where nothing is named.
     pub title: Text,
+    /// Whether the change is shown, and not done.
+    pub dry_run: bool,
     pub action: Action,
+}
+
+/// What the words of a subcommand that makes no command ask for.
+#[tactic(auto, unfolding(crate::specs::Actions::other_action))]
+fn other_action(subcommand: &str, matches: &ArgMatches<'_>) -> Result<Action, UsageFault>
+    ensures ok { IfOk result (λ a. other_action subcommand.now (rows_of (found_of matches.now)) ≡ Ok a) }
+    ensures refused { IfErr result (λ e. e ≢ OutOfMemory → other_action subcommand.now (rows_of (found_of matches.now)) ≡ Err e) }
+{
+    if subcommand == "undo" {
+        undo_action(matches)
+    } else if subcommand == "redo" {
+        Ok(Action::Redo)
+    } else if subcommand == "history" {
+        history_action(matches)
+    } else if subcommand == "list" {
+        Ok(Action::List {
+            json: is_set(matches, "json"),
+        })
+    } else {
+        Err(UsageFault::Usage)
+    }
 }
 
 /// What the words of a subcommand ask for.
@@ -69,12 +105,8 @@ fn action_of(
         options_action(alloc, matches)
     } else if subcommand == "command" {
         Ok(script_action(alloc, matches)?)
-    } else if subcommand == "undo" {
-        Ok(Action::Undo)
-    } else if subcommand == "redo" {
-        Ok(Action::Redo)
     } else {
-        Err(UsageFault::Usage)
+        other_action(subcommand, matches)
     }
 }
 
@@ -118,14 +150,33 @@ fn asked_from(alloc: Global, matches: &ArgMatches<'_>) -> Result<Asked, UsageFau
     let word = word_or(matches, "TEXT", "");
     let titled = with_title(alloc, (dir, action), word)?;
     let ((dir, action), title) = titled;
-    Ok(Asked { dir, title, action })
+    let dry_run = is_set(matches, "dry-run");
+    Ok(Asked {
+        dir,
+        title,
+        dry_run,
+        action,
+    })
+}
+
+/// What is asked for by words that clap answers itself: of no folder, and without a title.
+fn shown(alloc: Global, action: Action) -> Asked
+    ensures { result ≡ record { dir = None; title = []; dry_run = false; action = action } }
+{
+    Asked {
+        dir: None,
+        title: Text::of(String::new(alloc)),
+        dry_run: false,
+        action,
+    }
 }
 
 /// What the words of a command line ask for, of which the first is the program's name. They are those of the Rewriter page of
-/// the Meson manual; `undo`, `redo`, `--title`, `--subdir` and `--type` are this program's own. Values, ids and names go through as given.
+/// the Meson manual; `undo`, `redo`, `history`, `list`, `--title`, `--dry-run`, `--subdir` and `--type` are this program's own. Values, ids and names go through as
+/// given.
 ///
 /// # Errors
-/// In this order: a word is missing, unknown or one too many, or the folder is empty; in words that are names with values, the
+/// In this order: a word is missing, unknown or one too many, a number is none, or the folder is empty; in words that are names with values, the
 /// last name has no value; a name comes twice; the operation is not done here; the title is none. And want of memory, at any time.
 pub fn command_of(alloc: Global, words: &[String]) -> Result<Asked, UsageFault>
     ensures ok { IfOk result (λ a. asked_by (map string_bytes words.now) ≡ Ok (without_text a)) }
@@ -139,11 +190,11 @@ pub fn command_of(alloc: Global, words: &[String]) -> Result<Asked, UsageFault>
         Ok(matches) => asked_from(alloc, &matches),
         Err(error) => match error.kind() {
             ErrorKind::OutOfMemory => Err(UsageFault::OutOfMemory),
-            ErrorKind::DisplayHelp => Ok(Asked {
-                dir: None,
-                title: Text::of(String::new(alloc)),
-                action: Action::Help(Text::of(error.to_string(alloc)?)),
-            }),
+            ErrorKind::DisplayHelp => {
+                let text = Text::of(error.to_string(alloc)?);
+                Ok(shown(alloc, Action::Help(text)))
+            }
+            ErrorKind::DisplayVersion => Ok(shown(alloc, Action::Version)),
             _ => Err(UsageFault::Usage),
         },
     }

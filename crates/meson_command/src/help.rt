@@ -20,6 +20,8 @@ Examples:
 
 pub(crate) const DIR: &str = "Folder of the root file [default: the working folder]";
 
+pub(crate) const DRY_RUN: &str = "Show as a unified diff what would change, and write nothing";
+
 pub(crate) const TITLE: &str = "What the run is for, in at most 200 bytes; undo and redo tell it";
 
 pub(crate) const TARGET: &str = "Edit, list, add or remove a target";
@@ -98,13 +100,13 @@ Examples:
 pub(crate) const COMMAND: &str = "Do the commands of a script";
 
 pub(crate) const BELOW_COMMAND: &str = "\
-A word that begins with [ or { is the script, any other word the name of its file.
+A word that begins with [ or { is the script, any other word the name of its file; - is standard input.
 A script is an array of objects, one for each command; man meson_rewrite has their members.
-All are done, or none. A file may be given on standard input, a pipe may not.
+All are done, or none.
 
 Examples:
   meson_rewrite command changes.json
-  meson_rewrite command /dev/stdin <changes.json
+  meson_rewrite command - <changes.json
   meson_rewrite command '[{\"type\":\"target\",\"operation\":\"src_add\",\"target\":\"tide\",\"sources\":[\"moon.c\"]}]'";
 
 pub(crate) const UNDO: &str = "Take back the newest run that was kept";
@@ -114,9 +116,14 @@ Hand edits since then stay, unless the bytes that the run wrote moved or changed
 A removal wrote no bytes. Where the file was changed since, its undo puts the text back at the old offset
 all the same, which may be a wrong place. So after a checkout remove meson.rewrite-log, and do not undo.
 
+--to N takes back the runs that history lists as undo 1 to undo N, all of them or none. N is a number from 1.
+
 Examples:
   meson_rewrite undo
+  meson_rewrite undo --to 2
   meson_rewrite --sourcedir harbor undo";
+
+pub(crate) const TO: &str = "Take back the newest N runs, all of them or none";
 
 pub(crate) const REDO: &str = "Do again what the last undo took back";
 
@@ -127,3 +134,35 @@ What the run put in is put at its old offset again, also where the file was chan
 Examples:
   meson_rewrite redo
   meson_rewrite --sourcedir harbor redo";
+
+pub(crate) const HISTORY: &str = "List what can be undone and done again";
+
+pub(crate) const BELOW_HISTORY: &str = "\
+One line for each run: first those that undo takes back, the newest as undo 1, then those that redo does again, the next
+as redo 1. A line tells how many files the run edited, by how many splices, and its title.
+
+--forget N drops the N oldest of the runs that undo takes back, N a number from 1; --forget all drops all runs, those
+that redo does again too. What is dropped from the log can't be undone or done again any more. No build file changes.
+
+Examples:
+  meson_rewrite history
+  meson_rewrite history --forget 1
+  meson_rewrite history --forget all
+  meson_rewrite --sourcedir harbor history";
+
+pub(crate) const FORGET: &str = "Drop the N oldest runs from the log, or all";
+
+pub(crate) const LIST: &str = "List the targets and files that are read";
+
+pub(crate) const BELOW_LIST: &str = "\
+One line for each target, as FILE:LINE: FUNCTION 'NAME', variable VARIABLE; without a literal name it says so.
+Then one for each build file, as FILE:1: build file, and one for each subdir call that was not entered, with
+\", not entered\" at its end: what stands in that folder is not found.
+
+--json prints all of it as one object of JSON; man meson_rewrite has its members.
+
+Examples:
+  meson_rewrite list
+  meson_rewrite --sourcedir harbor list --json";
+
+pub(crate) const JSON: &str = "Print one line of JSON instead";

@@ -1,12 +1,13 @@
 //! Laws of the command line. The functions do nothing: what they ensure is the law.
 
-ghost use Rattle.meson_command.specs.Laws.{HelpWhereAsked, OddWordsAreOdd, PairsAreTheWords, UsageMeansUnknown};
-ghost use Rattle.meson_command.specs.Rows.{Done, Other, Refused, Titled};
+ghost use Rattle.meson_command.specs.Laws.{HelpWhereAsked, OddWordsAreOdd, PairsAreTheWords, UsageMeansUnknown, VersionWhereAsked};
+ghost use Rattle.meson_command.specs.Rows.{Done, Other, Refused, Shown, Titled};
 
 /// What some command lines ask for.
 pub fn rows()
     ensures done { Done }
     ensures titled { Titled }
+    ensures shown { Shown }
     ensures other { Other }
     ensures refused { Refused }
 {}
@@ -17,12 +18,14 @@ pub fn pairs_are_the_words()
     ensures odd { OddWordsAreOdd }
 {}
 
-/// Help is answered exactly where clap is asked for it.
+/// Help is answered exactly where clap is asked for it, and the version too.
 pub fn help_where_asked()
-    ensures { HelpWhereAsked }
+    ensures help { HelpWhereAsked }
+    ensures version { VersionWhereAsked }
 {}
 
-/// Words that clap takes are wrong usage only where the folder is empty or an operation or a function is unknown.
+/// Words that clap takes are wrong usage only where the folder is empty, an operation or a function is unknown, or a number is
+/// none.
 pub fn usage_means_unknown()
     ensures { UsageMeansUnknown }
 {}

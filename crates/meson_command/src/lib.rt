@@ -2,8 +2,10 @@
 #![tactic(auto)]
 
 mod asked;
+mod count;
 mod fault;
 mod help;
+mod history;
 mod kwargs;
 pub mod laws;
 mod operations;

@@ -3,7 +3,7 @@
 ghost use Rattle.std.specs.Prelude.{◌≡◌, IfOk, false};
 ghost use Rattle.clap.specs.Words.{App, app_of, new_app, rule_of, with_rule, with_subcommand};
 ghost use Rattle.clap.specs.declared.builder.command.Command.TheViews.{out-Command};
-ghost use Rattle.meson_command.specs.Program.{IsTold, command, default_options, help, kwargs, many, one, option, own_words, program, redo, target, undo};
+ghost use Rattle.meson_command.specs.Program.{IsTold, command, default_options, flag, help, history, kwargs, list, many, one, option, own_words, program, redo, target, undo, version};
 
 use crate::help;
 use clap::{Arg, ArgAction, Command};
@@ -67,6 +67,21 @@ fn with_option<'h>(
     with_arg(command, arg.help(about))
 }
 
+/// With an option that has no value.
+fn with_flag<'h>(
+    alloc: Global,
+    command: Command<'h>,
+    name: &'h str,
+    long: &'h str,
+    about: &'h str,
+) -> Result<Command<'h>, AllocError>
+    requires { (out-Command command).has_globals ≡ false }
+    ensures { IfOk result (IsTold (with_rule (app_of command.entry) (flag name.entry.now long.entry.now))) }
+{
+    let arg = Arg::new(alloc, name).long(long).action(ArgAction::SetTrue);
+    with_arg(command, arg.help(about))
+}
+
 /// With `--help`.
 fn with_help<'h>(alloc: Global, command: Command<'h>) -> Result<Command<'h>, AllocError>
     requires { (out-Command command).has_globals ≡ false }
@@ -74,6 +89,18 @@ fn with_help<'h>(alloc: Global, command: Command<'h>) -> Result<Command<'h>, All
 {
     let arg = Arg::new(alloc, "help").long("help").action(ArgAction::Help);
     with_arg(command, arg.help("Print this"))
+}
+
+/// With `--version`.
+fn with_version<'h>(alloc: Global, command: Command<'h>) -> Result<Command<'h>, AllocError>
+    requires { (out-Command command).has_globals ≡ false }
+    ensures { IfOk result (IsTold (with_rule (app_of command.entry) version)) }
+{
+    let arg = Arg::new(alloc, "version").long("version");
+    with_arg(
+        command,
+        arg.action(ArgAction::Version).help("Print the version"),
+    )
 }
 
 #[tactic(auto, unfolding(crate::specs::Program::target))]
@@ -131,7 +158,7 @@ fn command<'h>(alloc: Global) -> Result<Command<'h>, AllocError>
     ensures { IfOk result (IsTold command) }
 {
     let command = described(alloc, "command", help::COMMAND, help::BELOW_COMMAND);
-    let command = with_one(alloc, command, "JSON", "Script, or name of its file")?;
+    let command = with_one(alloc, command, "JSON", "Script, or name of its file, or -")?;
     with_help(alloc, command)
 }
 
@@ -140,6 +167,7 @@ fn undo<'h>(alloc: Global) -> Result<Command<'h>, AllocError>
     ensures { IfOk result (IsTold undo) }
 {
     let command = described(alloc, "undo", help::UNDO, help::BELOW_UNDO);
+    let command = with_option(alloc, command, "N", "to", help::TO)?;
     with_help(alloc, command)
 }
 
@@ -148,6 +176,24 @@ fn redo<'h>(alloc: Global) -> Result<Command<'h>, AllocError>
     ensures { IfOk result (IsTold redo) }
 {
     let command = described(alloc, "redo", help::REDO, help::BELOW_REDO);
+    with_help(alloc, command)
+}
+
+#[tactic(auto, unfolding(crate::specs::Program::history))]
+fn history<'h>(alloc: Global) -> Result<Command<'h>, AllocError>
+    ensures { IfOk result (IsTold history) }
+{
+    let command = described(alloc, "history", help::HISTORY, help::BELOW_HISTORY);
+    let command = with_option(alloc, command, "N", "forget", help::FORGET)?;
+    with_help(alloc, command)
+}
+
+#[tactic(auto, unfolding(crate::specs::Program::list))]
+fn list<'h>(alloc: Global) -> Result<Command<'h>, AllocError>
+    ensures { IfOk result (IsTold list) }
+{
+    let command = described(alloc, "list", help::LIST, help::BELOW_LIST);
+    let command = with_flag(alloc, command, "json", "json", help::JSON)?;
     with_help(alloc, command)
 }
 
@@ -161,7 +207,9 @@ fn own_words<'h>(alloc: Global) -> Result<Command<'h>, AllocError>
         .disable_help_subcommand(true);
     let program = with_option(alloc, program, "DIR", "sourcedir", help::DIR)?;
     let program = with_option(alloc, program, "TEXT", "title", help::TITLE)?;
-    with_help(alloc, program)
+    let program = with_flag(alloc, program, "dry-run", "dry-run", help::DRY_RUN)?;
+    let program = with_help(alloc, program)?;
+    with_version(alloc, program)
 }
 
 /// With a subcommand, if that was made.
@@ -185,7 +233,9 @@ fn program<'h>(alloc: Global) -> Result<Command<'h>, AllocError>
     let program = with_subcommand(program, default_options(alloc))?;
     let program = with_subcommand(program, command(alloc))?;
     let program = with_subcommand(program, undo(alloc))?;
-    with_subcommand(program, redo(alloc))
+    let program = with_subcommand(program, redo(alloc))?;
+    let program = with_subcommand(program, history(alloc))?;
+    with_subcommand(program, list(alloc))
 }
 
 /// The same, by its own name in help, whatever it was called by.

@@ -2,7 +2,7 @@
 
 ghost use Rattle.std.specs.Prelude.{◌≡◌, ◌∷◌, [], IfErr, IfOk, map};
 ghost use Rattle.clap.specs.Words.{found_of, rows_of};
-ghost use Rattle.meson_command.specs.Actions.{run, word_or, words_at};
+ghost use Rattle.meson_command.specs.Actions.{is_set, run, word_or, words_at};
 ghost use Rattle.meson_command.specs.declared.fault.UsageFault.TheVariants.{OutOfMemory};
 
 use crate::asked::Action;
@@ -18,6 +18,13 @@ pub(crate) fn word_or<'w>(matches: &ArgMatches<'w>, name: &str, otherwise: &'w s
     ensures { result.now ≡ word_or otherwise.entry.now name.now (rows_of (found_of matches.now)) }
 {
     matches.get_str(name).unwrap_or(otherwise)
+}
+
+/// Whether a flag is there.
+pub(crate) fn is_set(matches: &ArgMatches<'_>, name: &str) -> bool
+    ensures { result ≡ is_set name.now (rows_of (found_of matches.now)) }
+{
+    word_or(matches, name, "") == "true"
 }
 
 pub(crate) fn owned(alloc: Global, word: &str) -> Result<Text, AllocError>

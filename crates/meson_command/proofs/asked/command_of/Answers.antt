@@ -1,13 +1,12 @@
-use Rattle.std.proofs.Common.{◌≡◌, ◌∙◌, ap, sym, map, string_bytes, [], List, None, Ok}
+use Rattle.std.proofs.Common.{◌≡◌, ◌∙◌, ap, sym, map, string_bytes, [], List, Ok}
 use Rattle.std.proofs.lemmas.Result.{IfErr-weaker, IfOk-weaker}
 use Rattle.clap.specs.Words.{Text, kind_of}
 use Rattle.clap.specs.Kinds.{HasKind}
 use Rattle.meson_json.specs.Titles.{is_title}
-use Rattle.meson_command.specs.Asking.{asked_of}
-use Rattle.meson_command.specs.declared.asked.Action.TheVariants.{Help}
+use Rattle.meson_command.specs.Asking.{asked_of, without_text}
 use Rattle.meson_command.specs.declared.asked.Asked.{Asked}
 use Rattle.meson_command.proofs.NoHelp.{no_help}
-use Rattle.meson_command.proofs.Taken.{as_taken, asked-of, help_alone, kinds_at, refused, shown, takes_at}
+use Rattle.meson_command.proofs.Taken.{as_taken, asked-of, help_alone, kinds_at, refused, shown, takes_at, version_shown}
 use Rattle.meson_command.proofs.asked.command_of.Goals as goal
 
 pub returns-in-Ok-clause-ok : goal.returns-in-Ok-clause-ok
@@ -43,10 +42,20 @@ returns-in-DisplayHelp-clause-ok c =
     let ws : List Text = map string_bytes c.args.words.now in
     let has = kinds_at _ ws (λ ks. HasKind ks c.in-Err.error) c.in_ok-command.ensures c.in-Err.ensures.kinds in
     shown _ (asked_of ws) (kind_of c.in-Err.error) (help_alone ws) (sym c.kind.ensures ∙ c.in-DisplayHelp.is) has
-    ∙ ap (λ (t : Text). Ok (record { dir = None; title = t; action = Help [] })) (sym (c.of.ensures ∙ c.new.ensures.bytes))
+    ∙ ap (λ (a : Asked). Ok (without_text a)) (sym c.shown.ensures)
 
 pub returns-in-DisplayHelp-clause-title : goal.returns-in-DisplayHelp-clause-title
-returns-in-DisplayHelp-clause-title c = ap is_title (c.of.ensures ∙ c.new.ensures.bytes)
+returns-in-DisplayHelp-clause-title c = ap (λ (a : Asked). is_title a.title) c.shown.ensures
+
+pub returns-in-DisplayVersion-clause-ok : goal.returns-in-DisplayVersion-clause-ok
+returns-in-DisplayVersion-clause-ok c =
+    let ws : List Text = map string_bytes c.args.words.now in
+    let has = kinds_at _ ws (λ ks. HasKind ks c.in-Err.error) c.in_ok-command.ensures c.in-Err.ensures.kinds in
+    version_shown _ (asked_of ws) (kind_of c.in-Err.error) (help_alone ws) (sym c.kind.ensures ∙ c.in-DisplayVersion.is) has
+    ∙ ap (λ (a : Asked). Ok (without_text a)) (sym c.shown-in-DisplayVersion.ensures)
+
+pub returns-in-DisplayVersion-clause-title : goal.returns-in-DisplayVersion-clause-title
+returns-in-DisplayVersion-clause-title c = ap (λ (a : Asked). is_title a.title) c.shown-in-DisplayVersion.ensures
 
 pub returns : goal.returns
 returns c =
@@ -54,7 +63,8 @@ returns c =
     let has = kinds_at _ ws (λ ks. HasKind ks c.in-Err.error) c.in_ok-command.ensures c.in-Err.ensures.kinds in
     record {
       ok = tt;
-      refused = λ n. refused _ (asked_of ws) (kind_of c.in-Err.error) (help_alone ws) (λ e. c.in_default.not-DisplayHelp (c.kind.ensures ∙ e)) (λ e. c.in_default.not-OutOfMemory (c.kind.ensures ∙ e)) has;
+      refused = λ n. refused _ (asked_of ws) (kind_of c.in-Err.error) (help_alone ws) (λ e. c.in_default.not-DisplayHelp (c.kind.ensures ∙ e))
+          (λ e. c.in_default.not-DisplayVersion (c.kind.ensures ∙ e)) (λ e. c.in_default.not-OutOfMemory (c.kind.ensures ∙ e)) has;
       taken = λ t. tt;
       title = tt;
       taken_refused = λ t n. absurd (c.in_default.not-OutOfMemory (c.kind.ensures ∙ takes_at _ ws _ c.in_ok-command.ensures c.in-Err.ensures.passes t));

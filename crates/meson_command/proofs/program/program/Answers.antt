@@ -1,7 +1,7 @@
 use Rattle.std.proofs.Common.{◌∙◌, ap}
 use Rattle.std.proofs.lemmas.Result.{IfOk-weaker}
 use Rattle.clap.specs.Words.{App, with_subcommand}
-use Rattle.meson_command.specs.Program.{command, default_options, kwargs, program, redo, target, undo}
+use Rattle.meson_command.specs.Program.{command, default_options, history, kwargs, list, program, redo, target, undo}
 use Rattle.meson_command.proofs.program.program.Goals as goal
 
 -- a subcommand more
@@ -16,4 +16,6 @@ returns c =
     let three = c.in_ok-program-4.ensures default_options c.default_options.ensures ∙ ap (λ a. more a default_options) two in
     let four = c.in_ok-program-5.ensures command c.command.ensures ∙ ap (λ a. more a command) three in
     let five = c.in_ok-program-6.ensures undo c.undo.ensures ∙ ap (λ a. more a undo) four in
-    IfOk-weaker c.with_subcommand-6.result _ _ (λ r h. h ∙ ap (λ a. more a redo) five) (c.with_subcommand-6.ensures redo c.redo.ensures)
+    let six = c.in_ok-program-7.ensures redo c.redo.ensures ∙ ap (λ a. more a redo) five in
+    let seven = c.in_ok-program-8.ensures history c.history.ensures ∙ ap (λ a. more a history) six in
+    IfOk-weaker c.with_subcommand-8.result _ _ (λ r h. h ∙ ap (λ a. more a list) seven) (c.with_subcommand-8.ensures list c.list.ensures)

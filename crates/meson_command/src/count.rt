@@ -1,0 +1,18 @@
+//! How many runs, as a word says it.
+
+ghost use Rattle.std.specs.Prelude.{◌≡◌};
+ghost use Rattle.meson_command.specs.Counts.{count_of};
+
+/// The number, from 1 to `usize::MAX`, that a word of decimal digits writes; zeros may stand in front, and nothing else.
+pub(crate) fn count_of(word: &str) -> Option<usize>
+    ensures { result ≡ count_of word.now }
+{
+    if word.starts_with('+') {
+        return None;
+    }
+    match word.parse::<usize>() {
+        Ok(0) => None,
+        Ok(count) => Some(count),
+        Err(_) => None,
+    }
+}
