@@ -1,6 +1,6 @@
 -- How a run ends, from what its steps did.
-use Rattle.std.proofs.Common.{◌≡◌, ◌⊎◌, ◌≤◌, false, true, ℕ, List, [], ◌∷◌, length, Option, Some, None, Result, Ok, Err, inl, inr, refl, sym, ap, ◌∙◌, subst, arith}
-use Rattle.std.specs.Prelude.{IsTrue}
+use Rattle.std.proofs.Common.{◌≡◌, ◌⊎◌, ◌≤◌, ◌||◌, Bool, false, true, ℕ, List, [], ◌∷◌, length, Option, Some, None, Result, Ok, Err, inl, inr, refl, sym, ap, ◌∙◌, subst, arith}
+use Rattle.std.specs.Prelude.{IfErr, IfOk, IsTrue}
 use Rattle.meson_command.specs.Asking.{without_text}
 use Rattle.meson_command.specs.declared.asked.Action.{Action}
 use Rattle.meson_command.specs.declared.asked.Action.TheVariants as action
@@ -18,16 +18,18 @@ use Rattle.meson_store.specs.declared.store_fault.StoreFault.{StoreFault}
 use Rattle.meson_store.specs.declared.store_fault.StoreFault.TheVariants as store
 use Rattle.meson_gathering.proofs.Stopping.{rose_before, stops_within}
 use Rattle.meson_gathering.specs.Gathering.{Finds, file_of}
-use Rattle.meson_rewrite.specs.Edited.{IsEdited, IsTold}
-use Rattle.meson_rewrite.specs.Lines.{status, stop_status, store_fault_status, usage_status}
+use Rattle.meson_rewrite.specs.Edited.{IsEdited, IsShown, IsTold}
+use Rattle.meson_rewrite.specs.Lines.{status, stop_status, store_fault_status, usage_status, version_line}
 use Rattle.meson_rewrite.proofs.Holding.{IsHeld, held-collected}
+use Rattle.meson_rewrite.specs.Listed.{listed_text}
 use Rattle.meson_rewrite.specs.Logs.{log_name, with_log}
 use Rattle.meson_rewrite.specs.Opening.{IsNoLog, Opens, OpensNone, log_unread, bad_log, no_log, no_project}
-use Rattle.meson_rewrite.specs.Requests.{AsksFor, AsksForNone, only_asks, script, shows_help}
-use Rattle.meson_rewrite.specs.Runs.{Edits, Ends, IsUnchanged, OnlyAsks, RanOut, StepEnds, done, memory_ran_out, misused, helped, asks_for_none, no_memory, not_opened, refused, steps, told, unwritten, written}
+use Rattle.meson_rewrite.specs.Requests.{AsksFor, AsksForNone, only_asks, only_shows, script}
+use Rattle.meson_rewrite.specs.Runs.{Edits, Ends, IsUnchanged, ListingEnds, OnlyAsks, RanOut, StepEnds, asks_for_none, done, has_none, helped, listed, lists, memory_ran_out, misused, no_memory, not_opened, refused, shown, steps, told, told_version, unwritten, wants_memory, written}
 use Rattle.meson_rewrite.specs.Steps.{MayRefuse, only_tells}
 use Rattle.meson_rewrite.specs.Stops.{WantsMemory}
 use Rattle.meson_rewrite.specs.declared.editing.Edit.{Edit}
+use Rattle.meson_rewrite.specs.declared.request.Listing.{Listing}
 use Rattle.meson_rewrite.specs.declared.request.Request.TheVariants as request
 use Rattle.meson_rewrite.specs.declared.request.Step.{Step}
 use Rattle.meson_rewrite.specs.declared.request.Step.TheVariants.{Tell}
@@ -88,7 +90,7 @@ taken-then a b c u files fault t = record {
 
 -- ---- a step
 
-module _ (dir : Option (List ℕ)) (step : Step) where
+module _ (dir : Option (List ℕ)) (step : Step) (dry_run : Bool) where
   abbrev edits-before : (before middle : Option Content) → middle ≡ before → Edits middle dir step → Edits before dir step
   edits-before before middle same e = record {
     old = e.old;
@@ -103,31 +105,36 @@ module _ (dir : Option (List ℕ)) (step : Step) where
   }
 
   -- the store was read before, for a script
-  pub step-before : (a b c : Seen) (end : Result Said Stop) → Untouched a b → b.failures ≤ c.failures → StepEnds dir step b c end → StepEnds dir step a c end
+  pub step-before : (a b c : Seen) (end : Result Said Stop) → Untouched a b → b.failures ≤ c.failures → StepEnds dir step dry_run b c end → StepEnds dir step dry_run a c end
   step-before a b c _ u k (not_opened stop v opens) =
       not_opened stop (untouched-then a b c u v) (none-before dir a.content a.failures b.failures c.failures u.counts k stop (subst (λ m. OpensNone m dir b.failures c.failures stop) u.kept opens))
   step-before a b c _ u k (refused old log stop v opens may) = refused old log stop (untouched-then a b c u v) (subst (λ m. Opens m dir old log) u.kept opens) may
   step-before a b c _ u k (told old new log report v opens does only) = told old new log report (untouched-then a b c u v) (subst (λ m. Opens m dir old log) u.kept opens) does only
-  step-before a b c _ u k (done e writes are) = done (edits-before a.content b.content u.kept e) writes (replaced-then a b c u (written e) are)
-  step-before a b c _ u k (unwritten e fault writes taken) = unwritten (edits-before a.content b.content u.kept e) fault writes (taken-then a b c u (written e) fault taken)
+  step-before a b c _ u k (shown old new log report said v opens does writes dry shows) =
+      shown old new log report said (untouched-then a b c u v) (subst (λ m. Opens m dir old log) u.kept opens) does writes dry shows
+  step-before a b c _ u k (done e writes wet are) = done (edits-before a.content b.content u.kept e) writes wet (replaced-then a b c u (written e) are)
+  step-before a b c _ u k (unwritten e fault writes wet taken) = unwritten (edits-before a.content b.content u.kept e) fault writes wet (taken-then a b c u (written e) fault taken)
   step-before a b c _ u k (no_memory stop v wants) = no_memory stop (untouched-then a b c u v) wants
 
   -- ---- by what stopped it, or by what is written
 
   module _ (b a : Seen) (u : Untouched b a) where
-    pub stopped-opening : (stop : Stop) → WantsMemory stop ⊎ OpensNone b.content dir b.failures a.failures stop → StepEnds dir step b a (Err stop)
+    pub stopped-opening : (stop : Stop) → WantsMemory stop ⊎ OpensNone b.content dir b.failures a.failures stop → StepEnds dir step dry_run b a (Err stop)
     stopped-opening stop (inl m) = no_memory stop u m
     stopped-opening stop (inr none) = not_opened stop u none
 
     module _ (old : Session) (log : List ℕ) (opens : Opens b.content dir old log) where
-      pub stopped-acting : (stop : Stop) → WantsMemory stop ⊎ MayRefuse step old stop → StepEnds dir step b a (Err stop)
+      pub stopped-acting : (stop : Stop) → WantsMemory stop ⊎ MayRefuse step old stop → StepEnds dir step dry_run b a (Err stop)
       stopped-acting stop (inl m) = no_memory stop u m
       stopped-acting stop (inr may) = refused old log stop u opens may
 
-      pub told-ends : only_tells step ≡ true → (said : Said) → IsTold old step said → StepEnds dir step b a (Ok said)
-      told-ends only said t = subst (λ s. StepEnds dir step b a (Ok s)) (sym t.is_said) (told old t.new log t.report u opens t.does only)
+      pub told-ends : only_tells step ≡ true → (said : Said) → IsTold old step said → StepEnds dir step dry_run b a (Ok said)
+      told-ends only said t = subst (λ s. StepEnds dir step dry_run b a (Ok s)) (sym t.is_said) (told old t.new log t.report u opens t.does only)
 
-  module _ (b m a : Seen) (u : Untouched b m) (writes : only_tells step ≡ false) (old : Session) (log : List ℕ) (opens : Opens b.content dir old log) (edit : Edit) (e : IsEdited old log step edit) where
+      pub dry-ends : only_tells step ≡ false → dry_run ≡ true → (said : Said) → IsShown old step said → StepEnds dir step dry_run b a (Ok said)
+      dry-ends writes dry said s = shown old s.new log s.report said u opens s.does writes dry s.shows
+
+  module _ (b m a : Seen) (u : Untouched b m) (writes : only_tells step ≡ false) (wet : dry_run ≡ false) (old : Session) (log : List ℕ) (opens : Opens b.content dir old log) (edit : Edit) (e : IsEdited old log step edit) where
     abbrev edits : Edits b.content dir step
     edits = record {
       old = old;
@@ -144,13 +151,38 @@ module _ (dir : Option (List ℕ)) (step : Step) where
     are-written : puts dir edit.before edit.after ≡ written edits
     are-written = ap (λ fs. puts dir fs edit.after) e.before ∙ ap (puts dir (with_log old.project.files log)) e.after
 
-    pub done-ends : AreReplaced (puts dir edit.before edit.after) m a → StepEnds dir step b a (Ok edit.said)
+    pub done-ends : AreReplaced (puts dir edit.before edit.after) m a → StepEnds dir step dry_run b a (Ok edit.said)
     done-ends are =
-        subst (λ s. StepEnds dir step b a (Ok s)) (sym e.said) (done edits writes (replaced-then b m a u (written edits) (subst (λ fs. AreReplaced fs m a) are-written are)))
+        subst (λ s. StepEnds dir step dry_run b a (Ok s)) (sym e.said) (done edits writes wet (replaced-then b m a u (written edits) (subst (λ fs. AreReplaced fs m a) are-written are)))
 
-    pub failed-ends : (fault : StoreFault) → CommitFails (puts dir edit.before edit.after) m a fault → StepEnds dir step b a (Err (Store fault))
+    pub failed-ends : (fault : StoreFault) → CommitFails (puts dir edit.before edit.after) m a fault → StepEnds dir step dry_run b a (Err (Store fault))
     failed-ends fault (inl (is, untouched)) = no_memory (Store fault) (untouched-then b m a u untouched) is
-    failed-ends fault (inr taken) = unwritten edits fault writes (taken-then b m a u (written edits) fault (subst (λ fs. TakenBack fs m a fault) are-written taken))
+    failed-ends fault (inr taken) = unwritten edits fault writes wet (taken-then b m a u (written edits) fault (subst (λ fs. TakenBack fs m a fault) are-written taken))
+
+-- ---- a listing
+
+module _ (dir : Option (List ℕ)) (listing : Listing) where
+  -- the store was read before
+  pub listing-before : (a b c : Seen) (end : Result Said Stop) → Untouched a b → b.failures ≤ c.failures → ListingEnds dir listing b c end → ListingEnds dir listing a c end
+  listing-before a b c _ u k (has_none stop v opens) =
+      has_none stop (untouched-then a b c u v) (none-before dir a.content a.failures b.failures c.failures u.counts k stop (subst (λ m. OpensNone m dir b.failures c.failures stop) u.kept opens))
+  listing-before a b c _ u k (listed session log v opens) = listed session log (untouched-then a b c u v) (subst (λ m. Opens m dir session log) u.kept opens)
+  listing-before a b c _ u k (wants_memory stop v wants) = wants_memory stop (untouched-then a b c u v) wants
+
+  pub listing-untouched : (before after : Seen) (end : Result Said Stop) → ListingEnds dir listing before after end → Untouched before after
+  listing-untouched before after _ (has_none stop u opens) = u
+  listing-untouched before after _ (listed session log u opens) = u
+  listing-untouched before after _ (wants_memory stop u wants) = u
+
+  pub listing-unopened : (before after : Seen) → Untouched before after → (stop : Stop)
+      → WantsMemory stop ⊎ OpensNone before.content dir before.failures after.failures stop → ListingEnds dir listing before after (Err stop)
+  listing-unopened before after u stop (inl m) = wants_memory stop u m
+  listing-unopened before after u stop (inr none) = has_none stop u none
+
+  pub listing-told : (before after : Seen) → Untouched before after → (session : Session) (log : List ℕ) → Opens before.content dir session log
+      → (end : Result Said Stop) → IfOk end (λ said. said ≡ record { out = listed_text listing session; err = [] }) → IfErr end WantsMemory → ListingEnds dir listing before after end
+  listing-told before after u session log opens (Ok said) is none = subst (λ s. ListingEnds dir listing before after (Ok s)) (sym is) (listed session log u opens)
+  listing-told before after u session log opens (Err stop) is none = wants_memory stop u none
 
 -- ---- with these statuses the store holds what it held
 
@@ -196,41 +228,62 @@ module _ (asked : Result Asked UsageFault) (before after : Seen) where
     unwritten-keeps e store.OutOfMemory t s =
         (ran-out a.dir step before after e t, inr (refl, record { a = a; is_asked = is; step = step; asks = asks; edits = e; taken = t }))
 
-    step-keeps : (end : Result Said Stop) → StepEnds a.dir step before after end → Refusing (status end) → Keeps (status end)
+    step-keeps : (end : Result Said Stop) → StepEnds a.dir step a.dry_run before after end → Refusing (status end) → Keeps (status end)
     step-keeps _ (not_opened stop u opens) s = untouched-keeps (stop_status stop) u
     step-keeps _ (refused old log stop u opens may) s = untouched-keeps (stop_status stop) u
     step-keeps _ (told old new log report u opens does only) s = untouched-keeps 0 u
-    step-keeps _ (done e writes are) s = not-refused 0 s (inl refl)
-    step-keeps _ (unwritten e fault writes taken) s = unwritten-keeps e fault taken s
+    step-keeps _ (shown old new log report said u opens does writes dry shows) s = untouched-keeps 0 u
+    step-keeps _ (done e writes wet are) s = not-refused 0 s (inl refl)
+    step-keeps _ (unwritten e fault writes wet taken) s = unwritten-keeps e fault taken s
     step-keeps _ (no_memory stop u wants) s = untouched-keeps (stop_status stop) u
 
 pub status-keeps : (asked : Result Asked UsageFault) (before after : Seen) (end : Result Said Stop) → Ends asked before after end → Refusing (status end) →
     (after.content ≡ before.content) × ((after.replaces ≡ before.replaces) ⊎ ((status end ≡ 1) × RanOut asked before after))
 status-keeps asked before after _ (misused fault u is) s = untouched-keeps asked before after (usage_status fault) u
 status-keeps asked before after _ (helped a text u is shows) s = untouched-keeps asked before after 0 u
+status-keeps asked before after _ (told_version a u is shows) s = untouched-keeps asked before after 0 u
 status-keeps asked before after _ (asks_for_none a stop u is none) s = untouched-keeps asked before after (stop_status stop) u
 status-keeps asked before after _ (steps a step end is asks ends) s = step-keeps asked before after a step is asks end ends s
+status-keeps asked before after _ (lists a listing end is asks ends) s = untouched-keeps asked before after (status end) (listing-untouched a.dir listing before after end ends)
 status-keeps asked before after _ (memory_ran_out stop u wants) s = untouched-keeps asked before after (stop_status stop) u
 
 -- ---- what was asked for
 
-pub asks-help : (title : List ℕ) (a : Action) (held : Option Content) (text : List ℕ) → AsksFor title a held (request.Help text) → a ≡ action.Help text
-asks-help title (action.Run s) held text is = absurd (let no : ⊥ = cc in no)
-asks-help title (action.Info c) held text is = absurd (let no : ⊥ = cc in no)
-asks-help title (action.ScriptText t) held text (cs, of, is) = absurd (let no : ⊥ = cc in no)
-asks-help title (action.ScriptFile n) held text (cs, of, is) = absurd (let no : ⊥ = cc in no)
-asks-help title action.Undo held text is = absurd (let no : ⊥ = cc in no)
-asks-help title action.Redo held text is = absurd (let no : ⊥ = cc in no)
-asks-help title (action.Help t) held text is = let same : t ≡ text = cc in ap action.Help same
+-- a text that is shown is that of help, or the version
+pub shown-ends : (a : Asked) (b c : Seen) (text : List ℕ) → Untouched b c → AsksFor a.title a.action b.content (request.Show text) → Ends (Ok (without_text a)) b c (Ok (record { out = text; err = [] }))
+shown-ends a b c text u asks = of-action a.action refl asks
+  where
+    of-action : (x : Action) → a.action ≡ x → AsksFor a.title x b.content (request.Show text) → Ends (Ok (without_text a)) b c (Ok (record { out = text; err = [] }))
+    of-action (action.Run s) at is = absurd (let no : ⊥ = cc in no)
+    of-action (action.Info d) at is = absurd (let no : ⊥ = cc in no)
+    of-action (action.ScriptText t) at (cs, of, is) = absurd (let no : ⊥ = cc in no)
+    of-action (action.ScriptFile n) at (cs, of, is) = absurd (let no : ⊥ = cc in no)
+    of-action action.Undo at is = absurd (let no : ⊥ = cc in no)
+    of-action (action.UndoTo count) at is = absurd (let no : ⊥ = cc in no)
+    of-action (action.ForgetOldest count) at is = absurd (let no : ⊥ = cc in no)
+    of-action action.ForgetAll at is = absurd (let no : ⊥ = cc in no)
+    of-action action.Redo at is = absurd (let no : ⊥ = cc in no)
+    of-action action.History at is = absurd (let no : ⊥ = cc in no)
+    of-action (action.List json) at is = absurd (let no : ⊥ = cc in no)
+    of-action (action.Help t) at is = let same : t ≡ text = cc in helped a text u refl (at ∙ ap action.Help same)
+    of-action action.Version at is =
+        let same : version_line ≡ text = cc in
+        subst (λ out. Ends (Ok (without_text a)) b c (Ok (record { out = out; err = [] }))) same (told_version a u refl at)
 
-pub asks-no-step : (title : List ℕ) (a : Action) (held : Option Content) (step : Step) → AsksFor title a held (request.Step step) → IsTrue (shows_help a) → ⊥
+pub asks-no-step : (title : List ℕ) (a : Action) (held : Option Content) (step : Step) → AsksFor title a held (request.Step step) → IsTrue (only_shows a) → ⊥
 asks-no-step title (action.Run s) held step is t = let no : ⊥ = cc in no
 asks-no-step title (action.Info c) held step is t = let no : ⊥ = cc in no
 asks-no-step title (action.ScriptText text) held step is t = let no : ⊥ = cc in no
 asks-no-step title (action.ScriptFile n) held step is t = let no : ⊥ = cc in no
 asks-no-step title action.Undo held step is t = let no : ⊥ = cc in no
+asks-no-step title (action.UndoTo count) held step is t = let no : ⊥ = cc in no
+asks-no-step title (action.ForgetOldest count) held step is t = let no : ⊥ = cc in no
+asks-no-step title action.ForgetAll held step is t = let no : ⊥ = cc in no
 asks-no-step title action.Redo held step is t = let no : ⊥ = cc in no
+asks-no-step title action.History held step is t = let no : ⊥ = cc in no
+asks-no-step title (action.List json) held step is t = let no : ⊥ = cc in no
 asks-no-step title (action.Help text) held step is t = let no : ⊥ = cc in no
+asks-no-step title action.Version held step is t = let no : ⊥ = cc in no
 
 pub not-asked : (a : Asked) (b c : Seen) → Untouched b c → (stop : Stop) → WantsMemory stop ⊎ AsksForNone a.action b.content b.failures c.failures stop → Ends (Ok (without_text a)) b c (Err stop)
 not-asked a b c u stop (inl m) = memory_ran_out stop u m
@@ -240,19 +293,25 @@ pub not-used : (asked : Result Asked UsageFault) (b c : Seen) → Untouched b c 
 not-used asked b c u fault (inl m) = memory_ran_out (Usage fault) u m
 not-used asked b c u fault (inr is) = misused fault u is
 
-pub shows-same : (a : Asked) → IsTrue (shows_help (without_text a).action) → IsTrue (shows_help a.action)
+pub shows-same : (a : Asked) → IsTrue (only_shows (without_text a).action) → IsTrue (only_shows a.action)
 shows-same a t = go a.action t
   where
-    go : (x : Action) → IsTrue (shows_help (without_text (record { dir = None; title = []; action = x })).action) → IsTrue (shows_help x)
+    go : (x : Action) → IsTrue (only_shows (without_text (record { dir = None; title = []; dry_run = false; action = x })).action) → IsTrue (only_shows x)
     go (action.Run s) t = t
     go (action.Info c) t = t
     go (action.ScriptText text) t = t
     go (action.ScriptFile n) t = t
     go action.Undo t = t
+    go (action.UndoTo count) t = t
+    go (action.ForgetOldest count) t = t
+    go action.ForgetAll t = t
     go action.Redo t = t
+    go action.History t = t
+    go (action.List json) t = t
     go (action.Help text) t = t
+    go action.Version t = t
 
--- ---- help and what an info command tells leave the store as it is
+-- ---- help, the version, a listing and what an info command tells leave the store as it is
 
 asks-only : (title : List ℕ) (a : Action) (held : Option Content) (step : Step) → AsksFor title a held (request.Step step) → IsTrue (only_asks a) → only_tells step ≡ true
 asks-only title (action.Run s) held step is t = absurd (let no : ⊥ = cc in no)
@@ -260,33 +319,59 @@ asks-only title (action.Info c) held step is t = let same : step ≡ Tell (scrip
 asks-only title (action.ScriptText text) held step is t = absurd (let no : ⊥ = cc in no)
 asks-only title (action.ScriptFile n) held step is t = absurd (let no : ⊥ = cc in no)
 asks-only title action.Undo held step is t = absurd (let no : ⊥ = cc in no)
+asks-only title (action.UndoTo count) held step is t = absurd (let no : ⊥ = cc in no)
+asks-only title (action.ForgetOldest count) held step is t = absurd (let no : ⊥ = cc in no)
+asks-only title action.ForgetAll held step is t = absurd (let no : ⊥ = cc in no)
 asks-only title action.Redo held step is t = absurd (let no : ⊥ = cc in no)
+asks-only title action.History held step is t = absurd (let no : ⊥ = cc in no)
+asks-only title (action.List json) held step is t = absurd (let no : ⊥ = cc in no)
 asks-only title (action.Help text) held step is t = absurd (let no : ⊥ = cc in no)
+asks-only title action.Version held step is t = absurd (let no : ⊥ = cc in no)
 
 asks-same : (a : Asked) → IsTrue (only_asks (without_text a).action) → IsTrue (only_asks a.action)
 asks-same a t = go a.action t
   where
-    go : (x : Action) → IsTrue (only_asks (without_text (record { dir = None; title = []; action = x })).action) → IsTrue (only_asks x)
+    go : (x : Action) → IsTrue (only_asks (without_text (record { dir = None; title = []; dry_run = false; action = x })).action) → IsTrue (only_asks x)
     go (action.Run s) t = t
     go (action.Info c) t = t
     go (action.ScriptText text) t = t
     go (action.ScriptFile n) t = t
     go action.Undo t = t
+    go (action.UndoTo count) t = t
+    go (action.ForgetOldest count) t = t
+    go action.ForgetAll t = t
     go action.Redo t = t
+    go action.History t = t
+    go (action.List json) t = t
     go (action.Help text) t = t
+    go action.Version t = t
 
-step-told : (dir : Option (List ℕ)) (step : Step) (before after : Seen) → only_tells step ≡ true → (end : Result Said Stop) → StepEnds dir step before after end → IsUnchanged before after
-step-told dir step before after only _ (not_opened stop u opens) = untouched-same before after u
-step-told dir step before after only _ (refused old log stop u opens may) = untouched-same before after u
-step-told dir step before after only _ (told old new log report u opens does tells) = untouched-same before after u
-step-told dir step before after only _ (done e writes are) = absurd (let no : ⊥ = cc in no)
-step-told dir step before after only _ (unwritten e fault writes taken) = absurd (let no : ⊥ = cc in no)
-step-told dir step before after only _ (no_memory stop u wants) = untouched-same before after u
+-- nothing is written where a step only tells, and in a dry run
+step-told : (dir : Option (List ℕ)) (step : Step) (dry_run : Bool) (before after : Seen) → (only_tells step ≡ true) ⊎ (dry_run ≡ true) → (end : Result Said Stop) → StepEnds dir step dry_run before after end
+    → IsUnchanged before after
+step-told dir step dry_run before after only _ (not_opened stop u opens) = untouched-same before after u
+step-told dir step dry_run before after only _ (refused old log stop u opens may) = untouched-same before after u
+step-told dir step dry_run before after only _ (told old new log report u opens does tells) = untouched-same before after u
+step-told dir step dry_run before after only _ (shown old new log report said u opens does writes dry shows) = untouched-same before after u
+step-told dir step dry_run before after (inl tells) _ (done e writes wet are) = absurd (let no : ⊥ = cc in no)
+step-told dir step dry_run before after (inr dry) _ (done e writes wet are) = absurd (let no : ⊥ = cc in no)
+step-told dir step dry_run before after (inl tells) _ (unwritten e fault writes wet taken) = absurd (let no : ⊥ = cc in no)
+step-told dir step dry_run before after (inr dry) _ (unwritten e fault writes wet taken) = absurd (let no : ⊥ = cc in no)
+step-told dir step dry_run before after only _ (no_memory stop u wants) = untouched-same before after u
+
+one-true : (x y : Bool) → IsTrue (x || y) → IsTrue x ⊎ (y ≡ true)
+one-true true y t = inl refl
+one-true false y t = inr t
 
 pub asking-keeps : (asked : Result Asked UsageFault) (before after : Seen) (end : Result Said Stop) → Ends asked before after end → OnlyAsks asked → IsUnchanged before after
 asking-keeps asked before after _ (misused fault u is) t = untouched-same before after u
 asking-keeps asked before after _ (helped a text u is shows) t = untouched-same before after u
+asking-keeps asked before after _ (told_version a u is shows) t = untouched-same before after u
 asking-keeps asked before after _ (asks_for_none a stop u is none) t = untouched-same before after u
 asking-keeps asked before after _ (steps a step end is asks ends) t =
-    step-told a.dir step before after (asks-only a.title a.action before.content step asks (asks-same a (subst OnlyAsks is t))) end ends
+    elim (one-true (only_asks (without_text a).action) a.dry_run (subst OnlyAsks is t)) [
+      | inl only ↦ step-told a.dir step a.dry_run before after (inl (asks-only a.title a.action before.content step asks (asks-same a only))) end ends
+      | inr dry ↦ step-told a.dir step a.dry_run before after (inr dry) end ends
+    ]
+asking-keeps asked before after _ (lists a listing end is asks ends) t = untouched-same before after (listing-untouched a.dir listing before after end ends)
 asking-keeps asked before after _ (memory_ran_out stop u wants) t = untouched-same before after u

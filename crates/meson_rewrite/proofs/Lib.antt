@@ -1,5 +1,6 @@
 pub mod Holding
 pub mod Telling
+pub mod EditedFiles
 pub mod Wants
 pub mod Names
 pub mod Listings

@@ -25,13 +25,16 @@ use Rattle.meson_plan.specs.declared.details.Head.{Head}
 use Rattle.meson_plan.specs.declared.details.Shown.{Shown}
 use Rattle.meson_plan.specs.declared.details.Shown.TheVariants as shown
 use Rattle.meson_listing.specs.Entries.{call_data, id_data, item_data, put_each, shown_data, target_data, text_or_null}
+use Rattle.meson_listing.specs.Holdings.{holdings}
+use Rattle.meson_listing.specs.Inventory.{file_data, project_data, spot_data}
+use Rattle.meson_listing.specs.Inventory as inventory
 use Rattle.meson_listing.specs.Listing.{call_at, kwargs_listing, or_not_found, target_at, target_listing}
 use Rattle.meson_script.specs.Running.{Runs, nothing_ran, ran_more, told}
 use Rattle.meson_script.specs.declared.session.Report.{Report}
 use Rattle.meson_script.specs.declared.session.Session.{Session}
 use Rattle.meson_rewrite.specs.Steps.{Does}
 use Rattle.meson_rewrite.specs.declared.request.Step.{Step}
-use Rattle.meson_rewrite.specs.declared.request.Step.TheVariants.{Run, Tell, Undo, Redo}
+use Rattle.meson_rewrite.specs.declared.request.Step.TheVariants.{Run, Tell, Undo, UndoTo, Redo, ForgetOldest, ForgetAll}
 
 -- ---- the parts
 
@@ -88,6 +91,19 @@ put-plain k d (member l e ms) p q =
 each-plain : (ms : Members) (pairs : List (List ℕ × Shown)) → members_have_float ms ≡ false → members_have_float (put_each ms pairs) ≡ false
 each-plain ms [] q = q
 each-plain ms (p ∷ more) q = each-plain (put p.0 (shown_data p.1) ms) more (put-plain p.0 (shown_data p.1) ms (shown-plain p.1) q)
+
+-- ---- what a project holds
+
+all-plain : {X : Type 0} (data_of : X → Data) (xs : List X) → ((x : X) → has_float (data_of x) ≡ false) → items_have_float (items_of (map data_of xs)) ≡ false
+all-plain data_of [] plain = refl
+all-plain data_of (x ∷ xs) plain = either (has_float (data_of x)) (items_have_float (items_of (map data_of xs))) (plain x) (all-plain data_of xs plain)
+
+pub project-plain : (l : Loaded) → has_float (project_data l) ≡ false
+project-plain l =
+    let files = all-plain file_data l.files (λ f. refl) in
+    let spots = all-plain (spot_data l.files) (holdings l).not_entered (λ c. refl) in
+    let calls = all-plain (inventory.call_data l.files) (holdings l).targets (λ c. rw (text-plain c.head.name, text-plain c.variable) refl) in
+    rw (files, spots, calls) refl
 
 -- ---- a listing, if it is made
 
@@ -177,4 +193,7 @@ pub does-plain : (step : Step) (old new : Session) (report : Report) → Does st
 does-plain (Run script title) old new report k = ap has_float k.info ∙ runs-plain old.project script.commands k.splices report.relexed k.listings new.project k.runs
 does-plain (Tell script) old new report k = ap has_float k.info ∙ runs-plain old.project script.commands k.splices report.relexed k.listings new.project k.runs
 does-plain Undo old new report s = ap has_float s.info
+does-plain (UndoTo count) old new report s = ap has_float s.info
+does-plain (ForgetOldest count) old new report s = ap has_float s.1.info
+does-plain ForgetAll old new report s = ap has_float s.1.info
 does-plain Redo old new report s = ap has_float s.info

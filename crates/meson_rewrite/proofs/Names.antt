@@ -1,5 +1,5 @@
 -- A step keeps the names of a project's files.
-use Rattle.std.proofs.Common.{◌≡◌, ℕ, List, [], ◌∷◌, ◌++◌, length, Result, Ok, Err, ◌⊎◌, inl, inr, refl, sym, ap, ◌∙◌, arith}
+use Rattle.std.proofs.Common.{◌≡◌, ℕ, zero, suc, List, [], ◌∷◌, ◌++◌, length, Result, Ok, Err, ◌⊎◌, inl, inr, refl, sym, ap, ◌∙◌, arith}
 use Rattle.std.specs.Prelude.{reverse}
 use Rattle.std.proofs.lemmas.List.{length-map, map-append}
 use Rattle.meson_splice.specs.declared.change.Change.{Change}
@@ -10,22 +10,24 @@ use Rattle.meson_splice.specs.declared.history.History.{History}
 use Rattle.meson_splice.specs.declared.splice.Splice.{Splice}
 use Rattle.meson_splice.specs.Past.{redone, redone_from, undone, undone_from}
 use Rattle.meson_calls.specs.declared.load_fault.LoadFault.TheVariants as load
-use Rattle.meson_script.specs.Undoing.{MayNotStep}
+use Rattle.meson_calls.specs.Loading.{name_at}
+use Rattle.meson_script.specs.Undoing.{MayNotStep, StopsBack}
 use Rattle.meson_script.specs.declared.fault.UndoFault.{UndoFault}
 use Rattle.meson_script.specs.declared.fault.UndoFault.TheVariants as undo
 use Rattle.meson_splice.specs.Patch.{inverses_of, patched_all, then_ok}
 use Rattle.meson_script.proofs.RunFacts.{change-names, names, runs-patch}
+use Rattle.meson_script.proofs.Undos.{times-names}
 use Rattle.meson_script.specs.declared.session.Report.{Report}
 use Rattle.meson_script.specs.declared.session.Session.{Session}
 use Rattle.meson_gathering.specs.Gathering.{file_of}
 use Rattle.meson_rewrite.specs.Logs.{log_name, with_log}
 use Rattle.meson_rewrite.specs.Edited.{IsWithin}
-use Rattle.meson_rewrite.specs.Steps.{Does, StopsStep}
+use Rattle.meson_rewrite.specs.Steps.{Does, StopsStep, StopsStepsBack}
 use Rattle.meson_rewrite.specs.Stops.{undo_stop}
 use Rattle.meson_rewrite.specs.declared.stop.Stop.{Stop}
 use Rattle.meson_rewrite.specs.declared.stop.Stop.TheVariants as stop
 use Rattle.meson_rewrite.specs.declared.request.Step.{Step}
-use Rattle.meson_rewrite.specs.declared.request.Step.TheVariants.{Run, Tell, Undo, Redo}
+use Rattle.meson_rewrite.specs.declared.request.Step.TheVariants.{Run, Tell, Undo, UndoTo, Redo, ForgetOldest, ForgetAll}
 
 abbrev Patched : Type 0
 Patched = Result (List File) SpliceFault
@@ -62,6 +64,9 @@ step-names (Run script title) old new report k =
 step-names (Tell script) old new report k =
     change-names old.project.files k.splices new.project.files (runs-patch old.project new.project script.commands k.splices report.relexed k.listings k.runs)
 step-names Undo old new report s = undone-names (reverse old.history.past) old.history.future old.project.files new.history new.project.files s.is_step
+step-names (UndoTo count) old new report s = times-names count old.history new.history old.project.files new.project.files s.are_steps
+step-names (ForgetOldest count) old new report s = ap (λ p. names p.files) (sym s.1.project)
+step-names ForgetAll old new report s = ap (λ p. names p.files) (sym s.1.project)
 step-names Redo old new report s = redone-names (reverse old.history.future) old.history.past old.project.files new.history new.project.files s.is_step
 
 -- with the log behind them too
@@ -97,3 +102,30 @@ pub stops-step : (old : Session) (step : Stepped) (files : List File) → files 
     → (why ≡ undo_stop files fault) ⊎ (why ≡ stop.Splice OutOfMemory) → StopsStep old step why
 stops-step old step files same fault why may (inl e) = (fault, may, e ∙ ap (λ fs. undo_stop fs fault) same)
 stops-step old step files same fault why may (inr e) = (undo.Splice OutOfMemory, (λ n. absurd (n refl)), e)
+
+-- ---- what is told goes by the names of the files
+
+abbrev nth : ℕ → List (List ℕ) → List ℕ
+nth place [] = []
+nth zero (n ∷ ns) = n
+nth (suc place) (n ∷ ns) = nth place ns
+
+name-nth : (place : ℕ) (files : List File) → name_at place files ≡ nth place (names files)
+name-nth place [] = refl
+name-nth zero (f ∷ files) = refl
+name-nth (suc place) (f ∷ files) = name-nth place files
+
+stop-alike : (files after : List File) → names files ≡ names after → (fault : UndoFault) → undo_stop after fault ≡ undo_stop files fault
+stop-alike files after same (undo.Splice e) = refl
+stop-alike files after same (undo.Load load.TooManyFiles) = refl
+stop-alike files after same (undo.Load (load.BadFileName place)) = refl
+stop-alike files after same (undo.Load (load.Parse place why)) = ap (λ n. stop.Parse n why) (name-nth place after ∙ ap (nth place) (sym same) ∙ sym (name-nth place files))
+stop-alike files after same (undo.Load load.OutOfMemory) = refl
+
+pub stops-steps : (count : ℕ) (old between : Session) (files : List File) → files ≡ between.project.files → (fault : UndoFault) (why : Stop) → StopsBack count old fault between
+    → (why ≡ undo_stop files fault) ⊎ (why ≡ stop.Splice OutOfMemory) → StopsStepsBack count old why
+stops-steps count old between files same fault why stops (inl e) =
+    let names_stay = times-names stops.done old.history between.history old.project.files between.project.files stops.are_done in
+    (fault, between, stops, e ∙ ap (λ fs. undo_stop fs fault) same ∙ stop-alike old.project.files between.project.files names_stay fault)
+stops-steps count old between files same fault why stops (inr e) =
+    (undo.Splice OutOfMemory, between, record { done = stops.done; fewer = λ other. absurd (other refl); are_done = stops.are_done; refused = λ other. absurd (other refl) }, e)

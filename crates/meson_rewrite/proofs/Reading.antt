@@ -1,5 +1,5 @@
 -- How often a run reads the store, from how often its steps do.
-use Rattle.std.proofs.Common.{◌≡◌, ◌⊎◌, ◌∙◌, ℕ, List, [], Option, None, Result, Ok, Err, inl, inr, refl, sym, ap, subst, arith}
+use Rattle.std.proofs.Common.{◌≡◌, ◌⊎◌, ◌∙◌, ℕ, List, Option, Result, Ok, Err, inl, inr, refl, sym, subst}
 use Rattle.std.specs.Prelude.{OnOk}
 use Rattle.meson_command.specs.Asking.{without_help_text, without_text}
 use Rattle.meson_command.specs.declared.asked.Action.{Action}
@@ -8,7 +8,6 @@ use Rattle.meson_command.specs.declared.asked.Asked.{Asked}
 use Rattle.meson_command.specs.declared.fault.UsageFault.{UsageFault}
 use Rattle.meson_command.specs.declared.fault.UsageFault.TheVariants as usage
 use Rattle.meson_splice.specs.declared.file_set.File.{File}
-use Rattle.meson_store.specs.Calls.{one_more}
 use Rattle.meson_store.specs.Content.{Content}
 use Rattle.meson_store.specs.declared.store_fault.StoreFault.{StoreFault}
 use Rattle.meson_store.specs.declared.store_fault.StoreFault.TheVariants as store
@@ -16,6 +15,7 @@ use Rattle.meson_gathering.specs.Gathering.{Finds, whole}
 use Rattle.meson_rewrite.specs.Lines.{status, store_fault_status, usage_status}
 use Rattle.meson_rewrite.specs.Reads.{MayRead, ReadsAll, ReadsAtMost, ReadsFor, ReadsProject, ReadsWithLog, script_read}
 use Rattle.meson_rewrite.specs.Requests.{AsksFor}
+use Rattle.meson_rewrite.specs.declared.request.Listing.{Listing}
 use Rattle.meson_rewrite.specs.declared.request.Request.TheVariants as request
 use Rattle.meson_rewrite.specs.declared.request.Step.{Step}
 use Rattle.meson_rewrite.specs.declared.said.Said.{Said}
@@ -43,8 +43,14 @@ same-script (action.Info c) reads = refl
 same-script (action.ScriptText text) reads = refl
 same-script (action.ScriptFile n) reads = refl
 same-script action.Undo reads = refl
+same-script (action.UndoTo count) reads = refl
+same-script (action.ForgetOldest count) reads = refl
+same-script action.ForgetAll reads = refl
 same-script action.Redo reads = refl
+same-script action.History reads = refl
+same-script (action.List json) reads = refl
 same-script (action.Help text) reads = refl
+same-script action.Version reads = refl
 
 module _ (a : Asked) (before : Option Content) (reads : ℕ) where
   pub asked-alone : (reads' : ℕ) → (reads' ≡ reads) ⊎ (reads' ≡ script_read a.action reads) → MayRead (Ok (without_text a)) before reads reads'
@@ -67,13 +73,54 @@ module _ (a : Asked) (before : Option Content) (reads : ℕ) where
         of-action (action.ScriptText text) is h = h
         of-action (action.ScriptFile n) is h = h
         of-action action.Undo is h = h
+        of-action (action.UndoTo count) is h = h
+        of-action (action.ForgetOldest count) is h = h
+        of-action action.ForgetAll is h = h
         of-action action.Redo is h = h
+        of-action action.History is h = absurd (let no : ⊥ = cc in no)
+        of-action (action.List json) is h = absurd (let no : ⊥ = cc in no)
         of-action (action.Help text) is h = absurd (let no : ⊥ = cc in no)
+        of-action action.Version is h = absurd (let no : ⊥ = cc in no)
     step-reads-all step asks (Err stop) h = h
 
-  pub help-reads-none : (text : List ℕ) (reads' : ℕ) → a.action ≡ action.Help text → reads' ≡ script_read a.action reads → ReadsAll (Ok (without_text a)) before reads reads'
-  help-reads-none text reads' is e =
-      subst (λ x. ReadsFor (without_help_text x) before a.dir reads reads') (sym is) (e ∙ ap (λ x. script_read x reads) is)
+    pub listing-reads-all : {E : Type 0} (listing : Listing) → AsksFor a.title a.action before (request.List listing) → (end : Result Said E) → OnOk end (ReadsProject middle dir n reads')
+        → OnOk end (ReadsAll (Ok (without_text a)) before reads reads')
+    listing-reads-all listing asks (Ok said) h =
+        of-action a.action asks (subst (λ k. ReadsProject before a.dir k reads') script (subst (λ d. ReadsProject before d n reads') named (subst (λ b. ReadsProject b dir n reads') kept h)))
+      where
+        of-action : (x : Action) → AsksFor a.title x before (request.List listing) → ReadsProject before a.dir (script_read x reads) reads' → ReadsFor (without_help_text x) before a.dir reads reads'
+        of-action (action.Run s) is h = absurd (let no : ⊥ = cc in no)
+        of-action (action.Info c) is h = absurd (let no : ⊥ = cc in no)
+        of-action (action.ScriptText text) (cs, of, is) h = absurd (let no : ⊥ = cc in no)
+        of-action (action.ScriptFile n) (cs, of, is) h = absurd (let no : ⊥ = cc in no)
+        of-action action.Undo is h = absurd (let no : ⊥ = cc in no)
+        of-action (action.UndoTo count) is h = absurd (let no : ⊥ = cc in no)
+        of-action (action.ForgetOldest count) is h = absurd (let no : ⊥ = cc in no)
+        of-action action.ForgetAll is h = absurd (let no : ⊥ = cc in no)
+        of-action action.Redo is h = absurd (let no : ⊥ = cc in no)
+        of-action action.History is h = h
+        of-action (action.List json) is h = h
+        of-action (action.Help text) is h = absurd (let no : ⊥ = cc in no)
+        of-action action.Version is h = absurd (let no : ⊥ = cc in no)
+    listing-reads-all listing asks (Err stop) h = h
+
+  pub shown-reads-none : (text : List ℕ) (reads' : ℕ) → AsksFor a.title a.action before (request.Show text) → reads' ≡ script_read a.action reads → ReadsAll (Ok (without_text a)) before reads reads'
+  shown-reads-none text reads' asks e = of-action a.action asks e
+    where
+      of-action : (x : Action) → AsksFor a.title x before (request.Show text) → reads' ≡ script_read x reads → ReadsFor (without_help_text x) before a.dir reads reads'
+      of-action (action.Run s) is e = absurd (let no : ⊥ = cc in no)
+      of-action (action.Info c) is e = absurd (let no : ⊥ = cc in no)
+      of-action (action.ScriptText t) (cs, of, is) e = absurd (let no : ⊥ = cc in no)
+      of-action (action.ScriptFile n) (cs, of, is) e = absurd (let no : ⊥ = cc in no)
+      of-action action.Undo is e = absurd (let no : ⊥ = cc in no)
+      of-action (action.UndoTo count) is e = absurd (let no : ⊥ = cc in no)
+      of-action (action.ForgetOldest count) is e = absurd (let no : ⊥ = cc in no)
+      of-action action.ForgetAll is e = absurd (let no : ⊥ = cc in no)
+      of-action action.Redo is e = absurd (let no : ⊥ = cc in no)
+      of-action action.History is e = absurd (let no : ⊥ = cc in no)
+      of-action (action.List json) is e = absurd (let no : ⊥ = cc in no)
+      of-action (action.Help t) is e = e
+      of-action action.Version is e = e
 
 -- ---- status 0 is that of a run that was done
 

@@ -1,5 +1,5 @@
 -- A run that was stopped leaves each file as it was of which it does not tell.
-use Rattle.std.proofs.Common.{◌≡◌, ◌⊎◌, ℕ, List, [], ◌∷◌, Option, Some, None, Result, Ok, Err, inl, inr, refl, sym, ap, ◌∙◌, subst}
+use Rattle.std.proofs.Common.{◌≡◌, ◌⊎◌, ℕ, Bool, List, [], ◌∷◌, Option, Some, None, Result, inl, inr, refl, sym, ap, ◌∙◌, subst}
 use Rattle.std.specs.FinMap.{get}
 use Rattle.std.specs.List.{Contains}
 use Rattle.std.specs.Prelude.{IfErr}
@@ -15,11 +15,12 @@ use Rattle.meson_store.specs.declared.store_fault.StoreFault.{StoreFault}
 use Rattle.meson_gathering.specs.Gathering.{file_of, held}
 use Rattle.meson_rewrite.proofs.Holding.{IsHeld, held-collected}
 use Rattle.meson_rewrite.specs.Logs.{IsLog, empty_log, log_name, with_log}
-use Rattle.meson_rewrite.specs.Runs.{Edits, Ends, IsKept, KeepsUntold, StepEnds, asks_for_none, dir_of, done, helped, memory_ran_out, misused, no_memory, not_opened, refused, steps, told, unwritten, written}
+use Rattle.meson_rewrite.specs.Runs.{Edits, Ends, IsKept, KeepsUntold, ListingEnds, StepEnds, asks_for_none, dir_of, done, has_none, helped, listed, lists, memory_ran_out, misused, no_memory, not_opened, refused, shown, steps, told, told_version, unwritten, wants_memory, written}
+use Rattle.meson_rewrite.specs.declared.request.Listing.{Listing}
 use Rattle.meson_rewrite.specs.declared.request.Step.{Step}
 use Rattle.meson_rewrite.specs.declared.said.Said.{Said}
 use Rattle.meson_rewrite.specs.declared.stop.Stop.{Stop}
-use Rattle.meson_rewrite.specs.declared.stop.Stop.TheVariants.{Store, Usage}
+use Rattle.meson_rewrite.specs.declared.stop.Stop.TheVariants.{Usage}
 
 same-keeps : (dir : Option (List ℕ)) (before after : Option Content) (stop : Stop) → after ≡ before → KeepsUntold dir before after stop
 same-keeps dir before after stop same old new is now path untold = inl (ap (λ c. get c path) (some-is (sym now ∙ same ∙ is)))
@@ -90,18 +91,26 @@ module _ (dir : Option (List ℕ)) (step : Step) (before after : Seen) (e : Edit
 
 -- ---- a run
 
-step-untold : (dir : Option (List ℕ)) (step : Step) (before after : Seen) (end : Result Said Stop) → StepEnds dir step before after end → IfErr end (KeepsUntold dir before.content after.content)
-step-untold dir step before after _ (not_opened stop u opens) = same-keeps dir before.content after.content stop u.kept
-step-untold dir step before after _ (refused old log stop u opens may) = same-keeps dir before.content after.content stop u.kept
-step-untold dir step before after _ (told old new log report u opens does only) = tt
-step-untold dir step before after _ (done e writes are) = tt
-step-untold dir step before after _ (unwritten e fault writes taken) = λ old new is now path untold. unwritten-keeps dir step before after e fault taken old new is now path untold
-step-untold dir step before after _ (no_memory stop u wants) = same-keeps dir before.content after.content stop u.kept
+step-untold : (dir : Option (List ℕ)) (step : Step) (dry_run : Bool) (before after : Seen) (end : Result Said Stop) → StepEnds dir step dry_run before after end → IfErr end (KeepsUntold dir before.content after.content)
+step-untold dir step dry_run before after _ (not_opened stop u opens) = same-keeps dir before.content after.content stop u.kept
+step-untold dir step dry_run before after _ (refused old log stop u opens may) = same-keeps dir before.content after.content stop u.kept
+step-untold dir step dry_run before after _ (told old new log report u opens does only) = tt
+step-untold dir step dry_run before after _ (shown old new log report said u opens does writes dry shows) = tt
+step-untold dir step dry_run before after _ (done e writes wet are) = tt
+step-untold dir step dry_run before after _ (unwritten e fault writes wet taken) = λ old new is now path untold. unwritten-keeps dir step before after e fault taken old new is now path untold
+step-untold dir step dry_run before after _ (no_memory stop u wants) = same-keeps dir before.content after.content stop u.kept
+
+listing-untold : (dir folder : Option (List ℕ)) (listing : Listing) (before after : Seen) (end : Result Said Stop) → ListingEnds folder listing before after end → IfErr end (KeepsUntold dir before.content after.content)
+listing-untold dir folder listing before after _ (has_none stop u opens) = same-keeps dir before.content after.content stop u.kept
+listing-untold dir folder listing before after _ (listed session log u opens) = tt
+listing-untold dir folder listing before after _ (wants_memory stop u wants) = same-keeps dir before.content after.content stop u.kept
 
 pub run-untold : (asked : Result Asked UsageFault) (before after : Seen) (end : Result Said Stop) → Ends asked before after end → IfErr end (KeepsUntold (dir_of asked) before.content after.content)
 run-untold asked before after _ (misused fault u is) = same-keeps (dir_of asked) before.content after.content (Usage fault) u.kept
 run-untold asked before after _ (helped a text u is shows) = tt
+run-untold asked before after _ (told_version a u is shows) = tt
 run-untold asked before after _ (asks_for_none a stop u is none) = same-keeps (dir_of asked) before.content after.content stop u.kept
 run-untold asked before after _ (steps a step end is asks ends) =
-    subst (λ r. IfErr end (KeepsUntold (dir_of r) before.content after.content)) (sym is) (step-untold a.dir step before after end ends)
+    subst (λ r. IfErr end (KeepsUntold (dir_of r) before.content after.content)) (sym is) (step-untold a.dir step a.dry_run before after end ends)
+run-untold asked before after _ (lists a listing end is asks ends) = listing-untold (dir_of asked) a.dir listing before after end ends
 run-untold asked before after _ (memory_ran_out stop u wants) = same-keeps (dir_of asked) before.content after.content stop u.kept

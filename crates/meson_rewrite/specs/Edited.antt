@@ -8,7 +8,7 @@ use Rattle.meson_script.specs.declared.fault.UndoFault.TheVariants as undo
 use Rattle.meson_script.specs.declared.session.Report.{Report}
 use Rattle.meson_script.specs.declared.session.Session.{Session}
 use Rattle.meson_rewrite.specs.Logs.{with_log}
-use Rattle.meson_rewrite.specs.Steps.{Does, says}
+use Rattle.meson_rewrite.specs.Steps.{Does, Shows, says}
 use Rattle.meson_rewrite.specs.declared.editing.Edit.{Edit}
 use Rattle.meson_rewrite.specs.declared.request.Step.{Step}
 use Rattle.meson_rewrite.specs.declared.said.Said.{Said}
@@ -31,6 +31,13 @@ pub record IsTold (old : Session) (step : Step) (said : Said) : Type 0 where
   pub report : Report
   pub does : Does step old report new
   pub is_said : said ≡ says step report
+
+-- a step that is shown, and not done
+pub record IsShown (old : Session) (step : Step) (said : Said) : Type 0 where
+  pub new : Session
+  pub report : Report
+  pub does : Does step old report new
+  pub shows : Shows old report new said
 
 -- the number of a file that would be none is that of one of so many files
 abbrev pub IsWithin : UndoFault → ℕ → Type 0

@@ -57,10 +57,18 @@ stop_lines stop = line (codes "error: " ++ stop_text stop) ++ left_lines (left_b
 abbrev pub done_line : ℕ → ℕ → List ℕ
 done_line files splices = line (codes "files: " ++ (decimal files ++ (codes ", splices: " ++ decimal splices)))
 
+-- what `--version` writes
+abbrev pub version_line : List ℕ
+version_line = line (codes "meson_rewrite 1.0.0")
+
 -- what a change is for, where it has a title
 abbrev pub title_line : List ℕ → List ℕ
 title_line [] = []
 title_line (b ∷ title) = line (codes "title: " ++ b ∷ title)
+
+-- how many of the oldest changes of the log were let go, or that all were
+abbrev pub forgot_line : List ℕ → List ℕ
+forgot_line which = line (codes "forgot: " ++ which)
 
 -- ---- the status: 0 where a run was done, 1 where it is refused or memory ran out, 2 for words that ask for nothing, 3 where the store failed
 

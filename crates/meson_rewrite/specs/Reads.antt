@@ -39,9 +39,10 @@ MayRead (Ok a) before reads reads' = (reads' ≡ reads) ⊎ (reads' ≡ script_r
 
 abbrev pub ReadsFor : Action → Option Content → Option (List ℕ) → ℕ → ℕ → Type 0
 ReadsFor (action.Help text) before dir reads reads' = reads' ≡ reads
+ReadsFor action.Version before dir reads reads' = reads' ≡ reads
 ReadsFor a before dir reads reads' = ReadsProject before dir (script_read a reads) reads'
 
--- all of them, but for help, which reads nothing
+-- all of them, but for help and the version, which read nothing
 abbrev pub ReadsAll : Result Asked UsageFault → Option Content → ℕ → ℕ → Type 0
 ReadsAll (Err fault) before reads reads' = reads' ≡ reads
 ReadsAll (Ok a) before reads reads' = ReadsFor a.action before a.dir reads reads'

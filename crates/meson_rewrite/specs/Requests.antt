@@ -13,10 +13,12 @@ use Rattle.meson_command.specs.declared.asked.Action.TheVariants as action
 use Rattle.meson_store.specs.Content.{Content, Rose}
 use Rattle.meson_store.specs.declared.store_fault.StoreFault.TheVariants as store
 use Rattle.meson_gathering.specs.Gathering.{Told}
+use Rattle.meson_rewrite.specs.Lines.{version_line}
 use Rattle.meson_rewrite.specs.Steps.{IsTitled}
 use Rattle.meson_rewrite.specs.declared.request.Request.{Request}
+use Rattle.meson_rewrite.specs.declared.request.Listing.TheVariants as listing
 use Rattle.meson_rewrite.specs.declared.request.Request.TheVariants as request
-use Rattle.meson_rewrite.specs.declared.request.Step.TheVariants.{Run, Tell, Undo, Redo}
+use Rattle.meson_rewrite.specs.declared.request.Step.TheVariants.{Run, Tell, Undo, UndoTo, Redo, ForgetOldest, ForgetAll}
 use Rattle.meson_rewrite.specs.declared.stop.Stop.{Stop}
 use Rattle.meson_rewrite.specs.declared.stop.Stop.TheVariants as stop
 
@@ -31,15 +33,19 @@ script_in bytes = if is_utf8 bytes then script_of (read bytes) else Err NotJson
 abbrev pub IsScriptOf : Option Content → List ℕ → List Command → Type 0
 IsScriptOf held name commands = Told held (λ content. option_map script_in (get content name) ≡ Some (Ok commands))
 
--- nothing is asked of the store
-abbrev pub shows_help : Action → Bool
-shows_help (action.Help text) = true
-shows_help _ = false
+-- help or the version: nothing is asked of the store
+abbrev pub only_shows : Action → Bool
+only_shows (action.Help text) = true
+only_shows action.Version = true
+only_shows _ = false
 
--- nothing is asked for but help, or what an info command tells
+-- nothing is asked for but help, the version, a listing, or what an info command tells
 abbrev pub only_asks : Action → Bool
 only_asks (action.Help text) = true
+only_asks action.Version = true
 only_asks (action.Info c) = true
+only_asks action.History = true
+only_asks (action.List json) = true
 only_asks _ = false
 
 -- ---- the step that an action asks for, a run with this title, and that it is one
@@ -50,13 +56,20 @@ AsksFor title (action.Info c) held r = r ≡ request.Step (Tell (script (c ∷ [
 AsksFor title (action.ScriptText text) held r = (commands : List Command) × (script_of (read text) ≡ Ok commands) × (r ≡ request.Step (Run (script commands) title))
 AsksFor title (action.ScriptFile name) held r = (commands : List Command) × IsScriptOf held name commands × (r ≡ request.Step (Run (script commands) title))
 AsksFor title action.Undo held r = r ≡ request.Step Undo
+AsksFor title (action.UndoTo count) held r = r ≡ request.Step (UndoTo count)
+AsksFor title (action.ForgetOldest count) held r = r ≡ request.Step (ForgetOldest count)
+AsksFor title action.ForgetAll held r = r ≡ request.Step ForgetAll
 AsksFor title action.Redo held r = r ≡ request.Step Redo
-AsksFor title (action.Help text) held r = r ≡ request.Help text
+AsksFor title action.History held r = r ≡ request.List listing.History
+AsksFor title (action.List json) held r = r ≡ request.List (listing.Holdings json)
+AsksFor title (action.Help text) held r = r ≡ request.Show text
+AsksFor title action.Version held r = r ≡ request.Show version_line
 
 -- a run that is asked for has a title
 abbrev pub StepsTitled : Request → Type 0
 StepsTitled (request.Step step) = IsTitled step
-StepsTitled (request.Help text) = ⊤
+StepsTitled (request.List what) = ⊤
+StepsTitled (request.Show text) = ⊤
 
 -- ---- why there is none, want of memory aside
 

@@ -1,5 +1,5 @@
 -- How a run of the program ends: what it says, and what the store then holds.
-use Rattle.std.specs.Prelude.{◌≡◌, ◌⊎◌, ⊤, IsTrue, false, true, ℕ, List, [], Option, Some, None, Result, Ok, Err, IfErr}
+use Rattle.std.specs.Prelude.{◌≡◌, ◌⊎◌, ◌||◌, ⊤, Bool, IsTrue, false, true, ℕ, List, [], Option, Some, None, Result, Ok, Err, IfErr}
 use Rattle.std.specs.FinMap.{get}
 use Rattle.std.specs.List.{Contains}
 use Rattle.meson_calls.specs.Loading.{IsProject}
@@ -7,7 +7,7 @@ use Rattle.meson_json.specs.Log.{log_of}
 use Rattle.meson_script.specs.declared.session.Report.{Report}
 use Rattle.meson_script.specs.declared.session.Session.{Session}
 use Rattle.meson_command.specs.Asking.{without_text}
-use Rattle.meson_command.specs.declared.asked.Action.TheVariants.{Help}
+use Rattle.meson_command.specs.declared.asked.Action.TheVariants.{Help, Version}
 use Rattle.meson_command.specs.declared.asked.Asked.{Asked}
 use Rattle.meson_command.specs.declared.fault.UsageFault.{UsageFault}
 use Rattle.meson_store.specs.Commit.{AreReplaced, Put, TakenBack, path_in, puts}
@@ -16,12 +16,14 @@ use Rattle.meson_store.specs.Output.{Heard, Gets, Fails}
 use Rattle.meson_store.specs.Seen.{Seen, Untouched}
 use Rattle.meson_store.specs.declared.store_fault.StoreFault.{StoreFault}
 use Rattle.meson_store.specs.declared.store_fault.StoreFault.TheVariants.{OutOfMemory}
-use Rattle.meson_rewrite.specs.Lines.{left_by, stop_lines, status}
+use Rattle.meson_rewrite.specs.Lines.{left_by, stop_lines, status, version_line}
+use Rattle.meson_rewrite.specs.Listed.{listed_text}
 use Rattle.meson_rewrite.specs.Logs.{empty_log, log_name, with_log}
 use Rattle.meson_rewrite.specs.Opening.{Opens, OpensNone}
-use Rattle.meson_rewrite.specs.Requests.{AsksFor, AsksForNone, only_asks, shows_help}
-use Rattle.meson_rewrite.specs.Steps.{Does, MayRefuse, only_tells, says}
+use Rattle.meson_rewrite.specs.Requests.{AsksFor, AsksForNone, only_asks, only_shows}
+use Rattle.meson_rewrite.specs.Steps.{Does, MayRefuse, Shows, only_tells, says}
 use Rattle.meson_rewrite.specs.Stops.{WantsMemory}
+use Rattle.meson_rewrite.specs.declared.request.Listing.{Listing}
 use Rattle.meson_rewrite.specs.declared.request.Request.TheVariants as request
 use Rattle.meson_rewrite.specs.declared.request.Step.{Step}
 use Rattle.meson_rewrite.specs.declared.said.Said.{Said}
@@ -47,7 +49,8 @@ pub record Edits (before : Option Content) (dir : Option (List ℕ)) (step : Ste
 abbrev pub written : {before : Option Content} {dir : Option (List ℕ)} {step : Step} → Edits before dir step → List Put
 written {dir = dir} e = puts dir (with_log e.old.project.files e.log) (with_log e.new.project.files e.new_log)
 
-module _ (dir : Option (List ℕ)) (step : Step) (before after : Seen) where
+-- in a dry run it is shown, and not done
+module _ (dir : Option (List ℕ)) (step : Step) (dry_run : Bool) (before after : Seen) where
   pub data StepEnds : Result Said Stop → Type 0 where
     -- there is no session
     not_opened : (stop : Stop) → Untouched before after → OpensNone before.content dir before.failures after.failures stop → StepEnds (Err stop)
@@ -56,23 +59,38 @@ module _ (dir : Option (List ℕ)) (step : Step) (before after : Seen) where
     -- its listings are told, and nothing is written
     told : (old new : Session) (log : List ℕ) (report : Report) → Untouched before after → Opens before.content dir old log → Does step old report new → only_tells step ≡ true
         → StepEnds (Ok (says step report))
+    -- what it makes of the files is shown, and nothing is written
+    shown : (old new : Session) (log : List ℕ) (report : Report) (said : Said) → Untouched before after → Opens before.content dir old log → Does step old report new
+        → only_tells step ≡ false → dry_run ≡ true → Shows old report new said → StepEnds (Ok said)
     -- each file that differs was replaced, then the log, and no other
-    done : (edits : Edits before.content dir step) → only_tells step ≡ false → AreReplaced (written edits) before after → StepEnds (Ok (says step edits.report))
+    done : (edits : Edits before.content dir step) → only_tells step ≡ false → dry_run ≡ false → AreReplaced (written edits) before after → StepEnds (Ok (says step edits.report))
     -- one could not be replaced, what was replaced got its old bytes again, and the fault tells of it
-    unwritten : (edits : Edits before.content dir step) (fault : StoreFault) → only_tells step ≡ false → TakenBack (written edits) before after fault
+    unwritten : (edits : Edits before.content dir step) (fault : StoreFault) → only_tells step ≡ false → dry_run ≡ false → TakenBack (written edits) before after fault
         → StepEnds (Err (Store fault))
     no_memory : (stop : Stop) → Untouched before after → WantsMemory stop → StepEnds (Err stop)
+
+-- ---- what is listed of the project of a folder
+
+pub data ListingEnds (dir : Option (List ℕ)) (listing : Listing) (before after : Seen) : Result Said Stop → Type 0 where
+  -- there is no session
+  has_none : (stop : Stop) → Untouched before after → OpensNone before.content dir before.failures after.failures stop → ListingEnds dir listing before after (Err stop)
+  listed : (session : Session) (log : List ℕ) → Untouched before after → Opens before.content dir session log
+      → ListingEnds dir listing before after (Ok (record { out = listed_text listing session; err = [] }))
+  wants_memory : (stop : Stop) → Untouched before after → WantsMemory stop → ListingEnds dir listing before after (Err stop)
 
 -- ---- a whole run, by what the words ask for
 
 pub data Ends (asked : Result Asked UsageFault) (before after : Seen) : Result Said Stop → Type 0 where
   misused : (fault : UsageFault) → Untouched before after → asked ≡ Err fault → Ends asked before after (Err (Usage fault))
   helped : (a : Asked) (text : List ℕ) → Untouched before after → asked ≡ Ok (without_text a) → a.action ≡ Help text → Ends asked before after (Ok (record { out = text; err = [] }))
+  told_version : (a : Asked) → Untouched before after → asked ≡ Ok (without_text a) → a.action ≡ Version → Ends asked before after (Ok (record { out = version_line; err = [] }))
   -- the words ask for a script that is none
   asks_for_none : (a : Asked) (stop : Stop) → Untouched before after → asked ≡ Ok (without_text a)
       → AsksForNone a.action before.content before.failures after.failures stop → Ends asked before after (Err stop)
   steps : (a : Asked) (step : Step) (end : Result Said Stop) → asked ≡ Ok (without_text a) → AsksFor a.title a.action before.content (request.Step step)
-      → StepEnds a.dir step before after end → Ends asked before after end
+      → StepEnds a.dir step a.dry_run before after end → Ends asked before after end
+  lists : (a : Asked) (listing : Listing) (end : Result Said Stop) → asked ≡ Ok (without_text a) → AsksFor a.title a.action before.content (request.List listing)
+      → ListingEnds a.dir listing before after end → Ends asked before after end
   memory_ran_out : (stop : Stop) → Untouched before after → WantsMemory stop → Ends asked before after (Err stop)
 
 -- ---- what stays where nothing is done
@@ -106,12 +124,12 @@ KeepsUntold dir before after stop = (old new : Content) → before ≡ Some old 
 -- nothing is asked of the store
 abbrev pub NeedsNoStore : Result Asked UsageFault → Type 0
 NeedsNoStore (Err fault) = ⊤
-NeedsNoStore (Ok a) = IsTrue (shows_help a.action)
+NeedsNoStore (Ok a) = IsTrue (only_shows a.action)
 
--- nothing is asked for but help, or what an info command tells
+-- nothing is asked for but help, the version, a listing, what an info command tells, or what would change
 abbrev pub OnlyAsks : Result Asked UsageFault → Type 0
 OnlyAsks (Err fault) = ⊤
-OnlyAsks (Ok a) = IsTrue (only_asks a.action)
+OnlyAsks (Ok a) = IsTrue (only_asks a.action || a.dry_run)
 
 -- ---- what is written
 

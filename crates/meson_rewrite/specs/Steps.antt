@@ -1,12 +1,14 @@
 -- What a step does to a session, and what it then says.
-use Rattle.std.specs.Prelude.{◌≡◌, ◌≢◌, ⊤, Bool, true, false, ℕ, List, [], ◌∷◌, ◌++◌, if◌then◌else◌, Option, Some, None, Result}
-use Rattle.serde_json.specs.Data.{Data, Items, no_items, item}
+use Rattle.std.specs.Prelude.{◌≡◌, ◌≢◌, ◌<◌, ⊤, Bool, true, false, ℕ, List, [], ◌∷◌, ◌++◌, length, codes, decimal, if◌then◌else◌, Option, Some, None, Result}
+use Rattle.serde_json.specs.Data.{Data, Items, array, no_items, item}
 use Rattle.serde_json.specs.Find.{as_array}
 use Rattle.serde_json.specs.View.{view}
 use Rattle.serde_json.specs.Written.{compact_text}
 use Rattle.meson_calls.specs.declared.refusal.Refusal.TheVariants.{OutOfMemory}
-use Rattle.meson_splice.specs.Past.{redone, undone}
+use Rattle.meson_diff.specs.Diff.{IsDiff}
+use Rattle.meson_splice.specs.Past.{Forgets, redone, undone}
 use Rattle.meson_splice.specs.declared.fault.SpliceFault.{SpliceFault}
+use Rattle.meson_splice.specs.declared.fault.SpliceFault.TheVariants.{NothingToUndo}
 use Rattle.meson_splice.specs.declared.file_set.File.{File}
 use Rattle.meson_splice.specs.declared.history.History.{History}
 use Rattle.meson_json.specs.Titles.{is_title}
@@ -15,21 +17,29 @@ use Rattle.meson_script.specs.declared.fault.UndoFault.{UndoFault}
 use Rattle.meson_script.specs.declared.session.Report.{Report}
 use Rattle.meson_script.specs.declared.session.Session.{Session}
 use Rattle.meson_script.specs.Running.{Keeps, MayStop}
-use Rattle.meson_script.specs.Undoing.{MayNotStep, Steps}
-use Rattle.meson_rewrite.specs.Lines.{done_line, title_line}
+use Rattle.meson_script.specs.Undoing.{MayNotStep, Steps, StepsBack, StopsBack}
+use Rattle.meson_rewrite.specs.Lines.{done_line, forgot_line, title_line}
 use Rattle.meson_rewrite.specs.Stops.{undo_stop}
 use Rattle.meson_rewrite.specs.declared.request.Step.{Step}
-use Rattle.meson_rewrite.specs.declared.request.Step.TheVariants.{Run, Tell, Undo, Redo}
+use Rattle.meson_rewrite.specs.declared.request.Step.TheVariants.{Run, Tell, Undo, UndoTo, Redo, ForgetOldest, ForgetAll}
 use Rattle.meson_rewrite.specs.declared.said.Said.{Said}
 use Rattle.meson_rewrite.specs.declared.stop.Stop.{Stop}
-use Rattle.meson_rewrite.specs.declared.stop.Stop.TheVariants.{Refused}
+use Rattle.meson_rewrite.specs.declared.stop.Stop.TheVariants.{Refused, Splice}
 
 -- ---- what is done
+
+-- the log loses changes: no file is another one, and nothing is listed
+pub record Stays (old : Session) (report : Report) (new : Session) : Type 0 where
+  pub project : new.project ≡ old.project
+  pub info : view report.info ≡ array no_items
 
 abbrev pub Does : Step → Session → Report → Session → Type 0
 Does (Run script title) old report new = Keeps old script.commands title report new
 Does (Tell script) old report new = Keeps old script.commands [] report new
 Does Undo old report new = Steps old old.history.past (undone old.history old.project.files) report new
+Does (UndoTo count) old report new = StepsBack count old report new
+Does (ForgetOldest count) old report new = Forgets count old.history new.history × Stays old report new
+Does ForgetAll old report new = (new.history ≡ record { past = []; future = [] }) × Stays old report new
 Does Redo old report new = Steps old old.history.future (redone old.history old.project.files) report new
 
 -- a script is refused at a command
@@ -41,10 +51,17 @@ StopsRun old commands _ = ⊥
 abbrev pub StopsStep : Session → Result (History × List File) SpliceFault → Stop → Type 0
 StopsStep old step why = (fault : UndoFault) × MayNotStep step fault × (why ≡ undo_stop old.project.files fault)
 
+-- one of so many changes is not taken back
+abbrev pub StopsStepsBack : ℕ → Session → Stop → Type 0
+StopsStepsBack count old why = (fault : UndoFault) × (between : Session) × StopsBack count old fault between × (why ≡ undo_stop old.project.files fault)
+
 abbrev pub MayRefuse : Step → Session → Stop → Type 0
 MayRefuse (Run script title) old why = StopsRun old script.commands why
 MayRefuse (Tell script) old why = StopsRun old script.commands why
 MayRefuse Undo old why = StopsStep old (undone old.history old.project.files) why
+MayRefuse (UndoTo count) old why = StopsStepsBack count old why
+MayRefuse (ForgetOldest count) old why = (length old.history.past < count) × (why ≡ Splice NothingToUndo)
+MayRefuse ForgetAll old why = ⊥
 MayRefuse Redo old why = StopsStep old (redone old.history old.project.files) why
 
 -- what is kept gets a title
@@ -69,12 +86,20 @@ is_empty_array (Some (item d ds)) = false
 abbrev pub listing_line : Data → List ℕ
 listing_line listings = if is_empty_array (as_array listings) then [] else (compact_text listings ++ 10 ∷ [])
 
--- of a change that was taken back or done again: what was done, and what the change is for
+-- of changes that were taken back or done again: what was done, and what the last of them is for
 abbrev pub step_lines : Report → List ℕ
 step_lines report = done_line report.files report.splices ++ title_line report.title
+
+-- what the step makes of the files as a unified diff, in place of how much it changes
+pub record Shows (old : Session) (report : Report) (new : Session) (said : Said) : Type 0 where
+  pub is_diff : IsDiff old.project.files new.project.files said.out
+  pub is_listing : said.err ≡ listing_line (view report.info)
 
 abbrev pub says : Step → Report → Said
 says (Run script title) report = record { out = done_line report.files report.splices; err = listing_line (view report.info) }
 says (Tell script) report = record { out = []; err = listing_line (view report.info) }
 says Undo report = record { out = step_lines report; err = listing_line (view report.info) }
+says (UndoTo count) report = record { out = step_lines report; err = listing_line (view report.info) }
+says (ForgetOldest count) report = record { out = forgot_line (decimal count); err = listing_line (view report.info) }
+says ForgetAll report = record { out = forgot_line (codes "all"); err = listing_line (view report.info) }
 says Redo report = record { out = step_lines report; err = listing_line (view report.info) }

@@ -1,9 +1,11 @@
 //! A step on a session, and the files that are to be written then.
 
-ghost use Rattle.std.specs.Prelude.{◌≡◌, ◌<◌, ◌⊎◌, IfOk, IfErr, List, Ok, OnOk, length, map, true, ℕ};
+ghost use Rattle.std.specs.Prelude.{◌≡◌, ◌<◌, ◌⊎◌, [], IfOk, IfErr, List, Ok, OnOk, length, map, true, ℕ};
+ghost use Rattle.serde_json.specs.Data.{array, no_items};
+ghost use Rattle.serde_json.specs.View.{view};
 ghost use Rattle.meson_calls.specs.Loading.{IsProject, name_at};
 ghost use Rattle.meson_json.specs.Log.{has_text, log_of};
-ghost use Rattle.meson_rewrite.specs.Edited.{IsEdited, IsTold, IsWithin};
+ghost use Rattle.meson_rewrite.specs.Edited.{IsEdited, IsShown, IsTold, IsWithin};
 ghost use Rattle.meson_rewrite.specs.Logs.{with_log};
 ghost use Rattle.meson_rewrite.specs.Steps.{Does, IsTitled, MayRefuse};
 ghost use Rattle.meson_rewrite.specs.Stops.{WantsMemory, undo_stop};
@@ -12,11 +14,13 @@ use crate::opening::{LOG, Opened};
 use crate::request::Step;
 use crate::said::Said;
 use crate::stop::Stop;
+use meson_diff::diff;
 use meson_plan::{LoadFault, Project};
 use meson_script::{Report, Session, UndoFault, log_text};
 use meson_splice::{FileSet, SpliceFault, Text};
 use meson_store::StoreFault;
 use meson_syntax::ParseFault;
+use serde_json::Value;
 use std::alloc::{AllocError, Global};
 use std::mem;
 
@@ -48,6 +52,57 @@ fn undo_stop(alloc: Global, files: &FileSet, fault: UndoFault) -> Stop
     }
 }
 
+/// Takes back the newest changes of a session, so many.
+fn back_to(alloc: Global, session: &mut Session, count: usize) -> Result<Report, Stop>
+    ensures does { IfOk result (λ report. Does (Step.UndoTo count) session.old report session.new) }
+    ensures refused { IfErr result (MayRefuse (Step.UndoTo count) session.old) }
+    ensures text { OnOk result (has_text session.old.history ≡ true → has_text session.new.history ≡ true) }
+    ensures project { OnOk result (IsProject session.new.project) }
+{
+    match session.undo_to(alloc, count) {
+        Ok(report) => Ok(report),
+        Err(fault) => Err(undo_stop(alloc, session.files(), fault)),
+    }
+}
+
+/// What is reported where no file changes and nothing is listed.
+fn nothing_done(alloc: Global) -> Report
+    ensures { view result.info ≡ array no_items }
+{
+    Report {
+        files: 0,
+        splices: 0,
+        relexed: 0,
+        info: Value::Array(Vec::new(alloc)),
+        title: Text::of(String::new(alloc)),
+    }
+}
+
+/// Lets the oldest changes of a session go, so many.
+fn oldest_forgotten(alloc: Global, session: &mut Session, count: usize) -> Result<Report, Stop>
+    ensures does { IfOk result (λ report. Does (Step.ForgetOldest count) session.old report session.new) }
+    ensures refused { IfErr result (MayRefuse (Step.ForgetOldest count) session.old) }
+    ensures text { OnOk result (has_text session.old.history ≡ true → has_text session.new.history ≡ true) }
+    ensures project { IsProject session.new.project }
+{
+    session.project.reads();
+    match session.history.forget_oldest(alloc, count) {
+        Ok(()) => Ok(nothing_done(alloc)),
+        Err(fault) => Err(Stop::Splice(fault)),
+    }
+}
+
+/// Lets all changes of a session go.
+fn all_forgotten(alloc: Global, session: &mut Session) -> Report
+    ensures does { Does Step.ForgetAll session.old result session.new }
+    ensures text { has_text session.new.history ≡ true }
+    ensures project { IsProject session.new.project }
+{
+    session.project.reads();
+    session.history.forget_all();
+    nothing_done(alloc)
+}
+
 /// Does a step on a session, or nothing.
 fn act(alloc: Global, session: &mut Session, step: &Step) -> Result<Report, Stop>
     requires { IsTitled step.now }
@@ -69,10 +124,13 @@ fn act(alloc: Global, session: &mut Session, step: &Step) -> Result<Report, Stop
             Ok(report) => Ok(report),
             Err(fault) => Err(undo_stop(alloc, session.files(), fault)),
         },
+        Step::UndoTo(count) => back_to(alloc, session, *count),
         Step::Redo => match session.redo(alloc) {
             Ok(report) => Ok(report),
             Err(fault) => Err(undo_stop(alloc, session.files(), fault)),
         },
+        Step::ForgetOldest(count) => oldest_forgotten(alloc, session, *count),
+        Step::ForgetAll => Ok(all_forgotten(alloc, session)),
     }
 }
 
@@ -165,4 +223,20 @@ pub(crate) fn told(alloc: Global, opened: Opened, step: &Step) -> Result<Said, S
     } = opened;
     let report = act(alloc, &mut session, step)?;
     Ok(Said::of(alloc, step, &report)?)
+}
+
+/// What is to be told of a step on a session that is shown, and not done.
+pub(crate) fn shown(alloc: Global, opened: Opened, step: &Step) -> Result<Said, Stop>
+    requires { IsTitled step.now }
+    ensures shown { IfOk result (IsShown opened.session step.now) }
+    ensures refused { IfErr result (λ why. WantsMemory why ⊎ MayRefuse step.now opened.session why) }
+{
+    let Opened {
+        mut session,
+        log: _,
+    } = opened;
+    let before = session.files().clone()?;
+    let report = act(alloc, &mut session, step)?;
+    let changes = diff(alloc, &before, session.files())?;
+    Ok(Said::shown(alloc, changes, &report)?)
 }

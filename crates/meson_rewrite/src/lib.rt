@@ -1,8 +1,10 @@
 //! Edits `meson.build` files in place: the program over any store of named files and any two writers.
 #![tactic(auto)]
 
+mod changes;
 mod editing;
 mod lines;
+mod listed;
 mod opening;
 mod program;
 mod request;

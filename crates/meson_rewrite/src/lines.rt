@@ -1,7 +1,7 @@
 //! The lines that the program writes.
 
-ghost use Rattle.std.specs.Prelude.{◌≡◌, IfOk, MatchResult};
-ghost use Rattle.meson_rewrite.specs.Lines.{done_line, left_by, left_lines, stop_lines, title_line};
+ghost use Rattle.std.specs.Prelude.{◌≡◌, IfOk, MatchResult, codes, decimal};
+ghost use Rattle.meson_rewrite.specs.Lines.{done_line, forgot_line, left_by, left_lines, stop_lines, title_line, version_line};
 ghost use Rattle.meson_rewrite.specs.Steps.{step_lines};
 ghost use Rattle.meson_store.specs.Output.{Gets, Fails};
 
@@ -11,6 +11,9 @@ use meson_splice::Text;
 use meson_store::{Output, StoreFault};
 use std::alloc::{AllocError, Global};
 use std::io;
+
+/// What `--version` writes.
+const VERSION: &str = "meson_rewrite 1.0.0\n";
 
 /// The files that may have their new bytes.
 fn left_by(stop: &Stop) -> &[Text]
@@ -48,6 +51,28 @@ pub(crate) fn done_text(alloc: Global, files: usize, splices: usize) -> Result<V
 {
     let line = format!(in alloc; "files: {files}, splices: {splices}\n")?;
     Ok(line.into_bytes())
+}
+
+/// The line that says the program's version.
+pub(crate) fn version_text(alloc: Global) -> Result<Text, AllocError>
+    ensures { IfOk result (λ text. text ≡ version_line) }
+{
+    Ok(Text::of(String::from_str(alloc, VERSION)?))
+}
+
+/// The line that says how many of the oldest changes were let go.
+pub(crate) fn forgotten_text(alloc: Global, count: usize) -> Result<Vec<u8>, AllocError>
+    ensures { IfOk result (λ text. text.items ≡ forgot_line (decimal count)) }
+{
+    let line = format!(in alloc; "forgot: {count}\n")?;
+    Ok(line.into_bytes())
+}
+
+/// The line that says that all changes were let go.
+pub(crate) fn all_forgotten_text(alloc: Global) -> Result<Vec<u8>, AllocError>
+    ensures { IfOk result (λ text. text.items ≡ forgot_line (codes "all")) }
+{
+    Ok(String::from_str(alloc, "forgot: all\n")?.into_bytes())
 }
 
 /// The line that says what a change is for; nothing where it has no title.

@@ -6,14 +6,15 @@ ghost use Rattle.meson_json.specs.Titles.{is_title};
 ghost use Rattle.meson_store.specs.Seen.{seen};
 ghost use Rattle.meson_rewrite.specs.Lines.{status, store_fault_status, usage_status};
 ghost use Rattle.meson_rewrite.specs.Reads.{MayRead, ReadsAll, ReadsAtMost, ReadsProject};
-ghost use Rattle.meson_rewrite.specs.Requests.{shows_help};
+ghost use Rattle.meson_rewrite.specs.Requests.{only_shows};
 ghost use Rattle.meson_rewrite.specs.Steps.{IsTitled, only_tells};
-ghost use Rattle.meson_rewrite.specs.Runs.{CannotSay, Ends, IsUnchanged, NeedsNoStore, OnlyAsks, RanOut, Run, Says, StepEnds, Tells};
+ghost use Rattle.meson_rewrite.specs.Runs.{CannotSay, Ends, IsUnchanged, ListingEnds, NeedsNoStore, OnlyAsks, RanOut, Run, Says, StepEnds, Tells};
 
-use crate::editing::{edited, told};
+use crate::editing::{edited, shown, told};
 use crate::lines::tell_stop;
+use crate::listed::listed;
 use crate::opening::open;
-use crate::request::{Request, Step, request_of};
+use crate::request::{Listing, Request, Step, request_of};
 use crate::said::Said;
 use crate::stop::Stop;
 use meson_command::{Asked, UsageFault, command_of};
@@ -29,15 +30,17 @@ fn only_tells(step: &Step) -> bool
     matches!(step, Step::Tell(_))
 }
 
-/// Does a step on the project of a folder. What is said of it is made before anything is written.
+/// Does a step on the project of a folder, or shows in a dry run what it would change. What is said of it is made before
+/// anything is written.
 fn do_step<S: Store>(
     alloc: Global,
     store: &mut S,
     dir: Option<&str>,
     step: &Step,
+    dry_run: bool,
 ) -> Result<Said, Stop>
     requires { IsTitled step.now }
-    ensures ends { StepEnds (option_map (λ d. d.now) dir.entry) step.now (seen (S.content store.old) (S.failures store.old) (S.replaces store.old))
+    ensures ends { StepEnds (option_map (λ d. d.now) dir.entry) step.now dry_run (seen (S.content store.old) (S.failures store.old) (S.replaces store.old))
         (seen (S.content store.new) (S.failures store.new) (S.replaces store.new)) result }
     ensures counts { S.failures store.old ≤ S.failures store.new }
     ensures reads { ReadsAtMost (S.content store.old) (option_map (λ d. d.now) dir.entry) (S.reads store.old) (S.reads store.new) }
@@ -47,11 +50,31 @@ fn do_step<S: Store>(
     if only_tells(step) {
         return told(alloc, opened, step);
     }
+    if dry_run {
+        return shown(alloc, opened, step);
+    }
     let edit = edited(alloc, opened, step)?;
     match commit(alloc, store, dir, &edit.before, &edit.after) {
         Ok(()) => Ok(edit.said),
         Err(fault) => Err(Stop::Store(fault)),
     }
+}
+
+/// Lists something of the project of a folder.
+fn list<S: Store>(
+    alloc: Global,
+    store: &mut S,
+    dir: Option<&str>,
+    listing: Listing,
+) -> Result<Said, Stop>
+    ensures ends { ListingEnds (option_map (λ d. d.now) dir.entry) listing (seen (S.content store.old) (S.failures store.old) (S.replaces store.old))
+        (seen (S.content store.new) (S.failures store.new) (S.replaces store.new)) result }
+    ensures counts { S.failures store.old ≤ S.failures store.new }
+    ensures reads { ReadsAtMost (S.content store.old) (option_map (λ d. d.now) dir.entry) (S.reads store.old) (S.reads store.new) }
+    ensures reads_all { OnOk result (ReadsProject (S.content store.old) (option_map (λ d. d.now) dir.entry) (S.reads store.old) (S.reads store.new)) }
+{
+    let opened = open(alloc, store, dir)?;
+    listed(alloc, opened, listing)
 }
 
 /// The name of the folder.
@@ -69,14 +92,20 @@ fn answer<S: Store>(alloc: Global, store: &mut S, asked: Asked) -> Result<Said, 
     requires { is_title asked.title ≡ true }
     ensures ends { Ends (Ok (without_text asked)) (seen (S.content store.old) (S.failures store.old) (S.replaces store.old))
         (seen (S.content store.new) (S.failures store.new) (S.replaces store.new)) result }
-    ensures untouched { IsTrue (shows_help asked.action) → store.new ≡ store.old }
+    ensures untouched { IsTrue (only_shows asked.action) → store.new ≡ store.old }
     ensures reads { MayRead (Ok (without_text asked)) (S.content store.old) (S.reads store.old) (S.reads store.new) }
     ensures reads_all { OnOk result (ReadsAll (Ok (without_text asked)) (S.content store.old) (S.reads store.old) (S.reads store.new)) }
 {
-    let Asked { dir, title, action } = asked;
+    let Asked {
+        dir,
+        title,
+        dry_run,
+        action,
+    } = asked;
     match request_of(alloc, store, action, title) {
-        Ok(Request::Help(text)) => Ok(Said::help(alloc, text)),
-        Ok(Request::Step(step)) => do_step(alloc, store, folder(&dir), &step),
+        Ok(Request::Show(text)) => Ok(Said::show(alloc, text)),
+        Ok(Request::Step(step)) => do_step(alloc, store, folder(&dir), &step, dry_run),
+        Ok(Request::List(listing)) => list(alloc, store, folder(&dir), listing),
         Err(stop) => Err(stop),
     }
 }
@@ -160,12 +189,13 @@ fn ended<O: Output, E: Output>(
 /// listings and faults on `err`. Answers the exit status.
 ///
 /// Where it is done, the store is read once for the script file, if one is named, once for the root file, once for each
-/// name that a `subdir` call enters and that no file has which was read before, and once for the log; help reads nothing.
+/// name that a `subdir` call enters and that no file has which was read before, and once for the log; help and the version
+/// read nothing.
 /// Where it ends early, the store is read as far as that, and no more.
 ///
 /// The status is 0 where it was done, 1 where a file, a script or the log is none, a command is refused or memory ran
-/// out, 2 where the words ask for nothing, and 3 where the store or a writer failed. Help, and what an info command of the
-/// command line tells, leave the store as it is, whatever the status.
+/// out, 2 where the words ask for nothing, and 3 where the store or a writer failed. Help, the version, the listings,
+/// a dry run, and what an info command of the command line tells, leave the store as it is, whatever the status.
 pub fn rewrite<S: Store, O: Output, E: Output>(
     alloc: Global,
     store: &mut S,

@@ -4,12 +4,14 @@ ghost use Rattle.std.specs.Prelude.{◌≡◌, ◌≤◌, ◌⊎◌, ◌∷◌, 
 ghost use Rattle.serde_json.specs.Read.{read};
 ghost use Rattle.meson_json.specs.Scripts.{script_of};
 ghost use Rattle.meson_json.specs.Titles.{is_title};
-ghost use Rattle.meson_rewrite.specs.Requests.{AsksFor, AsksForNone, IsBad, IsNoScript, IsScriptOf, StepsTitled, script, script_in, shows_help};
+ghost use Rattle.meson_rewrite.specs.Requests.{AsksFor, AsksForNone, IsBad, IsNoScript, IsScriptOf, StepsTitled, only_shows, script, script_in};
+ghost use Rattle.meson_rewrite.specs.Lines.{version_line};
 ghost use Rattle.meson_rewrite.specs.Reads.{script_read};
 ghost use Rattle.meson_rewrite.specs.Stops.{WantsMemory};
 ghost use Rattle.meson_store.specs.Calls.{one_more};
 ghost use Rattle.meson_gathering.specs.Reading.{OnceAtMost};
 
+use crate::lines::version_text;
 use crate::stop::Stop;
 use meson_command::Action;
 use meson_gathering::read_file;
@@ -24,9 +26,20 @@ use std::str::from_utf8;
 #[derive(Drop)]
 pub(crate) enum Request {
     /// To show this text.
-    Help(Text),
+    Show(Text),
+    /// To list something of a project, and change nothing.
+    List(Listing),
     /// To do a step on the session of a project.
     Step(Step),
+}
+
+/// What is listed of a project.
+#[derive(Clone, Copy)]
+pub(crate) enum Listing {
+    /// The changes of its history.
+    History,
+    /// What it holds, as JSON or as lines.
+    Holdings { json: bool },
 }
 
 /// A step on a session.
@@ -38,8 +51,14 @@ pub(crate) enum Step {
     Tell(Script),
     /// Take back the newest change.
     Undo,
+    /// Take back the newest changes, so many.
+    UndoTo(usize),
     /// Do the change again that was taken back last.
     Redo,
+    /// Let the oldest changes that can be taken back go, so many.
+    ForgetOldest(usize),
+    /// Let all changes go, those that can be done again too.
+    ForgetAll,
 }
 
 /// The script of a text of JSON.
@@ -92,6 +111,23 @@ fn script_of_one(alloc: Global, command: Command) -> Result<Script, Stop>
     }
 }
 
+/// What an info command of the command line asks for.
+fn told_of(alloc: Global, command: Command) -> Result<Request, Stop>
+    ensures asks { IfOk result (λ r. r ≡ Request.Step (Step.Tell (script (command ∷ [])))) }
+    ensures none { IfErr result WantsMemory }
+{
+    let script = script_of_one(alloc, command)?;
+    Ok(Request::Step(Step::Tell(script)))
+}
+
+/// What is asked for where the version is.
+fn version_asked(alloc: Global) -> Result<Request, Stop>
+    ensures asks { IfOk result (λ r. r ≡ Request.Show version_line) }
+    ensures none { IfErr result WantsMemory }
+{
+    Ok(Request::Show(version_text(alloc)?))
+}
+
 /// What an action asks for; a run keeps its change under the title.
 pub(crate) fn request_of<S: Store>(
     alloc: Global,
@@ -108,15 +144,13 @@ pub(crate) fn request_of<S: Store>(
     ensures no_replace { S.replaces store.new ≡ S.replaces store.old }
     ensures reads { OnOk result (S.reads store.new ≡ script_read action (S.reads store.old)) }
     ensures reads_at_most { (S.reads store.new ≡ S.reads store.old) ⊎ (S.reads store.new ≡ script_read action (S.reads store.old)) }
-    ensures untouched { IsTrue (shows_help action) → store.new ≡ store.old }
+    ensures untouched { IsTrue (only_shows action) → store.new ≡ store.old }
 {
     match action {
-        Action::Help(text) => Ok(Request::Help(text)),
+        Action::Help(text) => Ok(Request::Show(text)),
+        Action::Version => version_asked(alloc),
         Action::Run(script) => Ok(Request::Step(Step::Run { script, title })),
-        Action::Info(command) => {
-            let script = script_of_one(alloc, command)?;
-            Ok(Request::Step(Step::Tell(script)))
-        }
+        Action::Info(command) => told_of(alloc, command),
         Action::ScriptText(text) => {
             let script = script_from(alloc, text.get())?;
             Ok(Request::Step(Step::Run { script, title }))
@@ -126,6 +160,11 @@ pub(crate) fn request_of<S: Store>(
             Ok(Request::Step(Step::Run { script, title }))
         }
         Action::Undo => Ok(Request::Step(Step::Undo)),
+        Action::UndoTo(count) => Ok(Request::Step(Step::UndoTo(count))),
+        Action::ForgetOldest(count) => Ok(Request::Step(Step::ForgetOldest(count))),
+        Action::ForgetAll => Ok(Request::Step(Step::ForgetAll)),
         Action::Redo => Ok(Request::Step(Step::Redo)),
+        Action::History => Ok(Request::List(Listing::History)),
+        Action::List { json } => Ok(Request::List(Listing::Holdings { json })),
     }
 }

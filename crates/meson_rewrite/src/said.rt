@@ -3,11 +3,12 @@
 ghost use Rattle.std.specs.Prelude.{◌≡◌, ◌⊎◌, [], IfOk, MatchResult, false};
 ghost use Rattle.serde_json.specs.Find.{as_array};
 ghost use Rattle.serde_json.specs.View.{view};
-ghost use Rattle.serde_json.specs.Written.{has_float};
+ghost use Rattle.serde_json.specs.Written.{compact_text, has_float};
+ghost use Rattle.meson_rewrite.specs.Lines.{line};
 ghost use Rattle.meson_rewrite.specs.Steps.{is_empty_array, listing_line, says};
 ghost use Rattle.meson_store.specs.Output.{Fails, Gets};
 
-use crate::lines::{done_text, step_text};
+use crate::lines::{all_forgotten_text, done_text, forgotten_text, step_text};
 use crate::request::Step;
 use meson_script::Report;
 use meson_splice::{Bytes, Text};
@@ -33,6 +34,16 @@ fn is_empty_array(listings: &Value) -> bool
     }
 }
 
+/// A value as a line of compact JSON.
+pub(crate) fn json_line(alloc: Global, value: &Value) -> Result<Vec<u8>, AllocError>
+    requires { has_float (view value.now) ≡ false }
+    ensures { IfOk result (λ text. text.items ≡ line (compact_text (view value.now))) }
+{
+    let mut text = value.to_vec(alloc)?;
+    text.push(b'\n')?;
+    Ok(text)
+}
+
 /// The listings as a line of compact JSON; nothing where there are none.
 fn listing_text(alloc: Global, listings: &Value) -> Result<Vec<u8>, AllocError>
     requires { has_float (view listings.now) ≡ false }
@@ -41,14 +52,12 @@ fn listing_text(alloc: Global, listings: &Value) -> Result<Vec<u8>, AllocError>
     if is_empty_array(listings) {
         return Ok(Vec::new(alloc));
     }
-    let mut text = listings.to_vec(alloc)?;
-    text.push(b'\n')?;
-    Ok(text)
+    json_line(alloc, listings)
 }
 
 impl Said {
-    /// The text of help.
-    pub(crate) fn help(alloc: Global, text: Text) -> Said
+    /// A text for the output.
+    pub(crate) fn show(alloc: Global, text: Text) -> Said
         ensures { result ≡ record { out = text; err = [] } }
     {
         Said {
@@ -66,11 +75,29 @@ impl Said {
         let out = match step {
             Step::Run { .. } => done_text(alloc, report.files, report.splices)?,
             Step::Tell(_) => Vec::new(alloc),
-            Step::Undo | Step::Redo => step_text(alloc, report)?,
+            Step::Undo | Step::UndoTo(_) | Step::Redo => step_text(alloc, report)?,
+            Step::ForgetOldest(count) => forgotten_text(alloc, *count)?,
+            Step::ForgetAll => all_forgotten_text(alloc)?,
         };
         Ok(Said {
             out: Bytes::of(out),
             err: Bytes::of(err),
+        })
+    }
+
+    /// What is said of a step that is shown, and not done: this diff.
+    pub(crate) fn shown(
+        alloc: Global,
+        changes: Vec<u8>,
+        report: &Report,
+    ) -> Result<Said, AllocError>
+        requires { has_float (view report.now.info) ≡ false }
+        ensures { IfOk result (λ said. said ≡ record { out = changes.items; err = listing_line (view report.now.info) }) }
+    {
+        let listing = listing_text(alloc, &report.info)?;
+        Ok(Said {
+            out: Bytes::of(changes),
+            err: Bytes::of(listing),
         })
     }
 

@@ -1,8 +1,4 @@
-use Rattle.std.proofs.Common.{◌≤◌, length, subst}
-use Rattle.std.proofs.lemmas.List.{take_all}
-use Rattle.meson_store.specs.Output.{Gets}
-use Rattle.meson_rewrite.specs.Lines.{left_lines}
-use Rattle.meson_rewrite.proofs.Telling.{fails_then, gets_left, gets_nothing}
+use Rattle.meson_rewrite.proofs.Telling.{gets_left, gets_nothing}
 use Rattle.meson_rewrite.proofs.lines.tell_left.Goals as goal
 
 pub loop-name-init : goal.loop-name-init

@@ -1,8 +1,7 @@
-use Rattle.std.proofs.Common.{◌≡◌, ◌∙◌, ℕ, suc, Bool, true, false, List, [], ◌∷◌, ◌++◌, length, codes, refl, sym, ap, arith}
+use Rattle.std.proofs.Common.{◌≡◌, ℕ, suc, true, false, List, [], ◌∷◌, ◌++◌, length, codes, refl, arith}
 use Rattle.std.specs.Prelude.{◌==◌}
 use Rattle.std.proofs.lemmas.Bool.Decides.{nat_tests}
 use Rattle.meson_rewrite.specs.Lines.{line, title_line}
-use Rattle.meson_rewrite.proofs.lines.title_text.Goals as goal
 
 no-title : (title : List ℕ) → (length title == 0) ≡ true → [] ≡ title_line title
 no-title [] e = refl

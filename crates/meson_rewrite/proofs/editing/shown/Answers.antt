@@ -1,0 +1,35 @@
+use Rattle.std.proofs.Common.{◌∙◌, ap, sym, subst}
+use Rattle.meson_diff.specs.Diff.{IsDiff}
+use Rattle.meson_script.proofs.RunFacts.{names}
+use Rattle.meson_rewrite.proofs.Listings.{does-plain}
+use Rattle.meson_rewrite.proofs.Names.{step-names}
+use Rattle.meson_rewrite.specs.declared.said.Said.{Said}
+use Rattle.meson_rewrite.proofs.editing.shown.Goals as goal
+
+pub diff-requires : goal.diff-requires
+diff-requires c =
+    let old = c.args.opened.session in
+    let new = c.act.new.session in
+    record {
+      same_files = ap names (c.in_ok-before.ensures.cases ∙ c.files.ensures)
+          ∙ step-names c.args.step.now old new c.in_ok-report.report c.in_ok-report.ensures.does
+          ∙ ap names (sym c.files-2.ensures);
+    }
+
+pub shown-requires : goal.shown-requires
+shown-requires c = does-plain c.args.step.now c.args.opened.session c.act.new.session c.in_ok-report.report c.in_ok-report.ensures.does
+
+pub returns-clause-shown : goal.returns-clause-shown
+returns-clause-shown c =
+    let new = c.act.new.session in
+    let made = subst (λ fs. IsDiff c.in_ok-before.before fs c.in_ok-changes.changes.items) c.files-2.ensures c.in_ok-changes.ensures in
+    let read = subst (λ fs. IsDiff fs new.project.files c.in_ok-changes.changes.items) (c.in_ok-before.ensures.cases ∙ c.files.ensures) made in
+    record {
+      new = new;
+      report = c.in_ok-report.report;
+      does = c.in_ok-report.ensures.does;
+      shows = record {
+        is_diff = subst (IsDiff c.args.opened.session.project.files new.project.files) (sym (ap (λ (said : Said). said.out) c.in_ok-shown.ensures)) read;
+        is_listing = ap (λ (said : Said). said.err) c.in_ok-shown.ensures;
+      };
+    }

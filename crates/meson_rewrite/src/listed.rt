@@ -1,0 +1,43 @@
+//! What is listed of a project.
+
+ghost use Rattle.std.specs.Prelude.{◌≡◌, [], IfErr, IfOk};
+ghost use Rattle.meson_rewrite.specs.Listed.{holdings_text, listed_text};
+ghost use Rattle.meson_rewrite.specs.Stops.{WantsMemory};
+
+use crate::changes::history_text;
+use crate::opening::Opened;
+use crate::request::Listing;
+use crate::said::{Said, json_line};
+use crate::stop::Stop;
+use meson_listing::{project_lines, project_object};
+use meson_plan::Project;
+use meson_splice::Bytes;
+use std::alloc::{AllocError, Global};
+
+/// What a project holds, as JSON or as lines.
+fn holdings_text(alloc: Global, project: &Project, json: bool) -> Result<Vec<u8>, AllocError>
+    ensures { IfOk result (λ text. text.items ≡ holdings_text json project.now) }
+{
+    if json {
+        let listing = project_object(alloc, project)?;
+        return json_line(alloc, &listing);
+    }
+    let lines = project_lines(alloc, project)?;
+    Ok(lines.into_bytes())
+}
+
+/// What is to be told where this is listed of a session.
+pub(crate) fn listed(alloc: Global, opened: Opened, listing: Listing) -> Result<Said, Stop>
+    ensures told { IfOk result (λ said. said ≡ record { out = listed_text listing opened.session; err = [] }) }
+    ensures none { IfErr result WantsMemory }
+{
+    let Opened { session, log: _ } = opened;
+    let text = match listing {
+        Listing::History => history_text(alloc, &session.history)?,
+        Listing::Holdings { json } => holdings_text(alloc, session.project(), json)?,
+    };
+    Ok(Said {
+        out: Bytes::of(text),
+        err: Bytes::of(Vec::new(alloc)),
+    })
+}
