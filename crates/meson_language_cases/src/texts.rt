@@ -1,5 +1,6 @@
 //! What is asked of one text: its items, whether it reads, how deep it is, the literals.
 
+use crate::tree::put_file_spans;
 use meson_case_files::Transcript;
 use meson_edit::nests_within;
 use meson_lex::{Kind, is_identifier, items, literal_value, text, write_literal};
@@ -116,9 +117,11 @@ pub fn put_copied(alloc: Global, source: &[u8], to: &mut Transcript) {
 fn is_copied(alloc: Global, source: &[u8]) -> Option<bool> {
     let file = parse(alloc, source).ok()?;
     let copy = file.copy(alloc).ok()?;
-    let one = format!(in alloc; "{file:?}").ok()?;
-    let other = format!(in alloc; "{copy:?}").ok()?;
-    Some(one.as_str() == other.as_str())
+    let mut one = Transcript::new(alloc);
+    put_file_spans(source, &file, &mut one);
+    let mut other = Transcript::new(alloc);
+    put_file_spans(source, &copy, &mut other);
+    Some(one.get() == other.get())
 }
 
 /// The text of the string that a source begins with.

@@ -9,7 +9,7 @@ use meson_lex::Span;
 
 /// An expression.
 #[cycle(tree)]
-#[derive(Debug, Drop)]
+#[derive(Drop)]
 pub enum Expr {
     /// A variable.
     Identifier(Span),
@@ -69,7 +69,7 @@ pub enum Expr {
 
 /// An operator, and the operand behind it.
 #[cycle(tree)]
-#[derive(Debug, Drop)]
+#[derive(Drop)]
 pub struct Operand {
     pub operator: Operator,
     pub value: Expr,
@@ -77,7 +77,7 @@ pub struct Operand {
 
 /// What stands behind an expression that has a method called or is indexed.
 #[cycle(tree)]
-#[derive(Debug, Drop)]
+#[derive(Drop)]
 pub enum Tail {
     /// A method call, from its dot to its closing bracket.
     Method {
@@ -94,7 +94,7 @@ pub enum Tail {
 
 /// An element of a list.
 #[cycle(tree)]
-#[derive(Debug, Drop)]
+#[derive(Drop)]
 pub enum Arg {
     /// An element of an array, or a positional argument of a call.
     Plain(Expr),
@@ -114,7 +114,7 @@ pub enum Arg {
 
 /// The elements between two brackets, from bracket to bracket.
 #[cycle(tree)]
-#[derive(Debug, Drop)]
+#[derive(Drop)]
 pub struct List {
     pub items: Many<Arg>,
     /// Whether a comma stands after the last element.
@@ -124,7 +124,7 @@ pub struct List {
 
 /// A statement.
 #[cycle(statements)]
-#[derive(Debug, Drop)]
+#[derive(Drop)]
 pub enum Stmt {
     /// An expression by itself.
     Expr(Expr),
@@ -156,7 +156,7 @@ pub enum Stmt {
 
 /// A condition and the statements behind it.
 #[cycle(statements)]
-#[derive(Debug, Drop)]
+#[derive(Drop)]
 pub struct Branch {
     pub condition: Expr,
     pub block: Block,
@@ -164,14 +164,14 @@ pub struct Branch {
 
 /// Statements one after another, from the first to the last. Without any it is empty, at the end of the token before its line end.
 #[cycle(statements)]
-#[derive(Debug, Drop)]
+#[derive(Drop)]
 pub struct Block {
     pub statements: Many<Stmt>,
     pub span: Span,
 }
 
 /// A whole file, from its first byte to its last.
-#[derive(Debug, Drop)]
+#[derive(Drop)]
 pub struct Parsed {
     pub block: Block,
     pub span: Span,
