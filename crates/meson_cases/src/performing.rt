@@ -5,8 +5,7 @@ use crate::files::Files;
 use crate::project::loaded;
 use meson_case_files::Transcript;
 use meson_plan::{Command, Done, Project, Refusal};
-use meson_script::{Script, Session};
-use meson_splice::{FileSet, History, Many, Splice};
+use meson_splice::{FileSet, Splice};
 use std::alloc::{AllocError, Global};
 
 fn put_splice(splice: &Splice, to: &mut Transcript) {
@@ -60,63 +59,6 @@ pub fn put_changed(
     Ok(())
 }
 
-fn debugged(alloc: Global, project: &Project) -> Option<String> {
-    format!(in alloc; "{project:?}").ok()
-}
-
-/// Whether the trees of the project are those of its files.
-fn has_trees_of_files(alloc: Global, project: &Project) -> Option<bool> {
-    let copy = project.files().copy(alloc).ok()?;
-    let Ok(fresh) = Project::load(alloc, copy) else {
-        return Some(false);
-    };
-    let fresh = debugged(alloc, &fresh)?;
-    Some(fresh.as_str() == debugged(alloc, project)?.as_str())
-}
-
-/// The trees of longer files are not compared.
-const LONG: usize = 4096;
-
-fn is_long(files: &FileSet) -> bool {
-    for i in 0..files.len() {
-        if i < files.len() && files.bytes(i).len() > LONG {
-            return true;
-        }
-    }
-    false
-}
-
-/// Says so where the trees of the project are not those of its files.
-fn put_trees(project: &Project, alloc: Global, to: &mut Transcript) {
-    if !is_long(project.files()) && has_trees_of_files(alloc, project) != Some(true) {
-        to.line("the trees are not those of the files");
-    }
-}
-
-/// Runs the command in a session, takes it back and does it again; says so where after one of these the trees are not those of the
-/// files.
-fn put_session_trees(alloc: Global, files: FileSet, command: Command, to: &mut Transcript) {
-    let Ok(mut session) = Session::start(alloc, files, History::new(alloc)) else {
-        return;
-    };
-    let mut commands = Vec::new(alloc);
-    if commands.push(command).is_err() {
-        return;
-    }
-    let script = Script {
-        commands: Many::of(commands),
-    };
-    if session.run(alloc, &script).is_ok() {
-        put_trees(session.project(), alloc, to);
-        if session.undo(alloc).is_ok() {
-            put_trees(session.project(), alloc, to);
-        }
-        if session.redo(alloc).is_ok() {
-            put_trees(session.project(), alloc, to);
-        }
-    }
-}
-
 fn put_answer(answer: &Result<Done, Refusal>, is_counted: bool, to: &mut Transcript) {
     match answer {
         Ok(done) => put_done(done, is_counted, to),
@@ -134,7 +76,6 @@ fn perform_on(
     to: &mut Transcript,
 ) -> Result<(), AllocError> {
     put_answer(&project.perform(alloc, command), is_counted, to);
-    put_trees(project, alloc, to);
     put_changed(project.files(), files, to)
 }
 
@@ -157,7 +98,6 @@ fn put_made(
         }
         Err(refusal) => put_refusal(&refusal, to),
     }
-    put_trees(project, alloc, to);
 }
 
 fn put_root(files: &FileSet, to: &mut Transcript) {
@@ -200,14 +140,7 @@ pub fn perform(
         return Ok(());
     };
     match loaded(files, alloc, to) {
-        Some(mut project) => {
-            let before = project.files().copy(alloc);
-            perform_on(alloc, &mut project, files, &command, is_counted, to)?;
-            if let Ok(before) = before {
-                put_session_trees(alloc, before, command, to);
-            }
-            Ok(())
-        }
+        Some(mut project) => perform_on(alloc, &mut project, files, &command, is_counted, to),
         None => Ok(()),
     }
 }

@@ -2,7 +2,7 @@
 
 use crate::rows::Row;
 use crate::trial::{Call, Fault, Wrong, each_growth_refused, grows_less};
-use meson_listing::{info_kwargs, info_target};
+use meson_listing::{info_kwargs, info_target, project_lines, project_object};
 use meson_plan::{CallRef, Done, LoadFault, Project, Refusal, Role, Sources, Unloaded};
 use meson_script::Script;
 use meson_splice::FileSet;
@@ -172,6 +172,48 @@ impl Call for ListKeywords {
     }
 }
 
+impl Fault for AllocError {
+    fn is_want(&self) -> bool {
+        true
+    }
+}
+
+enum ListProject {}
+
+impl Call for ListProject {
+    type Given = Project;
+
+    type Value = Value;
+
+    type Fault = AllocError;
+
+    fn given(alloc: Global, row: Row<'_>) -> Option<Project> {
+        row.project(alloc)
+    }
+
+    fn make(alloc: Global, given: &mut Project) -> Result<Value, AllocError> {
+        project_object(alloc, given)
+    }
+}
+
+enum ListLines {}
+
+impl Call for ListLines {
+    type Given = Project;
+
+    type Value = String;
+
+    type Fault = AllocError;
+
+    fn given(alloc: Global, row: Row<'_>) -> Option<Project> {
+        row.project(alloc)
+    }
+
+    fn make(alloc: Global, given: &mut Project) -> Result<String, AllocError> {
+        project_lines(alloc, given)
+    }
+}
+
 /// So many assignments, and fewer growths of a command on a project that has them.
 const ASSIGNMENTS: u32 = 1_000;
 
@@ -223,6 +265,16 @@ fn lists_a_target(rt: HostRuntime) -> Result<(), Wrong> {
 #[test]
 fn lists_keywords(rt: HostRuntime) -> Result<(), Wrong> {
     each_growth_refused::<ListKeywords>(rt.alloc())
+}
+
+#[test]
+fn lists_a_project(rt: HostRuntime) -> Result<(), Wrong> {
+    each_growth_refused::<ListProject>(rt.alloc())
+}
+
+#[test]
+fn lists_lines(rt: HostRuntime) -> Result<(), Wrong> {
+    each_growth_refused::<ListLines>(rt.alloc())
 }
 
 #[test]

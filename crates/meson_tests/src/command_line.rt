@@ -33,8 +33,10 @@ fn help_tells_words_and_an_example(rt: HostRuntime) {
             "Usage: meson_rewrite default-options <OPERATION> [OPTION VALUE]...",
         ),
         ("T command --help", "Usage: meson_rewrite command <JSON>"),
-        ("T undo --help", "Usage: meson_rewrite undo"),
+        ("T undo --help", "Usage: meson_rewrite undo [OPTIONS]"),
         ("T redo --help", "Usage: meson_rewrite redo"),
+        ("T history --help", "Usage: meson_rewrite history [OPTIONS]"),
+        ("T list --help", "Usage: meson_rewrite list [OPTIONS]"),
     ];
     for (line, usage) in lines {
         let Ok(Action::Help(text)) = asked(&rt, alloc, line) else {
@@ -56,6 +58,9 @@ fn faults_of_usage_are_told(rt: HostRuntime) {
         ("T", "U1 usage"),
         ("T help", "U1 usage"),
         ("T -h", "U1 usage"),
+        ("T -V", "U1 usage"),
+        ("T undo --to 0", "U1 usage"),
+        ("T history --forget x", "U1 usage"),
         ("T kwargs set project / version", "U2 odd words"),
         ("T default-options set a 1 a 2", "U3 repeated key"),
         ("T --title \t undo", "U6 bad title"),

@@ -1,4 +1,4 @@
-//! Tests of what no case in a file says: sets of files by themselves, commits of several files, and the texts of the command line.
+//! Tests of what no case in a file says: sets of files by themselves, their diffs, commits of several files, and the texts of the command line.
 //! Expected values are written out by hand.
 #![tactic(auto)]
 
@@ -6,5 +6,7 @@
 mod command_line;
 #[cfg(test)]
 mod committing;
+#[cfg(test)]
+mod diffs;
 #[cfg(test)]
 mod file_sets;
