@@ -37,9 +37,8 @@ use meson_steps::journal::put_back;
 use meson_steps::work::{Work, done};
 use meson_syntax::Parsed;
 use std::alloc::{AllocError, Global};
-use std::fmt;
 use std::marker::Model;
-use std::mem;
+use std::{fmt, mem};
 
 /// Files that are a project. Contracts see the files and the tree of each.
 #[derive(Drop)]
