@@ -1,8 +1,9 @@
 -- The files that splices edit are those that they name, each once.
-use Rattle.std.proofs.Common.{◌≡◌, ◌∙◌, ◌||◌, ℕ, Bool, true, false, List, [], ◌∷◌, bytes_eq, refl, sym, ap}
+use Rattle.std.proofs.Common.{◌≡◌, ◌∙◌, ◌||◌, ◌<◌, ◌+◌, ◌-◌, ℕ, Bool, true, false, not, cond, List, [], ◌∷◌, length, drop, get_or, bytes_eq, refl, sym, ap, arith}
 use Rattle.std.specs.Prelude.{if◌then◌else◌}
 use Rattle.std.specs.List.{AllByRecursion, IsDistinct, list_any}
 use Rattle.std.proofs.lemmas.Bool.Decides.{not_from_Decides}
+use Rattle.std.proofs.lemmas.List.{drop_more}
 use Rattle.std.proofs.lemmas.Map.Made.{AllPairs-from_IsDistinct}
 use Rattle.std.proofs.lemmas.Slice.Eq.{bytes_eq-Decides}
 use Rattle.meson_splice.specs.declared.splice.Splice.{Splice}
@@ -59,3 +60,23 @@ distinct (s ∷ splices) = distinct-one (is_edited s.file splices) s splices ref
 
 pub are-edited : (splices : List Splice) → AreEdited splices (edited_files splices)
 are-edited splices = record { edited = edited-all splices; each_once = AllPairs-from_IsDistinct bytes_eq-Decides (edited_files splices) (distinct splices) }
+
+-- ---- one splice more, before those that were passed
+
+pub passed-more : (splices : List Splice) (passed : ℕ) (s : Splice) → passed < length splices → get_or splices (length splices - 1 - passed) s ≡ s
+    → drop (length splices - (passed + 1)) splices ≡ s ∷ drop (length splices - passed) splices
+passed-more splices passed s within is =
+    let at = length splices - 1 - passed in
+    let next : at + 1 ≡ length splices - passed = omega arith in
+    ap (λ n. drop n splices) (omega arith) ∙ drop_more splices at s (omega arith) ∙ ap (λ f. f ∷ drop (at + 1) splices) is ∙ ap (λ n. s ∷ drop n splices) next
+
+longer : (later : Bool) (file : List ℕ) (files : List (List ℕ)) → length (if later then files else file ∷ files) ≡ length files + (if not later then 1 else 0)
+longer true file files = omega arith
+longer false file files = omega arith
+
+pub counted-more : (s : Splice) (gone : List Splice) → length (edited_files (s ∷ gone)) ≡ length (edited_files gone) + (if not (is_edited s.file gone) then 1 else 0)
+counted-more s gone = longer (is_edited s.file gone) s.file (edited_files gone)
+
+pub edited-more : (here had : Bool) → cond here true had ≡ (here || had)
+edited-more true had = refl
+edited-more false had = refl

@@ -1,35 +1,26 @@
 //! The lines that list a history.
 
 ghost use Rattle.std.specs.Prelude.{◌≡◌, IfOk, length, reverse};
-ghost use Rattle.meson_rewrite.specs.Changes.{AreEdited, change_head, change_line, change_lines, edited_files, history_lines, is_edited, title_part};
+ghost use Rattle.meson_rewrite.specs.Changes.{AreEdited, change_head, change_line, change_lines, edited_files, history_lines, title_part};
 
 use meson_splice::{Change, History, Splice};
 use std::alloc::{AllocError, Global};
+use std::collections::HashSet;
 
-/// Whether a splice of that file is among these.
-fn is_edited(file: &str, splices: &[Splice]) -> bool
-    ensures { result ≡ is_edited file.now splices.now }
-{
-    for i in 0..splices.len() {
-        if splices[i].file.get() == file {
-            return true;
-        }
-    }
-    false
-}
-
-/// How many files the splices edit. The last splice of each file counts.
-fn count_files(splices: &[Splice]) -> usize
-    ensures count { result ≡ length (edited_files splices.now) }
+/// How many files the splices edit.
+fn count_files(alloc: Global, splices: &[Splice]) -> Result<usize, AllocError>
+    ensures count { IfOk result (λ files. files ≡ length (edited_files splices.now)) }
     ensures edited { AreEdited splices.now (edited_files splices.now) }
 {
+    let mut names = HashSet::new(alloc);
     let mut files = 0;
-    for i in 0..splices.len() {
-        if !is_edited(splices[i].file.get(), &splices[i + 1..]) {
+    for passed in 0..splices.len() {
+        let splice = &splices[splices.len() - 1 - passed];
+        if names.insert(splice.file.get())? {
             files += 1;
         }
     }
-    files
+    Ok(files)
 }
 
 /// What a line says of a change that has a title; else nothing.
@@ -52,7 +43,7 @@ fn change_head(
 ) -> Result<Vec<u8>, AllocError>
     ensures { IfOk result (λ text. text.items ≡ change_head word.now number splices.now) }
 {
-    let files = count_files(splices);
+    let files = count_files(alloc, splices)?;
     let many = splices.len();
     let head = format!(in alloc; "{word} {number}: files: {files}, splices: {many}")?;
     Ok(head.into_bytes())
