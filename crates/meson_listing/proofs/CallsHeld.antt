@@ -1,9 +1,9 @@
 -- The calls of a project stand at their places, and what is listed of them, one after another.
 use Rattle.std.proofs.Common.{◌≡◌, ℕ, ◌+◌, zero, suc, ◌<◌, List, [], ◌∷◌, ◌++◌, length, take, get_or, Option, Some, refl, sym, ap, ◌∙◌, arith}
-use Rattle.std.specs.Prelude.{All, Bool, true, false, IsTrue, filter, if◌then◌else◌, is_some, option_map, option_and_then}
+use Rattle.std.specs.Prelude.{All, IsTrue, is_some, option_map, option_and_then}
 use Rattle.std.specs.List.{cons_option}
-use Rattle.std.proofs.lemmas.List.{append-nil, take_more}
-use Rattle.std.proofs.lemmas.List.Elements.{filter-append, filter_map-append}
+use Rattle.std.proofs.lemmas.List.{take_more}
+use Rattle.std.proofs.lemmas.List.Elements.{filter_map-append}
 use Rattle.meson_lex.specs.declared.kinds.Span.{Span}
 use Rattle.meson_syntax.proofs.paths.Every.{Every}
 use Rattle.meson_calls.specs.declared.call.CallRef.{CallRef}
@@ -65,12 +65,3 @@ one_more l cs i d call before within is so_far =
     ap (λ b. b ++ call ∷ []) so_far
     ∙ ap (λ m. held_calls l (take i cs) ++ m) (sym (joins (held_call l (get_or cs i d)) call is))
     ∙ sym (ap (held_calls l) (take_more cs i d within) ∙ filter_map-append (held_call l) (take i cs) (get_or cs i d ∷ []))
-
--- ---- those that pass a test, one after another
-
-module _ {X : Type 0} (test : X → Bool) (before : List X) (x : X) where
-  pub kept : test x ≡ true → filter test before ++ x ∷ [] ≡ filter test (before ++ x ∷ [])
-  kept is = ap (λ b. filter test before ++ (if b then x ∷ [] else [])) (sym is) ∙ sym (filter-append test before (x ∷ []))
-
-  pub left_out : test x ≡ false → filter test before ≡ filter test (before ++ x ∷ [])
-  left_out is = sym (append-nil (filter test before)) ∙ ap (λ b. filter test before ++ (if b then x ∷ [] else [])) (sym is) ∙ sym (filter-append test before (x ∷ []))

@@ -3,6 +3,7 @@ mod CallPlacesListed
 mod FoundListed
 mod Names
 mod FileSteps
+mod LinesCounted
 mod Puts
 mod Rising
 pub mod Agreeing

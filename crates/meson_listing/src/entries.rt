@@ -32,14 +32,13 @@ pub(crate) fn text_or_null(text: Option<Text>) -> Value
     }
 }
 
-/// What a source or an extra file begins with: where it stands, and its text.
-fn item_members(
+/// Where a call, a source or an extra file stands.
+pub(crate) fn spot_members(
     alloc: Global,
     at: usize,
     file: &str,
-    value: Text,
 ) -> Result<Map<String, Value>, AllocError>
-    ensures { IfOk result (λ m. members_view m.entries ≡ member (codes "at") (number (unsigned at)) (member (codes "file") (string file.now) (member (codes "value") (string value) no_members))) }
+    ensures { IfOk result (λ m. members_view m.entries ≡ member (codes "at") (number (unsigned at)) (member (codes "file") (string file.now) no_members)) }
 {
     let mut members = Map::new(alloc);
     put(&mut members, alloc, "at", Value::from(at))?;
@@ -49,7 +48,6 @@ fn item_members(
         "file",
         Value::try_from_str(alloc, file)?,
     )?;
-    put(&mut members, alloc, "value", Value::String(value.take()))?;
     Ok(members)
 }
 
@@ -64,7 +62,8 @@ fn item_value(alloc: Global, files: &FileSet, item: SourceItem) -> Result<Value,
         list: _,
         variable,
     } = item;
-    let mut members = item_members(alloc, span.from, file_name(files, file), value)?;
+    let mut members = spot_members(alloc, span.from, file_name(files, file))?;
+    put(&mut members, alloc, "value", Value::String(value.take()))?;
     put(&mut members, alloc, "variable", text_or_null(variable))?;
     Ok(Value::Object(members))
 }

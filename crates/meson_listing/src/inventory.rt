@@ -1,11 +1,11 @@
 //! What a project holds, as JSON.
 
-ghost use Rattle.std.specs.Prelude.{◌≡◌, IfOk, codes, map};
-ghost use Rattle.serde_json.specs.Data.{array, member, no_members, number, string, unsigned};
-ghost use Rattle.serde_json.specs.View.{items_of, members_view, view};
+ghost use Rattle.std.specs.Prelude.{◌≡◌, IfOk, map};
+ghost use Rattle.serde_json.specs.Data.{array};
+ghost use Rattle.serde_json.specs.View.{items_of, view};
 ghost use Rattle.meson_listing.specs.Inventory.{call_data, file_data, project_data, spot_data};
 
-use crate::entries::{file_name, text_or_null};
+use crate::entries::{file_name, spot_members, text_or_null};
 use crate::holdings::{HeldCall, Holdings, holdings_of};
 use meson_plan::Project;
 use meson_splice::{FileSet, Many};
@@ -21,21 +21,6 @@ fn files_value(alloc: Global, files: &FileSet) -> Result<Value, AllocError>
         list.push(Value::try_from_str(alloc, file_name(files, i))?)?;
     }
     Ok(Value::Array(list))
-}
-
-/// Where a call stands.
-fn spot_members(alloc: Global, at: usize, file: &str) -> Result<Map<String, Value>, AllocError>
-    ensures { IfOk result (λ m. members_view m.entries ≡ member (codes "at") (number (unsigned at)) (member (codes "file") (string file.now) no_members)) }
-{
-    let mut members = Map::new(alloc);
-    put(&mut members, alloc, "at", Value::from(at))?;
-    put(
-        &mut members,
-        alloc,
-        "file",
-        Value::try_from_str(alloc, file)?,
-    )?;
-    Ok(members)
 }
 
 /// A call, with what names it.

@@ -5,6 +5,7 @@ mod entries;
 mod holdings;
 mod inventory;
 pub mod laws;
+mod line_counter;
 mod lines;
 mod listing;
 mod objects;

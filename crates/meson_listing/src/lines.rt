@@ -6,33 +6,10 @@ ghost use Rattle.meson_listing.specs.Inventory.{call_line, file_line, line_numbe
 
 use crate::entries::file_name;
 use crate::holdings::{HeldCall, holdings_of};
+use crate::line_counter::LineCounter;
 use meson_plan::Project;
 use meson_splice::{FileSet, Text};
 use std::alloc::{AllocError, Global};
-
-/// The bytes of the file of a number.
-fn file_bytes(files: &FileSet, file: usize) -> &[u8]
-    ensures { result.now ≡ bytes_at file files.now }
-{
-    if file < files.len() {
-        files.bytes(file)
-    } else {
-        &[]
-    }
-}
-
-/// The number of the line of the byte at an offset, counted from 1.
-fn line_number(bytes: &[u8], at: usize) -> usize
-    ensures { result ≡ line_number bytes.now at }
-{
-    let mut line = 1;
-    for i in 0..at.min(bytes.len()) {
-        if bytes[i] == b'\n' {
-            line += 1;
-        }
-    }
-    line
-}
 
 /// What a line says of a call's name.
 fn named_part(alloc: Global, name: &Option<Text>) -> Result<String, AllocError>
@@ -60,21 +37,22 @@ fn variable_part(alloc: Global, variable: &Option<Text>) -> Result<String, Alloc
     }
 }
 
-/// The line of a call; at its end it says more.
+/// The line of a call, which stands in a line of this number; at its end it says more.
 fn call_line(
     alloc: Global,
     files: &FileSet,
+    number: usize,
     more: &str,
     call: &HeldCall,
 ) -> Result<String, AllocError>
+    requires { number ≡ line_number (bytes_at call.now.file files.now) call.now.head.at }
     ensures { IfOk result (λ line. string_bytes line ≡ call_line files.now more.now call.now) }
 {
     let file = file_name(files, call.file);
-    let line = line_number(file_bytes(files, call.file), call.head.at);
     let function = call.head.function.get();
     let named = named_part(alloc, &call.head.name)?;
     let variable = variable_part(alloc, &call.variable)?;
-    format!(in alloc; "{file}:{line}: {function}{named}{variable}{more}\n")
+    format!(in alloc; "{file}:{number}: {function}{named}{variable}{more}\n")
 }
 
 /// The lines of some calls; each says more at its end.
@@ -86,9 +64,11 @@ fn call_lines(
 ) -> Result<String, AllocError>
     ensures { IfOk result (λ text. string_bytes text ≡ flat_map (call_line files.now more.now) calls.now) }
 {
+    let mut lines = LineCounter::new(files);
     let mut text = String::new(alloc);
     for call in calls {
-        let line = call_line(alloc, files, more, call)?;
+        let number = lines.line_of(call.file, call.head.at);
+        let line = call_line(alloc, files, number, more, call)?;
         text.push_str(line.as_str())?;
     }
     Ok(text)

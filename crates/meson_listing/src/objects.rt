@@ -3,10 +3,9 @@
 ghost use Rattle.std.specs.Prelude.{◌≡◌, IfOk, OnOk, codes};
 ghost use Rattle.serde_json.specs.Data.{boolean, member, no_members, number, object, put as with_member, string, unsigned};
 ghost use Rattle.serde_json.specs.View.{members_view, view};
-ghost use Rattle.meson_calls.specs.Loading.{name_at};
 ghost use Rattle.meson_listing.specs.Entries.{call_data, items_data, target_data};
 
-use crate::entries::{file_name, items_value, keywords_value, text_or_null};
+use crate::entries::{file_name, items_value, keywords_value, spot_members, text_or_null};
 use meson_plan::{Head, Shown, Sources};
 use meson_splice::{FileSet, Text};
 use serde_json::{Map, Value, put};
@@ -23,14 +22,7 @@ fn head_members(
     ensures { IfOk result (λ m. members_view m.entries ≡ member (codes "at") (number (unsigned at)) (member (codes "file") (string file.now)
         (member (codes "function") (string function) (member (codes "hidden") (boolean hidden) no_members)))) }
 {
-    let mut members = Map::new(alloc);
-    put(&mut members, alloc, "at", Value::from(at))?;
-    put(
-        &mut members,
-        alloc,
-        "file",
-        Value::try_from_str(alloc, file)?,
-    )?;
+    let mut members = spot_members(alloc, at, file)?;
     put(
         &mut members,
         alloc,

@@ -6,7 +6,7 @@ use Rattle.meson_splice.specs.Files.{bytes_at}
 use Rattle.meson_splice.specs.declared.file_set.File.{File}
 use Rattle.meson_syntax.specs.declared.tree.Parsed.{Parsed}
 use Rattle.meson_syntax.specs.Grammar.{expression_words, file_words}
-use Rattle.meson_syntax.specs.Paths.{Sort, of_expression, of_statement, of_block, Node, node_words, expression_of, reach, block_of}
+use Rattle.meson_syntax.specs.Paths.{Sort, of_expression, of_statement, of_block, Node, node_words, expression_of, reach}
 use Rattle.meson_syntax.specs.Paths as paths
 use Rattle.meson_syntax.specs.Tree.{Name, Expression, call, Listing, erase}
 use Rattle.meson_syntax.specs.Tree as tree

@@ -51,7 +51,7 @@ pub record ExtrasGo (old : Loaded) (id : List ℕ) (names : List (List ℕ)) (ne
   pub is_call : the_call (project old) role.Target id ≡ Ok call
   pub go : NamesGo (extra_marks (project old) call) names (plain_trees old) (plain_trees new)
 
--- The target is gone with its statement, and its name names none.
+-- The target is gone with its statement, and no target has its name.
 pub record TargetGoes (old : Loaded) (id : List ℕ) (new : Loaded) : Type 0 where
   pub call : Placed (Call Span)
   pub is_call : the_call (project old) role.Target id ≡ Ok call

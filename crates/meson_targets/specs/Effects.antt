@@ -89,7 +89,7 @@ pub record TargetRemoved (old : Loaded) (id : List ℕ) (c : CallRef) (after : L
   pub statement : StatementGone line it (plain_trees old) after
   pub calls : CallsGone it id (named_trees old.files (plain_trees old)) (named_trees old.files after)
 
--- the law: a target that is removed is gone with its statement, its name names none, and all else stays
+-- the law: a target that is removed is gone with its statement, no target has its name, and all else stays
 abbrev pub RemovedTargetsAreGone : Type 0
 RemovedTargetsAreGone = (old : Loaded) → IsProject old → (id : List ℕ) (c : Placed (Call Span)) → the_call (project old) role.Target id ≡ Ok c → (steps : List Step) (after : List Plain)
     → target_removed (project old) c ≡ Ok steps → all_stepped steps (plain_trees old) ≡ Some after → TargetRemoved old id c.place after

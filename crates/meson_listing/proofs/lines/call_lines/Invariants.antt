@@ -4,4 +4,7 @@ use Rattle.meson_listing.specs.Inventory.{call_line}
 use Rattle.meson_listing.proofs.lines.call_lines.Given as goal
 
 abbrev pub invariant-loop-call : goal.invariant-loop-call
-invariant-loop-call l = string_bytes l.text ++ flat_map (call_line l.files l.more) (drop l.call-index l.calls) ≡ flat_map (call_line l.files l.more) l.calls
+invariant-loop-call l = record {
+  files : l.lines.files.now ≡ l.files;
+  so_far : string_bytes l.text ++ flat_map (call_line l.files l.more) (drop l.call-index l.calls) ≡ flat_map (call_line l.files l.more) l.calls;
+}

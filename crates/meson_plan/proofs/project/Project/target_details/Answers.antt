@@ -4,7 +4,7 @@ use Rattle.std.proofs.lemmas.Result.{IfErr-weaker, IfOk-weaker, err_from_is_err_
 use Rattle.meson_calls.specs.declared.call.CallRef.{CallRef}
 use Rattle.meson_calls.specs.declared.call.Role.TheVariants.{Target}
 use Rattle.meson_calls.specs.Finding.{the_call}
-use Rattle.meson_calls.specs.Loading.{AreParsed, named_trees, views, project}
+use Rattle.meson_calls.specs.Loading.{named_trees, views, project}
 use Rattle.meson_calls.specs.Notes.{notes, note_views}
 use Rattle.meson_calls.specs.OnePlace.{the_place}
 use Rattle.meson_calls.specs.Roles.{is_target}
@@ -12,7 +12,7 @@ use Rattle.meson_calls.specs.Strings.{NotesGood}
 use Rattle.meson_calls.proofs.GoodNotes.{project_good}
 use Rattle.meson_calls.proofs.Loads.{as_many}
 use Rattle.meson_calls.proofs.OneCall.{place_is}
-use Rattle.meson_plan.specs.Details.{AreDetails, NoDetails, NoTarget, not_found, place_found, target_place, untold}
+use Rattle.meson_plan.specs.Details.{AreDetails, NoDetails, not_found, target_place, untold}
 use Rattle.meson_plan.proofs.DetailsThere.{placed_same}
 use Rattle.meson_plan.proofs.PlacesFound.{target_found}
 use Rattle.meson_plan.proofs.project.Project.target_details.Goals as goal

@@ -1,7 +1,7 @@
 use Rattle.std.proofs.Common.{◌≡◌, ℕ, zero, suc, ◌≤◌, List, [], ◌∷◌, length, refl, sym, arith}
 use Rattle.meson_splice.specs.Files.{bytes_at}
 use Rattle.meson_splice.specs.declared.file_set.File.{File}
-use Rattle.meson_listing.proofs.lines.file_bytes.Goals as goal
+use Rattle.meson_listing.proofs.line_counter.file_bytes.Goals as goal
 
 bytes_past : (files : List File) (i : ℕ) → length files ≤ i → bytes_at i files ≡ []
 bytes_past [] i past = refl
