@@ -23,4 +23,4 @@ module _ (kept : NamedFile) (old : Session) (files : List File) (bytes : List �
 
 -- a refusal of a step, want of memory aside
 pub may-refuse : (step : Step) (old : Session) (r : Result Report Stop) → IfErr r (MayRefuse step old) → IfErr r (λ why. WantsMemory why ⊎ MayRefuse step old why)
-may-refuse step old r refused = IfErr-weaker r _ _ (λ why may. inr may) refused
+may-refuse step old r refused = IfErr-weaker r (MayRefuse step old) (λ why. WantsMemory why ⊎ MayRefuse step old why) (λ why may. inr may) refused

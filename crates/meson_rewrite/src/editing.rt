@@ -80,7 +80,8 @@ fn checked_back(
 {
     let same = are_kept(alloc, session.files(), kept.bytes.get())?;
     if !same {
-        return Err(Stop::OtherFiles(kept.name.clone()?));
+        let name = kept.name.clone()?;
+        return Err(Stop::OtherFiles(name));
     }
     back_to(alloc, session, count)
 }
