@@ -1,5 +1,5 @@
 -- Where help and the version are answered, and where the usage is wrong though clap takes the words.
-use Rattle.std.proofs.Common.{◌≡◌, ◌≢◌, ◌∙◌, ◌∷◌, ◌||◌, ◌&&◌, ◌⊎◌, inl, inr, Bool, true, false, not, List, [], Option, Some, None, Result, Ok, Err, is_some, bytes_eq, codes, refl, sym, ap}
+use Rattle.std.proofs.Common.{◌≡◌, ◌≢◌, ◌∙◌, ◌∷◌, ◌||◌, ◌&&◌, ◌⊎◌, inl, inr, ℕ, Bool, true, false, not, List, [], Option, Some, None, Result, Ok, Err, is_some, bytes_eq, codes, refl, sym, ap}
 use Rattle.std.specs.Prelude.{find, option_map, unwrap_or, if◌then◌else◌, ok_or}
 use Rattle.std.specs.List.{list_any}
 use Rattle.std.proofs.lemmas.Slice.Eq.{bytes_eq-Decides}
@@ -13,7 +13,7 @@ use Rattle.clap.specs.Words.{Row, Text, fault_of, first_of, matches_of, subcomma
 use Rattle.clap.specs.declared.error.kind.ErrorKind.TheVariants.{DisplayHelp, DisplayVersion}
 use Rattle.meson_calls.specs.declared.call.Role.{Role}
 use Rattle.meson_splice.specs.Patch.{then_ok}
-use Rattle.meson_command.specs.Actions.{action_of, count_in, history_by, is_set, kwargs_action, kwargs_by, list_by, options_action, other_action, target_action, undo_of, word_at, words_at}
+use Rattle.meson_command.specs.Actions.{action_of, count_in, history_by, kwargs_action, kwargs_by, list_by, options_action, other_action, target_action, undo_of, word_at, words_at}
 use Rattle.meson_command.specs.Asking.{answer, asked_from, asked_of, help, is_dry, names_no_folder, title_in, version, with_title}
 use Rattle.meson_command.specs.Counts.{count_of}
 use Rattle.meson_command.specs.Laws.{HelpWhereAsked, IsNoCount, IsUnknown, UsageMeansUnknown, VersionWhereAsked}
