@@ -1,14 +1,14 @@
 -- No subcommand asks for help or the version.
-use Rattle.std.proofs.Common.{◌≡◌, Bool, true, false, List, Option, Some, None, Result, Ok, Err, codes, refl, ap, subst}
+use Rattle.std.proofs.Common.{◌≡◌, ℕ, Bool, true, false, List, Option, Some, None, Result, Ok, Err, codes, refl, ap, subst}
 use Rattle.std.specs.Prelude.{IfOk, bytes_eq, if◌then◌else◌, ok_or}
 use Rattle.clap.specs.Words.{Row, Text, first_of}
 use Rattle.meson_calls.specs.declared.call.Role.{Role}
 use Rattle.meson_splice.specs.Patch.{then_ok}
-use Rattle.meson_command.specs.Actions.{action_of, kwargs_action, history_by, kwargs_by, list_action, options_action, options_by, is_json, other_action, script_action, target_action, target_by, target_words, undo_by, word_at, words_at}
+use Rattle.meson_command.specs.Actions.{action_of, count_in, kwargs_action, history_by, kwargs_by, is_set, list_by, options_action, options_by, is_json, other_action, script_action, target_action, target_by, target_words, undo_of, word_at, words_at}
 use Rattle.meson_command.specs.Asking.{asked_from, names_no_folder, title_in, with_title, without_help_text, without_text}
 use Rattle.meson_command.specs.declared.asked.Action.{Action}
 use Rattle.meson_command.specs.declared.asked.Action.TheVariants as action
-use Rattle.meson_command.specs.declared.asked.Action.TheVariants.{Run, Info, ScriptText, ScriptFile, Undo, UndoTo, Redo, History, ForgetOldest, ForgetAll, Help, Version}
+use Rattle.meson_command.specs.declared.asked.Action.TheVariants.{Run, Info, ScriptText, ScriptFile, Undo, UndoTo, UndoChecked, Redo, History, ForgetOldest, ForgetAll, Sums, Help, Version}
 use Rattle.meson_command.specs.declared.asked.Asked.{Asked}
 use Rattle.meson_json.specs.Titles.{is_title}
 use Rattle.meson_json.specs.Operations.{kwargs_operation, options_operation, role_of}
@@ -97,13 +97,24 @@ script_action-plain : (rows : List Row) → IsPlain (script_action rows)
 unfolding script_action
 script_action-plain rows = script-plain (is_json (word_at (codes "JSON") rows)) (word_at (codes "JSON") rows)
 
-undo-plain : (word : Option Text) → Answers IsPlain (undo_by word)
-undo-plain None = ok _ tt
-undo-plain (Some word) = after (ok_or (count_of word) Usage) _ (λ n. ok _ tt)
+undo_of-plain : (count : Option ℕ) (check : Option Text) → IsPlain (undo_of count check)
+undo_of-plain None None = tt
+undo_of-plain (Some count) None = tt
+undo_of-plain None (Some name) = tt
+undo_of-plain (Some count) (Some name) = tt
+
+undo-plain : (word check : Option Text) → Answers IsPlain (then_ok (count_in word) (λ count. Ok (undo_of count check)))
+undo-plain word check = after (count_in word) _ (λ count. ok _ (undo_of-plain count check))
 
 history-plain : (word : Option Text) → Answers IsPlain (history_by word)
 history-plain None = ok _ tt
 history-plain (Some word) = either (bytes_eq word (codes "all")) _ _ (ok _ tt) (after (ok_or (count_of word) Usage) _ (λ n. ok _ tt))
+
+list-plain : (json sums : Bool) → Answers IsPlain (list_by json sums)
+list-plain true false = ok _ tt
+list-plain false false = ok _ tt
+list-plain false true = ok _ tt
+list-plain true true = err Usage
 
 action-plain : (name : Text) (rows : List Row) → Answers IsPlain (action_of name rows)
 unfolding action_of other_action
@@ -112,10 +123,10 @@ action-plain name rows =
     (either (bytes_eq name (codes "kwargs")) _ _ (kwargs_action-plain rows)
     (either (bytes_eq name (codes "default-options")) _ _ (options_action-plain rows)
     (either (bytes_eq name (codes "command")) _ _ (ok (script_action rows) (script_action-plain rows))
-    (either (bytes_eq name (codes "undo")) _ _ (undo-plain (first_of (codes "N") rows))
+    (either (bytes_eq name (codes "undo")) _ _ (undo-plain (first_of (codes "N") rows) (first_of (codes "FILE") rows))
     (either (bytes_eq name (codes "redo")) _ _ (ok Redo tt)
     (either (bytes_eq name (codes "history")) _ _ (history-plain (first_of (codes "N") rows))
-    (either (bytes_eq name (codes "list")) _ _ (ok (list_action rows) tt) (err Usage))))))))
+    (either (bytes_eq name (codes "list")) _ _ (list-plain (is_set (codes "json") rows) (is_set (codes "sums") rows)) (err Usage))))))))
 
 titled : (rows : List Row) (a : Action) → IsPlain a → Answers (λ x. IsPlain x.action) (with_title rows a)
 titled rows a plain = either (is_title (title_in rows)) _ _ (ok _ plain) (err BadTitle)
@@ -135,11 +146,13 @@ same (ScriptText text) h = refl
 same (ScriptFile name) h = refl
 same Undo h = refl
 same (UndoTo count) h = refl
+same (UndoChecked count name) h = refl
 same Redo h = refl
 same History h = refl
 same (ForgetOldest count) h = refl
 same ForgetAll h = refl
 same (action.List json) h = refl
+same Sums h = refl
 same (Help text) h = absurd h
 same Version h = absurd h
 

@@ -1,5 +1,5 @@
 -- Where help and the version are answered, and where the usage is wrong though clap takes the words.
-use Rattle.std.proofs.Common.{◌≡◌, ◌≢◌, ◌∙◌, ◌∷◌, ◌||◌, ◌&&◌, ◌⊎◌, inl, inr, Bool, true, false, not, List, [], Option, Some, None, Result, Ok, Err, is_some, bytes_eq, codes, refl, sym, ap}
+use Rattle.std.proofs.Common.{◌≡◌, ◌≢◌, ◌∙◌, ◌∷◌, ◌||◌, ◌&&◌, ◌⊎◌, inl, inr, ℕ, Bool, true, false, not, List, [], Option, Some, None, Result, Ok, Err, is_some, bytes_eq, codes, refl, sym, ap}
 use Rattle.std.specs.Prelude.{find, option_map, unwrap_or, if◌then◌else◌, ok_or}
 use Rattle.std.specs.List.{list_any}
 use Rattle.std.proofs.lemmas.Slice.Eq.{bytes_eq-Decides}
@@ -13,7 +13,7 @@ use Rattle.clap.specs.Words.{Row, Text, fault_of, first_of, matches_of, subcomma
 use Rattle.clap.specs.declared.error.kind.ErrorKind.TheVariants.{DisplayHelp, DisplayVersion}
 use Rattle.meson_calls.specs.declared.call.Role.{Role}
 use Rattle.meson_splice.specs.Patch.{then_ok}
-use Rattle.meson_command.specs.Actions.{action_of, history_by, kwargs_action, kwargs_by, options_action, other_action, target_action, undo_by, word_at, words_at}
+use Rattle.meson_command.specs.Actions.{action_of, count_in, history_by, kwargs_action, kwargs_by, list_by, options_action, other_action, target_action, undo_of, word_at, words_at}
 use Rattle.meson_command.specs.Asking.{answer, asked_from, asked_of, help, is_dry, names_no_folder, title_in, version, with_title}
 use Rattle.meson_command.specs.Counts.{count_of}
 use Rattle.meson_command.specs.Laws.{HelpWhereAsked, IsNoCount, IsUnknown, UsageMeansUnknown, VersionWhereAsked}
@@ -166,9 +166,13 @@ options-unknown : (rows : List Row) → options_action rows ≡ Err Usage → op
 unfolding options_action
 options-unknown rows e = missing (options_operation (word_at (codes "OPERATION") rows)) _ (λ o. after_pairs (pairs_of (words_at (codes "OPTION VALUE") rows)) _ (pairs-not _) (λ ps x. cc)) e
 
-undo-unknown : (o : Option Text) → undo_by o ≡ Err Usage → (word : Text) × IsNoCount o word
-undo-unknown None e = cc
-undo-unknown (Some word) e = (word, (refl, missing (count_of word) _ (λ n x. cc) e))
+undo-unknown : (o check : Option Text) → then_ok (count_in o) (λ count. Ok (undo_of count check)) ≡ Err Usage → (word : Text) × IsNoCount o word
+undo-unknown None check e = cc
+undo-unknown (Some word) check e = (word, (refl, no_count (count_of word) check e))
+  where
+    no_count : (n : Option ℕ) (check : Option Text) → then_ok (then_ok (ok_or n Usage) (λ count. Ok (Some count))) (λ count. Ok (undo_of count check)) ≡ Err Usage → n ≡ None
+    no_count None check e = refl
+    no_count (Some count) check e = cc
 
 abbrev forgets : Bool → Text → Result Action UsageFault
 forgets every word = if every then Ok ForgetAll else then_ok (ok_or (count_of word) Usage) (λ count. Ok (ForgetOldest count))
@@ -190,6 +194,12 @@ history-unknown (Some word) e =
     let not = not_all (bytes_eq word (codes "all")) word e in
     (word, another word (codes "all") not.0, (refl, not.1))
 
+both-listed : (json sums : Bool) → list_by json sums ≡ Err Usage → (json ≡ true) × (sums ≡ true)
+both-listed true true e = (refl, refl)
+both-listed true false e = cc
+both-listed false true e = cc
+both-listed false false e = cc
+
 by_name : {P : Type 0} (b : Bool) (x y : Result Action UsageFault) (rest : Bool) → (if b then x else y) ≡ Err Usage → (b || rest) ≡ true
     → (b ≡ true → x ≡ Err Usage → P) → (y ≡ Err Usage → rest ≡ true → P) → P
 by_name true x y rest e k h n = h refl e
@@ -205,10 +215,10 @@ unknown name rows k e =
     by_name (bytes_eq name (codes "kwargs")) _ _ _ e k (λ b x. inr (inl (named _ _ b, kwargs-unknown rows x))) (λ e k.
     by_name (bytes_eq name (codes "default-options")) _ _ _ e k (λ b x. inr (inr (inl (named _ _ b, options-unknown rows x)))) (λ e k.
     by_name (bytes_eq name (codes "command")) _ _ _ e k (λ b x. cc) (λ e k.
-    by_name (bytes_eq name (codes "undo")) _ _ _ e k (λ b x. inr (inr (inr (inl (named _ _ b, undo-unknown _ x))))) (λ e k.
+    by_name (bytes_eq name (codes "undo")) _ _ _ e k (λ b x. inr (inr (inr (inl (named _ _ b, undo-unknown _ (first_of (codes "FILE") rows) x))))) (λ e k.
     by_name (bytes_eq name (codes "redo")) _ _ _ e k (λ b x. cc) (λ e k.
-    by_name (bytes_eq name (codes "history")) _ _ _ e k (λ b x. inr (inr (inr (inr (named _ _ b, history-unknown _ x))))) (λ e k.
-    by_name (bytes_eq name (codes "list")) _ _ _ e k (λ b x. cc) (λ e k. cc))))))))
+    by_name (bytes_eq name (codes "history")) _ _ _ e k (λ b x. inr (inr (inr (inr (inl (named _ _ b, history-unknown _ x)))))) (λ e k.
+    by_name (bytes_eq name (codes "list")) _ _ _ e k (λ b x. inr (inr (inr (inr (inr (named _ _ b, both-listed _ _ x)))))) (λ e k. cc))))))))
 
 -- ---- wrong usage
 

@@ -1,5 +1,5 @@
 -- What the words of a subcommand ask for.
-use Rattle.std.specs.Prelude.{ℕ, Bool, false, ◌||◌, ◌==◌, not, List, [], ◌∷◌, codes, bytes_eq, find, map, if◌then◌else◌, Option, Some, None, ok_or, unwrap_or, Result, Ok, Err}
+use Rattle.std.specs.Prelude.{ℕ, Bool, false, true, ◌||◌, ◌==◌, not, List, [], ◌∷◌, codes, bytes_eq, find, map, if◌then◌else◌, Option, Some, None, ok_or, unwrap_or, Result, Ok, Err}
 use Rattle.std.specs.Option.{option_map_or}
 use Rattle.clap.specs.Words.{Row, Text, all_of, first_of}
 use Rattle.meson_calls.specs.declared.call.Role.{Role}
@@ -15,7 +15,7 @@ use Rattle.meson_command.specs.Operations.{target_operation}
 use Rattle.meson_command.specs.Pairs.{names, pairs_of}
 use Rattle.meson_command.specs.declared.asked.Action.{Action}
 use Rattle.meson_command.specs.declared.asked.Action.TheVariants as action
-use Rattle.meson_command.specs.declared.asked.Action.TheVariants.{Run, Info, ScriptText, ScriptFile, Undo, UndoTo, Redo, History, ForgetOldest, ForgetAll}
+use Rattle.meson_command.specs.declared.asked.Action.TheVariants.{Run, Info, ScriptText, ScriptFile, Undo, UndoTo, UndoChecked, Redo, History, ForgetOldest, ForgetAll, Sums}
 use Rattle.meson_command.specs.declared.fault.UsageFault.{UsageFault}
 use Rattle.meson_command.specs.declared.fault.UsageFault.TheVariants.{Usage, Unsupported}
 use Rattle.meson_json.specs.declared.names.KwargsOperation.{KwargsOperation}
@@ -110,14 +110,25 @@ is_json word = option_map_or (λ b. b == 91 || b == 123) (find (λ b. not (is_bl
 unfoldable pub script_action : List Row → Action
 script_action rows = let word = word_at (codes "JSON") rows in if is_json word then ScriptText word else ScriptFile word
 
--- ---- undo [--to N], history [--forget N]
+-- ---- undo [--to N] [--check FILE]
 
-abbrev pub undo_by : Option Text → Result Action UsageFault
-undo_by None = Ok Undo
-undo_by (Some word) = then_ok (ok_or (count_of word) Usage) (λ count. Ok (UndoTo count))
+-- the number that is given, if one is
+abbrev pub count_in : Option Text → Result (Option ℕ) UsageFault
+count_in None = Ok None
+count_in (Some word) = then_ok (ok_or (count_of word) Usage) (λ count. Ok (Some count))
+
+-- of so many changes, or of the newest; only where the digests are right, if a file of them is named
+abbrev pub undo_of : Option ℕ → Option Text → Action
+undo_of None None = Undo
+undo_of (Some count) None = UndoTo count
+undo_of None (Some name) = UndoChecked 1 name
+undo_of (Some count) (Some name) = UndoChecked count name
 
 abbrev pub undo_action : List Row → Result Action UsageFault
-undo_action rows = undo_by (first_of (codes "N") rows)
+undo_action rows =
+    then_ok (count_in (first_of (codes "N") rows)) (λ count. Ok (undo_of count (first_of (codes "FILE") rows)))
+
+-- ---- history [--forget N]
 
 abbrev pub history_by : Option Text → Result Action UsageFault
 history_by None = Ok History
@@ -128,10 +139,16 @@ history_by (Some word) =
 abbrev pub history_action : List Row → Result Action UsageFault
 history_action rows = history_by (first_of (codes "N") rows)
 
--- ---- list [--json]
+-- ---- list [--json] [--sums]
 
-abbrev pub list_action : List Row → Action
-list_action rows = action.List (is_set (codes "json") rows)
+-- as JSON, as digests, or as neither; not as both
+abbrev pub list_by : Bool → Bool → Result Action UsageFault
+list_by json false = Ok (action.List json)
+list_by false true = Ok Sums
+list_by true true = Err Usage
+
+abbrev pub list_action : List Row → Result Action UsageFault
+list_action rows = list_by (is_set (codes "json") rows) (is_set (codes "sums") rows)
 
 -- ---- any subcommand
 
@@ -141,7 +158,7 @@ other_action subcommand rows =
     if bytes_eq subcommand (codes "undo") then undo_action rows
     else (if bytes_eq subcommand (codes "redo") then Ok Redo
     else (if bytes_eq subcommand (codes "history") then history_action rows
-    else (if bytes_eq subcommand (codes "list") then Ok (list_action rows)
+    else (if bytes_eq subcommand (codes "list") then list_action rows
     else Err Usage)))
 
 unfoldable pub action_of : Text → List Row → Result Action UsageFault

@@ -10,7 +10,7 @@ use Rattle.meson_command.specs.Actions.{action_of, is_set, word_at}
 use Rattle.meson_command.specs.Program.{program}
 use Rattle.meson_command.specs.declared.asked.Action.{Action}
 use Rattle.meson_command.specs.declared.asked.Action.TheVariants as action
-use Rattle.meson_command.specs.declared.asked.Action.TheVariants.{Run, Info, ScriptText, ScriptFile, Undo, UndoTo, Redo, History, ForgetOldest, ForgetAll, Help, Version}
+use Rattle.meson_command.specs.declared.asked.Action.TheVariants.{Run, Info, ScriptText, ScriptFile, Undo, UndoTo, UndoChecked, Redo, History, ForgetOldest, ForgetAll, Sums, Help, Version}
 use Rattle.meson_command.specs.declared.asked.Asked.{Asked}
 use Rattle.meson_command.specs.declared.fault.UsageFault.{UsageFault}
 use Rattle.meson_command.specs.declared.fault.UsageFault.TheVariants.{Usage, BadTitle}
@@ -75,11 +75,13 @@ without_help_text (ScriptText text) = ScriptText text
 without_help_text (ScriptFile name) = ScriptFile name
 without_help_text Undo = Undo
 without_help_text (UndoTo count) = UndoTo count
+without_help_text (UndoChecked count name) = UndoChecked count name
 without_help_text Redo = Redo
 without_help_text History = History
 without_help_text (ForgetOldest count) = ForgetOldest count
 without_help_text ForgetAll = ForgetAll
 without_help_text (action.List json) = action.List json
+without_help_text Sums = Sums
 without_help_text (Help text) = Help []
 without_help_text Version = Version
 

@@ -3,7 +3,7 @@ use Rattle.std.specs.Prelude.{◌≡◌, ◌≢◌, ◌↔◌, ◌⊎◌, ◌%�
 use Rattle.std.specs.List.{AllPairs}
 use Rattle.clap.specs.Words.{Row, Text, fault_of, first_of, matches_of, subcommand_of}
 use Rattle.clap.specs.declared.error.kind.ErrorKind.TheVariants.{DisplayHelp, DisplayVersion}
-use Rattle.meson_command.specs.Actions.{word_at}
+use Rattle.meson_command.specs.Actions.{is_set, word_at}
 use Rattle.meson_command.specs.Asking.{asked_by, help, names_no_folder, version}
 use Rattle.meson_json.specs.Operations.{kwargs_operation, options_operation, role_of}
 use Rattle.meson_command.specs.Counts.{count_of}
@@ -39,16 +39,22 @@ VersionWhereAsked = (words : List Text) → (asked_by words ≡ Ok version) ↔ 
 abbrev pub IsNoCount : Option Text → Text → Type 0
 IsNoCount given word = (given ≡ Some word) × (count_of word ≡ None)
 
--- the subcommand's operation, function or number is no such word
+-- a listing as JSON and one of digests are asked for, which are two
+abbrev pub AsksForBoth : List Row → Type 0
+AsksForBoth rows = (is_set (codes "json") rows ≡ true) × (is_set (codes "sums") rows ≡ true)
+
+-- the subcommand's operation, function or number is no such word, or two listings are asked for
 abbrev pub IsUnknown : Text → List Row → Type 0
 IsUnknown subcommand rows =
     ((subcommand ≡ codes "target") × (target_operation (word_at (codes "OPERATION") rows) ≡ None))
     ⊎ (((subcommand ≡ codes "kwargs") × ((kwargs_operation (word_at (codes "OPERATION") rows) ≡ None) ⊎ (role_of (word_at (codes "FUNCTION") rows) ≡ None)))
     ⊎ (((subcommand ≡ codes "default-options") × (options_operation (word_at (codes "OPERATION") rows) ≡ None))
     ⊎ (((subcommand ≡ codes "undo") × ((word : Text) × IsNoCount (first_of (codes "N") rows) word))
-    ⊎ ((subcommand ≡ codes "history") × ((word : Text) × (word ≢ codes "all") × IsNoCount (first_of (codes "N") rows) word)))))
+    ⊎ (((subcommand ≡ codes "history") × ((word : Text) × (word ≢ codes "all") × IsNoCount (first_of (codes "N") rows) word))
+    ⊎ ((subcommand ≡ codes "list") × AsksForBoth rows)))))
 
--- where clap takes the words and the usage is wrong, the folder is empty or a word is unknown or no number
+-- where clap takes the words and the usage is wrong, the folder is empty, a word is unknown or no number, or two listings are
+-- asked for
 abbrev pub UsageMeansUnknown : Type 0
 UsageMeansUnknown = (words : List Text) → fault_of program words ≡ [] → asked_by words ≡ Err Usage
     → (names_no_folder (first_of (codes "DIR") (matches_of program words)) ≡ true)

@@ -50,9 +50,9 @@ default_options = of_words (codes "default-options") (one (codes "OPERATION") �
 unfoldable pub command : App
 command = of_words (codes "command") (one (codes "JSON") ∷ help ∷ [])
 
--- undo [--to N]
+-- undo [--to N] [--check FILE]
 unfoldable pub undo : App
-undo = of_words (codes "undo") (option (codes "N") (codes "to") ∷ help ∷ [])
+undo = of_words (codes "undo") (option (codes "N") (codes "to") ∷ option (codes "FILE") (codes "check") ∷ help ∷ [])
 
 unfoldable pub redo : App
 redo = of_words (codes "redo") (help ∷ [])
@@ -61,9 +61,9 @@ redo = of_words (codes "redo") (help ∷ [])
 unfoldable pub history : App
 history = of_words (codes "history") (option (codes "N") (codes "forget") ∷ help ∷ [])
 
--- list [--json]
+-- list [--json] [--sums]
 unfoldable pub list : App
-list = of_words (codes "list") (flag (codes "json") (codes "json") ∷ help ∷ [])
+list = of_words (codes "list") (flag (codes "json") (codes "json") ∷ flag (codes "sums") (codes "sums") ∷ help ∷ [])
 
 -- a subcommand has to be there; clap adds no `help` subcommand and no help flag of its own
 abbrev pub bare : Text → App

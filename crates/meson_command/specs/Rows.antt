@@ -7,7 +7,7 @@ use Rattle.meson_command.specs.Actions.{run}
 use Rattle.meson_command.specs.Asking.{asked_by, help, version}
 use Rattle.meson_command.specs.declared.asked.Action.{Action}
 use Rattle.meson_command.specs.declared.asked.Action.TheVariants as action
-use Rattle.meson_command.specs.declared.asked.Action.TheVariants.{Info, ScriptText, ScriptFile, Undo, UndoTo, Redo, History, ForgetOldest, ForgetAll}
+use Rattle.meson_command.specs.declared.asked.Action.TheVariants.{Info, ScriptText, ScriptFile, Undo, UndoTo, UndoChecked, Redo, History, ForgetOldest, ForgetAll, Sums}
 use Rattle.meson_command.specs.declared.asked.Asked.{Asked}
 use Rattle.meson_command.specs.declared.fault.UsageFault.{UsageFault}
 use Rattle.meson_command.specs.declared.fault.UsageFault.TheVariants.{Usage, OddWords, RepeatedKey, Unsupported, BadTitle}
@@ -64,6 +64,10 @@ Done =
     × asks (codes "--sourcedir d undo --to 3") (there (codes "d") (UndoTo 3))
     × asks (codes "undo --to=007") (here (UndoTo 7))
     × asks (codes "undo --to 18446744073709551615") (here (UndoTo 18446744073709551615))
+    × asks (codes "undo --check sums") (here (UndoChecked 1 (codes "sums")))
+    × asks (codes "--sourcedir d undo --to 3 --check -") (there (codes "d") (UndoChecked 3 (codes "-")))
+    × asks (codes "undo --check=now --to=1") (here (UndoChecked 1 (codes "now")))
+    × asks (codes "undo --check=") (here (UndoChecked 1 []))
     × asks (codes "history --forget 2") (here (ForgetOldest 2))
     × asks (codes "--sourcedir d history --forget all") (there (codes "d") ForgetAll)
 
@@ -87,6 +91,7 @@ Shown =
     × asks (codes "--dry-run target e rm a.c") (shown (run (command.SourcesRemove (codes "e") (codes "a.c" ∷ []))))
     × asks (codes "--sourcedir d --dry-run --title a redo") (Ok (record { dir = Some (codes "d"); title = codes "a"; dry_run = true; action = Redo }))
     × asks (codes "--dry-run undo --to 2") (shown (UndoTo 2))
+    × asks (codes "--dry-run undo --check sums") (shown (UndoChecked 1 (codes "sums")))
     × asks (codes "--dry-run list --json") (shown (action.List true))
     × asks (codes "undo --dry-run") (Err Usage)
     × asks (codes "--dry-run --dry-run undo") (Err Usage)
@@ -100,6 +105,7 @@ Other =
     × asks (codes "--sourcedir d history") (there (codes "d") History)
     × asks (codes "list") (here (action.List false))
     × asks (codes "--sourcedir d list --json") (there (codes "d") (action.List true))
+    × asks (codes "--sourcedir d list --sums") (there (codes "d") Sums)
     × asks (codes "command [1]") (here (ScriptText (codes "[1]")))
     × (asked_by (codes "T" ∷ codes "command" ∷ codes " \t{" ∷ []) ≡ here (ScriptText (codes " \t{")))
     × asks (codes "command changes.json") (here (ScriptFile (codes "changes.json")))
@@ -129,12 +135,20 @@ Refused =
     × asks (codes "undo --to all") (Err Usage)
     × asks (codes "undo --to 18446744073709551616") (Err Usage)
     × asks (codes "undo --to 1 --to 1") (Err Usage)
+    × asks (codes "undo --check") (Err Usage)
+    × asks (codes "undo --check a --check a") (Err Usage)
+    × asks (codes "undo --to 0 --check a") (Err Usage)
     × asks (codes "redo --to 1") (Err Usage)
+    × asks (codes "redo --check a") (Err Usage)
     × asks (codes "history --forget=") (Err Usage)
     × asks (codes "history --forget 0") (Err Usage)
     × asks (codes "history --forget All") (Err Usage)
     × asks (codes "list tide") (Err Usage)
     × asks (codes "list --json --json") (Err Usage)
+    × asks (codes "list --json --sums") (Err Usage)
+    × asks (codes "list --sums --json") (Err Usage)
+    × asks (codes "list --sums sums") (Err Usage)
+    × asks (codes "list --sums=sums") (Err Usage)
     × asks (codes "--json list") (Err Usage)
     × asks (codes "help") (Err Usage)
     × asks (codes "-h") (Err Usage)

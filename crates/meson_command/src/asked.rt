@@ -9,7 +9,7 @@ ghost use Rattle.meson_command.specs.Program.{program};
 ghost use Rattle.meson_command.specs.declared.fault.UsageFault.TheVariants.{BadTitle, OutOfMemory, Usage};
 
 use crate::fault::UsageFault;
-use crate::history::{history_action, undo_action};
+use crate::history::{history_action, list_action, undo_action};
 use crate::kwargs::kwargs_action;
 use crate::options::options_action;
 use crate::program::named_program;
@@ -38,6 +38,9 @@ pub enum Action {
     Undo,
     /// Take back the newest changes, as many as this says: all of them or none.
     UndoTo(usize),
+    /// Take back the newest changes, as many as this says, all of them or none, where the files have the digests in the file of this
+    /// name; a folder reads `-` from standard input.
+    UndoChecked { count: usize, sums: Text },
     /// Do the change again that was taken back last.
     Redo,
     /// List what can be taken back and done again, and change nothing.
@@ -48,6 +51,8 @@ pub enum Action {
     ForgetAll,
     /// List the targets and files of the project, and the `subdir` calls that were not entered, as JSON or as lines; change nothing.
     List { json: bool },
+    /// List the digests of the files, and change nothing.
+    Sums,
     /// Print this text.
     Help(Text),
     /// Print the program's name and version.
@@ -68,20 +73,22 @@ pub struct Asked {
 
 /// What the words of a subcommand that makes no command ask for.
 #[tactic(auto, unfolding(crate::specs::Actions::other_action))]
-fn other_action(subcommand: &str, matches: &ArgMatches<'_>) -> Result<Action, UsageFault>
+fn other_action(
+    alloc: Global,
+    subcommand: &str,
+    matches: &ArgMatches<'_>,
+) -> Result<Action, UsageFault>
     ensures ok { IfOk result (λ a. other_action subcommand.now (rows_of (found_of matches.now)) ≡ Ok a) }
     ensures refused { IfErr result (λ e. e ≢ OutOfMemory → other_action subcommand.now (rows_of (found_of matches.now)) ≡ Err e) }
 {
     if subcommand == "undo" {
-        undo_action(matches)
+        undo_action(alloc, matches)
     } else if subcommand == "redo" {
         Ok(Action::Redo)
     } else if subcommand == "history" {
         history_action(matches)
     } else if subcommand == "list" {
-        Ok(Action::List {
-            json: is_set(matches, "json"),
-        })
+        list_action(matches)
     } else {
         Err(UsageFault::Usage)
     }
@@ -106,7 +113,7 @@ fn action_of(
     } else if subcommand == "command" {
         Ok(script_action(alloc, matches)?)
     } else {
-        other_action(subcommand, matches)
+        other_action(alloc, subcommand, matches)
     }
 }
 
@@ -176,8 +183,9 @@ fn shown(alloc: Global, action: Action) -> Asked
 /// given.
 ///
 /// # Errors
-/// In this order: a word is missing, unknown or one too many, a number is none, or the folder is empty; in words that are names with values, the
-/// last name has no value; a name comes twice; the operation is not done here; the title is none. And want of memory, at any time.
+/// In this order: a word is missing, unknown or one too many, a number is none, two listings are asked for, or the folder is empty;
+/// in words that are names with values, the last name has no value; a name comes twice; the operation is not done here; the title is
+/// none. And want of memory, at any time.
 pub fn command_of(alloc: Global, words: &[String]) -> Result<Asked, UsageFault>
     ensures ok { IfOk result (λ a. asked_by (map string_bytes words.now) ≡ Ok (without_text a)) }
     ensures refused { IfErr result (λ e. e ≢ OutOfMemory → asked_by (map string_bytes words.now) ≡ Err e) }

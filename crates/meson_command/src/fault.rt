@@ -8,7 +8,7 @@ use std::fmt;
 /// Why the words of a command line are refused.
 #[derive(Debug, Drop)]
 pub enum UsageFault {
-    /// A word is missing, one too many or unknown, a number is none, or the folder is empty.
+    /// A word is missing, one too many or unknown, a number is none, two listings are asked for, or the folder is empty.
     Usage,
     /// The last name has no value.
     OddWords,

@@ -117,13 +117,18 @@ A removal wrote no bytes. Where the file was changed since, its undo puts the te
 all the same, which may be a wrong place. So after a checkout remove meson.rewrite-log, and do not undo.
 
 --to N takes back the runs that history lists as undo 1 to undo N, all of them or none. N is a number from 1.
+--check FILE undoes only where all build files have the digests that list --sums wrote to FILE: then every byte comes
+back. Else nothing is undone. Let list --sums write FILE after each run; - is standard input.
 
 Examples:
   meson_rewrite undo
   meson_rewrite undo --to 2
+  meson_rewrite undo --check sums
   meson_rewrite --sourcedir harbor undo";
 
 pub(crate) const TO: &str = "Take back the newest N runs, all of them or none";
+
+pub(crate) const CHECK: &str = "Undo only where the build files have the digests in FILE, or -";
 
 pub(crate) const REDO: &str = "Do again what the last undo took back";
 
@@ -160,9 +165,13 @@ Then one for each build file, as FILE:1: build file, and one for each subdir cal
 \", not entered\" at its end: what stands in that folder is not found.
 
 --json prints all of it as one object of JSON; man meson_rewrite has its members.
+--sums prints the SHA-256 digest of each build file instead, as sha256sum does; undo --check compares them.
 
 Examples:
   meson_rewrite list
+  meson_rewrite list --sums >sums
   meson_rewrite --sourcedir harbor list --json";
 
 pub(crate) const JSON: &str = "Print one line of JSON instead";
+
+pub(crate) const SUMS: &str = "Print the digests of the build files instead";

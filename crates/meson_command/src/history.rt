@@ -1,25 +1,41 @@
-//! `undo [--to N]` and `history [--forget N]`.
+//! `undo [--to N] [--check FILE]`, `history [--forget N]` and `list [--json] [--sums]`.
 
 ghost use Rattle.std.specs.Prelude.{◌≡◌, ◌≢◌, Err, IfErr, IfOk, Ok, option_map};
 ghost use Rattle.clap.specs.Words.{found_of, rows_of};
-ghost use Rattle.meson_command.specs.Actions.{history_action, history_by, undo_action, undo_by};
+ghost use Rattle.meson_command.specs.Actions.{count_in, history_action, history_by, list_action, list_by, undo_action, undo_of};
 ghost use Rattle.meson_command.specs.declared.fault.UsageFault.TheVariants.{OutOfMemory};
 
 use crate::asked::Action;
 use crate::count::count_of;
 use crate::fault::UsageFault;
+use crate::words::{is_set, owned};
 use clap::ArgMatches;
+use std::alloc::{AllocError, Global};
 
-/// What the word of `--to` makes of `undo`.
-fn undo_by(word: Option<&str>) -> Result<Action, UsageFault>
-    ensures { result ≡ undo_by (option_map (λ w. w.now) word.entry) }
+/// The number that a word says, where one is given.
+fn count_in(word: Option<&str>) -> Result<Option<usize>, UsageFault>
+    ensures { result ≡ count_in (option_map (λ w. w.now) word.entry) }
 {
     let Some(word) = word else {
-        return Ok(Action::Undo);
+        return Ok(None);
     };
     match count_of(word) {
-        Some(count) => Ok(Action::UndoTo(count)),
+        Some(count) => Ok(Some(count)),
         None => Err(UsageFault::Usage),
+    }
+}
+
+/// What is undone: so many changes, and by which file of digests.
+fn undo_of(alloc: Global, count: Option<usize>, check: Option<&str>) -> Result<Action, AllocError>
+    ensures { IfOk result (λ a. a ≡ undo_of count (option_map (λ w. w.now) check.entry)) }
+{
+    match (count, check) {
+        (None, None) => Ok(Action::Undo),
+        (Some(count), None) => Ok(Action::UndoTo(count)),
+        (count, Some(name)) => Ok(Action::UndoChecked {
+            count: count.unwrap_or(1),
+            sums: owned(alloc, name)?,
+        }),
     }
 }
 
@@ -39,15 +55,28 @@ fn history_by(word: Option<&str>) -> Result<Action, UsageFault>
     }
 }
 
+/// What is listed, where the two flags are there or not.
+fn list_by(json: bool, sums: bool) -> Result<Action, UsageFault>
+    ensures { result ≡ list_by json sums }
+{
+    match (json, sums) {
+        (json, false) => Ok(Action::List { json }),
+        (false, true) => Ok(Action::Sums),
+        (true, true) => Err(UsageFault::Usage),
+    }
+}
+
 /// What the words of `undo` ask for.
 ///
 /// # Errors
 /// The word of `--to` is no number from 1.
-pub(crate) fn undo_action(matches: &ArgMatches<'_>) -> Result<Action, UsageFault>
+pub(crate) fn undo_action(alloc: Global, matches: &ArgMatches<'_>) -> Result<Action, UsageFault>
     ensures ok { IfOk result (λ a. undo_action (rows_of (found_of matches.now)) ≡ Ok a) }
     ensures refused { IfErr result (λ e. e ≢ OutOfMemory → undo_action (rows_of (found_of matches.now)) ≡ Err e) }
 {
-    undo_by(matches.get_str("N"))
+    let count = count_in(matches.get_str("N"))?;
+    let action = undo_of(alloc, count, matches.get_str("FILE"))?;
+    Ok(action)
 }
 
 /// What the words of `history` ask for.
@@ -59,4 +88,15 @@ pub(crate) fn history_action(matches: &ArgMatches<'_>) -> Result<Action, UsageFa
     ensures refused { IfErr result (λ e. e ≢ OutOfMemory → history_action (rows_of (found_of matches.now)) ≡ Err e) }
 {
     history_by(matches.get_str("N"))
+}
+
+/// What the words of `list` ask for.
+///
+/// # Errors
+/// Both flags are there.
+pub(crate) fn list_action(matches: &ArgMatches<'_>) -> Result<Action, UsageFault>
+    ensures ok { IfOk result (λ a. list_action (rows_of (found_of matches.now)) ≡ Ok a) }
+    ensures refused { IfErr result (λ e. e ≢ OutOfMemory → list_action (rows_of (found_of matches.now)) ≡ Err e) }
+{
+    list_by(is_set(matches, "json"), is_set(matches, "sums"))
 }

@@ -24,8 +24,8 @@ pub fn help_where_asked()
     ensures version { VersionWhereAsked }
 {}
 
-/// Words that clap takes are wrong usage only where the folder is empty, an operation or a function is unknown, or a number is
-/// none.
+/// Words that clap takes are wrong usage only where the folder is empty, an operation or a function is unknown, a number is none,
+/// or two listings are asked for.
 pub fn usage_means_unknown()
     ensures { UsageMeansUnknown }
 {}

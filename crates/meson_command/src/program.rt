@@ -168,6 +168,7 @@ fn undo<'h>(alloc: Global) -> Result<Command<'h>, AllocError>
 {
     let command = described(alloc, "undo", help::UNDO, help::BELOW_UNDO);
     let command = with_option(alloc, command, "N", "to", help::TO)?;
+    let command = with_option(alloc, command, "FILE", "check", help::CHECK)?;
     with_help(alloc, command)
 }
 
@@ -194,6 +195,7 @@ fn list<'h>(alloc: Global) -> Result<Command<'h>, AllocError>
 {
     let command = described(alloc, "list", help::LIST, help::BELOW_LIST);
     let command = with_flag(alloc, command, "json", "json", help::JSON)?;
+    let command = with_flag(alloc, command, "sums", "sums", help::SUMS)?;
     with_help(alloc, command)
 }
 

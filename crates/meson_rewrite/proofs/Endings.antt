@@ -260,11 +260,13 @@ shown-ends a b c text u asks = of-action a.action refl asks
     of-action (action.ScriptFile n) at (cs, of, is) = absurd (let no : ⊥ = cc in no)
     of-action action.Undo at is = absurd (let no : ⊥ = cc in no)
     of-action (action.UndoTo count) at is = absurd (let no : ⊥ = cc in no)
+    of-action (action.UndoChecked count name) at (file, of, is) = absurd (let no : ⊥ = cc in no)
     of-action (action.ForgetOldest count) at is = absurd (let no : ⊥ = cc in no)
     of-action action.ForgetAll at is = absurd (let no : ⊥ = cc in no)
     of-action action.Redo at is = absurd (let no : ⊥ = cc in no)
     of-action action.History at is = absurd (let no : ⊥ = cc in no)
     of-action (action.List json) at is = absurd (let no : ⊥ = cc in no)
+    of-action action.Sums at is = absurd (let no : ⊥ = cc in no)
     of-action (action.Help t) at is = let same : t ≡ text = cc in helped a text u refl (at ∙ ap action.Help same)
     of-action action.Version at is =
         let same : version_line ≡ text = cc in
@@ -277,11 +279,13 @@ asks-no-step title (action.ScriptText text) held step is t = let no : ⊥ = cc i
 asks-no-step title (action.ScriptFile n) held step is t = let no : ⊥ = cc in no
 asks-no-step title action.Undo held step is t = let no : ⊥ = cc in no
 asks-no-step title (action.UndoTo count) held step is t = let no : ⊥ = cc in no
+asks-no-step title (action.UndoChecked count name) held step is t = let no : ⊥ = cc in no
 asks-no-step title (action.ForgetOldest count) held step is t = let no : ⊥ = cc in no
 asks-no-step title action.ForgetAll held step is t = let no : ⊥ = cc in no
 asks-no-step title action.Redo held step is t = let no : ⊥ = cc in no
 asks-no-step title action.History held step is t = let no : ⊥ = cc in no
 asks-no-step title (action.List json) held step is t = let no : ⊥ = cc in no
+asks-no-step title action.Sums held step is t = let no : ⊥ = cc in no
 asks-no-step title (action.Help text) held step is t = let no : ⊥ = cc in no
 asks-no-step title action.Version held step is t = let no : ⊥ = cc in no
 
@@ -303,11 +307,13 @@ shows-same a t = go a.action t
     go (action.ScriptFile n) t = t
     go action.Undo t = t
     go (action.UndoTo count) t = t
+    go (action.UndoChecked count name) t = t
     go (action.ForgetOldest count) t = t
     go action.ForgetAll t = t
     go action.Redo t = t
     go action.History t = t
     go (action.List json) t = t
+    go action.Sums t = t
     go (action.Help text) t = t
     go action.Version t = t
 
@@ -320,11 +326,13 @@ asks-only title (action.ScriptText text) held step is t = absurd (let no : ⊥ =
 asks-only title (action.ScriptFile n) held step is t = absurd (let no : ⊥ = cc in no)
 asks-only title action.Undo held step is t = absurd (let no : ⊥ = cc in no)
 asks-only title (action.UndoTo count) held step is t = absurd (let no : ⊥ = cc in no)
+asks-only title (action.UndoChecked count name) held step is t = absurd (let no : ⊥ = cc in no)
 asks-only title (action.ForgetOldest count) held step is t = absurd (let no : ⊥ = cc in no)
 asks-only title action.ForgetAll held step is t = absurd (let no : ⊥ = cc in no)
 asks-only title action.Redo held step is t = absurd (let no : ⊥ = cc in no)
 asks-only title action.History held step is t = absurd (let no : ⊥ = cc in no)
 asks-only title (action.List json) held step is t = absurd (let no : ⊥ = cc in no)
+asks-only title action.Sums held step is t = absurd (let no : ⊥ = cc in no)
 asks-only title (action.Help text) held step is t = absurd (let no : ⊥ = cc in no)
 asks-only title action.Version held step is t = absurd (let no : ⊥ = cc in no)
 
@@ -338,11 +346,13 @@ asks-same a t = go a.action t
     go (action.ScriptFile n) t = t
     go action.Undo t = t
     go (action.UndoTo count) t = t
+    go (action.UndoChecked count name) t = t
     go (action.ForgetOldest count) t = t
     go action.ForgetAll t = t
     go action.Redo t = t
     go action.History t = t
     go (action.List json) t = t
+    go action.Sums t = t
     go (action.Help text) t = t
     go action.Version t = t
 

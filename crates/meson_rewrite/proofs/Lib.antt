@@ -11,3 +11,5 @@ pub mod Untold
 pub mod Reading
 pub mod LogName
 mod Statuses
+pub mod Checking
+pub mod CheckedUndos

@@ -34,7 +34,7 @@ use Rattle.meson_script.specs.declared.session.Report.{Report}
 use Rattle.meson_script.specs.declared.session.Session.{Session}
 use Rattle.meson_rewrite.specs.Steps.{Does}
 use Rattle.meson_rewrite.specs.declared.request.Step.{Step}
-use Rattle.meson_rewrite.specs.declared.request.Step.TheVariants.{Run, Tell, Undo, UndoTo, Redo, ForgetOldest, ForgetAll}
+use Rattle.meson_rewrite.specs.declared.request.Step.TheVariants.{Run, Tell, Undo, UndoTo, UndoChecked, Redo, ForgetOldest, ForgetAll}
 
 -- ---- the parts
 
@@ -194,6 +194,7 @@ does-plain (Run script title) old new report k = ap has_float k.info ∙ runs-pl
 does-plain (Tell script) old new report k = ap has_float k.info ∙ runs-plain old.project script.commands k.splices report.relexed k.listings new.project k.runs
 does-plain Undo old new report s = ap has_float s.info
 does-plain (UndoTo count) old new report s = ap has_float s.info
+does-plain (UndoChecked count kept) old new report s = ap has_float s.1.info
 does-plain (ForgetOldest count) old new report s = ap has_float s.1.info
 does-plain ForgetAll old new report s = ap has_float s.1.info
 does-plain Redo old new report s = ap has_float s.info

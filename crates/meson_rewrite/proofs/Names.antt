@@ -27,7 +27,7 @@ use Rattle.meson_rewrite.specs.Stops.{undo_stop}
 use Rattle.meson_rewrite.specs.declared.stop.Stop.{Stop}
 use Rattle.meson_rewrite.specs.declared.stop.Stop.TheVariants as stop
 use Rattle.meson_rewrite.specs.declared.request.Step.{Step}
-use Rattle.meson_rewrite.specs.declared.request.Step.TheVariants.{Run, Tell, Undo, UndoTo, Redo, ForgetOldest, ForgetAll}
+use Rattle.meson_rewrite.specs.declared.request.Step.TheVariants.{Run, Tell, Undo, UndoTo, UndoChecked, Redo, ForgetOldest, ForgetAll}
 
 abbrev Patched : Type 0
 Patched = Result (List File) SpliceFault
@@ -65,6 +65,7 @@ step-names (Tell script) old new report k =
     change-names old.project.files k.splices new.project.files (runs-patch old.project new.project script.commands k.splices report.relexed k.listings k.runs)
 step-names Undo old new report s = undone-names (reverse old.history.past) old.history.future old.project.files new.history new.project.files s.is_step
 step-names (UndoTo count) old new report s = times-names count old.history new.history old.project.files new.project.files s.are_steps
+step-names (UndoChecked count kept) old new report s = times-names count old.history new.history old.project.files new.project.files s.1.are_steps
 step-names (ForgetOldest count) old new report s = ap (λ p. names p.files) (sym s.1.project)
 step-names ForgetAll old new report s = ap (λ p. names p.files) (sym s.1.project)
 step-names Redo old new report s = redone-names (reverse old.history.future) old.history.past old.project.files new.history new.project.files s.is_step

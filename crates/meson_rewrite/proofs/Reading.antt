@@ -13,14 +13,14 @@ use Rattle.meson_store.specs.declared.store_fault.StoreFault.{StoreFault}
 use Rattle.meson_store.specs.declared.store_fault.StoreFault.TheVariants as store
 use Rattle.meson_gathering.specs.Gathering.{Finds, whole}
 use Rattle.meson_rewrite.specs.Lines.{status, store_fault_status, usage_status}
-use Rattle.meson_rewrite.specs.Reads.{MayRead, ReadsAll, ReadsAtMost, ReadsFor, ReadsProject, ReadsWithLog, script_read}
+use Rattle.meson_rewrite.specs.Reads.{MayRead, ReadsAll, ReadsAtMost, ReadsFor, ReadsProject, ReadsWithLog, file_read}
 use Rattle.meson_rewrite.specs.Requests.{AsksFor}
 use Rattle.meson_rewrite.specs.declared.request.Listing.{Listing}
 use Rattle.meson_rewrite.specs.declared.request.Request.TheVariants as request
 use Rattle.meson_rewrite.specs.declared.request.Step.{Step}
 use Rattle.meson_rewrite.specs.declared.said.Said.{Said}
 use Rattle.meson_rewrite.specs.declared.stop.Stop.{Stop}
-use Rattle.meson_rewrite.specs.declared.stop.Stop.TheVariants.{Usage, Script, Parse, TooManyFiles, BadFileName, Refused, Splice, Store}
+use Rattle.meson_rewrite.specs.declared.stop.Stop.TheVariants.{Usage, Script, Parse, TooManyFiles, BadFileName, Refused, Splice, OtherFiles, Store}
 
 -- ---- a step
 
@@ -37,48 +37,52 @@ pub nothing-read : (asked : Result Asked UsageFault) (before : Option Content) (
 nothing-read (Err fault) before reads = refl
 nothing-read (Ok a) before reads = inl refl
 
-same-script : (a : Action) (reads : ℕ) → script_read (without_help_text a) reads ≡ script_read a reads
-same-script (action.Run s) reads = refl
-same-script (action.Info c) reads = refl
-same-script (action.ScriptText text) reads = refl
-same-script (action.ScriptFile n) reads = refl
-same-script action.Undo reads = refl
-same-script (action.UndoTo count) reads = refl
-same-script (action.ForgetOldest count) reads = refl
-same-script action.ForgetAll reads = refl
-same-script action.Redo reads = refl
-same-script action.History reads = refl
-same-script (action.List json) reads = refl
-same-script (action.Help text) reads = refl
-same-script action.Version reads = refl
+same-file : (a : Action) (reads : ℕ) → file_read (without_help_text a) reads ≡ file_read a reads
+same-file (action.Run s) reads = refl
+same-file (action.Info c) reads = refl
+same-file (action.ScriptText text) reads = refl
+same-file (action.ScriptFile n) reads = refl
+same-file action.Undo reads = refl
+same-file (action.UndoTo count) reads = refl
+same-file (action.UndoChecked count name) reads = refl
+same-file (action.ForgetOldest count) reads = refl
+same-file action.ForgetAll reads = refl
+same-file action.Redo reads = refl
+same-file action.History reads = refl
+same-file (action.List json) reads = refl
+same-file action.Sums reads = refl
+same-file (action.Help text) reads = refl
+same-file action.Version reads = refl
 
 module _ (a : Asked) (before : Option Content) (reads : ℕ) where
-  pub asked-alone : (reads' : ℕ) → (reads' ≡ reads) ⊎ (reads' ≡ script_read a.action reads) → MayRead (Ok (without_text a)) before reads reads'
+  pub asked-alone : (reads' : ℕ) → (reads' ≡ reads) ⊎ (reads' ≡ file_read a.action reads) → MayRead (Ok (without_text a)) before reads reads'
   asked-alone reads' (inl e) = inl e
-  asked-alone reads' (inr e) = inr (inl (e ∙ sym (same-script a.action reads)))
+  asked-alone reads' (inr e) = inr (inl (e ∙ sym (same-file a.action reads)))
 
-  module _ (middle : Option Content) (dir : Option (List ℕ)) (n reads' : ℕ) (kept : middle ≡ before) (named : dir ≡ a.dir) (script : n ≡ script_read a.action reads) where
+  module _ (middle : Option Content) (dir : Option (List ℕ)) (n reads' : ℕ) (kept : middle ≡ before) (named : dir ≡ a.dir) (is_read : n ≡ file_read a.action reads) where
     pub step-may-read : ReadsAtMost middle dir n reads' → MayRead (Ok (without_text a)) before reads reads'
     step-may-read h =
-        inr (inr (subst (λ k. ReadsAtMost before a.dir k reads') (script ∙ sym (same-script a.action reads)) (subst (λ d. ReadsAtMost before d n reads') named (subst (λ b. ReadsAtMost b dir n reads') kept h))))
+        inr (inr (subst (λ k. ReadsAtMost before a.dir k reads') (is_read ∙ sym (same-file a.action reads)) (subst (λ d. ReadsAtMost before d n reads') named (subst (λ b. ReadsAtMost b dir n reads') kept h))))
 
     pub step-reads-all : {E : Type 0} (step : Step) → AsksFor a.title a.action before (request.Step step) → (end : Result Said E) → OnOk end (ReadsProject middle dir n reads')
         → OnOk end (ReadsAll (Ok (without_text a)) before reads reads')
     step-reads-all step asks (Ok said) h =
-        of-action a.action asks (subst (λ k. ReadsProject before a.dir k reads') script (subst (λ d. ReadsProject before d n reads') named (subst (λ b. ReadsProject b dir n reads') kept h)))
+        of-action a.action asks (subst (λ k. ReadsProject before a.dir k reads') is_read (subst (λ d. ReadsProject before d n reads') named (subst (λ b. ReadsProject b dir n reads') kept h)))
       where
-        of-action : (x : Action) → AsksFor a.title x before (request.Step step) → ReadsProject before a.dir (script_read x reads) reads' → ReadsFor (without_help_text x) before a.dir reads reads'
+        of-action : (x : Action) → AsksFor a.title x before (request.Step step) → ReadsProject before a.dir (file_read x reads) reads' → ReadsFor (without_help_text x) before a.dir reads reads'
         of-action (action.Run s) is h = h
         of-action (action.Info c) is h = h
         of-action (action.ScriptText text) is h = h
         of-action (action.ScriptFile n) is h = h
         of-action action.Undo is h = h
         of-action (action.UndoTo count) is h = h
+        of-action (action.UndoChecked count name) is h = h
         of-action (action.ForgetOldest count) is h = h
         of-action action.ForgetAll is h = h
         of-action action.Redo is h = h
         of-action action.History is h = absurd (let no : ⊥ = cc in no)
         of-action (action.List json) is h = absurd (let no : ⊥ = cc in no)
+        of-action action.Sums is h = absurd (let no : ⊥ = cc in no)
         of-action (action.Help text) is h = absurd (let no : ⊥ = cc in no)
         of-action action.Version is h = absurd (let no : ⊥ = cc in no)
     step-reads-all step asks (Err stop) h = h
@@ -86,39 +90,43 @@ module _ (a : Asked) (before : Option Content) (reads : ℕ) where
     pub listing-reads-all : {E : Type 0} (listing : Listing) → AsksFor a.title a.action before (request.List listing) → (end : Result Said E) → OnOk end (ReadsProject middle dir n reads')
         → OnOk end (ReadsAll (Ok (without_text a)) before reads reads')
     listing-reads-all listing asks (Ok said) h =
-        of-action a.action asks (subst (λ k. ReadsProject before a.dir k reads') script (subst (λ d. ReadsProject before d n reads') named (subst (λ b. ReadsProject b dir n reads') kept h)))
+        of-action a.action asks (subst (λ k. ReadsProject before a.dir k reads') is_read (subst (λ d. ReadsProject before d n reads') named (subst (λ b. ReadsProject b dir n reads') kept h)))
       where
-        of-action : (x : Action) → AsksFor a.title x before (request.List listing) → ReadsProject before a.dir (script_read x reads) reads' → ReadsFor (without_help_text x) before a.dir reads reads'
+        of-action : (x : Action) → AsksFor a.title x before (request.List listing) → ReadsProject before a.dir (file_read x reads) reads' → ReadsFor (without_help_text x) before a.dir reads reads'
         of-action (action.Run s) is h = absurd (let no : ⊥ = cc in no)
         of-action (action.Info c) is h = absurd (let no : ⊥ = cc in no)
         of-action (action.ScriptText text) (cs, of, is) h = absurd (let no : ⊥ = cc in no)
         of-action (action.ScriptFile n) (cs, of, is) h = absurd (let no : ⊥ = cc in no)
         of-action action.Undo is h = absurd (let no : ⊥ = cc in no)
         of-action (action.UndoTo count) is h = absurd (let no : ⊥ = cc in no)
+        of-action (action.UndoChecked count name) (file, of, is) h = absurd (let no : ⊥ = cc in no)
         of-action (action.ForgetOldest count) is h = absurd (let no : ⊥ = cc in no)
         of-action action.ForgetAll is h = absurd (let no : ⊥ = cc in no)
         of-action action.Redo is h = absurd (let no : ⊥ = cc in no)
         of-action action.History is h = h
         of-action (action.List json) is h = h
+        of-action action.Sums is h = h
         of-action (action.Help text) is h = absurd (let no : ⊥ = cc in no)
         of-action action.Version is h = absurd (let no : ⊥ = cc in no)
     listing-reads-all listing asks (Err stop) h = h
 
-  pub shown-reads-none : (text : List ℕ) (reads' : ℕ) → AsksFor a.title a.action before (request.Show text) → reads' ≡ script_read a.action reads → ReadsAll (Ok (without_text a)) before reads reads'
+  pub shown-reads-none : (text : List ℕ) (reads' : ℕ) → AsksFor a.title a.action before (request.Show text) → reads' ≡ file_read a.action reads → ReadsAll (Ok (without_text a)) before reads reads'
   shown-reads-none text reads' asks e = of-action a.action asks e
     where
-      of-action : (x : Action) → AsksFor a.title x before (request.Show text) → reads' ≡ script_read x reads → ReadsFor (without_help_text x) before a.dir reads reads'
+      of-action : (x : Action) → AsksFor a.title x before (request.Show text) → reads' ≡ file_read x reads → ReadsFor (without_help_text x) before a.dir reads reads'
       of-action (action.Run s) is e = absurd (let no : ⊥ = cc in no)
       of-action (action.Info c) is e = absurd (let no : ⊥ = cc in no)
       of-action (action.ScriptText t) (cs, of, is) e = absurd (let no : ⊥ = cc in no)
       of-action (action.ScriptFile n) (cs, of, is) e = absurd (let no : ⊥ = cc in no)
       of-action action.Undo is e = absurd (let no : ⊥ = cc in no)
       of-action (action.UndoTo count) is e = absurd (let no : ⊥ = cc in no)
+      of-action (action.UndoChecked count name) (file, of, is) e = absurd (let no : ⊥ = cc in no)
       of-action (action.ForgetOldest count) is e = absurd (let no : ⊥ = cc in no)
       of-action action.ForgetAll is e = absurd (let no : ⊥ = cc in no)
       of-action action.Redo is e = absurd (let no : ⊥ = cc in no)
       of-action action.History is e = absurd (let no : ⊥ = cc in no)
       of-action (action.List json) is e = absurd (let no : ⊥ = cc in no)
+      of-action action.Sums is e = absurd (let no : ⊥ = cc in no)
       of-action (action.Help t) is e = e
       of-action action.Version is e = e
 
@@ -149,3 +157,4 @@ done-by-status P (Err TooManyFiles) p e = absurd (let no : ⊥ = cc in no)
 done-by-status P (Err (BadFileName place)) p e = absurd (let no : ⊥ = cc in no)
 done-by-status P (Err (Refused fault)) p e = absurd (let no : ⊥ = cc in no)
 done-by-status P (Err (Splice fault)) p e = absurd (let no : ⊥ = cc in no)
+done-by-status P (Err (OtherFiles name)) p e = absurd (let no : ⊥ = cc in no)

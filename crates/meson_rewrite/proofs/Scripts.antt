@@ -1,6 +1,5 @@
--- What a script file's bytes are.
-use Rattle.std.proofs.Common.{◌≡◌, ℕ, List, Bool, true, false, Option, Some, Result, Err, refl, sym, ap, ◌∙◌, cond, inl, inr, ◌⊎◌, subst, option_map}
-use Rattle.std.specs.FinMap.{get}
+-- What the bytes of a file that the words name are.
+use Rattle.std.proofs.Common.{◌≡◌, ℕ, List, Bool, true, false, Option, Result, Err, refl, sym, ap, ◌∙◌, cond, inl, inr, ◌⊎◌, subst}
 use Rattle.std.specs.Str.{IsUtf8, is_utf8}
 use Rattle.std.proofs.lemmas.Str.{IsUtf8-from_is_utf8, is_utf8-from_IsUtf8}
 use Rattle.serde_json.specs.Read.{read}
@@ -12,8 +11,7 @@ use Rattle.meson_store.specs.Content.{Content}
 use Rattle.meson_store.specs.declared.store_fault.StoreFault.{StoreFault}
 use Rattle.meson_store.specs.declared.store_fault.StoreFault.TheVariants as store
 use Rattle.meson_gathering.specs.Gathered.{IsUnread}
-use Rattle.meson_gathering.specs.Gathering.{Told}
-use Rattle.meson_rewrite.specs.Requests.{IsBad, IsNoScript, bad, script_in, unread}
+use Rattle.meson_rewrite.specs.Requests.{HasBytes, IsBad, IsNoFile, IsNoScript, script_in, unread}
 use Rattle.meson_rewrite.specs.Stops.{WantsMemory}
 use Rattle.meson_rewrite.specs.declared.stop.Stop.{Stop}
 use Rattle.meson_rewrite.specs.declared.stop.Stop.TheVariants.{Store}
@@ -40,17 +38,22 @@ pub of-no-text : (bytes : List ℕ) → (IsUtf8 bytes → ⊥) → script_in byt
 of-no-text bytes other = by-test-not (is_utf8 bytes) _ _ (not-text (is_utf8 bytes) bytes refl other)
 
 -- a fault of the bytes is one of the file
-pub bad-file : (held : Option Content) (failed failed' : ℕ) (name bytes : List ℕ) (why : Stop) → Told held (λ content. get content name ≡ Some bytes)
+pub bad-file : (held : Option Content) (failed failed' : ℕ) (name bytes : List ℕ) (why : Stop) → HasBytes held name bytes
     → WantsMemory why ⊎ IsBad (script_in bytes) why → WantsMemory why ⊎ IsNoScript held failed failed' name why
-bad-file held failed failed' name bytes why told (inl m) = inl m
-bad-file held failed failed' name bytes why told (inr b) =
-    inr (subst (IsNoScript held failed failed' name) (sym b.2) (bad b.0 (λ content is. ap (option_map script_in) (told content is) ∙ ap Some b.1)))
+bad-file held failed failed' name bytes why has (inl m) = inl m
+bad-file held failed failed' name bytes why has (inr bad) = inr (inr (bytes, has, bad))
+
+-- where there is no file, there is no script
+pub no-script : (held : Option Content) (failed failed' : ℕ) (name : List ℕ) (why : Stop) → WantsMemory why ⊎ IsNoFile held failed failed' name why
+    → WantsMemory why ⊎ IsNoScript held failed failed' name why
+no-script held failed failed' name why (inl m) = inl m
+no-script held failed failed' name why (inr none) = inr (inl none)
 
 -- a file that is not read
 pub unread-file : (held : Option Content) (failed failed' : ℕ) (name : List ℕ) (fault : StoreFault) → IsUnread failed failed' name fault
-    → WantsMemory (Store fault) ⊎ IsNoScript held failed failed' name (Store fault)
+    → WantsMemory (Store fault) ⊎ IsNoFile held failed failed' name (Store fault)
 unread-file held failed failed' name (store.ReadFailed n) (e, rose) =
-    inr (subst (λ m. IsNoScript held failed failed' name (Store (store.ReadFailed m))) (sym e) (unread rose))
+    inr (subst (λ m. IsNoFile held failed failed' name (Store (store.ReadFailed m))) (sym e) (unread rose))
 unread-file held failed failed' name (store.WriteFailed n still_new) h = absurd h
 unread-file held failed failed' name (store.NoFile n) h = absurd h
 unread-file held failed failed' name store.OutputFailed h = absurd h

@@ -9,3 +9,4 @@ pub mod Opening
 pub mod Edited
 pub mod Runs
 pub mod Reads
+pub mod Laws

@@ -4,10 +4,11 @@ use Rattle.serde_json.specs.Written.{compact_text}
 use Rattle.meson_calls.specs.Loading.{Loaded}
 use Rattle.meson_listing.specs.Inventory.{project_data, project_lines}
 use Rattle.meson_script.specs.declared.session.Session.{Session}
+use Rattle.meson_sums.specs.Sums.{sums}
 use Rattle.meson_rewrite.specs.Changes.{history_lines}
 use Rattle.meson_rewrite.specs.Lines.{line}
 use Rattle.meson_rewrite.specs.declared.request.Listing.{Listing}
-use Rattle.meson_rewrite.specs.declared.request.Listing.TheVariants.{History, Holdings}
+use Rattle.meson_rewrite.specs.declared.request.Listing.TheVariants.{History, Holdings, Sums}
 
 -- what a project holds: one line of JSON, or lines for people
 abbrev pub holdings_text : Bool → Loaded → List ℕ
@@ -17,3 +18,4 @@ holdings_text false project = project_lines project
 abbrev pub listed_text : Listing → Session → List ℕ
 listed_text History session = history_lines session.history
 listed_text (Holdings json) session = holdings_text json session.project
+listed_text Sums session = sums session.project.files

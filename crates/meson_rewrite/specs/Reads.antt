@@ -1,4 +1,4 @@
--- How often a run reads the store: once for the script file, where one is named, once for each file of the project that is asked for, and once for the log.
+-- How often a run reads the store: once for the file that the words name, where they name one, once for each file of the project that is asked for, and once for the log.
 use Rattle.std.specs.Prelude.{◌≡◌, ◌⊎◌, ℕ, List, Option, Result, Ok, Err}
 use Rattle.meson_command.specs.declared.asked.Action.{Action}
 use Rattle.meson_command.specs.declared.asked.Action.TheVariants as action
@@ -10,10 +10,11 @@ use Rattle.meson_store.specs.Content.{Content}
 use Rattle.meson_gathering.specs.Gathering.{Finds, whole}
 use Rattle.meson_gathering.specs.Reading.{OnceAtMost, ReadsFiles, StopsReading}
 
--- the script file
-abbrev pub script_read : Action → ℕ → ℕ
-script_read (action.ScriptFile name) reads = one_more reads
-script_read _ reads = reads
+-- the file that the words name: a script, or digests
+abbrev pub file_read : Action → ℕ → ℕ
+file_read (action.ScriptFile name) reads = one_more reads
+file_read (action.UndoChecked count name) reads = one_more reads
+file_read _ reads = reads
 
 -- ---- the project of a folder, in a store that told this before
 
@@ -32,15 +33,15 @@ module _ (before : Option Content) (dir : Option (List ℕ)) where
 
 -- ---- a whole run, by what the words ask for
 
--- nothing; the script file; or that and then the project's files and the log, or a part of them
+-- nothing; the file that the words name; or that and then the project's files and the log, or a part of them
 abbrev pub MayRead : Result Asked UsageFault → Option Content → ℕ → ℕ → Type 0
 MayRead (Err fault) before reads reads' = reads' ≡ reads
-MayRead (Ok a) before reads reads' = (reads' ≡ reads) ⊎ (reads' ≡ script_read a.action reads) ⊎ ReadsAtMost before a.dir (script_read a.action reads) reads'
+MayRead (Ok a) before reads reads' = (reads' ≡ reads) ⊎ (reads' ≡ file_read a.action reads) ⊎ ReadsAtMost before a.dir (file_read a.action reads) reads'
 
 abbrev pub ReadsFor : Action → Option Content → Option (List ℕ) → ℕ → ℕ → Type 0
 ReadsFor (action.Help text) before dir reads reads' = reads' ≡ reads
 ReadsFor action.Version before dir reads reads' = reads' ≡ reads
-ReadsFor a before dir reads reads' = ReadsProject before dir (script_read a reads) reads'
+ReadsFor a before dir reads reads' = ReadsProject before dir (file_read a reads) reads'
 
 -- all of them, but for help and the version, which read nothing
 abbrev pub ReadsAll : Result Asked UsageFault → Option Content → ℕ → ℕ → Type 0

@@ -1,5 +1,5 @@
--- What the words and the script file ask for.
-use Rattle.std.specs.Prelude.{◌≡◌, ⊤, Bool, true, false, ℕ, List, [], ◌∷◌, if◌then◌else◌, Option, Some, None, option_map, Result, Ok, Err}
+-- What the words ask for, and the file that they name.
+use Rattle.std.specs.Prelude.{◌≡◌, ◌⊎◌, ⊤, Bool, true, false, ℕ, List, [], ◌∷◌, if◌then◌else◌, Option, Some, None, Result, Ok, Err}
 use Rattle.std.specs.FinMap.{get}
 use Rattle.std.specs.Str.{is_utf8}
 use Rattle.serde_json.specs.Read.{read}
@@ -15,12 +15,29 @@ use Rattle.meson_store.specs.declared.store_fault.StoreFault.TheVariants as stor
 use Rattle.meson_gathering.specs.Gathering.{Told}
 use Rattle.meson_rewrite.specs.Lines.{version_line}
 use Rattle.meson_rewrite.specs.Steps.{IsTitled}
+use Rattle.meson_rewrite.specs.declared.request.NamedFile.{NamedFile}
 use Rattle.meson_rewrite.specs.declared.request.Request.{Request}
 use Rattle.meson_rewrite.specs.declared.request.Listing.TheVariants as listing
 use Rattle.meson_rewrite.specs.declared.request.Request.TheVariants as request
-use Rattle.meson_rewrite.specs.declared.request.Step.TheVariants.{Run, Tell, Undo, UndoTo, Redo, ForgetOldest, ForgetAll}
+use Rattle.meson_rewrite.specs.declared.request.Step.TheVariants.{Run, Tell, Undo, UndoTo, UndoChecked, Redo, ForgetOldest, ForgetAll}
 use Rattle.meson_rewrite.specs.declared.stop.Stop.{Stop}
 use Rattle.meson_rewrite.specs.declared.stop.Stop.TheVariants as stop
+
+-- ---- a file that the words name, in a store that told this content
+
+abbrev pub HasBytes : Option Content → List ℕ → List ℕ → Type 0
+HasBytes held name bytes = Told held (λ content. get content name ≡ Some bytes)
+
+-- it is the one of that name
+abbrev pub IsFileOf : Option Content → List ℕ → NamedFile → Type 0
+IsFileOf held name file = (file.name ≡ name) × HasBytes held name file.bytes
+
+-- it is not read, or there is none
+pub data IsNoFile (held : Option Content) (failed failed' : ℕ) (name : List ℕ) : Stop → Type 0 where
+  unread : Rose failed failed' → IsNoFile held failed failed' name (stop.Store (store.ReadFailed name))
+  absent : Told held (λ content. get content name ≡ None) → IsNoFile held failed failed' name (stop.Store (store.NoFile name))
+
+-- ---- scripts
 
 abbrev pub script : List Command → Script
 script commands = record { commands = commands }
@@ -29,9 +46,20 @@ script commands = record { commands = commands }
 abbrev pub script_in : List ℕ → Result (List Command) ScriptFault
 script_in bytes = if is_utf8 bytes then script_of (read bytes) else Err NotJson
 
--- in a store that told this content
+-- it is the fault of what is no script
+abbrev pub IsBad : Result (List Command) ScriptFault → Stop → Type 0
+IsBad script why = (fault : ScriptFault) × (script ≡ Err fault) × (why ≡ stop.Script fault)
+
+-- the commands of the file of that name
 abbrev pub IsScriptOf : Option Content → List ℕ → List Command → Type 0
-IsScriptOf held name commands = Told held (λ content. option_map script_in (get content name) ≡ Some (Ok commands))
+IsScriptOf held name commands = (bytes : List ℕ) × HasBytes held name bytes × (script_in bytes ≡ Ok commands)
+
+-- the file of that name is not read, is not there, or is no script
+abbrev pub IsNoScript : Option Content → ℕ → ℕ → List ℕ → Stop → Type 0
+IsNoScript held failed failed' name why =
+    IsNoFile held failed failed' name why ⊎ ((bytes : List ℕ) × HasBytes held name bytes × IsBad (script_in bytes) why)
+
+-- ---- what needs no step
 
 -- help or the version: nothing is asked of the store
 abbrev pub only_shows : Action → Bool
@@ -46,6 +74,7 @@ only_asks action.Version = true
 only_asks (action.Info c) = true
 only_asks action.History = true
 only_asks (action.List json) = true
+only_asks action.Sums = true
 only_asks _ = false
 
 -- ---- the step that an action asks for, a run with this title, and that it is one
@@ -57,11 +86,13 @@ AsksFor title (action.ScriptText text) held r = (commands : List Command) × (sc
 AsksFor title (action.ScriptFile name) held r = (commands : List Command) × IsScriptOf held name commands × (r ≡ request.Step (Run (script commands) title))
 AsksFor title action.Undo held r = r ≡ request.Step Undo
 AsksFor title (action.UndoTo count) held r = r ≡ request.Step (UndoTo count)
+AsksFor title (action.UndoChecked count name) held r = (kept : NamedFile) × IsFileOf held name kept × (r ≡ request.Step (UndoChecked count kept))
 AsksFor title (action.ForgetOldest count) held r = r ≡ request.Step (ForgetOldest count)
 AsksFor title action.ForgetAll held r = r ≡ request.Step ForgetAll
 AsksFor title action.Redo held r = r ≡ request.Step Redo
 AsksFor title action.History held r = r ≡ request.List listing.History
 AsksFor title (action.List json) held r = r ≡ request.List (listing.Holdings json)
+AsksFor title action.Sums held r = r ≡ request.List listing.Sums
 AsksFor title (action.Help text) held r = r ≡ request.Show text
 AsksFor title action.Version held r = r ≡ request.Show version_line
 
@@ -73,18 +104,8 @@ StepsTitled (request.Show text) = ⊤
 
 -- ---- why there is none, want of memory aside
 
--- the file of that name is not read, or is no script
-pub data IsNoScript (held : Option Content) (failed failed' : ℕ) (name : List ℕ) : Stop → Type 0 where
-  unread : Rose failed failed' → IsNoScript held failed failed' name (stop.Store (store.ReadFailed name))
-  absent : Told held (λ content. get content name ≡ None) → IsNoScript held failed failed' name (stop.Store (store.NoFile name))
-  bad : (fault : ScriptFault) → Told held (λ content. option_map script_in (get content name) ≡ Some (Err fault))
-      → IsNoScript held failed failed' name (stop.Script fault)
-
--- it is the fault of what is no script
-abbrev pub IsBad : Result (List Command) ScriptFault → Stop → Type 0
-IsBad script why = (fault : ScriptFault) × (script ≡ Err fault) × (why ≡ stop.Script fault)
-
 abbrev pub AsksForNone : Action → Option Content → ℕ → ℕ → Stop → Type 0
 AsksForNone (action.ScriptText text) held failed failed' why = IsBad (script_of (read text)) why
 AsksForNone (action.ScriptFile name) held failed failed' why = IsNoScript held failed failed' name why
+AsksForNone (action.UndoChecked count name) held failed failed' why = IsNoFile held failed failed' name why
 AsksForNone _ held failed failed' why = ⊥

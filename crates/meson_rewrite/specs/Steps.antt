@@ -1,5 +1,5 @@
 -- What a step does to a session, and what it then says.
-use Rattle.std.specs.Prelude.{◌≡◌, ◌≢◌, ◌<◌, ⊤, Bool, true, false, ℕ, List, [], ◌∷◌, ◌++◌, length, codes, decimal, if◌then◌else◌, Option, Some, None, Result}
+use Rattle.std.specs.Prelude.{◌≡◌, ◌≢◌, ◌<◌, ◌⊎◌, ⊤, Bool, true, false, ℕ, List, [], ◌∷◌, ◌++◌, length, codes, decimal, if◌then◌else◌, Option, Some, None, Result}
 use Rattle.serde_json.specs.Data.{Data, Items, array, no_items, item}
 use Rattle.serde_json.specs.Find.{as_array}
 use Rattle.serde_json.specs.View.{view}
@@ -18,13 +18,15 @@ use Rattle.meson_script.specs.declared.session.Report.{Report}
 use Rattle.meson_script.specs.declared.session.Session.{Session}
 use Rattle.meson_script.specs.Running.{Keeps, MayStop}
 use Rattle.meson_script.specs.Undoing.{MayNotStep, Steps, StepsBack, StopsBack}
+use Rattle.meson_sums.specs.Sums.{sums}
 use Rattle.meson_rewrite.specs.Lines.{done_line, forgot_line, title_line}
 use Rattle.meson_rewrite.specs.Stops.{undo_stop}
+use Rattle.meson_rewrite.specs.declared.request.NamedFile.{NamedFile}
 use Rattle.meson_rewrite.specs.declared.request.Step.{Step}
-use Rattle.meson_rewrite.specs.declared.request.Step.TheVariants.{Run, Tell, Undo, UndoTo, Redo, ForgetOldest, ForgetAll}
+use Rattle.meson_rewrite.specs.declared.request.Step.TheVariants.{Run, Tell, Undo, UndoTo, UndoChecked, Redo, ForgetOldest, ForgetAll}
 use Rattle.meson_rewrite.specs.declared.said.Said.{Said}
 use Rattle.meson_rewrite.specs.declared.stop.Stop.{Stop}
-use Rattle.meson_rewrite.specs.declared.stop.Stop.TheVariants.{Refused, Splice}
+use Rattle.meson_rewrite.specs.declared.stop.Stop.TheVariants.{Refused, Splice, OtherFiles}
 
 -- ---- what is done
 
@@ -33,11 +35,16 @@ pub record Stays (old : Session) (report : Report) (new : Session) : Type 0 wher
   pub project : new.project ≡ old.project
   pub info : view report.info ≡ array no_items
 
+-- the files of the session have the digests that are kept in that file, to the byte
+abbrev pub HasSums : Session → NamedFile → Type 0
+HasSums session kept = kept.bytes ≡ sums session.project.files
+
 abbrev pub Does : Step → Session → Report → Session → Type 0
 Does (Run script title) old report new = Keeps old script.commands title report new
 Does (Tell script) old report new = Keeps old script.commands [] report new
 Does Undo old report new = Steps old old.history.past (undone old.history old.project.files) report new
 Does (UndoTo count) old report new = StepsBack count old report new
+Does (UndoChecked count kept) old report new = HasSums old kept × StepsBack count old report new
 Does (ForgetOldest count) old report new = Forgets count old.history new.history × Stays old report new
 Does ForgetAll old report new = (new.history ≡ record { past = []; future = [] }) × Stays old report new
 Does Redo old report new = Steps old old.history.future (redone old.history old.project.files) report new
@@ -55,11 +62,16 @@ StopsStep old step why = (fault : UndoFault) × MayNotStep step fault × (why �
 abbrev pub StopsStepsBack : ℕ → Session → Stop → Type 0
 StopsStepsBack count old why = (fault : UndoFault) × (between : Session) × StopsBack count old fault between × (why ≡ undo_stop old.project.files fault)
 
+-- the files have other digests; or they have these, and one of so many changes is not taken back
+abbrev pub StopsChecked : ℕ → NamedFile → Session → Stop → Type 0
+StopsChecked count kept old why = ((HasSums old kept → ⊥) × (why ≡ OtherFiles kept.name)) ⊎ (HasSums old kept × StopsStepsBack count old why)
+
 abbrev pub MayRefuse : Step → Session → Stop → Type 0
 MayRefuse (Run script title) old why = StopsRun old script.commands why
 MayRefuse (Tell script) old why = StopsRun old script.commands why
 MayRefuse Undo old why = StopsStep old (undone old.history old.project.files) why
 MayRefuse (UndoTo count) old why = StopsStepsBack count old why
+MayRefuse (UndoChecked count kept) old why = StopsChecked count kept old why
 MayRefuse (ForgetOldest count) old why = (length old.history.past < count) × (why ≡ Splice NothingToUndo)
 MayRefuse ForgetAll old why = ⊥
 MayRefuse Redo old why = StopsStep old (redone old.history old.project.files) why
@@ -100,6 +112,7 @@ says (Run script title) report = record { out = done_line report.files report.sp
 says (Tell script) report = record { out = []; err = listing_line (view report.info) }
 says Undo report = record { out = step_lines report; err = listing_line (view report.info) }
 says (UndoTo count) report = record { out = step_lines report; err = listing_line (view report.info) }
+says (UndoChecked count kept) report = record { out = step_lines report; err = listing_line (view report.info) }
 says (ForgetOldest count) report = record { out = forgot_line (decimal count); err = listing_line (view report.info) }
 says ForgetAll report = record { out = forgot_line (codes "all"); err = listing_line (view report.info) }
 says Redo report = record { out = step_lines report; err = listing_line (view report.info) }

@@ -13,7 +13,7 @@ use Rattle.meson_store.specs.declared.store_fault.StoreFault.TheVariants as stor
 use Rattle.meson_gathering.specs.declared.fault.GatherFault.{GatherFault}
 use Rattle.meson_gathering.specs.declared.fault.GatherFault.TheVariants as gather
 use Rattle.meson_rewrite.specs.declared.stop.Stop.{Stop}
-use Rattle.meson_rewrite.specs.declared.stop.Stop.TheVariants.{Usage, Script, Parse, TooManyFiles, BadFileName, Refused, Splice, Store}
+use Rattle.meson_rewrite.specs.declared.stop.Stop.TheVariants.{Usage, Script, Parse, TooManyFiles, BadFileName, Refused, Splice, OtherFiles, Store}
 
 -- of the files of a store
 abbrev pub gathering_stop : GatherFault → Stop
@@ -39,3 +39,4 @@ WantsMemory (Store fault) = fault ≡ store.OutOfMemory
 WantsMemory (Parse name fault) = ⊥
 WantsMemory TooManyFiles = ⊥
 WantsMemory (BadFileName place) = ⊥
+WantsMemory (OtherFiles name) = ⊥

@@ -11,7 +11,7 @@ ghost use Rattle.meson_rewrite.specs.Steps.{Does, IsTitled, MayRefuse};
 ghost use Rattle.meson_rewrite.specs.Stops.{WantsMemory, undo_stop};
 
 use crate::opening::{LOG, Opened};
-use crate::request::Step;
+use crate::request::{NamedFile, Step};
 use crate::said::Said;
 use crate::stop::Stop;
 use meson_diff::diff;
@@ -19,6 +19,7 @@ use meson_plan::{LoadFault, Project};
 use meson_script::{Report, Session, UndoFault, log_text};
 use meson_splice::{FileSet, SpliceFault, Text};
 use meson_store::StoreFault;
+use meson_sums::are_kept;
 use meson_syntax::ParseFault;
 use serde_json::Value;
 use std::alloc::{AllocError, Global};
@@ -65,6 +66,26 @@ fn back_to(alloc: Global, session: &mut Session, count: usize) -> Result<Report,
     }
 }
 
+/// Takes the newest changes of a session back, so many, where its files have the digests that were kept of them.
+fn checked_back(
+    alloc: Global,
+    session: &mut Session,
+    count: usize,
+    kept: &NamedFile,
+) -> Result<Report, Stop>
+    ensures does { IfOk result (λ report. Does (Step.UndoChecked count kept.now) session.old report session.new) }
+    ensures refused { IfErr result (λ why. WantsMemory why ⊎ MayRefuse (Step.UndoChecked count kept.now) session.old why) }
+    ensures text { OnOk result (has_text session.old.history ≡ true → has_text session.new.history ≡ true) }
+    ensures project { OnOk result (IsProject session.new.project) }
+{
+    let same = are_kept(alloc, session.files(), kept.bytes.get())?;
+    if !same {
+        let name = kept.name.clone()?;
+        return Err(Stop::OtherFiles(name));
+    }
+    back_to(alloc, session, count)
+}
+
 /// What is reported where no file changes and nothing is listed.
 fn nothing_done(alloc: Global) -> Report
     ensures { view result.info ≡ array no_items }
@@ -107,7 +128,7 @@ fn all_forgotten(alloc: Global, session: &mut Session) -> Report
 fn act(alloc: Global, session: &mut Session, step: &Step) -> Result<Report, Stop>
     requires { IsTitled step.now }
     ensures does { IfOk result (λ report. Does step.now session.old report session.new) }
-    ensures refused { IfErr result (MayRefuse step.now session.old) }
+    ensures refused { IfErr result (λ why. WantsMemory why ⊎ MayRefuse step.now session.old why) }
     ensures text { OnOk result (has_text session.old.history ≡ true → has_text session.new.history ≡ true) }
     ensures project { OnOk result (IsProject session.new.project) }
 {
@@ -125,6 +146,7 @@ fn act(alloc: Global, session: &mut Session, step: &Step) -> Result<Report, Stop
             Err(fault) => Err(undo_stop(alloc, session.files(), fault)),
         },
         Step::UndoTo(count) => back_to(alloc, session, *count),
+        Step::UndoChecked { count, kept } => checked_back(alloc, session, *count, kept),
         Step::Redo => match session.redo(alloc) {
             Ok(report) => Ok(report),
             Err(fault) => Err(undo_stop(alloc, session.files(), fault)),

@@ -3,6 +3,7 @@
 
 mod changes;
 mod editing;
+pub mod laws;
 mod lines;
 mod listed;
 mod opening;

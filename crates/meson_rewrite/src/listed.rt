@@ -12,6 +12,7 @@ use crate::stop::Stop;
 use meson_listing::{project_lines, project_object};
 use meson_plan::Project;
 use meson_splice::Bytes;
+use meson_sums::sums;
 use std::alloc::{AllocError, Global};
 
 /// What a project holds, as JSON or as lines.
@@ -35,6 +36,7 @@ pub(crate) fn listed(alloc: Global, opened: Opened, listing: Listing) -> Result<
     let text = match listing {
         Listing::History => history_text(alloc, &session.history)?,
         Listing::Holdings { json } => holdings_text(alloc, session.project(), json)?,
+        Listing::Sums => sums(alloc, session.files())?,
     };
     Ok(Said {
         out: Bytes::of(text),

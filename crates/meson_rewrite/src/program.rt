@@ -188,13 +188,13 @@ fn ended<O: Output, E: Output>(
 /// what the words ask for, replaces the files that changed and then the undo log, and tells what it did on `out`, and
 /// listings and faults on `err`. Answers the exit status.
 ///
-/// Where it is done, the store is read once for the script file, if one is named, once for the root file, once for each
-/// name that a `subdir` call enters and that no file has which was read before, and once for the log; help and the version
-/// read nothing.
+/// Where it is done, the store is read once for the file that the words name, if they name one (a script, or digests), once
+/// for the root file, once for each name that a `subdir` call enters and that no file has which was read before, and once for
+/// the log; help and the version read nothing.
 /// Where it ends early, the store is read as far as that, and no more.
 ///
-/// The status is 0 where it was done, 1 where a file, a script or the log is none, a command is refused or memory ran
-/// out, 2 where the words ask for nothing, and 3 where the store or a writer failed. Help, the version, the listings,
+/// The status is 0 where it was done, 1 where a file, a script or the log is none, a command is refused, files are not as
+/// digests have them or memory ran out, 2 where the words ask for nothing, and 3 where the store or a writer failed. Help, the version, the listings,
 /// a dry run, and what an info command of the command line tells, leave the store as it is, whatever the status.
 pub fn rewrite<S: Store, O: Output, E: Output>(
     alloc: Global,

@@ -4,9 +4,9 @@ ghost use Rattle.std.specs.Prelude.{◌≡◌, ◌≤◌, ◌⊎◌, ◌∷◌, 
 ghost use Rattle.serde_json.specs.Read.{read};
 ghost use Rattle.meson_json.specs.Scripts.{script_of};
 ghost use Rattle.meson_json.specs.Titles.{is_title};
-ghost use Rattle.meson_rewrite.specs.Requests.{AsksFor, AsksForNone, IsBad, IsNoScript, IsScriptOf, StepsTitled, only_shows, script, script_in};
+ghost use Rattle.meson_rewrite.specs.Requests.{AsksFor, AsksForNone, IsBad, IsFileOf, IsNoFile, IsNoScript, IsScriptOf, StepsTitled, only_shows, script, script_in};
 ghost use Rattle.meson_rewrite.specs.Lines.{version_line};
-ghost use Rattle.meson_rewrite.specs.Reads.{script_read};
+ghost use Rattle.meson_rewrite.specs.Reads.{file_read};
 ghost use Rattle.meson_rewrite.specs.Stops.{WantsMemory};
 ghost use Rattle.meson_store.specs.Calls.{one_more};
 ghost use Rattle.meson_gathering.specs.Reading.{OnceAtMost};
@@ -16,7 +16,7 @@ use crate::stop::Stop;
 use meson_command::Action;
 use meson_gathering::read_file;
 use meson_json::{Script, ScriptFault};
-use meson_splice::Text;
+use meson_splice::{Bytes, Text};
 use meson_steps::command::Command;
 use meson_store::{Store, StoreFault};
 use std::alloc::Global;
@@ -40,6 +40,15 @@ pub(crate) enum Listing {
     History,
     /// What it holds, as JSON or as lines.
     Holdings { json: bool },
+    /// The digests of its files.
+    Sums,
+}
+
+/// A file that the words name, as it was read.
+#[derive(Drop)]
+pub(crate) struct NamedFile {
+    pub name: Text,
+    pub bytes: Bytes,
 }
 
 /// A step on a session.
@@ -53,6 +62,8 @@ pub(crate) enum Step {
     Undo,
     /// Take back the newest changes, so many.
     UndoTo(usize),
+    /// The same, where the files of the project have the digests that this file holds.
+    UndoChecked { count: usize, kept: NamedFile },
     /// Do the change again that was taken back last.
     Redo,
     /// Let the oldest changes that can be taken back go, so many.
@@ -83,6 +94,26 @@ fn script_in(alloc: Global, bytes: &[u8]) -> Result<Script, Stop>
     }
 }
 
+/// The file of this name.
+fn read_named<S: Store>(alloc: Global, store: &mut S, name: Text) -> Result<NamedFile, Stop>
+    ensures read { IfOk result (IsFileOf (S.content store.old) name) }
+    ensures none { IfErr result (λ why. WantsMemory why ⊎ IsNoFile (S.content store.old) (S.failures store.old) (S.failures store.new) name why) }
+    ensures kept { S.content store.new ≡ S.content store.old }
+    ensures counts { S.failures store.old ≤ S.failures store.new }
+    ensures no_replace { S.replaces store.new ≡ S.replaces store.old }
+    ensures once { OnOk result (S.reads store.new ≡ one_more (S.reads store.old)) }
+    ensures at_most_once { OnceAtMost (S.reads store.old) (S.reads store.new) }
+{
+    match read_file(alloc, store, None, name.get()) {
+        Ok(Some(bytes)) => Ok(NamedFile {
+            name,
+            bytes: Bytes::of(bytes),
+        }),
+        Ok(None) => Err(Stop::Store(StoreFault::NoFile(name))),
+        Err(fault) => Err(Stop::Store(fault)),
+    }
+}
+
 /// The script in the file of this name.
 fn read_script<S: Store>(alloc: Global, store: &mut S, name: Text) -> Result<Script, Stop>
     ensures read { IfOk result (λ s. IsScriptOf (S.content store.old) name s.commands) }
@@ -93,11 +124,8 @@ fn read_script<S: Store>(alloc: Global, store: &mut S, name: Text) -> Result<Scr
     ensures once { OnOk result (S.reads store.new ≡ one_more (S.reads store.old)) }
     ensures at_most_once { OnceAtMost (S.reads store.old) (S.reads store.new) }
 {
-    match read_file(alloc, store, None, name.get()) {
-        Ok(Some(bytes)) => script_in(alloc, bytes.as_slice()),
-        Ok(None) => Err(Stop::Store(StoreFault::NoFile(name))),
-        Err(fault) => Err(Stop::Store(fault)),
-    }
+    let file = read_named(alloc, store, name)?;
+    script_in(alloc, file.bytes.get())
 }
 
 /// The script of one command.
@@ -142,8 +170,8 @@ pub(crate) fn request_of<S: Store>(
     ensures kept { S.content store.new ≡ S.content store.old }
     ensures counts { S.failures store.old ≤ S.failures store.new }
     ensures no_replace { S.replaces store.new ≡ S.replaces store.old }
-    ensures reads { OnOk result (S.reads store.new ≡ script_read action (S.reads store.old)) }
-    ensures reads_at_most { (S.reads store.new ≡ S.reads store.old) ⊎ (S.reads store.new ≡ script_read action (S.reads store.old)) }
+    ensures reads { OnOk result (S.reads store.new ≡ file_read action (S.reads store.old)) }
+    ensures reads_at_most { (S.reads store.new ≡ S.reads store.old) ⊎ (S.reads store.new ≡ file_read action (S.reads store.old)) }
     ensures untouched { IsTrue (only_shows action) → store.new ≡ store.old }
 {
     match action {
@@ -161,10 +189,15 @@ pub(crate) fn request_of<S: Store>(
         }
         Action::Undo => Ok(Request::Step(Step::Undo)),
         Action::UndoTo(count) => Ok(Request::Step(Step::UndoTo(count))),
+        Action::UndoChecked { count, sums } => {
+            let kept = read_named(alloc, store, sums)?;
+            Ok(Request::Step(Step::UndoChecked { count, kept }))
+        }
         Action::ForgetOldest(count) => Ok(Request::Step(Step::ForgetOldest(count))),
         Action::ForgetAll => Ok(Request::Step(Step::ForgetAll)),
         Action::Redo => Ok(Request::Step(Step::Redo)),
         Action::History => Ok(Request::List(Listing::History)),
         Action::List { json } => Ok(Request::List(Listing::Holdings { json })),
+        Action::Sums => Ok(Request::List(Listing::Sums)),
     }
 }

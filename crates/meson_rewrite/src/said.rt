@@ -75,7 +75,9 @@ impl Said {
         let out = match step {
             Step::Run { .. } => done_text(alloc, report.files, report.splices)?,
             Step::Tell(_) => Vec::new(alloc),
-            Step::Undo | Step::UndoTo(_) | Step::Redo => step_text(alloc, report)?,
+            Step::Undo | Step::UndoTo(_) | Step::UndoChecked { .. } | Step::Redo => {
+                step_text(alloc, report)?
+            }
             Step::ForgetOldest(count) => forgotten_text(alloc, *count)?,
             Step::ForgetAll => all_forgotten_text(alloc)?,
         };

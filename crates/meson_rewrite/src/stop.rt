@@ -28,6 +28,8 @@ pub(crate) enum Stop {
     Refused(RunFault),
     /// The change is not taken back, or not done again.
     Splice(SpliceFault),
+    /// The files of the project have other digests than the file of this name holds.
+    OtherFiles(Text),
     /// The store failed, or memory ran out.
     Store(StoreFault),
 }
@@ -50,6 +52,7 @@ impl fmt::Display for Stop {
             Stop::BadFileName(index) => write!(f, "{}", LoadFault::BadFileName(*index)),
             Stop::Refused(fault) => write!(f, "{fault}"),
             Stop::Splice(fault) => write!(f, "{fault}"),
+            Stop::OtherFiles(name) => write!(f, "P6 files are not as {name} has them"),
             Stop::Store(fault) => write!(f, "{fault}"),
         }
     }

@@ -1,24 +1,22 @@
-use Rattle.std.proofs.Common.{◌∙◌, Some, inr, sym, ap, subst}
-use Rattle.std.specs.FinMap.{get}
-use Rattle.std.proofs.lemmas.Result.{IfErr-weaker}
-use Rattle.meson_gathering.specs.Gathered.{IsUnread}
-use Rattle.meson_rewrite.specs.Requests.{absent}
-use Rattle.meson_rewrite.proofs.Scripts.{bad-file, unread-file}
+use Rattle.std.proofs.Common.{◌∙◌, ap, subst, sym}
+use Rattle.std.proofs.lemmas.Result.{IfErr-weaker, IfOk-weaker, err_from_is_err_and}
+use Rattle.meson_rewrite.specs.Requests.{HasBytes, script_in}
+use Rattle.meson_rewrite.proofs.Scripts.{bad-file, no-script}
 use Rattle.meson_rewrite.proofs.request.read_script.Goals as goal
 
-pub returns-in-Ok-Some-clause-none : goal.returns-in-Ok-Some-clause-none
-returns-in-Ok-Some-clause-none g c =
-    let read = rw c.in-Ok-Some.field-0-is at c.in-Ok-Some.ensures.read in
-    IfErr-weaker c.script_in.result _ _ (λ stop none. bad-file _ _ _ c.args.name c.as_slice.result.now stop
-    (λ content is. ap (get content) (sym c.get.ensures) ∙ sym (read content is) ∙ ap Some (sym c.as_slice.ensures.value)) none) c.script_in.ensures.none
+pub returns-clause-read : goal.returns-clause-read
+returns-clause-read g c =
+    let file = c.in_ok-file.file in
+    IfOk-weaker c.script_in.result _ _ (λ script is. (file.bytes, c.in_ok-file.ensures.read.1, ap script_in (sym c.get.ensures) ∙ is)) c.script_in.ensures.ok
 
-pub returns-in-Ok-None-clause-none : goal.returns-in-Ok-None-clause-none
-returns-in-Ok-None-clause-none g c =
-    let read = rw c.in-Ok-None.field-0-is at c.in-Ok-None.ensures.read in
-    inr (absent (λ content is. ap (get content) (sym c.get.ensures) ∙ sym (read content is)))
+pub returns-clause-none : goal.returns-clause-none
+returns-clause-none g c =
+    let held = g.S.Store.content c.args.store.now in
+    let has = subst (HasBytes held c.args.name) (sym c.get.ensures) c.in_ok-file.ensures.read.1 in
+    IfErr-weaker c.script_in.result _ _ (λ stop none. bad-file held _ _ c.args.name c.get.result.now stop has none) c.script_in.ensures.none
 
-pub returns-in-Err-clause-none : goal.returns-in-Err-clause-none
-returns-in-Err-clause-none g c =
-    let first = g.S.Store.failures c.args.store.now in
-    let last = g.S.Store.failures c.read_file.new.store in
-    unread-file (g.S.Store.content c.args.store.now) first last c.args.name c.in-Err.fault (subst (λ n. IsUnread first last n c.in-Err.fault) c.get.ensures c.in-Err.ensures.failed)
+pub returns-in_err-file-clause-none : goal.returns-in_err-file-clause-none
+returns-in_err-file-clause-none g c =
+    let S = g.S.Store in
+    let error = err_from_is_err_and c.from_residual.result c.from_residual.ensures.1 in
+    rw (error.1, error.2) (no-script (S.content c.args.store.now) (S.failures c.args.store.now) (S.failures c.read_named.new.store) c.args.name c.in_err-file.field-0.0 c.in_err-file.ensures.none)
