@@ -34,10 +34,10 @@ returns-in-Err-redo-clause-refused c =
 pub returns-in-UndoTo-clause-refused : goal.returns-in-UndoTo-clause-refused
 returns-in-UndoTo-clause-refused c =
     let old = c.args.session.now in
-    subst (λ s. IfErr c.back_to.result (λ why. WantsMemory why ⊎ MayRefuse s old why)) (sym c.in-UndoTo.is) (may-refuse (UndoTo c.in-UndoTo.count.now) old c.back_to.result c.back_to.ensures.refused)
+    subst (λ s. IfErr c.back_to.result (λ why. WantsMemory why ⊎ MayRefuse s old why)) (sym c.in-UndoTo.is) (may-refuse (UndoTo c.in-UndoTo.count) old c.back_to.result c.back_to.ensures.refused)
 
 pub returns-in-ForgetOldest-clause-refused : goal.returns-in-ForgetOldest-clause-refused
 returns-in-ForgetOldest-clause-refused c =
     let old = c.args.session.now in
     subst (λ s. IfErr c.oldest_forgotten.result (λ why. WantsMemory why ⊎ MayRefuse s old why)) (sym c.in-ForgetOldest.is)
-    (may-refuse (ForgetOldest c.in-ForgetOldest.count.now) old c.oldest_forgotten.result c.oldest_forgotten.ensures.refused)
+    (may-refuse (ForgetOldest c.in-ForgetOldest.count) old c.oldest_forgotten.result c.oldest_forgotten.ensures.refused)

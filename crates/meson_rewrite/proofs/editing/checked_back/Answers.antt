@@ -5,17 +5,17 @@ use Rattle.meson_rewrite.specs.Steps.{HasSums}
 use Rattle.meson_rewrite.specs.declared.stop.Stop.TheVariants.{OtherFiles}
 use Rattle.meson_rewrite.proofs.editing.checked_back.Goals as goal
 
-pub returns-then-same-clause-refused : goal.returns-then-same-clause-refused
-returns-then-same-clause-refused c =
-    let others = other-sums c.args.kept.now c.args.session.now c.files.result.now c.get.result.now c.files.ensures c.get.ensures (sym c.in_ok-same.ensures ∙ c.if-same.true) in
+pub returns-then-not-same-clause-refused : goal.returns-then-not-same-clause-refused
+returns-then-not-same-clause-refused c =
+    let others = other-sums c.args.kept.now c.args.session.now c.files.result.now c.get.result.now c.files.ensures c.get.ensures (sym c.in_ok-same.ensures ∙ c.if-not-same.true) in
     inr (inl (others, ap OtherFiles c.in_ok-name.ensures.cases))
 
 pub returns-clause-does : goal.returns-clause-does
 returns-clause-does c =
-    let has : HasSums c.args.session.now c.args.kept.now = has-sums c.args.kept.now c.args.session.now c.files.result.now c.get.result.now c.files.ensures c.get.ensures (sym c.in_ok-same.ensures ∙ c.if-same.false) in
+    let has : HasSums c.args.session.now c.args.kept.now = has-sums c.args.kept.now c.args.session.now c.files.result.now c.get.result.now c.files.ensures c.get.ensures (sym c.in_ok-same.ensures ∙ c.if-not-same.false) in
     IfOk-weaker c.back_to.result _ _ (λ report does. (has, does)) c.back_to.ensures.does
 
 pub returns-clause-refused : goal.returns-clause-refused
 returns-clause-refused c =
-    let has : HasSums c.args.session.now c.args.kept.now = has-sums c.args.kept.now c.args.session.now c.files.result.now c.get.result.now c.files.ensures c.get.ensures (sym c.in_ok-same.ensures ∙ c.if-same.false) in
+    let has : HasSums c.args.session.now c.args.kept.now = has-sums c.args.kept.now c.args.session.now c.files.result.now c.get.result.now c.files.ensures c.get.ensures (sym c.in_ok-same.ensures ∙ c.if-not-same.false) in
     IfErr-weaker c.back_to.result _ _ (λ why stops. inr (inr (has, stops))) c.back_to.ensures.refused
