@@ -179,8 +179,8 @@ fn shown(alloc: Global, action: Action) -> Asked
 }
 
 /// What the words of a command line ask for, of which the first is the program's name. They are those of the Rewriter page of
-/// the Meson manual; `undo`, `redo`, `history`, `list`, `--title`, `--dry-run`, `--subdir` and `--type` are this program's own. Values, ids and names go through as
-/// given.
+/// the Meson manual; `undo`, `redo`, `history`, `list`, `--title`, `--dry-run`, `--subdir` and `--type` are this program's own.
+/// Values, ids and names go through as given.
 ///
 /// # Errors
 /// In this order: a word is missing, unknown or one too many, a number is none, two listings are asked for, or the folder is empty;

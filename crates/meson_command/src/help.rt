@@ -22,7 +22,8 @@ pub(crate) const DIR: &str = "Folder of the root file [default: the working fold
 
 pub(crate) const DRY_RUN: &str = "Show as a unified diff what would change, and write nothing";
 
-pub(crate) const TITLE: &str = "What the run is for, in at most 200 bytes; undo and redo tell it";
+pub(crate) const TITLE: &str =
+    "What the run is for, in at most 200 bytes; undo, redo and history tell it";
 
 pub(crate) const TARGET: &str = "Edit, list, add or remove a target";
 

@@ -1,4 +1,4 @@
--- A target that is removed is gone with its statement: its name names none, and the other targets stay.
+-- A target that is removed is gone with its statement: no target has its name, and the other targets stay.
 use Rattle.std.proofs.Common.{◌≡◌, ℕ, zero, suc, true, false, List, [], ◌∷◌, ◌++◌, map, Option, Some, None, refl, sym, ap, ◌∙◌, subst, inl, inr}
 use Rattle.std.specs.Prelude.{Bool, ◌⊎◌, if◌then◌else◌, option_and_then, option_map, Ok}
 use Rattle.std.specs.List.{cons_option}
