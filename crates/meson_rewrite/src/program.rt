@@ -194,8 +194,9 @@ fn ended<O: Output, E: Output>(
 /// Where it ends early, the store is read as far as that, and no more.
 ///
 /// The status is 0 where it was done, 1 where a file, a script or the log is none, a command is refused, files are not as
-/// digests have them or memory ran out, 2 where the words ask for nothing, and 3 where the store or a writer failed. Help, the version, the listings,
-/// a dry run, and what an info command of the command line tells, leave the store as it is, whatever the status.
+/// digests have them or memory ran out, 2 where the words ask for nothing, and 3 where the store or a writer failed. Help, the
+/// version, the listings, a dry run, and what an info command of the command line tells, leave the store as it is, whatever the
+/// status.
 pub fn rewrite<S: Store, O: Output, E: Output>(
     alloc: Global,
     store: &mut S,
