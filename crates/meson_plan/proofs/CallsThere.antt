@@ -1,5 +1,5 @@
 -- The call at a place, by what the trees have there.
-use Rattle.std.proofs.Common.{◌≡◌, ◌<◌, ◌≤◌, List, length, get_or, refl, sym, ap, ◌∙◌}
+use Rattle.std.proofs.Common.{◌≡◌, ◌<◌, ◌≤◌, List, length, get_or, sym, ap, ◌∙◌}
 use Rattle.std.specs.Prelude.{Bool, true, false, IsTrue, Option, Some, None, is_some, option_map, option_and_then}
 use Rattle.meson_lex.specs.declared.kinds.Span.{Span}
 use Rattle.meson_splice.specs.declared.file_set.File.{File}
@@ -9,11 +9,9 @@ use Rattle.meson_syntax.specs.Paths as paths
 use Rattle.meson_syntax.specs.Tree.{Expression}
 use Rattle.meson_syntax.specs.View.{view}
 use Rattle.meson_calls.specs.declared.call.CallRef.{CallRef}
-use Rattle.meson_calls.specs.declared.call.Role.TheVariants as role
 use Rattle.meson_calls.specs.Calls.{Call, call_of}
 use Rattle.meson_calls.specs.Loading.{named_trees, views}
 use Rattle.meson_calls.specs.Project.{Project, Placed, placed, expression_at}
-use Rattle.meson_calls.specs.Roles.{has_role, is_target, is_target_call}
 use Rattle.meson_plan.specs.Details.{is_call}
 use Rattle.meson_calls.proofs.Standing.{nth_past, nth_there}
 
@@ -44,15 +42,3 @@ module _ (files : List File) (trees : List Parsed) (c : CallRef) where
 
     pub other_expression : (e : Expression Span) → Some e ≡ paths.expression_at (view (bytes_at c.file files) (get_or trees c.file d)) c.path.steps → call_of e ≡ None → is_call p c ≡ false
     other_expression e is other = no_call c (expression_at p c) (ap (option_and_then call_of) (stands ∙ sym is) ∙ other)
-
--- a target's call is a call
-pub target_is_call : (p : Project Span) (c : CallRef) → IsTrue (is_target p c) → IsTrue (is_call p c)
-target_is_call p c target = go (expression_at p c) target
-  where
-    here : (k : Option (Call Span)) → IsTrue (elim k [ None ↦ false | Some d ↦ has_role role.Target d ]) → IsTrue (is_some (option_map (placed c) k))
-    here None h = h
-    here (Some d) h = refl
-
-    go : (o : Option (Expression Span)) → IsTrue (is_target_call o) → IsTrue (is_some (called_by c o))
-    go None h = h
-    go (Some e) h = here (call_of e) h

@@ -1,8 +1,8 @@
 -- What is told of elements, one after another.
-use Rattle.std.proofs.Common.{◌≡◌, ℕ, ◌+◌, ◌<◌, ◌≤◌, List, [], ◌∷◌, ◌++◌, length, drop, get_or, refl, sym, ap, ◌∙◌, append_assoc, append-nil}
+use Rattle.std.proofs.Common.{◌≡◌, ℕ, ◌+◌, ◌<◌, List, [], ◌∷◌, ◌++◌, length, drop, get_or, refl, sym, ap, ◌∙◌, append_assoc}
 use Rattle.std.specs.Prelude.{Option, Some, None, option_map, option_and_then}
 use Rattle.std.specs.List.{filter_map, cons_option}
-use Rattle.std.proofs.lemmas.List.{at_drop_more, at_drop_all}
+use Rattle.std.proofs.lemmas.List.{at_drop_more}
 use Rattle.meson_lex.specs.declared.kinds.Span.{Span}
 use Rattle.meson_syntax.specs.declared.tree.Arg.{Arg}
 use Rattle.meson_syntax.specs.Tree.{Argument}
@@ -52,10 +52,3 @@ module _ {Y : Type 0} (f : Argument Span → Option Y) (source : List ℕ) (args
 
   pub kept_none : (done : List Y) → value ≡ None → done ++ filter_map f (args_view source more) ≡ done ++ filter_map f (args_view source (drop i args))
   kept_none done is = ap (λ ys. done ++ ys) (sym (kept_here ∙ ap (λ o. cons_option o (filter_map f (args_view source more))) is))
-
-module _ {Y : Type 0} (f : Argument Span → Option Y) (source : List ℕ) (args : List Arg) (i : ℕ) (past : length args ≤ i) (done : List Y) where
-  pub each_all : after done (of_each f (args_view source (drop i args))) ≡ Some done
-  each_all = at_drop_all (λ xs. after done (of_each f (args_view source xs))) args i past ∙ ap Some (append-nil done)
-
-  pub kept_all : done ++ filter_map f (args_view source (drop i args)) ≡ done
-  kept_all = at_drop_all (λ xs. done ++ filter_map f (args_view source xs)) args i past ∙ append-nil done

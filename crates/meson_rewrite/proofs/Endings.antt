@@ -272,23 +272,6 @@ shown-ends a b c text u asks = of-action a.action refl asks
         let same : version_line ≡ text = cc in
         subst (λ out. Ends (Ok (without_text a)) b c (Ok (record { out = out; err = [] }))) same (told_version a u refl at)
 
-pub asks-no-step : (title : List ℕ) (a : Action) (held : Option Content) (step : Step) → AsksFor title a held (request.Step step) → IsTrue (only_shows a) → ⊥
-asks-no-step title (action.Run s) held step is t = let no : ⊥ = cc in no
-asks-no-step title (action.Info c) held step is t = let no : ⊥ = cc in no
-asks-no-step title (action.ScriptText text) held step is t = let no : ⊥ = cc in no
-asks-no-step title (action.ScriptFile n) held step is t = let no : ⊥ = cc in no
-asks-no-step title action.Undo held step is t = let no : ⊥ = cc in no
-asks-no-step title (action.UndoTo count) held step is t = let no : ⊥ = cc in no
-asks-no-step title (action.UndoChecked count name) held step is t = let no : ⊥ = cc in no
-asks-no-step title (action.ForgetOldest count) held step is t = let no : ⊥ = cc in no
-asks-no-step title action.ForgetAll held step is t = let no : ⊥ = cc in no
-asks-no-step title action.Redo held step is t = let no : ⊥ = cc in no
-asks-no-step title action.History held step is t = let no : ⊥ = cc in no
-asks-no-step title (action.List json) held step is t = let no : ⊥ = cc in no
-asks-no-step title action.Sums held step is t = let no : ⊥ = cc in no
-asks-no-step title (action.Help text) held step is t = let no : ⊥ = cc in no
-asks-no-step title action.Version held step is t = let no : ⊥ = cc in no
-
 pub not-asked : (a : Asked) (b c : Seen) → Untouched b c → (stop : Stop) → WantsMemory stop ⊎ AsksForNone a.action b.content b.failures c.failures stop → Ends (Ok (without_text a)) b c (Err stop)
 not-asked a b c u stop (inl m) = memory_ran_out stop u m
 not-asked a b c u stop (inr none) = asks_for_none a stop u refl none

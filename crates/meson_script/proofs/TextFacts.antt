@@ -32,9 +32,6 @@ one-less-text cs c h =
     let parts = both (are_text cs) (are_text (c ∷ [])) (sym (list_all-append change_has_text cs (c ∷ [])) ∙ h) in
     (parts.0, (both (change_has_text c) true parts.1).0)
 
-pub nothing-text : has_text (record { past = []; future = [] }) ≡ true
-nothing-text = refl
-
 -- a change that is kept
 pub kept-text : (h : History) (splices : List Splice) (title : List ℕ) → has_text h ≡ true → is_title title ≡ true → AreTexts splices
     → has_text (record { past = h.past ++ record { splices = splices; title = title } ∷ []; future = [] }) ≡ true

@@ -1,4 +1,4 @@
-use Rattle.std.proofs.Common.{map, subst, arith, option_to_list}
+use Rattle.std.proofs.Common.{map, subst, arith}
 use Rattle.std.proofs.lemmas.List.{take_all}
 use Rattle.serde_json.specs.View.{view}
 use Rattle.meson_script.specs.Running.{Runs}
