@@ -1,6 +1,6 @@
--- A call that is listed as not entered is one by which any variable may be set, and there is no other `subdir` call of this kind.
+-- The calls that are listed as not entered are the `subdir` calls by which any variable may be set.
 use Rattle.std.proofs.Common.{◌≡◌, ◌≢◌, ℕ, zero, suc, List, [], ◌∷◌, length, Option, Some, None, refl, sym, ap, ap₂, ◌∙◌, arith}
-use Rattle.std.specs.Prelude.{Bool, true, false, not, cond, ◌&&◌, ◌||◌, if◌then◌else◌, bytes_eq, codes, option_map, option_and_then}
+use Rattle.std.specs.Prelude.{Bool, true, false, not, cond, ◌&&◌, ◌||◌, if◌then◌else◌, bytes_eq, codes, filter, option_map, option_and_then}
 use Rattle.std.specs.List.{cons_option, list_any}
 use Rattle.meson_lex.specs.declared.kinds.Span.{Span}
 use Rattle.meson_splice.specs.declared.file_set.File.{File}
@@ -40,7 +40,7 @@ same_meant (f ∷ files) [] n c whole = absurd (omega (arith, whole))
 same_meant (f ∷ files) (t ∷ parsed) zero c whole = refl
 same_meant (f ∷ files) (t ∷ parsed) (suc n) c whole = let more : length parsed ≡ length files = omega (arith, whole) in same_meant files parsed n c more
 
--- ---- some call is left exactly where one enters none
+-- ---- lists and tests
 
 abbrev some : {X : Type 0} → List X → Bool
 some [] = false
@@ -60,12 +60,17 @@ either_passes f g (x ∷ xs) passes = first (f x) (g x) (either_passes f g xs) p
     first false true later h = refl
     first false false later h = later h
 
+-- ---- the calls that are left are those by which any variable may be set
+
 module _ (l : Loaded) (whole : length l.parsed ≡ length l.files) where
   abbrev p : Project Span
   p = project l
 
+  abbrev subdir_calls : List (Placed (Call Span)) → List HeldCall
+  subdir_calls cs = held_calls l (places (all_chosen (with_function (codes "subdir")) cs))
+
   abbrev left : List (Placed (Call Span)) → List HeldCall
-  left cs = not_entered l.files (held_calls l (places (all_chosen (with_function (codes "subdir")) cs)))
+  left cs = not_entered l.files (subdir_calls cs)
 
   abbrev there : Placed (Call Span) → Bool
   there c = is_there p (option_and_then (λ f. meant_file f.name c.it) (nth_file p c.place.file))
@@ -76,28 +81,43 @@ module _ (l : Loaded) (whole : length l.parsed ≡ length l.files) where
       ∙ ap (is_entered l.files) (same_meant l.files l.parsed c.place.file c.it whole)
       ∙ same_there l.files l.parsed _ whole
 
-  some_left : (cs : List (Placed (Call Span))) → Every (Standing p) cs → some (left cs) ≡ list_any (enters_unknown p) cs
-  some_left [] every = refl
-  some_left (c ∷ cs) every = by_function (calls_function (codes "subdir") c.it) (held_as l c every.0.value every.0.is_at every.0.is_call) (some_left cs every.1)
-    where
-      kept : (entered : Bool) (call : HeldCall) → some (left cs) ≡ list_any (enters_unknown p) cs
-          → some (cond (not entered) (call ∷ left cs) (left cs)) ≡ (not entered || list_any (enters_unknown p) cs)
-      kept true call rest = rest
-      kept false call rest = refl
+  abbrev unknown_calls : List (Placed (Call Span)) → List HeldCall
+  unknown_calls cs = held_calls l (places (filter (enters_unknown p) cs))
 
-      by_function : (is_subdir : Bool) → HeldAs l c → some (left cs) ≡ list_any (enters_unknown p) cs
-          → some (not_entered l.files (held_calls l (places (cons_option (option_map (placed c.place) (if is_subdir then Some c.it else None)) (all_chosen (with_function (codes "subdir")) cs)))))
-          ≡ ((is_subdir && not (there c)) || list_any (enters_unknown p) cs)
+  same_calls : (cs : List (Placed (Call Span))) → Every (Standing p) cs → left cs ≡ unknown_calls cs
+  same_calls [] every = refl
+  same_calls (c ∷ cs) every = by_function (calls_function (codes "subdir") c.it) (held_as l c every.0.value every.0.is_at every.0.is_call) (same_calls cs every.1)
+    where
+      kept : (entered : Bool) (h : HeldAs l c) → left cs ≡ unknown_calls cs
+          → cond (not entered) (h.held ∷ left cs) (left cs) ≡ held_calls l (places (cond (not entered) (c ∷ filter (enters_unknown p) cs) (filter (enters_unknown p) cs)))
+      kept true h rest = rest
+      kept false h rest = ap (λ hs. h.held ∷ hs) rest ∙ sym (ap (λ o. cons_option o (unknown_calls cs)) h.is_held)
+
+      by_function : (is_subdir : Bool) → HeldAs l c → left cs ≡ unknown_calls cs
+          → not_entered l.files (held_calls l (places (cons_option (option_map (placed c.place) (if is_subdir then Some c.it else None)) (all_chosen (with_function (codes "subdir")) cs))))
+          ≡ held_calls l (places (cond (is_subdir && not (there c)) (c ∷ filter (enters_unknown p) cs) (filter (enters_unknown p) cs)))
       by_function false h rest = rest
       by_function true h rest =
-          ap (λ o. some (not_entered l.files (cons_option o (held_calls l (places (all_chosen (with_function (codes "subdir")) cs)))))) h.is_held
-          ∙ ap (λ b. some (cond (not b) (h.held ∷ left cs) (left cs))) (enters_there c h)
-          ∙ kept (there c) h.held rest
+          ap (λ o. not_entered l.files (cons_option o (subdir_calls cs))) h.is_held
+          ∙ ap (λ b. cond (not b) (h.held ∷ left cs) (left cs)) (enters_there c h)
+          ∙ kept (there c) h rest
+
+  -- each of them is held
+  some_unknown : (cs : List (Placed (Call Span))) → Every (Standing p) cs → some (unknown_calls cs) ≡ list_any (enters_unknown p) cs
+  some_unknown [] every = refl
+  some_unknown (c ∷ cs) every = by_test (enters_unknown p c) (held_as l c every.0.value every.0.is_at every.0.is_call) (some_unknown cs every.1)
+    where
+      by_test : (b : Bool) → HeldAs l c → some (unknown_calls cs) ≡ list_any (enters_unknown p) cs
+          → some (held_calls l (places (cond b (c ∷ filter (enters_unknown p) cs) (filter (enters_unknown p) cs)))) ≡ (b || list_any (enters_unknown p) cs)
+      by_test false h rest = rest
+      by_test true h rest = ap (λ o. some (cons_option o (unknown_calls cs))) h.is_held
 
   why_unknown : TellsWhyUnknown l
   why_unknown =
-      let some_enter = some_left (calls p) (every_call_stands p) in
+      let same = same_calls (calls p) (every_call_stands p) in
+      let some_enter = ap some same ∙ some_unknown (calls p) (every_call_stands p) in
       record {
+        same = same;
         unknown = λ not_empty. ap not (either_passes (λ c. sets_unknown c.it) (enters_unknown p) (calls p) (sym some_enter ∙ some_there _ not_empty));
         entered = λ empty. sym some_enter ∙ ap some empty;
       }

@@ -1,5 +1,5 @@
 -- What the listings promise, in the words of the commands and of the names of keyword arguments.
-use Rattle.std.specs.Prelude.{◌≡◌, ◌≢◌, ◌⊎◌, ℕ, false, List, [], ◌∷◌, Result, Ok, Err, Some, All}
+use Rattle.std.specs.Prelude.{◌≡◌, ◌≢◌, ◌⊎◌, ℕ, false, List, [], ◌∷◌, filter, Result, Ok, Err, Some, All}
 use Rattle.std.specs.List.{AllPairs, Contains, list_any}
 use Rattle.std.specs.List.Sorted.{IsStrictlySortedBy}
 use Rattle.std.specs.Ordering.{nat_cmp}
@@ -23,7 +23,7 @@ use Rattle.meson_plan.specs.declared.details.Shown.{Shown}
 use Rattle.meson_plan.specs.Performing.{MayRefuse, Performs}
 use Rattle.meson_plan.specs.Planning.{planned}
 use Rattle.meson_listing.specs.Entries.{put_each, shown_data}
-use Rattle.meson_listing.specs.Holdings.{held_call, holdings}
+use Rattle.meson_listing.specs.Holdings.{held_call, held_calls, holdings}
 use Rattle.meson_listing.specs.Listing.{target_listing, kwargs_listing}
 use Rattle.meson_listing.specs.declared.holdings.HeldCall.{HeldCall}
 
@@ -83,8 +83,10 @@ FoundAreListed = (l : Loaded) (id : List ℕ) → All (IsListed l id) (places (f
 
 -- ---- What is not entered makes the value of every variable unknown.
 
--- where a call is listed as not entered, no variable is known; where none is, no `subdir` call is why
+-- The calls that are listed as not entered are the `subdir` calls by which any variable may be set. Where there is one, no variable is known; where
+-- there is none, no `subdir` call is why.
 pub record TellsWhyUnknown (l : Loaded) : Type 0 where
+  pub same : (holdings l).not_entered ≡ held_calls l (places (filter (enters_unknown (project l)) (calls (project l))))
   pub unknown : (holdings l).not_entered ≢ [] → all_known (project l) ≡ false
   pub entered : (holdings l).not_entered ≡ [] → list_any (enters_unknown (project l)) (calls (project l)) ≡ false
 

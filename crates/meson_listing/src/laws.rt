@@ -38,8 +38,8 @@ pub fn found_are_listed()
     parts_are_all();
 }
 
-/// Where a `subdir` call is listed as not entered, no variable of the project is known; where none is, no `subdir` call is the
-/// reason why one is unknown.
+/// The calls that are listed as not entered are the `subdir` calls by which any variable may be set. Where there is one, no
+/// variable of the project is known; where there is none, no `subdir` call is the reason why one is unknown.
 pub fn not_entered_means_unknown()
     ensures { NotEnteredMeansUnknown }
 {}
