@@ -63,21 +63,32 @@ mapped f (y ∷ ys) x (inr m) = inr (mapped f ys x m)
 
 -- ---- a target that stands at a place is listed
 
-record Standing (p : Project Span) (c : Placed (Call Span)) : Type 0 where
-  value : Expression Span
-  is_at : expression_at p c.place ≡ Some value
-  is_call : call_of value ≡ Some c.it
+pub record Standing (p : Project Span) (c : Placed (Call Span)) : Type 0 where
+  pub value : Expression Span
+  pub is_at : expression_at p c.place ≡ Some value
+  pub is_call : call_of value ≡ Some c.it
 
-record HeldAs (l : Loaded) (c : Placed (Call Span)) : Type 0 where
-  held : HeldCall
-  is_held : held_call l c.place ≡ Some held
-  name : held.head.name ≡ first_literal c.it
-  variable : held.variable ≡ variable_of (project l) c.place
+part_stands : (p : Project Span) (q : Placed (Part Span)) (c : Call Span) → InProject 0 p q → part_call q.it ≡ Some c → Standing p (placed q.place c)
+part_stands p q c i h = of_part q.it refl h
+  where
+    of_part : (x : Part Span) → q.it ≡ x → part_call x ≡ Some c → Standing p (placed q.place c)
+    of_part (part.an_expression e) same k = record { value = e; is_at = expression_stands p q e i same; is_call = k }
+    of_part (part.a_statement s) same k = absurd (let no : ⊥ = cc in no)
 
-held_as : (l : Loaded) (c : Placed (Call Span)) (e : Expression Span) → expression_at (project l) c.place ≡ Some e → call_of e ≡ Some c.it → HeldAs l c
+pub every_call_stands : (p : Project Span) → Every (Standing p) (calls p)
+every_call_stands p = every_chosen (InProject 0 p) (Standing p) part_call (part_stands p) (parts p) (every_part 0 p)
+
+pub record HeldAs (l : Loaded) (c : Placed (Call Span)) : Type 0 where
+  pub held : HeldCall
+  pub is_held : held_call l c.place ≡ Some held
+  pub file : held.file ≡ c.place.file
+  pub name : held.head.name ≡ first_literal c.it
+  pub variable : held.variable ≡ variable_of (project l) c.place
+
+pub held_as : (l : Loaded) (c : Placed (Call Span)) (e : Expression Span) → expression_at (project l) c.place ≡ Some e → call_of e ≡ Some c.it → HeldAs l c
 held_as l c (call s f list) at is_call =
     let same : call_with f.text list ≡ c.it = cc in
-    record { held = _; is_held = ap (λ o. option_map (λ h. record { file = c.place.file; head = h; variable = variable_of (project l) c.place }) (option_and_then head_of o)) at; name = ap first_literal same; variable = refl }
+    record { held = _; is_held = ap (λ o. option_map (λ h. record { file = c.place.file; head = h; variable = variable_of (project l) c.place }) (option_and_then head_of o)) at; file = refl; name = ap first_literal same; variable = refl }
 held_as l c _ at is_call = absurd (let no : ⊥ = cc in no)
 
 module _ (all : PartsAreAll) (l : Loaded) where
@@ -135,13 +146,6 @@ module _ (p : Project Span) (id : List ℕ) where
 
   -- ---- by name
 
-  part_stands : (q : Placed (Part Span)) (c : Call Span) → InProject 0 p q → part_call q.it ≡ Some c → Standing p (placed q.place c)
-  part_stands q c i h = of_part q.it refl h
-    where
-      of_part : (x : Part Span) → q.it ≡ x → part_call x ≡ Some c → Standing p (placed q.place c)
-      of_part (part.an_expression e) same k = record { value = e; is_at = expression_stands p q e i same; is_call = k }
-      of_part (part.a_statement s) same k = absurd (let no : ⊥ = cc in no)
-
   role_stands : (q : Placed (Call Span)) (c : Call Span) → Standing p q → with_role role.Target q.it ≡ Some c → Target (placed q.place c)
   role_stands q c s h =
       let b = some_if (has_role role.Target q.it) q.it c h in
@@ -162,7 +166,7 @@ module _ (p : Project Span) (id : List ℕ) where
       }
 
   every_target : Every Target (role_calls p role.Target)
-  every_target = every_chosen (Standing p) Target (with_role role.Target) role_stands (calls p) (every_chosen (InProject 0 p) (Standing p) part_call part_stands (parts p) (every_part 0 p))
+  every_target = every_chosen (Standing p) Target (with_role role.Target) role_stands (calls p) (every_call_stands p)
 
   every_named : Every Finds (all_chosen (with_name id) (role_calls p role.Target))
   every_named = every_chosen Target Finds (with_name id) name_finds (role_calls p role.Target) every_target

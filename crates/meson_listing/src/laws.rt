@@ -1,6 +1,6 @@
 //! Laws of the listings. The functions do nothing; each one's contract is a law.
 
-ghost use Rattle.meson_listing.specs.Laws.{CallsAgree, CallsListed, FoundAreListed, NamesRise, TargetsAgree, TargetsListed};
+ghost use Rattle.meson_listing.specs.Laws.{CallsAgree, CallsListed, FoundAreListed, NamesRise, NotEnteredMeansUnknown, TargetsAgree, TargetsListed};
 ghost use Rattle.meson_listing.specs.Rows.{DependencyRow, ProjectRow, RefusedRows, TargetRow};
 
 use meson_calls::laws::parts_are_all;
@@ -37,6 +37,12 @@ pub fn found_are_listed()
 {
     parts_are_all();
 }
+
+/// The calls that are listed as not entered are the `subdir` calls by which any variable may be set. Where there is one, no
+/// variable of the project is known; where there is none, no `subdir` call is the reason why one is unknown.
+pub fn not_entered_means_unknown()
+    ensures { NotEnteredMeansUnknown }
+{}
 
 /// What is listed of some build files.
 pub fn rows()
