@@ -44,3 +44,4 @@ pub mod OneCall
 pub mod CallLists
 pub mod FirstValue
 mod PartsContained
+mod PartsOrdered

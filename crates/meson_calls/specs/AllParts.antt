@@ -1,12 +1,37 @@
--- The parts of a project are all that stands in it.
-use Rattle.std.specs.Prelude.{◌≡◌, ◌↔◌, Some}
+-- The parts of a project are all that stands in it, in order.
+use Rattle.std.specs.Prelude.{◌≡◌, ◌↔◌, ℕ, List, ◌∷◌, map, Some}
+use Rattle.std.specs.Cmp.Lexicographic.{slice_cmp}
 use Rattle.std.specs.List.{Contains}
+use Rattle.std.specs.List.Sorted.{IsStrictlySortedBy}
+use Rattle.std.specs.Ordering.{nat_cmp}
 use Rattle.meson_lex.specs.declared.kinds.Span.{Span}
 use Rattle.meson_syntax.specs.Tree.{Expression}
 use Rattle.meson_calls.specs.declared.call.CallRef.{CallRef}
+use Rattle.meson_calls.specs.declared.call.Role.{Role}
 use Rattle.meson_calls.specs.Parts.{an_expression, parts}
 use Rattle.meson_calls.specs.Project.{Project, expression_at, placed}
+use Rattle.meson_calls.specs.Roles.{found, places, targets}
 
 -- the law: an expression is among the parts, with a place, exactly where the place's path leads to it
 abbrev pub PartsAreAll : Type 0
 PartsAreAll = (p : Project Span) (c : CallRef) (e : Expression Span) → Contains (parts p) (placed c (an_expression e)) ↔ (expression_at p c ≡ Some e)
+
+-- ---- in order
+
+-- a place in numbers: that of the file, and those of the path behind it
+abbrev pub address : CallRef → List ℕ
+address c = c.file ∷ c.path.steps
+
+-- Each place comes before those behind it: first by the file, then by the path, of which one that goes on comes later. So none is there twice.
+abbrev pub AreInOrder : List CallRef → Type 0
+AreInOrder cs = IsStrictlySortedBy (slice_cmp nat_cmp) (map address cs)
+
+-- the parts stand in order, what is within a part behind it; and so do the targets, and what an id finds
+pub record IsInOrder (p : Project Span) : Type 0 where
+  pub parts_rise : AreInOrder (places (parts p))
+  pub targets_rise : AreInOrder (targets p)
+  pub found_rise : (r : Role) (id : List ℕ) → AreInOrder (places (found p r id))
+
+-- the law
+abbrev pub PartsInOrder : Type 0
+PartsInOrder = (p : Project Span) → IsInOrder p
