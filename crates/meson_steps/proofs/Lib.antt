@@ -32,4 +32,5 @@ pub mod StepsDoable
 pub mod WentWell
 pub mod Spellings
 pub mod OneMaking
+mod OneStanding
 pub mod Keeping

@@ -37,7 +37,7 @@ one_within limits bytes f g p q =
     let stands : SpellsFile g len limits.depth (located items) = subst (λ xs. SpellsFile g len limits.depth (located xs)) same q.stands in
     some-injective _ _ (sym (whole-complete limits.depth len (located items) f p.stands) ∙ whole-complete limits.depth len (located items) g stands)
 
-one_spanned : (a b : Limits) (bytes : List ℕ) (f g : tree.File Span) → IsSpannedWithin a bytes f → IsSpannedWithin b bytes g → f ≡ g
+pub one_spanned : (a b : Limits) (bytes : List ℕ) (f g : tree.File Span) → IsSpannedWithin a bytes f → IsSpannedWithin b bytes g → f ≡ g
 one_spanned a b bytes f g p q =
     let m = both a b in
     one_within m bytes f g

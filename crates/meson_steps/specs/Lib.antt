@@ -6,6 +6,7 @@ pub mod Journal
 pub mod Plans
 pub mod Done
 pub mod Working
+pub mod OneStanding
 pub mod Held
 pub mod Laying
 pub mod Layers

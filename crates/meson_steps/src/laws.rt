@@ -1,6 +1,7 @@
 //! Laws of steps. The functions do nothing: what they ensure is the law.
 
 ghost use Rattle.meson_steps.specs.Keeping.{MakingKeeps};
+ghost use Rattle.meson_steps.specs.OneStanding.{OneMaking, OneStanding};
 ghost use Rattle.meson_steps.specs.Steps.{ListsAreReadAgain};
 
 /// Each of the steps that make splices changes one file, and keeps in it all that its edit does not touch.
@@ -11,4 +12,10 @@ pub fn keeping()
 /// A step on a list has the bytes of the list's new text read again, and no others.
 pub fn reading()
     ensures lists_are_read_again { ListsAreReadAgain }
+{}
+
+/// Steps make one thing of a project, after each of them: one list of splices, and of each file one text and one tree.
+pub fn one_making()
+    ensures one_making { OneMaking }
+    ensures one_standing { OneStanding }
 {}
