@@ -57,6 +57,9 @@ notes_come ns (q ∷ ps) =
     notes_come (ns ++ noted (q ∷ [])) ps
     ∙ ap notes_kept (append_assoc ns (noted (q ∷ [])) (noted ps) ∙ ap (λ l. ns ++ l) (sym (filter_map-append (chosen note_of) (q ∷ []) ps)))
 
+pub notes_stay : (ns : List (Placed (Note Span))) (ps : List (Placed (Part Span))) → noted ps ≡ [] → notes_kept ns ≡ with_parts (notes_kept ns) ps
+notes_stay ns ps none = sym (notes_come ns ps ∙ ap (λ l. notes_kept (ns ++ l)) none ∙ ap notes_kept (append-nil ns))
+
 reads_come : (x : List ℕ) (cs : List CallRef) (ps : List (Placed (Part Span))) → with_parts (reads_kept x cs) ps ≡ reads_kept x (cs ++ read_in x ps)
 reads_come x cs [] = ap (reads_kept x) (sym (append-nil cs))
 reads_come x cs (q ∷ ps) =

@@ -1,7 +1,10 @@
 //! What a walk does with each part that it visits.
 
-ghost use Rattle.std.specs.Prelude.{◌≡◌, ◌∷◌, [], ◌++◌, OnOk, option_map};
+ghost use Rattle.std.specs.Prelude.{◌≡◌, ◌∷◌, [], ◌++◌, IsTrue, OnOk, option_map};
+ghost use Rattle.meson_syntax.specs.View.{expr_view};
+ghost use Rattle.meson_calls.specs.declared.call.CallRef.{CallRef};
 ghost use Rattle.meson_calls.specs.Notes.{note_of, noted, taken_view, what_view};
+ghost use Rattle.meson_calls.specs.Parts.{expression_parts};
 ghost use Rattle.meson_calls.specs.Picking.{Source};
 ghost use Rattle.meson_calls.specs.Variables.{is_set};
 ghost use Rattle.meson_calls.specs.Walks.{Keeps, keeper_view, notes_of_kept, part_at, part_reads, part_view, read_in, reads_of_kept};
@@ -63,7 +66,30 @@ fn note_in(stmt: &Stmt) -> Option<What<'_>>
     }
 }
 
+/// Whether the expression is one of which there is no note, and in which none stands.
+fn is_plain(expr: &Expr) -> bool
+    ensures { IsTrue result → (source : Source) (p : CallRef) → noted (expression_parts p (expr_view source expr.now)) ≡ [] }
+{
+    match expr {
+        Expr::Identifier(_) => true,
+        Expr::Boolean { .. } => true,
+        Expr::Integer(_) => true,
+        Expr::String { .. } => true,
+        _ => false,
+    }
+}
+
 impl<'t> Keeper<'t> {
+    /// Whether nothing is kept of the expression, whatever place it has, and nothing in it. So a walk may pass it by.
+    pub fn passes(&self, expr: &Expr) -> bool
+        ensures { IsTrue result → (source : Source) (p : CallRef) → Keeps self.now (expression_parts p (expr_view source expr.now)) self.now }
+    {
+        match self {
+            Keeper::Notes(_) => is_plain(expr),
+            Keeper::Reads { name: _, found: _ } => false,
+        }
+    }
+
     /// The notes, if notes are kept.
     pub fn notes(self) -> Option<Taken<'t>>
         ensures { option_map taken_view result ≡ notes_of_kept (keeper_view self.entry) }

@@ -30,6 +30,9 @@ impl<'t> Walk<'t> {
         ensures all { OnOk result (Keeps keeper.old
             (expression_parts (child (place self.now.file path.old.items) number) (expr_view self.now.source.now expr.now)) keeper.new) }
     {
+        if keeper.passes(expr) {
+            return Ok(());
+        }
         path.push(number)?;
         self.visit(path.as_slice(), Part::Expression(expr), keeper)?;
         self.in_expr(expr, path, keeper)?;
