@@ -11,7 +11,7 @@ use Rattle.meson_syntax.specs.Tree.{Expression, identifier, boolean, integer, st
 use Rattle.meson_calls.specs.declared.call.CallRef.{CallRef}
 use Rattle.meson_calls.specs.declared.call.Role.{Role}
 use Rattle.meson_calls.specs.declared.call.Role.TheVariants as role
-use Rattle.meson_calls.specs.AllParts.{AreInOrder, PartsInOrder, address}
+use Rattle.meson_calls.specs.AllParts.{PlacesRise, PartsInOrder, address}
 use Rattle.meson_calls.specs.Calls.{all_chosen, call_of, calls, part_call}
 use Rattle.meson_calls.specs.Parts.{Part, an_expression, a_statement, expression_parts, operands_parts, tail_parts, tails_parts, listing_parts, argument_parts, arguments_parts, statement_parts, branches_parts, otherwise_parts, statements_parts, block_parts, file_parts, parts_from, parts, argument_children, arguments_children, listing_children, tail_children, branches_children}
 use Rattle.meson_calls.specs.Project.{Placed, Project, child, place, placed}
@@ -72,7 +72,7 @@ all_above : {X : Type 0} (a : List ℕ) (ys : List (Placed X)) → Each (λ y. c
 all_above a [] all = tt
 all_above a (y ∷ ys) all = (all.0, all_above a ys all.1)
 
-in_order : {X : Type 0} (xs : List (Placed X)) → Rise xs → AreInOrder (places xs)
+in_order : {X : Type 0} (xs : List (Placed X)) → Rise xs → PlacesRise (places xs)
 unfolding IsStrictlySortedBy
 in_order [] rise = tt
 in_order (x ∷ xs) rise = (all_above (address x.place) xs rise.0, in_order xs rise.1)

@@ -23,14 +23,14 @@ abbrev pub address : CallRef → List ℕ
 address c = c.file ∷ c.path.steps
 
 -- Each place comes before those behind it: first by the file, then by the path, of which one that goes on comes later. So none is there twice.
-abbrev pub AreInOrder : List CallRef → Type 0
-AreInOrder cs = IsStrictlySortedBy (slice_cmp nat_cmp) (map address cs)
+abbrev pub PlacesRise : List CallRef → Type 0
+PlacesRise cs = IsStrictlySortedBy (slice_cmp nat_cmp) (map address cs)
 
 -- the parts stand in order, what is within a part behind it; and so do the targets, and what an id finds
 pub record IsInOrder (p : Project Span) : Type 0 where
-  pub parts_rise : AreInOrder (places (parts p))
-  pub targets_rise : AreInOrder (targets p)
-  pub found_rise : (r : Role) (id : List ℕ) → AreInOrder (places (found p r id))
+  pub parts_rise : PlacesRise (places (parts p))
+  pub targets_rise : PlacesRise (targets p)
+  pub found_rise : (r : Role) (id : List ℕ) → PlacesRise (places (found p r id))
 
 -- the law
 abbrev pub PartsInOrder : Type 0
