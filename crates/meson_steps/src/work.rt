@@ -21,11 +21,8 @@ use crate::step::{ListEdit, ListStep};
 use meson_calls::{CallRef, Refusal};
 use meson_edit::nests_within;
 use meson_splice::{Change, FileSet, Many, Splice, apply_all};
-use meson_syntax::{MAX_LEN, Parsed, parse_wide};
+use meson_syntax::{MAX_DEPTH, MAX_LEN, Parsed, parse_wide};
 use std::alloc::{AllocError, Global};
-
-/// So deep may the tree of a file nest.
-const MAX_DEPTH: usize = 64;
 
 /// Files and trees that steps change, the splices so far, the trees and lists that were exchanged, and how many bytes were read again.
 #[derive(Drop)]
