@@ -113,9 +113,6 @@ module _ (source : List ℕ) where
   abbrev pub tails_deep : List rust_tail.Tail → ℕ
   tails_deep ts = tails_depth (tails_of (tails_view source ts))
 
-  abbrev pub list_deep : rust.List → ℕ
-  list_deep l = listing_depth (list_view source l)
-
   abbrev pub arg_deep : Arg → ℕ
   arg_deep a = argument_depth (arg_view source a)
 

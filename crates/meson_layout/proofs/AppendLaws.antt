@@ -35,13 +35,6 @@ line-run x f h = by-kind x.kind x.text f (line-kind x.kind h)
     by-kind κ text true e = (ap (λ c. emit line_start (record { kind = c; text = text })) e, ap (λ c. step line_start (record { kind = c; text = text })) e)
     by-kind κ text false e = (ap (λ c. emit behind_token (record { kind = c; text = text })) e, ap (λ c. step behind_token (record { kind = c; text = text })) e)
 
-flat : Bool → State
-flat f = record { depth = 0; fresh = f }
-
-flat-state : (s : State) → s.depth ≡ 0 → s ≡ flat s.fresh
-unfolding flat
-flat-state s e = λ i. record { depth = e i; fresh = s.fresh }
-
 -- ---- where the file ends
 
 -- the file ends its last line

@@ -1,12 +1,12 @@
 -- The items that a lexer gives, with their texts, are those of the item list.
-use Rattle.std.proofs.Common.{◌≡◌, ℕ, ◌+◌, ◌-◌, ◌≤◌, List, [], ◌∷◌, ◌++◌, length, take, drop, Result, Ok, Err, refl, sym, ap, ◌∙◌, subst, append_assoc, arith}
+use Rattle.std.proofs.Common.{◌≡◌, ℕ, ◌+◌, ◌-◌, List, [], ◌∷◌, ◌++◌, length, take, drop, Result, Ok, Err, refl, sym, ap, ◌∙◌, append_assoc, arith}
 use Rattle.std.proofs.Math.Seq.{drop-append_seam, take-append_seam}
 use Rattle.std.proofs.lemmas.List.{length-append}
 use Rattle.std.specs.Prelude.{slice_range}
 use Rattle.meson_lex.specs.declared.kinds.Item.{Item}
 use Rattle.meson_lex.specs.declared.fault.LexFault.{LexFault}
 use Rattle.meson_lex.specs.Items.{Lexeme, joined, IsItemList}
-use Rattle.meson_lex.specs.Lexed.{placed, IsLexed, Tiles}
+use Rattle.meson_lex.specs.Lexed.{placed, IsLexed}
 use Rattle.meson_lex.proofs.ScanLexed.{one_lexed}
 
 abbrev pub read_one : List ℕ → Item → Lexeme
@@ -38,28 +38,3 @@ pub read-all : (source : List ℕ) (results : List (Result Item LexFault)) (xs :
 read-all source results xs lexed list =
     ap (read source) (one_lexed 0 source results (placed 0 xs) lexed (IsLexed.whole xs list refl))
     ∙ read-placed xs source [] 0 (sym list.joins) refl
-
--- ---- a turn of the loop
-
-abbrev pub Within : ℕ → List (Result Item LexFault) → Type 0
-Within end results = (at : ℕ) × Tiles at end results
-
-pub within-item : (end : ℕ) (x : Item) (results more : List (Result Item LexFault)) → results ≡ Ok x ∷ more → Within end results → Within end more
-within-item end x results more are w = let t : Within end (Ok x ∷ more) = subst (Within end) are w in (x.span.to, t.1.3)
-
-pub within-fault : (end : ℕ) (f : LexFault) (results more : List (Result Item LexFault)) → results ≡ Err f ∷ more → Within end results → Within end more
-within-fault end f results more are w = let t : Within end (Err f ∷ more) = subst (Within end) are w in (end, subst (Tiles end end) (sym t.1) refl)
-
-pub item-inside : (end : ℕ) (x : Item) (results more : List (Result Item LexFault)) → results ≡ Ok x ∷ more → Within end results → (x.span.from ≤ x.span.to) × (x.span.to ≤ end)
-item-inside end x results more are w =
-    let t : Within end (Ok x ∷ more) = subst (Within end) are w in
-    let from = t.1.0 in
-    let some = t.1.1 in
-    (omega arith, t.1.2)
-
-pub read-item : (source : List ℕ) (x : Item) (results more : List (Result Item LexFault)) (all : List Lexeme) (last : Lexeme) → results ≡ Ok x ∷ more → last ≡ read_one source x → (all ++ last ∷ []) ++ read source more ≡ all ++ read source results
-read-item source x results more all last are is =
-    append_assoc all (last ∷ []) (read source more) ∙ ap (λ y. all ++ y ∷ read source more) is ∙ ap (λ rs. all ++ read source rs) (sym are)
-
-pub read-fault : (source : List ℕ) (f : LexFault) (results more : List (Result Item LexFault)) → results ≡ Err f ∷ more → read source more ≡ read source results
-read-fault source f results more are = ap (read source) (sym are)

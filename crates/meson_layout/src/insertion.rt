@@ -92,7 +92,8 @@ impl<'i, 'a> Place<'i, 'a> {
     /// A comma directly after the element.
     fn comma(self) -> Result<Splice, SpliceFault>
         requires { Fits self }
-        ensures done { IfOk result (λ s. s ≡ record { file = self.entry.file.now; at = length (joined self.entry.left.now) + length (joined self.entry.own.now); was = []; now = 44 ∷ [] }) }
+        ensures done { let p = self.entry in let end = length (joined p.left.now) + length (joined p.own.now) in
+            IfOk result (λ s. s ≡ record { file = p.file.now; at = end; was = []; now = 44 ∷ [] }) }
         ensures refused { IfErr result (λ e. e ≡ OutOfMemory) }
     {
         let mut comma = Vec::new(self.alloc);
@@ -117,7 +118,8 @@ impl<'i, 'a> Place<'i, 'a> {
         requires fits { Fits self }
         requires within { n ≤ length self.right.now }
         requires apart { 1 ≤ n }
-        ensures done { IfOk result (λ s. s ≡ record { file = self.entry.file.now; at = length (joined self.entry.left.now) + length (joined self.entry.own.now) + 1 + length (joined (take n self.entry.right.now)); was = []; now = joined line.now ++ new.now }) }
+        ensures done { let p = self.entry in let at = length (joined p.left.now) + length (joined p.own.now) + 1 + length (joined (take n p.right.now)) in
+            IfOk result (λ s. s ≡ record { file = p.file.now; at = at; was = []; now = joined line.now ++ new.now }) }
         ensures refused { IfErr result (λ e. e ≡ OutOfMemory) }
     {
         let at = self.end() + 1 + text_len(&self.right[..n]);

@@ -23,7 +23,8 @@ fn list_lexemes<'a>(
 ) -> Result<Vec<Lexeme<'a>>, SpliceFault>
     requires ordered { list.from ≤ list.to }
     requires within { list.to ≤ length src.now }
-    ensures done { IfOk result (λ v. (xs : List Lexeme) → IsItemList (slice_range src.now list.from list.to) xs → v.items ≡ record { kind = Identifier; text = take list.from src.now } ∷ xs) }
+    ensures done { IfOk result (λ v. (xs : List Lexeme) → IsItemList (slice_range src.now list.from list.to) xs
+        → v.items ≡ record { kind = Identifier; text = take list.from src.now } ∷ xs) }
     ensures refused { IfErr result (λ e. e ≡ OutOfMemory) }
 {
     let mut items = lexemes(alloc, &src[list.from..list.to], usize::MAX)?;

@@ -47,7 +47,8 @@ impl<'i, 'a> Place<'i, 'a> {
     ) -> Result<Vec<u8>, SpliceFault>
         requires before { growth.before ≤ length self.left.now }
         requires behind { growth.behind ≤ length self.right.now }
-        ensures done { IfOk result (λ v. v.items ≡ joined (last_few growth.before self.entry.left.now) ++ (joined self.entry.own.now ++ (joined more.now ++ (joined last.now ++ joined (take growth.behind self.entry.right.now))))) }
+        ensures done { let p = self.entry in let behind = joined more.now ++ (joined last.now ++ joined (take growth.behind p.right.now)) in
+            IfOk result (λ v. v.items ≡ joined (last_few growth.before p.left.now) ++ (joined p.own.now ++ behind)) }
         ensures refused { IfErr result (λ e. e ≡ OutOfMemory) }
     {
         let mut text = Vec::new(self.alloc);
@@ -63,7 +64,8 @@ impl<'i, 'a> Place<'i, 'a> {
     #[tactic(auto, using(crate::proofs::Texts::joined_take, crate::proofs::Texts::joined_five))]
     fn one_range(self, more: &[Lexeme<'a>], last: &[Lexeme<'a>]) -> Result<Vec<Splice>, SpliceFault>
         requires { length (joined self.left.now) < 2 ^ 64 }
-        ensures done { IfOk result (λ v. v.items ≡ splices self.entry.file.now 0 (one_range self.entry.left.now (self.entry.own.now ++ (more.now ++ last.now)) self.entry.right.now)) }
+        ensures done { let p = self.entry in
+            IfOk result (λ v. v.items ≡ splices p.file.now 0 (one_range p.left.now (p.own.now ++ (more.now ++ last.now)) p.right.now)) }
         ensures refused { IfErr result (λ e. e ≡ OutOfMemory) }
     {
         let growth = grown(self.left, self.right);
@@ -76,7 +78,8 @@ impl<'i, 'a> Place<'i, 'a> {
     pub(crate) fn gone(self, at: usize, growth: Growth) -> Result<Splice, SpliceFault>
         requires before { growth.before ≤ length self.left.now }
         requires behind { growth.behind ≤ length self.right.now }
-        ensures done { IfOk result (λ s. s ≡ gone self.entry.file.now at (joined (last_few growth.before self.entry.left.now) ++ (joined self.entry.own.now ++ joined (take growth.behind self.entry.right.now)))) }
+        ensures done { let p = self.entry in let behind = joined (take growth.behind p.right.now) in
+            IfOk result (λ s. s ≡ gone p.file.now at (joined (last_few growth.before p.left.now) ++ (joined p.own.now ++ behind))) }
         ensures refused { IfErr result (λ e. e ≡ OutOfMemory) }
     {
         let was = self.range_text(growth, &[], &[])?;
@@ -91,7 +94,8 @@ impl<'i, 'a> Place<'i, 'a> {
         other: &[Lexeme<'a>],
     ) -> Result<Vec<Splice>, SpliceFault>
         requires { length (joined self.left.now) + length (joined mid.now) < 2 ^ 64 }
-        ensures done { IfOk result (λ v. v.items ≡ splices self.entry.file.now 0 (two_ranges self.entry.left.now self.entry.own.now mid.now other.now self.entry.right.now)) }
+        ensures done { let p = self.entry in
+            IfOk result (λ v. v.items ≡ splices p.file.now 0 (two_ranges p.left.now p.own.now mid.now other.now p.right.now)) }
         ensures refused { IfErr result (λ e. e ≡ OutOfMemory) }
     {
         let behind = grown(mid, self.right);
@@ -128,7 +132,7 @@ impl<'i, 'a> Place<'i, 'a> {
     fn with_comma_behind(self, mid: &[Lexeme<'a>]) -> Result<Vec<Splice>, SpliceFault>
         requires fits { length (joined self.left.now) + length (joined mid.now) < 2 ^ 64 }
         requires comma { 1 ≤ length self.right.now }
-        ensures done { IfOk result (λ v. v.items ≡ splices self.entry.file.now 0 (comma_behind self.entry.left.now self.entry.own.now mid.now self.entry.right.now)) }
+        ensures done { let p = self.entry in IfOk result (λ v. v.items ≡ splices p.file.now 0 (comma_behind p.left.now p.own.now mid.now p.right.now)) }
         ensures refused { IfErr result (λ e. e ≡ OutOfMemory) }
     {
         let (comma, right) = self.right.split_at(comma_len(self.right));
@@ -147,7 +151,8 @@ impl<'i, 'a> Place<'i, 'a> {
         mid: &[Lexeme<'a>],
     ) -> Result<Vec<Splice>, SpliceFault>
         requires { length (joined self.left.now) + length (joined mid.now) < 2 ^ 64 }
-        ensures done { IfOk result (λ v. v.items ≡ splices self.entry.file.now 0 (comma_before self.entry.left.now comma.entry.now mid.now self.entry.own.now self.entry.right.now)) }
+        ensures done { let p = self.entry in
+            IfOk result (λ v. v.items ≡ splices p.file.now 0 (comma_before p.left.now comma.entry.now mid.now p.own.now p.right.now)) }
         ensures refused { IfErr result (λ e. e ≡ OutOfMemory) }
     {
         let place = Place { own: comma, ..self };
@@ -162,7 +167,8 @@ impl<'i, 'a> Place<'i, 'a> {
     #[tactic(auto, using(crate::proofs::Texts::joined_take, crate::proofs::Texts::joined_split))]
     fn without_comma_behind(self) -> Result<Vec<Splice>, SpliceFault>
         requires { Fits self }
-        ensures done { IfOk result (λ v. v.items ≡ splices self.entry.file.now 0 (no_comma_behind (gap_len (reverse self.entry.left.now)) self.entry.left.now self.entry.own.now self.entry.right.now)) }
+        ensures done { let p = self.entry in
+            IfOk result (λ v. v.items ≡ splices p.file.now 0 (no_comma_behind (gap_len (reverse p.left.now)) p.left.now p.own.now p.right.now)) }
         ensures refused { IfErr result (λ e. e ≡ OutOfMemory) }
     {
         let m = last_gap_len(self.left);

@@ -25,7 +25,8 @@ pub fn one_answer()
 
 /// The text of each item that an iterator gives is an item of the source, before what follows it there.
 pub fn items_stand()
-    ensures { (source : List ℕ) (results : List (Result Item LexFault)) → IsLexed 0 source results → AllByRecursion (λ result. IfOk result (StandsIn source)) results }
+    ensures { (source : List ℕ) (results : List (Result Item LexFault)) → IsLexed 0 source results
+        → AllByRecursion (λ result. IfOk result (StandsIn source)) results }
 {}
 
 /// An item list may be told by the whole text: the texts joined are the text, each is of its kind and may stand before what follows it, and the

@@ -110,7 +110,8 @@ fn step(
 ) -> Result<usize, SpliceFault>
     requires { done < length splices.now }
     ensures ahead { IfOk result (λ next. done < next) }
-    ensures done { IfOk result (λ next. patched_all files.old (drop done (ordered way splices.now)) ≡ patched_all files.new (drop next (ordered way splices.now))) }
+    ensures done { let all = ordered way splices.now in
+        IfOk result (λ next. patched_all files.old (drop done all) ≡ patched_all files.new (drop next all)) }
     ensures refused { IfErr result (λ e. e ≢ OutOfMemory → patched_all files.old (drop done (ordered way splices.now)) ≡ Err e) }
     ensures saved { put_back saved.new.items files.new ≡ put_back saved.old.items files.old }
 {

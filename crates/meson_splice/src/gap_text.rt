@@ -12,7 +12,7 @@ use meson_values::Bytes;
 use std::alloc::{AllocError, Global};
 
 /// The bytes of `front`, and behind them those of `back` from its end to its start.
-#[derive(Debug, Drop)]
+#[derive(Drop)]
 pub(crate) struct GapText {
     front: Vec<u8>,
     back: Vec<u8>,

@@ -130,17 +130,6 @@ all_patched files i text (s ∷ ss) distinct within all done = go (patched (byte
         ap (λ r. then_ok r (λ fs. patched_all fs ss)) one ∙ more ∙ ap Ok (put_twice files i next text)
     go (Err e) is rest later = absurd cc
 
--- ---- why splices are not made
-
--- where all of them can be, want of memory is the one reason
-pub only_memory : (e : SpliceFault) (r : Result (List File) SpliceFault) (new : List File) → r ≡ Ok new → (e ≢ OutOfMemory → r ≡ Err e) → e ≡ OutOfMemory
-only_memory OutOfMemory r new is refused = refl
-only_memory (NoFile name) r new is refused = absurd (let err = refused (λ same. cc) in cc)
-only_memory (OutOfRange name at) r new is refused = absurd (let err = refused (λ same. cc) in cc)
-only_memory (Stale name at) r new is refused = absurd (let err = refused (λ same. cc) in cc)
-only_memory NothingToUndo r new is refused = absurd (let err = refused (λ same. cc) in cc)
-only_memory NothingToRedo r new is refused = absurd (let err = refused (λ same. cc) in cc)
-
 -- what is left out loses no text
 kept_texts : (b : Bool) (s : Splice) (rest : List Splice) → IsUtf8 s.was × IsUtf8 s.now → AreTexts rest → AreTexts (cond (not b) (s ∷ rest) rest)
 kept_texts true s rest own others = others

@@ -9,11 +9,6 @@ use Rattle.meson_steps.specs.Journal.{MayPut, MayPutBack, PutsBack, changed_tree
 
 -- ---- trees of which one is changed
 
-pub as_many_changed : (i : ℕ) (change : Parsed → Parsed) (trees : List Parsed) → length (changed_tree i change trees) ≡ length trees
-as_many_changed i change [] = refl
-as_many_changed zero change (t ∷ trees) = refl
-as_many_changed (suc i) change (t ∷ trees) = ap suc (as_many_changed i change trees)
-
 pub changed_is : (i : ℕ) (change : Parsed → Parsed) (trees : List Parsed) (d : Parsed) → changed_tree i change trees ≡ slice_set trees i (change (get_or trees i d))
 changed_is i change [] d = refl
 changed_is zero change (t ∷ trees) d = refl

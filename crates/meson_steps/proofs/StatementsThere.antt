@@ -47,9 +47,6 @@ module _ (source : List ℕ) (others : List (Any Span)) where
   block_later [] i left whole within so_far n is = absurd (omega (arith, within))
   block_later (b ∷ bs) i left whole within so_far n is = later (b ∷ bs) i b left whole within so_far n is
 
-  pub behind_branches : (bs : List Branch) (i left : ℕ) (whole : Option (Block Span)) → length bs ≤ i → look_block (drop i bs) left ≡ whole → option_and_then block_any (nth others left) ≡ whole
-  behind_branches bs i left whole past so_far = sym (at_drop_all (λ xs. look_block xs left) bs i past) ∙ so_far
-
 -- ---- the statements of a block
 
 listed : (xs : List (Statement Span)) → statement_list (statements_of xs) ≡ xs

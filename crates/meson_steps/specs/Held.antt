@@ -1,5 +1,5 @@
 -- A list that steps changed and that is not yet in its tree.
-use Rattle.std.specs.Prelude.{◌≡◌, ℕ, ◌+◌, ◌^◌, ◌<◌, List, ◌∷◌, ◌++◌, length, slice_index_or, Option, Some, None, Ok, ⊤}
+use Rattle.std.specs.Prelude.{◌≡◌, ℕ, ◌+◌, ◌^◌, ◌<◌, List, [], ◌∷◌, ◌++◌, length, slice_index_or, Option, Some, None, Result, Ok, IfOk, ⊤}
 use Rattle.meson_splice.specs.declared.splice.Splice.{Splice}
 use Rattle.meson_splice.specs.Files.{bytes_at}
 use Rattle.meson_splice.specs.Patch.{patched_all}
@@ -14,9 +14,14 @@ use Rattle.meson_steps.specs.declared.journal.Saved.TheVariants as saved
 use Rattle.meson_steps.specs.declared.spans.ListSpot.{ListSpot}
 use Rattle.meson_steps.specs.declared.work.Work.{Work}
 use Rattle.meson_steps.specs.Journal.{IsSavedToo, MayTakeMoved, changed_tree, settled_tree}
-use Rattle.meson_steps.specs.ListSteps.{wide_depth}
+use Rattle.meson_steps.specs.declared.step.ListStep.{ListStep}
+use Rattle.meson_calls.specs.declared.call.CallRef.{CallRef}
+use Rattle.meson_calls.specs.declared.refusal.Refusal.{Refusal}
+use Rattle.meson_calls.specs.Loading.{Loaded}
+use Rattle.meson_steps.specs.ListSteps.{bare, wide_depth}
 use Rattle.meson_steps.specs.Results.{saturated}
-use Rattle.meson_steps.specs.Working.{MayReadList, Standing, standing}
+use Rattle.meson_steps.specs.Steps.{Step}
+use Rattle.meson_steps.specs.Working.{HasReached, IsChanged, MayReadList, Standing, list_again, standing}
 
 -- what is made once a list that is held back is in its tree; of the tree's file something is saved then
 abbrev pub settled : Option HeldList → Work → Standing
@@ -39,6 +44,15 @@ pub record IsHeld (w : Work) (h : HeldList) : Type 0 where
 abbrev pub MayHold : Work → Option HeldList → Type 0
 MayHold w None = ⊤
 MayHold w (Some h) = IsHeld w h
+
+-- A list of the tree `t` is held back that the splices of its file made.
+abbrev pub IsHeldThen : Standing → Work → CallRef → List Splice → Parsed → HeldList → Type 0
+IsHeldThen old new place splices t h = IsChanged old (settled (Some h) new) place.file splices (list_again old.files new.files place t)
+
+-- Whatever step that is meant is the code's: where it comes next, it is done.
+abbrev pub DoesStep : ListStep → Standing → Result (Option HeldList) Refusal → Work → Type 0
+DoesStep step now result new = (old : Loaded) (before rest : List Step) (s : Step) → bare s ≡ Some step → HasReached old before (s ∷ rest) now
+    → IfOk result (λ h. HasReached old (before ++ s ∷ []) rest (settled h new))
 
 -- The list is in its tree, and nothing else changed.
 pub record IsSettled (old : Work) (h : HeldList) (new : Work) : Type 0 where

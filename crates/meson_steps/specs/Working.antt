@@ -15,7 +15,7 @@ use Rattle.meson_syntax.specs.Grammar.{file_depth}
 use Rattle.meson_syntax.specs.Tree as tree
 use Rattle.meson_syntax.specs.Reads.{IsSpannedWithin, ReadsWithin, of_files, wide, max_depth, max_len}
 use Rattle.meson_syntax.specs.ReadsList.{ReadsListWithin}
-use Rattle.meson_syntax.specs.Paths.{ListAt, list_at, list_span, nth, value_of}
+use Rattle.meson_syntax.specs.Paths.{ListAt, ListIn, list_at, list_span, nth, value_of}
 use Rattle.meson_syntax.specs.Places.{argument_span, expression_span}
 use Rattle.meson_syntax.specs.View.{view}
 use Rattle.meson_edit.specs.Edits.{elements}
@@ -90,6 +90,9 @@ pub record MayReadList (before : List File) (file : ℕ) (splices : List Splice)
 abbrev pub spot_at : ListAt Span → ListSpot
 spot_at p = record { bracket = p.bracket; span = list_span p.list }
 
+abbrev pub spot_in : ListIn Span → ListSpot
+spot_in l = record { bracket = l.bracket; span = list_span l.list }
+
 -- So it is with a list of the file's tree so far, which is `t`, and the file then reads as the tree with the new list.
 pub record MayChangeList (before : List File) (place : CallRef) (splices : List Splice) (t : Parsed) : Type 0 where
   pub spanned : IsSpannedWithin wide (bytes_at place.file before) (view (bytes_at place.file before) t)
@@ -129,6 +132,10 @@ pub record IsChanged (old new : Standing) (file : ℕ) (splices : List Splice) (
   pub are_saved : IsSavedToo file old.saved new.saved
   pub is_read : IsSpannedWithin wide (bytes_at file new.files) (view (bytes_at file new.files) tree)
   pub is_relexed : new.relexed ≡ saturated (old.relexed + bytes)
+
+-- the tree of the file of a place, or another one where there is no such file
+abbrev pub tree_of : List Parsed → CallRef → Parsed → Parsed
+tree_of trees place d = slice_index_or trees place.file d
 
 -- how many bytes are read again for a list of the tree `t`
 abbrev pub list_again : (before after : List File) → CallRef → Parsed → ℕ

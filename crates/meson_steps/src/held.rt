@@ -1,14 +1,13 @@
 //! A list of a tree that steps change, one after another.
 
-ghost use Rattle.std.specs.Prelude.{[], ◌++◌, ◌<◌, ◌≡◌, ◌∷◌, IfErr, IfOk, List, OnOk, Some, length, slice_index_or, true};
+ghost use Rattle.std.specs.Prelude.{◌<◌, ◌≡◌, IfErr, IfOk, List, OnOk, Some, length, true};
 ghost use Rattle.meson_syntax.specs.declared.tree.Parsed.{Parsed};
 ghost use Rattle.meson_calls.specs.Loading.{Loaded};
-ghost use Rattle.meson_steps.specs.Held.{IsHeld, IsReadAgain, IsSettled, MayHold, settled};
+ghost use Rattle.meson_steps.specs.Held.{DoesStep, IsHeld, IsHeldThen, IsReadAgain, IsSettled, MayHold, settled};
 ghost use Rattle.meson_steps.specs.Journal.{settled_tree};
 ghost use Rattle.meson_steps.specs.Laying.{AreLaid};
-ghost use Rattle.meson_steps.specs.ListSteps.{bare, edits_list};
-ghost use Rattle.meson_steps.specs.Steps as meant;
-ghost use Rattle.meson_steps.specs.Working.{HasReached, IsChanged, IsNext, MayChangeList, MayReadList, Restores, list_again, standing};
+ghost use Rattle.meson_steps.specs.ListSteps.{edits_list};
+ghost use Rattle.meson_steps.specs.Working.{IsNext, MayChangeList, MayReadList, Restores, standing, tree_of};
 
 use crate::journal::{SavedList, exchange_list};
 use crate::layouts::{laid, list_primitive};
@@ -69,8 +68,7 @@ impl Work {
         requires next { (old : Loaded) × IsNext old (settled (Some held) self.old) (record { list = held.list.place; edit = edit }) }
         requires held { IsHeld self.old held }
         requires of_list { edits_list edit ≡ true }
-        ensures done { (old : Loaded) (before rest : List meant.Step) (s : meant.Step) → bare s ≡ Some (record { list = held.list.place; edit = edit })
-            → HasReached old before (s ∷ rest) (settled (Some held) self.old) → IfOk result (λ h. HasReached old (before ++ s ∷ []) rest (settled h self.new)) }
+        ensures done { DoesStep (record { list = held.list.place; edit = edit }) (settled (Some held) self.old) result self.new }
         ensures holds { IfOk result (MayHold self.new) }
         ensures restores { (first : List Parsed) → Restores self.old first → Restores self.new first }
         ensures refused { IfErr result (λ e. e ≡ Refusal.OutOfMemory) }
@@ -95,8 +93,8 @@ impl Work {
         requires next { (old : Loaded) × IsNext old (settled (Some held.now) self.now) (record { list = held.now.list.place; edit = edit }) }
         requires held { IsHeld self.now held.now }
         requires of_list { edits_list edit ≡ true }
-        ensures done { (d : Parsed) → let place = held.now.list.place in
-            IfOk result (λ v. AreLaid self.now.files (slice_index_or (settled (Some held.now) self.now).trees place.file d) (record { list = place; edit = edit }) v.items) }
+        ensures done { (d : Parsed) → let place = held.now.list.place in let tree = tree_of (settled (Some held.now) self.now).trees place d in
+            IfOk result (λ v. AreLaid self.now.files tree (record { list = place; edit = edit }) v.items) }
         ensures refused { IfErr result (λ e. e ≡ Refusal.OutOfMemory) }
     {
         let list = &held.list.list;
@@ -127,7 +125,8 @@ impl Work {
     ) -> Result<(meson_syntax::List, usize), Refusal>
         requires files { file < length self.old.files }
         requires read { MayReadList self.old.files file splices.items spot }
-        ensures done { (m : MayReadList self.old.files file splices.items spot) → IfOk result (λ r. IsReadAgain self.old self.new file splices.items spot m r.0 r.1) }
+        ensures done { (m : MayReadList self.old.files file splices.items spot)
+            → IfOk result (λ r. IsReadAgain self.old self.new file splices.items spot m r.0 r.1) }
         ensures kept { (self.new.trees.items ≡ self.old.trees.items) × (self.new.saved.items ≡ self.old.saved.items) }
         ensures refused { IfErr result (λ e. e ≡ Refusal.OutOfMemory) }
     {
@@ -155,8 +154,8 @@ impl Work {
     ) -> Result<HeldList, Refusal>
         requires trees { place.file < length self.old.trees.items }
         requires files { place.file < length self.old.files }
-        requires read { (d : Parsed) → MayChangeList self.old.files place splices.items (slice_index_or self.old.trees.items place.file d) }
-        ensures done { (d : Parsed) → IfOk result (λ h. IsChanged (standing self.old) (settled (Some h) self.new) place.file splices.items (list_again self.old.files self.new.files place (slice_index_or self.old.trees.items place.file d))) }
+        requires read { (d : Parsed) → MayChangeList self.old.files place splices.items (tree_of self.old.trees.items place d) }
+        ensures done { (d : Parsed) → IfOk result (IsHeldThen (standing self.old) self.new place splices.items (tree_of self.old.trees.items place d)) }
         ensures holds { IfOk result (IsHeld self.new) }
         ensures kept { (self.new.trees.items ≡ self.old.trees.items) × (self.new.saved.items ≡ self.old.saved.items) }
         ensures refused { IfErr result (λ e. e ≡ Refusal.OutOfMemory) }
@@ -191,9 +190,10 @@ impl Work {
     ) -> Result<HeldList, Refusal>
         requires held { IsHeld self.old held }
         requires files { held.list.place.file < length self.old.files }
-        requires read { (d : Parsed) → MayChangeList self.old.files held.list.place splices.items (settled_tree held.list (slice_index_or self.old.trees.items held.list.place.file d)) }
-        ensures done { (d : Parsed) → IfOk result (λ h. IsChanged (settled (Some held) self.old) (settled (Some h) self.new) held.list.place.file splices.items
-            (list_again self.old.files self.new.files held.list.place (settled_tree held.list (slice_index_or self.old.trees.items held.list.place.file d)))) }
+        requires read { (d : Parsed) → let tree = settled_tree held.list (tree_of self.old.trees.items held.list.place d) in
+            MayChangeList self.old.files held.list.place splices.items tree }
+        ensures done { (d : Parsed) → let tree = settled_tree held.list (tree_of self.old.trees.items held.list.place d) in
+            IfOk result (IsHeldThen (settled (Some held) self.old) self.new held.list.place splices.items tree) }
         ensures holds { IfOk result (IsHeld self.new) }
         ensures kept { (self.new.trees.items ≡ self.old.trees.items) × (self.new.saved.items ≡ self.old.saved.items) }
         ensures refused { IfErr result (λ e. e ≡ Refusal.OutOfMemory) }

@@ -80,8 +80,8 @@ pub(crate) fn exchange(
 fn put_in(tree: &mut Parsed, path: &Path, list: List, from: usize, was: usize, now: usize) -> List
     requires { MayShift from was now tree.old }
     ensures is { tree.new ≡ exchanged path.now.steps from was now list tree.old }
-    ensures gives { (source : Source) (r : ListAt Span) → list_at (view source (moved_parsed (moved (from + was) was now) tree.old)) path.now.steps ≡ Some r
-        → list_view source result ≡ r.list }
+    ensures gives { (source : Source) (r : ListAt Span) → list_at (view source (moved_parsed (moved (from + was) was now) tree.old)) path.now.steps
+        ≡ Some r → list_view source result ≡ r.list }
 {
     tree.shift(from, was, now);
     tree.put_list(path, list)

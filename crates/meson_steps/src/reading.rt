@@ -8,11 +8,11 @@ ghost use Rattle.meson_syntax.specs.View.{list_view};
 ghost use Rattle.meson_steps.specs.ListSteps.{wide_depth};
 
 use meson_calls::Refusal;
-use meson_syntax::{Bracket, List, ParseFault, parse_list_within};
+use meson_syntax::{Bracket, List, MAX_DEPTH, ParseFault, parse_list_within};
 use std::alloc::Global;
 
 /// So deep may a list nest between two steps of one command.
-const LIST_DEPTH: usize = 65;
+const LIST_DEPTH: usize = MAX_DEPTH + 1;
 
 /// Want of memory is the one reason that a changed file or list is not read.
 pub(crate) fn unread(fault: ParseFault) -> Refusal

@@ -1,12 +1,12 @@
 //! Where the value of an argument stands.
 
 ghost use Rattle.std.specs.Prelude.{◌≡◌, option_and_then, option_map};
-ghost use Rattle.meson_lex.specs.declared.kinds.Span.{Span};
-ghost use Rattle.meson_syntax.specs.Paths.{ListAt, ListIn, list_at, list_in, list_span, nth, value_of};
+ghost use Rattle.meson_syntax.specs.Paths.{list_at, list_in, nth, value_of};
 ghost use Rattle.meson_syntax.specs.Places.{argument_span, expression_span};
 ghost use Rattle.meson_syntax.specs.View.{arg_view, expr_view, list_view, view};
 ghost use Rattle.meson_edit.specs.Edits.{elements};
 ghost use Rattle.meson_calls.specs.Picking.{Source};
+ghost use Rattle.meson_steps.specs.Working.{spot_at, spot_in};
 
 use meson_lex::Span;
 use meson_syntax::{Arg, Bracket, Expr, List, Parsed, Path};
@@ -86,7 +86,7 @@ pub struct ListSpot {
 
 /// Those of the list of an array, a dictionary or a call.
 fn spot_in(expr: &Expr) -> Option<ListSpot>
-    ensures { (source : Source) → result ≡ option_map (λ (l : ListIn Span). record { bracket = l.bracket; span = list_span l.list }) (list_in (expr_view source expr.now)) }
+    ensures { (source : Source) → result ≡ option_map spot_in (list_in (expr_view source expr.now)) }
 {
     let (bracket, span) = match expr {
         Expr::Array(list) => (Bracket::Square, list.span),
@@ -103,7 +103,7 @@ fn spot_in(expr: &Expr) -> Option<ListSpot>
 
 /// Those of the list that a path names, if it is there.
 pub fn list_spot(tree: &Parsed, path: &Path) -> Option<ListSpot>
-    ensures { (source : Source) → result ≡ option_map (λ (p : ListAt Span). record { bracket = p.bracket; span = list_span p.list }) (list_at (view source tree.now) path.now.steps) }
+    ensures { (source : Source) → result ≡ option_map spot_at (list_at (view source tree.now) path.now.steps) }
 {
     match tree.expr_at(path) {
         Some(expr) => spot_in(expr),

@@ -27,7 +27,8 @@ fn block_of_selection<'t>(
     otherwise: &'t Option<Block>,
     n: usize,
 ) -> Option<&'t Block>
-    ensures { (source : Source) → option_map (λ b. block_view source b.now) result ≡ option_and_then block_any (nth (rust_branches_parts source branches.now ++ otherwise_parts (otherwise_view source otherwise.now)) n) }
+    ensures { (source : Source) → option_map (λ b. block_view source b.now) result
+        ≡ option_and_then block_any (nth (rust_branches_parts source branches.now ++ otherwise_parts (otherwise_view source otherwise.now)) n) }
 {
     let mut left = n;
     for i in 0..branches.len() {
@@ -50,7 +51,8 @@ fn block_of_selection<'t>(
 
 /// The block that is the n-th child of a statement.
 fn block_of(stmt: &Stmt, n: usize) -> Option<&Block>
-    ensures { (source : Source) → option_map (λ b. block_view source b.now) result ≡ option_and_then block_any (nth (statement_parts (stmt_view source stmt.now)) n) }
+    ensures { (source : Source) → option_map (λ b. block_view source b.now) result
+        ≡ option_and_then block_any (nth (statement_parts (stmt_view source stmt.now)) n) }
 {
     match stmt {
         Stmt::Expr(_) => None,
@@ -118,7 +120,8 @@ impl<'t> Layer<'t> {
 
 /// The block that the path names.
 fn block_at<'t>(tree: &'t Parsed, path: &Path) -> Option<&'t Block>
-    ensures { (source : Source) → option_map (λ b. block_view source b.now) result ≡ option_map (λ b. b.inside) (block_at (view source tree.now) path.now.steps) }
+    ensures { (source : Source) → option_map (λ b. block_view source b.now) result
+        ≡ option_map (λ b. b.inside) (block_at (view source tree.now) path.now.steps) }
 {
     let mut layer = Layer::Block(&tree.block);
     let steps = path.steps.get();
@@ -133,7 +136,8 @@ fn block_at<'t>(tree: &'t Parsed, path: &Path) -> Option<&'t Block>
 
 /// The n-th statement of the block that the path names.
 pub fn stmt_at<'t>(tree: &'t Parsed, path: &Path, n: usize) -> Option<&'t Stmt>
-    ensures { (source : Source) → option_map (λ s. stmt_view source s.now) result ≡ option_and_then (λ b. statement_in b.inside n) (block_at (view source tree.now) path.now.steps) }
+    ensures { (source : Source) → option_map (λ s. stmt_view source s.now) result
+        ≡ option_and_then (λ b. statement_in b.inside n) (block_at (view source tree.now) path.now.steps) }
 {
     match block_at(tree, path) {
         Some(block) => stmt_in(block, n),

@@ -1,6 +1,6 @@
 //! Steps done on the files and trees of a project, one after another.
 
-ghost use Rattle.std.specs.Prelude.{[], ◌++◌, ◌<◌, ◌≡◌, ◌≢◌, ◌≤◌, ◌∷◌, IfErr, IfOk, List, OnOk, Ok, length, slice_index_or, true, false, ℕ};
+ghost use Rattle.std.specs.Prelude.{[], ◌++◌, ◌<◌, ◌≡◌, ◌≤◌, IfErr, IfOk, List, OnOk, Ok, length, true, false, ℕ};
 ghost use Rattle.meson_splice.specs.declared.file_set.File.{File};
 ghost use Rattle.meson_splice.specs.Files.{bytes_at};
 ghost use Rattle.meson_splice.specs.Patch.{patched_all};
@@ -9,9 +9,9 @@ ghost use Rattle.meson_calls.specs.Loading.{IsProject, Loaded};
 ghost use Rattle.meson_steps.specs.Laying.{AreLaid};
 ghost use Rattle.meson_steps.specs.Plans.{ArePlanned};
 ghost use Rattle.meson_steps.specs.Steps as meant;
-ghost use Rattle.meson_steps.specs.Working.{AreShallowSoFar, HasDeep, HasLarge, HasReached, IsChanged, IsFresh, IsNext, IsUnderWay, MayChange, Reached, Restores, so_far, standing};
-ghost use Rattle.meson_steps.specs.Held.{MayHold, settled};
-ghost use Rattle.meson_steps.specs.ListSteps.{bare};
+ghost use Rattle.meson_steps.specs.Working.{AreShallowSoFar, HasDeep, HasLarge, IsChanged, IsFresh, IsNext, IsUnderWay, MayChange, Reached, Restores, so_far, standing, tree_of};
+ghost use Rattle.meson_steps.specs.Held.{DoesStep, MayHold, settled};
+ghost use Rattle.meson_steps.specs.Meanings.{IfRefused};
 
 use crate::held::HeldList;
 use crate::journal::{Saved, exchange, is_saved};
@@ -21,11 +21,8 @@ use crate::step::{ListEdit, ListStep};
 use meson_calls::{CallRef, Refusal};
 use meson_edit::nests_within;
 use meson_splice::{Change, FileSet, Many, Splice, apply_all};
-use meson_syntax::{MAX_LEN, Parsed, parse_wide};
+use meson_syntax::{MAX_DEPTH, MAX_LEN, Parsed, parse_wide};
 use std::alloc::{AllocError, Global};
-
-/// So deep may the tree of a file nest.
-const MAX_DEPTH: usize = 64;
 
 /// Files and trees that steps change, the splices so far, the trees and lists that were exchanged, and how many bytes were read again.
 #[derive(Drop)]
@@ -86,8 +83,7 @@ impl Work {
     ) -> Result<Option<HeldList>, Refusal>
         requires next { (old : Loaded) × IsNext old (settled held self.old) step }
         requires held { MayHold self.old held }
-        ensures done { (old : Loaded) (before rest : List meant.Step) (s : meant.Step) → bare s ≡ Some step → HasReached old before (s ∷ rest) (settled held self.old)
-            → IfOk result (λ h. HasReached old (before ++ s ∷ []) rest (settled h self.new)) }
+        ensures done { DoesStep step (settled held self.old) result self.new }
         ensures holds { IfOk result (MayHold self.new) }
         ensures restores { (first : List Parsed) → Restores self.old first → Restores self.new first }
         ensures refused { IfErr result (λ e. e ≡ Refusal.OutOfMemory) }
@@ -108,8 +104,7 @@ impl Work {
     /// Memory is refused.
     fn first_step(&mut self, alloc: Global, step: ListStep) -> Result<Option<HeldList>, Refusal>
         requires { (old : Loaded) × IsNext old (standing self.old) step }
-        ensures done { (old : Loaded) (before rest : List meant.Step) (s : meant.Step) → bare s ≡ Some step → Reached old before (s ∷ rest) self.old
-            → IfOk result (λ h. HasReached old (before ++ s ∷ []) rest (settled h self.new)) }
+        ensures done { DoesStep step (standing self.old) result self.new }
         ensures holds { IfOk result (MayHold self.new) }
         ensures restores { (first : List Parsed) → Restores self.old first → Restores self.new first }
         ensures refused { IfErr result (λ e. e ≡ Refusal.OutOfMemory) }
@@ -138,7 +133,8 @@ impl Work {
         edit: ListEdit,
     ) -> Result<Vec<Splice>, Refusal>
         requires { (old : Loaded) × IsNext old (standing self.now) (record { list = place.now; edit = edit }) }
-        ensures done { (d : Parsed) → IfOk result (λ v. AreLaid self.now.files (slice_index_or self.now.trees.items place.now.file d) (record { list = place.now; edit = edit }) v.items) }
+        ensures done { (d : Parsed) → let tree = tree_of self.now.trees.items place.now d in
+            IfOk result (λ v. AreLaid self.now.files tree (record { list = place.now; edit = edit }) v.items) }
         ensures refused { IfErr result (λ e. e ≡ Refusal.OutOfMemory) }
     {
         let file = place.file;
@@ -207,8 +203,10 @@ impl Work {
     /// # Errors
     /// It does.
     pub fn within_limits(&self) -> Result<(), Refusal>
-        ensures done { (old : Loaded) (whole : Meaning) (ss : List meant.Step) → whole ≡ Ok ss → Reached old ss [] self.now → OnOk result (IsDone old whole self.now) }
-        ensures refused { (old : Loaded) (whole : Meaning) (ss : List meant.Step) → whole ≡ Ok ss → Reached old ss [] self.now → IfErr result (MayNotBeDone old whole) }
+        ensures done { (old : Loaded) (whole : Meaning) (ss : List meant.Step) → whole ≡ Ok ss → Reached old ss [] self.now
+            → OnOk result (IsDone old whole self.now) }
+        ensures refused { (old : Loaded) (whole : Meaning) (ss : List meant.Step) → whole ≡ Ok ss → Reached old ss [] self.now
+            → IfErr result (MayNotBeDone old whole) }
     {
         if !self.is_shallow() {
             return Err(Refusal::TooDeep);
@@ -267,7 +265,7 @@ pub fn done(alloc: Global, work: &mut Work, steps: Vec<ListStep>) -> Result<(), 
     requires planned { (whole : Meaning) × ArePlanned (so_far work.old) whole steps.items }
     ensures done { (whole : Meaning) → ArePlanned (so_far work.old) whole steps.items → OnOk result (IsDone (so_far work.old) whole work.new) }
     ensures restores { (first : List Parsed) → Restores work.old first → Restores work.new first }
-    ensures refused { (whole : Meaning) → ArePlanned (so_far work.old) whole steps.items → IfErr result (λ e. e ≢ Refusal.OutOfMemory → MayNotBeDone (so_far work.old) whole e) }
+    ensures refused { (whole : Meaning) → ArePlanned (so_far work.old) whole steps.items → IfRefused result (MayNotBeDone (so_far work.old) whole) }
 {
     work.do_steps(alloc, steps)?;
     work.within_limits()

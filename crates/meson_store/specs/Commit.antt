@@ -96,6 +96,11 @@ fault_of name error.Unchanged still = WriteFailed name still
 fault_of name error.OutOfMemory [] = OutOfMemory
 fault_of name error.OutOfMemory (first ∷ still) = WriteFailed name (first ∷ still)
 
+-- so many of the files were replaced, and the replace of the next one failed: these get their old bytes again, and the fault tells of it
+abbrev pub TakesBack : List Put → ℕ → StoreError → Seen → Seen → StoreFault → Type 0
+TakesBack files many why before after fault = (done rest : List Put) (failed : Put) → files ≡ done ++ (failed ∷ rest) → length done ≡ many
+    → (still : List (List ℕ)) × GoBack (to_go_back why failed done) before after still × (fault ≡ fault_of failed.name why still)
+
 -- a replace failed, what was replaced got its old bytes again, and the fault tells of it
 pub record TakenBack (files : List Put) (before after : Seen) (fault : StoreFault) : Type 0 where
   pub why : StoreError

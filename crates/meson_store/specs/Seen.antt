@@ -13,6 +13,10 @@ pub record Seen : Type 0 where
 abbrev pub seen : Option Content → ℕ → ℕ → Seen
 seen content failures replaces = record { content = content; failures = failures; replaces = replaces }
 
+-- of a store of any kind, by what tells these three of it
+abbrev pub seen_by : {S : Type 0} → (S → Option Content) → (S → ℕ) → (S → ℕ) → S → Seen
+seen_by content failures replaces store = seen (content store) (failures store) (replaces store)
+
 -- it was read at most
 pub record Untouched (before after : Seen) : Type 0 where
   pub kept : after.content ≡ before.content

@@ -2,8 +2,8 @@
 
 ghost use Rattle.std.specs.Prelude.{◌≡◌, ◌≤◌, ◌<◌, ◌+◌, ◌^◌, ◌++◌, [], ◌∷◌, ℕ, List, length, map, option_map, reverse, vec_capacity, vec_len};
 ghost use Rattle.std.specs.Prelude.{IfOk, IfErr, OnOk, string_bytes};
-ghost use Rattle.meson_store.specs.Commit.{AreReplaced, CommitFails, GoBack, Put, Stops, fault_of, names_of, path_in, puts, to_go_back, tries};
-ghost use Rattle.meson_store.specs.Seen.{seen};
+ghost use Rattle.meson_store.specs.Commit.{AreReplaced, CommitFails, GoBack, Stops, TakesBack, fault_of, names_of, path_in, puts, tries};
+ghost use Rattle.meson_store.specs.Seen.{seen_by};
 ghost use Rattle.meson_store.specs.Planned.{put_of};
 
 use crate::{Store, StoreError, StoreFault};
@@ -82,11 +82,10 @@ fn names_of(alloc: Global, plan: &[Planned<'_>]) -> Result<Vec<Text>, AllocError
 
 /// Replaces the files in order, up to the first that can't be.
 fn replace_all<S: Store>(store: &mut S, plan: &[Planned<'_>]) -> Result<(), Halt>
-    ensures done { OnOk result (AreReplaced (map put_of plan.now)
-        (seen (S.content store.old) (S.failures store.old) (S.replaces store.old)) (seen (S.content store.new) (S.failures store.new) (S.replaces store.new))) }
-    ensures halted { IfErr result (λ halt. (stops : Stops (map put_of plan.now)
-        (seen (S.content store.old) (S.failures store.old) (S.replaces store.old)) (seen (S.content store.new) (S.failures store.new) (S.replaces store.new)) halt.error)
-        × (length stops.done ≡ halt.done)) }
+    ensures done { let known = seen_by S.content S.failures S.replaces in
+        OnOk result (AreReplaced (map put_of plan.now) (known store.old) (known store.new)) }
+    ensures halted { let known = seen_by S.content S.failures S.replaces in
+        IfErr result (λ halt. (stops : Stops (map put_of plan.now) (known store.old) (known store.new) halt.error) × (length stops.done ≡ halt.done)) }
     ensures no_read { S.reads store.new ≡ S.reads store.old }
 {
     for (done, file) in plan.iter().enumerate() {
@@ -108,9 +107,8 @@ fn put_back<S: Store>(
 )
     requires named { names.old.items ≡ names_of (map put_of files.now) }
     requires room { vec_len lost.old + length files.now ≤ vec_capacity lost.old }
-    ensures gone_back { (still : List (List ℕ)) × GoBack (reverse (map put_of files.now))
-        (seen (S.content store.old) (S.failures store.old) (S.replaces store.old)) (seen (S.content store.new) (S.failures store.new) (S.replaces store.new)) still
-        × (lost.new.items ≡ lost.old.items ++ still) }
+    ensures gone_back { let known = seen_by S.content S.failures S.replaces in (still : List (List ℕ))
+        × GoBack (reverse (map put_of files.now)) (known store.old) (known store.new) still × (lost.new.items ≡ lost.old.items ++ still) }
     ensures no_read { S.reads store.new ≡ S.reads store.old }
 {
     while let Some(name) = names.pop() {
@@ -163,10 +161,8 @@ fn taken_back<S: Store>(
     requires same { listed.items ≡ names.items }
     requires none { lost.items ≡ [] }
     requires room { length files.now ≤ vec_capacity lost }
-    ensures gone_back { (done rest : List Put) (failed : Put) → map put_of files.now ≡ done ++ (failed ∷ rest) → length done ≡ halt.done
-        → (still : List (List ℕ)) × GoBack (to_go_back halt.error failed done)
-        (seen (S.content store.old) (S.failures store.old) (S.replaces store.old)) (seen (S.content store.new) (S.failures store.new) (S.replaces store.new)) still
-        × (result ≡ fault_of failed.name halt.error still) }
+    ensures gone_back { let known = seen_by S.content S.failures S.replaces in
+        TakesBack (map put_of files.now) halt.done halt.error (known store.old) (known store.new) result }
     ensures no_read { S.reads store.new ≡ S.reads store.old }
 {
     let mut names = names;
@@ -195,10 +191,10 @@ pub fn commit<S: Store>(
     after: &FileSet,
 ) -> Result<(), StoreFault>
     requires same_files { map (λ f. f.name) before.now ≡ map (λ f. f.name) after.now }
-    ensures done { OnOk result (AreReplaced (puts (option_map (λ f. f.now) folder.entry) before.now after.now)
-        (seen (S.content store.old) (S.failures store.old) (S.replaces store.old)) (seen (S.content store.new) (S.failures store.new) (S.replaces store.new))) }
-    ensures failed { IfErr result (CommitFails (puts (option_map (λ f. f.now) folder.entry) before.now after.now)
-        (seen (S.content store.old) (S.failures store.old) (S.replaces store.old)) (seen (S.content store.new) (S.failures store.new) (S.replaces store.new))) }
+    ensures done { let known = seen_by S.content S.failures S.replaces in
+        OnOk result (AreReplaced (puts (option_map (λ f. f.now) folder.entry) before.now after.now) (known store.old) (known store.new)) }
+    ensures failed { let known = seen_by S.content S.failures S.replaces in
+        IfErr result (CommitFails (puts (option_map (λ f. f.now) folder.entry) before.now after.now) (known store.old) (known store.new)) }
     ensures counts { S.failures store.old ≤ S.failures store.new }
     ensures no_read { S.reads store.new ≡ S.reads store.old }
 {

@@ -1,5 +1,5 @@
 -- Lists put among the children of the code's trees.
-use Rattle.std.proofs.Common.{◌≡◌, ℕ, zero, suc, ◌-◌, ◌<◌, ◌≤◌, List, [], ◌∷◌, ◌++◌, length, take, drop, get_or, refl, sym, ap, ◌∙◌, arith}
+use Rattle.std.proofs.Common.{◌≡◌, ℕ, ◌-◌, ◌<◌, ◌≤◌, List, [], ◌∷◌, ◌++◌, length, take, drop, get_or, refl, sym, ap, ◌∙◌, arith}
 use Rattle.std.proofs.lemmas.List.{take_all}
 use Rattle.meson_lex.specs.declared.kinds.Span.{Span}
 use Rattle.meson_lex.specs.Significant.{Word}
@@ -135,17 +135,6 @@ module _ {X T : Type 0} (view : X → T) (children : T → List (Hole Span T)) (
       (ap (made make) (h ∙ ap (λ z. put_among path new z (others z) (n - 1)) same) ∙ sym (put-around path new before behind make r (others r) (n - 1))
       ∙ sym (put-past-holes path new T (make r) (one ∷ []) (all_around before behind make (others r)) n past)
       ∙ ap (λ hs. put_among path new (make r) hs n) (sym parts))
-
--- no child of so high a number
-beyond : {T : Type 0} (path : List ℕ) (new : Listing Span) (t : T) (hs : List (Hole Span T)) (n : ℕ) → length hs ≤ n → (new, t) ≡ put_among path new t hs n
-beyond path new t [] n past = refl
-beyond path new t (h ∷ hs) zero past = absurd (omega arith)
-beyond path new t (h ∷ hs) (suc n) past = beyond path new t hs n (omega arith)
-
-pub put-beyond : {X T : Type 0} (view : X → T) (children : T → List (Hole Span T)) (path : List ℕ) (new : Listing Span) (n : ℕ) (x : X) (t : T)
-    → view x ≡ t → length (children t) ≤ n → (new, view x) ≡ put_among path new (view x) (children (view x)) n
-put-beyond view children path new n x t is past =
-    ap (λ z. (new, z)) is ∙ beyond path new t (children t) n past ∙ ap (λ z. put_among path new z (children z) n) (sym is)
 
 -- ---- one step of a path
 

@@ -134,9 +134,6 @@ abbrev pub is_over : List Token → Bool
 is_over [] = true
 is_over (t ∷ ts) = false
 
-abbrev pub ended : Parser Bool
-ended = λ i. Some (is_over i.rest, i)
-
 unfoldable pub expect : Kind → Parser (Unit {0})
 expect κ = λ i. if sees κ i then Some (tt, next i) else None
 

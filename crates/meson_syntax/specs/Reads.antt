@@ -88,9 +88,6 @@ MayRefuseWithin limits bytes OutOfMemory = Unit {0}
 
 -- ---- files
 
-abbrev pub IsSource : List ℕ → Type 0
-IsSource = IsSourceWithin of_files
-
 abbrev pub Reads : List ℕ → Plain → Type 0
 Reads = ReadsWithin of_files
 

@@ -59,8 +59,5 @@ ReadsList = ReadsListWithin max_depth
 abbrev pub IsSpannedList : Bracket → List ℕ → Listing Span → Type 0
 IsSpannedList = IsSpannedListWithin max_depth
 
-abbrev pub HasNoList : Bracket → List ℕ → Type 0
-HasNoList = HasNoListWithin max_depth
-
 abbrev pub MayRefuseList : Bracket → List ℕ → ParseFault → Type 0
 MayRefuseList = MayRefuseListWithin max_depth

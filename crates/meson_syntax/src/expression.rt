@@ -90,7 +90,8 @@ impl<'a, F: Fn(Global, &[u8], &mut Cursor<'_>, usize) -> Result<Expr, ParseFault
         condition: Expr,
     ) -> Result<Expr, ParseFault>
         requires { Nests self.now.depth (F.pre self.now.deeper) (F.post self.now.deeper) }
-        ensures { Follows (λ room inner. spec.answered room inner start (expr_view self.now.source.now condition)) expr_view self.now.source.now self.now.depth tokens.old result tokens.new }
+        ensures { Follows (λ room inner. spec.answered room inner start (expr_view self.now.source.now condition))
+            expr_view self.now.source.now self.now.depth tokens.old result tokens.new }
     {
         let condition = Boxed::new(self.alloc, condition)?;
         if self.depth == 0 {

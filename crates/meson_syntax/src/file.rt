@@ -9,7 +9,7 @@ ghost use Rattle.meson_syntax.specs.declared.fault.ParseFault.{ParseFault};
 use crate::block::read_tokens;
 use crate::fault::ParseFault;
 use crate::significant::tokens;
-use crate::source::{Limits, MAX_LEN, check_source};
+use crate::source::{Limits, MAX_DEPTH, MAX_LEN, check_source};
 use crate::tree::Parsed;
 use std::alloc::Global;
 
@@ -26,7 +26,7 @@ pub fn parse(alloc: Global, source: &[u8]) -> Result<Parsed, ParseFault>
 {
     let limits = Limits {
         len: Some(MAX_LEN),
-        depth: 64,
+        depth: MAX_DEPTH,
     };
     parse_within(alloc, source, limits)
 }
@@ -45,7 +45,7 @@ pub fn parse_wide(alloc: Global, source: &[u8]) -> Result<Parsed, ParseFault>
 {
     let limits = Limits {
         len: None,
-        depth: 65,
+        depth: MAX_DEPTH + 1,
     };
     parse_within(alloc, source, limits)
 }

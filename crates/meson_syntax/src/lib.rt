@@ -35,5 +35,5 @@ pub use list_text::{parse_list, parse_list_within};
 pub use many::Many;
 pub use operator::{Assignment, Bracket, Operator, StringKind, UnaryOperator};
 pub use path::Path;
-pub use source::{Limits, MAX_LEN};
+pub use source::{Limits, MAX_DEPTH, MAX_LEN};
 pub use tree::{Arg, Block, Branch, Expr, List, Operand, Parsed, Stmt, Tail};

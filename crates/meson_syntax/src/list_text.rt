@@ -17,15 +17,13 @@ use crate::grammar::{Cursor, Grammar};
 use crate::list::opens;
 use crate::operator::Bracket;
 use crate::significant::tokens;
-use crate::source::{Limits, check_source};
+use crate::source::{Limits, MAX_DEPTH, check_source};
 use crate::token::Token;
 use crate::tree::List;
 use std::alloc::Global;
 
-/// How many constructs may stand inside one another, counted from the list's own bracket.
-const MAX_DEPTH: usize = 64;
-
-/// The list that a text is, from its opening bracket to its closing one and nothing else. It may have any length.
+/// The list that a text is, from its opening bracket to its closing one and nothing else. It may have any length, and its
+/// depth counts from its own bracket.
 pub fn parse_list(alloc: Global, source: &[u8], bracket: Bracket) -> Result<List, ParseFault>
     // The text reads as the list, and each node stands at its span.
     ensures reads { IfOk result (λ l. IsSpannedList bracket source.now (list_view source.now l)) }

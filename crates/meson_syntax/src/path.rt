@@ -190,7 +190,8 @@ fn in_postfix<'t>(base: &'t Expr, tails: &'t [Tail], n: usize) -> Found<'t>
 
 /// One of the three parts of a conditional.
 fn in_conditional<'t>(condition: &'t Expr, yes: &'t Expr, no: &'t Expr, n: usize) -> Found<'t>
-    ensures { (source : Bytes) → found_view source result ≡ look (an_expression (expr_view source condition.now) ∷ an_expression (expr_view source yes.now) ∷ an_expression (expr_view source no.now) ∷ []) n }
+    ensures { (source : Bytes) → found_view source result ≡ look
+        (an_expression (expr_view source condition.now) ∷ an_expression (expr_view source yes.now) ∷ an_expression (expr_view source no.now) ∷ []) n }
 {
     match only(Node::Expr(condition), n) {
         Found::Node(node) => Found::Node(node),
@@ -241,7 +242,8 @@ fn in_expr(expr: &Expr, n: usize) -> Found<'_>
 
 /// A child of a selection: in its branches, or the block behind `else`.
 fn in_selection<'t>(branches: &'t [Branch], otherwise: &'t Option<Block>, n: usize) -> Found<'t>
-    ensures { (source : Bytes) → found_view source result ≡ look (rust_branches_parts source branches.now ++ otherwise_parts (otherwise_view source otherwise.now)) n }
+    ensures { (source : Bytes) → found_view source result
+        ≡ look (rust_branches_parts source branches.now ++ otherwise_parts (otherwise_view source otherwise.now)) n }
 {
     match in_branches(branches, n) {
         Found::Node(node) => Found::Node(node),
@@ -369,7 +371,8 @@ impl Parsed {
 
     /// The list of the array, dictionary or call that the path names.
     pub fn list_at(&self, path: &Path) -> Option<&List>
-        ensures { (source : Bytes) → option_map (λ l. list_view source l.now) result ≡ option_map (λ p. p.list) (list_at (view source self.now) path.now.steps) }
+        ensures { (source : Bytes) → option_map (λ l. list_view source l.now) result
+            ≡ option_map (λ p. p.list) (list_at (view source self.now) path.now.steps) }
     {
         match self.expr_at(path) {
             Some(expr) => list_of(expr),

@@ -3,10 +3,9 @@
 //! The rules are those of the Syntax page of the Meson manual.
 
 ghost use Rattle.std.specs.Prelude.{◌≡◌, ◌≤◌, Some, IfOk};
-ghost use Rattle.meson_syntax.specs.Input.{and_then, span_from};
 ghost use Rattle.meson_syntax.specs.Nests.{Follows, Nests, Runs, operator_view};
 ghost use Rattle.meson_syntax.specs.Reading as spec;
-ghost use Rattle.meson_syntax.specs.Rows.{operands, row_with};
+ghost use Rattle.meson_syntax.specs.Rows.{longer, operands, row_with};
 ghost use Rattle.meson_syntax.specs.View.{expr_view, operand_view, operands_view};
 
 use crate::boxed::Boxed;
@@ -73,7 +72,8 @@ impl<'a, F: Fn(Global, &[u8], &mut Cursor<'_>, usize) -> Result<Expr, ParseFault
     ) -> Result<Expr, ParseFault>
         requires nests { Nests self.now.depth (F.pre self.now.deeper) (F.post self.now.deeper) }
         requires at_most { level ≤ 6 }
-        ensures { Follows (λ room inner. row_with room inner level start (expr_view self.now.source.now first)) expr_view self.now.source.now self.now.depth tokens.old result tokens.new }
+        ensures { Follows (λ room inner. row_with room inner level start (expr_view self.now.source.now first))
+            expr_view self.now.source.now self.now.depth tokens.old result tokens.new }
     {
         let mut read = first;
         // From the tightest row on: what is read is the first operand of the next one.
@@ -98,7 +98,8 @@ impl<'a, F: Fn(Global, &[u8], &mut Cursor<'_>, usize) -> Result<Expr, ParseFault
         requires nests { Nests self.now.depth (F.pre self.now.deeper) (F.post self.now.deeper) }
         requires at_least { 1 ≤ level }
         requires at_most { level ≤ 6 }
-        ensures { Follows (λ room inner i. and_then (operands room inner level i) (λ os j. Some (spec.with_operands (span_from start j) (expr_view self.now.source.now first) os, j))) expr_view self.now.source.now self.now.depth tokens.old result tokens.new }
+        ensures { Follows (λ room inner. longer room inner level start (expr_view self.now.source.now first))
+            expr_view self.now.source.now self.now.depth tokens.old result tokens.new }
     {
         let rest = self.operands(tokens, level)?;
         let span = self.since(tokens, start);
@@ -143,7 +144,8 @@ impl<'a, F: Fn(Global, &[u8], &mut Cursor<'_>, usize) -> Result<Expr, ParseFault
     #[inline(never)]
     fn prefixed(&self, tokens: &mut Cursor<'_>, operator: UnaryOperator) -> Result<Expr, ParseFault>
         requires { Nests self.now.depth (F.pre self.now.deeper) (F.post self.now.deeper) }
-        ensures { Follows (λ room inner. spec.unary_by room inner (Some operator)) expr_view self.now.source.now self.now.depth tokens.old result tokens.new }
+        ensures { Follows (λ room inner. spec.unary_by room inner (Some operator))
+            expr_view self.now.source.now self.now.depth tokens.old result tokens.new }
     {
         let start = self.from(tokens);
         self.take(tokens);
@@ -174,7 +176,8 @@ impl<'a, F> Grammar<'a, F> {
         first: Expr,
         rest: Many<Operand>,
     ) -> Result<Expr, AllocError>
-        ensures { IfOk result (λ e. expr_view self.now.source.now e ≡ spec.with_operands span (expr_view self.now.source.now first) (operands_view self.now.source.now rest)) }
+        ensures { IfOk result (λ e. expr_view self.now.source.now e
+            ≡ spec.with_operands span (expr_view self.now.source.now first) (operands_view self.now.source.now rest)) }
     {
         match rest.get() {
             [] => Ok(first),

@@ -9,6 +9,9 @@ use std::str;
 /// How many bytes a file may have.
 pub const MAX_LEN: usize = 1_048_576;
 
+/// How many constructs may stand inside one another in a file.
+pub const MAX_DEPTH: usize = 64;
+
 /// How many bytes a text may have, if that is limited, and how many constructs may stand inside one another.
 #[derive(Clone, Copy)]
 pub struct Limits {

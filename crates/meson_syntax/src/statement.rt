@@ -49,7 +49,8 @@ impl<'a, F: Fn(Global, &[u8], &mut Cursor<'_>, usize) -> Result<Block, ParseFaul
     #[tactic(auto, unfolding(crate::specs::ReadingFiles::assigned))]
     fn assigned(&self, tokens: &mut Cursor<'_>, assignment: Assignment) -> Result<Stmt, ParseFault>
         requires { NestsBlocks self.now.depth (F.pre self.now.deeper) (F.post self.now.deeper) }
-        ensures { Proceeds (λ room expr inner body. spec.assigned room expr inner body assignment) stmt_view self.now.source.now self.now.depth tokens.old result tokens.new }
+        ensures { Proceeds (λ room expr inner body. spec.assigned room expr inner body assignment)
+            stmt_view self.now.source.now self.now.depth tokens.old result tokens.new }
     {
         let start = self.from(tokens);
         let name = self.take(tokens);

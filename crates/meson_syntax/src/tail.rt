@@ -21,7 +21,8 @@ impl<'a, F> Grammar<'a, F> {
     /// The expression with these tails; the expression itself where there is none.
     #[tactic(auto, unfolding(crate::specs::Reading::with_tails))]
     fn with_tails(&self, span: Span, base: Expr, tails: Many<Tail>) -> Result<Expr, AllocError>
-        ensures { IfOk result (λ e. expr_view self.now.source.now e ≡ spec.with_tails span (expr_view self.now.source.now base) (tails_view self.now.source.now tails)) }
+        ensures { IfOk result (λ e. expr_view self.now.source.now e
+            ≡ spec.with_tails span (expr_view self.now.source.now base) (tails_view self.now.source.now tails)) }
     {
         match tails.get() {
             [] => Ok(base),
@@ -53,7 +54,8 @@ impl<'a, F: Fn(Global, &[u8], &mut Cursor<'_>, usize) -> Result<Expr, ParseFault
     #[tactic(auto, unfolding(crate::specs::Alone::tailed))]
     fn tailed(&self, tokens: &mut Cursor<'_>, start: usize, base: Expr) -> Result<Expr, ParseFault>
         requires { Nests self.now.depth (F.pre self.now.deeper) (F.post self.now.deeper) }
-        ensures { Follows (λ room inner. alone.tailed room inner start (expr_view self.now.source.now base)) expr_view self.now.source.now self.now.depth tokens.old result tokens.new }
+        ensures { Follows (λ room inner. alone.tailed room inner start (expr_view self.now.source.now base))
+            expr_view self.now.source.now self.now.depth tokens.old result tokens.new }
     {
         let (base, tails) = self.before_tails(tokens, base)?;
         let span = self.since(tokens, start);

@@ -63,6 +63,3 @@ begins-kind κ text h = begins-same κ text (spelling κ) h (at κ (get_or (spel
 
 pub begins-with : (κ : Kind) (text : List ℕ) → OfKind κ text → Begins κ text
 begins-with κ text h = begins-kind κ text h
-
-pub no-text : (κ : Kind) → OfKind κ [] → ⊥
-no-text κ h = let b = begins-with κ [] h in let e = b.is_text in absurd cc

@@ -74,9 +74,6 @@ close-small bracket.Round = omega arith
 close-small bracket.Square = omega arith
 close-small bracket.Curly = omega arith
 
-first-group : {A : Type 0} (l : List A) (o : A) (m r : List A) → l ++ (((o ∷ []) ++ m) ++ r) ≡ l ++ o ∷ (m ++ r)
-first-group l o m r = refl
-
 last-group : {A : Type 0} (l m : List A) (c : A) (r : List A) → l ++ ((m ++ ((c ∷ []) ++ [])) ++ r) ≡ (l ++ m) ++ c ∷ r
 last-group l m c r = simp append_assoc
 

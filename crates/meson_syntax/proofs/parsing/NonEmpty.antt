@@ -6,7 +6,7 @@ use Rattle.meson_lex.specs.Located.{Token}
 use Rattle.meson_syntax.specs.declared.operator.Bracket.{Bracket}
 use Rattle.meson_syntax.specs.declared.operator.Bracket.TheVariants as bracket
 use Rattle.meson_syntax.specs.Tree.{Name, Expression, identifier, boolean, integer, string, paren, array, dictionary, call, unary, row, postfix, conditional, Tail, method, index, Listing, listing, Argument, plain, named, pair, Statement, evaluate, assign, selection, iteration, breaks, continues}
-use Rattle.meson_syntax.specs.Spelling.{One, Says, SaysName, Then, NewLine, SpellsExpression, SpellsTail, SpellsListing, SpellsArgument, SpellsStatement}
+use Rattle.meson_syntax.specs.Spelling.{One, Says, SaysName, Then, SpellsExpression, SpellsTail, SpellsListing, SpellsArgument, SpellsStatement}
 
 pub says-some : (κ : Kind) (x : List ℕ) → Says κ x [] → ⊥
 says-some κ x w = let e = w.alone in absurd cc
@@ -16,9 +16,6 @@ name-some x w = w.0
 
 pub one-some : (κ : Kind) → One κ [] → ⊥
 one-some κ w = let e = w.alone in absurd cc
-
-pub new-line-some : (P : ℕ → List Token → Type 0) → NewLine P [] → ⊥
-new-line-some P w = let e = w.joined in absurd cc
 
 front-some : (P : List Token → Type 0) (front back : List Token) → (P [] → ⊥) → [] ≡ front ++ back → P front → ⊥
 front-some P [] back some e p = some p

@@ -6,7 +6,7 @@ use Rattle.meson_lex.specs.contracts.kinds.Kind.{the_type}
 use Rattle.meson_lex.specs.declared.kinds.Kind.{Kind}
 use Rattle.meson_lex.specs.declared.kinds.Span.{Span}
 use Rattle.meson_lex.specs.Located.{Token}
-use Rattle.meson_syntax.specs.Input.{same_kind, Input, Outcome, Parser, and_then, kind_of, text_of, from_of, next_of, begins_with, kind, spelling, from, next, sees, sees_two, after, expect, span_from, left, is_over, name_next}
+use Rattle.meson_syntax.specs.Input.{same_kind, Input, Outcome, Parser, and_then, kind_of, text_of, from_of, next_of, begins_with, kind, spelling, from, next, sees, sees_two, after, expect, span_from, left, name_next}
 use Rattle.meson_syntax.specs.Spelling.{end_of, Covers, One, Says, Then, SaysName}
 use Rattle.meson_syntax.proofs.parsing.Steps.{Took, Passes, end_of-append, two-by, some-injective, part}
 use Rattle.meson_syntax.specs.Tree.{Name}
@@ -184,14 +184,3 @@ falls P i j some r =
     let e = took-left i j r.used r.took in
     let n = used-some r.used (λ e. some (subst P e r.fits)) in
     omega arith
-
--- and stands before it
-pub not-over : (P : List Token → Type 0) (i j : Input) → (P [] → ⊥) → Passes P i j → is_over i.rest ≡ false
-unfolding left
-not-over P i j some r = some_list i.rest (omega (arith, falls P i j some r)) where
-  some_list : (rest : List Token) → 0 < length rest → is_over rest ≡ false
-  some_list [] h = absurd (omega arith)
-  some_list (t ∷ ts) h = refl
-
-pub is-over : (i : Input) → i.rest ≡ [] → is_over i.rest ≡ true
-is-over i e = ap is_over e

@@ -13,9 +13,6 @@ use Rattle.meson_syntax.proofs.paths.Every.{Every, every-append, every-around, e
 use Rattle.meson_syntax.proofs.paths.Fits.{Fits, LevelNode, around-fits}
 use Rattle.meson_syntax.proofs.paths.Children.{regroup, LikeExpression, expression-fits}
 
-two : {A : Type 0} (a b c : List A) → a ++ (b ++ c) ≡ (a ++ b) ++ c
-two a b c = sym (append_assoc a b c)
-
 three : {A : Type 0} (a b c d : List A) → a ++ (b ++ (c ++ d)) ≡ (a ++ (b ++ c)) ++ d
 three a b c d = simp append_assoc
 
