@@ -13,10 +13,6 @@ use Rattle.meson_json.specs.Each.{each_of, each_member, names_of}
 abbrev pub after : {A : Type 0} → List A → Option (List A) → Option (List A)
 after done r = option_map (λ rest. done ++ rest) r
 
-pub after-nothing : {A : Type 0} (r : Option (List A)) → after [] r ≡ r
-after-nothing None = refl
-after-nothing (Some rest) = refl
-
 onto : {A : Type 0} (done : List A) (x : A) (r : Option (List A)) → after done (option_map (λ xs. x ∷ xs) r) ≡ after (done ++ x ∷ []) r
 onto done x None = refl
 onto done x (Some rest) = ap (λ t. Some t) (sym (append_assoc done (x ∷ []) rest))

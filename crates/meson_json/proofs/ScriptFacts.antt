@@ -24,10 +24,6 @@ drop_whole : {A : Type 0} (xs : List A) → drop (length xs) xs ≡ []
 drop_whole [] = refl
 drop_whole (x ∷ xs) = drop_whole xs
 
-pub entries-none : (r : Result (List Command) ScriptFault) → after_done [] r ≡ r
-entries-none (Ok cs) = refl
-entries-none (Err e) = refl
-
 pub entries-more : (vs : List Value) (i : ℕ) (done : List Command) (v : Value) (c : Command) → i < length vs → v ≡ get_or vs i v → entry_of i (view v) ≡ Ok c
     → after_done done (entries_of i (items_view (drop i vs))) ≡ after_done (done ++ c ∷ []) (entries_of (i + 1) (items_view (drop (i + 1) vs)))
 unfolding entries_of
