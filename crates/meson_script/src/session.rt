@@ -63,7 +63,7 @@ fn unmade(refused: AllocError) -> RunFault
 }
 
 /// How many splices were done, and what the change is for.
-fn counted(report: Report) -> (usize, Text)
+fn splices_and_title(report: Report) -> (usize, Text)
     ensures { result ≡ (report.splices, report.title) }
 {
     let Report { splices, title, .. } = report;
@@ -313,7 +313,7 @@ impl Session {
         let mut splices: usize = 0;
         let mut title = Text::of(String::new(alloc));
         for _ in 0..count {
-            let (more, last) = counted(self.undo(alloc)?);
+            let (more, last) = splices_and_title(self.undo(alloc)?);
             splices = splices.saturating_add(more);
             title = last;
         }
