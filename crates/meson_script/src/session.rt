@@ -62,6 +62,14 @@ fn unmade(refused: AllocError) -> RunFault
     }
 }
 
+/// The same change with this title.
+fn titled(change: Change, title: Text) -> Change
+    ensures { result ≡ record { splices = change.splices; title = title } }
+{
+    let Change { splices, title: _ } = change;
+    Change { splices, title }
+}
+
 /// How many splices were done, and what the change is for.
 fn splices_and_title(report: Report) -> (usize, Text)
     ensures { result ≡ (report.splices, report.title) }
@@ -192,18 +200,14 @@ impl Session {
             Ok(done) => {
                 self.project.reads();
                 let Done { change, relexed } = done;
-                let Change { splices, title: _ } = change;
                 let report = Report {
                     files: count_differing(&before, self.project.files()),
-                    splices: splices.get().len(),
+                    splices: change.splices.get().len(),
                     relexed,
                     info: Value::Array(listings),
                     title: told,
                 };
-                past.push_reserved(Change {
-                    splices,
-                    title: kept,
-                });
+                past.push_reserved(titled(change, kept));
                 self.history.past = Many::of(past);
                 self.history.future.clear();
                 Ok(report)
