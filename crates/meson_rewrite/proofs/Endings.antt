@@ -26,7 +26,7 @@ use Rattle.meson_rewrite.specs.Requests.{AsksFor, AsksForNone, only_asks, script
 use Rattle.meson_rewrite.specs.Runs.{Edits, Ends, IsUnchanged, ListingEnds, OnlyAsks, RanOut, StepEnds, asks_for_none, done, has_none, helped, listed, lists, memory_ran_out, misused, no_memory, not_opened, refused, shown, steps, told, told_version, unwritten, wants_memory, written}
 use Rattle.meson_rewrite.specs.Steps.{MayRefuse, only_tells}
 use Rattle.meson_rewrite.specs.Stops.{WantsMemory}
-use Rattle.meson_rewrite.specs.declared.editing.Edit.{Edit}
+use Rattle.meson_rewrite.specs.declared.steps.Edit.{Edit}
 use Rattle.meson_rewrite.specs.declared.request.Listing.{Listing}
 use Rattle.meson_rewrite.specs.declared.request.Request.TheVariants as request
 use Rattle.meson_rewrite.specs.declared.request.Step.{Step}

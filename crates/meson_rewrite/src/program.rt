@@ -10,12 +10,12 @@ ghost use Rattle.meson_rewrite.specs.Requests.{only_shows};
 ghost use Rattle.meson_rewrite.specs.Steps.{IsTitled, only_tells};
 ghost use Rattle.meson_rewrite.specs.Runs.{CannotSay, Ends, IsUnchanged, ListingEnds, NeedsNoStore, OnlyAsks, RanOut, Run, Says, StepEnds, Tells};
 
-use crate::editing::{edited, shown, told};
 use crate::lines::tell_stop;
 use crate::listed::listed;
 use crate::opening::open;
 use crate::request::{Listing, Request, Step, request_of};
 use crate::said::Said;
+use crate::steps::{edited, shown, told};
 use crate::stop::Stop;
 use meson_command::{Asked, UsageFault, command_of};
 use meson_splice::Text;
