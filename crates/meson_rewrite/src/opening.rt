@@ -7,7 +7,7 @@ ghost use Rattle.meson_rewrite.specs.declared.stop.Stop.TheVariants.{Script};
 ghost use Rattle.meson_gathering.specs.Gathering.{Told, held};
 ghost use Rattle.meson_rewrite.specs.Logs.{IsLog, log_name};
 ghost use Rattle.meson_rewrite.specs.Opening.{IsNoLog, Opens, OpensNone};
-ghost use Rattle.meson_rewrite.specs.Reads.{ReadsAtMost, ReadsWithLog};
+ghost use Rattle.meson_rewrite.specs.StoreReads.{ReadsAtMost, ReadsWithLog};
 ghost use Rattle.meson_rewrite.specs.Stops.{WantsMemory};
 ghost use Rattle.meson_store.specs.Calls.{one_more};
 ghost use Rattle.meson_gathering.specs.Reading.{OnceAtMost};

@@ -5,7 +5,7 @@ ghost use Rattle.meson_command.specs.Asking.{asked_by, without_text};
 ghost use Rattle.meson_json.specs.Titles.{is_title};
 ghost use Rattle.meson_store.specs.Seen.{seen};
 ghost use Rattle.meson_rewrite.specs.Lines.{status, store_fault_status, usage_status};
-ghost use Rattle.meson_rewrite.specs.Reads.{MayRead, ReadsAll, ReadsAtMost, ReadsProject};
+ghost use Rattle.meson_rewrite.specs.StoreReads.{MayRead, ReadsAll, ReadsAtMost, ReadsProject};
 ghost use Rattle.meson_rewrite.specs.Requests.{only_shows};
 ghost use Rattle.meson_rewrite.specs.Steps.{IsTitled, only_tells};
 ghost use Rattle.meson_rewrite.specs.Runs.{CannotSay, Ends, IsUnchanged, ListingEnds, NeedsNoStore, OnlyAsks, RanOut, Run, Says, StepEnds, Tells};
