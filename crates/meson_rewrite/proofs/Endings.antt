@@ -23,7 +23,7 @@ use Rattle.meson_rewrite.specs.Listed.{listed_text}
 use Rattle.meson_rewrite.specs.Logs.{log_name, with_log}
 use Rattle.meson_rewrite.specs.Opening.{IsNoLog, Opens, OpensNone, log_unread, bad_log, no_log, no_project}
 use Rattle.meson_rewrite.specs.Requests.{AsksFor, AsksForNone, only_asks, script}
-use Rattle.meson_rewrite.specs.Runs.{Edits, Ends, IsUnchanged, ListingEnds, OnlyAsks, RanOut, StepEnds, asks_for_none, done, has_none, helped, listed, lists, memory_ran_out, misused, no_memory, not_opened, refused, shown, steps, told, told_version, unwritten, wants_memory, written}
+use Rattle.meson_rewrite.specs.Runs.{Edits, Ends, IsUnchanged, KeepsFiles, ListingEnds, OnlyAsks, StepEnds, asks_for_none, done, has_none, helped, listed, lists, memory_ran_out, misused, no_memory, not_opened, refused, shown, steps, told, told_version, unwritten, wants_memory, written}
 use Rattle.meson_rewrite.specs.Steps.{MayRefuse, only_tells}
 use Rattle.meson_rewrite.specs.Stops.{WantsMemory}
 use Rattle.meson_rewrite.specs.declared.steps.Edit.{Edit}
@@ -201,7 +201,7 @@ ran-out dir step before after e taken = kept before.content refl
 
 module _ (asked : Result Asked UsageFault) (before after : Seen) where
   abbrev Keeps : ℕ → Type 0
-  Keeps code = (after.content ≡ before.content) × ((after.replaces ≡ before.replaces) ⊎ ((code ≡ 1) × RanOut asked before after))
+  Keeps code = KeepsFiles asked before after code
 
   untouched-keeps : (code : ℕ) → Untouched before after → Keeps code
   untouched-keeps code u = (u.kept, inl u.no_replace)
@@ -230,8 +230,8 @@ module _ (asked : Result Asked UsageFault) (before after : Seen) where
     step-keeps _ (unwritten e fault writes wet taken) s = unwritten-keeps e fault taken s
     step-keeps _ (no_memory stop u wants) s = untouched-keeps (stop_status stop) u
 
-pub status-keeps : (asked : Result Asked UsageFault) (before after : Seen) (end : Result Said Stop) → Ends asked before after end → Refusing (status end) →
-    (after.content ≡ before.content) × ((after.replaces ≡ before.replaces) ⊎ ((status end ≡ 1) × RanOut asked before after))
+pub status-keeps : (asked : Result Asked UsageFault) (before after : Seen) (end : Result Said Stop) → Ends asked before after end → Refusing (status end)
+    → KeepsFiles asked before after (status end)
 status-keeps asked before after _ (misused fault u is) s = untouched-keeps asked before after (usage_status fault) u
 status-keeps asked before after _ (helped a text u is shows) s = untouched-keeps asked before after 0 u
 status-keeps asked before after _ (told_version a u is shows) s = untouched-keeps asked before after 0 u
