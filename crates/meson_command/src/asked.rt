@@ -190,7 +190,8 @@ pub fn command_of(alloc: Global, words: &[String]) -> Result<Asked, UsageFault>
     ensures ok { IfOk result (λ a. asked_by (map string_bytes words.now) ≡ Ok (without_text a)) }
     ensures refused { IfErr result (λ e. e ≢ OutOfMemory → asked_by (map string_bytes words.now) ≡ Err e) }
     ensures taken { takes program (map string_bytes words.now) ≡ true → IfOk result (λ a. asked_of (map string_bytes words.now) ≡ Ok a) }
-    ensures taken_refused { takes program (map string_bytes words.now) ≡ true → IfErr result (λ e. e ≢ OutOfMemory → asked_of (map string_bytes words.now) ≡ Err e) }
+    ensures taken_refused { takes program (map string_bytes words.now) ≡ true
+        → IfErr result (λ e. e ≢ OutOfMemory → asked_of (map string_bytes words.now) ≡ Err e) }
     ensures title { IfOk result (λ a. is_title a.title ≡ true) }
 {
     let command = named_program(alloc)?;

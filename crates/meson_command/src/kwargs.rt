@@ -37,7 +37,8 @@ fn kwargs_by(
     matches: &ArgMatches<'_>,
 ) -> Result<Action, UsageFault>
     ensures ok { IfOk result (λ a. kwargs_by operation role id (words_at (codes "KEY VALUE") (rows_of (found_of matches.now))) ≡ Ok a) }
-    ensures refused { IfErr result (λ e. e ≢ OutOfMemory → kwargs_by operation role id (words_at (codes "KEY VALUE") (rows_of (found_of matches.now))) ≡ Err e) }
+    ensures refused { IfErr result (λ e. e ≢ OutOfMemory
+        → kwargs_by operation role id (words_at (codes "KEY VALUE") (rows_of (found_of matches.now))) ≡ Err e) }
 {
     if let KwargsOperation::Info = operation {
         return Ok(Action::Info(Command::KwargsInfo { role, id }));

@@ -1,6 +1,6 @@
 -- Names that are entered one after another.
 use Rattle.std.proofs.Common.{◌≡◌, ◌≤◌, ℕ, List, [], ◌∷◌, ◌++◌, length, refl, sym, ap, ◌∙◌, append_assoc, ◌+◌, ◌<◌, suc, map, take, drop, get_or, arith, length-append}
-use Rattle.std.specs.Prelude.{All, true, false, Option, Some, None, is_some, option_and_then}
+use Rattle.std.specs.Prelude.{All, Option, Some, None, option_and_then}
 use Rattle.std.proofs.lemmas.List.{append-nil, map-append, take-append-drop}
 use Rattle.std.proofs.Math.Seq.{take-suc}
 use Rattle.std.proofs.lemmas.List.Elements.{All-nil, All-cons, All-append, All-contains, All-same, Contains-append_right}
@@ -75,17 +75,6 @@ module _ (content : Content) (folder : Option (List ℕ)) where
   module _ (files : List File) (name : List ℕ) where
     one : (o : Option ℕ) (bytes : Option (List ℕ)) → found name files ≡ o → held content folder name ≡ bytes → entered content folder (name ∷ []) files ≡ option_and_then (entered content folder []) (joined files name o bytes)
     one o bytes h k = ap (λ p. option_and_then (entered content folder []) (joined files name p (held content folder name))) h ∙ ap (λ b. option_and_then (entered content folder []) (joined files name o b)) k
-
-    pub enter_there : (o : Option ℕ) → found name files ≡ o → is_some o ≡ true → entered content folder (name ∷ []) files ≡ Some files
-    enter_there (Some i) h some = one (Some i) (held content folder name) h refl
-    enter_there None h some = absurd (let no : ⊥ = cc in no)
-
-    pub is_none : (o : Option ℕ) → found name files ≡ o → is_some o ≡ false → found name files ≡ None
-    is_none (Some i) h some = absurd (let no : ⊥ = cc in no)
-    is_none None h some = h
-
-    pub enter_absent : found name files ≡ None → held content folder name ≡ None → entered content folder (name ∷ []) files ≡ Some files
-    enter_absent h k = one None None h k
 
     just : (o : Option (List File)) → option_and_then (entered content folder []) o ≡ o
     just None = refl

@@ -1,6 +1,6 @@
 -- What stops a step stops the steps around it.
 use Rattle.std.proofs.Common.{◌≡◌, ◌<◌, ◌≤◌, ℕ, Bool, true, false, List, inl, inr, refl, subst, sym, arith}
-use Rattle.std.specs.Prelude.{◌≢◌, nat_lt, None, Result, Ok, Err, IfErr, OnOk}
+use Rattle.std.specs.Prelude.{◌≢◌, nat_lt, None, Result, Ok, Err, IfErr}
 use Rattle.std.proofs.lemmas.Bool.Decides.{nat_tests}
 use Rattle.meson_splice.specs.declared.file_set.File.{File}
 use Rattle.meson_syntax.specs.declared.fault.ParseFault.{ParseFault}
@@ -48,10 +48,6 @@ unread_stops P old new name store.OutOfMemory p h = h
 pub if_err : {T E : Type 0} (P Q : E → Type 0) → ((e : E) → P e → Q e) → (r : Result T E) → IfErr r P → IfErr r Q
 if_err P Q carry (Ok x) h = h
 if_err P Q carry (Err e) h = carry e h
-
-pub on_ok : {T E : Type 0} (P Q : Type 0) → (P → Q) → (r : Result T E) → OnOk r P → OnOk r Q
-on_ok P Q carry (Ok x) h = carry h
-on_ok P Q carry (Err e) h = h
 
 memory_stops : (P : Ending → Type 0) (old new : ℕ) (fault : StoreFault) → fault ≡ store.OutOfMemory → StoreStopsAt old new P fault
 memory_stops P old new fault e = subst (StoreStopsAt old new P) (sym e) tt

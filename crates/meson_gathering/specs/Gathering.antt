@@ -1,5 +1,6 @@
 -- The files of a project as a store has them: the root file, and those that `subdir` calls enter.
-use Rattle.std.specs.Prelude.{◌≡◌, ◌≢◌, ℕ, nat_lt, List, [], ◌∷◌, ◌++◌, length, if◌then◌else◌, Option, Some, None, option_and_then}
+use Rattle.std.specs.Prelude.{◌≡◌, ◌≢◌, ℕ, nat_lt, List, [], ◌∷◌, ◌++◌, length, if◌then◌else◌, Option, Some, None, option_and_then, option_map}
+use Rattle.std.specs.Borrow.{Bor}
 use Rattle.std.specs.FinMap.{get}
 use Rattle.meson_splice.specs.declared.file_set.File.{File}
 use Rattle.meson_splice.specs.Files.{found}
@@ -14,6 +15,10 @@ use Rattle.meson_store.specs.Content.{Content}
 
 abbrev pub file_of : List ℕ → List ℕ → File
 file_of name bytes = record { name = name; bytes = bytes }
+
+-- the folder whose name is given, if one is
+abbrev pub named_folder : Option (Bor (List ℕ)) → Option (List ℕ)
+named_folder name = option_map (λ n. n.now) name
 
 -- ---- one name after another
 

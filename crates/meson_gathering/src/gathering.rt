@@ -7,7 +7,7 @@ ghost use Rattle.meson_syntax.specs.View.{view};
 ghost use Rattle.meson_calls.specs.Directories.{IsFileName, build_file};
 ghost use Rattle.meson_calls.specs.Loading.{HasFileName, IsProject, max_files, name_at};
 ghost use Rattle.meson_calls.specs.Subdirs.{Enters};
-ghost use Rattle.meson_gathering.specs.Gathering.{Collects, Finds, Gathers, Told, entered, file_of, held, whole, with_more};
+ghost use Rattle.meson_gathering.specs.Gathering.{Collects, Finds, Gathers, Told, entered, file_of, held, named_folder, whole, with_more};
 ghost use Rattle.meson_gathering.specs.Gathered.{Grows, IsNotAdded, IsNotEntered, IsUnread, LooksAt, StopsAt, StopsLooking};
 ghost use Rattle.meson_gathering.specs.Reading.{EntersEach, EntersFor, EntersOne, OnceAtMost, OnceIfNew, ReadsFiles, StopsEntering, StopsFor, StopsReading};
 ghost use Rattle.meson_store.specs.Calls.{one_more};
@@ -43,7 +43,7 @@ pub fn read_file<S: Store>(
     name: &str,
 ) -> Result<Option<Vec<u8>>, StoreFault>
     ensures read { IfOk result (λ bytes. Told (S.content store.old)
-        (λ content. option_map (λ b. b.items) bytes ≡ held content (option_map (λ f. f.now) folder.entry) name.now)) }
+        (λ content. option_map (λ b. b.items) bytes ≡ held content (named_folder folder.entry) name.now)) }
     ensures failed { IfErr result (IsUnread (S.failures store.old) (S.failures store.new) name.now) }
     ensures kept { S.content store.new ≡ S.content store.old }
     ensures counts { S.failures store.old ≤ S.failures store.new }
@@ -87,14 +87,15 @@ fn enter<S: Store>(
     requires named { IsFileName name.now }
     requires few { length files.old ≤ max_files }
     ensures entered { OnOk result (Told (S.content store.old)
-        (λ content. entered content (option_map (λ f. f.now) folder.entry) (name.now ∷ []) files.old ≡ Some files.new)) }
+        (λ content. entered content (named_folder folder.entry) (name.now ∷ []) files.old ≡ Some files.new)) }
     ensures grows { OnOk result (Grows files.old files.new) }
     ensures stopped { IfErr result (StopsAt (S.failures store.old) (S.failures store.new)
-        (λ end. Told (S.content store.old) (λ content. IsNotEntered content (option_map (λ f. f.now) folder.entry) (name.now ∷ []) files.old end))) }
+        (λ end. Told (S.content store.old) (λ content. IsNotEntered content (named_folder folder.entry) (name.now ∷ []) files.old end))) }
     ensures kept { S.content store.new ≡ S.content store.old }
     ensures counts { S.failures store.old ≤ S.failures store.new }
     ensures no_replace { S.replaces store.new ≡ S.replaces store.old }
-    ensures asks { OnOk result (EntersOne (S.content store.old) (option_map (λ f. f.now) folder.entry) name.now files.old (S.reads store.old) files.new (S.reads store.new)) }
+    ensures asks { OnOk result (EntersOne (S.content store.old) (named_folder folder.entry) name.now files.old (S.reads store.old)
+        files.new (S.reads store.new)) }
     ensures asks_at_most { OnErr result (OnceIfNew name.now files.old (S.reads store.old) (S.reads store.new)) }
 {
     if files.has(name) {
@@ -118,15 +119,17 @@ fn enter_all<S: Store>(
     requires named { All IsFileName (map string_bytes names.now) }
     requires few { length files.old ≤ max_files }
     ensures entered { OnOk result (Told (S.content store.old)
-        (λ content. entered content (option_map (λ f. f.now) folder.entry) (map string_bytes names.now) files.old ≡ Some files.new)) }
+        (λ content. entered content (named_folder folder.entry) (map string_bytes names.now) files.old ≡ Some files.new)) }
     ensures grows { OnOk result (Grows files.old files.new) }
     ensures stopped { IfErr result (StopsAt (S.failures store.old) (S.failures store.new)
-        (λ end. Told (S.content store.old) (λ content. IsNotEntered content (option_map (λ f. f.now) folder.entry) (map string_bytes names.now) files.old end))) }
+        (λ end. Told (S.content store.old) (λ content. IsNotEntered content (named_folder folder.entry) (map string_bytes names.now) files.old end))) }
     ensures kept { S.content store.new ≡ S.content store.old }
     ensures counts { S.failures store.old ≤ S.failures store.new }
     ensures no_replace { S.replaces store.new ≡ S.replaces store.old }
-    ensures asks { OnOk result (EntersEach (S.content store.old) (option_map (λ f. f.now) folder.entry) files.old (S.reads store.old) (map string_bytes names.now) files.new (S.reads store.new)) }
-    ensures asks_at_most { OnErr result (StopsEntering (S.content store.old) (option_map (λ f. f.now) folder.entry) files.old (S.reads store.old) (map string_bytes names.now) (S.reads store.new)) }
+    ensures asks { OnOk result (EntersEach (S.content store.old) (named_folder folder.entry) files.old (S.reads store.old)
+        (map string_bytes names.now) files.new (S.reads store.new)) }
+    ensures asks_at_most { OnErr result (StopsEntering (S.content store.old) (named_folder folder.entry) files.old (S.reads store.old)
+        (map string_bytes names.now) (S.reads store.new)) }
 {
     for i in 0..names.len() {
         enter(alloc, store, folder, files, names[i].as_str())?;
@@ -186,16 +189,18 @@ fn look<S: Store>(
     requires named { All HasFileName files.old }
     requires few { length files.old ≤ max_files }
     ensures looked { OnOk result (Told (S.content store.old)
-        (λ content. LooksAt content (option_map (λ f. f.now) folder.entry) place files.old files.new)) }
+        (λ content. LooksAt content (named_folder folder.entry) place files.old files.new)) }
     ensures reads { IfOk result (λ tree. IsSpanned (bytes_at place files.old) (view (bytes_at place files.old) tree)) }
     ensures grows { OnOk result (Grows files.old files.new) }
     ensures stopped { IfErr result (StopsAt (S.failures store.old) (S.failures store.new)
-        (λ end. Told (S.content store.old) (λ content. Gathers content (option_map (λ f. f.now) folder.entry) (take place files.old) (drop place files.old) end))) }
+        (λ end. Told (S.content store.old) (λ content. Gathers content (named_folder folder.entry) (take place files.old) (drop place files.old) end))) }
     ensures kept { S.content store.new ≡ S.content store.old }
     ensures counts { S.failures store.old ≤ S.failures store.new }
     ensures no_replace { S.replaces store.new ≡ S.replaces store.old }
-    ensures asks { OnOk result (EntersFor (S.content store.old) (option_map (λ f. f.now) folder.entry) files.old place (S.reads store.old) files.new (S.reads store.new)) }
-    ensures asks_at_most { OnErr result (StopsFor (S.content store.old) (option_map (λ f. f.now) folder.entry) files.old place (S.reads store.old) (S.reads store.new)) }
+    ensures asks { OnOk result (EntersFor (S.content store.old) (named_folder folder.entry) files.old place (S.reads store.old)
+        files.new (S.reads store.new)) }
+    ensures asks_at_most { OnErr result (StopsFor (S.content store.old) (named_folder folder.entry) files.old place (S.reads store.old)
+        (S.reads store.new)) }
 {
     let Entry { tree, names } = entry_at(alloc, files, place)?;
     enter_all(alloc, store, folder, files, names.as_slice())?;
@@ -209,9 +214,9 @@ fn root_set<S: Store>(
     folder: Option<&str>,
 ) -> Result<NamedFiles, GatherFault>
     ensures root { IfOk result (λ files. (bytes : List ℕ) × (files ≡ file_of build_file bytes ∷ [])
-        × Told (S.content store.old) (λ content. held content (option_map (λ f. f.now) folder.entry) build_file ≡ Some bytes)) }
+        × Told (S.content store.old) (λ content. held content (named_folder folder.entry) build_file ≡ Some bytes)) }
     ensures stopped { IfErr result (StopsAt (S.failures store.old) (S.failures store.new)
-        (Finds (S.content store.old) (option_map (λ f. f.now) folder.entry))) }
+        (Finds (S.content store.old) (named_folder folder.entry))) }
     ensures kept { S.content store.new ≡ S.content store.old }
     ensures counts { S.failures store.old ≤ S.failures store.new }
     ensures no_replace { S.replaces store.new ≡ S.replaces store.old }
@@ -240,14 +245,15 @@ pub fn gather<S: Store>(
     store: &mut S,
     folder: Option<&str>,
 ) -> Result<Project, GatherFault>
-    ensures files { IfOk result (λ project. Finds (S.content store.old) (option_map (λ f. f.now) folder.entry) (whole project.files)) }
+    ensures files { IfOk result (λ project. Finds (S.content store.old) (named_folder folder.entry) (whole project.files)) }
     ensures stopped { IfErr result (StopsAt (S.failures store.old) (S.failures store.new)
-        (Finds (S.content store.old) (option_map (λ f. f.now) folder.entry))) }
+        (Finds (S.content store.old) (named_folder folder.entry))) }
     ensures kept { S.content store.new ≡ S.content store.old }
     ensures counts { S.failures store.old ≤ S.failures store.new }
     ensures no_replace { S.replaces store.new ≡ S.replaces store.old }
-    ensures asks { IfOk result (λ project. ReadsFiles (S.content store.old) (option_map (λ f. f.now) folder.entry) (S.reads store.old) project.files (S.reads store.new)) }
-    ensures asks_at_most { OnErr result (StopsReading (S.content store.old) (option_map (λ f. f.now) folder.entry) (S.reads store.old) (S.reads store.new)) }
+    ensures asks { IfOk result (λ project. ReadsFiles (S.content store.old) (named_folder folder.entry) (S.reads store.old)
+        project.files (S.reads store.new)) }
+    ensures asks_at_most { OnErr result (StopsReading (S.content store.old) (named_folder folder.entry) (S.reads store.old) (S.reads store.new)) }
 {
     let mut files = root_set(alloc, store, folder)?;
     let mut trees = Vec::new(alloc);

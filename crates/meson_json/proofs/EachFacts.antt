@@ -3,7 +3,7 @@ use Rattle.std.proofs.Common.{◌≡◌, ◌∙◌, Bool, true, false, ◌&&◌,
 use Rattle.std.specs.Prelude.{option_map}
 use Rattle.std.specs.List.{list_all}
 use Rattle.std.proofs.lemmas.List.Folds.{list_all-append}
-use Rattle.std.proofs.Math.Seq.{drop-cons}
+use Rattle.std.proofs.Math.Seq.{drop-cons, drop-length}
 use Rattle.serde_json.specs.Data.{Data}
 use Rattle.serde_json.specs.View.{view, items_view, members_view}
 use Rattle.serde_json.specs.declared.value.Value.{Value}
@@ -13,17 +13,9 @@ use Rattle.meson_json.specs.Each.{each_of, each_member, names_of}
 abbrev pub after : {A : Type 0} → List A → Option (List A) → Option (List A)
 after done r = option_map (λ rest. done ++ rest) r
 
-pub after-nothing : {A : Type 0} (r : Option (List A)) → after [] r ≡ r
-after-nothing None = refl
-after-nothing (Some rest) = refl
-
 onto : {A : Type 0} (done : List A) (x : A) (r : Option (List A)) → after done (option_map (λ xs. x ∷ xs) r) ≡ after (done ++ x ∷ []) r
 onto done x None = refl
 onto done x (Some rest) = ap (λ t. Some t) (sym (append_assoc done (x ∷ []) rest))
-
-drop_whole : {A : Type 0} (xs : List A) → drop (length xs) xs ≡ []
-drop_whole [] = refl
-drop_whole (x ∷ xs) = drop_whole xs
 
 -- ---- the items of an array
 
@@ -39,7 +31,7 @@ each_of-refuses f vs i done v h is gives = rw (drop-cons vs i v, ← is, gives) 
 
 pub each_of-all : {A : Type 0} (f : Data → Option A) (vs : List Value) (i : ℕ) (done : List A) → length vs ≡ i → after done (each_of f (items_view (drop i vs))) ≡ Some done
 unfolding each_of
-each_of-all f vs i done h = rw (← h, drop_whole vs, append-nil) refl
+each_of-all f vs i done h = rw (← h, drop-length vs, append-nil) refl
 
 -- ---- the members of an object
 

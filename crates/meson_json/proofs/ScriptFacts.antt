@@ -1,7 +1,7 @@
 -- A loop over the entries of a script.
 use Rattle.std.proofs.Common.{◌≡◌, ℕ, suc, ◌+◌, ◌<◌, ◌≤◌, true, false, List, [], ◌∷◌, ◌++◌, length, drop, get_or, Result, Ok, Err, refl, sym, ap, arith, add-one, append_assoc, append-nil}
 use Rattle.std.specs.Prelude.{nat_lt}
-use Rattle.std.proofs.Math.Seq.{drop-cons}
+use Rattle.std.proofs.Math.Seq.{drop-cons, drop-length}
 use Rattle.std.proofs.lemmas.Bool.Decides.{nat_tests}
 use Rattle.serde_json.specs.Events.{items_len}
 use Rattle.serde_json.specs.View.{view, items_view}
@@ -20,14 +20,6 @@ onto : (done : List Command) (c : Command) (r : Result (List Command) ScriptFaul
 onto done c (Err e) = refl
 onto done c (Ok rest) = ap (λ t. Ok t) (sym (append_assoc done (c ∷ []) rest))
 
-drop_whole : {A : Type 0} (xs : List A) → drop (length xs) xs ≡ []
-drop_whole [] = refl
-drop_whole (x ∷ xs) = drop_whole xs
-
-pub entries-none : (r : Result (List Command) ScriptFault) → after_done [] r ≡ r
-entries-none (Ok cs) = refl
-entries-none (Err e) = refl
-
 pub entries-more : (vs : List Value) (i : ℕ) (done : List Command) (v : Value) (c : Command) → i < length vs → v ≡ get_or vs i v → entry_of i (view v) ≡ Ok c
     → after_done done (entries_of i (items_view (drop i vs))) ≡ after_done (done ++ c ∷ []) (entries_of (i + 1) (items_view (drop (i + 1) vs)))
 unfolding entries_of
@@ -40,7 +32,7 @@ entries-refused vs i done v e h is gives = rw (drop-cons vs i v, ← is, gives) 
 
 pub entries-all : (vs : List Value) (i : ℕ) (done : List Command) → length vs ≡ i → after_done done (entries_of i (items_view (drop i vs))) ≡ Ok done
 unfolding entries_of
-entries-all vs i done h = rw (← h, drop_whole vs, append-nil) refl
+entries-all vs i done h = rw (← h, drop-length vs, append-nil) refl
 
 pub too_many : (vs : List Value) → 4096 < length vs → nat_lt max_commands (items_len (items_view vs)) ≡ true
 too_many vs h = rw (items_len-items_view vs) (grind (arith, nat_tests))

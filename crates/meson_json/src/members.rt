@@ -111,8 +111,10 @@ pub(crate) fn members_or<'a>(
     name: &str,
     otherwise: &'a Map<String, Value>,
 ) -> Result<&'a Map<String, Value>, ScriptFault>
-    ensures ok { IfOk result (λ m. members_or index name.now (members_view otherwise.now.entries) (get name.now (view entry.now)) ≡ Ok (members_view m.now.entries)) }
-    ensures refused { IfErr result (λ e. e ≢ OutOfMemory → members_or index name.now (members_view otherwise.now.entries) (get name.now (view entry.now)) ≡ Err e) }
+    ensures ok { IfOk result (λ m. members_or index name.now (members_view otherwise.now.entries) (get name.now (view entry.now))
+        ≡ Ok (members_view m.now.entries)) }
+    ensures refused { IfErr result (λ e. e ≢ OutOfMemory
+        → members_or index name.now (members_view otherwise.now.entries) (get name.now (view entry.now)) ≡ Err e) }
 {
     let Some(member) = entry.get(name) else {
         return Ok(otherwise);

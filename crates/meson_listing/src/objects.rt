@@ -52,7 +52,8 @@ fn put_sources(
     files: &FileSet,
     sources: Sources,
 ) -> Result<(), AllocError>
-    ensures { OnOk result (members_view members.new.entries ≡ with_member opaque_key.now (number (unsigned sources.opaque)) (with_member key.now (items_data files.now sources.items) (members_view members.old.entries))) }
+    ensures { OnOk result (members_view members.new.entries ≡ with_member opaque_key.now (number (unsigned sources.opaque))
+        (with_member key.now (items_data files.now sources.items) (members_view members.old.entries))) }
 {
     let items = items_value(alloc, files, sources.items)?;
     put(members, alloc, key, items)?;

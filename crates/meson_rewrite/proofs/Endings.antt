@@ -7,13 +7,11 @@ use Rattle.meson_command.specs.declared.asked.Action.TheVariants as action
 use Rattle.meson_command.specs.declared.asked.Asked.{Asked}
 use Rattle.meson_command.specs.declared.fault.UsageFault.{UsageFault}
 use Rattle.meson_script.specs.declared.session.Session.{Session}
-use Rattle.meson_store.specs.Calls.{FailureCounted, counted}
+use Rattle.meson_store.specs.Calls.{counted}
 use Rattle.meson_store.proofs.Restoring.{CutLast, HasOld, each-map, puts-cut, restored, untold-restored}
 use Rattle.meson_store.specs.Commit.{AreReplaced, CommitFails, Put, TakenBack, put_all, put_in, puts}
 use Rattle.meson_store.specs.Content.{Content}
 use Rattle.meson_store.specs.Seen.{Seen, Untouched}
-use Rattle.meson_store.specs.declared.store.StoreError.{StoreError}
-use Rattle.meson_store.specs.declared.store.StoreError.TheVariants as error
 use Rattle.meson_store.specs.declared.store_fault.StoreFault.{StoreFault}
 use Rattle.meson_store.specs.declared.store_fault.StoreFault.TheVariants as store
 use Rattle.meson_gathering.proofs.Stopping.{rose_before, stops_within}
@@ -24,11 +22,11 @@ use Rattle.meson_rewrite.proofs.Holding.{IsHeld, held-collected}
 use Rattle.meson_rewrite.specs.Listed.{listed_text}
 use Rattle.meson_rewrite.specs.Logs.{log_name, with_log}
 use Rattle.meson_rewrite.specs.Opening.{IsNoLog, Opens, OpensNone, log_unread, bad_log, no_log, no_project}
-use Rattle.meson_rewrite.specs.Requests.{AsksFor, AsksForNone, only_asks, only_shows, script}
-use Rattle.meson_rewrite.specs.Runs.{Edits, Ends, IsUnchanged, ListingEnds, OnlyAsks, RanOut, StepEnds, asks_for_none, done, has_none, helped, listed, lists, memory_ran_out, misused, no_memory, not_opened, refused, shown, steps, told, told_version, unwritten, wants_memory, written}
+use Rattle.meson_rewrite.specs.Requests.{AsksFor, AsksForNone, only_asks, script}
+use Rattle.meson_rewrite.specs.Runs.{Edits, Ends, IsUnchanged, KeepsFiles, ListingEnds, OnlyAsks, StepEnds, asks_for_none, done, has_none, helped, listed, lists, memory_ran_out, misused, no_memory, not_opened, refused, shown, steps, told, told_version, unwritten, wants_memory, written}
 use Rattle.meson_rewrite.specs.Steps.{MayRefuse, only_tells}
 use Rattle.meson_rewrite.specs.Stops.{WantsMemory}
-use Rattle.meson_rewrite.specs.declared.editing.Edit.{Edit}
+use Rattle.meson_rewrite.specs.declared.steps.Edit.{Edit}
 use Rattle.meson_rewrite.specs.declared.request.Listing.{Listing}
 use Rattle.meson_rewrite.specs.declared.request.Request.TheVariants as request
 use Rattle.meson_rewrite.specs.declared.request.Step.{Step}
@@ -47,11 +45,6 @@ untouched-then a b c h k = record {
 }
 
 module _ (dir : Option (List ℕ)) (before : Option Content) (first old new : ℕ) (h : first ≤ old) (k : old ≤ new) where
-  counted-before : (why : StoreError) → FailureCounted why old new → FailureCounted why first new
-  counted-before error.Device c = rose_before first old new h k c
-  counted-before error.Unchanged c = rose_before first old new h k c
-  counted-before error.OutOfMemory c = c
-
   pub no-log-before : (stop : Stop) → IsNoLog before dir old new stop → IsNoLog before dir first new stop
   no-log-before _ (log_unread rose) = log_unread (rose_before first old new h k rose)
   no-log-before _ (bad_log bad) = bad_log bad
@@ -208,7 +201,7 @@ ran-out dir step before after e taken = kept before.content refl
 
 module _ (asked : Result Asked UsageFault) (before after : Seen) where
   abbrev Keeps : ℕ → Type 0
-  Keeps code = (after.content ≡ before.content) × ((after.replaces ≡ before.replaces) ⊎ ((code ≡ 1) × RanOut asked before after))
+  Keeps code = KeepsFiles asked before after code
 
   untouched-keeps : (code : ℕ) → Untouched before after → Keeps code
   untouched-keeps code u = (u.kept, inl u.no_replace)
@@ -237,8 +230,8 @@ module _ (asked : Result Asked UsageFault) (before after : Seen) where
     step-keeps _ (unwritten e fault writes wet taken) s = unwritten-keeps e fault taken s
     step-keeps _ (no_memory stop u wants) s = untouched-keeps (stop_status stop) u
 
-pub status-keeps : (asked : Result Asked UsageFault) (before after : Seen) (end : Result Said Stop) → Ends asked before after end → Refusing (status end) →
-    (after.content ≡ before.content) × ((after.replaces ≡ before.replaces) ⊎ ((status end ≡ 1) × RanOut asked before after))
+pub status-keeps : (asked : Result Asked UsageFault) (before after : Seen) (end : Result Said Stop) → Ends asked before after end → Refusing (status end)
+    → KeepsFiles asked before after (status end)
 status-keeps asked before after _ (misused fault u is) s = untouched-keeps asked before after (usage_status fault) u
 status-keeps asked before after _ (helped a text u is shows) s = untouched-keeps asked before after 0 u
 status-keeps asked before after _ (told_version a u is shows) s = untouched-keeps asked before after 0 u
@@ -279,26 +272,6 @@ not-asked a b c u stop (inr none) = asks_for_none a stop u refl none
 pub not-used : (asked : Result Asked UsageFault) (b c : Seen) → Untouched b c → (fault : UsageFault) → WantsMemory (Usage fault) ⊎ (asked ≡ Err fault) → Ends asked b c (Err (Usage fault))
 not-used asked b c u fault (inl m) = memory_ran_out (Usage fault) u m
 not-used asked b c u fault (inr is) = misused fault u is
-
-pub shows-same : (a : Asked) → IsTrue (only_shows (without_text a).action) → IsTrue (only_shows a.action)
-shows-same a t = go a.action t
-  where
-    go : (x : Action) → IsTrue (only_shows (without_text (record { dir = None; title = []; dry_run = false; action = x })).action) → IsTrue (only_shows x)
-    go (action.Run s) t = t
-    go (action.Info c) t = t
-    go (action.ScriptText text) t = t
-    go (action.ScriptFile n) t = t
-    go action.Undo t = t
-    go (action.UndoTo count) t = t
-    go (action.UndoChecked count name) t = t
-    go (action.ForgetOldest count) t = t
-    go action.ForgetAll t = t
-    go action.Redo t = t
-    go action.History t = t
-    go (action.List json) t = t
-    go action.Sums t = t
-    go (action.Help text) t = t
-    go action.Version t = t
 
 -- ---- help, the version, a listing and what an info command tells leave the store as it is
 

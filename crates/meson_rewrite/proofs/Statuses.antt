@@ -8,7 +8,7 @@ use Rattle.meson_store.specs.Seen.{Seen}
 use Rattle.meson_rewrite.proofs.Endings.{status-keeps}
 use Rattle.meson_rewrite.proofs.Reading.{done-by-status}
 use Rattle.meson_rewrite.specs.Lines.{status}
-use Rattle.meson_rewrite.specs.Runs.{Ends, RanOut, Tells}
+use Rattle.meson_rewrite.specs.Runs.{Ends, KeepsFiles, Tells}
 use Rattle.meson_rewrite.specs.declared.said.Said.{Said}
 use Rattle.meson_rewrite.specs.declared.stop.Stop.{Stop}
 
@@ -23,10 +23,10 @@ module _ (code : ℕ) (out out' err err' : Heard) (end : Result Said Stop) where
   told-done (inr failed) is = absurd (omega (arith, failed.0, is))
 
   pub told-keeps : (asked : Result Asked UsageFault) (before after : Seen) → Ends asked before after end → Tells code out out' err err' end → (code ≡ 1) ⊎ (code ≡ 2)
-      → (after.content ≡ before.content) × ((after.replaces ≡ before.replaces) ⊎ ((code ≡ 1) × RanOut asked before after))
+      → KeepsFiles asked before after code
   told-keeps asked before after ends told s =
       let is = told-refusing told s in
-      subst (λ n. (after.content ≡ before.content) × ((after.replaces ≡ before.replaces) ⊎ ((n ≡ 1) × RanOut asked before after))) (sym is)
+      subst (KeepsFiles asked before after) (sym is)
       (status-keeps asked before after end ends (subst (λ n. (n ≡ 1) ⊎ (n ≡ 2)) is s))
 
   pub told-reads : (P : Type 0) → OnOk end P → Tells code out out' err err' end → code ≡ 0 → P

@@ -3,8 +3,7 @@ use Rattle.std.proofs.Common.{◌≡◌, ◌<◌, ◌+◌, ℕ, zero, suc, List,
 use Rattle.std.proofs.lemmas.List.{append-nil}
 use Rattle.std.specs.Io.KnownBytes.{Appends}
 use Rattle.std.specs.Prelude.{codes}
-use Rattle.meson_store.specs.Content.{Rose}
-use Rattle.meson_store.specs.Output.{Fails, Heard, Gets}
+use Rattle.meson_store.specs.Output.{Heard, Gets}
 use Rattle.meson_rewrite.specs.Lines.{left_lines, line}
 
 appends_nothing : (c : Option (List ℕ)) → Appends c c []
@@ -21,9 +20,6 @@ appends_then None v w xs ys h k = tt
 appends_then (Some u) None w xs ys h k = absurd h
 appends_then (Some u) (Some v) None xs ys h k = absurd k
 appends_then (Some u) (Some v) (Some w) xs ys h k = k ∙ ap (λ b. b ++ ys) h ∙ append_assoc u xs ys
-
-pub fails_then : (a b c : Heard) (xs : List ℕ) → Gets a b xs → Fails b c → Fails a c
-fails_then a b c xs h f = subst (λ n. Rose n c.failures) h.1 f
 
 -- one more file was told of
 left_more : (names : List (List ℕ)) (i : ℕ) (name : List ℕ) → name ≡ get_or names i name → i < length names

@@ -9,7 +9,7 @@ use Rattle.meson_script.specs.declared.session.Report.{Report}
 use Rattle.meson_script.specs.declared.session.Session.{Session}
 use Rattle.meson_rewrite.specs.Logs.{with_log}
 use Rattle.meson_rewrite.specs.Steps.{Does, Shows, says}
-use Rattle.meson_rewrite.specs.declared.editing.Edit.{Edit}
+use Rattle.meson_rewrite.specs.declared.steps.Edit.{Edit}
 use Rattle.meson_rewrite.specs.declared.request.Step.{Step}
 use Rattle.meson_rewrite.specs.declared.said.Said.{Said}
 

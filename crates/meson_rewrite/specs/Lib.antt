@@ -8,5 +8,5 @@ pub mod Requests
 pub mod Opening
 pub mod Edited
 pub mod Runs
-pub mod Reads
+pub mod StoreReads
 pub mod Laws

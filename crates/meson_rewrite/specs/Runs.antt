@@ -30,6 +30,10 @@ use Rattle.meson_rewrite.specs.declared.said.Said.{Said}
 use Rattle.meson_rewrite.specs.declared.stop.Stop.{Stop}
 use Rattle.meson_rewrite.specs.declared.stop.Stop.TheVariants.{Usage, Store}
 
+-- what is known of a store, by what tells what it holds, its failures and its replaces
+abbrev pub seen_by : {A : Type 0} → (A → Option Content) → (A → ℕ) → (A → ℕ) → A → Seen
+seen_by content failures replaces store = record { content = content store; failures = failures store; replaces = replaces store }
+
 -- ---- a step on the project of a folder
 
 -- the session that the store has becomes another one, whose log is the last of the files
@@ -106,6 +110,10 @@ pub record RanOut (asked : Result Asked UsageFault) (before after : Seen) : Type
   pub asks : AsksFor a.title a.action before.content (request.Step step)
   pub edits : Edits before.content a.dir step
   pub taken : TakenBack (written edits) before after OutOfMemory
+
+-- All is as before, or memory ran out so: then the files are as before, and the status is 1.
+abbrev pub KeepsFiles : Result Asked UsageFault → Seen → Seen → ℕ → Type 0
+KeepsFiles asked before after code = (after.content ≡ before.content) × ((after.replaces ≡ before.replaces) ⊎ ((code ≡ 1) × RanOut asked before after))
 
 -- the folder of the project
 abbrev pub dir_of : Result Asked UsageFault → Option (List ℕ)

@@ -2,7 +2,6 @@
 #![tactic(auto)]
 
 mod changes;
-mod editing;
 pub mod laws;
 mod lines;
 mod listed;
@@ -10,6 +9,7 @@ mod opening;
 mod program;
 mod request;
 mod said;
+mod steps;
 mod stop;
 
 pub use meson_store::{Counted, Folder, Memory, Output, Store, StoreError, StoreFault, commit};

@@ -1,13 +1,13 @@
 //! The session of a project in a store.
 
-ghost use Rattle.std.specs.Prelude.{◌≡◌, ◌≤◌, ◌⊎◌, IfOk, IfErr, None, OnErr, OnOk, Some, option_map, true};
+ghost use Rattle.std.specs.Prelude.{◌≡◌, ◌≤◌, ◌⊎◌, IfOk, IfErr, None, OnErr, OnOk, Some, true};
 ghost use Rattle.meson_json.specs.Log.{has_text, logged};
 ghost use Rattle.meson_json.specs.declared.fault.ScriptFault.TheVariants.{BadLog};
 ghost use Rattle.meson_rewrite.specs.declared.stop.Stop.TheVariants.{Script};
-ghost use Rattle.meson_gathering.specs.Gathering.{Told, held};
+ghost use Rattle.meson_gathering.specs.Gathering.{Told, held, named_folder};
 ghost use Rattle.meson_rewrite.specs.Logs.{IsLog, log_name};
 ghost use Rattle.meson_rewrite.specs.Opening.{IsNoLog, Opens, OpensNone};
-ghost use Rattle.meson_rewrite.specs.Reads.{ReadsAtMost, ReadsWithLog};
+ghost use Rattle.meson_rewrite.specs.StoreReads.{ReadsAtMost, ReadsWithLog};
 ghost use Rattle.meson_rewrite.specs.Stops.{WantsMemory};
 ghost use Rattle.meson_store.specs.Calls.{one_more};
 ghost use Rattle.meson_gathering.specs.Reading.{OnceAtMost};
@@ -45,9 +45,10 @@ fn log_in(alloc: Global, text: Vec<u8>) -> Result<Log, Stop>
 /// The log of the project in this folder; that of no changes where there is none.
 fn read_history<S: Store>(alloc: Global, store: &mut S, dir: Option<&str>) -> Result<Log, Stop>
     ensures read { IfOk result (λ log. Told (S.content store.old)
-        (λ content. IsLog (held content (option_map (λ d. d.now) dir.entry) log_name) log.text.items log.history)) }
+        (λ content. IsLog (held content (named_folder dir.entry) log_name) log.text.items log.history)) }
     ensures text { IfOk result (λ log. has_text log.history ≡ true) }
-    ensures none { IfErr result (λ why. WantsMemory why ⊎ IsNoLog (S.content store.old) (option_map (λ d. d.now) dir.entry) (S.failures store.old) (S.failures store.new) why) }
+    ensures none { IfErr result (λ why. WantsMemory why
+        ⊎ IsNoLog (S.content store.old) (named_folder dir.entry) (S.failures store.old) (S.failures store.new) why) }
     ensures kept { S.content store.new ≡ S.content store.old }
     ensures counts { S.failures store.old ≤ S.failures store.new }
     ensures no_replace { S.replaces store.new ≡ S.replaces store.old }
@@ -90,13 +91,15 @@ pub(crate) fn open<S: Store>(
     store: &mut S,
     dir: Option<&str>,
 ) -> Result<Opened, Stop>
-    ensures opens { IfOk result (λ o. Opens (S.content store.old) (option_map (λ d. d.now) dir.entry) o.session o.log.items) }
-    ensures none { IfErr result (λ why. WantsMemory why ⊎ OpensNone (S.content store.old) (option_map (λ d. d.now) dir.entry) (S.failures store.old) (S.failures store.new) why) }
+    ensures opens { IfOk result (λ o. Opens (S.content store.old) (named_folder dir.entry) o.session o.log.items) }
+    ensures none { IfErr result (λ why. WantsMemory why
+        ⊎ OpensNone (S.content store.old) (named_folder dir.entry) (S.failures store.old) (S.failures store.new) why) }
     ensures kept { S.content store.new ≡ S.content store.old }
     ensures counts { S.failures store.old ≤ S.failures store.new }
     ensures no_replace { S.replaces store.new ≡ S.replaces store.old }
-    ensures reads { IfOk result (λ o. ReadsWithLog (S.content store.old) (option_map (λ d. d.now) dir.entry) (S.reads store.old) o.session.project.files (S.reads store.new)) }
-    ensures reads_at_most { OnErr result (ReadsAtMost (S.content store.old) (option_map (λ d. d.now) dir.entry) (S.reads store.old) (S.reads store.new)) }
+    ensures reads { IfOk result (λ o. ReadsWithLog (S.content store.old) (named_folder dir.entry) (S.reads store.old)
+        o.session.project.files (S.reads store.new)) }
+    ensures reads_at_most { OnErr result (ReadsAtMost (S.content store.old) (named_folder dir.entry) (S.reads store.old) (S.reads store.new)) }
 {
     let project = match gather(alloc, store, dir) {
         Ok(project) => project,

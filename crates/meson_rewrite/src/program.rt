@@ -2,20 +2,20 @@
 
 ghost use Rattle.std.specs.Prelude.{◌≡◌, ◌≤◌, ◌⊎◌, IsTrue, MatchResult, Ok, map, option_map, string_bytes, true, OnOk};
 ghost use Rattle.meson_command.specs.Asking.{asked_by, without_text};
+ghost use Rattle.meson_gathering.specs.Gathering.{named_folder};
 ghost use Rattle.meson_json.specs.Titles.{is_title};
-ghost use Rattle.meson_store.specs.Seen.{seen};
 ghost use Rattle.meson_rewrite.specs.Lines.{status, store_fault_status, usage_status};
-ghost use Rattle.meson_rewrite.specs.Reads.{MayRead, ReadsAll, ReadsAtMost, ReadsProject};
+ghost use Rattle.meson_rewrite.specs.StoreReads.{MayRead, ReadsAll, ReadsAtMost, ReadsProject};
 ghost use Rattle.meson_rewrite.specs.Requests.{only_shows};
 ghost use Rattle.meson_rewrite.specs.Steps.{IsTitled, only_tells};
-ghost use Rattle.meson_rewrite.specs.Runs.{CannotSay, Ends, IsUnchanged, ListingEnds, NeedsNoStore, OnlyAsks, RanOut, Run, Says, StepEnds, Tells};
+ghost use Rattle.meson_rewrite.specs.Runs.{CannotSay, Ends, IsUnchanged, KeepsFiles, ListingEnds, NeedsNoStore, OnlyAsks, Run, Says, StepEnds, Tells, seen_by};
 
-use crate::editing::{edited, shown, told};
 use crate::lines::tell_stop;
 use crate::listed::listed;
 use crate::opening::open;
 use crate::request::{Listing, Request, Step, request_of};
 use crate::said::Said;
+use crate::steps::{edited, shown, told};
 use crate::stop::Stop;
 use meson_command::{Asked, UsageFault, command_of};
 use meson_splice::Text;
@@ -40,11 +40,11 @@ fn do_step<S: Store>(
     dry_run: bool,
 ) -> Result<Said, Stop>
     requires { IsTitled step.now }
-    ensures ends { StepEnds (option_map (λ d. d.now) dir.entry) step.now dry_run (seen (S.content store.old) (S.failures store.old) (S.replaces store.old))
-        (seen (S.content store.new) (S.failures store.new) (S.replaces store.new)) result }
+    ensures ends { StepEnds (named_folder dir.entry) step.now dry_run (seen_by S.content S.failures S.replaces store.old)
+        (seen_by S.content S.failures S.replaces store.new) result }
     ensures counts { S.failures store.old ≤ S.failures store.new }
-    ensures reads { ReadsAtMost (S.content store.old) (option_map (λ d. d.now) dir.entry) (S.reads store.old) (S.reads store.new) }
-    ensures reads_all { OnOk result (ReadsProject (S.content store.old) (option_map (λ d. d.now) dir.entry) (S.reads store.old) (S.reads store.new)) }
+    ensures reads { ReadsAtMost (S.content store.old) (named_folder dir.entry) (S.reads store.old) (S.reads store.new) }
+    ensures reads_all { OnOk result (ReadsProject (S.content store.old) (named_folder dir.entry) (S.reads store.old) (S.reads store.new)) }
 {
     let opened = open(alloc, store, dir)?;
     if only_tells(step) {
@@ -67,11 +67,11 @@ fn list<S: Store>(
     dir: Option<&str>,
     listing: Listing,
 ) -> Result<Said, Stop>
-    ensures ends { ListingEnds (option_map (λ d. d.now) dir.entry) listing (seen (S.content store.old) (S.failures store.old) (S.replaces store.old))
-        (seen (S.content store.new) (S.failures store.new) (S.replaces store.new)) result }
+    ensures ends { ListingEnds (named_folder dir.entry) listing (seen_by S.content S.failures S.replaces store.old)
+        (seen_by S.content S.failures S.replaces store.new) result }
     ensures counts { S.failures store.old ≤ S.failures store.new }
-    ensures reads { ReadsAtMost (S.content store.old) (option_map (λ d. d.now) dir.entry) (S.reads store.old) (S.reads store.new) }
-    ensures reads_all { OnOk result (ReadsProject (S.content store.old) (option_map (λ d. d.now) dir.entry) (S.reads store.old) (S.reads store.new)) }
+    ensures reads { ReadsAtMost (S.content store.old) (named_folder dir.entry) (S.reads store.old) (S.reads store.new) }
+    ensures reads_all { OnOk result (ReadsProject (S.content store.old) (named_folder dir.entry) (S.reads store.old) (S.reads store.new)) }
 {
     let opened = open(alloc, store, dir)?;
     listed(alloc, opened, listing)
@@ -90,8 +90,8 @@ fn folder(dir: &Option<Text>) -> Option<&str>
 /// Does what is asked for.
 fn answer<S: Store>(alloc: Global, store: &mut S, asked: Asked) -> Result<Said, Stop>
     requires { is_title asked.title ≡ true }
-    ensures ends { Ends (Ok (without_text asked)) (seen (S.content store.old) (S.failures store.old) (S.replaces store.old))
-        (seen (S.content store.new) (S.failures store.new) (S.replaces store.new)) result }
+    ensures ends { Ends (Ok (without_text asked)) (seen_by S.content S.failures S.replaces store.old)
+        (seen_by S.content S.failures S.replaces store.new) result }
     ensures untouched { IsTrue (only_shows asked.action) → store.new ≡ store.old }
     ensures reads { MayRead (Ok (without_text asked)) (S.content store.old) (S.reads store.old) (S.reads store.new) }
     ensures reads_all { OnOk result (ReadsAll (Ok (without_text asked)) (S.content store.old) (S.reads store.old) (S.reads store.new)) }
@@ -112,8 +112,8 @@ fn answer<S: Store>(alloc: Global, store: &mut S, asked: Asked) -> Result<Said, 
 
 /// Does what the words ask for.
 fn run<S: Store>(alloc: Global, store: &mut S, words: &[String]) -> Result<Said, Stop>
-    ensures ends { Ends (asked_by (map string_bytes words.now)) (seen (S.content store.old) (S.failures store.old) (S.replaces store.old))
-        (seen (S.content store.new) (S.failures store.new) (S.replaces store.new)) result }
+    ensures ends { Ends (asked_by (map string_bytes words.now)) (seen_by S.content S.failures S.replaces store.old)
+        (seen_by S.content S.failures S.replaces store.new) result }
     ensures untouched { NeedsNoStore (asked_by (map string_bytes words.now)) → store.new ≡ store.old }
     ensures reads { MayRead (asked_by (map string_bytes words.now)) (S.content store.old) (S.reads store.old) (S.reads store.new) }
     ensures reads_all { OnOk result (ReadsAll (asked_by (map string_bytes words.now)) (S.content store.old) (S.reads store.old) (S.reads store.new)) }
@@ -204,14 +204,13 @@ pub fn rewrite<S: Store, O: Output, E: Output>(
     out: &mut O,
     err: &mut E,
 ) -> u8
-    ensures runs { Run (asked_by (map string_bytes words.now)) (seen (S.content store.old) (S.failures store.old) (S.replaces store.old))
-        (seen (S.content store.new) (S.failures store.new) (S.replaces store.new)) result (O.heard out.old) (O.heard out.new) (E.heard err.old) (E.heard err.new) }
+    ensures runs { Run (asked_by (map string_bytes words.now)) (seen_by S.content S.failures S.replaces store.old)
+        (seen_by S.content S.failures S.replaces store.new) result (O.heard out.old) (O.heard out.new) (E.heard err.old) (E.heard err.new) }
     ensures untouched { NeedsNoStore (asked_by (map string_bytes words.now)) → store.new ≡ store.old }
-    ensures asking { OnlyAsks (asked_by (map string_bytes words.now)) → IsUnchanged (seen (S.content store.old) (S.failures store.old) (S.replaces store.old))
-        (seen (S.content store.new) (S.failures store.new) (S.replaces store.new)) }
-    ensures kept { (result ≡ 1) ⊎ (result ≡ 2) → (S.content store.new ≡ S.content store.old) × ((S.replaces store.new ≡ S.replaces store.old)
-        ⊎ ((result ≡ 1) × RanOut (asked_by (map string_bytes words.now)) (seen (S.content store.old) (S.failures store.old) (S.replaces store.old))
-        (seen (S.content store.new) (S.failures store.new) (S.replaces store.new)))) }
+    ensures asking { OnlyAsks (asked_by (map string_bytes words.now)) → IsUnchanged (seen_by S.content S.failures S.replaces store.old)
+        (seen_by S.content S.failures S.replaces store.new) }
+    ensures kept { (result ≡ 1) ⊎ (result ≡ 2) → KeepsFiles (asked_by (map string_bytes words.now)) (seen_by S.content S.failures S.replaces store.old)
+        (seen_by S.content S.failures S.replaces store.new) result }
     ensures reads { MayRead (asked_by (map string_bytes words.now)) (S.content store.old) (S.reads store.old) (S.reads store.new) }
     ensures reads_all { (result ≡ 0) → ReadsAll (asked_by (map string_bytes words.now)) (S.content store.old) (S.reads store.old) (S.reads store.new) }
 {

@@ -6,7 +6,7 @@ ghost use Rattle.meson_json.specs.Scripts.{script_of};
 ghost use Rattle.meson_json.specs.Titles.{is_title};
 ghost use Rattle.meson_rewrite.specs.Requests.{AsksFor, AsksForNone, IsBad, IsFileOf, IsNoFile, IsNoScript, IsScriptOf, StepsTitled, only_shows, script, script_in};
 ghost use Rattle.meson_rewrite.specs.Lines.{version_line};
-ghost use Rattle.meson_rewrite.specs.Reads.{file_read};
+ghost use Rattle.meson_rewrite.specs.StoreReads.{file_read};
 ghost use Rattle.meson_rewrite.specs.Stops.{WantsMemory};
 ghost use Rattle.meson_store.specs.Calls.{one_more};
 ghost use Rattle.meson_gathering.specs.Reading.{OnceAtMost};

@@ -1,10 +1,11 @@
 //! What a run says that was done.
 
-ghost use Rattle.std.specs.Prelude.{◌≡◌, ◌⊎◌, [], IfOk, MatchResult, false};
+ghost use Rattle.std.specs.Prelude.{◌≡◌, [], IfOk, MatchResult, Ok, false};
 ghost use Rattle.serde_json.specs.Find.{as_array};
 ghost use Rattle.serde_json.specs.View.{view};
 ghost use Rattle.serde_json.specs.Written.{compact_text, has_float};
 ghost use Rattle.meson_rewrite.specs.Lines.{line};
+ghost use Rattle.meson_rewrite.specs.Runs.{CannotSay, Says};
 ghost use Rattle.meson_rewrite.specs.Steps.{is_empty_array, listing_line, says};
 ghost use Rattle.meson_store.specs.Output.{Fails, Gets};
 
@@ -105,10 +106,8 @@ impl Said {
 
     /// Writes what is for errors, then what is for output, each by one write.
     pub(crate) fn tell<O: Output, E: Output>(&self, out: &mut O, err: &mut E) -> io::Result<()>
-        ensures { MatchResult result
-            (λ _. Gets (O.heard out.old) (O.heard out.new) self.now.out × Gets (E.heard err.old) (E.heard err.new) self.now.err)
-            (λ _. (Fails (E.heard err.old) (E.heard err.new) × (O.heard out.new ≡ O.heard out.old))
-            ⊎ (Gets (E.heard err.old) (E.heard err.new) self.now.err × Fails (O.heard out.old) (O.heard out.new))) }
+        ensures { MatchResult result (λ _. Says (Ok self.now) (O.heard out.old) (O.heard out.new) (E.heard err.old) (E.heard err.new))
+            (λ _. CannotSay (Ok self.now) (O.heard out.old) (O.heard out.new) (E.heard err.old) (E.heard err.new)) }
     {
         tell_bytes(err, self.err.get())?;
         tell_bytes(out, self.out.get())

@@ -62,8 +62,16 @@ fn unmade(refused: AllocError) -> RunFault
     }
 }
 
+/// The same change with this title.
+fn titled(change: Change, title: Text) -> Change
+    ensures { result ≡ record { splices = change.splices; title = title } }
+{
+    let Change { splices, title: _ } = change;
+    Change { splices, title }
+}
+
 /// How many splices were done, and what the change is for.
-fn counted(report: Report) -> (usize, Text)
+fn splices_and_title(report: Report) -> (usize, Text)
     ensures { result ≡ (report.splices, report.title) }
 {
     let Report { splices, title, .. } = report;
@@ -192,18 +200,14 @@ impl Session {
             Ok(done) => {
                 self.project.reads();
                 let Done { change, relexed } = done;
-                let Change { splices, title: _ } = change;
                 let report = Report {
                     files: count_differing(&before, self.project.files()),
-                    splices: splices.get().len(),
+                    splices: change.splices.get().len(),
                     relexed,
                     info: Value::Array(listings),
                     title: told,
                 };
-                past.push_reserved(Change {
-                    splices,
-                    title: kept,
-                });
+                past.push_reserved(titled(change, kept));
                 self.history.past = Many::of(past);
                 self.history.future.clear();
                 Ok(report)
@@ -313,7 +317,7 @@ impl Session {
         let mut splices: usize = 0;
         let mut title = Text::of(String::new(alloc));
         for _ in 0..count {
-            let (more, last) = counted(self.undo(alloc)?);
+            let (more, last) = splices_and_title(self.undo(alloc)?);
             splices = splices.saturating_add(more);
             title = last;
         }

@@ -2,7 +2,7 @@ use Rattle.std.proofs.Common.{option_map, inl, inr, subst, sym}
 use Rattle.std.proofs.lemmas.Result.{err_from_is_err_and}
 use Rattle.meson_rewrite.proofs.Opened.{no-log-opens}
 use Rattle.meson_rewrite.specs.Opening.{OpensNone, no_project}
-use Rattle.meson_rewrite.specs.Reads.{ReadsWithLog}
+use Rattle.meson_rewrite.specs.StoreReads.{ReadsWithLog}
 use Rattle.meson_rewrite.proofs.opening.open.Goals as goal
 
 pub returns-in-Err-clause-none : goal.returns-in-Err-clause-none

@@ -1,8 +1,8 @@
 use Rattle.std.proofs.Common.{◌≡◌, ◌⊎◌, ℕ, Bool, List, Option, Result, Ok, Err, false, refl, true, option_map}
 use Rattle.std.proofs.lemmas.Result.{err_from_is_err_and}
-use Rattle.std.specs.Prelude.{IfErr, IfOk, OnOk}
+use Rattle.std.specs.Prelude.{IfErr, IfOk}
 use Rattle.meson_rewrite.proofs.Endings.{done-ends, dry-ends, failed-ends, stopped-acting, stopped-opening, told-ends}
-use Rattle.meson_rewrite.proofs.Reading.{with-log-all, with-log-at-most}
+use Rattle.meson_rewrite.proofs.Reading.{on_ok, with-log-all, with-log-at-most}
 use Rattle.meson_rewrite.specs.Edited.{IsShown, IsTold}
 use Rattle.meson_rewrite.specs.Opening.{Opens}
 use Rattle.meson_rewrite.specs.Runs.{StepEnds}
@@ -26,10 +26,6 @@ ends-by-showing : (dir : Option (List ℕ)) (step : Step) (dry_run : Bool) (b a 
     → (end : Result Said Stop) → IfOk end (IsShown old step) → IfErr end (λ why. WantsMemory why ⊎ MayRefuse step old why) → StepEnds dir step dry_run b a end
 ends-by-showing dir step dry_run b a u old log opens writes dry (Ok said) is_shown refused = dry-ends dir step dry_run b a u old log opens writes dry said is_shown
 ends-by-showing dir step dry_run b a u old log opens writes dry (Err stop) is_shown refused = stopped-acting dir step dry_run b a u old log opens stop refused
-
-on_ok : {T E P : Type 0} (r : Result T E) → P → OnOk r P
-on_ok (Ok x) p = p
-on_ok (Err e) p = tt
 
 pub returns-in_err-opened-clause-ends : goal.returns-in_err-opened-clause-ends
 returns-in_err-opened-clause-ends g c =

@@ -1,14 +1,9 @@
-use Rattle.std.proofs.Common.{Err, Ok, Result, option_map, refl}
+use Rattle.std.proofs.Common.{option_map, refl}
 use Rattle.std.proofs.lemmas.Result.{err_from_is_err_and}
-use Rattle.std.specs.Prelude.{OnOk}
 use Rattle.meson_rewrite.proofs.Endings.{listing-told, listing-unopened}
-use Rattle.meson_rewrite.proofs.Reading.{with-log-all, with-log-at-most}
+use Rattle.meson_rewrite.proofs.Reading.{on_ok, with-log-all, with-log-at-most}
 use Rattle.meson_store.specs.Seen.{Untouched, seen}
 use Rattle.meson_rewrite.proofs.program.list.Goals as goal
-
-on_ok : {T E P : Type 0} (r : Result T E) → P → OnOk r P
-on_ok (Ok x) p = p
-on_ok (Err e) p = tt
 
 pub returns-in_err-opened-clause-ends : goal.returns-in_err-opened-clause-ends
 returns-in_err-opened-clause-ends g c =

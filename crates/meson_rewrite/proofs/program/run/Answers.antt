@@ -4,7 +4,7 @@ use Rattle.meson_rewrite.proofs.Endings.{not-used}
 use Rattle.meson_rewrite.proofs.Reading.{nothing-read}
 use Rattle.meson_rewrite.proofs.Wants.{usage-or-memory}
 use Rattle.meson_store.specs.Seen.{Untouched, seen}
-use Rattle.meson_rewrite.specs.Reads.{MayRead}
+use Rattle.meson_rewrite.specs.StoreReads.{MayRead}
 use Rattle.meson_rewrite.proofs.program.run.Goals as goal
 
 pub returns-in-Err-clause-ends : goal.returns-in-Err-clause-ends

@@ -24,8 +24,8 @@ returns-in-Ok-performed-clause-done c =
     let old = c.args.self.now in
     let done = c.in-Ok-performed.done in
     let made : Change = record { splices = done.change.splices; title = c.args.title.now } in
-    let pushed : Change = record { splices = done.change.splices; title = c.in-Ok-titles.both.0 } in
-    let is : pushed ≡ made = ap (λ both. let x : Change = record { splices = done.change.splices; title = both.0 } in x) c.in-Ok-titles.ensures in
+    let pushed = c.titled.result in
+    let is : pushed ≡ made = c.titled.ensures ∙ ap (λ both. let x : Change = record { splices = done.change.splices; title = both.0 } in x) c.in-Ok-titles.ensures in
     let past : c.of-in-Ok-performed.result ≡ old.history.past ++ made ∷ [] =
     c.of-in-Ok-performed.ensures ∙ c.push_reserved.ensures.items ∙ ap (λ cs. cs ++ pushed ∷ []) (c.reserve.ensures.items ∙ c.take-past.ensures ∙ c.replace.ensures.value) ∙ ap (λ x. old.history.past ++ x ∷ []) is in
     record {

@@ -18,9 +18,9 @@ pub loop-preserved : goal.loop-preserved
 loop-preserved c =
     let l = c.loop in
     let report = c.in_ok-undo.field-0 in
-    one-more-back l.counter c.args.self.now l.self c.undo.new.self l.splices c.saturating_add-splices.result l.title c.counted-more.result.1 report
+    one-more-back l.counter c.args.self.now l.self c.undo.new.self l.splices c.saturating_add-splices.result l.title c.splices_and_title-more.result.1 report
     l.invariant c.in_ok-undo.ensures.done c.in_ok-undo.ensures.step c.in_ok-undo.ensures.text
-    (c.saturating_add-splices.ensures ∙ ap (λ both. saturated (l.splices + both.0)) c.counted-more.ensures) (ap (λ both. both.1) c.counted-more.ensures)
+    (c.saturating_add-splices.ensures ∙ ap (λ both. saturated (l.splices + both.0)) c.splices_and_title-more.ensures) (ap (λ both. both.1) c.splices_and_title-more.ensures)
 
 pub returns-in_err-before-clause-refused : goal.returns-in_err-before-clause-refused
 returns-in_err-before-clause-refused c =

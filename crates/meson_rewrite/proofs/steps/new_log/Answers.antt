@@ -5,7 +5,7 @@ use Rattle.meson_splice.specs.declared.history.History.{History}
 use Rattle.meson_rewrite.proofs.Wants.{script-or-memory}
 use Rattle.meson_rewrite.specs.Stops.{WantsMemory}
 use Rattle.meson_rewrite.specs.declared.stop.Stop.TheVariants.{Script}
-use Rattle.meson_rewrite.proofs.editing.new_log.Goals as goal
+use Rattle.meson_rewrite.proofs.steps.new_log.Goals as goal
 
 no-fault : (text : List ℕ) (fault : ScriptFault) → ◌≡◌ {A = Result (List ℕ) ScriptFault} (Ok text) (Err fault) → ⊥
 no-fault text fault e = cc

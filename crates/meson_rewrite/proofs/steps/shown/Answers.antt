@@ -4,7 +4,7 @@ use Rattle.meson_script.proofs.RunFacts.{names}
 use Rattle.meson_rewrite.proofs.Listings.{does-plain}
 use Rattle.meson_rewrite.proofs.Names.{step-names}
 use Rattle.meson_rewrite.specs.declared.said.Said.{Said}
-use Rattle.meson_rewrite.proofs.editing.shown.Goals as goal
+use Rattle.meson_rewrite.proofs.steps.shown.Goals as goal
 
 pub diff-requires : goal.diff-requires
 diff-requires c =

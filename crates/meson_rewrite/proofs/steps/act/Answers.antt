@@ -7,7 +7,7 @@ use Rattle.meson_rewrite.specs.Edited.{IsWithin}
 use Rattle.meson_rewrite.specs.Steps.{MayRefuse}
 use Rattle.meson_rewrite.specs.Stops.{WantsMemory}
 use Rattle.meson_rewrite.specs.declared.request.Step.TheVariants.{ForgetOldest, UndoTo}
-use Rattle.meson_rewrite.proofs.editing.act.Goals as goal
+use Rattle.meson_rewrite.proofs.steps.act.Goals as goal
 
 pub undo_stop-requires : goal.undo_stop-requires
 undo_stop-requires c =

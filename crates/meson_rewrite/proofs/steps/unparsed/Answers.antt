@@ -2,7 +2,7 @@ use Rattle.std.proofs.Common.{[], ◌∙◌, ap, inl}
 use Rattle.meson_splice.specs.declared.file_set.File.{File}
 use Rattle.meson_gathering.proofs.FileNames.{name_of}
 use Rattle.meson_rewrite.specs.declared.stop.Stop.TheVariants.{Parse}
-use Rattle.meson_rewrite.proofs.editing.unparsed.Goals as goal
+use Rattle.meson_rewrite.proofs.steps.unparsed.Goals as goal
 
 nobody : File
 nobody = record { name = []; bytes = [] }

@@ -3,7 +3,7 @@ use Rattle.std.proofs.lemmas.Result.{IfErr-weaker, IfOk-weaker}
 use Rattle.meson_rewrite.proofs.Checking.{has-sums, other-sums}
 use Rattle.meson_rewrite.specs.Steps.{HasSums}
 use Rattle.meson_rewrite.specs.declared.stop.Stop.TheVariants.{OtherFiles}
-use Rattle.meson_rewrite.proofs.editing.checked_back.Goals as goal
+use Rattle.meson_rewrite.proofs.steps.checked_back.Goals as goal
 
 pub returns-then-not-same-clause-refused : goal.returns-then-not-same-clause-refused
 returns-then-not-same-clause-refused c =

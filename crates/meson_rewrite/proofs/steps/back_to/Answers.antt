@@ -1,7 +1,7 @@
 use Rattle.std.proofs.Common.{length, subst, sym}
 use Rattle.meson_rewrite.proofs.Names.{stops-steps, undo-within}
 use Rattle.meson_rewrite.specs.Edited.{IsWithin}
-use Rattle.meson_rewrite.proofs.editing.back_to.Goals as goal
+use Rattle.meson_rewrite.proofs.steps.back_to.Goals as goal
 
 pub undo_stop-requires : goal.undo_stop-requires
 undo_stop-requires c =

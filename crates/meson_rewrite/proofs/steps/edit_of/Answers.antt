@@ -3,7 +3,7 @@ use Rattle.meson_script.proofs.RunFacts.{names}
 use Rattle.meson_rewrite.proofs.Listings.{does-plain}
 use Rattle.meson_rewrite.proofs.Names.{logged-names, step-names}
 use Rattle.meson_rewrite.specs.Logs.{with_log}
-use Rattle.meson_rewrite.proofs.editing.edit_of.Goals as goal
+use Rattle.meson_rewrite.proofs.steps.edit_of.Goals as goal
 
 pub returns-clause-same_names : goal.returns-clause-same_names
 returns-clause-same_names c =

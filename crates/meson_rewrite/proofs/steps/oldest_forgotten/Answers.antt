@@ -1,7 +1,7 @@
 use Rattle.std.proofs.Common.{ap, refl}
 use Rattle.meson_script.proofs.TextFacts.{forgets-text}
 use Rattle.meson_rewrite.specs.declared.stop.Stop.TheVariants.{Splice}
-use Rattle.meson_rewrite.proofs.editing.oldest_forgotten.Goals as goal
+use Rattle.meson_rewrite.proofs.steps.oldest_forgotten.Goals as goal
 
 pub returns-in-Ok-clause-does : goal.returns-in-Ok-clause-does
 returns-in-Ok-clause-does c = (c.in-Ok.ensures.done, record { project = refl; info = c.nothing_done.ensures })
