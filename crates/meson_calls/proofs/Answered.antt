@@ -1,6 +1,6 @@
 -- What gathered marks say of the sources of a call.
-use Rattle.std.proofs.Common.{◌≡◌, ℕ, suc, ◌+◌, ◌<◌, ◌≤◌, List, [], ◌∷◌, ◌++◌, length, map, refl, sym, ap, ◌∙◌, arith, zero-add}
-use Rattle.std.specs.Prelude.{Option, Some, None, Ok, Err}
+use Rattle.std.proofs.Common.{◌≡◌, ℕ, suc, ◌+◌, ◌≤◌, List, [], ◌∷◌, ◌++◌, length, map, refl, sym, ap, ◌∙◌, arith, zero-add}
+use Rattle.std.specs.Prelude.{Option, Some, None, Ok}
 use Rattle.std.proofs.lemmas.List.{append_assoc, append-nil}
 use Rattle.meson_lex.specs.declared.kinds.Span.{Span}
 use Rattle.meson_syntax.specs.declared.tree.List as rust
@@ -9,7 +9,6 @@ use Rattle.meson_syntax.specs.View.{list_view}
 use Rattle.meson_calls.specs.declared.call.CallRef.{CallRef}
 use Rattle.meson_calls.specs.declared.call.SourceItem.{SourceItem}
 use Rattle.meson_calls.specs.declared.call.Sources as found
-use Rattle.meson_calls.specs.declared.refusal.Refusal.TheVariants.{DuplicateKeyword}
 use Rattle.meson_calls.specs.Project.{Project, child, placed}
 use Rattle.meson_calls.specs.Calls.{Call, Numbered, positional, keyword, value_without_name, value_with_name}
 use Rattle.meson_calls.specs.Picking.{call_with}
@@ -131,11 +130,6 @@ module _ (p : Project Span) (c : CallRef) (source : List ℕ) (l : rust.List) (f
   once_few (x ∷ []) y few = refl
   once_few (x ∷ z ∷ more) y few = absurd (omega arith)
 
-  once_twice : {X : Type 0} (xs : List X) (y : found.Sources) → 1 < length xs → once sources_key xs y ≡ Err (DuplicateKeyword sources_key)
-  once_twice [] y many = absurd (omega arith)
-  once_twice (x ∷ []) y many = absurd (omega arith)
-  once_twice (x ∷ z ∷ more) y many = refl
-
   pub answered_once : (t : Tally) → t ≡ (all_gathered p max_followed c source (rust.out-List l).items).tally → length (kept_args source (value_with_name sources_key) 0 (rust.out-List l).items) ≤ 1 →
       sources_of_call p (placed c the_call) ≡ Ok (answer_of c t)
   answered_once t is few =
@@ -143,8 +137,3 @@ module _ (p : Project Span) (c : CallRef) (source : List ℕ) (l : rust.List) (f
       ap (λ xs. once sources_key xs y) (keyword_is sources_key)
       ∙ once_few (kept_args source (value_with_name sources_key) 0 (rust.out-List l).items) y few
       ∙ ap Ok (sym (answered c (source_marks p (placed c the_call))) ∙ ap (answer_of c) (sym gathered_marks ∙ sym is))
-
-  pub refused_twice : 1 < length (kept_args source (value_with_name sources_key) 0 (rust.out-List l).items) → sources_of_call p (placed c the_call) ≡ Err (DuplicateKeyword sources_key)
-  refused_twice many =
-      let y = answer c (source_marks p (placed c the_call)) in
-      ap (λ xs. once sources_key xs y) (keyword_is sources_key) ∙ once_twice (kept_args source (value_with_name sources_key) 0 (rust.out-List l).items) y many

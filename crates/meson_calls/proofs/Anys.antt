@@ -1,8 +1,7 @@
 -- Tests of lists, one element after another.
-use Rattle.std.proofs.Common.{◌≡◌, ℕ, ◌+◌, ◌<◌, ◌≤◌, List, [], ◌∷◌, length, get_or, take, map, refl, sym, ap, ◌∙◌}
-use Rattle.std.specs.Prelude.{Bool, true, false, ◌||◌}
+use Rattle.std.proofs.Common.{◌≡◌, ℕ, ◌+◌, ◌<◌, List, [], ◌∷◌, length, get_or, take, map, refl, sym, ap, ◌∙◌}
+use Rattle.std.specs.Prelude.{Bool, true, ◌||◌}
 use Rattle.std.specs.List.{list_any}
-use Rattle.std.proofs.lemmas.List.{take_all}
 use Rattle.std.proofs.lemmas.List.Folds.{list_any_at, list_any_more}
 
 pub any-map : {X Y : Type 0} (f : Y → Bool) (g : X → Y) (xs : List X) → list_any f (map g xs) ≡ list_any (λ x. f (g x)) xs
@@ -12,14 +11,6 @@ any-map f g (x ∷ xs) = ap (λ b. f (g x) || b) (any-map f g xs)
 module _ {X Y : Type 0} (f : Y → Bool) (g : X → Y) where
   pub any_here : (xs : List X) (i : ℕ) (d : X) → i < length xs → f (g (get_or xs i d)) ≡ true → list_any f (map g xs) ≡ true
   any_here xs i d within is = any-map f g xs ∙ list_any_at (λ x. f (g x)) xs i d within is
-
-  pub none_here : (xs : List X) (i : ℕ) (d : X) → i < length xs → list_any f (map g (take i xs)) ≡ false → f (g (get_or xs i d)) ≡ false → list_any f (map g (take (i + 1) xs)) ≡ false
-  none_here xs i d within before here =
-      any-map f g (take (i + 1) xs) ∙ list_any_more (λ x. f (g x)) xs i d within
-      ∙ ap (λ b. b || f (g (get_or xs i d))) (sym (any-map f g (take i xs)) ∙ before) ∙ here
-
-  pub none_at_all : (xs : List X) (i : ℕ) → length xs ≤ i → list_any f (map g (take i xs)) ≡ false → list_any f (map g xs) ≡ false
-  none_at_all xs i past before = ap (λ ys. list_any f (map g ys)) (sym (take_all i xs past)) ∙ before
 
   pub any_more : (xs : List X) (i : ℕ) (d : X) → i < length xs → list_any f (map g (take (i + 1) xs)) ≡ (list_any f (map g (take i xs)) || f (g (get_or xs i d)))
   any_more xs i d within =

@@ -5,7 +5,7 @@ use Rattle.meson_lex.specs.declared.kinds.Span.{Span}
 use Rattle.meson_syntax.specs.declared.operator.Assignment.{Assignment}
 use Rattle.meson_syntax.specs.Tree.{Name, Expression, assign}
 use Rattle.meson_syntax.specs.Parts.{an_expression, a_statement, a_block, expression_parts, node_at, expression_any}
-use Rattle.meson_syntax.specs.Paths.{Sort, of_expression, of_statement, of_block, Node, reach, expression_of, nth, ListAt, ListIn, list_at, list_in, list_within, list_of_node, block_of}
+use Rattle.meson_syntax.specs.Paths.{nth, ListIn, list_in, block_of}
 use Rattle.meson_syntax.specs.Paths as paths
 use Rattle.meson_syntax.proofs.PathNodes.{expression-reached}
 use Rattle.meson_syntax.proofs.paths.Reaching.{and-then-some}

@@ -143,9 +143,6 @@ module _ (p : Project Span) where
       ∙ sym (at_drop_more (λ xs. expanded before (args_left left source xs i s)) args i d inside)
       ∙ so_far
 
-  pub args_ended : (left : ℕ) (source : List ℕ) (args : List Arg) (i : ℕ) (s : Stand) (g whole : Gathered) → length args ≤ i → expanded g (args_left left source (drop i args) i s) ≡ whole → g ≡ whole
-  args_ended left source args i s g whole past so_far = sym (at_drop_all (λ xs. expanded g (args_left left source xs i s)) args i past) ∙ so_far
-
   pub no_element : (left : ℕ) (source : List ℕ) (args : List Arg) (q : CallRef) (s : Stand) (g : Gathered) → (length args == 0) ≡ true →
       expanded g (λ f. within q (args_left left source args 0 s f)) ≡ with_mark g (empty q)
   no_element left source [] q s g none = refl

@@ -1,6 +1,6 @@
 -- Arguments that a test keeps, one after another.
-use Rattle.std.proofs.Common.{◌≡◌, ℕ, suc, ◌+◌, ◌<◌, ◌≤◌, List, [], length, drop, get_or, refl, sym, ap, ◌∙◌}
-use Rattle.std.specs.Prelude.{Bool, true, false, Option, Some, None, is_some, option_map}
+use Rattle.std.proofs.Common.{◌≡◌, ℕ, ◌+◌, ◌<◌, ◌≤◌, List, [], length, drop, get_or, refl, sym, ap, ◌∙◌}
+use Rattle.std.specs.Prelude.{true, false, Option, Some, None, is_some, option_map}
 use Rattle.std.specs.List.{cons_option}
 use Rattle.std.proofs.lemmas.List.{at_drop_more, at_drop_all}
 use Rattle.meson_lex.specs.declared.kinds.Span.{Span}
@@ -23,25 +23,6 @@ module _ {Y : Type 0} (source : List ℕ) (choose : Argument Span → Option Y) 
 
   pub kept_none : (args : List Arg) (i : ℕ) → length args ≤ i → kept_args source choose i (drop i args) ≡ []
   kept_none args i past = at_drop_all (kept_args source choose i) args i past
-
-  length_more : (n : ℕ) (o : Option Y) (a : Argument Span) (xs : List (Numbered Y)) (b : Bool) → is_some o ≡ b → o ≡ choose a → b ≡ true → length (cons_option (option_map (λ y. record { number = n; value = y }) o) xs) ≡ suc (length xs)
-  length_more n None a xs b some is so = cc
-  length_more n (Some y) a xs b some is so = refl
-
-  length_same : (n : ℕ) (o : Option Y) (xs : List (Numbered Y)) → is_some o ≡ false → length (cons_option (option_map (λ y. record { number = n; value = y }) o) xs) ≡ length xs
-  length_same n None xs none = refl
-  length_same n (Some y) xs none = cc
-
-  pub counted : (args : List Arg) (i : ℕ) (d : Arg) → i < length args → is_some (choose (arg_view source (get_or args i d))) ≡ true →
-      length (kept_args source choose i (drop i args)) ≡ suc (length (kept_args source choose (i + 1) (drop (i + 1) args)))
-  counted args i d within some =
-      ap length (kept_here args i d within)
-      ∙ length_more i (choose (arg_view source (get_or args i d))) (arg_view source (get_or args i d)) (kept_args source choose (i + 1) (drop (i + 1) args)) true some refl refl
-
-  pub passed : (args : List Arg) (i : ℕ) (d : Arg) → i < length args → is_some (choose (arg_view source (get_or args i d))) ≡ false →
-      length (kept_args source choose i (drop i args)) ≡ length (kept_args source choose (i + 1) (drop (i + 1) args))
-  passed args i d within none =
-      ap length (kept_here args i d within) ∙ length_same i (choose (arg_view source (get_or args i d))) (kept_args source choose (i + 1) (drop (i + 1) args)) none
 
   pub rest_found : (args : List Arg) (i : ℕ) (d : Arg) → i < length args → is_some (choose (arg_view source (get_or args i d))) ≡ true →
       rest (kept_args source choose i (drop i args)) ≡ kept_args source choose (i + 1) (drop (i + 1) args)
@@ -76,7 +57,3 @@ module _ (p : Project Span) (left : ℕ) (c : CallRef) (slot : ℕ → Slot) whe
       ∙ sym (one_step before (kept_arg source choose i (get_or args i d)) (kept_args source choose (i + 1) (drop (i + 1) args)))
       ∙ sym (ap (λ xs. expanded before (arguments_by p left c slot xs)) (kept_here source choose args i d within))
       ∙ so_far
-
-  pub kept_ended : (source : List ℕ) (choose : Argument Span → Option (Expression Span)) (args : List Arg) (i : ℕ) (g whole : Gathered) → length args ≤ i →
-      expanded g (arguments_by p left c slot (kept_args source choose i (drop i args))) ≡ whole → g ≡ whole
-  kept_ended source choose args i g whole past so_far = sym (ap (λ xs. expanded g (arguments_by p left c slot xs)) (kept_none source choose args i past)) ∙ so_far

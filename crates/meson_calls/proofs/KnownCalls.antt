@@ -38,11 +38,14 @@ module _ (files : List File) (trees : List Parsed) (whole : length trees ≡ len
   there_alike None = refl
   there_alike (Some x) = sym (name_there files trees x whole)
 
+  -- a `subdir` in the file of this number enters one of the files where it means one of those with trees
+  pub enters_alike : (c : Call Span) (n : ℕ)
+      → is_entered files (meant_in files n (first_literal c)) ≡ is_there (named files trees) (option_and_then (λ f. meant_file f.name c) (nth_file (named files trees) n))
+  enters_alike c n = there_alike (meant_in files n (first_literal c)) ∙ ap (is_there (named files trees)) (sym (nth_name files trees n (λ name. meant_file name c) whole))
+
   unknown_alike : (c : Call Span) (p : CallRef) → is_unknown_in files p (a_call c) ≡ (sets_unknown c || enters_unknown (named files trees) (placed p c))
   unknown_alike c p =
-      ap (λ b. sets_unknown c || (calls_function (codes "subdir") c && not b))
-      (there_alike (meant_in files p.file (first_literal c))
-      ∙ ap (is_there (named files trees)) (sym (nth_name files trees p.file (λ name. meant_file name c) whole)))
+      ap (λ b. sets_unknown c || (calls_function (codes "subdir") c && not b)) (enters_alike c p.file)
 
   abbrev unknown_calls : List (Placed (Call Span)) → Bool
   unknown_calls cs = list_any (λ c. sets_unknown c.it || enters_unknown (named files trees) c) cs

@@ -1,5 +1,5 @@
 -- The parts of an expression over a source, and those within it.
-use Rattle.std.proofs.Common.{rules, ◌≡◌, ℕ, List, ◌∷◌, refl, sym, ap, ◌∙◌}
+use Rattle.std.proofs.Common.{rules, ◌≡◌, ℕ, List, sym, ap, ◌∙◌}
 use Rattle.meson_lex.specs.declared.kinds.Span.{Span}
 use Rattle.meson_syntax.specs.declared.tree.Arg.TheVariants as arg
 use Rattle.meson_syntax.specs.declared.tree.Arg.TheFolds.{the_lemmas}
@@ -7,12 +7,8 @@ use Rattle.meson_syntax.specs.declared.tree.Expr.{Expr}
 use Rattle.meson_syntax.specs.declared.tree.Expr.TheVariants as e
 use Rattle.meson_syntax.specs.declared.tree.Operand.{Operand}
 use Rattle.meson_syntax.specs.declared.tree.Tail as rust_tail
-use Rattle.meson_syntax.specs.Tree.{Expression, identifier, boolean, integer, string, paren, array, dictionary, call, unary, row, postfix, conditional, pair, operands_of, tails_of}
+use Rattle.meson_syntax.specs.Tree.{row, postfix, conditional, pair, operands_of, tails_of}
 use Rattle.meson_syntax.specs.View.{expr_view, arg_view, operand_view, operands_view, tails_view}
-use Rattle.meson_calls.specs.declared.call.CallRef.{CallRef}
-use Rattle.meson_calls.specs.Project.{placed}
-use Rattle.meson_calls.specs.Parts.{an_expression, expression_parts}
-use Rattle.meson_calls.specs.Walks.{parts_within}
 
 module _ (source : List ℕ) where
   pub row_view : (s : Span) (first : Expr) (rest : List Operand) → expr_view source (e.Row s first rest) ≡ row s (expr_view source first) (operands_of (operands_view source rest))
@@ -39,18 +35,3 @@ module _ (source : List ℕ) where
 
   pub operand_value : (o : Operand) → (operand_view source o).1 ≡ expr_view source o.value
   operand_value o = search (rules, the_lemmas)
-
--- an expression stands before the parts within it
-pub expression_whole : (p : CallRef) (e : Expression Span) → placed p (an_expression e) ∷ parts_within p e ≡ expression_parts p e
-expression_whole p (identifier s x) = refl
-expression_whole p (boolean s b) = refl
-expression_whole p (integer s x) = refl
-expression_whole p (string s q x) = refl
-expression_whole p (paren s e) = refl
-expression_whole p (array l) = refl
-expression_whole p (dictionary l) = refl
-expression_whole p (call s x l) = refl
-expression_whole p (unary s o e) = refl
-expression_whole p (row s e os) = refl
-expression_whole p (postfix s e ts) = refl
-expression_whole p (conditional s c y n) = refl

@@ -10,7 +10,7 @@ use Rattle.meson_syntax.specs.Parts as syntax
 use Rattle.meson_syntax.specs.Paths.{nth, block_of}
 use Rattle.meson_calls.specs.declared.call.CallRef.{CallRef}
 use Rattle.meson_calls.specs.Project.{BuildFile, Placed, Project, child, expression_at, nth_file, place, placed}
-use Rattle.meson_calls.specs.Parts.{Part, expression_parts, operands_parts, tail_parts, tails_parts, listing_parts, argument_parts, arguments_parts, statement_parts, branches_parts, otherwise_parts, statements_parts, block_parts, file_parts, parts_from, argument_children, arguments_children, listing_children, tail_children, branches_children}
+use Rattle.meson_calls.specs.Parts.{Part, expression_parts, operands_parts, tail_parts, tails_parts, listing_parts, argument_parts, arguments_parts, statement_parts, branches_parts, otherwise_parts, statements_parts, block_parts, file_parts, parts_from, argument_children, tail_children, branches_children}
 use Rattle.meson_calls.specs.Parts as part
 use Rattle.meson_syntax.specs.Paths as paths
 use Rattle.meson_syntax.proofs.PathNodes.{expression-reached}

@@ -1,8 +1,8 @@
 -- Places of notes that pass a test, one note after another; and those of a role.
-use Rattle.std.proofs.Common.{◌≡◌, ℕ, ◌+◌, ◌<◌, ◌≤◌, List, [], ◌∷◌, ◌++◌, length, drop, get_or, map, refl, sym, ap, ◌∙◌}
+use Rattle.std.proofs.Common.{◌≡◌, ℕ, ◌+◌, ◌<◌, List, [], ◌∷◌, ◌++◌, length, drop, get_or, map, refl, sym, ap, ◌∙◌}
 use Rattle.std.specs.Prelude.{Bool, true, false, ◌&&◌, bytes_eq, if◌then◌else◌, Option, Some, None, option_map, filter}
 use Rattle.std.specs.List.{cons_option}
-use Rattle.std.proofs.lemmas.List.{append_assoc, append-nil, at_drop_more, at_drop_all}
+use Rattle.std.proofs.lemmas.List.{append_assoc, at_drop_more}
 use Rattle.meson_lex.specs.declared.kinds.Span.{Span}
 use Rattle.meson_syntax.specs.Tree.{Name, Expression, Statement, evaluate, assign, selection, iteration, breaks, continues}
 use Rattle.meson_syntax.specs.declared.operator.Assignment.TheVariants as assignment
@@ -49,10 +49,6 @@ module _ (test : Note Span → Bool) where
       ∙ append_assoc found ((note_view (get_or ns i d)).place ∷ []) more
       ∙ sym (ap (λ t. found ++ t) (here ns i d within ∙ ap (λ b. pick b (note_view (get_or ns i d)).place more) is))
       ∙ so_far
-
-  pub all_picked : (ns : List code.Note) (i : ℕ) (found whole : List CallRef) → length ns ≤ i → found ++ places_that test (note_views (drop i ns)) ≡ whole → found ≡ whole
-  all_picked ns i found whole past so_far =
-      sym (append-nil found) ∙ ap (λ t. found ++ t) (sym (at_drop_all (λ ms. places_that test (note_views ms)) ns i past)) ∙ so_far
 
 -- ---- the calls that pass a test among the notes are those of the project
 

@@ -8,12 +8,12 @@ use Rattle.meson_syntax.specs.declared.tree.Branch.{Branch}
 use Rattle.meson_syntax.specs.declared.tree.Stmt.{Stmt}
 use Rattle.meson_syntax.specs.declared.tree.Stmt.TheVariants as stmt
 use Rattle.meson_syntax.specs.declared.tree.Stmt.TheFolds.{the_lemmas}
-use Rattle.meson_syntax.specs.Tree.{Statement, evaluate, assign, selection, iteration, breaks, continues, branches_of, statements_of}
+use Rattle.meson_syntax.specs.Tree.{selection, iteration, branches_of, statements_of}
 use Rattle.meson_syntax.specs.View.{names_at, expr_view, stmt_view, stmts_view, block_view, branch_view, branches_view}
 use Rattle.meson_calls.specs.declared.call.CallRef.{CallRef}
-use Rattle.meson_calls.specs.Project.{Placed, placed, child}
-use Rattle.meson_calls.specs.Parts.{Part, a_statement, statement_parts, statements_parts, branches_parts, branches_children}
-use Rattle.meson_calls.specs.Walks.{else_view, branch_parts, parts_inside}
+use Rattle.meson_calls.specs.Project.{Placed, child}
+use Rattle.meson_calls.specs.Parts.{Part, statement_parts, statements_parts, branches_parts, branches_children}
+use Rattle.meson_calls.specs.Walks.{else_view, branch_parts}
 
 module _ (source : List ℕ) where
   pub if_view : (s : Span) (bs : List Branch) (o : Option rust_block.Block) → stmt_view source (stmt.If s bs o) ≡ selection s (branches_of (branches_view source bs)) (else_view source o)
@@ -51,12 +51,3 @@ module _ (source : List ℕ) where
 
     abbrev pub conditions_part : ℕ → Branch → List (Placed (Part Span))
     conditions_part n b = branch_parts p n (branch_view source b)
-
--- a statement stands before the parts within it
-pub statement_whole : (p : CallRef) (s : Statement Span) → placed p (a_statement s) ∷ parts_inside p s ≡ statement_parts p s
-statement_whole p (evaluate e) = refl
-statement_whole p (assign s x a e) = refl
-statement_whole p (selection s bs o) = refl
-statement_whole p (iteration s xs e b) = refl
-statement_whole p (breaks s) = refl
-statement_whole p (continues s) = refl

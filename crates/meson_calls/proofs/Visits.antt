@@ -34,9 +34,6 @@ module _ {X : Type 0} (parts : ℕ → List X → List (Placed (Part Span))) (pa
       ∙ ap (with_parts before) (sym (at_drop_more (parts n) xs i d within ∙ more n x (drop (i + 1) xs)))
       ∙ so_far
 
-  pub ended : (xs : List X) (i n : ℕ) (kept whole : Kept) → parts n [] ≡ [] → length xs ≤ i → with_parts kept (parts n (drop i xs)) ≡ whole → kept ≡ whole
-  ended xs i n kept whole none past so_far = ap (with_parts kept) (sym (at_drop_all (parts n) xs i past ∙ none)) ∙ so_far
-
 -- so do their children count
 module _ {X : Type 0} (count : List X → ℕ) (size : X → ℕ) (more : (x : X) (xs : List X) → count (x ∷ xs) ≡ size x + count xs) where
   pub count_turn : (xs : List X) (i : ℕ) (d : X) (n k whole : ℕ) → i < length xs → k ≡ n + size (get_or xs i d) → n + count (drop i xs) ≡ whole → k + count (drop (i + 1) xs) ≡ whole

@@ -22,6 +22,7 @@ pub mod GoodLists
 pub mod Sourced
 pub mod Knowns
 pub mod Keywords
+pub mod Refusals
 pub mod Finding
 pub mod OnePlace
 pub mod CallPlaces

@@ -1,11 +1,14 @@
 -- Notes that are picked out.
 use Rattle.std.specs.Prelude.{ℕ, Bool, false, ◌&&◌, List, [], map, filter, if◌then◌else◌, bytes_eq, Option, Some, None}
 use Rattle.std.specs.List.{filter_map}
+use Rattle.meson_lex.specs.declared.kinds.Span.{Span}
+use Rattle.meson_syntax.specs.declared.tree.List as code
 use Rattle.meson_syntax.specs.Tree.{Listing}
+use Rattle.meson_syntax.specs.View.{list_view}
 use Rattle.meson_calls.specs.declared.call.Role.{Role}
 use Rattle.meson_calls.specs.declared.call.CallRef.{CallRef}
 use Rattle.meson_calls.specs.declared.call.Role.TheVariants as role
-use Rattle.meson_calls.specs.Project.{Placed, child}
+use Rattle.meson_calls.specs.Project.{Placed, child, placed}
 use Rattle.meson_calls.specs.Calls.{Call, call_of, first_literal, is}
 use Rattle.meson_calls.specs.Roles.{has_role, one_of, or_else, project_ids}
 use Rattle.meson_calls.specs.Notes.{Note, a_call, an_assignment, a_loop}
@@ -16,6 +19,10 @@ Source = List ℕ
 
 abbrev pub call_with : {S : Type 0} → List ℕ → Listing S → Call S
 call_with f l = record { function = f; arguments = l }
+
+-- the call at a place, of a function and of the arguments that the code's list stands for
+abbrev pub placed_call : CallRef → Source → Source → code.List → Placed (Call Span)
+placed_call place function source l = placed place (call_with function (list_view source l))
 
 abbrev pub note_has_role : {S : Type 0} → Role → Note S → Bool
 note_has_role r (a_call c) = has_role r c

@@ -1,5 +1,5 @@
 -- What marks say, gathered mark by mark, and the variables that were followed.
-use Rattle.std.specs.Prelude.{ℕ, zero, suc, ◌+◌, ◌&&◌, if◌then◌else◌, List, [], ◌∷◌, ◌++◌, length, map, reverse, Option, Some, None, option_map}
+use Rattle.std.specs.Prelude.{◌≡◌, ℕ, zero, suc, ◌+◌, ◌&&◌, if◌then◌else◌, List, [], ◌∷◌, ◌++◌, length, map, reverse, Option, Some, None, option_map}
 use Rattle.meson_lex.specs.declared.kinds.Span.{Span}
 use Rattle.meson_syntax.specs.Tree.{Expression, Operands, Listing, Argument, Arguments}
 use Rattle.meson_calls.specs.declared.call.CallRef.{CallRef}
@@ -8,7 +8,8 @@ use Rattle.meson_calls.specs.declared.followed.Followed.{Followed}
 use Rattle.meson_calls.specs.declared.marks.Marks.{Marks}
 use Rattle.meson_calls.specs.declared.marks.Site.{Site}
 use Rattle.meson_calls.specs.Project.{Project, child, place}
-use Rattle.meson_calls.specs.Expansion.{Slot, in_list, fixed, Mark, known, opaque, empty, Expansion, Stand, met, and_then, operand_at, are_plus, is_list_operand, expand_by, expand_operands, expand_listing, expand_each, expand_argument, follow_single, expand}
+use Rattle.meson_calls.specs.Expansion.{Slot, in_list, fixed, Mark, known, opaque, empty, Expansion, Stand, met, and_then, within, operand_at, are_plus, is_list_operand, expand_by, expand_operands, expand_listing, expand_each, expand_argument, follow_single, expand}
+use Rattle.meson_calls.specs.Roles.{one_of}
 use Rattle.meson_calls.specs.Sources.{or_option, source_item}
 use Rattle.meson_calls.specs.Variables.{single}
 
@@ -60,6 +61,10 @@ followed_names f = reverse (map (λ x. x.now) f.names.items)
 abbrev pub gathered : Marks → Gathered
 gathered m = record { tally = record { items = m.items.items; numbers = m.numbers.items; unknown = length m.unknown.items; list = m.list; vacant = m.vacant }; followed = followed_names m.followed }
 
+-- the code's marks get what an expansion meets behind what was followed before
+abbrev pub Meets : Marks → (List (List ℕ) → Expansion Span) → Marks → Type 0
+Meets old more new = gathered new ≡ expanded (gathered old) more
+
 -- ---- where an expression stands: the n-th child of a list at a path, or at the path itself and in no list
 
 abbrev pub stand : ℕ → List ℕ → Option (List ℕ) → Option ℕ → Stand
@@ -75,6 +80,10 @@ abbrev pub follow_of : {S : Type 0} → Project S → ℕ → List ℕ → List 
 follow_of p zero x followed = met opaque followed
 follow_of p (suc left) x followed = follow_single (expand p left) x followed (single p x)
 
+-- what it gives where it is followed once at most
+abbrev pub variable_left : Project Span → ℕ → List ℕ → List (List ℕ) → Expansion Span
+variable_left p left x followed = if one_of followed x then met opaque followed else follow_of p left x followed
+
 -- ---- expansions where so many variables may still be followed inside one another
 
 abbrev pub expand_left : Project Span → ℕ → Expression Span → Stand → List (List ℕ) → Expansion Span
@@ -82,6 +91,10 @@ expand_left p left = expand_by (is_list_operand p) (follow_of p left)
 
 abbrev pub listing_left : Project Span → ℕ → Listing Span → Stand → List (List ℕ) → Expansion Span
 listing_left p left = expand_listing (is_list_operand p) (follow_of p left)
+
+-- the list of an array or a call, in which nothing may be met
+abbrev pub list_left : Project Span → ℕ → Listing Span → Stand → List (List ℕ) → Expansion Span
+list_left p left l s followed = within s.place (listing_left p left l s followed)
 
 abbrev pub each_left : Project Span → ℕ → Arguments Span → ℕ → Stand → List (List ℕ) → Expansion Span
 each_left p left = expand_each (is_list_operand p) (follow_of p left)

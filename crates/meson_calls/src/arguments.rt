@@ -13,7 +13,7 @@ ghost use Rattle.meson_calls.specs.Sources.{rest};
 ghost use Rattle.meson_calls.specs.Strings.{AreGood};
 ghost use Rattle.meson_calls.specs.Sourced.{kept_args, kept_arg, step_by, arguments_by};
 ghost use Rattle.meson_calls.specs.Keywords.{IsFirstNamed};
-ghost use Rattle.meson_calls.specs.Tallies.{gathered, expanded};
+ghost use Rattle.meson_calls.specs.Tallies.{Meets};
 
 use crate::marks::{Marks, Site};
 use crate::roles::text_of;
@@ -46,8 +46,7 @@ pub fn count_named(source: &[u8], args: &[Arg], key: &[u8]) -> usize
 
 /// The number of the first argument that has this name.
 pub fn first_named(source: &[u8], args: &[Arg], key: &[u8]) -> Option<usize>
-    ensures { MatchOption result
-        (kept_args source.now (value_with_name key.now) 0 args.now ≡ [])
+    ensures { MatchOption result (kept_args source.now (value_with_name key.now) 0 args.now ≡ [])
         (IsFirstNamed source.now key.now args.now) }
 {
     for i in 0..args.len() {
@@ -70,7 +69,8 @@ pub fn is_plain(arg: &Arg) -> bool
 
 /// The number behind that of the first argument without a name.
 pub fn behind_first(args: &[Arg]) -> usize
-    ensures { (source : Source) → rest (kept_args source value_without_name 0 args.now) ≡ kept_args source value_without_name result (drop result args.now) }
+    ensures { (source : Source) → rest (kept_args source value_without_name 0 args.now)
+        ≡ kept_args source value_without_name result (drop result args.now) }
 {
     for i in 0..args.len() {
         if is_plain(&args[i]) {
@@ -95,7 +95,8 @@ impl<'t> Variables<'t> {
         requires whole { site.variable ≡ None }
         requires good { AreGood (argument_words (arg_view site.source.now arg.now)) }
         ensures back { OnOk result (path.new.items ≡ path.old.items) }
-        ensures all { OnOk result (gathered marks.new ≡ expanded (gathered marks.old) (step_by (project_of self.now) left (place site.entry.file path.old.items) (in_list (place site.entry.file path.old.items)) (kept_arg site.entry.source.now value_without_name number arg.now))) }
+        ensures all { OnOk result (Meets marks.old (step_by (project_of self.now) left (place site.entry.file path.old.items)
+            (in_list (place site.entry.file path.old.items)) (kept_arg site.entry.source.now value_without_name number arg.now)) marks.new) }
     {
         match arg {
             Arg::Plain(value) => self.expand(left, site, Some(number), value, path, marks),
@@ -118,7 +119,8 @@ impl<'t> Variables<'t> {
         requires whole { site.variable ≡ None }
         requires good { AreGood (argument_words (arg_view site.source.now arg.now)) }
         ensures back { OnOk result (path.new.items ≡ path.old.items) }
-        ensures all { OnOk result (gathered marks.new ≡ expanded (gathered marks.old) (step_by (project_of self.now) left (place site.entry.file path.old.items) (λ n. fixed) (kept_arg site.entry.source.now (value_with_name key.now) number arg.now))) }
+        ensures all { OnOk result (Meets marks.old (step_by (project_of self.now) left (place site.entry.file path.old.items)
+            (λ n. fixed) (kept_arg site.entry.source.now (value_with_name key.now) number arg.now)) marks.new) }
     {
         match arg {
             Arg::Named { name, value, .. } => {
@@ -147,7 +149,8 @@ impl<'t> Variables<'t> {
         requires whole { site.variable ≡ None }
         requires good { GoodArgs site.source.now args.now }
         ensures back { OnOk result (path.new.items ≡ path.old.items) }
-        ensures all { OnOk result (gathered marks.new ≡ expanded (gathered marks.old) (arguments_by (project_of self.now) left (place site.entry.file path.old.items) (in_list (place site.entry.file path.old.items)) (kept_args site.entry.source.now value_without_name from (drop from args.now)))) }
+        ensures all { OnOk result (Meets marks.old (arguments_by (project_of self.now) left (place site.entry.file path.old.items)
+            (in_list (place site.entry.file path.old.items)) (kept_args site.entry.source.now value_without_name from (drop from args.now))) marks.new) }
     {
         for i in from..args.len() {
             self.expand_plain(left, site, i, &args[i], path, marks)?;
@@ -169,7 +172,8 @@ impl<'t> Variables<'t> {
         requires whole { site.variable ≡ None }
         requires good { GoodArgs site.source.now args.now }
         ensures back { OnOk result (path.new.items ≡ path.old.items) }
-        ensures all { OnOk result (gathered marks.new ≡ expanded (gathered marks.old) (arguments_by (project_of self.now) left (place site.entry.file path.old.items) (λ n. fixed) (kept_args site.entry.source.now (value_with_name key.now) 0 args.now))) }
+        ensures all { OnOk result (Meets marks.old (arguments_by (project_of self.now) left (place site.entry.file path.old.items)
+            (λ n. fixed) (kept_args site.entry.source.now (value_with_name key.now) 0 args.now)) marks.new) }
     {
         for i in 0..args.len() {
             self.expand_named(left, site, i, &args[i], key, path, marks)?;

@@ -1,16 +1,15 @@
 //! What a list of sources holds.
 
-ghost use Rattle.std.specs.Prelude.{◌≡◌, ◌++◌, OnOk, if◌then◌else◌};
+ghost use Rattle.std.specs.Prelude.{◌≡◌, OnOk};
 ghost use Rattle.meson_lex.specs.Kinds.{IsIdentifier};
-ghost use Rattle.meson_syntax.specs.Grammar.{expression_words, operands_words, argument_words};
+ghost use Rattle.meson_syntax.specs.Grammar.{expression_words, argument_words};
 ghost use Rattle.meson_syntax.specs.Tree.{arguments_of, operands_of};
 ghost use Rattle.meson_syntax.specs.View.{arg_view, args_view, expr_view, list_view, operands_view};
-ghost use Rattle.meson_calls.specs.Expansion.{element, operand_at, within, met, opaque};
-ghost use Rattle.meson_calls.specs.Roles.{one_of};
+ghost use Rattle.meson_calls.specs.Expansion.{element, operand_at};
 ghost use Rattle.meson_calls.specs.Named.{AreVariables, project_of};
 ghost use Rattle.meson_calls.specs.Strings.{AreGood};
-ghost use Rattle.meson_calls.specs.GoodLists.{GoodArgs, GoodListing};
-ghost use Rattle.meson_calls.specs.Tallies.{gathered, expanded, stand_at, follow_of, expand_left, listing_left, each_left, argument_left, sum_left, row_left};
+ghost use Rattle.meson_calls.specs.GoodLists.{GoodArgs, GoodListing, GoodRow};
+ghost use Rattle.meson_calls.specs.Tallies.{Meets, stand_at, variable_left, expand_left, list_left, each_left, argument_left, sum_left, row_left};
 
 use crate::marks::{Marks, Site};
 use crate::meeting::{is_files, meet_string};
@@ -34,7 +33,8 @@ impl<'t> Variables<'t> {
         requires holds { AreVariables self.now }
         requires good { AreGood (expression_words (expr_view site.source.now expr.now)) }
         ensures back { OnOk result (path.new.items ≡ path.old.items) }
-        ensures all { OnOk result (gathered marks.new ≡ expanded (gathered marks.old) (expand_left (project_of self.now) left (expr_view site.entry.source.now expr.now) (stand_at site.entry path.old.items slot))) }
+        ensures all { OnOk result (Meets marks.old
+            (expand_left (project_of self.now) left (expr_view site.entry.source.now expr.now) (stand_at site.entry path.old.items slot)) marks.new) }
     {
         match expr {
             Expr::String { span, .. } => {
@@ -76,7 +76,8 @@ impl<'t> Variables<'t> {
         requires holds { AreVariables self.now }
         requires good { GoodListing (list_view site.source.now list.now) }
         ensures back { OnOk result (path.new.items ≡ path.old.items) }
-        ensures all { OnOk result (gathered marks.new ≡ expanded (gathered marks.old) (λ followed. within (stand_at site.entry path.old.items slot).place (listing_left (project_of self.now) left (list_view site.entry.source.now list.now) (stand_at site.entry path.old.items slot) followed))) }
+        ensures all { OnOk result (Meets marks.old
+            (list_left (project_of self.now) left (list_view site.entry.source.now list.now) (stand_at site.entry path.old.items slot)) marks.new) }
     {
         match slot {
             Some(number) => {
@@ -102,7 +103,8 @@ impl<'t> Variables<'t> {
         requires holds { AreVariables self.now }
         requires good { GoodListing (list_view site.source.now list.now) }
         ensures back { OnOk result (path.new.items ≡ path.old.items) }
-        ensures all { OnOk result (gathered marks.new ≡ expanded (gathered marks.old) (λ followed. within (stand_at site.entry path.old.items None).place (listing_left (project_of self.now) left (list_view site.entry.source.now list.now) (stand_at site.entry path.old.items None) followed))) }
+        ensures all { OnOk result (Meets marks.old
+            (list_left (project_of self.now) left (list_view site.entry.source.now list.now) (stand_at site.entry path.old.items None)) marks.new) }
     {
         let args = list.items.get();
         if args.is_empty() {
@@ -125,7 +127,8 @@ impl<'t> Variables<'t> {
         requires holds { AreVariables self.now }
         requires good { GoodArgs site.source.now args.now }
         ensures back { OnOk result (path.new.items ≡ path.old.items) }
-        ensures all { OnOk result (gathered marks.new ≡ expanded (gathered marks.old) (each_left (project_of self.now) left (arguments_of (args_view site.entry.source.now args.now)) 0 (stand_at site.entry path.old.items None))) }
+        ensures all { OnOk result (Meets marks.old (each_left (project_of self.now) left
+            (arguments_of (args_view site.entry.source.now args.now)) 0 (stand_at site.entry path.old.items None)) marks.new) }
     {
         for i in 0..args.len() {
             self.expand_arg(left, site, i, &args[i], path, marks)?;
@@ -147,7 +150,8 @@ impl<'t> Variables<'t> {
         requires holds { AreVariables self.now }
         requires good { AreGood (argument_words (arg_view site.source.now arg.now)) }
         ensures back { OnOk result (path.new.items ≡ path.old.items) }
-        ensures all { OnOk result (gathered marks.new ≡ expanded (gathered marks.old) (argument_left (project_of self.now) left (arg_view site.entry.source.now arg.now) (element (stand_at site.entry path.old.items None) number))) }
+        ensures all { OnOk result (Meets marks.old (argument_left (project_of self.now) left
+            (arg_view site.entry.source.now arg.now) (element (stand_at site.entry path.old.items None) number)) marks.new) }
     {
         match arg {
             Arg::Plain(value) => self.expand(left, site, Some(number), value, path, marks),
@@ -168,9 +172,10 @@ impl<'t> Variables<'t> {
         marks: &mut Marks<'t>,
     ) -> Result<(), AllocError>
         requires holds { AreVariables self.now }
-        requires good { AreGood (expression_words (expr_view site.source.now first.now) ++ operands_words (operands_of (operands_view site.source.now rest.now))) }
+        requires good { GoodRow site.source.now first.now rest.now }
         ensures back { OnOk result (path.new.items ≡ path.old.items) }
-        ensures all { OnOk result (gathered marks.new ≡ expanded (gathered marks.old) (row_left (project_of self.now) left (expr_view site.entry.source.now first.now) (operands_of (operands_view site.entry.source.now rest.now)) (stand_at site.entry path.old.items slot))) }
+        ensures all { OnOk result (Meets marks.old (row_left (project_of self.now) left (expr_view site.entry.source.now first.now)
+            (operands_of (operands_view site.entry.source.now rest.now)) (stand_at site.entry path.old.items slot)) marks.new) }
     {
         if !self.is_sum(site.source, first, rest) {
             return marks.miss(site.file);
@@ -198,9 +203,10 @@ impl<'t> Variables<'t> {
         marks: &mut Marks<'t>,
     ) -> Result<(), AllocError>
         requires holds { AreVariables self.now }
-        requires good { AreGood (expression_words (expr_view site.source.now first.now) ++ operands_words (operands_of (operands_view site.source.now rest.now))) }
+        requires good { GoodRow site.source.now first.now rest.now }
         ensures back { OnOk result (path.new.items ≡ path.old.items) }
-        ensures all { OnOk result (gathered marks.new ≡ expanded (gathered marks.old) (sum_left (project_of self.now) left (expr_view site.entry.source.now first.now) (operands_of (operands_view site.entry.source.now rest.now)) (stand_at site.entry path.old.items None))) }
+        ensures all { OnOk result (Meets marks.old (sum_left (project_of self.now) left (expr_view site.entry.source.now first.now)
+            (operands_of (operands_view site.entry.source.now rest.now)) (stand_at site.entry path.old.items None)) marks.new) }
     {
         self.expand_operand(left, site, 0, first, path, marks)?;
         for i in 0..rest.len() {
@@ -223,7 +229,8 @@ impl<'t> Variables<'t> {
         requires holds { AreVariables self.now }
         requires good { AreGood (expression_words (expr_view site.source.now operand.now)) }
         ensures back { OnOk result (path.new.items ≡ path.old.items) }
-        ensures all { OnOk result (gathered marks.new ≡ expanded (gathered marks.old) (expand_left (project_of self.now) left (expr_view site.entry.source.now operand.now) (operand_at (stand_at site.entry path.old.items None) number))) }
+        ensures all { OnOk result (Meets marks.old (expand_left (project_of self.now) left
+            (expr_view site.entry.source.now operand.now) (operand_at (stand_at site.entry path.old.items None) number)) marks.new) }
     {
         path.push(number)?;
         self.expand(left, site, None, operand, path, marks)?;
@@ -242,7 +249,7 @@ impl<'t> Variables<'t> {
     ) -> Result<(), AllocError>
         requires holds { AreVariables self.now }
         requires named { IsIdentifier name.now }
-        ensures { OnOk result (gathered marks.new ≡ expanded (gathered marks.old) (λ followed. if one_of followed name.entry.now then met opaque followed else follow_of (project_of self.now) left name.entry.now followed)) }
+        ensures { OnOk result (Meets marks.old (variable_left (project_of self.now) left name.entry.now) marks.new) }
     {
         if marks.has_followed(name) || left == 0 {
             return marks.miss(file);

@@ -1,8 +1,10 @@
-//! The names of a project's files, as a set.
+//! The names of a project's files, as a set, and whether a file enters one of them.
 
-ghost use Rattle.std.specs.Prelude.{IfOk};
-ghost use Rattle.meson_calls.specs.Knowns.{AreNames};
+ghost use Rattle.std.specs.Prelude.{◌≡◌, All, IfOk, Some};
+ghost use Rattle.meson_calls.specs.Knowns.{AreNames, is_entered, meant_in};
+ghost use Rattle.meson_calls.specs.Loading.{HasFileName};
 
+use crate::entering::file_in;
 use meson_splice::FileSet;
 use std::alloc::{AllocError, Global};
 use std::collections::HashSet;
@@ -19,4 +21,28 @@ pub fn names_of<'f>(alloc: Global, files: &'f FileSet) -> Result<HashSet<&'f str
         names.insert(files.name(i))?;
     }
     Ok(names)
+}
+
+/// Whether a `subdir` of this folder in this file enters one of the files.
+///
+/// # Errors
+/// Memory was refused.
+pub fn enters(
+    alloc: Global,
+    files: &FileSet,
+    names: &HashSet<&str>,
+    file: usize,
+    folder: &str,
+) -> Result<bool, AllocError>
+    requires named { All HasFileName files.now }
+    requires names { AreNames names.now files.now }
+    ensures { IfOk result (λ there. there ≡ is_entered files.now (meant_in files.now file (Some folder.now))) }
+{
+    if file >= files.len() {
+        return Ok(false);
+    }
+    match file_in(alloc, files.name(file), folder)? {
+        Some(name) => Ok(names.contains(name.as_str())),
+        None => Ok(false),
+    }
 }

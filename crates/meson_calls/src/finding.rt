@@ -1,14 +1,14 @@
 //! The one call that an id names, and its arguments.
 
-ghost use Rattle.std.specs.Prelude.{◌≡◌, ◌≢◌, Err, IfErr, IfOk, Ok};
+ghost use Rattle.std.specs.Prelude.{◌≡◌, IfOk, Ok};
 ghost use Rattle.meson_splice.specs.Files.{bytes_at};
 ghost use Rattle.meson_syntax.specs.View.{list_view};
-ghost use Rattle.meson_calls.specs.declared.refusal.Refusal.TheVariants.{OutOfMemory};
 ghost use Rattle.meson_calls.specs.Notes.{note_views};
 ghost use Rattle.meson_calls.specs.Picking.{found_places};
 ghost use Rattle.meson_calls.specs.Finding.{only_one};
 ghost use Rattle.meson_calls.specs.OnePlace.{the_place};
 ghost use Rattle.meson_calls.specs.CallPlaces.{CallIn};
+ghost use Rattle.meson_calls.specs.Refusals.{RefusedAs};
 ghost use Rattle.meson_calls.specs.Strings.{NotesGood};
 
 use crate::naming::found;
@@ -39,7 +39,7 @@ fn only_one(calls: Vec<CallRef>) -> Result<CallRef, Refusal>
 fn only_found(alloc: Global, role: Role, id: &str, notes: &[Note<'_>]) -> Result<CallRef, Refusal>
     requires { NotesGood (note_views notes.now) }
     ensures found { IfOk result (λ c. only_one (found_places role id.now (note_views notes.now)) ≡ Ok c) }
-    ensures refused { IfErr result (λ e. e ≢ OutOfMemory → only_one (found_places role id.now (note_views notes.now)) ≡ Err e) }
+    ensures refused { RefusedAs result (only_one (found_places role id.now (note_views notes.now))) }
 {
     let calls = found(alloc, role, id, notes)?;
     only_one(calls)
@@ -52,7 +52,7 @@ fn only_found(alloc: Global, role: Role, id: &str, notes: &[Note<'_>]) -> Result
 pub fn the_call(alloc: Global, role: Role, id: &str, notes: &[Note<'_>]) -> Result<CallRef, Refusal>
     requires { NotesGood (note_views notes.now) }
     ensures found { IfOk result (λ c. the_place role id.now (note_views notes.now) ≡ Ok c) }
-    ensures refused { IfErr result (λ e. e ≢ OutOfMemory → the_place role id.now (note_views notes.now) ≡ Err e) }
+    ensures refused { RefusedAs result (the_place role id.now (note_views notes.now)) }
 {
     match role {
         Role::Project => {

@@ -13,8 +13,7 @@ ghost use Rattle.meson_calls.specs.Project.{place_at};
 ghost use Rattle.meson_calls.specs.Strings.{AreGood, NotesGood, note_words};
 ghost use Rattle.meson_calls.specs.Variables.{sets_unknown};
 
-use crate::entering::file_in;
-use crate::file_names::names_of;
+use crate::file_names::{enters, names_of};
 use crate::literals::first_literal;
 use crate::note::{Note, What};
 use crate::roles::text_of;
@@ -42,7 +41,7 @@ fn sets_unknown(
     }
 }
 
-/// Whether a `subdir` in this file means one of the files.
+/// Whether a `subdir` call in this file enters one of the files.
 fn is_entered(
     alloc: Global,
     files: &FileSet,
@@ -54,18 +53,13 @@ fn is_entered(
     requires named { All HasFileName files.now }
     requires names { AreNames names.now files.now }
     requires good { AreGood (listing_words (list_view source.now arguments.now) bracket.Round) }
-    ensures { (function : Source) → IfOk result (λ there. there ≡ is_entered files.now (meant_in files.now file (first_literal (call_with function (list_view source.now arguments.now))))) }
+    ensures { (function : Source) → let folder = first_literal (call_with function (list_view source.now arguments.now)) in
+        IfOk result (λ there. there ≡ is_entered files.now (meant_in files.now file folder)) }
 {
-    if file >= files.len() {
-        return Ok(false);
+    match first_literal(alloc, source, arguments)? {
+        Some(folder) => enters(alloc, files, names, file, folder.as_str()),
+        None => Ok(false),
     }
-    let Some(folder) = first_literal(alloc, source, arguments)? else {
-        return Ok(false);
-    };
-    let Some(name) = file_in(alloc, files.name(file), folder.as_str())? else {
-        return Ok(false);
-    };
-    Ok(names.contains(name.as_str()))
 }
 
 /// Whether a call is a `subdir` that means none of the files.
@@ -81,7 +75,8 @@ fn enters_none(
     requires named { All HasFileName files.now }
     requires names { AreNames names.now files.now }
     requires good { AreGood (listing_words (list_view source.now arguments.now) bracket.Round) }
-    ensures { IfOk result (λ unknown. unknown ≡ enters_none files.now file (call_with (text_at source.now function) (list_view source.now arguments.now))) }
+    ensures { IfOk result (λ unknown.
+        unknown ≡ enters_none files.now file (call_with (text_at source.now function) (list_view source.now arguments.now))) }
 {
     if text_of(source, function) == b"subdir".as_slice() {
         let there = is_entered(alloc, files, names, file, source, arguments)?;

@@ -45,7 +45,8 @@ pub fn first_literal(
     arguments: &List,
 ) -> Result<Option<String>, AllocError>
     requires { AreGood (listing_words (list_view source.now arguments.now) Bracket.Round) }
-    ensures { (function : Source) → IfOk result (λ text. option_map string_bytes text ≡ first_literal (call_with function (list_view source.now arguments.now))) }
+    ensures { (function : Source) → IfOk result (λ text.
+        option_map string_bytes text ≡ first_literal (call_with function (list_view source.now arguments.now))) }
 {
     match first_argument(arguments) {
         Some(value) => {

@@ -1,7 +1,7 @@
 //! Files to trees.
 
-ghost use Rattle.std.specs.Prelude.{◌≡◌, ◌<◌, ◌≤◌, IfErr, IfOk, MatchOption, All};
-ghost use Rattle.meson_calls.specs.Loading.{Loaded, IsProject, MayNotLoad, HasFileName, IsFirstBadName, AreParsed};
+ghost use Rattle.std.specs.Prelude.{◌≡◌, IfErr, IfOk, MatchOption, All};
+ghost use Rattle.meson_calls.specs.Loading.{IsProject, MayNotLoad, HasFileName, IsFirstBadName, AreParsed};
 ghost use Rattle.meson_calls.specs.Loads.{MayNotParse, Tells};
 
 use crate::folders::is_file_name;

@@ -48,7 +48,7 @@ pub fn text_of_name(alloc: Global, name: &[u8]) -> Result<Text, AllocError>
 
 impl<'t> Marks<'t> {
     ghost use Rattle.meson_calls.specs.Expansion.{opaque, empty};
-    ghost use Rattle.meson_calls.specs.Tallies.{Gathered, gathered, no_marks, with_mark, with_item};
+    ghost use Rattle.meson_calls.specs.Tallies.{gathered, no_marks, with_mark, with_item};
 
     /// Nothing so far. Takes no memory.
     pub fn new(alloc: Global) -> Self
@@ -73,7 +73,8 @@ impl<'t> Marks<'t> {
 
     /// Follows a variable.
     pub fn follow(&mut self, name: &'t [u8]) -> Result<(), AllocError>
-        ensures { OnOk result (gathered self.new ≡ record { tally = (gathered self.old).tally; followed = name.entry.now ∷ (gathered self.old).followed }) }
+        ensures { OnOk result (gathered self.new
+            ≡ record { tally = (gathered self.old).tally; followed = name.entry.now ∷ (gathered self.old).followed }) }
     {
         self.followed.put(name)?;
         Ok(())
@@ -110,7 +111,8 @@ impl<'t> Marks<'t> {
         item: SourceItem,
         number: Option<usize>,
     ) -> Result<(), AllocError>
-        ensures { OnOk result (gathered self.new ≡ record { tally = with_item (gathered self.old).tally item number; followed = (gathered self.old).followed }) }
+        ensures { OnOk result (gathered self.new
+            ≡ record { tally = with_item (gathered self.old).tally item number; followed = (gathered self.old).followed }) }
     {
         if self.list.is_none() {
             self.list = copy_list(alloc, &item.list)?;

@@ -9,7 +9,7 @@ ghost use Rattle.meson_calls.specs.Expansion.{are_named, is_files, literal_item}
 ghost use Rattle.meson_calls.specs.Picking.{Source};
 ghost use Rattle.meson_calls.specs.Sources.{list_of_slot};
 ghost use Rattle.meson_calls.specs.Strings.{AreGood};
-ghost use Rattle.meson_calls.specs.Tallies.{gathered, expanded, stand, stand_at};
+ghost use Rattle.meson_calls.specs.Tallies.{Meets, stand, stand_at};
 
 use crate::call::{CallRef, SourceItem};
 use crate::literals::literal;
@@ -94,7 +94,8 @@ pub fn meet_string<'t>(
     marks: &mut Marks<'t>,
 ) -> Result<(), AllocError>
     requires { AreGood (expression_words (expr_view site.source.now expr.now)) }
-    ensures { OnOk result (gathered marks.new ≡ expanded (gathered marks.old) (λ followed. literal_item span (stand_at site.entry path.now slot) followed (literal (expr_view site.entry.source.now expr.now)))) }
+    ensures { OnOk result (Meets marks.old
+        (λ followed. literal_item span (stand_at site.entry path.now slot) followed (literal (expr_view site.entry.source.now expr.now))) marks.new) }
 {
     match literal(alloc, site.source, expr)? {
         Some(text) => {

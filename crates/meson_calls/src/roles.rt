@@ -50,8 +50,7 @@ pub fn makes_target(function: &[u8]) -> bool
 
 /// The value of an argument without a name.
 fn value_without_name(arg: &Arg) -> Option<&Expr>
-    ensures { (source : Source) → MatchOption result
-        (value_without_name (arg_view source arg.now) ≡ None)
+    ensures { (source : Source) → MatchOption result (value_without_name (arg_view source arg.now) ≡ None)
         (λ e. value_without_name (arg_view source arg.now) ≡ Some (expr_view source e.now)) }
 {
     match arg {
@@ -62,8 +61,7 @@ fn value_without_name(arg: &Arg) -> Option<&Expr>
 
 /// The first argument without a name.
 pub fn first_argument(arguments: &List) -> Option<&Expr>
-    ensures { (source function : Source) → MatchOption result
-        (first_argument (call_with function (list_view source arguments.now)) ≡ None)
+    ensures { (source function : Source) → MatchOption result (first_argument (call_with function (list_view source arguments.now)) ≡ None)
         (λ e. first_argument (call_with function (list_view source arguments.now)) ≡ Some (expr_view source e.now)) }
 {
     let args = arguments.items.get();

@@ -1,11 +1,11 @@
 //! The sources of a target.
 
-ghost use Rattle.std.specs.Prelude.{◌≡◌, ◌≢◌, Ok, Err, IfErr, IfOk};
+ghost use Rattle.std.specs.Prelude.{◌≡◌, Ok, IfOk};
 ghost use Rattle.meson_syntax.specs.View.{list_view};
-ghost use Rattle.meson_calls.specs.Project.{placed};
 ghost use Rattle.meson_calls.specs.GoodLists.{GoodArgs, GoodListing};
 ghost use Rattle.meson_calls.specs.Named.{AreVariables, project_of};
-ghost use Rattle.meson_calls.specs.Picking.{Source, call_with};
+ghost use Rattle.meson_calls.specs.Picking.{Source, placed_call};
+ghost use Rattle.meson_calls.specs.Refusals.{RefusedAs};
 ghost use Rattle.meson_calls.specs.Sources.{or_option, or_call, sources_of_call};
 ghost use Rattle.meson_calls.specs.Tallies.{gathered};
 ghost use Rattle.meson_calls.specs.Sourced.{all_gathered};
@@ -88,8 +88,10 @@ pub fn sources_of<'t>(
 ) -> Result<Sources, Refusal>
     requires holds { AreVariables variables.now }
     requires good { GoodListing (list_view source.now arguments.now) }
-    ensures found { (function : Source) → IfOk result (λ s. sources_of_call (project_of variables.now) (placed call.now (call_with function (list_view source.entry.now arguments.entry.now))) ≡ Ok s) }
-    ensures refused { (function : Source) → IfErr result (λ e. e ≢ Refusal.OutOfMemory → sources_of_call (project_of variables.now) (placed call.now (call_with function (list_view source.entry.now arguments.entry.now))) ≡ Err e) }
+    ensures found { (function : Source) → IfOk result (λ s.
+        sources_of_call (project_of variables.now) (placed_call call.now function source.entry.now arguments.entry.now) ≡ Ok s) }
+    ensures refused { (function : Source) →
+        RefusedAs result (sources_of_call (project_of variables.now) (placed_call call.now function source.entry.now arguments.entry.now)) }
 {
     let alloc = variables.alloc;
     let args = arguments.items.get();

@@ -39,7 +39,8 @@ impl<'t> Variables<'t> {
     /// Whether a row is a sum of lists: all its operators are `+`, and its first operand is a list.
     pub fn is_sum(&self, source: &[u8], first: &Expr, rest: &[Operand]) -> bool
         requires { AreVariables self.now }
-        ensures { result ≡ (are_plus (operands_of (operands_view source.now rest.now)) && is_list_operand (project_of self.now) (expr_view source.now first.now)) }
+        ensures { result
+            ≡ (are_plus (operands_of (operands_view source.now rest.now)) && is_list_operand (project_of self.now) (expr_view source.now first.now)) }
     {
         if are_plus(rest) {
             self.is_list_operand(MAX_FOLLOWED, source, first)
