@@ -12,10 +12,10 @@ use Rattle.meson_calls.specs.declared.call.Sources as found
 use Rattle.meson_calls.specs.Project.{Project, child, placed}
 use Rattle.meson_calls.specs.Calls.{Call, Numbered, positional, keyword, value_without_name, value_with_name}
 use Rattle.meson_calls.specs.Picking.{call_with}
-use Rattle.meson_calls.specs.Expansion.{Slot, in_list, fixed, Mark, known, opaque, empty, and_then, max_followed}
-use Rattle.meson_calls.specs.Sources.{sources_key, kwargs_key, expand_arguments, rest, hidden, source_marks, items, opaque_count, or_option, list_of_slot, first_list, first_empty, or_call, source_item, answer, once, sources_of_call}
+use Rattle.meson_calls.specs.Expansion.{Slot, in_list, fixed, Mark, known, opaque, empty, then_expand, max_followed}
+use Rattle.meson_calls.specs.Sources.{sources_key, kwargs_key, expand_arguments, rest, hidden, source_marks, items, opaque_count, or_option, list_of_slot, first_list, first_empty, or_call, source_item, sources_of_marks, once, sources_of_call}
 use Rattle.meson_calls.specs.Sourced.{kept_args, one_by, arguments_by, with_hidden, all_gathered}
-use Rattle.meson_calls.specs.Tallies.{Tally, number_of_slot, marked, all_marked, Gathered, expanded, no_marks}
+use Rattle.meson_calls.specs.Tallies.{Tally, number_of_slot, tally_and, all_marked, Gathered, expanded, no_marks}
 use Rattle.meson_calls.proofs.Listed.{list_is}
 use Rattle.meson_calls.proofs.Gathers.{all_marked-append, expand_follow}
 
@@ -60,24 +60,24 @@ tally_is t (known i ∷ ms) =
     let vacant = or_option t.vacant (first_empty ms) in
     let unknown = t.unknown + opaque_count ms in
     let list = or_option (or_option t.list (list_of_slot i.slot)) (first_list ms) in
-    tally_is (marked t (known i)) ms
+    tally_is (tally_and t (known i)) ms
     ∙ ap (λ xs. tally_of xs ((t.numbers ++ number_of_slot i.slot ∷ []) ++ numbers_of ms) unknown list vacant) (append_assoc t.items (source_item i ∷ []) (map source_item (items ms)))
     ∙ ap (λ xs. tally_of (t.items ++ (source_item i ∷ map source_item (items ms))) xs unknown list vacant) (append_assoc t.numbers (number_of_slot i.slot ∷ []) (numbers_of ms))
     ∙ ap (λ o. tally_of (t.items ++ (source_item i ∷ map source_item (items ms))) (t.numbers ++ (number_of_slot i.slot ∷ numbers_of ms)) unknown o vacant)
     (or_assoc t.list (list_of_slot i.slot) (first_list ms))
 tally_is t (opaque ∷ ms) =
     let count : (t.unknown + 1) + opaque_count ms ≡ t.unknown + suc (opaque_count ms) = omega arith in
-    tally_is (marked t opaque) ms
+    tally_is (tally_and t opaque) ms
     ∙ ap (λ n. tally_of (t.items ++ map source_item (items ms)) (t.numbers ++ numbers_of ms) n (or_option t.list (first_list ms)) (or_option t.vacant (first_empty ms))) count
 tally_is t (empty p ∷ ms) =
-    tally_is (marked t (empty p)) ms
+    tally_is (tally_and t (empty p)) ms
     ∙ ap (λ o. tally_of (t.items ++ map source_item (items ms)) (t.numbers ++ numbers_of ms) (t.unknown + opaque_count ms) (or_option t.list (first_list ms)) o)
     (or_some t.vacant p (first_empty ms))
 
 abbrev pub answer_of : CallRef → Tally → found.Sources
 answer_of c t = record { items = t.items; opaque = t.unknown; home = or_call c (or_option t.list t.vacant) }
 
-answered : (c : CallRef) (ms : List (Mark Span)) → answer_of c (all_marked no_marks.tally ms) ≡ answer c ms
+answered : (c : CallRef) (ms : List (Mark Span)) → answer_of c (all_marked no_marks.tally ms) ≡ sources_of_marks c ms
 answered c ms =
     ap (answer_of c) (tally_is no_marks.tally ms)
     ∙ ap (λ n. record { items = map source_item (items ms); opaque = n; home = or_call c (or_option (first_list ms) (first_empty ms)) }) (zero-add (opaque_count ms))
@@ -89,7 +89,7 @@ arguments_are p c slot [] f = refl
 arguments_are p c slot (a ∷ more) f =
     let e = one_by p max_followed c slot a f in
     ap (λ r. record { marks = e.marks ++ r.marks; followed = r.followed }) (arguments_are p c slot more e.followed)
-    ∙ ap (λ by. and_then (by a.value (record { place = child c a.number; slot = slot a.number; variable = None }) f) (λ now. expand_arguments p c slot more now)) (sym (expand_follow p max_followed))
+    ∙ ap (λ by. then_expand (by a.value (record { place = child c a.number; slot = slot a.number; variable = None }) f) (λ now. expand_arguments p c slot more now)) (sym (expand_follow p max_followed))
 
 module _ (p : Project Span) (c : CallRef) (source : List ℕ) (l : rust.List) (function : List ℕ) where
   abbrev the_call : Call Span
@@ -119,11 +119,11 @@ module _ (p : Project Span) (c : CallRef) (source : List ℕ) (l : rust.List) (f
       hidden_marks (expanded (expanded no_marks (arguments_by p max_followed c (in_list c) here)) (arguments_by p max_followed c (λ n. fixed) named)) others
       ∙ ap (λ u. all_marked u (hidden others)) (sym (all_marked-append t first.marks second.marks))
       ∙ sym (all_marked-append t (first.marks ++ second.marks) (hidden others))
-      ∙ ap (λ e. all_marked t ((and_then e (λ now. arguments_by p max_followed c (λ n. fixed) named now)).marks ++ hidden others)) first_is
+      ∙ ap (λ e. all_marked t ((then_expand e (λ now. arguments_by p max_followed c (λ n. fixed) named now)).marks ++ hidden others)) first_is
       ∙ ap (λ r. all_marked t ((first_by.marks ++ r.marks) ++ hidden others)) (arguments_are p c (λ n. fixed) named first_by.followed)
-      ∙ ap (λ xs. all_marked t ((and_then (expand_arguments p c (in_list c) (rest xs) []) (λ now. expand_arguments p c (λ n. fixed) named now)).marks ++ hidden others)) (sym positional_is)
-      ∙ ap (λ ys. all_marked t ((and_then (expand_arguments p c (in_list c) (rest (positional the_call)) []) (λ now. expand_arguments p c (λ n. fixed) ys now)).marks ++ hidden others)) (sym (keyword_is sources_key))
-      ∙ ap (λ ks. all_marked t ((and_then (expand_arguments p c (in_list c) (rest (positional the_call)) []) (λ now. expand_arguments p c (λ n. fixed) (keyword sources_key the_call) now)).marks ++ hidden ks)) (sym (keyword_is kwargs_key))
+      ∙ ap (λ xs. all_marked t ((then_expand (expand_arguments p c (in_list c) (rest xs) []) (λ now. expand_arguments p c (λ n. fixed) named now)).marks ++ hidden others)) (sym positional_is)
+      ∙ ap (λ ys. all_marked t ((then_expand (expand_arguments p c (in_list c) (rest (positional the_call)) []) (λ now. expand_arguments p c (λ n. fixed) ys now)).marks ++ hidden others)) (sym (keyword_is sources_key))
+      ∙ ap (λ ks. all_marked t ((then_expand (expand_arguments p c (in_list c) (rest (positional the_call)) []) (λ now. expand_arguments p c (λ n. fixed) (keyword sources_key the_call) now)).marks ++ hidden ks)) (sym (keyword_is kwargs_key))
 
   once_few : {X : Type 0} (xs : List X) (y : found.Sources) → length xs ≤ 1 → once sources_key xs y ≡ Ok y
   once_few [] y few = refl
@@ -133,7 +133,7 @@ module _ (p : Project Span) (c : CallRef) (source : List ℕ) (l : rust.List) (f
   pub answered_once : (t : Tally) → t ≡ (all_gathered p max_followed c source (rust.out-List l).items).tally → length (kept_args source (value_with_name sources_key) 0 (rust.out-List l).items) ≤ 1 →
       sources_of_call p (placed c the_call) ≡ Ok (answer_of c t)
   answered_once t is few =
-      let y = answer c (source_marks p (placed c the_call)) in
+      let y = sources_of_marks c (source_marks p (placed c the_call)) in
       ap (λ xs. once sources_key xs y) (keyword_is sources_key)
       ∙ once_few (kept_args source (value_with_name sources_key) 0 (rust.out-List l).items) y few
       ∙ ap Ok (sym (answered c (source_marks p (placed c the_call))) ∙ ap (answer_of c) (sym gathered_marks ∙ sym is))

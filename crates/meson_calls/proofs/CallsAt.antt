@@ -39,7 +39,7 @@ node_good of_expression x e good is = let same : x ≡ e = cc in subst (λ y. Ar
 node_good of_statement x e good is = cc
 node_good of_block x e good is = cc
 
-expression_good : (f : tree.File Span) (path : List ℕ) (e : Expression Span) → paths.expression_at f path ≡ Some e → AreGood (node_words Span of_block (block_of f)) → AreGood (expression_words e)
+expression_good : (f : tree.File Span) (path : List ℕ) (e : Expression Span) → paths.expression_on_path f path ≡ Some e → AreGood (node_words Span of_block (block_of f)) → AreGood (expression_words e)
 expression_good f path e is good =
     let o = and-then-some (λ h. expression_of Span h.sort h.inside) (reach Span of_block (block_of f) path) e is in
     let h = o.0 in
@@ -78,7 +78,7 @@ module _ (files : List File) (trees : List Parsed) (c : CallRef) (d : Parsed) (m
   abbrev the_tree : tree.File Span
   the_tree = view (bytes_at c.file files) (get_or trees c.file d)
 
-  pub listing_good : (e : Expression Span) (l : Listing Span) → AreParsed files trees → Some e ≡ paths.expression_at the_tree c.path.steps → Some l ≡ option_map (λ k. k.arguments) (call_of e) → GoodListing l
+  pub listing_good : (e : Expression Span) (l : Listing Span) → AreParsed files trees → Some e ≡ paths.expression_on_path the_tree c.path.steps → Some l ≡ option_map (λ k. k.arguments) (call_of e) → GoodListing l
   listing_good e l are is is_call =
       let spanned = spanned_at files trees c.file d within are in
       let good = subst AreGood (file-words-erased the_tree) (text_good (bytes_at c.file files) (erase the_tree) spanned.reads.spells) in
@@ -89,14 +89,14 @@ module _ (files : List File) (trees : List Parsed) (c : CallRef) (d : Parsed) (m
   by_listing r None l is so = cc
   by_listing r (Some k) l is so = let same : l ≡ k.arguments = cc in ap Some (ap (λ m. sources_of_call the_project (placed c (call_with k.function m))) (sym same) ∙ so k.function)
 
-  pub sources_are : (e : Expression Span) (l : Listing Span) (r : Result found.Sources Refusal) → Some e ≡ paths.expression_at the_tree c.path.steps → Some l ≡ option_map (λ k. k.arguments) (call_of e) →
+  pub sources_are : (e : Expression Span) (l : Listing Span) (r : Result found.Sources Refusal) → Some e ≡ paths.expression_on_path the_tree c.path.steps → Some l ≡ option_map (λ k. k.arguments) (call_of e) →
       ((function : List ℕ) → sources_of_call the_project (placed c (call_with function l)) ≡ r) → sources the_project c ≡ Some r
   sources_are e l r is is_call so =
-      ap (λ f. option_map (sources_of_call the_project) (option_map (placed c) (option_and_then call_of (option_and_then (λ g. paths.expression_at g.tree c.path.steps) f)))) (nth_there files trees c.file d many within)
+      ap (λ f. option_map (sources_of_call the_project) (option_map (placed c) (option_and_then call_of (option_and_then (λ g. paths.expression_on_path g.tree c.path.steps) f)))) (nth_there files trees c.file d many within)
       ∙ ap (λ o. option_map (sources_of_call the_project) (option_map (placed c) (option_and_then call_of o))) (sym is)
       ∙ by_listing r (call_of e) l is_call so
 
-  module _ (e : Expression Span) (l : Listing Span) (is : Some e ≡ paths.expression_at the_tree c.path.steps) (is_call : Some l ≡ option_map (λ k. k.arguments) (call_of e)) where
+  module _ (e : Expression Span) (l : Listing Span) (is : Some e ≡ paths.expression_on_path the_tree c.path.steps) (is_call : Some l ≡ option_map (λ k. k.arguments) (call_of e)) where
     pub sources_found : (r : Result found.Sources Refusal) → ((function : List ℕ) → IfOk r (λ s. sources_of_call the_project (placed c (call_with function l)) ≡ Ok s)) → IfOk r (λ s. sources the_project c ≡ Some (Ok s))
     sources_found (Ok s) so = sources_are e l (Ok s) is is_call so
     sources_found (Err x) so = tt

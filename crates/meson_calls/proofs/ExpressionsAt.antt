@@ -27,21 +27,21 @@ pub record ListHere (p : Project Span) (c : CallRef) (l : ListIn Span) : Type 0 
 
 pub list_here : (p : Project Span) (c : CallRef) (e : Expression Span) (l : ListIn Span) → expression_at p c ≡ Some e → list_in e ≡ Some l → ListHere p c l
 list_here p c e l is is_list =
-    let o = and-then-some (λ (g : BuildFile Span). paths.expression_at g.tree c.path.steps) (nth_file p c.file) e is in
+    let o = and-then-some (λ (g : BuildFile Span). paths.expression_on_path g.tree c.path.steps) (nth_file p c.file) e is in
     let i = list_of Span o.0.tree c.path.steps e l o.2 is_list in
     record { there = record { file = o.0; is_file = o.1; list = i.place; is_list = i.is_place }; same_list = i.list; same_bracket = i.bracket }
 
 -- an expression that is the n-th child of one stands there
 pub child_stands : (p : Project Span) (c : CallRef) (e : Expression Span) → expression_at p c ≡ Some e → (n : ℕ) (x : Expression Span) → nth (expression_parts e) n ≡ Some (an_expression x) → expression_at p (child c n) ≡ Some x
 child_stands p c e is n x is_child =
-    let o = and-then-some (λ (g : BuildFile Span). paths.expression_at g.tree c.path.steps) (nth_file p c.file) e is in
-    ap (option_and_then (λ (g : BuildFile Span). paths.expression_at g.tree (c.path.steps ++ n ∷ []))) o.1 ∙ value_below Span o.0.tree c.path.steps e n x o.2 is_child
+    let o = and-then-some (λ (g : BuildFile Span). paths.expression_on_path g.tree c.path.steps) (nth_file p c.file) e is in
+    ap (option_and_then (λ (g : BuildFile Span). paths.expression_on_path g.tree (c.path.steps ++ n ∷ []))) o.1 ∙ value_below Span o.0.tree c.path.steps e n x o.2 is_child
 
 -- ---- parts of a project
 
 pub node_expression : (p : Project Span) (c : CallRef) (file : BuildFile Span) (e : Expression Span) → nth_file p c.file ≡ Some file → node_at (a_block (block_of file.tree)) c.path.steps ≡ Some (an_expression e) → expression_at p c ≡ Some e
 node_expression p c file e is_file is =
-    ap (option_and_then (λ (g : BuildFile Span). paths.expression_at g.tree c.path.steps)) is_file ∙ expression-reached Span file.tree c.path.steps ∙ ap (option_and_then expression_any) is
+    ap (option_and_then (λ (g : BuildFile Span). paths.expression_on_path g.tree c.path.steps)) is_file ∙ expression-reached Span file.tree c.path.steps ∙ ap (option_and_then expression_any) is
 
 part_file : (p : Project Span) (q : Placed (Part Span)) (i : InProject 0 p q) → nth_file p q.place.file ≡ Some i.file
 part_file p q i =

@@ -10,7 +10,7 @@ use Rattle.meson_syntax.specs.View.{view}
 use Rattle.meson_calls.specs.Project.{Placed}
 use Rattle.meson_calls.specs.Parts.{Part, parts_from, file_parts}
 use Rattle.meson_calls.specs.Loading.{named_trees, views}
-use Rattle.meson_calls.specs.Walks.{Kept, with_part, with_parts}
+use Rattle.meson_calls.specs.Walks.{KeptParts, with_part, with_parts}
 use Rattle.meson_calls.proofs.Loads.{nth_bytes}
 
 -- the parts of files with trees, of which the first has the number n
@@ -24,7 +24,7 @@ one_file files trees i d e within inside =
     ∙ at_drop_more (λ ts. left i (get_or files i d ∷ drop (i + 1) files) ts) trees i e inside
     ∙ ap (λ bytes. file_parts i (view bytes (get_or trees i e)) ++ left (i + 1) (drop (i + 1) files) (drop (i + 1) trees)) (sym (nth_bytes files i d within))
 
-pub file_turn : (files : List File) (trees : List Parsed) (i : ℕ) (e : Parsed) (before after whole : Kept) → i < length files → i < length trees →
+pub file_turn : (files : List File) (trees : List Parsed) (i : ℕ) (e : Parsed) (before after whole : KeptParts) → i < length files → i < length trees →
     after ≡ with_parts before (file_parts i (view (bytes_at i files) (get_or trees i e))) →
     with_parts before (left i (drop i files) (drop i trees)) ≡ whole → with_parts after (left (i + 1) (drop (i + 1) files) (drop (i + 1) trees)) ≡ whole
 file_turn files trees i e before after whole within inside joins so_far =
@@ -35,5 +35,5 @@ file_turn files trees i e before after whole within inside joins so_far =
     ∙ ap (with_parts before) (sym (one_file files trees i (record { name = []; bytes = [] }) e within inside))
     ∙ so_far
 
-pub files_ended : (files : List File) (trees : List Parsed) (i : ℕ) (kept whole : Kept) → length files ≤ i → with_parts kept (left i (drop i files) (drop i trees)) ≡ whole → kept ≡ whole
+pub files_ended : (files : List File) (trees : List Parsed) (i : ℕ) (kept whole : KeptParts) → length files ≤ i → with_parts kept (left i (drop i files) (drop i trees)) ≡ whole → kept ≡ whole
 files_ended files trees i kept whole past so_far = ap (with_parts kept) (sym (at_drop_all (λ fs. left i fs (drop i trees)) files i past)) ∙ so_far

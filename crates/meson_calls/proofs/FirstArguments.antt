@@ -9,13 +9,13 @@ use Rattle.meson_syntax.specs.declared.tree.Arg.TheFolds.{the_lemmas}
 use Rattle.meson_syntax.specs.declared.tree.List as rust
 use Rattle.meson_syntax.specs.Tree.{Expression, listing, arguments_of}
 use Rattle.meson_syntax.specs.View.{arg_view, args_view, list_view}
-use Rattle.meson_calls.specs.Calls.{numbered, kept_number, value_without_name, first, first_argument}
+use Rattle.meson_calls.specs.Calls.{numbered, kept_number, value_without_name, first_of, first_argument}
 use Rattle.meson_calls.specs.Picking.{call_with}
 
 module _ (source : List ℕ) where
   -- of arguments of which the first has the number n
   abbrev pub first_left : ℕ → List Arg → Option (Expression Span)
-  first_left n args = option_map (λ a. a.value) (first (filter_map (kept_number value_without_name) (numbered n (arguments_of (args_view source args)))))
+  first_left n args = option_map (λ a. a.value) (first_of (filter_map (kept_number value_without_name) (numbered n (arguments_of (args_view source args)))))
 
   list_parts : (l : rust.List) → list_view source l ≡ listing (rust.out-List l).span (rust.out-List l).trailing (arguments_of (args_view source (rust.out-List l).items))
   list_parts l = search (rules, the_lemmas)
@@ -26,7 +26,7 @@ module _ (source : List ℕ) where
   -- by what the argument gives
   by_value : ℕ → Option (Expression Span) → List Arg → Option (Expression Span)
   by_value n v rest =
-      option_map (λ a. a.value) (first (cons_option (option_map (λ y. record { number = n; value = y }) v) (filter_map (kept_number value_without_name) (numbered (n + 1) (arguments_of (args_view source rest))))))
+      option_map (λ a. a.value) (first_of (cons_option (option_map (λ y. record { number = n; value = y }) v) (filter_map (kept_number value_without_name) (numbered (n + 1) (arguments_of (args_view source rest))))))
 
   one_more : (n : ℕ) (x : Arg) (rest : List Arg) → first_left n (x ∷ rest) ≡ by_value n (value_without_name (arg_view source x)) rest
   unfolding by_value

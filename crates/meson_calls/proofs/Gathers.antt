@@ -14,16 +14,16 @@ use Rattle.meson_calls.specs.declared.call.CallRef.{CallRef}
 use Rattle.meson_calls.specs.Project.{Project, Placed}
 use Rattle.meson_calls.specs.Roles.{one_of}
 use Rattle.meson_calls.specs.Variables.{single}
-use Rattle.meson_calls.specs.Expansion.{fixed, Mark, opaque, empty, Expansion, Stand, met, and_then, element, operand_at, or_empty, within, is_files, are_plus, is_list_operand, literal_item, expand_by, expand_operands, expand_listing, follow_single, of_variable, expand}
-use Rattle.meson_calls.specs.Tallies.{Tally, marked, all_marked, Gathered, expanded, with_mark, follow_of, expand_left, listing_left, each_left, argument_left, operands_left, sum_left}
+use Rattle.meson_calls.specs.Expansion.{fixed, Mark, opaque, empty, Expansion, Stand, met, then_expand, element, operand_at, or_empty, within, is_files, are_plus, is_list_operand, literal_item, expand_by, expand_operands, expand_listing, follow_single, of_variable, expand}
+use Rattle.meson_calls.specs.Tallies.{Tally, tally_and, all_marked, Gathered, expanded, with_mark, follow_of, expand_left, listing_left, each_left, argument_left, operands_left, sum_left}
 use Rattle.meson_calls.proofs.Parted.{operand_value}
 
 pub all_marked-append : (t : Tally) (xs ys : List (Mark Span)) → all_marked t (xs ++ ys) ≡ all_marked (all_marked t xs) ys
 all_marked-append t [] ys = refl
-all_marked-append t (x ∷ xs) ys = all_marked-append (marked t x) xs ys
+all_marked-append t (x ∷ xs) ys = all_marked-append (tally_and t x) xs ys
 
 -- one thing and then another
-pub expanded_twice : (g : Gathered) (first next : List (List ℕ) → Expansion Span) → expanded g (λ f. and_then (first f) next) ≡ expanded (expanded g first) next
+pub expanded_twice : (g : Gathered) (first next : List (List ℕ) → Expansion Span) → expanded g (λ f. then_expand (first f) next) ≡ expanded (expanded g first) next
 expanded_twice g first next =
     ap (λ t. record { tally = t; followed = (next (first g.followed).followed).followed }) (all_marked-append g.tally (first g.followed).marks (next (first g.followed).followed).marks)
 
@@ -69,7 +69,7 @@ module _ (is_list : Expression Span → Bool) (follow : List ℕ → List (List 
   gives_by (row at_ e os) s f =
       let first = expand_by is_list follow e (operand_at s 0) f in
       let more : List (List ℕ) → Expansion Span = λ now. expand_operands is_list follow os 1 s now in
-      gives_if (are_plus os && is_list e) (and_then first more) (met opaque f) (joined_some first.marks (more first.followed).marks (gives_by e (operand_at s 0) f)) (λ is. cc)
+      gives_if (are_plus os && is_list e) (then_expand first more) (met opaque f) (joined_some first.marks (more first.followed).marks (gives_by e (operand_at s 0) f)) (λ is. cc)
   gives_by (postfix at_ e ts) s f = λ is. cc
   gives_by (conditional at_ c y n) s f = λ is. cc
 

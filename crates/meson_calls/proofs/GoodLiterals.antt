@@ -10,7 +10,7 @@ use Rattle.meson_syntax.specs.declared.operator.StringKind.TheVariants as quotes
 use Rattle.meson_syntax.specs.Operators.{string_kind}
 use Rattle.meson_syntax.specs.Tree.{Expression, Listing, listing, plain, named, pair, Arguments, no_arguments, argument}
 use Rattle.meson_syntax.specs.Grammar.{mark, comma_words, expression_words, argument_words, arguments_words, listing_words}
-use Rattle.meson_calls.specs.Calls.{numbered, kept_number, value_without_name, first, first_argument}
+use Rattle.meson_calls.specs.Calls.{numbered, kept_number, value_without_name, first_of, first_argument}
 use Rattle.meson_calls.specs.Picking.{call_with}
 use Rattle.meson_calls.specs.Strings.{IsGood, AreGood}
 use Rattle.meson_calls.proofs.GoodParts.{good_left, good_right}
@@ -23,7 +23,7 @@ string_good quotes.FormatMultiline x good = good
 
 module _ {S : Type 0} where
   abbrev pub first_from : ℕ → Arguments S → Option (Expression S)
-  first_from n list = option_map (λ a. a.value) (first (filter_map (kept_number value_without_name) (numbered n list)))
+  first_from n list = option_map (λ a. a.value) (first_of (filter_map (kept_number value_without_name) (numbered n list)))
 
   first_good : (n : ℕ) (list : Arguments S) (trailing : Bool) (e : Expression S) → first_from n list ≡ Some e → AreGood (arguments_words list trailing) → AreGood (expression_words e)
   first_good n no_arguments trailing e is good = absurd (none_some is)

@@ -10,7 +10,7 @@ use Rattle.meson_syntax.specs.Tree.{Expression, identifier, boolean, integer, st
 use Rattle.meson_syntax.specs.Grammar.{mark, names_words, comma_words, operator_words, expression_words, operands_words, tail_words, tails_words, listing_words, argument_words, arguments_words, statement_words, branches_words, otherwise_words, statements_words, block_words, file_words}
 use Rattle.meson_calls.specs.declared.call.CallRef.{CallRef}
 use Rattle.meson_calls.specs.Project.{Placed, child, place}
-use Rattle.meson_calls.specs.Parts.{Part, expression_parts, operands_parts, tail_parts, tails_parts, listing_parts, argument_parts, arguments_parts, statement_parts, branches_parts, otherwise_parts, statements_parts, block_parts, file_parts, argument_children, tail_children, branches_children}
+use Rattle.meson_calls.specs.Parts.{Part, expression_parts, operands_parts, tail_parts, tails_parts, listing_parts, argument_parts, arguments_parts, statement_parts, branches_parts, otherwise_parts, statements_parts, block_parts, file_parts, argument_child_count, tail_child_count, branches_child_count}
 use Rattle.meson_calls.specs.Strings.{AreGood, PartsGood}
 
 pub good_left : (xs ys : List Word) → AreGood (xs ++ ys) → AreGood xs
@@ -61,7 +61,7 @@ mutual
   tails_good : {S : Type 0} (p : CallRef) (n : ℕ) (ts : Tails S) → AreGood (tails_words ts) → PartsGood (tails_parts p n ts)
   tails_good p n no_tails good = tt
   tails_good p n (tail t more) good =
-      both _ _ (tail_good p n t (good_left (tail_words t) (tails_words more) good)) (tails_good p (n + tail_children t) more (good_right (tail_words t) (tails_words more) good))
+      both _ _ (tail_good p n t (good_left (tail_words t) (tails_words more) good)) (tails_good p (n + tail_child_count t) more (good_right (tail_words t) (tails_words more) good))
 
   listing_good : {S : Type 0} (p : CallRef) (n : ℕ) (l : Listing S) (b : Bracket) → AreGood (listing_words l b) → PartsGood (listing_parts p n l)
   listing_good p n (listing s trailing list) b good = arguments_good p n list trailing (good_left (arguments_words list trailing) _ good.1)
@@ -77,7 +77,7 @@ mutual
   arguments_good p n no_arguments trailing good = tt
   arguments_good p n (argument a more) trailing good =
       both _ _ (argument_good p n a (good_left (argument_words a) (comma_words more trailing ++ arguments_words more trailing) good))
-      (arguments_good p (n + argument_children a) more trailing
+      (arguments_good p (n + argument_child_count a) more trailing
       (good_right (comma_words more trailing) (arguments_words more trailing) (good_right (argument_words a) (comma_words more trailing ++ arguments_words more trailing) good)))
 
 mutual
@@ -87,7 +87,7 @@ mutual
   statement_good p (selection s bs o) good = (
     good,
     both _ _ (branches_good p 0 bs k.WordIf (good_left (branches_words bs k.WordIf) (otherwise_words o ++ mark k.WordEndif) good))
-        (otherwise_good p (branches_children bs) o (good_left (otherwise_words o) (mark k.WordEndif) (good_right (branches_words bs k.WordIf) (otherwise_words o ++ mark k.WordEndif) good))),
+        (otherwise_good p (branches_child_count bs) o (good_left (otherwise_words o) (mark k.WordEndif) (good_right (branches_words bs k.WordIf) (otherwise_words o ++ mark k.WordEndif) good))),
   )
   statement_good p (iteration s xs e b) good =
       let more = (good_right (names_words xs) (mark k.Colon ++ (expression_words e ++ ((new_line ∷ block_words b) ++ mark k.WordEndforeach))) good.1).1 in (

@@ -12,7 +12,7 @@ use Rattle.meson_calls.specs.Project.{Project}
 use Rattle.meson_calls.specs.Calls.{Numbered}
 use Rattle.meson_calls.specs.Expansion.{Slot}
 use Rattle.meson_calls.specs.Sources.{rest}
-use Rattle.meson_calls.specs.Sourced.{kept_args, kept_arg, one_by, step_by, arguments_by}
+use Rattle.meson_calls.specs.Sourced.{kept_args, kept_arg, one_by, expansion_step, arguments_by}
 use Rattle.meson_calls.specs.Tallies.{Gathered, expanded}
 use Rattle.meson_calls.proofs.Gathers.{expanded_twice}
 
@@ -44,12 +44,12 @@ module _ {Y : Type 0} (source : List ℕ) (choose : Argument Span → Option Y) 
 
 module _ (p : Project Span) (left : ℕ) (c : CallRef) (slot : ℕ → Slot) where
   pub one_step : (g : Gathered) (o : Option (Numbered (Expression Span))) (more : List (Numbered (Expression Span))) →
-      expanded g (arguments_by p left c slot (cons_option o more)) ≡ expanded (expanded g (step_by p left c slot o)) (arguments_by p left c slot more)
+      expanded g (arguments_by p left c slot (cons_option o more)) ≡ expanded (expanded g (expansion_step p left c slot o)) (arguments_by p left c slot more)
   one_step g None more = refl
   one_step g (Some a) more = expanded_twice g (one_by p left c slot a) (arguments_by p left c slot more)
 
   pub kept_turn : (source : List ℕ) (choose : Argument Span → Option (Expression Span)) (args : List Arg) (i : ℕ) (d : Arg) (before after whole : Gathered) → i < length args →
-      after ≡ expanded before (step_by p left c slot (kept_arg source choose i (get_or args i d))) →
+      after ≡ expanded before (expansion_step p left c slot (kept_arg source choose i (get_or args i d))) →
       expanded before (arguments_by p left c slot (kept_args source choose i (drop i args))) ≡ whole →
       expanded after (arguments_by p left c slot (kept_args source choose (i + 1) (drop (i + 1) args))) ≡ whole
   kept_turn source choose args i d before after whole within step so_far =

@@ -7,8 +7,8 @@ use Rattle.meson_syntax.specs.declared.operator.Bracket.TheVariants as bracket
 use Rattle.meson_syntax.specs.Operators.{holds_values, holds_pairs}
 use Rattle.meson_syntax.specs.Tree.{Expression, plain, named, pair, is_named, Arguments, no_arguments, argument, argument_list, Block, File}
 use Rattle.meson_syntax.specs.Grammar.{LevelArguments}
-use Rattle.meson_syntax.specs.Parts.{Any, an_expression, a_statement, a_block, expression_parts, expression_any, parts, node_at}
-use Rattle.meson_syntax.specs.Paths.{Sort, of_expression, of_statement, of_block, Node, Hole, nth, reach, block_of, expression_of, expression_at, ListIn, list_in, ListAt, list_within, list_of_node, list_at}
+use Rattle.meson_syntax.specs.Parts.{Any, an_expression, a_statement, a_block, expression_parts, expression_any, child_nodes, node_at}
+use Rattle.meson_syntax.specs.Paths.{Sort, of_expression, of_statement, of_block, Node, Hole, nth, reach, block_of, expression_of, expression_on_path, ListIn, list_in, ListAt, list_within, list_of_node, list_at}
 use Rattle.meson_syntax.proofs.PathNodes.{expression-reached}
 use Rattle.meson_syntax.proofs.parsing.Steps.{some-injective}
 use Rattle.meson_syntax.proofs.paths.Reaching.{map-some, and-then-some}
@@ -32,7 +32,7 @@ plain_holds (argument a more) b seen (suc n) e level is = plain_holds more b (is
 
 pub record ListNode (S : Type 0) (f : File S) (path : List ℕ) (q : ListAt S) : Type 0 where
   pub node : Expression S
-  pub is_node : expression_at f path ≡ Some node
+  pub is_node : expression_on_path f path ≡ Some node
   pub inner : ListIn S
   pub is_inner : list_in node ≡ Some inner
   pub list : inner.list ≡ q.list
@@ -81,7 +81,7 @@ module _ (S : Type 0) (f : File S) where
   within_of of_statement x before behind back e l is in_it = absurd cc
   within_of of_block x before behind back e l is in_it = absurd cc
 
-  pub list_of : (path : List ℕ) (e : Expression S) (l : ListIn S) → expression_at f path ≡ Some e → list_in e ≡ Some l → ListOf path l
+  pub list_of : (path : List ℕ) (e : Expression S) (l : ListIn S) → expression_on_path f path ≡ Some e → list_in e ≡ Some l → ListOf path l
   list_of path e l is in_it =
       let o = and-then-some (λ h. expression_of S h.sort h.inside) (reach S of_block (block_of f) path) e is in
       let h = o.0 in
@@ -91,16 +91,16 @@ module _ (S : Type 0) (f : File S) where
 -- ---- an element of it
 
 module _ (S : Type 0) where
-  pub node_below : (r : Any S) (path : List ℕ) (x : Any S) (n : ℕ) → node_at r path ≡ Some x → node_at r (path ++ n ∷ []) ≡ nth (parts x) n
-  node_below r [] x n is = whole (nth (parts r) n) ∙ ap (λ o. option_and_then (λ y. nth (parts y) n) o) is
+  pub node_below : (r : Any S) (path : List ℕ) (x : Any S) (n : ℕ) → node_at r path ≡ Some x → node_at r (path ++ n ∷ []) ≡ nth (child_nodes x) n
+  node_below r [] x n is = whole (nth (child_nodes r) n) ∙ ap (λ o. option_and_then (λ y. nth (child_nodes y) n) o) is
     where
       whole : (o : Option (Any S)) → option_and_then (λ y. Some y) o ≡ o
       whole None = refl
       whole (Some y) = refl
-  node_below r (m ∷ path) x n is = go (nth (parts r) m) is (λ y h. node_below y path x n h)
+  node_below r (m ∷ path) x n is = go (nth (child_nodes r) m) is (λ y h. node_below y path x n h)
     where
-      go : (o : Option (Any S)) → option_and_then (λ y. node_at y path) o ≡ Some x → ((y : Any S) → node_at y path ≡ Some x → node_at y (path ++ n ∷ []) ≡ nth (parts x) n)
-          → option_and_then (λ y. node_at y (path ++ n ∷ [])) o ≡ nth (parts x) n
+      go : (o : Option (Any S)) → option_and_then (λ y. node_at y path) o ≡ Some x → ((y : Any S) → node_at y path ≡ Some x → node_at y (path ++ n ∷ []) ≡ nth (child_nodes x) n)
+          → option_and_then (λ y. node_at y (path ++ n ∷ [])) o ≡ nth (child_nodes x) n
       go None h below = absurd cc
       go (Some y) h below = below y h
 
@@ -109,8 +109,8 @@ module _ (S : Type 0) where
   only_expression (a_statement s) e is = absurd cc
   only_expression (a_block b) e is = absurd cc
 
-  pub value_below : (f : File S) (path : List ℕ) (e : Expression S) (n : ℕ) (v : Expression S) → expression_at f path ≡ Some e → nth (expression_parts e) n ≡ Some (an_expression v)
-      → expression_at f (path ++ n ∷ []) ≡ Some v
+  pub value_below : (f : File S) (path : List ℕ) (e : Expression S) (n : ℕ) (v : Expression S) → expression_on_path f path ≡ Some e → nth (expression_parts e) n ≡ Some (an_expression v)
+      → expression_on_path f (path ++ n ∷ []) ≡ Some v
   value_below f path e n v is part =
       let root = a_block (block_of f) in
       let o = and-then-some expression_any (node_at root path) e (sym (expression-reached S f path) ∙ is) in

@@ -8,17 +8,17 @@ use Rattle.meson_syntax.specs.Tree.{arguments_of, operands_of, tails_of}
 use Rattle.meson_syntax.specs.View.{arg_view, args_view, operand_view, operands_view, tail_view, tails_view}
 use Rattle.meson_calls.specs.declared.call.CallRef.{CallRef}
 use Rattle.meson_calls.specs.Project.{Placed, child}
-use Rattle.meson_calls.specs.Parts.{Part, expression_parts, argument_parts, arguments_parts, operands_parts, tail_parts, tails_parts, argument_children, arguments_children, tail_children}
+use Rattle.meson_calls.specs.Parts.{Part, expression_parts, argument_parts, arguments_parts, operands_parts, tail_parts, tails_parts, argument_child_count, arguments_child_count, tail_child_count}
 
 module _ (source : List ℕ) where
   abbrev pub args_size : Arg → ℕ
-  args_size x = argument_children (arg_view source x)
+  args_size x = argument_child_count (arg_view source x)
 
   abbrev pub args_count : List Arg → ℕ
-  args_count xs = arguments_children (arguments_of (args_view source xs))
+  args_count xs = arguments_child_count (arguments_of (args_view source xs))
 
   abbrev pub tail_size : rust_tail.Tail → ℕ
-  tail_size x = tail_children (tail_view source x)
+  tail_size x = tail_child_count (tail_view source x)
 
 module _ (source : List ℕ) (p : CallRef) where
   abbrev pub args_parts : ℕ → List Arg → List (Placed (Part Span))

@@ -7,12 +7,12 @@ use Rattle.meson_splice.specs.declared.file_set.File.{File}
 use Rattle.meson_splice.specs.Files.{bytes_at}
 use Rattle.meson_syntax.specs.declared.tree.Parsed.{Parsed}
 use Rattle.meson_syntax.specs.declared.fault.ParseFault.{ParseFault}
-use Rattle.meson_syntax.specs.Reads.{IsSpanned, MayRefuse}
+use Rattle.meson_syntax.specs.Reads.{IsSpanned, MayNotRead}
 use Rattle.meson_syntax.specs.View.{view}
 use Rattle.meson_calls.specs.declared.load_fault.LoadFault.{LoadFault}
 use Rattle.meson_calls.specs.declared.load_fault.LoadFault.TheVariants.{TooManyFiles, BadFileName, Parse, OutOfMemory}
-use Rattle.meson_calls.specs.Loading.{name_at, AreParsed, HasTree, IsFirstUnread}
-use Rattle.meson_calls.specs.Loads.{Tells, MayNotParse}
+use Rattle.meson_calls.specs.Loading.{name_of_file, AreParsed, HasTree, IsFirstUnread}
+use Rattle.meson_calls.specs.Loads.{TellsFault, MayNotParse}
 
 pub take_more : {X : Type 0} (xs : List X) (i : ℕ) (d : X) → i < length xs → take (i + 1) xs ≡ take i xs ++ get_or xs i d ∷ []
 take_more xs i d within = let step : i + 1 ≡ suc i = omega arith in ap (λ k. take k xs) step ∙ take-suc xs i d within
@@ -20,7 +20,7 @@ take_more xs i d within = let step : i + 1 ≡ suc i = omega arith in ap (λ k. 
 pub all_more : {X : Type 0} (P : X → Type 0) (xs : List X) (i : ℕ) (d : X) → i < length xs → All P (take i xs) → P (get_or xs i d) → All P (take (i + 1) xs)
 all_more P xs i d within before here = subst (All P) (sym (take_more xs i d within)) (All-append P (take i xs) (get_or xs i d ∷ []) before (All-cons P (get_or xs i d) [] here (All-nil P)))
 
-pub nth_name : (files : List File) (i : ℕ) (d : File) → i < length files → name_at i files ≡ (get_or files i d).name
+pub nth_name : (files : List File) (i : ℕ) (d : File) → i < length files → name_of_file i files ≡ (get_or files i d).name
 nth_name [] i d within = absurd (omega arith)
 nth_name (f ∷ files) zero d within = refl
 nth_name (f ∷ files) (suc i) d within = let below : i < length files = omega arith in nth_name files i d below
@@ -47,7 +47,7 @@ have_trees [] parsed are = All-nil HasTree
 have_trees (f ∷ files) [] are = absurd are
 have_trees (f ∷ files) (t ∷ parsed) are = All-cons HasTree f files (_, are.0.reads) (have_trees files parsed are.1)
 
-pub told_fault : (files : List File) (i : ℕ) (fault : ParseFault) (r : LoadFault) → Tells i fault r → i < length files → All HasTree (take i files) → MayRefuse (bytes_at i files) fault → MayNotParse files r
+pub told_fault : (files : List File) (i : ℕ) (fault : ParseFault) (r : LoadFault) → TellsFault i fault r → i < length files → All HasTree (take i files) → MayNotRead (bytes_at i files) fault → MayNotParse files r
 told_fault files i fault TooManyFiles tells within before why = tells
 told_fault files i fault (BadFileName j) tells within before why = tells
 told_fault files i fault (Parse j f) tells within before why =

@@ -5,12 +5,12 @@ use Rattle.std.specs.List.{Contains}
 use Rattle.std.proofs.lemmas.List.Elements.{Contains-append_left, Contains-append_right}
 use Rattle.meson_lex.specs.declared.kinds.Span.{Span}
 use Rattle.meson_syntax.specs.Tree.{Expression, identifier, boolean, integer, string, paren, array, dictionary, call, unary, row, postfix, conditional, Operands, no_operands, operand, Tail, method, index, Tails, no_tails, tail, Listing, listing, Argument, plain, named, pair, Arguments, no_arguments, argument, Statement, evaluate, assign, selection, iteration, breaks, continues, Branches, no_branches, branch, Otherwise, nothing_else, otherwise, Statements, no_statements, statement, Block, block, File, file}
-use Rattle.meson_syntax.specs.Parts.{Any, an_expression, a_statement, a_block, expression_any, parts, node_at}
+use Rattle.meson_syntax.specs.Parts.{Any, an_expression, a_statement, a_block, expression_any, child_nodes, node_at}
 use Rattle.meson_syntax.specs.Parts as syntax
 use Rattle.meson_syntax.specs.Paths.{nth, block_of}
 use Rattle.meson_calls.specs.declared.call.CallRef.{CallRef}
 use Rattle.meson_calls.specs.Project.{BuildFile, Placed, Project, child, expression_at, nth_file, place, placed}
-use Rattle.meson_calls.specs.Parts.{Part, expression_parts, operands_parts, tail_parts, tails_parts, listing_parts, argument_parts, arguments_parts, statement_parts, branches_parts, otherwise_parts, statements_parts, block_parts, file_parts, parts_from, argument_children, tail_children, branches_children}
+use Rattle.meson_calls.specs.Parts.{Part, expression_parts, operands_parts, tail_parts, tails_parts, listing_parts, argument_parts, arguments_parts, statement_parts, branches_parts, otherwise_parts, statements_parts, block_parts, file_parts, parts_from, argument_child_count, tail_child_count, branches_child_count}
 use Rattle.meson_calls.specs.Parts as part
 use Rattle.meson_syntax.specs.Paths as paths
 use Rattle.meson_syntax.proofs.PathNodes.{expression-reached}
@@ -68,21 +68,21 @@ place_child : (p : CallRef) (n : ℕ) (path : List ℕ) → below (child p n) pa
 place_child p n path = ap (place p.file) (append_assoc p.path.steps (n ∷ []) path)
 
 -- a path of one step more
-deeper : (p : CallRef) (x : Any Span) (list : List (Placed (Part Span))) → HasAll p 0 (parts x) list → (n : ℕ) (path : List ℕ) (y : Part Span) → Names x (n ∷ path) y → Contains list (placed (below p (n ∷ path)) y)
+deeper : (p : CallRef) (x : Any Span) (list : List (Placed (Part Span))) → HasAll p 0 (child_nodes x) list → (n : ℕ) (path : List ℕ) (y : Part Span) → Names x (n ∷ path) y → Contains list (placed (below p (n ∷ path)) y)
 deeper p x list all n path y is_named =
-    let o = and-then-some (λ z. node_at z path) (nth (parts x) n) (any y) is_named in
+    let o = and-then-some (λ z. node_at z path) (nth (child_nodes x) n) (any y) is_named in
     let e : 0 + n ≡ n = omega arith in
     subst (λ m. Contains list (placed (below p (m ∷ path)) y)) e (all n o.0 path y o.1 o.2)
 
 -- a part and its children
-with_children : (p : CallRef) (x : Part Span) (list : List (Placed (Part Span))) → HasAll p 0 (parts (any x)) list → Has p (any x) (placed p x ∷ list)
+with_children : (p : CallRef) (x : Part Span) (list : List (Placed (Part Span))) → HasAll p 0 (child_nodes (any x)) list → Has p (any x) (placed p x ∷ list)
 with_children p x list all [] y is_named =
     let same : placed p x ≡ placed (below p []) y = ap₂ placed (sym (place_same p)) (any_is x y (some-injective _ _ is_named)) in
     subst (Contains (placed p x ∷ list)) same (head_there (placed p x) list)
 with_children p x list all (n ∷ path) y is_named = behind (placed p x) (placed (below p (n ∷ path)) y) list (deeper p (any x) list all n path y is_named)
 
 -- a block, which is no part, has those of its statements
-of_block : (p : CallRef) (b : Block Span) (list : List (Placed (Part Span))) → HasAll p 0 (parts (a_block b)) list → Has p (a_block b) list
+of_block : (p : CallRef) (b : Block Span) (list : List (Placed (Part Span))) → HasAll p 0 (child_nodes (a_block b)) list → Has p (a_block b) list
 of_block p b list all [] y is_named = absurd (no_block b y (some-injective _ _ is_named))
 of_block p b list all (n ∷ path) y is_named = deeper p (a_block b) list all n path y is_named
 
@@ -142,7 +142,7 @@ mutual
 
   tails_has : (p : CallRef) (n : ℕ) (ts : Tails Span) → HasAll p n (syntax.tails_parts ts) (tails_parts p n ts)
   tails_has p n no_tails = no_more p n []
-  tails_has p n (tail t more) = then_all p n (tail_children t) (syntax.tail_parts t) (syntax.tails_parts more) _ _ (tail_count t) (tail_has p n t) (tails_has p (n + tail_children t) more)
+  tails_has p n (tail t more) = then_all p n (tail_child_count t) (syntax.tail_parts t) (syntax.tails_parts more) _ _ (tail_count t) (tail_has p n t) (tails_has p (n + tail_child_count t) more)
 
   listing_has : (p : CallRef) (n : ℕ) (l : Listing Span) → HasAll p n (syntax.listing_parts l) (listing_parts p n l)
   listing_has p n (listing s trailing list) = arguments_has p n list
@@ -155,14 +155,14 @@ mutual
   arguments_has : (p : CallRef) (n : ℕ) (list : Arguments Span) → HasAll p n (syntax.arguments_parts list) (arguments_parts p n list)
   arguments_has p n no_arguments = no_more p n []
   arguments_has p n (argument a more) =
-      then_all p n (argument_children a) (syntax.argument_parts a) (syntax.arguments_parts more) _ _ (argument_count a) (argument_has p n a) (arguments_has p (n + argument_children a) more)
+      then_all p n (argument_child_count a) (syntax.argument_parts a) (syntax.arguments_parts more) _ _ (argument_count a) (argument_has p n a) (arguments_has p (n + argument_child_count a) more)
 
 mutual
   statement_has : (p : CallRef) (s : Statement Span) → Has p (a_statement s) (statement_parts p s)
   statement_has p (evaluate e) = with_children p (part.a_statement (evaluate e)) _ (last_one p 0 (an_expression e) _ (expression_has (child p 0) e))
   statement_has p (assign s x a e) = with_children p (part.a_statement (assign s x a e)) _ (last_one p 0 (an_expression e) _ (expression_has (child p 0) e))
   statement_has p (selection s bs o) =
-      let m = branches_children bs in
+      let m = branches_child_count bs in
       let e : m ≡ 0 + m = omega arith in
       with_children p (part.a_statement (selection s bs o)) _
       (then_all p 0 m (syntax.branches_parts bs) (syntax.otherwise_parts o) _ _ (branches_count bs) (branches_has p 0 bs) (subst (λ i. HasAll p i (syntax.otherwise_parts o) (otherwise_parts p m o)) e (otherwise_has p m o)))
@@ -208,7 +208,7 @@ all_has n (suc i) (f ∷ files) g path y is is_named =
 -- an expression that stands at a place is among the parts
 expression_there : (p : Project Span) (c : CallRef) (e : Expression Span) → expression_at p c ≡ Some e → Contains (part.parts p) (placed c (part.an_expression e))
 expression_there p c e is =
-    let o = and-then-some (λ (g : BuildFile Span). paths.expression_at g.tree c.path.steps) (nth_file p c.file) e is in
+    let o = and-then-some (λ (g : BuildFile Span). paths.expression_on_path g.tree c.path.steps) (nth_file p c.file) e is in
     let n = and-then-some expression_any (node_at (a_block (block_of o.0.tree)) c.path.steps) e (sym (expression-reached Span o.0.tree c.path.steps) ∙ o.2) in
     let is_named : Names (a_block (block_of o.0.tree)) c.path.steps (part.an_expression e) = n.1 ∙ ap Some (only_expression n.0 e n.2) in
     let z : 0 + c.file ≡ c.file = omega arith in

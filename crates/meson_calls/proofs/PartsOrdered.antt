@@ -13,7 +13,7 @@ use Rattle.meson_calls.specs.declared.call.Role.{Role}
 use Rattle.meson_calls.specs.declared.call.Role.TheVariants as role
 use Rattle.meson_calls.specs.AllParts.{PlacesRise, PartsInOrder, address}
 use Rattle.meson_calls.specs.Calls.{all_chosen, call_of, calls, part_call}
-use Rattle.meson_calls.specs.Parts.{Part, an_expression, a_statement, expression_parts, operands_parts, tail_parts, tails_parts, listing_parts, argument_parts, arguments_parts, statement_parts, branches_parts, otherwise_parts, statements_parts, block_parts, file_parts, parts_from, parts, argument_children, arguments_children, listing_children, tail_children, branches_children}
+use Rattle.meson_calls.specs.Parts.{Part, an_expression, a_statement, expression_parts, operands_parts, tail_parts, tails_parts, listing_parts, argument_parts, arguments_parts, statement_parts, branches_parts, otherwise_parts, statements_parts, block_parts, file_parts, parts_from, parts, argument_child_count, arguments_child_count, listing_child_count, tail_child_count, branches_child_count}
 use Rattle.meson_calls.specs.Project.{Placed, Project, child, place, placed}
 use Rattle.meson_calls.specs.Roles.{assigned_values, found, named_or_assigned, one_of, or_else, part_set_to, places, project_ids, role_calls, value_of_assignment, with_name, with_role}
 
@@ -147,7 +147,7 @@ operands_count (operand o e more) = 1 + operands_count more
 
 abbrev tails_count : Tails Span → ℕ
 tails_count no_tails = 0
-tails_count (tail t more) = tail_children t + tails_count more
+tails_count (tail t more) = tail_child_count t + tails_count more
 
 abbrev statements_count : Statements Span → ℕ
 statements_count no_statements = 0
@@ -189,30 +189,30 @@ mutual
   operands_ordered c n (operand o e more) =
       child_then c n ((n + 1) + operands_count more) (n + (1 + operands_count more)) _ _ (omega arith) (omega arith) (expression_ordered (child c n) e) (operands_ordered c (n + 1) more)
 
-  tail_ordered : (c : CallRef) (n : ℕ) (t : Tail Span) → Ordered (address c) n (n + tail_children t) (tail_parts c n t)
+  tail_ordered : (c : CallRef) (n : ℕ) (t : Tail Span) → Ordered (address c) n (n + tail_child_count t) (tail_parts c n t)
   tail_ordered c n (method s x l) = listing_ordered c n l
   tail_ordered c n (index s e) = as_child c n _ (expression_ordered (child c n) e)
 
   tails_ordered : (c : CallRef) (n : ℕ) (ts : Tails Span) → Ordered (address c) n (n + tails_count ts) (tails_parts c n ts)
   tails_ordered c n no_tails = nothing (address c) n (n + 0)
   tails_ordered c n (tail t more) =
-      let k = n + tail_children t in
-      joined (address c) n k k (k + tails_count more) (n + (tail_children t + tails_count more)) _ _ (omega arith) (omega arith) (omega arith) (omega arith) (tail_ordered c n t) (tails_ordered c k more)
+      let k = n + tail_child_count t in
+      joined (address c) n k k (k + tails_count more) (n + (tail_child_count t + tails_count more)) _ _ (omega arith) (omega arith) (omega arith) (omega arith) (tail_ordered c n t) (tails_ordered c k more)
 
-  listing_ordered : (c : CallRef) (n : ℕ) (l : Listing Span) → Ordered (address c) n (n + listing_children l) (listing_parts c n l)
+  listing_ordered : (c : CallRef) (n : ℕ) (l : Listing Span) → Ordered (address c) n (n + listing_child_count l) (listing_parts c n l)
   listing_ordered c n (listing s trailing list) = arguments_ordered c n list
 
-  argument_ordered : (c : CallRef) (n : ℕ) (a : Argument Span) → Ordered (address c) n (n + argument_children a) (argument_parts c n a)
+  argument_ordered : (c : CallRef) (n : ℕ) (a : Argument Span) → Ordered (address c) n (n + argument_child_count a) (argument_parts c n a)
   argument_ordered c n (plain e) = as_child c n _ (expression_ordered (child c n) e)
   argument_ordered c n (named s x e) = as_child c n _ (expression_ordered (child c n) e)
   argument_ordered c n (pair s e f) =
       child_then c n ((n + 1) + 1) (n + 2) _ _ (omega arith) (omega arith) (expression_ordered (child c n) e) (as_child c (n + 1) _ (expression_ordered (child c (n + 1)) f))
 
-  arguments_ordered : (c : CallRef) (n : ℕ) (list : Arguments Span) → Ordered (address c) n (n + arguments_children list) (arguments_parts c n list)
+  arguments_ordered : (c : CallRef) (n : ℕ) (list : Arguments Span) → Ordered (address c) n (n + arguments_child_count list) (arguments_parts c n list)
   arguments_ordered c n no_arguments = nothing (address c) n (n + 0)
   arguments_ordered c n (argument a more) =
-      let k = n + argument_children a in
-      joined (address c) n k k (k + arguments_children more) (n + (argument_children a + arguments_children more)) _ _ (omega arith) (omega arith) (omega arith) (omega arith)
+      let k = n + argument_child_count a in
+      joined (address c) n k k (k + arguments_child_count more) (n + (argument_child_count a + arguments_child_count more)) _ _ (omega arith) (omega arith) (omega arith) (omega arith)
       (argument_ordered c n a) (arguments_ordered c k more)
 
 mutual
@@ -220,7 +220,7 @@ mutual
   statement_ordered c (evaluate e) = node c (a_statement (evaluate e)) _ _ (as_child c 0 _ (expression_ordered (child c 0) e))
   statement_ordered c (assign s x a e) = node c (a_statement (assign s x a e)) _ _ (as_child c 0 _ (expression_ordered (child c 0) e))
   statement_ordered c (selection s bs o) =
-      let m = branches_children bs in
+      let m = branches_child_count bs in
       let t = m + otherwise_count o in
       node c (a_statement (selection s bs o)) t _ (joined (address c) 0 (0 + m) m t t _ _ (omega arith) (omega arith) (omega arith) (omega arith) (branches_ordered c 0 bs) (otherwise_ordered c m o))
   statement_ordered c (iteration s xs e b) =
@@ -228,12 +228,12 @@ mutual
   statement_ordered c (breaks s) = node c (a_statement (breaks s)) 0 [] (nothing (address c) 0 0)
   statement_ordered c (continues s) = node c (a_statement (continues s)) 0 [] (nothing (address c) 0 0)
 
-  branches_ordered : (c : CallRef) (n : ℕ) (bs : Branches Span) → Ordered (address c) n (n + branches_children bs) (branches_parts c n bs)
+  branches_ordered : (c : CallRef) (n : ℕ) (bs : Branches Span) → Ordered (address c) n (n + branches_child_count bs) (branches_parts c n bs)
   branches_ordered c n no_branches = nothing (address c) n (n + 0)
   branches_ordered c n (branch e b more) =
-      let t = n + (2 + branches_children more) in
+      let t = n + (2 + branches_child_count more) in
       child_then c n t t _ _ (omega arith) (omega arith) (expression_ordered (child c n) e)
-      (joined (address c) (n + 1) ((n + 1) + 1) (n + 2) ((n + 2) + branches_children more) t _ _ (omega arith) (omega arith) (omega arith) (omega arith)
+      (joined (address c) (n + 1) ((n + 1) + 1) (n + 2) ((n + 2) + branches_child_count more) t _ _ (omega arith) (omega arith) (omega arith) (omega arith)
       (as_child c (n + 1) _ (block_ordered (child c (n + 1)) b)) (branches_ordered c (n + 2) more))
 
   otherwise_ordered : (c : CallRef) (n : ℕ) (o : Otherwise Span) → Ordered (address c) n (n + otherwise_count o) (otherwise_parts c n o)

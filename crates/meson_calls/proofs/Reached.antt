@@ -2,12 +2,12 @@
 use Rattle.std.proofs.Common.{◌≡◌, ℕ, zero, suc, ◌+◌, List, [], ◌∷◌, ◌++◌, length, length-append, Some, refl, ap, ◌∙◌, subst, arith}
 use Rattle.meson_lex.specs.declared.kinds.Span.{Span}
 use Rattle.meson_syntax.specs.Tree.{Expression, identifier, boolean, integer, string, paren, array, dictionary, call, unary, row, postfix, conditional, Operands, no_operands, operand, Tail, method, index, Tails, no_tails, tail, Listing, listing, Argument, plain, named, pair, Arguments, no_arguments, argument, Statement, evaluate, assign, selection, iteration, breaks, continues, Branches, no_branches, branch, Otherwise, nothing_else, otherwise, Statements, no_statements, statement, Block, block, File, file}
-use Rattle.meson_syntax.specs.Parts.{Any, an_expression, a_statement, a_block, parts, node_at}
+use Rattle.meson_syntax.specs.Parts.{Any, an_expression, a_statement, a_block, child_nodes, node_at}
 use Rattle.meson_syntax.specs.Parts as syntax
 use Rattle.meson_syntax.specs.Paths.{nth, block_of}
 use Rattle.meson_calls.specs.declared.call.CallRef.{CallRef}
 use Rattle.meson_calls.specs.Project.{Placed, child, place}
-use Rattle.meson_calls.specs.Parts.{Part, expression_parts, operands_parts, tail_parts, tails_parts, listing_parts, argument_parts, arguments_parts, statement_parts, branches_parts, otherwise_parts, statements_parts, block_parts, file_parts, argument_children, arguments_children, listing_children, tail_children, branches_children}
+use Rattle.meson_calls.specs.Parts.{Part, expression_parts, operands_parts, tail_parts, tails_parts, listing_parts, argument_parts, arguments_parts, statement_parts, branches_parts, otherwise_parts, statements_parts, block_parts, file_parts, argument_child_count, arguments_child_count, listing_child_count, tail_child_count, branches_child_count}
 use Rattle.meson_calls.specs.Parts as part
 use Rattle.meson_calls.proofs.ListNodes.{node_below}
 
@@ -24,12 +24,12 @@ nth_right (x ∷ xs) ys j = let e : length (x ∷ xs) + j ≡ suc (length xs + j
 
 -- ---- how many children there are
 
-pub argument_count : (a : Argument Span) → argument_children a ≡ length (syntax.argument_parts a)
+pub argument_count : (a : Argument Span) → argument_child_count a ≡ length (syntax.argument_parts a)
 argument_count (plain e) = refl
 argument_count (named s x e) = refl
 argument_count (pair s e f) = refl
 
-arguments_count : (list : Arguments Span) → arguments_children list ≡ length (syntax.arguments_parts list)
+arguments_count : (list : Arguments Span) → arguments_child_count list ≡ length (syntax.arguments_parts list)
 arguments_count no_arguments = refl
 arguments_count (argument a more) =
     let one = argument_count a in
@@ -37,14 +37,14 @@ arguments_count (argument a more) =
     let all = length-append (syntax.argument_parts a) (syntax.arguments_parts more) in
     omega (arith, one, others, all)
 
-listing_count : (l : Listing Span) → listing_children l ≡ length (syntax.listing_parts l)
+listing_count : (l : Listing Span) → listing_child_count l ≡ length (syntax.listing_parts l)
 listing_count (listing s trailing list) = arguments_count list
 
-pub tail_count : (t : Tail Span) → tail_children t ≡ length (syntax.tail_parts t)
+pub tail_count : (t : Tail Span) → tail_child_count t ≡ length (syntax.tail_parts t)
 tail_count (method s x l) = listing_count l
 tail_count (index s e) = refl
 
-pub branches_count : (bs : Branches Span) → branches_children bs ≡ length (syntax.branches_parts bs)
+pub branches_count : (bs : Branches Span) → branches_child_count bs ≡ length (syntax.branches_parts bs)
 branches_count no_branches = refl
 branches_count (branch e b more) = let others = branches_count more in omega (arith, others)
 
@@ -62,7 +62,7 @@ module _ (k : ℕ) (r : Any Span) where
   abbrev AllAt : CallRef → ℕ → List (Any Span) → Type 0
   AllAt p n xs = (j : ℕ) (y : Any Span) → nth xs j ≡ Some y → At (child p (n + j)) y
 
-  kids : (p : CallRef) (x : Any Span) → At p x → AllAt p 0 (parts x)
+  kids : (p : CallRef) (x : Any Span) → At p x → AllAt p 0 (child_nodes x)
   kids p x at = λ j y is. let e : 0 + j ≡ j = omega arith in (at.0, ap (λ m. node_at r (p.path.steps ++ m ∷ [])) e ∙ node_below Span r p.path.steps x j at.1 ∙ is)
 
   first : (p : CallRef) (n : ℕ) (x : Any Span) (xs : List (Any Span)) → AllAt p n (x ∷ xs) → At (child p n) x
@@ -126,7 +126,7 @@ module _ (k : ℕ) (r : Any Span) where
     tails_each p n no_tails all = tt
     tails_each p n (tail t more) all =
         both _ _ (tail_each p n t (left p n (syntax.tail_parts t) (syntax.tails_parts more) all))
-        (tails_each p (n + tail_children t) more (right p n (syntax.tail_parts t) (syntax.tails_parts more) (tail_children t) (tail_count t) all))
+        (tails_each p (n + tail_child_count t) more (right p n (syntax.tail_parts t) (syntax.tails_parts more) (tail_child_count t) (tail_count t) all))
 
     listing_each : (p : CallRef) (n : ℕ) (l : Listing Span) → AllAt p n (syntax.listing_parts l) → Each (listing_parts p n l)
     listing_each p n (listing s trailing list) all = arguments_each p n list all
@@ -142,7 +142,7 @@ module _ (k : ℕ) (r : Any Span) where
     arguments_each p n no_arguments all = tt
     arguments_each p n (argument a more) all =
         both _ _ (argument_each p n a (left p n (syntax.argument_parts a) (syntax.arguments_parts more) all))
-        (arguments_each p (n + argument_children a) more (right p n (syntax.argument_parts a) (syntax.arguments_parts more) (argument_children a) (argument_count a) all))
+        (arguments_each p (n + argument_child_count a) more (right p n (syntax.argument_parts a) (syntax.arguments_parts more) (argument_child_count a) (argument_count a) all))
 
   mutual
     statement_each : (p : CallRef) (s : Statement Span) → At p (a_statement s) → Each (statement_parts p s)
@@ -150,7 +150,7 @@ module _ (k : ℕ) (r : Any Span) where
     statement_each p (assign s x a e) at = (at, expression_each (child p 0) e (first p 0 (an_expression e) [] (kids p (a_statement (assign s x a e)) at)))
     statement_each p (selection s bs o) at =
         let all = kids p (a_statement (selection s bs o)) at in
-        let m = branches_children bs in
+        let m = branches_child_count bs in
         let e : 0 + m ≡ m = omega arith in
         let last = right p 0 (syntax.branches_parts bs) (syntax.otherwise_parts o) m (branches_count bs) all in
         (at, both _ _ (branches_each p 0 bs (left p 0 (syntax.branches_parts bs) (syntax.otherwise_parts o) all)) (otherwise_each p m o (subst (λ i. AllAt p i (syntax.otherwise_parts o)) e last)))

@@ -14,10 +14,10 @@ use Rattle.meson_calls.specs.Project.{Project, nth_file}
 use Rattle.meson_calls.specs.Calls.{Call, call_of}
 use Rattle.meson_calls.specs.Roles.{has_role, is_target_call, is_target}
 use Rattle.meson_calls.specs.Picking.{is_role_call}
-use Rattle.meson_calls.specs.Loading.{name_at, named_trees, views}
+use Rattle.meson_calls.specs.Loading.{name_of_file, named_trees, views}
 
 pub nth_there : (files : List File) (trees : List Parsed) (i : ℕ) (d : Parsed) → length trees ≡ length files → i < length trees →
-    nth_file (named_trees files (views files trees)) i ≡ Some (record { name = name_at i files; tree = view (bytes_at i files) (get_or trees i d) })
+    nth_file (named_trees files (views files trees)) i ≡ Some (record { name = name_of_file i files; tree = view (bytes_at i files) (get_or trees i d) })
 nth_there files [] i d many within = absurd (omega arith)
 nth_there [] (t ∷ trees) i d many within = absurd (omega (arith, many))
 nth_there (f ∷ files) (t ∷ trees) zero d many within = refl
@@ -41,14 +41,14 @@ module _ (files : List File) (trees : List Parsed) (c : CallRef) where
   p = named_trees files (views files trees)
 
   pub no_file : length trees ≤ c.file → false ≡ is_target p c
-  no_file past = sym (ap (λ f. is_target_call (option_and_then (λ g. paths.expression_at g.tree c.path.steps) f)) (nth_past files trees c.file past))
+  no_file past = sym (ap (λ f. is_target_call (option_and_then (λ g. paths.expression_on_path g.tree c.path.steps) f)) (nth_past files trees c.file past))
 
   module _ (d : Parsed) (many : length trees ≡ length files) (within : c.file < length trees) where
-    found : (o : Option (Expression Span)) → o ≡ paths.expression_at (view (bytes_at c.file files) (get_or trees c.file d)) c.path.steps → is_target_call o ≡ is_target p c
-    found o is = ap is_target_call is ∙ sym (ap (λ f. is_target_call (option_and_then (λ g. paths.expression_at g.tree c.path.steps) f)) (nth_there files trees c.file d many within))
+    found : (o : Option (Expression Span)) → o ≡ paths.expression_on_path (view (bytes_at c.file files) (get_or trees c.file d)) c.path.steps → is_target_call o ≡ is_target p c
+    found o is = ap is_target_call is ∙ sym (ap (λ f. is_target_call (option_and_then (λ g. paths.expression_on_path g.tree c.path.steps) f)) (nth_there files trees c.file d many within))
 
-    pub no_expression : None ≡ paths.expression_at (view (bytes_at c.file files) (get_or trees c.file d)) c.path.steps → false ≡ is_target p c
+    pub no_expression : None ≡ paths.expression_on_path (view (bytes_at c.file files) (get_or trees c.file d)) c.path.steps → false ≡ is_target p c
     no_expression is = found None is
 
-    pub an_expression : (e : Expression Span) → Some e ≡ paths.expression_at (view (bytes_at c.file files) (get_or trees c.file d)) c.path.steps → is_role_call role.Target (call_of e) ≡ is_target p c
+    pub an_expression : (e : Expression Span) → Some e ≡ paths.expression_on_path (view (bytes_at c.file files) (get_or trees c.file d)) c.path.steps → is_role_call role.Target (call_of e) ≡ is_target p c
     an_expression e is = by_call (call_of e) ∙ found (Some e) is

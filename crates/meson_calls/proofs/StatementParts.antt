@@ -12,8 +12,8 @@ use Rattle.meson_syntax.specs.Tree.{selection, iteration, branches_of, statement
 use Rattle.meson_syntax.specs.View.{names_at, expr_view, stmt_view, stmts_view, block_view, branch_view, branches_view}
 use Rattle.meson_calls.specs.declared.call.CallRef.{CallRef}
 use Rattle.meson_calls.specs.Project.{Placed, child}
-use Rattle.meson_calls.specs.Parts.{Part, statement_parts, statements_parts, branches_parts, branches_children}
-use Rattle.meson_calls.specs.Walks.{else_view, branch_parts}
+use Rattle.meson_calls.specs.Parts.{Part, statement_parts, statements_parts, branches_parts, branches_child_count}
+use Rattle.meson_calls.specs.Walks.{else_view, parts_of_branch}
 
 module _ (source : List ℕ) where
   pub if_view : (s : Span) (bs : List Branch) (o : Option rust_block.Block) → stmt_view source (stmt.If s bs o) ≡ selection s (branches_of (branches_view source bs)) (else_view source o)
@@ -31,7 +31,7 @@ module _ (source : List ℕ) where
   branch_block b = search (rules, the_lemmas)
 
   abbrev pub branches_count : List Branch → ℕ
-  branches_count bs = branches_children (branches_of (branches_view source bs))
+  branches_count bs = branches_child_count (branches_of (branches_view source bs))
 
   pub two_each : (bs : List Branch) → 2 * length bs ≡ branches_count bs
   two_each [] = refl
@@ -50,4 +50,4 @@ module _ (source : List ℕ) where
     conditions_parts n bs = branches_parts p n (branches_of (branches_view source bs))
 
     abbrev pub conditions_part : ℕ → Branch → List (Placed (Part Span))
-    conditions_part n b = branch_parts p n (branch_view source b)
+    conditions_part n b = parts_of_branch p n (branch_view source b)

@@ -9,19 +9,19 @@ use Rattle.meson_calls.specs.Project.{Placed}
 use Rattle.meson_calls.specs.declared.call.CallRef.{CallRef}
 use Rattle.meson_calls.specs.Calls.{chosen}
 use Rattle.meson_calls.specs.Notes.{Note, note_of, noted}
-use Rattle.meson_calls.specs.Walks.{Kept, notes_kept, reads_kept, with_part, with_parts, notes_of_kept, reads_of_kept, read_at, read_in}
+use Rattle.meson_calls.specs.Walks.{KeptParts, notes_kept, reads_kept, with_part, with_parts, notes_of_kept, reads_of_kept, read_at, read_in}
 
-pub two_parts : (before middle after : Kept) (a b : List (Placed (Part Span))) → middle ≡ with_parts before a → after ≡ with_parts middle b → after ≡ with_parts before (a ++ b)
+pub two_parts : (before middle after : KeptParts) (a b : List (Placed (Part Span))) → middle ≡ with_parts before a → after ≡ with_parts middle b → after ≡ with_parts before (a ++ b)
 two_parts before middle after a b first last = last ∙ ap (λ m. with_parts m b) first ∙ sym (fold-append with_part before a b)
 
-pub three_parts : (before middle later after : Kept) (a b c : List (Placed (Part Span))) →
+pub three_parts : (before middle later after : KeptParts) (a b c : List (Placed (Part Span))) →
     middle ≡ with_parts before a → later ≡ with_parts middle b → after ≡ with_parts later c → after ≡ with_parts before (a ++ (b ++ c))
 three_parts before middle later after a b c first second last = two_parts before middle after a (b ++ c) first (two_parts middle later after b c second last)
 
 -- The parts of a list from its n-th child on are those of its first element, which has so many children, and then those of the others.
 module _ {X : Type 0} (parts : ℕ → List X → List (Placed (Part Span))) (part : ℕ → X → List (Placed (Part Span))) (size : X → ℕ)
     (more : (n : ℕ) (x : X) (xs : List X) → parts n (x ∷ xs) ≡ part n x ++ parts (n + size x) xs) where
-  pub turn : (xs : List X) (i : ℕ) (d : X) (n k : ℕ) (before after whole : Kept) (here : List (Placed (Part Span))) → i < length xs →
+  pub turn : (xs : List X) (i : ℕ) (d : X) (n k : ℕ) (before after whole : KeptParts) (here : List (Placed (Part Span))) → i < length xs →
       after ≡ with_parts before here → here ≡ part n (get_or xs i d) → k ≡ n + size (get_or xs i d) →
       with_parts before (parts n (drop i xs)) ≡ whole → with_parts after (parts k (drop (i + 1) xs)) ≡ whole
   turn xs i d n k before after whole here within first is_here next so_far =
@@ -63,8 +63,8 @@ reads_come x cs (q ∷ ps) =
     reads_come x (cs ++ read_in x (q ∷ [])) ps
     ∙ ap (reads_kept x) (append_assoc cs (read_in x (q ∷ [])) (read_in x ps) ∙ ap (λ l. cs ++ l) (sym (filter_map-append (read_at x) (q ∷ []) ps)))
 
-pub all_noted : (found : Option (List (Placed (Note Span)))) (kept : Kept) (ps : List (Placed (Part Span))) → found ≡ notes_of_kept kept → kept ≡ with_parts (notes_kept []) ps → found ≡ Some (noted ps)
+pub all_noted : (found : Option (List (Placed (Note Span)))) (kept : KeptParts) (ps : List (Placed (Part Span))) → found ≡ notes_of_kept kept → kept ≡ with_parts (notes_kept []) ps → found ≡ Some (noted ps)
 all_noted found kept ps is comes = is ∙ ap notes_of_kept (comes ∙ notes_come [] ps)
 
-pub all_read : (x : List ℕ) (found : Option (List CallRef)) (kept : Kept) (ps : List (Placed (Part Span))) → found ≡ reads_of_kept kept → kept ≡ with_parts (reads_kept x []) ps → found ≡ Some (read_in x ps)
+pub all_read : (x : List ℕ) (found : Option (List CallRef)) (kept : KeptParts) (ps : List (Placed (Part Span))) → found ≡ reads_of_kept kept → kept ≡ with_parts (reads_kept x []) ps → found ≡ Some (read_in x ps)
 all_read x found kept ps is comes = is ∙ ap reads_of_kept (comes ∙ reads_come x [] ps)

@@ -15,7 +15,7 @@ use Rattle.meson_syntax.specs.Grammar.{mark, comma_words, expression_words, oper
 use Rattle.meson_syntax.specs.Reads.{IsSpanned}
 use Rattle.meson_syntax.specs.View.{view}
 use Rattle.meson_syntax.proofs.parsing.FileErased.{file-words-erased}
-use Rattle.meson_calls.specs.Parts.{argument_children, arguments_children, tail_children}
+use Rattle.meson_calls.specs.Parts.{argument_child_count, arguments_child_count, tail_child_count}
 
 -- ---- expressions, and what counts children
 
@@ -37,7 +37,7 @@ expression_some (postfix s e ts) = omega (arith, expression_some e, length-appen
 expression_some (conditional s c y n) =
     omega (arith, expression_some c, length-append (expression_words c) (mark k.Question ++ (expression_words y ++ (mark k.Colon ++ expression_words n))))
 
-pub argument_enough : {S : Type 0} (a : Argument S) → argument_children a ≤ length (argument_words a)
+pub argument_enough : {S : Type 0} (a : Argument S) → argument_child_count a ≤ length (argument_words a)
 argument_enough (plain e) = expression_some e
 argument_enough (named s x e) = omega arith
 argument_enough (pair s e f) = omega (arith, expression_some e, length-append (expression_words e) (mark k.Colon ++ expression_words f))
@@ -47,7 +47,7 @@ argument_some (plain e) = expression_some e
 argument_some (named s x e) = omega arith
 argument_some (pair s e f) = omega (arith, expression_some e, length-append (expression_words e) (mark k.Colon ++ expression_words f))
 
-arguments_enough : {S : Type 0} (list : Arguments S) (trailing : Bool) → arguments_children list ≤ length (arguments_words list trailing)
+arguments_enough : {S : Type 0} (list : Arguments S) (trailing : Bool) → arguments_child_count list ≤ length (arguments_words list trailing)
 arguments_enough no_arguments trailing = omega arith
 arguments_enough (argument a more) trailing =
     omega (
@@ -58,7 +58,7 @@ arguments_enough (argument a more) trailing =
       length-append (comma_words more trailing) (arguments_words more trailing),
     )
 
-pub tail_enough : {S : Type 0} (t : Tail S) → tail_children t ≤ length (tail_words t)
+pub tail_enough : {S : Type 0} (t : Tail S) → tail_child_count t ≤ length (tail_words t)
 tail_enough (method s x (listing u trailing list)) = omega (arith, arguments_enough list trailing, length-append (arguments_words list trailing) (mark (closes bracket.Round)))
 tail_enough (index s e) = omega arith
 

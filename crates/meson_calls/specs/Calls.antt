@@ -42,8 +42,8 @@ abbrev pub numbered : {S : Type 0} → ℕ → Arguments S → List (Numbered (A
 numbered n no_arguments = []
 numbered n (argument a more) = record { number = n; value = a } ∷ numbered (n + 1) more
 
-abbrev pub arguments_of : {S : Type 0} → Listing S → List (Numbered (Argument S))
-arguments_of (listing s trailing list) = numbered 0 list
+abbrev pub numbered_arguments : {S : Type 0} → Listing S → List (Numbered (Argument S))
+numbered_arguments (listing s trailing list) = numbered 0 list
 
 abbrev pub value_without_name : {S : Type 0} → Argument S → Option (Expression S)
 value_without_name (plain e) = Some e
@@ -60,28 +60,28 @@ kept_number choose x = option_map (λ y. record { number = x.number; value = y }
 
 -- the arguments without a name; the values of those of a name
 abbrev pub positional : {S : Type 0} → Call S → List (Numbered (Expression S))
-positional c = filter_map (kept_number value_without_name) (arguments_of c.arguments)
+positional c = filter_map (kept_number value_without_name) (numbered_arguments c.arguments)
 
 abbrev pub keyword : {S : Type 0} → List ℕ → Call S → List (Numbered (Expression S))
-keyword key c = filter_map (kept_number (value_with_name key)) (arguments_of c.arguments)
+keyword key c = filter_map (kept_number (value_with_name key)) (numbered_arguments c.arguments)
 
-abbrev pub first : {X : Type 0} → List X → Option X
-first [] = None
-first (x ∷ xs) = Some x
+abbrev pub first_of : {X : Type 0} → List X → Option X
+first_of [] = None
+first_of (x ∷ xs) = Some x
 
 -- the first argument without a name
 abbrev pub first_argument : {S : Type 0} → Call S → Option (Expression S)
-first_argument c = option_map (λ a. a.value) (first (positional c))
+first_argument c = option_map (λ a. a.value) (first_of (positional c))
 
 -- ---- literals
 
 -- the text that a string stands for, if it is a literal: Meson manual, Syntax, "Strings"
-abbrev pub literal : {S : Type 0} → Expression S → Option (List ℕ)
-literal (string s q x) = value (string_kind q) x
-literal _ = None
+abbrev pub literal_of : {S : Type 0} → Expression S → Option (List ℕ)
+literal_of (string s q x) = value (string_kind q) x
+literal_of _ = None
 
 abbrev pub first_literal : {S : Type 0} → Call S → Option (List ℕ)
-first_literal c = option_and_then literal (first_argument c)
+first_literal c = option_and_then literal_of (first_argument c)
 
 -- whether a text is there and is this one
 abbrev pub is : List ℕ → Option (List ℕ) → Bool

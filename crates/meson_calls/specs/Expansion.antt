@@ -46,15 +46,15 @@ pub record Stand : Type 0 where
 abbrev pub met : {S : Type 0} → Mark S → List (List ℕ) → Expansion S
 met m followed = record { marks = m ∷ []; followed = followed }
 
-abbrev pub nothing : {S : Type 0} → List (List ℕ) → Expansion S
-nothing followed = record { marks = []; followed = followed }
+abbrev pub nothing_met : {S : Type 0} → List (List ℕ) → Expansion S
+nothing_met followed = record { marks = []; followed = followed }
 
 -- one and then another, which knows what the first has followed
-abbrev pub joined : {S : Type 0} → Expansion S → Expansion S → Expansion S
-joined e f = record { marks = e.marks ++ f.marks; followed = f.followed }
+abbrev pub both_expanded : {S : Type 0} → Expansion S → Expansion S → Expansion S
+both_expanded e f = record { marks = e.marks ++ f.marks; followed = f.followed }
 
-abbrev pub and_then : {S : Type 0} → Expansion S → (List (List ℕ) → Expansion S) → Expansion S
-and_then e more = joined e (more e.followed)
+abbrev pub then_expand : {S : Type 0} → Expansion S → (List (List ℕ) → Expansion S) → Expansion S
+then_expand e more = both_expanded e (more e.followed)
 
 -- the n-th element of a list
 abbrev pub element : Stand → ℕ → Stand
@@ -140,21 +140,21 @@ module _ {S : Type 0} (is_list : Expression S → Bool) (follow : List ℕ → L
     expand_by (call at_ f l) s followed = if is_files f.text l then within s.place (expand_listing l s followed) else met opaque followed
     expand_by (identifier at_ x) s followed = if one_of followed x then met opaque followed else follow x followed
     expand_by (row at_ e os) s followed =
-        if are_plus os && is_list e then and_then (expand_by e (operand_at s 0) followed) (λ now. expand_operands os 1 s now) else met opaque followed
+        if are_plus os && is_list e then then_expand (expand_by e (operand_at s 0) followed) (λ now. expand_operands os 1 s now) else met opaque followed
     expand_by _ s followed = met opaque followed
 
     -- from the n-th on
     pub expand_operands : Operands S → ℕ → Stand → List (List ℕ) → Expansion S
-    expand_operands no_operands n s followed = nothing followed
-    expand_operands (operand o e more) n s followed = and_then (expand_by e (operand_at s n) followed) (λ now. expand_operands more (n + 1) s now)
+    expand_operands no_operands n s followed = nothing_met followed
+    expand_operands (operand o e more) n s followed = then_expand (expand_by e (operand_at s n) followed) (λ now. expand_operands more (n + 1) s now)
 
     pub expand_listing : Listing S → Stand → List (List ℕ) → Expansion S
     expand_listing (listing at_ trailing list) s followed = expand_each list 0 s followed
 
     -- from the n-th on
     pub expand_each : Arguments S → ℕ → Stand → List (List ℕ) → Expansion S
-    expand_each no_arguments n s followed = nothing followed
-    expand_each (argument a more) n s followed = and_then (expand_argument a (element s n) followed) (λ now. expand_each more (n + 1) s now)
+    expand_each no_arguments n s followed = nothing_met followed
+    expand_each (argument a more) n s followed = then_expand (expand_argument a (element s n) followed) (λ now. expand_each more (n + 1) s now)
 
     pub expand_argument : Argument S → Stand → List (List ℕ) → Expansion S
     expand_argument (plain e) s followed = expand_by e s followed

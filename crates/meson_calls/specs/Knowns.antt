@@ -17,7 +17,7 @@ abbrev pub is_file : List File → List ℕ → Bool
 is_file files name = list_any (λ f. bytes_eq f.name name) files
 
 -- A set has the names of files and no others.
-pub record AreNames {H : Type 0} (names : HashSet (Bor (List ℕ)) H) (files : List File) : Type 0 where
+pub record AreFileNames {H : Type 0} (names : HashSet (Bor (List ℕ)) H) (files : List File) : Type 0 where
   pub same : (x : List ℕ) → contains_by (λ k. bytes_eq x k.now) names ≡ is_file files x
 
 abbrev pub is_entered : List File → Option (List ℕ) → Bool

@@ -8,7 +8,7 @@ use Rattle.meson_syntax.specs.declared.fault.ParseFault.{ParseFault}
 use Rattle.meson_syntax.specs.declared.fault.ParseFault.TheVariants as parse
 use Rattle.meson_syntax.specs.Tree.{Plain}
 use Rattle.meson_syntax.specs.Tree as tree
-use Rattle.meson_syntax.specs.Reads.{Reads, IsSpanned, MayRefuse}
+use Rattle.meson_syntax.specs.Reads.{Reads, IsSpanned, MayNotRead}
 use Rattle.meson_syntax.specs.View.{view}
 use Rattle.meson_calls.specs.declared.load_fault.LoadFault.{LoadFault}
 use Rattle.meson_calls.specs.declared.load_fault.LoadFault.TheVariants.{TooManyFiles, BadFileName, Parse, OutOfMemory}
@@ -56,16 +56,16 @@ pub record IsProject (l : Loaded) : Type 0 where
 
 -- ---- files that are none, for the first of the faults
 
-abbrev pub name_at : ℕ → List File → List ℕ
-name_at i [] = []
-name_at zero (f ∷ files) = f.name
-name_at (suc i) (f ∷ files) = name_at i files
+abbrev pub name_of_file : ℕ → List File → List ℕ
+name_of_file i [] = []
+name_of_file zero (f ∷ files) = f.name
+name_of_file (suc i) (f ∷ files) = name_of_file i files
 
 -- the first file whose name is bad
 pub record IsFirstBadName (files : List File) (i : ℕ) : Type 0 where
   pub below : i < length files
   pub before : All HasFileName (take i files)
-  pub bad : IsFileName (name_at i files) → ⊥
+  pub bad : IsFileName (name_of_file i files) → ⊥
 
 abbrev pub HasTree : File → Type 0
 HasTree f = (t : Plain) × Reads f.bytes t
@@ -74,7 +74,7 @@ HasTree f = (t : Plain) × Reads f.bytes t
 pub record IsFirstUnread (files : List File) (i : ℕ) (fault : ParseFault) : Type 0 where
   pub below : i < length files
   pub before : All HasTree (take i files)
-  pub why : MayRefuse (bytes_at i files) fault
+  pub why : MayNotRead (bytes_at i files) fault
   pub told : fault ≢ parse.OutOfMemory
 
 -- Which faults files may get: the first in order that holds; of a file without a tree one that its bytes may get.

@@ -8,11 +8,11 @@ use Rattle.meson_calls.specs.declared.load_fault.LoadFault.TheVariants.{TooManyF
 use Rattle.meson_calls.specs.Loading.{IsFirstUnread}
 
 -- the fault of the file with this number, or want of memory
-abbrev pub Tells : ℕ → ParseFault → LoadFault → Type 0
-Tells index fault TooManyFiles = ⊥
-Tells index fault (BadFileName i) = ⊥
-Tells index fault (Parse i f) = (i ≡ index) × (f ≡ fault) × (fault ≢ parse.OutOfMemory)
-Tells index fault OutOfMemory = Unit {0}
+abbrev pub TellsFault : ℕ → ParseFault → LoadFault → Type 0
+TellsFault index fault TooManyFiles = ⊥
+TellsFault index fault (BadFileName i) = ⊥
+TellsFault index fault (Parse i f) = (i ≡ index) × (f ≡ fault) × (fault ≢ parse.OutOfMemory)
+TellsFault index fault OutOfMemory = Unit {0}
 
 -- a fault of a file's tree
 abbrev pub MayNotParse : List File → LoadFault → Type 0

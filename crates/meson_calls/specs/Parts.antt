@@ -10,25 +10,25 @@ pub data Part (S : Type 0) : Type 0 where
 
 -- ---- how many children stand in what has no place of its own
 
-abbrev pub argument_children : {S : Type 0} → Argument S → ℕ
-argument_children (plain e) = 1
-argument_children (named s x e) = 1
-argument_children (pair s e f) = 2
+abbrev pub argument_child_count : {S : Type 0} → Argument S → ℕ
+argument_child_count (plain e) = 1
+argument_child_count (named s x e) = 1
+argument_child_count (pair s e f) = 2
 
-abbrev pub arguments_children : {S : Type 0} → Arguments S → ℕ
-arguments_children no_arguments = 0
-arguments_children (argument a more) = argument_children a + arguments_children more
+abbrev pub arguments_child_count : {S : Type 0} → Arguments S → ℕ
+arguments_child_count no_arguments = 0
+arguments_child_count (argument a more) = argument_child_count a + arguments_child_count more
 
-abbrev pub listing_children : {S : Type 0} → Listing S → ℕ
-listing_children (listing s trailing list) = arguments_children list
+abbrev pub listing_child_count : {S : Type 0} → Listing S → ℕ
+listing_child_count (listing s trailing list) = arguments_child_count list
 
-abbrev pub tail_children : {S : Type 0} → Tail S → ℕ
-tail_children (method s x l) = listing_children l
-tail_children (index s e) = 1
+abbrev pub tail_child_count : {S : Type 0} → Tail S → ℕ
+tail_child_count (method s x l) = listing_child_count l
+tail_child_count (index s e) = 1
 
-abbrev pub branches_children : {S : Type 0} → Branches S → ℕ
-branches_children no_branches = 0
-branches_children (branch e b more) = 2 + branches_children more
+abbrev pub branches_child_count : {S : Type 0} → Branches S → ℕ
+branches_child_count no_branches = 0
+branches_child_count (branch e b more) = 2 + branches_child_count more
 
 -- ---- parts of an expression at a place; of lists within it, from its n-th child on
 
@@ -58,7 +58,7 @@ abbrev mutual
 
   pub tails_parts : {S : Type 0} → CallRef → ℕ → Tails S → List (Placed (Part S))
   tails_parts p n no_tails = []
-  tails_parts p n (tail t more) = tail_parts p n t ++ tails_parts p (n + tail_children t) more
+  tails_parts p n (tail t more) = tail_parts p n t ++ tails_parts p (n + tail_child_count t) more
 
   pub listing_parts : {S : Type 0} → CallRef → ℕ → Listing S → List (Placed (Part S))
   listing_parts p n (listing s trailing list) = arguments_parts p n list
@@ -70,7 +70,7 @@ abbrev mutual
 
   pub arguments_parts : {S : Type 0} → CallRef → ℕ → Arguments S → List (Placed (Part S))
   arguments_parts p n no_arguments = []
-  arguments_parts p n (argument a more) = argument_parts p n a ++ arguments_parts p (n + argument_children a) more
+  arguments_parts p n (argument a more) = argument_parts p n a ++ arguments_parts p (n + argument_child_count a) more
 
 -- ---- parts of statements
 
@@ -78,7 +78,7 @@ abbrev mutual
   pub statement_parts : {S : Type 0} → CallRef → Statement S → List (Placed (Part S))
   statement_parts p (evaluate e) = placed p (a_statement (evaluate e)) ∷ expression_parts (child p 0) e
   statement_parts p (assign s x a e) = placed p (a_statement (assign s x a e)) ∷ expression_parts (child p 0) e
-  statement_parts p (selection s bs o) = placed p (a_statement (selection s bs o)) ∷ (branches_parts p 0 bs ++ otherwise_parts p (branches_children bs) o)
+  statement_parts p (selection s bs o) = placed p (a_statement (selection s bs o)) ∷ (branches_parts p 0 bs ++ otherwise_parts p (branches_child_count bs) o)
   statement_parts p (iteration s xs e b) = placed p (a_statement (iteration s xs e b)) ∷ (expression_parts (child p 0) e ++ block_parts (child p 1) b)
   statement_parts p (breaks s) = placed p (a_statement (breaks s)) ∷ []
   statement_parts p (continues s) = placed p (a_statement (continues s)) ∷ []

@@ -40,4 +40,4 @@ nth_file (f ∷ files) zero = Some f
 nth_file (f ∷ files) (suc n) = nth_file files n
 
 abbrev pub expression_at : {S : Type 0} → Project S → CallRef → Option (Expression S)
-expression_at p at_ = option_and_then (λ f. paths.expression_at f.tree at_.path.steps) (nth_file p at_.file)
+expression_at p at_ = option_and_then (λ f. paths.expression_on_path f.tree at_.path.steps) (nth_file p at_.file)

@@ -8,7 +8,7 @@ use Rattle.meson_syntax.specs.View.{arg_view, args_view}
 use Rattle.meson_calls.specs.declared.call.CallRef.{CallRef}
 use Rattle.meson_calls.specs.Project.{Project, child}
 use Rattle.meson_calls.specs.Calls.{Numbered, numbered, kept_number, value_without_name, value_with_name}
-use Rattle.meson_calls.specs.Expansion.{Slot, in_list, fixed, opaque, Expansion, nothing, and_then}
+use Rattle.meson_calls.specs.Expansion.{Slot, in_list, fixed, opaque, Expansion, nothing_met, then_expand}
 use Rattle.meson_calls.specs.Sources.{rest, sources_key, kwargs_key}
 use Rattle.meson_calls.specs.Tallies.{Gathered, expanded, with_mark, no_marks, expand_left}
 
@@ -23,13 +23,13 @@ kept_arg source choose n a = kept_number choose (record { number = n; value = ar
 abbrev pub one_by : Project Span → ℕ → CallRef → (ℕ → Slot) → Numbered (Expression Span) → List (List ℕ) → Expansion Span
 one_by p left c slot a = expand_left p left a.value (record { place = child c a.number; slot = slot a.number; variable = None })
 
-abbrev pub step_by : Project Span → ℕ → CallRef → (ℕ → Slot) → Option (Numbered (Expression Span)) → List (List ℕ) → Expansion Span
-step_by p left c slot None followed = nothing followed
-step_by p left c slot (Some a) followed = one_by p left c slot a followed
+abbrev pub expansion_step : Project Span → ℕ → CallRef → (ℕ → Slot) → Option (Numbered (Expression Span)) → List (List ℕ) → Expansion Span
+expansion_step p left c slot None followed = nothing_met followed
+expansion_step p left c slot (Some a) followed = one_by p left c slot a followed
 
 abbrev pub arguments_by : Project Span → ℕ → CallRef → (ℕ → Slot) → List (Numbered (Expression Span)) → List (List ℕ) → Expansion Span
-arguments_by p left c slot [] followed = nothing followed
-arguments_by p left c slot (a ∷ more) followed = and_then (one_by p left c slot a followed) (λ now. arguments_by p left c slot more now)
+arguments_by p left c slot [] followed = nothing_met followed
+arguments_by p left c slot (a ∷ more) followed = then_expand (one_by p left c slot a followed) (λ now. arguments_by p left c slot more now)
 
 -- a mark for what may be hidden
 abbrev pub with_hidden : {Y : Type 0} → Gathered → List Y → Gathered

@@ -9,7 +9,7 @@ use Rattle.meson_calls.specs.declared.refusal.Refusal.{Refusal}
 use Rattle.meson_calls.specs.declared.refusal.Refusal.TheVariants.{DuplicateKeyword, HiddenKeywords}
 use Rattle.meson_calls.specs.Project.{Project, child, Placed, placed, expression_at}
 use Rattle.meson_calls.specs.Calls.{Call, call_of, Numbered, positional, keyword}
-use Rattle.meson_calls.specs.Expansion.{Slot, in_list, fixed, Item, Mark, known, opaque, empty, Expansion, nothing, and_then, expand, max_followed}
+use Rattle.meson_calls.specs.Expansion.{Slot, in_list, fixed, Item, Mark, known, opaque, empty, Expansion, nothing_met, then_expand, expand, max_followed}
 
 abbrev pub sources_key : List ℕ
 sources_key = codes "sources"
@@ -21,9 +21,9 @@ kwargs_key = codes "kwargs"
 
 -- an argument without a name stands in the call's list; a keyword's value in none
 abbrev pub expand_arguments : {S : Type 0} → Project S → CallRef → (ℕ → Slot) → List (Numbered (Expression S)) → List (List ℕ) → Expansion S
-expand_arguments p c slot [] followed = nothing followed
+expand_arguments p c slot [] followed = nothing_met followed
 expand_arguments p c slot (a ∷ more) followed =
-    and_then (expand p max_followed a.value (record { place = child c a.number; slot = slot a.number; variable = None }) followed) (λ now. expand_arguments p c slot more now)
+    then_expand (expand p max_followed a.value (record { place = child c a.number; slot = slot a.number; variable = None }) followed) (λ now. expand_arguments p c slot more now)
 
 abbrev pub rest : {X : Type 0} → List X → List X
 rest [] = []
@@ -37,7 +37,7 @@ hidden (a ∷ more) = opaque ∷ []
 -- the variables that were followed count for all of them
 abbrev pub source_marks : {S : Type 0} → Project S → Placed (Call S) → List (Mark S)
 source_marks p c =
-    (and_then (expand_arguments p c.place (in_list c.place) (rest (positional c.it)) []) (λ now. expand_arguments p c.place (λ n. fixed) (keyword sources_key c.it) now)).marks
+    (then_expand (expand_arguments p c.place (in_list c.place) (rest (positional c.it)) []) (λ now. expand_arguments p c.place (λ n. fixed) (keyword sources_key c.it) now)).marks
     ++ hidden (keyword kwargs_key c.it)
 
 -- ---- what the marks say
@@ -89,8 +89,8 @@ home c marks = or_call c (or_option (first_list marks) (first_empty marks))
 abbrev pub source_item : Item Span → SourceItem
 source_item i = record { value = i.text; file = i.place.file; span = i.stands; list = list_of_slot i.slot; variable = i.variable }
 
-abbrev pub answer : CallRef → List (Mark Span) → found.Sources
-answer c marks = record { items = map source_item (items marks); opaque = opaque_count marks; home = home c marks }
+abbrev pub sources_of_marks : CallRef → List (Mark Span) → found.Sources
+sources_of_marks c marks = record { items = map source_item (items marks); opaque = opaque_count marks; home = home c marks }
 
 -- a call with a keyword twice is refused
 abbrev pub once : {X Y : Type 0} → List ℕ → List X → Y → Result Y Refusal
@@ -102,7 +102,7 @@ abbrev pub call_at : {S : Type 0} → Project S → CallRef → Option (Placed (
 call_at p c = option_map (placed c) (option_and_then call_of (expression_at p c))
 
 abbrev pub sources_of_call : Project Span → Placed (Call Span) → Result found.Sources Refusal
-sources_of_call p c = once sources_key (keyword sources_key c.it) (answer c.place (source_marks p c))
+sources_of_call p c = once sources_key (keyword sources_key c.it) (sources_of_marks c.place (source_marks p c))
 
 -- the sources of the target at that place
 abbrev pub sources : Project Span → CallRef → Option (Result found.Sources Refusal)

@@ -8,7 +8,7 @@ use Rattle.meson_calls.specs.declared.followed.Followed.{Followed}
 use Rattle.meson_calls.specs.declared.marks.Marks.{Marks}
 use Rattle.meson_calls.specs.declared.marks.Site.{Site}
 use Rattle.meson_calls.specs.Project.{Project, child, place}
-use Rattle.meson_calls.specs.Expansion.{Slot, in_list, fixed, Mark, known, opaque, empty, Expansion, Stand, met, and_then, within, operand_at, are_plus, is_list_operand, expand_by, expand_operands, expand_listing, expand_each, expand_argument, follow_single, expand}
+use Rattle.meson_calls.specs.Expansion.{Slot, in_list, fixed, Mark, known, opaque, empty, Expansion, Stand, met, then_expand, within, operand_at, are_plus, is_list_operand, expand_by, expand_operands, expand_listing, expand_each, expand_argument, follow_single, expand}
 use Rattle.meson_calls.specs.Roles.{one_of}
 use Rattle.meson_calls.specs.Sources.{or_option, source_item}
 use Rattle.meson_calls.specs.Variables.{single}
@@ -29,14 +29,14 @@ pub record Tally : Type 0 where
 abbrev pub with_item : Tally → SourceItem → Option ℕ → Tally
 with_item t i n = record { items = t.items ++ i ∷ []; numbers = t.numbers ++ n ∷ []; unknown = t.unknown; list = or_option t.list i.list; vacant = t.vacant }
 
-abbrev pub marked : Tally → Mark Span → Tally
-marked t (known i) = with_item t (source_item i) (number_of_slot i.slot)
-marked t opaque = record { items = t.items; numbers = t.numbers; unknown = t.unknown + 1; list = t.list; vacant = t.vacant }
-marked t (empty p) = record { items = t.items; numbers = t.numbers; unknown = t.unknown; list = t.list; vacant = or_option t.vacant (Some p) }
+abbrev pub tally_and : Tally → Mark Span → Tally
+tally_and t (known i) = with_item t (source_item i) (number_of_slot i.slot)
+tally_and t opaque = record { items = t.items; numbers = t.numbers; unknown = t.unknown + 1; list = t.list; vacant = t.vacant }
+tally_and t (empty p) = record { items = t.items; numbers = t.numbers; unknown = t.unknown; list = t.list; vacant = or_option t.vacant (Some p) }
 
 abbrev pub all_marked : Tally → List (Mark Span) → Tally
 all_marked t [] = t
-all_marked t (m ∷ ms) = all_marked (marked t m) ms
+all_marked t (m ∷ ms) = all_marked (tally_and t m) ms
 
 -- with the variables that were followed so far
 pub record Gathered : Type 0 where
@@ -48,7 +48,7 @@ expanded g more = record { tally = all_marked g.tally (more g.followed).marks; f
 
 -- one more mark
 abbrev pub with_mark : Gathered → Mark Span → Gathered
-with_mark g m = record { tally = marked g.tally m; followed = g.followed }
+with_mark g m = record { tally = tally_and g.tally m; followed = g.followed }
 
 abbrev pub no_marks : Gathered
 no_marks = record { tally = record { items = []; numbers = []; unknown = 0; list = None; vacant = None }; followed = [] }
@@ -107,7 +107,7 @@ operands_left p left = expand_operands (is_list_operand p) (follow_of p left)
 
 -- a sum, by its first operand and the others
 abbrev pub sum_left : Project Span → ℕ → Expression Span → Operands Span → Stand → List (List ℕ) → Expansion Span
-sum_left p left e os s followed = and_then (expand_left p left e (operand_at s 0) followed) (λ now. operands_left p left os 1 s now)
+sum_left p left e os s followed = then_expand (expand_left p left e (operand_at s 0) followed) (λ now. operands_left p left os 1 s now)
 
 -- a row, which may be one
 abbrev pub row_left : Project Span → ℕ → Expression Span → Operands Span → Stand → List (List ℕ) → Expansion Span

@@ -34,32 +34,32 @@ read_in x ps = filter_map (read_at x) ps
 
 -- ---- what is kept: the notes, or the places where a variable is read
 
-pub data Kept : Type 0 where
-  notes_kept : List (Placed (Note Span)) → Kept
-  reads_kept : List ℕ → List CallRef → Kept
+pub data KeptParts : Type 0 where
+  notes_kept : List (Placed (Note Span)) → KeptParts
+  reads_kept : List ℕ → List CallRef → KeptParts
 
-abbrev pub keeper_view : Keeper → Kept
+abbrev pub keeper_view : Keeper → KeptParts
 keeper_view (keeper.Notes found) = notes_kept (taken_view found)
 keeper_view (keeper.Reads name found) = reads_kept name.now found.items
 
-abbrev pub with_part : Kept → Placed (Part Span) → Kept
+abbrev pub with_part : KeptParts → Placed (Part Span) → KeptParts
 with_part (notes_kept ns) q = notes_kept (ns ++ noted (q ∷ []))
 with_part (reads_kept x cs) q = reads_kept x (cs ++ read_in x (q ∷ []))
 
-abbrev pub with_parts : Kept → List (Placed (Part Span)) → Kept
+abbrev pub with_parts : KeptParts → List (Placed (Part Span)) → KeptParts
 with_parts kept ps = fold with_part kept ps
 
-abbrev pub notes_of_kept : Kept → Option (List (Placed (Note Span)))
+abbrev pub notes_of_kept : KeptParts → Option (List (Placed (Note Span)))
 notes_of_kept (notes_kept ns) = Some ns
 notes_of_kept (reads_kept x cs) = None
 
-abbrev pub reads_of_kept : Kept → Option (List CallRef)
+abbrev pub reads_of_kept : KeptParts → Option (List CallRef)
 reads_of_kept (notes_kept ns) = None
 reads_of_kept (reads_kept x cs) = Some cs
 
 -- the parts come to what a keeper has
-abbrev pub Keeps : Keeper → List (Placed (Part Span)) → Keeper → Type 0
-Keeps before ps after = keeper_view after ≡ with_parts (keeper_view before) ps
+abbrev pub KeepsParts : Keeper → List (Placed (Part Span)) → Keeper → Type 0
+KeepsParts before ps after = keeper_view after ≡ with_parts (keeper_view before) ps
 
 -- ---- parts as the code comes to them
 
@@ -88,5 +88,5 @@ else_view source None = nothing_else
 else_view source (Some b) = otherwise (block_view source b)
 
 -- a condition and the block behind it, from the n-th child on
-abbrev pub branch_parts : {S : Type 0} → CallRef → ℕ → Expression S × Block S → List (Placed (Part S))
-branch_parts p n b = expression_parts (child p n) b.0 ++ block_parts (child p (n + 1)) b.1
+abbrev pub parts_of_branch : {S : Type 0} → CallRef → ℕ → Expression S × Block S → List (Placed (Part S))
+parts_of_branch p n b = expression_parts (child p n) b.0 ++ block_parts (child p (n + 1)) b.1

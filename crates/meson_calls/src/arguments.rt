@@ -11,7 +11,7 @@ ghost use Rattle.meson_calls.specs.GoodLists.{GoodArgs};
 ghost use Rattle.meson_calls.specs.Named.{AreVariables, project_of};
 ghost use Rattle.meson_calls.specs.Sources.{rest};
 ghost use Rattle.meson_calls.specs.Strings.{AreGood};
-ghost use Rattle.meson_calls.specs.Sourced.{kept_args, kept_arg, step_by, arguments_by};
+ghost use Rattle.meson_calls.specs.Sourced.{kept_args, kept_arg, expansion_step, arguments_by};
 ghost use Rattle.meson_calls.specs.Keywords.{IsFirstNamed};
 ghost use Rattle.meson_calls.specs.Tallies.{Meets};
 
@@ -95,7 +95,7 @@ impl<'t> Variables<'t> {
         requires whole { site.variable ≡ None }
         requires good { AreGood (argument_words (arg_view site.source.now arg.now)) }
         ensures back { OnOk result (path.new.items ≡ path.old.items) }
-        ensures all { OnOk result (Meets marks.old (step_by (project_of self.now) left (place site.entry.file path.old.items)
+        ensures all { OnOk result (Meets marks.old (expansion_step (project_of self.now) left (place site.entry.file path.old.items)
             (in_list (place site.entry.file path.old.items)) (kept_arg site.entry.source.now value_without_name number arg.now)) marks.new) }
     {
         match arg {
@@ -119,7 +119,7 @@ impl<'t> Variables<'t> {
         requires whole { site.variable ≡ None }
         requires good { AreGood (argument_words (arg_view site.source.now arg.now)) }
         ensures back { OnOk result (path.new.items ≡ path.old.items) }
-        ensures all { OnOk result (Meets marks.old (step_by (project_of self.now) left (place site.entry.file path.old.items)
+        ensures all { OnOk result (Meets marks.old (expansion_step (project_of self.now) left (place site.entry.file path.old.items)
             (λ n. fixed) (kept_arg site.entry.source.now (value_with_name key.now) number arg.now)) marks.new) }
     {
         match arg {

@@ -1,7 +1,7 @@
 //! The files that a file enters.
 
 ghost use Rattle.std.specs.Prelude.{◌≡◌, IfErr, IfOk, map, option_map, string_bytes};
-ghost use Rattle.meson_syntax.specs.Reads.{IsSpanned, IsUnreadable, MayRefuse, Refuses};
+ghost use Rattle.meson_syntax.specs.Reads.{IsSpanned, IsUnreadable, MayNotRead, Refuses};
 ghost use Rattle.meson_syntax.specs.View.{view};
 ghost use Rattle.meson_syntax.specs.declared.fault.ParseFault.{ParseFault};
 ghost use Rattle.meson_calls.specs.Directories.{IsFileName, folder_of, file_in};
@@ -114,7 +114,7 @@ pub fn subdirs(alloc: Global, name: &str, bytes: &[u8]) -> Result<Vec<String>, P
     requires { IsFileName name.now }
     ensures all { IfOk result (λ names. Enters name.now bytes.now (map string_bytes names.items)) }
     ensures unreadable { (e : ParseFault) → IsUnreadable bytes.now e → Refuses result e }
-    ensures refused { IfErr result (MayRefuse bytes.now) }
+    ensures refused { IfErr result (MayNotRead bytes.now) }
 {
     let tree = parse(alloc, bytes)?;
     let names = entered_by(alloc, name, bytes, &tree)?;

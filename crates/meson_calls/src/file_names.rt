@@ -1,7 +1,7 @@
 //! The names of a project's files, as a set, and whether a file enters one of them.
 
 ghost use Rattle.std.specs.Prelude.{◌≡◌, All, IfOk, Some};
-ghost use Rattle.meson_calls.specs.Knowns.{AreNames, is_entered, meant_in};
+ghost use Rattle.meson_calls.specs.Knowns.{AreFileNames, is_entered, meant_in};
 ghost use Rattle.meson_calls.specs.Loading.{HasFileName};
 
 use crate::entering::file_in;
@@ -14,7 +14,7 @@ use std::collections::HashSet;
 /// # Errors
 /// Memory was refused.
 pub fn names_of<'f>(alloc: Global, files: &'f FileSet) -> Result<HashSet<&'f str>, AllocError>
-    ensures { IfOk result (λ names. AreNames names files.entry.now) }
+    ensures { IfOk result (λ names. AreFileNames names files.entry.now) }
 {
     let mut names = HashSet::new(alloc);
     for i in 0..files.len() {
@@ -35,7 +35,7 @@ pub fn enters(
     folder: &str,
 ) -> Result<bool, AllocError>
     requires named { All HasFileName files.now }
-    requires names { AreNames names.now files.now }
+    requires names { AreFileNames names.now files.now }
     ensures { IfOk result (λ there. there ≡ is_entered files.now (meant_in files.now file (Some folder.now))) }
 {
     if file >= files.len() {

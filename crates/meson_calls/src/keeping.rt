@@ -7,7 +7,7 @@ ghost use Rattle.meson_calls.specs.Notes.{note_of, noted, taken_view, what_view}
 ghost use Rattle.meson_calls.specs.Parts.{expression_parts};
 ghost use Rattle.meson_calls.specs.Picking.{Source};
 ghost use Rattle.meson_calls.specs.Variables.{is_set};
-ghost use Rattle.meson_calls.specs.Walks.{Keeps, keeper_view, notes_of_kept, part_at, part_reads, part_view, read_in, reads_of_kept};
+ghost use Rattle.meson_calls.specs.Walks.{KeepsParts, keeper_view, notes_of_kept, part_at, part_reads, part_view, read_in, reads_of_kept};
 
 use crate::call::CallRef;
 use crate::keeper::Keeper;
@@ -82,7 +82,7 @@ fn is_plain(expr: &Expr) -> bool
 impl<'t> Keeper<'t> {
     /// Whether nothing is kept of the expression, whatever place it has, and nothing in it. So a walk may pass it by.
     pub fn passes(&self, expr: &Expr) -> bool
-        ensures { IsTrue result → (source : Source) (p : CallRef) → Keeps self.now (expression_parts p (expr_view source expr.now)) self.now }
+        ensures { IsTrue result → (source : Source) (p : CallRef) → KeepsParts self.now (expression_parts p (expr_view source expr.now)) self.now }
     {
         match self {
             Keeper::Notes(_) => is_plain(expr),
@@ -176,7 +176,7 @@ impl<'t> Walk<'t> {
         part: Part<'t>,
         keeper: &mut Keeper<'t>,
     ) -> Result<(), AllocError>
-        ensures { OnOk result (Keeps keeper.old (part_at self.now path.now part.entry ∷ []) keeper.new) }
+        ensures { OnOk result (KeepsParts keeper.old (part_at self.now path.now part.entry ∷ []) keeper.new) }
     {
         match keeper {
             Keeper::Notes(found) => self.keep_note(path, part, found),

@@ -6,7 +6,7 @@ ghost use Rattle.meson_syntax.specs.declared.operator.Bracket.TheVariants as bra
 ghost use Rattle.meson_syntax.specs.View.{text_at, list_view};
 ghost use Rattle.meson_calls.specs.Calls.{first_literal};
 ghost use Rattle.meson_calls.specs.Loading.{HasFileName};
-ghost use Rattle.meson_calls.specs.Knowns.{AreNames, is_entered, is_unknown_in, has_unknown, meant_in, enters_none};
+ghost use Rattle.meson_calls.specs.Knowns.{AreFileNames, is_entered, is_unknown_in, has_unknown, meant_in, enters_none};
 ghost use Rattle.meson_calls.specs.Notes.{note_view, note_views};
 ghost use Rattle.meson_calls.specs.Picking.{Source, call_with};
 ghost use Rattle.meson_calls.specs.Project.{place_at};
@@ -51,7 +51,7 @@ fn is_entered(
     arguments: &List,
 ) -> Result<bool, AllocError>
     requires named { All HasFileName files.now }
-    requires names { AreNames names.now files.now }
+    requires names { AreFileNames names.now files.now }
     requires good { AreGood (listing_words (list_view source.now arguments.now) bracket.Round) }
     ensures { (function : Source) → let folder = first_literal (call_with function (list_view source.now arguments.now)) in
         IfOk result (λ there. there ≡ is_entered files.now (meant_in files.now file folder)) }
@@ -73,7 +73,7 @@ fn enters_none(
     arguments: &List,
 ) -> Result<bool, AllocError>
     requires named { All HasFileName files.now }
-    requires names { AreNames names.now files.now }
+    requires names { AreFileNames names.now files.now }
     requires good { AreGood (listing_words (list_view source.now arguments.now) bracket.Round) }
     ensures { IfOk result (λ unknown.
         unknown ≡ enters_none files.now file (call_with (text_at source.now function) (list_view source.now arguments.now))) }
@@ -94,7 +94,7 @@ fn is_unknown(
     note: &Note<'_>,
 ) -> Result<bool, AllocError>
     requires named { All HasFileName files.now }
-    requires names { AreNames names.now files.now }
+    requires names { AreFileNames names.now files.now }
     requires good { AreGood (note_words (note_view note.now).it) }
     ensures { IfOk result (λ unknown. unknown ≡ is_unknown_in files.now (place_at note.now.place) (note_view note.now).it) }
 {

@@ -4,7 +4,7 @@ ghost use Rattle.std.specs.Prelude.{◌≡◌, IfOk, option_map, string_bytes};
 ghost use Rattle.meson_syntax.specs.Operators.{string_kind};
 ghost use Rattle.meson_syntax.specs.Grammar.{expression_words, listing_words};
 ghost use Rattle.meson_syntax.specs.View.{expr_view, list_view};
-ghost use Rattle.meson_calls.specs.Calls.{literal, first_literal, is};
+ghost use Rattle.meson_calls.specs.Calls.{literal_of, first_literal, is};
 ghost use Rattle.meson_calls.specs.Picking.{Source, call_with};
 ghost use Rattle.meson_calls.specs.Strings.{AreGood};
 
@@ -27,7 +27,7 @@ fn token_kind(kind: StringKind) -> Kind
 /// The text that an expression stands for, if it is a literal.
 pub fn literal(alloc: Global, source: &[u8], expr: &Expr) -> Result<Option<String>, AllocError>
     requires { AreGood (expression_words (expr_view source.now expr.now)) }
-    ensures { IfOk result (λ text. option_map string_bytes text ≡ literal (expr_view source.now expr.now)) }
+    ensures { IfOk result (λ text. option_map string_bytes text ≡ literal_of (expr_view source.now expr.now)) }
 {
     match expr {
         Expr::String { span, kind } => {

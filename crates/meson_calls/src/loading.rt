@@ -2,7 +2,7 @@
 
 ghost use Rattle.std.specs.Prelude.{◌≡◌, IfErr, IfOk, MatchOption, All};
 ghost use Rattle.meson_calls.specs.Loading.{IsProject, MayNotLoad, HasFileName, IsFirstBadName, AreParsed};
-ghost use Rattle.meson_calls.specs.Loads.{MayNotParse, Tells};
+ghost use Rattle.meson_calls.specs.Loads.{MayNotParse, TellsFault};
 
 use crate::folders::is_file_name;
 use crate::load_fault::LoadFault;
@@ -27,7 +27,7 @@ fn first_bad_name(files: &FileSet) -> Option<usize>
 
 /// The fault of a file without a tree.
 fn told(index: usize, fault: ParseFault) -> LoadFault
-    ensures { Tells index fault result }
+    ensures { TellsFault index fault result }
 {
     match fault {
         ParseFault::OutOfMemory => LoadFault::OutOfMemory,

@@ -3,7 +3,7 @@
 ghost use Rattle.std.specs.Prelude.{◌≡◌, Option, IfOk, OnOk, option_map};
 ghost use Rattle.meson_syntax.specs.Grammar.{expression_words};
 ghost use Rattle.meson_syntax.specs.View.{text_at, arg_view, expr_view, list_view};
-ghost use Rattle.meson_calls.specs.Calls.{literal};
+ghost use Rattle.meson_calls.specs.Calls.{literal_of};
 ghost use Rattle.meson_syntax.specs.Tree.{is_named};
 ghost use Rattle.meson_calls.specs.Expansion.{are_named, is_files, literal_item};
 ghost use Rattle.meson_calls.specs.Picking.{Source};
@@ -95,7 +95,7 @@ pub fn meet_string<'t>(
 ) -> Result<(), AllocError>
     requires { AreGood (expression_words (expr_view site.source.now expr.now)) }
     ensures { OnOk result (Meets marks.old
-        (λ followed. literal_item span (stand_at site.entry path.now slot) followed (literal (expr_view site.entry.source.now expr.now))) marks.new) }
+        (λ followed. literal_item span (stand_at site.entry path.now slot) followed (literal_of (expr_view site.entry.source.now expr.now))) marks.new) }
 {
     match literal(alloc, site.source, expr)? {
         Some(text) => {

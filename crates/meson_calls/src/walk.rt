@@ -7,8 +7,8 @@ ghost use Rattle.meson_syntax.specs.Grammar.{expression_words, operands_words, t
 ghost use Rattle.meson_syntax.specs.Tree.{arguments_of, operands_of, tails_of};
 ghost use Rattle.meson_syntax.specs.View.{expr_view, arg_view, args_view, tail_view, tails_view, operands_view, list_view};
 ghost use Rattle.meson_calls.specs.Project.{place, child};
-ghost use Rattle.meson_calls.specs.Parts.{expression_parts, argument_parts, arguments_parts, operands_parts, tail_parts, tails_parts, listing_parts, argument_children, arguments_children, tail_children};
-ghost use Rattle.meson_calls.specs.Walks.{Keeps, parts_within};
+ghost use Rattle.meson_calls.specs.Parts.{expression_parts, argument_parts, arguments_parts, operands_parts, tail_parts, tails_parts, listing_parts, argument_child_count, arguments_child_count, tail_child_count};
+ghost use Rattle.meson_calls.specs.Walks.{KeepsParts, parts_within};
 
 use crate::keeper::Keeper;
 use crate::part::{Part, Walk};
@@ -27,7 +27,7 @@ impl<'t> Walk<'t> {
     ) -> Result<(), AllocError>
         requires fits { length (expression_words (expr_view self.now.source.now expr.now)) < 2 ^ 64 }
         ensures back { OnOk result (path.new.items ≡ path.old.items) }
-        ensures all { OnOk result (Keeps keeper.old
+        ensures all { OnOk result (KeepsParts keeper.old
             (expression_parts (child (place self.now.file path.old.items) number) (expr_view self.now.source.now expr.now)) keeper.new) }
     {
         if keeper.passes(expr) {
@@ -50,7 +50,7 @@ impl<'t> Walk<'t> {
     ) -> Result<(), AllocError>
         requires fits { length (expression_words (expr_view self.now.source.now expr.now)) < 2 ^ 64 }
         ensures back { OnOk result (path.new.items ≡ path.old.items) }
-        ensures all { OnOk result (Keeps keeper.old
+        ensures all { OnOk result (KeepsParts keeper.old
             (parts_within (place self.now.file path.old.items) (expr_view self.now.source.now expr.now)) keeper.new) }
     {
         match expr {
@@ -96,7 +96,7 @@ impl<'t> Walk<'t> {
     ) -> Result<(), AllocError>
         requires fits { length (arguments_words (arguments_of (args_view self.now.source.now list.now.items)) false) < 2 ^ 64 }
         ensures back { OnOk result (path.new.items ≡ path.old.items) }
-        ensures all { OnOk result (Keeps keeper.old
+        ensures all { OnOk result (KeepsParts keeper.old
             (listing_parts (place self.now.file path.old.items) 0 (list_view self.now.source.now list.now)) keeper.new) }
     {
         self.in_args(0, list.items.get(), path, keeper)?;
@@ -114,9 +114,9 @@ impl<'t> Walk<'t> {
     ) -> Result<usize, AllocError>
         requires fits { first + length (arguments_words (arguments_of (args_view self.now.source.now args.now)) false) < 2 ^ 64 }
         ensures back { OnOk result (path.new.items ≡ path.old.items) }
-        ensures all { OnOk result (Keeps keeper.old
+        ensures all { OnOk result (KeepsParts keeper.old
             (arguments_parts (place self.now.file path.old.items) first (arguments_of (args_view self.now.source.now args.now))) keeper.new) }
-        ensures after { IfOk result (λ n. n ≡ first + arguments_children (arguments_of (args_view self.now.source.now args.now))) }
+        ensures after { IfOk result (λ n. n ≡ first + arguments_child_count (arguments_of (args_view self.now.source.now args.now))) }
     {
         let mut number = first;
         for i in 0..args.len() {
@@ -136,9 +136,9 @@ impl<'t> Walk<'t> {
     ) -> Result<usize, AllocError>
         requires fits { number + length (argument_words (arg_view self.now.source.now arg.now)) < 2 ^ 64 }
         ensures back { OnOk result (path.new.items ≡ path.old.items) }
-        ensures all { OnOk result (Keeps keeper.old
+        ensures all { OnOk result (KeepsParts keeper.old
             (argument_parts (place self.now.file path.old.items) number (arg_view self.now.source.now arg.now)) keeper.new) }
-        ensures after { IfOk result (λ n. n ≡ number + argument_children (arg_view self.now.source.now arg.now)) }
+        ensures after { IfOk result (λ n. n ≡ number + argument_child_count (arg_view self.now.source.now arg.now)) }
     {
         match arg {
             Arg::Plain(value) => {
@@ -166,7 +166,7 @@ impl<'t> Walk<'t> {
     ) -> Result<(), AllocError>
         requires fits { length (operands_words (operands_of (operands_view self.now.source.now operands.now))) < 2 ^ 64 }
         ensures back { OnOk result (path.new.items ≡ path.old.items) }
-        ensures all { OnOk result (Keeps keeper.old
+        ensures all { OnOk result (KeepsParts keeper.old
             (operands_parts (place self.now.file path.old.items) 1 (operands_of (operands_view self.now.source.now operands.now))) keeper.new) }
     {
         for i in 0..operands.len() {
@@ -184,7 +184,7 @@ impl<'t> Walk<'t> {
     ) -> Result<(), AllocError>
         requires fits { 1 + length (tails_words (tails_of (tails_view self.now.source.now tails.now))) < 2 ^ 64 }
         ensures back { OnOk result (path.new.items ≡ path.old.items) }
-        ensures all { OnOk result (Keeps keeper.old
+        ensures all { OnOk result (KeepsParts keeper.old
             (tails_parts (place self.now.file path.old.items) 1 (tails_of (tails_view self.now.source.now tails.now))) keeper.new) }
     {
         let mut number = 1;
@@ -204,9 +204,9 @@ impl<'t> Walk<'t> {
     ) -> Result<usize, AllocError>
         requires fits { number + length (tail_words (tail_view self.now.source.now tail.now)) < 2 ^ 64 }
         ensures back { OnOk result (path.new.items ≡ path.old.items) }
-        ensures all { OnOk result (Keeps keeper.old
+        ensures all { OnOk result (KeepsParts keeper.old
             (tail_parts (place self.now.file path.old.items) number (tail_view self.now.source.now tail.now)) keeper.new) }
-        ensures after { IfOk result (λ n. n ≡ number + tail_children (tail_view self.now.source.now tail.now)) }
+        ensures after { IfOk result (λ n. n ≡ number + tail_child_count (tail_view self.now.source.now tail.now)) }
     {
         match tail {
             Tail::Method { arguments, .. } => {

@@ -9,7 +9,7 @@ ghost use Rattle.meson_syntax.specs.View.{stmt_view, stmts_view, block_view, bra
 ghost use Rattle.meson_calls.specs.Loading.{AreParsed, named_trees, views};
 ghost use Rattle.meson_calls.specs.Project.{place, child};
 ghost use Rattle.meson_calls.specs.Parts.{statement_parts, statements_parts, block_parts, branches_parts, otherwise_parts, file_parts, parts};
-ghost use Rattle.meson_calls.specs.Walks.{Keeps, else_view, branch_parts, parts_inside};
+ghost use Rattle.meson_calls.specs.Walks.{KeepsParts, else_view, parts_of_branch, parts_inside};
 
 use crate::keeper::Keeper;
 use crate::part::{Part, Walk};
@@ -29,7 +29,7 @@ impl<'t> Walk<'t> {
     ) -> Result<(), AllocError>
         requires fits { length (statement_words (stmt_view self.now.source.now stmt.now)) < 2 ^ 64 }
         ensures back { OnOk result (path.new.items ≡ path.old.items) }
-        ensures all { OnOk result (Keeps keeper.old
+        ensures all { OnOk result (KeepsParts keeper.old
             (statement_parts (child (place self.now.file path.old.items) number) (stmt_view self.now.source.now stmt.now)) keeper.new) }
     {
         path.push(number)?;
@@ -49,7 +49,7 @@ impl<'t> Walk<'t> {
     ) -> Result<(), AllocError>
         requires fits { length (statement_words (stmt_view self.now.source.now stmt.now)) < 2 ^ 64 }
         ensures back { OnOk result (path.new.items ≡ path.old.items) }
-        ensures all { OnOk result (Keeps keeper.old
+        ensures all { OnOk result (KeepsParts keeper.old
             (parts_inside (place self.now.file path.old.items) (stmt_view self.now.source.now stmt.now)) keeper.new) }
     {
         match stmt {
@@ -86,7 +86,7 @@ impl<'t> Walk<'t> {
     ) -> Result<(), AllocError>
         requires fits { length (block_words (block_view self.now.source.now block.now)) < 2 ^ 64 }
         ensures back { OnOk result (path.new.items ≡ path.old.items) }
-        ensures all { OnOk result (Keeps keeper.old
+        ensures all { OnOk result (KeepsParts keeper.old
             (block_parts (child (place self.now.file path.old.items) number) (block_view self.now.source.now block.now)) keeper.new) }
     {
         path.push(number)?;
@@ -104,7 +104,7 @@ impl<'t> Walk<'t> {
     ) -> Result<(), AllocError>
         requires fits { length (statements_words (statements_of (stmts_view self.now.source.now stmts.now))) < 2 ^ 64 }
         ensures back { OnOk result (path.new.items ≡ path.old.items) }
-        ensures all { OnOk result (Keeps keeper.old
+        ensures all { OnOk result (KeepsParts keeper.old
             (statements_parts (place self.now.file path.old.items) 0 (statements_of (stmts_view self.now.source.now stmts.now))) keeper.new) }
     {
         for i in 0..stmts.len() {
@@ -123,7 +123,7 @@ impl<'t> Walk<'t> {
     ) -> Result<(), AllocError>
         requires fits { length (branches_words (branches_of (branches_view self.now.source.now branches.now)) WordIf) < 2 ^ 64 }
         ensures back { OnOk result (path.new.items ≡ path.old.items) }
-        ensures all { OnOk result (Keeps keeper.old
+        ensures all { OnOk result (KeepsParts keeper.old
             (branches_parts (place self.now.file path.old.items) 0 (branches_of (branches_view self.now.source.now branches.now))) keeper.new) }
     {
         for i in 0..branches.len() {
@@ -145,8 +145,8 @@ impl<'t> Walk<'t> {
         requires condition { length (expression_words (branch_view self.now.source.now branch.now).0) < 2 ^ 64 }
         requires block { length (block_words (branch_view self.now.source.now branch.now).1) < 2 ^ 64 }
         ensures back { OnOk result (path.new.items ≡ path.old.items) }
-        ensures all { OnOk result (Keeps keeper.old
-            (branch_parts (place self.now.file path.old.items) (2 * number) (branch_view self.now.source.now branch.now)) keeper.new) }
+        ensures all { OnOk result (KeepsParts keeper.old
+            (parts_of_branch (place self.now.file path.old.items) (2 * number) (branch_view self.now.source.now branch.now)) keeper.new) }
     {
         self.in_child(2 * number, &branch.condition, path, keeper)?;
         self.in_block(2 * number + 1, &branch.block, path, keeper)?;
@@ -164,7 +164,7 @@ impl<'t> Walk<'t> {
     ) -> Result<(), AllocError>
         requires fits { length (otherwise_words (else_view self.now.source.now otherwise.now)) < 2 ^ 64 }
         ensures back { OnOk result (path.new.items ≡ path.old.items) }
-        ensures all { OnOk result (Keeps keeper.old
+        ensures all { OnOk result (KeepsParts keeper.old
             (otherwise_parts (place self.now.file path.old.items) number (else_view self.now.source.now otherwise.now)) keeper.new) }
     {
         match otherwise {
@@ -186,7 +186,7 @@ pub fn walk_file<'t>(
     keeper: &mut Keeper<'t>,
 ) -> Result<(), AllocError>
     requires { IsSpanned source.now (view source.now parsed.now) }
-    ensures { OnOk result (Keeps keeper.old
+    ensures { OnOk result (KeepsParts keeper.old
         (file_parts file (view source.now parsed.now)) keeper.new) }
 {
     let walk = Walk {
@@ -210,7 +210,7 @@ pub fn walk_files<'t>(
     keeper: &mut Keeper<'t>,
 ) -> Result<(), AllocError>
     requires { AreParsed files.now trees.now }
-    ensures { OnOk result (Keeps keeper.old
+    ensures { OnOk result (KeepsParts keeper.old
         (parts (named_trees files.now (views files.now trees.now))) keeper.new) }
 {
     for i in 0..trees.len() {

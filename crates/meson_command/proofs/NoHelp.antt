@@ -4,7 +4,7 @@ use Rattle.std.specs.Prelude.{IfOk, bytes_eq, if◌then◌else◌, ok_or}
 use Rattle.clap.specs.Words.{Row, Text, first_of}
 use Rattle.meson_calls.specs.declared.call.Role.{Role}
 use Rattle.meson_splice.specs.Patch.{then_ok}
-use Rattle.meson_command.specs.Actions.{action_of, count_in, kwargs_action, history_by, kwargs_by, is_set, list_by, options_action, options_by, is_json, other_action, script_action, target_action, target_by, target_words, undo_of, word_at, words_at}
+use Rattle.meson_command.specs.Actions.{action_of, count_in, kwargs_action, history_by, kwargs_by, has_flag, list_by, options_action, options_by, is_json, other_action, script_action, target_action, target_by, target_words, undo_of, word_at, words_at}
 use Rattle.meson_command.specs.Asking.{asked_from, names_no_folder, title_in, with_title, without_help_text, without_text}
 use Rattle.meson_command.specs.declared.asked.Action.{Action}
 use Rattle.meson_command.specs.declared.asked.Action.TheVariants as action
@@ -126,7 +126,7 @@ action-plain name rows =
     (either (bytes_eq name (codes "undo")) _ _ (undo-plain (first_of (codes "N") rows) (first_of (codes "FILE") rows))
     (either (bytes_eq name (codes "redo")) _ _ (ok Redo tt)
     (either (bytes_eq name (codes "history")) _ _ (history-plain (first_of (codes "N") rows))
-    (either (bytes_eq name (codes "list")) _ _ (list-plain (is_set (codes "json") rows) (is_set (codes "sums") rows)) (err Usage))))))))
+    (either (bytes_eq name (codes "list")) _ _ (list-plain (has_flag (codes "json") rows) (has_flag (codes "sums") rows)) (err Usage))))))))
 
 titled : (rows : List Row) (a : Action) → IsPlain a → Answers (λ x. IsPlain x.action) (with_title rows a)
 titled rows a plain = either (is_title (title_in rows)) _ _ (ok _ plain) (err BadTitle)

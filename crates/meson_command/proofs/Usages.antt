@@ -19,8 +19,8 @@ use Rattle.meson_command.specs.Counts.{count_of}
 use Rattle.meson_command.specs.Laws.{HelpWhereAsked, IsNoCount, IsUnknown, UsageMeansUnknown, VersionWhereAsked}
 use Rattle.meson_json.specs.Titles.{is_title}
 use Rattle.meson_json.specs.Operations.{kwargs_operation, options_operation, role_of}
-use Rattle.meson_command.specs.Operations.{target_operation}
-use Rattle.meson_command.specs.Pairs.{in_pairs, names, pairs_of, repeats}
+use Rattle.meson_command.specs.Operations.{operation_of_word}
+use Rattle.meson_command.specs.Pairs.{in_pairs, pair_names, pairs_of, repeats}
 use Rattle.meson_command.specs.Program.{command, default_options, history, kwargs, list, program, redo, target, undo}
 use Rattle.meson_command.specs.declared.asked.Action.{Action}
 use Rattle.meson_command.specs.declared.asked.Asked.{Asked}
@@ -65,13 +65,13 @@ wanted s rows true needs e = refl
 wanted s rows false needs e = absurd (never (s.arg_required_else_help && not (list_any (λ r. explicit_source r.source) rows)) s.subcommand_required
     (not (s.subcommand_negates_reqs && false) && list_any (λ a. a.required && not (is_given a.id rows)) s.rules) needs e)
 
-level-some : (s : Shape) (names : Names) (h : Held) (words : List Text) (has : Bool) (below : Kinds) → s.subcommand_required ≡ true → level_fault s names h words has below ≡ [] → has ≡ true
-level-some s names h words has below needs e =
-    let end = (walk s.rules names h words).held in
+level-some : (s : Shape) (pair_names : Names) (h : Held) (words : List Text) (has : Bool) (below : Kinds) → s.subcommand_required ≡ true → level_fault s pair_names h words has below ≡ [] → has ≡ true
+level-some s pair_names h words has below needs e =
+    let end = (walk s.rules pair_names h words).held in
     let checks = check_fault s (finished s.rules end) has in
     let defaults = or_else (defaults_fault (settled s.rules end).rows s.rules) checks in
     let settles = or_else (settle_fault s.rules s.args_override_self end) defaults in
-    let first = second (walk_fault s names (walk_from h) words) (or_else below settles) e in
+    let first = second (walk_fault s pair_names (walk_from h) words) (or_else below settles) e in
     let next = second below settles first in
     let last = second (settle_fault s.rules s.args_override_self end) defaults next in
     wanted s (finished s.rules end) has needs (second (defaults_fault (settled s.rules end).rows s.rules) checks last)
@@ -123,9 +123,9 @@ no_verdict : (b : Bool) (ps : List (Text × Text)) → verdict b ps ≡ Err Usag
 no_verdict true ps e = cc
 no_verdict false ps e = cc
 
-no_pairs : (o : Option (List (Text × Text))) → then_ok (ok_or o OddWords) (λ pairs. verdict (repeats (names pairs)) pairs) ≡ Err Usage → ⊥
+no_pairs : (o : Option (List (Text × Text))) → then_ok (ok_or o OddWords) (λ pairs. verdict (repeats (pair_names pairs)) pairs) ≡ Err Usage → ⊥
 no_pairs None e = cc
-no_pairs (Some pairs) e = no_verdict (repeats (names pairs)) pairs e
+no_pairs (Some pairs) e = no_verdict (repeats (pair_names pairs)) pairs e
 
 after_pairs : (r : Result (List (Text × Text)) UsageFault) (f : List (Text × Text) → Result Action UsageFault) → (r ≡ Err Usage → ⊥) → ((ps : List (Text × Text)) → f ps ≡ Err Usage → ⊥) → then_ok r f ≡ Err Usage → ⊥
 after_pairs (Ok ps) f n h e = h ps e
@@ -154,9 +154,9 @@ one_missing None r f h e = inl refl
 one_missing (Some x) None f h e = inr refl
 one_missing (Some x) (Some y) f h e = absurd (h x y e)
 
-target-unknown : (rows : List Row) → target_action rows ≡ Err Usage → target_operation (word_at (codes "OPERATION") rows) ≡ None
+target-unknown : (rows : List Row) → target_action rows ≡ Err Usage → operation_of_word (word_at (codes "OPERATION") rows) ≡ None
 unfolding target_action
-target-unknown rows e = missing (target_operation (word_at (codes "OPERATION") rows)) _ (λ o x. cc) e
+target-unknown rows e = missing (operation_of_word (word_at (codes "OPERATION") rows)) _ (λ o x. cc) e
 
 kwargs-unknown : (rows : List Row) → kwargs_action rows ≡ Err Usage → (kwargs_operation (word_at (codes "OPERATION") rows) ≡ None) ⊎ (role_of (word_at (codes "FUNCTION") rows) ≡ None)
 unfolding kwargs_action

@@ -8,7 +8,7 @@ use Rattle.std.proofs.lemmas.Slice.Eq.{bytes_eq-Decides}
 use Rattle.clap.specs.Words.{Text}
 use Rattle.meson_splice.specs.Patch.{then_ok}
 use Rattle.meson_command.specs.Laws.{OddWordsAreOdd, PairsAreTheWords, words_of}
-use Rattle.meson_command.specs.Pairs.{in_pairs, names, pairs_of, repeats}
+use Rattle.meson_command.specs.Pairs.{in_pairs, pair_names, pairs_of, repeats}
 use Rattle.meson_command.specs.declared.fault.UsageFault.{UsageFault}
 use Rattle.meson_command.specs.declared.fault.UsageFault.TheVariants.{OddWords, RepeatedKey}
 
@@ -78,25 +78,25 @@ abbrev verdict : Bool → Pairs → Result Pairs UsageFault
 verdict b ps = if b then Err RepeatedKey else Ok ps
 
 abbrev checked : Pairs → Result Pairs UsageFault
-checked pairs = verdict (repeats (names pairs)) pairs
+checked pairs = verdict (repeats (pair_names pairs)) pairs
 
 given : (ps pairs : Pairs) (b : Bool) → verdict b ps ≡ Ok pairs → (ps ≡ pairs) × (b ≡ false)
 given ps pairs true e = cc
 given ps pairs false e = (cc, refl)
 
-found : (words : List Text) (pairs : Pairs) (o : Option Pairs) → o ≡ in_pairs words → then_ok (ok_or o OddWords) checked ≡ Ok pairs → (words_of pairs ≡ words) × AllPairs (λ x y. x ≢ y) (names pairs)
+found : (words : List Text) (pairs : Pairs) (o : Option Pairs) → o ≡ in_pairs words → then_ok (ok_or o OddWords) checked ≡ Ok pairs → (words_of pairs ≡ words) × AllPairs (λ x y. x ≢ y) (pair_names pairs)
 found words pairs None is e = cc
 found words pairs (Some ps) is e =
-    let g = given ps pairs (repeats (names ps)) e in (
+    let g = given ps pairs (repeats (pair_names ps)) e in (
       are_words words pairs (sym is ∙ ap (λ (p : Pairs). Some p) g.0),
-      AllPairs-from_IsDistinct bytes_eq-Decides (names pairs) (distinct (names pairs) (subst (λ p. repeats (names p) ≡ false) g.0 g.1)),
+      AllPairs-from_IsDistinct bytes_eq-Decides (pair_names pairs) (distinct (pair_names pairs) (subst (λ p. repeats (pair_names p) ≡ false) g.0 g.1)),
     )
 
-back : (words : List Text) (pairs : Pairs) → words_of pairs ≡ words → AllPairs (λ x y. x ≢ y) (names pairs) → pairs_of words ≡ Ok pairs
+back : (words : List Text) (pairs : Pairs) → words_of pairs ≡ words → AllPairs (λ x y. x ≢ y) (pair_names pairs) → pairs_of words ≡ Ok pairs
 unfolding pairs_of
 back words pairs is all =
     let here : in_pairs words ≡ Some pairs = ap in_pairs (sym is) ∙ are_pairs pairs in
-    let once : repeats (names pairs) ≡ false = no_repeat (names pairs) (IsDistinct-from_AllPairs bytes_eq-Decides (names pairs) all) in
+    let once : repeats (pair_names pairs) ≡ false = no_repeat (pair_names pairs) (IsDistinct-from_AllPairs bytes_eq-Decides (pair_names pairs) all) in
     rw (here, once) refl
 
 pub pairs-law : PairsAreTheWords
@@ -128,7 +128,7 @@ is_odd ps false e = cc
 
 none : (o : Option Pairs) → then_ok (ok_or o OddWords) checked ≡ Err OddWords → o ≡ None
 none None e = refl
-none (Some ps) e = absurd (is_odd ps (repeats (names ps)) e)
+none (Some ps) e = absurd (is_odd ps (repeats (pair_names ps)) e)
 
 pub odd-law : OddWordsAreOdd
 unfolding pairs_of

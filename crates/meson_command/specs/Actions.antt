@@ -11,8 +11,8 @@ use Rattle.meson_steps.specs.declared.command.Setting.TheVariants as setting
 use Rattle.meson_json.specs.Operations.{kwargs_operation, options_operation, role_of}
 use Rattle.meson_json.specs.Targets.{target_command}
 use Rattle.meson_command.specs.Counts.{count_of}
-use Rattle.meson_command.specs.Operations.{target_operation}
-use Rattle.meson_command.specs.Pairs.{names, pairs_of}
+use Rattle.meson_command.specs.Operations.{operation_of_word}
+use Rattle.meson_command.specs.Pairs.{pair_names, pairs_of}
 use Rattle.meson_command.specs.declared.asked.Action.{Action}
 use Rattle.meson_command.specs.declared.asked.Action.TheVariants as action
 use Rattle.meson_command.specs.declared.asked.Action.TheVariants.{Run, Info, ScriptText, ScriptFile, Undo, UndoTo, UndoChecked, Redo, History, ForgetOldest, ForgetAll, Sums}
@@ -39,8 +39,8 @@ abbrev pub words_at : Text → List Row → List Text
 words_at name rows = unwrap_or (all_of name rows) []
 
 -- whether a flag is there
-abbrev pub is_set : Text → List Row → Bool
-is_set name rows = bytes_eq (word_at name rows) (codes "true")
+abbrev pub has_flag : Text → List Row → Bool
+has_flag name rows = bytes_eq (word_at name rows) (codes "true")
 
 -- the script of one command
 abbrev pub run : Command → Action
@@ -62,7 +62,7 @@ target_by operation members = run (target_command operation members)
 
 unfoldable pub target_action : List Row → Result Action UsageFault
 target_action rows =
-    then_ok (ok_or (target_operation (word_at (codes "OPERATION") rows)) Usage) (λ operation.
+    then_ok (ok_or (operation_of_word (word_at (codes "OPERATION") rows)) Usage) (λ operation.
     Ok (target_by operation (target_words rows)))
 
 -- ---- kwargs OPERATION FUNCTION ID [KEY VALUE]...
@@ -73,7 +73,7 @@ settings pairs = map (λ p. (p.0, setting.Text p.1)) pairs
 -- `info` looks at no pairs
 unfoldable pub kwargs_by : KwargsOperation → Role → Text → List Text → Result Action UsageFault
 kwargs_by kwargs.Set role id words = then_ok (pairs_of words) (λ pairs. Ok (run (command.KwargsSet role id (settings pairs))))
-kwargs_by kwargs.Delete role id words = then_ok (pairs_of words) (λ pairs. Ok (run (command.KwargsDelete role id (names pairs))))
+kwargs_by kwargs.Delete role id words = then_ok (pairs_of words) (λ pairs. Ok (run (command.KwargsDelete role id (pair_names pairs))))
 kwargs_by kwargs.Add role id words = then_ok (pairs_of words) (λ pairs. Ok (run (command.KwargsAdd role id (settings pairs))))
 kwargs_by kwargs.Remove role id words = then_ok (pairs_of words) (λ pairs. Ok (run (command.KwargsRemove role id (settings pairs))))
 kwargs_by kwargs.RemoveRegex role id words = then_ok (pairs_of words) (λ pairs. Err Unsupported)
@@ -89,7 +89,7 @@ kwargs_action rows =
 
 abbrev pub options_by : OptionsOperation → List (Text × Text) → Action
 options_by options.Set pairs = run (command.OptionsSet pairs)
-options_by options.Delete pairs = run (command.OptionsDelete (names pairs))
+options_by options.Delete pairs = run (command.OptionsDelete (pair_names pairs))
 
 unfoldable pub options_action : List Row → Result Action UsageFault
 options_action rows =
@@ -100,12 +100,12 @@ options_action rows =
 -- ---- command JSON
 
 -- a space (32) or a tab (9)
-abbrev pub is_blank : ℕ → Bool
-is_blank b = b == 32 || b == 9
+abbrev pub is_space : ℕ → Bool
+is_space b = b == 32 || b == 9
 
 -- the first byte that is no blank is `[` (91) or `{` (123)
 abbrev pub is_json : Text → Bool
-is_json word = option_map_or (λ b. b == 91 || b == 123) (find (λ b. not (is_blank b)) word) false
+is_json word = option_map_or (λ b. b == 91 || b == 123) (find (λ b. not (is_space b)) word) false
 
 unfoldable pub script_action : List Row → Action
 script_action rows = let word = word_at (codes "JSON") rows in if is_json word then ScriptText word else ScriptFile word
@@ -148,7 +148,7 @@ list_by false true = Ok Sums
 list_by true true = Err Usage
 
 abbrev pub list_action : List Row → Result Action UsageFault
-list_action rows = list_by (is_set (codes "json") rows) (is_set (codes "sums") rows)
+list_action rows = list_by (has_flag (codes "json") rows) (has_flag (codes "sums") rows)
 
 -- ---- any subcommand
 

@@ -6,7 +6,7 @@ use Rattle.clap.specs.declared.error.kind.ErrorKind.{ErrorKind}
 use Rattle.clap.specs.declared.error.kind.ErrorKind.TheVariants.{DisplayHelp, DisplayVersion}
 use Rattle.meson_splice.specs.Patch.{then_ok}
 use Rattle.meson_json.specs.Titles.{is_title}
-use Rattle.meson_command.specs.Actions.{action_of, is_set, word_at}
+use Rattle.meson_command.specs.Actions.{action_of, has_flag, word_at}
 use Rattle.meson_command.specs.Program.{program}
 use Rattle.meson_command.specs.declared.asked.Action.{Action}
 use Rattle.meson_command.specs.declared.asked.Action.TheVariants as action
@@ -25,7 +25,7 @@ title_in rows = word_at (codes "TEXT") rows
 
 -- whether what is asked for is shown, and not done
 abbrev pub is_dry : List Row → Bool
-is_dry rows = is_set (codes "dry-run") rows
+is_dry rows = has_flag (codes "dry-run") rows
 
 -- this action, in the folder and of the title that are named
 abbrev pub with_title : List Row → Action → Result Asked UsageFault

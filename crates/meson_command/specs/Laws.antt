@@ -3,12 +3,12 @@ use Rattle.std.specs.Prelude.{◌≡◌, ◌≢◌, ◌↔◌, ◌⊎◌, ◌%�
 use Rattle.std.specs.List.{AllPairs}
 use Rattle.clap.specs.Words.{Row, Text, fault_of, first_of, matches_of, subcommand_of}
 use Rattle.clap.specs.declared.error.kind.ErrorKind.TheVariants.{DisplayHelp, DisplayVersion}
-use Rattle.meson_command.specs.Actions.{is_set, word_at}
+use Rattle.meson_command.specs.Actions.{has_flag, word_at}
 use Rattle.meson_command.specs.Asking.{asked_by, help, names_no_folder, version}
 use Rattle.meson_json.specs.Operations.{kwargs_operation, options_operation, role_of}
 use Rattle.meson_command.specs.Counts.{count_of}
-use Rattle.meson_command.specs.Operations.{target_operation}
-use Rattle.meson_command.specs.Pairs.{names, pairs_of}
+use Rattle.meson_command.specs.Operations.{operation_of_word}
+use Rattle.meson_command.specs.Pairs.{pair_names, pairs_of}
 use Rattle.meson_command.specs.Program.{program}
 use Rattle.meson_command.specs.declared.fault.UsageFault.TheVariants.{Usage, OddWords}
 
@@ -20,7 +20,7 @@ words_of (p ∷ pairs) = p.0 ∷ p.1 ∷ words_of pairs
 
 -- the pairs are the words two by two, and no name is there twice
 abbrev pub PairsAreTheWords : Type 0
-PairsAreTheWords = (words : List Text) (pairs : List (Text × Text)) → (pairs_of words ≡ Ok pairs) ↔ ((words_of pairs ≡ words) × AllPairs (λ x y. x ≢ y) (names pairs))
+PairsAreTheWords = (words : List Text) (pairs : List (Text × Text)) → (pairs_of words ≡ Ok pairs) ↔ ((words_of pairs ≡ words) × AllPairs (λ x y. x ≢ y) (pair_names pairs))
 
 abbrev pub OddWordsAreOdd : Type 0
 OddWordsAreOdd = (words : List Text) → (pairs_of words ≡ Err OddWords) ↔ (length words % 2 ≡ 1)
@@ -41,12 +41,12 @@ IsNoCount given word = (given ≡ Some word) × (count_of word ≡ None)
 
 -- a listing as JSON and one of digests are asked for, which are two
 abbrev pub AsksForBoth : List Row → Type 0
-AsksForBoth rows = (is_set (codes "json") rows ≡ true) × (is_set (codes "sums") rows ≡ true)
+AsksForBoth rows = (has_flag (codes "json") rows ≡ true) × (has_flag (codes "sums") rows ≡ true)
 
 -- the subcommand's operation, function or number is no such word, or two listings are asked for
 abbrev pub IsUnknown : Text → List Row → Type 0
 IsUnknown subcommand rows =
-    ((subcommand ≡ codes "target") × (target_operation (word_at (codes "OPERATION") rows) ≡ None))
+    ((subcommand ≡ codes "target") × (operation_of_word (word_at (codes "OPERATION") rows) ≡ None))
     ⊎ (((subcommand ≡ codes "kwargs") × ((kwargs_operation (word_at (codes "OPERATION") rows) ≡ None) ⊎ (role_of (word_at (codes "FUNCTION") rows) ≡ None)))
     ⊎ (((subcommand ≡ codes "default-options") × (options_operation (word_at (codes "OPERATION") rows) ≡ None))
     ⊎ (((subcommand ≡ codes "undo") × ((word : Text) × IsNoCount (first_of (codes "N") rows) word))

@@ -3,8 +3,8 @@ use Rattle.std.specs.Prelude.{ℕ, List, codes, bytes_eq, if◌then◌else◌, O
 use Rattle.meson_json.specs.declared.target.TargetOperation.{TargetOperation}
 use Rattle.meson_json.specs.declared.target.TargetOperation.TheVariants as target
 
-abbrev pub target_operation : List ℕ → Option TargetOperation
-target_operation word =
+abbrev pub operation_of_word : List ℕ → Option TargetOperation
+operation_of_word word =
     if bytes_eq word (codes "add") then Some target.SourcesAdd
     else (if bytes_eq word (codes "rm") then Some target.SourcesRemove
     else (if bytes_eq word (codes "add_target") then Some target.TargetAdd

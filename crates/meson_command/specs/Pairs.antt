@@ -11,8 +11,8 @@ in_pairs [] = Some []
 in_pairs (name ∷ []) = None
 in_pairs (name ∷ value ∷ words) = option_map (λ pairs. (name, value) ∷ pairs) (in_pairs words)
 
-abbrev pub names : List (List ℕ × List ℕ) → List (List ℕ)
-names pairs = map (λ p. p.0) pairs
+abbrev pub pair_names : List (List ℕ × List ℕ) → List (List ℕ)
+pair_names pairs = map (λ p. p.0) pairs
 
 -- some name is equal to a later one
 abbrev pub repeats : List (List ℕ) → Bool
@@ -20,4 +20,4 @@ repeats [] = false
 repeats (x ∷ xs) = list_any (λ y. bytes_eq y x) xs || repeats xs
 
 unfoldable pub pairs_of : List (List ℕ) → Result (List (List ℕ × List ℕ)) UsageFault
-pairs_of words = then_ok (ok_or (in_pairs words) OddWords) (λ pairs. if repeats (names pairs) then Err RepeatedKey else Ok pairs)
+pairs_of words = then_ok (ok_or (in_pairs words) OddWords) (λ pairs. if repeats (pair_names pairs) then Err RepeatedKey else Ok pairs)

@@ -6,8 +6,8 @@ use Rattle.clap.specs.declared.builder.command.Command.{Command}
 use Rattle.clap.specs.declared.builder.command.Command.TheViews.{out-Command}
 
 -- a word that has to be there
-abbrev pub one : Text → Rule
-one id = record (new_rule id) { required = true; action = Some action.Set }
+abbrev pub required_word : Text → Rule
+required_word id = record (new_rule id) { required = true; action = Some action.Set }
 
 -- any number of words
 abbrev pub many : Text → Rule
@@ -34,21 +34,21 @@ of_words name rules = fold with_rule (new_app name) rules
 
 -- target ID OPERATION [SOURCE]... [--subdir SUBDIR] [--type KIND]
 unfoldable pub target : App
-target = of_words (codes "target") (one (codes "ID") ∷ one (codes "OPERATION") ∷ many (codes "SOURCE")
+target = of_words (codes "target") (required_word (codes "ID") ∷ required_word (codes "OPERATION") ∷ many (codes "SOURCE")
     ∷ option (codes "SUBDIR") (codes "subdir") ∷ option (codes "KIND") (codes "type") ∷ help ∷ [])
 
 -- kwargs OPERATION FUNCTION ID [KEY VALUE]...
 unfoldable pub kwargs : App
-kwargs = of_words (codes "kwargs") (one (codes "OPERATION") ∷ one (codes "FUNCTION") ∷ one (codes "ID")
+kwargs = of_words (codes "kwargs") (required_word (codes "OPERATION") ∷ required_word (codes "FUNCTION") ∷ required_word (codes "ID")
     ∷ many (codes "KEY VALUE") ∷ help ∷ [])
 
 -- default-options OPERATION [OPTION VALUE]...
 unfoldable pub default_options : App
-default_options = of_words (codes "default-options") (one (codes "OPERATION") ∷ many (codes "OPTION VALUE") ∷ help ∷ [])
+default_options = of_words (codes "default-options") (required_word (codes "OPERATION") ∷ many (codes "OPTION VALUE") ∷ help ∷ [])
 
 -- command JSON
 unfoldable pub command : App
-command = of_words (codes "command") (one (codes "JSON") ∷ help ∷ [])
+command = of_words (codes "command") (required_word (codes "JSON") ∷ help ∷ [])
 
 -- undo [--to N] [--check FILE]
 unfoldable pub undo : App
@@ -66,15 +66,15 @@ unfoldable pub list : App
 list = of_words (codes "list") (flag (codes "json") (codes "json") ∷ flag (codes "sums") (codes "sums") ∷ help ∷ [])
 
 -- a subcommand has to be there; clap adds no `help` subcommand and no help flag of its own
-abbrev pub bare : Text → App
-bare name = record (new_app name) {
+abbrev pub bare_command : Text → App
+bare_command name = record (new_app name) {
   top = record (new_app name).top { subcommand_required = true; disable_help_flag = true; disable_help_subcommand = true };
 }
 
 -- meson_rewrite [--sourcedir DIR] [--title TEXT] [--dry-run]
 abbrev pub own_words : App
 own_words =
-    fold with_rule (bare (codes "meson_rewrite")) (option (codes "DIR") (codes "sourcedir") ∷ option (codes "TEXT") (codes "title")
+    fold with_rule (bare_command (codes "meson_rewrite")) (option (codes "DIR") (codes "sourcedir") ∷ option (codes "TEXT") (codes "title")
     ∷ flag (codes "dry-run") (codes "dry-run") ∷ help ∷ version ∷ [])
 
 -- meson_rewrite [--sourcedir DIR] [--title TEXT] [--dry-run] SUBCOMMAND
@@ -82,5 +82,5 @@ unfoldable pub program : App
 program = fold (λ a s. with_subcommand a s.top) own_words (target ∷ kwargs ∷ default_options ∷ command ∷ undo ∷ redo ∷ history ∷ list ∷ [])
 
 -- clap is told this, and no word counts for all subcommands at once
-abbrev pub IsTold : App → Command → Type 0
-IsTold a c = (app_of c ≡ a) × ((out-Command c).has_globals ≡ false)
+abbrev pub IsToldToClap : App → Command → Type 0
+IsToldToClap a c = (app_of c ≡ a) × ((out-Command c).has_globals ≡ false)

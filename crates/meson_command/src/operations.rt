@@ -1,12 +1,12 @@
 //! What the command line calls the operations on a target. The other words are those of scripts too.
 
 ghost use Rattle.std.specs.Prelude.{◌≡◌};
-ghost use Rattle.meson_command.specs.Operations.{target_operation};
+ghost use Rattle.meson_command.specs.Operations.{operation_of_word};
 
 use meson_json::target::TargetOperation;
 
 pub(crate) fn find_target_operation(word: &str) -> Option<TargetOperation>
-    ensures { result ≡ target_operation word.now }
+    ensures { result ≡ operation_of_word word.now }
 {
     if word == "add" {
         Some(TargetOperation::SourcesAdd)

@@ -4,7 +4,7 @@ ghost use Rattle.std.specs.Prelude.{◌≡◌, ◌≢◌, Err, IfErr, IfOk, Ok, 
 ghost use Rattle.std.specs.List.{list_any};
 ghost use Rattle.clap.specs.Words.{found_of, rows_of};
 ghost use Rattle.meson_command.specs.Actions.{words_at};
-ghost use Rattle.meson_command.specs.Pairs.{in_pairs, names, pairs_of, repeats};
+ghost use Rattle.meson_command.specs.Pairs.{in_pairs, pair_names, pairs_of, repeats};
 ghost use Rattle.meson_command.specs.declared.fault.UsageFault.TheVariants.{OutOfMemory};
 
 use crate::fault::UsageFault;
@@ -29,7 +29,7 @@ fn in_pairs(alloc: Global, words: &[&str]) -> Result<Option<Vec<(Text, Text)>>, 
 
 /// Whether a name is one of these.
 fn is_among(name: &Text, pairs: &[(Text, Text)]) -> bool
-    ensures { result ≡ list_any (λ x. bytes_eq x name.now) (names pairs.now) }
+    ensures { result ≡ list_any (λ x. bytes_eq x name.now) (pair_names pairs.now) }
 {
     for i in 0..pairs.len() {
         if pairs[i].0 == *name {
@@ -41,7 +41,7 @@ fn is_among(name: &Text, pairs: &[(Text, Text)]) -> bool
 
 /// Whether two names are the same.
 fn repeats(pairs: &[(Text, Text)]) -> bool
-    ensures { result ≡ repeats (names pairs.now) }
+    ensures { result ≡ repeats (pair_names pairs.now) }
 {
     for i in 0..pairs.len() {
         if is_among(&pairs[i].0, &pairs[i + 1..]) {
@@ -89,7 +89,7 @@ pub(crate) fn pairs_at(
 
 /// The names of pairs.
 pub(crate) fn names(alloc: Global, pairs: Vec<(Text, Text)>) -> Result<Many<Text>, AllocError>
-    ensures { IfOk result (λ ts. ts ≡ names pairs.items) }
+    ensures { IfOk result (λ ts. ts ≡ pair_names pairs.items) }
 {
     let mut all = Vec::new(alloc);
     for (name, _) in pairs {

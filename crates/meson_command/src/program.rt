@@ -3,7 +3,7 @@
 ghost use Rattle.std.specs.Prelude.{◌≡◌, IfOk, false};
 ghost use Rattle.clap.specs.Words.{App, app_of, new_app, rule_of, with_rule, with_subcommand};
 ghost use Rattle.clap.specs.declared.builder.command.Command.TheViews.{out-Command};
-ghost use Rattle.meson_command.specs.Program.{IsTold, command, default_options, flag, help, history, kwargs, list, many, one, option, own_words, program, redo, target, undo, version};
+ghost use Rattle.meson_command.specs.Program.{IsToldToClap, command, default_options, flag, help, history, kwargs, list, many, required_word, option, own_words, program, redo, target, undo, version};
 
 use crate::help;
 use clap::{Arg, ArgAction, Command};
@@ -11,7 +11,7 @@ use std::alloc::{AllocError, Global};
 
 /// A command, with what help says of it and below its words.
 fn described<'h>(alloc: Global, name: &'h str, about: &'h str, below: &'h str) -> Command<'h>
-    ensures { IsTold (new_app name.entry.now) result }
+    ensures { IsToldToClap (new_app name.entry.now) result }
 {
     Command::new(alloc, name).about(about).after_help(below)
 }
@@ -19,7 +19,7 @@ fn described<'h>(alloc: Global, name: &'h str, about: &'h str, below: &'h str) -
 fn with_arg<'h>(command: Command<'h>, arg: Arg<'h>) -> Result<Command<'h>, AllocError>
     requires command { (out-Command command).has_globals ≡ false }
     requires arg { arg.global ≡ false }
-    ensures { IfOk result (IsTold (with_rule (app_of command.entry) (rule_of arg.entry))) }
+    ensures { IfOk result (IsToldToClap (with_rule (app_of command.entry) (rule_of arg.entry))) }
 {
     command.arg(arg)
 }
@@ -32,7 +32,7 @@ fn with_one<'h>(
     about: &'h str,
 ) -> Result<Command<'h>, AllocError>
     requires { (out-Command command).has_globals ≡ false }
-    ensures { IfOk result (IsTold (with_rule (app_of command.entry) (one name.entry.now))) }
+    ensures { IfOk result (IsToldToClap (with_rule (app_of command.entry) (required_word name.entry.now))) }
 {
     let arg = Arg::new(alloc, name).required(true).action(ArgAction::Set);
     with_arg(command, arg.help(about))
@@ -46,7 +46,7 @@ fn with_many<'h>(
     about: &'h str,
 ) -> Result<Command<'h>, AllocError>
     requires { (out-Command command).has_globals ≡ false }
-    ensures { IfOk result (IsTold (with_rule (app_of command.entry) (many name.entry.now))) }
+    ensures { IfOk result (IsToldToClap (with_rule (app_of command.entry) (many name.entry.now))) }
 {
     let arg = Arg::new(alloc, name).action(ArgAction::Append).help(about);
     with_arg(command, arg)
@@ -61,7 +61,7 @@ fn with_option<'h>(
     about: &'h str,
 ) -> Result<Command<'h>, AllocError>
     requires { (out-Command command).has_globals ≡ false }
-    ensures { IfOk result (IsTold (with_rule (app_of command.entry) (option name.entry.now long.entry.now))) }
+    ensures { IfOk result (IsToldToClap (with_rule (app_of command.entry) (option name.entry.now long.entry.now))) }
 {
     let arg = Arg::new(alloc, name).long(long).action(ArgAction::Set);
     with_arg(command, arg.help(about))
@@ -76,7 +76,7 @@ fn with_flag<'h>(
     about: &'h str,
 ) -> Result<Command<'h>, AllocError>
     requires { (out-Command command).has_globals ≡ false }
-    ensures { IfOk result (IsTold (with_rule (app_of command.entry) (flag name.entry.now long.entry.now))) }
+    ensures { IfOk result (IsToldToClap (with_rule (app_of command.entry) (flag name.entry.now long.entry.now))) }
 {
     let arg = Arg::new(alloc, name).long(long).action(ArgAction::SetTrue);
     with_arg(command, arg.help(about))
@@ -85,7 +85,7 @@ fn with_flag<'h>(
 /// With `--help`.
 fn with_help<'h>(alloc: Global, command: Command<'h>) -> Result<Command<'h>, AllocError>
     requires { (out-Command command).has_globals ≡ false }
-    ensures { IfOk result (IsTold (with_rule (app_of command.entry) help)) }
+    ensures { IfOk result (IsToldToClap (with_rule (app_of command.entry) help)) }
 {
     let arg = Arg::new(alloc, "help").long("help").action(ArgAction::Help);
     with_arg(command, arg.help("Print this"))
@@ -94,7 +94,7 @@ fn with_help<'h>(alloc: Global, command: Command<'h>) -> Result<Command<'h>, All
 /// With `--version`.
 fn with_version<'h>(alloc: Global, command: Command<'h>) -> Result<Command<'h>, AllocError>
     requires { (out-Command command).has_globals ≡ false }
-    ensures { IfOk result (IsTold (with_rule (app_of command.entry) version)) }
+    ensures { IfOk result (IsToldToClap (with_rule (app_of command.entry) version)) }
 {
     let arg = Arg::new(alloc, "version").long("version");
     with_arg(
@@ -105,7 +105,7 @@ fn with_version<'h>(alloc: Global, command: Command<'h>) -> Result<Command<'h>, 
 
 #[tactic(auto, unfolding(crate::specs::Program::target))]
 fn target<'h>(alloc: Global) -> Result<Command<'h>, AllocError>
-    ensures { IfOk result (IsTold target) }
+    ensures { IfOk result (IsToldToClap target) }
 {
     let command = described(alloc, "target", help::TARGET, help::BELOW_TARGET);
     let command = with_one(alloc, command, "ID", "Name of the target, or its variable")?;
@@ -118,7 +118,7 @@ fn target<'h>(alloc: Global) -> Result<Command<'h>, AllocError>
 
 #[tactic(auto, unfolding(crate::specs::Program::kwargs))]
 fn kwargs<'h>(alloc: Global) -> Result<Command<'h>, AllocError>
-    ensures { IfOk result (IsTold kwargs) }
+    ensures { IfOk result (IsToldToClap kwargs) }
 {
     let command = described(alloc, "kwargs", help::KWARGS, help::BELOW_KWARGS);
     let command = with_one(alloc, command, "OPERATION", "What is done, see below")?;
@@ -140,7 +140,7 @@ fn kwargs<'h>(alloc: Global) -> Result<Command<'h>, AllocError>
 
 #[tactic(auto, unfolding(crate::specs::Program::default_options))]
 fn default_options<'h>(alloc: Global) -> Result<Command<'h>, AllocError>
-    ensures { IfOk result (IsTold default_options) }
+    ensures { IfOk result (IsToldToClap default_options) }
 {
     let command = described(alloc, "default-options", help::OPTIONS, help::BELOW_OPTIONS);
     let command = with_one(alloc, command, "OPERATION", "What is done, see below")?;
@@ -155,7 +155,7 @@ fn default_options<'h>(alloc: Global) -> Result<Command<'h>, AllocError>
 
 #[tactic(auto, unfolding(crate::specs::Program::command))]
 fn command<'h>(alloc: Global) -> Result<Command<'h>, AllocError>
-    ensures { IfOk result (IsTold command) }
+    ensures { IfOk result (IsToldToClap command) }
 {
     let command = described(alloc, "command", help::COMMAND, help::BELOW_COMMAND);
     let command = with_one(alloc, command, "JSON", "Script, or name of its file, or -")?;
@@ -164,7 +164,7 @@ fn command<'h>(alloc: Global) -> Result<Command<'h>, AllocError>
 
 #[tactic(auto, unfolding(crate::specs::Program::undo))]
 fn undo<'h>(alloc: Global) -> Result<Command<'h>, AllocError>
-    ensures { IfOk result (IsTold undo) }
+    ensures { IfOk result (IsToldToClap undo) }
 {
     let command = described(alloc, "undo", help::UNDO, help::BELOW_UNDO);
     let command = with_option(alloc, command, "N", "to", help::TO)?;
@@ -174,7 +174,7 @@ fn undo<'h>(alloc: Global) -> Result<Command<'h>, AllocError>
 
 #[tactic(auto, unfolding(crate::specs::Program::redo))]
 fn redo<'h>(alloc: Global) -> Result<Command<'h>, AllocError>
-    ensures { IfOk result (IsTold redo) }
+    ensures { IfOk result (IsToldToClap redo) }
 {
     let command = described(alloc, "redo", help::REDO, help::BELOW_REDO);
     with_help(alloc, command)
@@ -182,7 +182,7 @@ fn redo<'h>(alloc: Global) -> Result<Command<'h>, AllocError>
 
 #[tactic(auto, unfolding(crate::specs::Program::history))]
 fn history<'h>(alloc: Global) -> Result<Command<'h>, AllocError>
-    ensures { IfOk result (IsTold history) }
+    ensures { IfOk result (IsToldToClap history) }
 {
     let command = described(alloc, "history", help::HISTORY, help::BELOW_HISTORY);
     let command = with_option(alloc, command, "N", "forget", help::FORGET)?;
@@ -191,7 +191,7 @@ fn history<'h>(alloc: Global) -> Result<Command<'h>, AllocError>
 
 #[tactic(auto, unfolding(crate::specs::Program::list))]
 fn list<'h>(alloc: Global) -> Result<Command<'h>, AllocError>
-    ensures { IfOk result (IsTold list) }
+    ensures { IfOk result (IsToldToClap list) }
 {
     let command = described(alloc, "list", help::LIST, help::BELOW_LIST);
     let command = with_flag(alloc, command, "json", "json", help::JSON)?;
@@ -219,7 +219,7 @@ fn with_subcommand<'h>(
     command: Command<'h>,
     subcommand: Result<Command<'h>, AllocError>,
 ) -> Result<Command<'h>, AllocError>
-    ensures { (a : App) → IfOk subcommand.entry (IsTold a) → IfOk result (λ c. app_of c ≡ with_subcommand (app_of command.entry) a.top) }
+    ensures { (a : App) → IfOk subcommand.entry (IsToldToClap a) → IfOk result (λ c. app_of c ≡ with_subcommand (app_of command.entry) a.top) }
 {
     command.subcommand(subcommand?)
 }

@@ -2,7 +2,7 @@
 
 ghost use Rattle.std.specs.Prelude.{◌≡◌, ◌∷◌, [], IfErr, IfOk, map};
 ghost use Rattle.clap.specs.Words.{found_of, rows_of};
-ghost use Rattle.meson_command.specs.Actions.{is_set, run, word_or, words_at};
+ghost use Rattle.meson_command.specs.Actions.{has_flag, run, word_or, words_at};
 ghost use Rattle.meson_command.specs.declared.fault.UsageFault.TheVariants.{OutOfMemory};
 
 use crate::asked::Action;
@@ -22,7 +22,7 @@ pub(crate) fn word_or<'w>(matches: &ArgMatches<'w>, name: &str, otherwise: &'w s
 
 /// Whether a flag is there.
 pub(crate) fn is_set(matches: &ArgMatches<'_>, name: &str) -> bool
-    ensures { result ≡ is_set name.now (rows_of (found_of matches.now)) }
+    ensures { result ≡ has_flag name.now (rows_of (found_of matches.now)) }
 {
     word_or(matches, name, "") == "true"
 }

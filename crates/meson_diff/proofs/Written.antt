@@ -3,10 +3,10 @@ use Rattle.std.proofs.Common.{◌≡◌, ℕ, ◌+◌, ◌-◌, true, false, con
 use Rattle.std.specs.Prelude.{flat_map}
 use Rattle.std.proofs.lemmas.List.{append-nil, append_assoc}
 use Rattle.meson_diff.specs.Alignment.{new_lines, old_lines}
-use Rattle.meson_diff.specs.Hunks.{begins_hunk, entry_text, head_text, hunk_at, hunk_text, shown_len, text_at, texts_before}
+use Rattle.meson_diff.specs.Hunks.{begins_hunk, entry_text, head_text, hunk_at, hunk_text, shown_len, hunk_text_at, texts_before}
 use Rattle.meson_diff.specs.declared.entry.Entry.{Entry}
 
-one_more : (entries : List Entry) (i : ℕ) (start more : List ℕ) → text_at entries i ≡ more
+one_more : (entries : List Entry) (i : ℕ) (start more : List ℕ) → hunk_text_at entries i ≡ more
     → (start ++ texts_before entries i) ++ more ≡ start ++ texts_before entries (i + 1)
 one_more entries i start more is =
     append_assoc start (texts_before entries i) more

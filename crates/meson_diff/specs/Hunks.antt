@@ -57,13 +57,13 @@ hunk_text before hunk =
     head_text (length (old_lines before)) (length (old_lines hunk)) (length (new_lines before)) (length (new_lines hunk)) ++ flat_map entry_text hunk
 
 -- the hunk that begins with entry i, where one does
-abbrev pub text_at : List Entry → ℕ → List ℕ
-text_at entries i = if begins_hunk entries i then hunk_text (take i entries) (hunk_at entries i) else []
+abbrev pub hunk_text_at : List Entry → ℕ → List ℕ
+hunk_text_at entries i = if begins_hunk entries i then hunk_text (take i entries) (hunk_at entries i) else []
 
 -- the hunks that begin with one of the first n entries, in order
 abbrev pub texts_before : List Entry → ℕ → List ℕ
 texts_before entries zero = []
-texts_before entries (suc n) = texts_before entries n ++ text_at entries n
+texts_before entries (suc n) = texts_before entries n ++ hunk_text_at entries n
 
 -- all hunks
 abbrev pub hunks_text : List Entry → List ℕ

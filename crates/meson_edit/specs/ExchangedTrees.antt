@@ -11,7 +11,7 @@ use Rattle.meson_syntax.specs.Paths.{ListAt, list_at, list_span}
 use Rattle.meson_syntax.specs.View.{list_view, view}
 use Rattle.meson_syntax.specs.Moves.{moved}
 use Rattle.meson_syntax.specs.MovedCode.{moved_list, moved_parsed}
-use Rattle.meson_syntax.specs.ListPut.{exchanged}
+use Rattle.meson_syntax.specs.ListPut.{list_exchanged}
 
 -- A text of which a tree names a list, and the text of another list that takes its place.
 pub record IsExchange (limits : Limits) (bytes : List ℕ) (t : Parsed) (path : List ℕ) (p : ListAt Span) (front was now back : List ℕ) (new : rust.List) : Type 0 where
@@ -29,7 +29,7 @@ pub record IsExchange (limits : Limits) (bytes : List ℕ) (t : Parsed) (path : 
 -- the tree with the new list, moved to where the old one begins
 abbrev pub tree_with : List ℕ → (front was now : List ℕ) → rust.List → Parsed → Parsed
 tree_with path front was now new t =
-    exchanged path (length front) (length was) (length now) (moved_list (λ n. n + length front) new) t
+    list_exchanged path (length front) (length was) (length now) (moved_list (λ n. n + length front) new) t
 
 -- The tree with the new list, moved to its place, stands in the new text.
 abbrev pub TreesExchange : Type 0
@@ -51,4 +51,4 @@ abbrev pub TreesExchangeBack : Type 0
 TreesExchangeBack = (limits : Limits) (bytes : List ℕ) (t : Parsed) (path : List ℕ) (p : ListAt Span) (front was now back : List ℕ) (new : rust.List)
     → IsExchange limits bytes t path p front was now back new
     → (old : rust.List) → list_view bytes old ≡ p.list
-    → exchanged path (length front) (length now) (length was) old (tree_with path front was now new t) ≡ t
+    → list_exchanged path (length front) (length now) (length was) old (tree_with path front was now new t) ≡ t

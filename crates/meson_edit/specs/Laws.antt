@@ -19,7 +19,7 @@ use Rattle.meson_edit.specs.Edits.{Written, Edit, First, After, Remove, Replace,
 use Rattle.meson_edit.specs.Places.{primitive_of, Writes}
 
 -- The edit has its place among the items, and its splices give a text that spells the edited tree.
-pub record Makes (bytes : List ℕ) (f : File Span) (items : List Lexeme) (name : List ℕ) (e : Edit) (t : Plain) : Type 0 where
+pub record MakesText (bytes : List ℕ) (f : File Span) (items : List Lexeme) (name : List ℕ) (e : Edit) (t : Plain) : Type 0 where
   pub primitive : Primitive
   pub is_primitive : primitive_of f e ≡ Some primitive
   pub placed : IsPlaced primitive items
@@ -33,7 +33,7 @@ pub record Makes (bytes : List ℕ) (f : File Span) (items : List Lexeme) (name 
 abbrev pub Spelled : Edit → Type 0
 Spelled e =
     (limits : Limits) (bytes : List ℕ) (f : File Span) → IsSpannedWithin limits bytes f → (items : List Lexeme) → IsItemList bytes items → (name : List ℕ)
-    → Writes e → (t : Plain) → edited e (erase f) ≡ Some t → LevelFile t → Makes bytes f items name e t
+    → Writes e → (t : Plain) → edited e (erase f) ≡ Some t → LevelFile t → MakesText bytes f items name e t
 
 abbrev pub FirstsSpell : Type 0
 FirstsSpell = (path : List ℕ) (new : Written (Argument Nowhere)) → Spelled (First path new)

@@ -5,11 +5,11 @@ use Rattle.std.proofs.lemmas.List.{append-nil, map-append, take-append-drop}
 use Rattle.std.proofs.Math.Seq.{take-suc}
 use Rattle.std.proofs.lemmas.List.Elements.{All-nil, All-cons, All-append, All-contains, All-same, Contains-append_right}
 use Rattle.meson_splice.specs.declared.file_set.File.{File}
-use Rattle.meson_splice.specs.Files.{found}
+use Rattle.meson_splice.specs.Files.{position_of_file}
 use Rattle.meson_calls.specs.Directories.{IsFileName}
 use Rattle.meson_calls.specs.Loading.{max_files, HasFileName}
 use Rattle.meson_store.specs.Content.{Content}
-use Rattle.meson_gathering.specs.Gathering.{file_of, with_more, joined, held, entered, Ending, IsNext}
+use Rattle.meson_gathering.specs.Gathering.{file_of, with_more, files_with, held_bytes, files_entered, Ending, IsNextFile}
 use Rattle.meson_gathering.specs.Gathered.{IsNotEntered, past_limit, at_name, Grows}
 
 -- ---- what the files have more
@@ -57,45 +57,45 @@ module _ {X : Type 0} (text : X → List ℕ) (names : List X) (i : ℕ) (at_i :
       (Contains-append_right (map text (take i names)) rest name (0, first, refl))
 
 module _ (content : Content) (folder : Option (List ℕ)) where
-  after_more : (xs ys : List (List ℕ)) (o : Option (List File)) → ((files : List File) → entered content folder (xs ++ ys) files ≡ option_and_then (entered content folder ys) (entered content folder xs files)) →
-      option_and_then (entered content folder (xs ++ ys)) o ≡ option_and_then (entered content folder ys) (option_and_then (entered content folder xs) o)
+  after_more : (xs ys : List (List ℕ)) (o : Option (List File)) → ((files : List File) → files_entered content folder (xs ++ ys) files ≡ option_and_then (files_entered content folder ys) (files_entered content folder xs files)) →
+      option_and_then (files_entered content folder (xs ++ ys)) o ≡ option_and_then (files_entered content folder ys) (option_and_then (files_entered content folder xs) o)
   after_more xs ys None rest = refl
   after_more xs ys (Some files) rest = rest files
 
-  entered-append : (xs ys : List (List ℕ)) (files : List File) → entered content folder (xs ++ ys) files ≡ option_and_then (entered content folder ys) (entered content folder xs files)
+  entered-append : (xs ys : List (List ℕ)) (files : List File) → files_entered content folder (xs ++ ys) files ≡ option_and_then (files_entered content folder ys) (files_entered content folder xs files)
   entered-append [] ys files = refl
-  entered-append (x ∷ xs) ys files = after_more xs ys (joined files x (found x files) (held content folder x)) (entered-append xs ys)
+  entered-append (x ∷ xs) ys files = after_more xs ys (files_with files x (position_of_file x files) (held_bytes content folder x)) (entered-append xs ys)
 
-  pub entered_then : (xs ys : List (List ℕ)) (files middle : List File) (o : Option (List File)) → entered content folder xs files ≡ Some middle → entered content folder ys middle ≡ o →
-      entered content folder (xs ++ ys) files ≡ o
-  entered_then xs ys files middle o h k = entered-append xs ys files ∙ ap (option_and_then (entered content folder ys)) h ∙ k
+  pub entered_then : (xs ys : List (List ℕ)) (files middle : List File) (o : Option (List File)) → files_entered content folder xs files ≡ Some middle → files_entered content folder ys middle ≡ o →
+      files_entered content folder (xs ++ ys) files ≡ o
+  entered_then xs ys files middle o h k = entered-append xs ys files ∙ ap (option_and_then (files_entered content folder ys)) h ∙ k
 
   -- ---- one name
 
   module _ (files : List File) (name : List ℕ) where
-    one : (o : Option ℕ) (bytes : Option (List ℕ)) → found name files ≡ o → held content folder name ≡ bytes → entered content folder (name ∷ []) files ≡ option_and_then (entered content folder []) (joined files name o bytes)
-    one o bytes h k = ap (λ p. option_and_then (entered content folder []) (joined files name p (held content folder name))) h ∙ ap (λ b. option_and_then (entered content folder []) (joined files name o b)) k
+    one : (o : Option ℕ) (bytes : Option (List ℕ)) → position_of_file name files ≡ o → held_bytes content folder name ≡ bytes → files_entered content folder (name ∷ []) files ≡ option_and_then (files_entered content folder []) (files_with files name o bytes)
+    one o bytes h k = ap (λ p. option_and_then (files_entered content folder []) (files_with files name p (held_bytes content folder name))) h ∙ ap (λ b. option_and_then (files_entered content folder []) (files_with files name o b)) k
 
-    just : (o : Option (List File)) → option_and_then (entered content folder []) o ≡ o
+    just : (o : Option (List File)) → option_and_then (files_entered content folder []) o ≡ o
     just None = refl
     just (Some fs) = refl
 
-    pub enter_new : (bytes : List ℕ) (o : Option (List File)) → found name files ≡ None → held content folder name ≡ Some bytes → with_more files (file_of name bytes) ≡ o → entered content folder (name ∷ []) files ≡ o
+    pub enter_new : (bytes : List ℕ) (o : Option (List File)) → position_of_file name files ≡ None → held_bytes content folder name ≡ Some bytes → with_more files (file_of name bytes) ≡ o → files_entered content folder (name ∷ []) files ≡ o
     enter_new bytes o h k more = one None (Some bytes) h k ∙ just (with_more files (file_of name bytes)) ∙ more
 
-    pub next_name : found name files ≡ None → IsNext content folder (name ∷ []) files name
+    pub next_name : position_of_file name files ≡ None → IsNextFile content folder (name ∷ []) files name
     next_name h = record { before = []; after = []; are_names = refl; there = files; are_there = refl; is_new = h }
 
   -- ---- a stop at one of the names is a stop at all of them
 
-  none_then : (xs ys : List (List ℕ)) (files : List File) → entered content folder xs files ≡ None → entered content folder (xs ++ ys) files ≡ None
-  none_then xs ys files h = entered-append xs ys files ∙ ap (option_and_then (entered content folder ys)) h
+  none_then : (xs ys : List (List ℕ)) (files : List File) → files_entered content folder xs files ≡ None → files_entered content folder (xs ++ ys) files ≡ None
+  none_then xs ys files h = entered-append xs ys files ∙ ap (option_and_then (files_entered content folder ys)) h
 
-  pub stop_within : (before after names : List (List ℕ)) (name : List ℕ) (files middle : List File) (end : Ending) → names ≡ before ++ name ∷ after → entered content folder before files ≡ Some middle →
+  pub stop_within : (before after names : List (List ℕ)) (name : List ℕ) (files middle : List File) (end : Ending) → names ≡ before ++ name ∷ after → files_entered content folder before files ≡ Some middle →
       IsNotEntered content folder (name ∷ []) middle end → IsNotEntered content folder names files end
   stop_within before after names name files middle _ split so_far (past_limit none) =
       past_limit (
-      ap (λ ns. entered content folder ns files) (split ∙ sym (append_assoc before (name ∷ []) after))
+      ap (λ ns. files_entered content folder ns files) (split ∙ sym (append_assoc before (name ∷ []) after))
       ∙ none_then (before ++ name ∷ []) after files (entered_then before (name ∷ []) files middle None so_far none)
       )
   stop_within before after names name files middle _ split so_far (at_name found_ next) =

@@ -7,7 +7,7 @@ use Rattle.std.specs.declared.string.String.{String}
 use Rattle.std.proofs.lemmas.Bool.Decides.{nat_tests}
 use Rattle.std.proofs.lemmas.List.Folds.{list_any-append}
 use Rattle.std.proofs.lemmas.Slice.Eq.{bytes_eq-Decides}
-use Rattle.meson_splice.specs.Files.{found}
+use Rattle.meson_splice.specs.Files.{position_of_file}
 use Rattle.meson_splice.specs.declared.file_set.File.{File}
 use Rattle.meson_gathering.specs.Names.{AreNames}
 
@@ -27,7 +27,7 @@ is_within x (f ∷ files) =
     here_or_later (bytes_eq f.name x) (position_or_len (λ f. bytes_eq f.name x) files) (length files)
     ∙ ap (λ b. bytes_eq f.name x || b) (is_within x files)
 
-is_found : (x : List ℕ) (files : List File) → is_some (found x files) ≡ list_any (λ f. bytes_eq f.name x) files
+is_found : (x : List ℕ) (files : List File) → is_some (position_of_file x files) ≡ list_any (λ f. bytes_eq f.name x) files
 is_found x files =
     some_if (nat_lt (position_or_len (λ f. bytes_eq f.name x) files) (length files)) (position_or_len (λ f. bytes_eq f.name x) files)
     ∙ is_within x files
@@ -56,15 +56,15 @@ module _ {Y H : Type 0} (names more : HashSet (String Y) H) (files : List File) 
   }
 
   -- the name goes again
-  pub names_back : (back : HashSet (String Y) H) (name : List ℕ) → IsNone (found name files)
+  pub names_back : (back : HashSet (String Y) H) (name : List ℕ) → IsNone (position_of_file name files)
       → ((x : List ℕ) → contains_text more x ≡ cond (bytes_eq name x) true (contains_text names x))
       → ((x : List ℕ) → contains_text back x ≡ cond (bytes_eq name x) false (contains_text more x)) → AreNames back files
   names_back back name none put gone = record { same = λ x. at x (bytes_eq name x) refl } where
-    at : (x : List ℕ) (b : Bool) → bytes_eq name x ≡ b → contains_text back x ≡ is_some (found x files)
+    at : (x : List ℕ) (b : Bool) → bytes_eq name x ≡ b → contains_text back x ≡ is_some (position_of_file x files)
     at x true is =
         gone x
         ∙ ap (λ b. cond b false (contains_text more x)) is
-        ∙ sym (none_is (found x files) (subst (λ n. IsNone (found n files)) ((bytes_eq-Decides name x).0 is) none))
+        ∙ sym (none_is (position_of_file x files) (subst (λ n. IsNone (position_of_file n files)) ((bytes_eq-Decides name x).0 is) none))
     at x false is =
         gone x
         ∙ ap (λ b. cond b false (contains_text more x)) is

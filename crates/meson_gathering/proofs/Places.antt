@@ -6,11 +6,11 @@ use Rattle.meson_splice.specs.declared.file_set.File.{File}
 use Rattle.meson_splice.specs.Files.{bytes_at}
 use Rattle.meson_syntax.specs.declared.fault.ParseFault.{ParseFault}
 use Rattle.meson_syntax.specs.declared.fault.ParseFault.TheVariants as parse
-use Rattle.meson_syntax.specs.Reads.{MayRefuse}
-use Rattle.meson_calls.specs.Loading.{name_at}
+use Rattle.meson_syntax.specs.Reads.{MayNotRead}
+use Rattle.meson_calls.specs.Loading.{name_of_file}
 use Rattle.meson_calls.specs.Subdirs.{Enters}
 use Rattle.meson_store.specs.Content.{Content}
-use Rattle.meson_gathering.specs.Gathering.{file_of, entered, Ending, whole, unparsed, IsNext, Gathers, ended, enters, is_unparsed, is_unread, are_too_many}
+use Rattle.meson_gathering.specs.Gathering.{file_of, files_entered, Ending, whole, unparsed, IsNextFile, Gathers, ended, enters, is_unparsed, is_unread, are_too_many}
 use Rattle.meson_gathering.specs.Gathered.{IsNotEntered, past_limit, at_name, LooksAt}
 
 -- the file at a place
@@ -23,7 +23,7 @@ pub record Split (files : List File) (place : ℕ) : Type 0 where
   pub dropped : drop place files ≡ f ∷ todo
   pub taken_more : (more : List File) → take (suc place) (files ++ more) ≡ looked ++ f ∷ []
   pub dropped_more : (more : List File) → drop (suc place) (files ++ more) ≡ todo ++ more
-  pub is_file : file_of (name_at place files) (bytes_at place files) ≡ f
+  pub is_file : file_of (name_of_file place files) (bytes_at place files) ≡ f
 
 pub split_at : (files : List File) (place : ℕ) → place < length files → Split files place
 split_at [] place within = absurd (omega arith)
@@ -61,7 +61,7 @@ module _ (content : Content) (folder : Option (List ℕ)) (old : List File) (pla
   carried : (s : Split old place) (end : Ending) → Gathers content folder s.looked (s.f ∷ s.todo) end → Around end
   carried s end g = subst (λ fs. Gathers content folder fs (drop place old) end) (sym s.taken) (subst (λ fs. Gathers content folder s.looked fs end) (sym s.dropped) g)
 
-  entered_here : (s : Split old place) (names : List (List ℕ)) → Enters (name_at place old) (bytes_at place old) names → Enters s.f.name s.f.bytes names
+  entered_here : (s : Split old place) (names : List (List ℕ)) → Enters (name_of_file place old) (bytes_at place old) names → Enters s.f.name s.f.bytes names
   entered_here s names h = subst (λ f. Enters f.name f.bytes names) s.is_file h
 
   pub looks : (new more : List File) → new ≡ old ++ more → LooksAt content folder place old new → (end : Ending) →
@@ -74,22 +74,22 @@ module _ (content : Content) (folder : Option (List ℕ)) (old : List File) (pla
       subst (λ fs. Gathers content folder fs (s.todo ++ more) end) (s.taken_more more)
       (subst (λ fs. Gathers content folder (take (suc place) (old ++ more)) fs end) (s.dropped_more more)
       (subst (λ fs. Gathers content folder (take (suc place) fs) (drop (suc place) fs) end) is_more g)) in
-      let all : entered content folder l.names (s.looked ++ s.f ∷ s.todo) ≡ Some ((s.looked ++ s.f ∷ []) ++ (s.todo ++ more)) =
-      ap (entered content folder l.names) (sym s.whole) ∙ l.are_entered ∙ ap (λ fs. Some fs) joined in
+      let all : files_entered content folder l.names (s.looked ++ s.f ∷ s.todo) ≡ Some ((s.looked ++ s.f ∷ []) ++ (s.todo ++ more)) =
+      ap (files_entered content folder l.names) (sym s.whole) ∙ l.are_entered ∙ ap (λ fs. Some fs) joined in
       carried s end (enters s.looked s.todo (s.todo ++ more) s.f l.names end (entered_here s l.names l.enters) all rest)
 
-  pub not_entered : (names : List (List ℕ)) → Enters (name_at place old) (bytes_at place old) names → (end : Ending) → IsNotEntered content folder names old end → Around end
+  pub not_entered : (names : List (List ℕ)) → Enters (name_of_file place old) (bytes_at place old) names → (end : Ending) → IsNotEntered content folder names old end → Around end
   not_entered names h _ (past_limit none) =
       let s = split_at old place within in
-      carried s _ (are_too_many s.looked s.todo s.f names (entered_here s names h) (ap (entered content folder names) (sym s.whole) ∙ none))
+      carried s _ (are_too_many s.looked s.todo s.f names (entered_here s names h) (ap (files_entered content folder names) (sym s.whole) ∙ none))
   not_entered names h _ (at_name name next) =
       let s = split_at old place within in
-      carried s _ (is_unread s.looked s.todo s.f names name (entered_here s names h) (subst (λ fs. IsNext content folder names fs name) s.whole next))
+      carried s _ (is_unread s.looked s.todo s.f names name (entered_here s names h) (subst (λ fs. IsNextFile content folder names fs name) s.whole next))
 
-  pub not_parsed : (fault : ParseFault) → MayRefuse (bytes_at place old) fault → fault ≢ parse.OutOfMemory → Around (unparsed (name_at place old) fault)
+  pub not_parsed : (fault : ParseFault) → MayNotRead (bytes_at place old) fault → fault ≢ parse.OutOfMemory → Around (unparsed (name_of_file place old) fault)
   not_parsed fault why told =
       let s = split_at old place within in
-      let here : Around (unparsed s.f.name fault) = carried s (unparsed s.f.name fault) (is_unparsed s.looked s.todo s.f fault (subst (λ f. MayRefuse f.bytes fault) s.is_file why) told) in
+      let here : Around (unparsed s.f.name fault) = carried s (unparsed s.f.name fault) (is_unparsed s.looked s.todo s.f fault (subst (λ f. MayNotRead f.bytes fault) s.is_file why) told) in
       subst (λ f. Around (unparsed f.name fault)) (sym s.is_file) here
 
 -- all files were looked at

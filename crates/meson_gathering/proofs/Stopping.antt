@@ -5,7 +5,7 @@ use Rattle.std.proofs.lemmas.Bool.Decides.{nat_tests}
 use Rattle.meson_splice.specs.declared.file_set.File.{File}
 use Rattle.meson_syntax.specs.declared.fault.ParseFault.{ParseFault}
 use Rattle.meson_syntax.specs.declared.fault.ParseFault.TheVariants as parse
-use Rattle.meson_syntax.specs.Reads.{MayRefuse}
+use Rattle.meson_syntax.specs.Reads.{MayNotRead}
 use Rattle.meson_store.specs.Content.{Rose}
 use Rattle.meson_gathering.specs.Gathering.{Ending, unread, unparsed, rootless, too_many, with_more}
 use Rattle.meson_gathering.specs.Gathered.{IsUnread, StoreStopsAt, StopsAt, StopsLooking, IsNotAdded}
@@ -60,7 +60,7 @@ unadded_stops P old new files f many (Store fault) h = memory_stops P old new fa
 
 -- a file that was not parsed
 pub looking_stops : (P : Ending → Type 0) (old new : ℕ) (name bytes : List ℕ)
-    → ((fault : ParseFault) → MayRefuse bytes fault → fault ≢ parse.OutOfMemory → P (unparsed name fault))
+    → ((fault : ParseFault) → MayNotRead bytes fault → fault ≢ parse.OutOfMemory → P (unparsed name fault))
     → (stop : GatherFault) → StopsLooking name bytes stop → StopsAt old new P stop
 looking_stops P old new name bytes many (Parse n fault) h = subst (λ m. P (unparsed m fault)) (sym h.0) (many fault h.1 h.2)
 looking_stops P old new name bytes many TooManyFiles h = absurd h

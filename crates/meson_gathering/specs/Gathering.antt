@@ -3,10 +3,10 @@ use Rattle.std.specs.Prelude.{◌≡◌, ◌≢◌, ℕ, nat_lt, List, [], ◌�
 use Rattle.std.specs.Borrow.{Bor}
 use Rattle.std.specs.FinMap.{get}
 use Rattle.meson_splice.specs.declared.file_set.File.{File}
-use Rattle.meson_splice.specs.Files.{found}
+use Rattle.meson_splice.specs.Files.{position_of_file}
 use Rattle.meson_syntax.specs.declared.fault.ParseFault.{ParseFault}
 use Rattle.meson_syntax.specs.declared.fault.ParseFault.TheVariants as parse
-use Rattle.meson_syntax.specs.Reads.{MayRefuse}
+use Rattle.meson_syntax.specs.Reads.{MayNotRead}
 use Rattle.meson_calls.specs.Directories.{build_file}
 use Rattle.meson_calls.specs.Loading.{max_files}
 use Rattle.meson_calls.specs.Subdirs.{Enters}
@@ -27,20 +27,20 @@ abbrev pub with_more : List File → File → Option (List File)
 with_more files f = if nat_lt (length files) max_files then Some (files ++ f ∷ []) else None
 
 -- a name whose file is among them changes nothing, nor does one that the store has no file of
-abbrev pub joined : List File → List ℕ → Option ℕ → Option (List ℕ) → Option (List File)
-joined files name (Some place) bytes = Some files
-joined files name None None = Some files
-joined files name None (Some bytes) = with_more files (file_of name bytes)
+abbrev pub files_with : List File → List ℕ → Option ℕ → Option (List ℕ) → Option (List File)
+files_with files name (Some place) bytes = Some files
+files_with files name None None = Some files
+files_with files name None (Some bytes) = with_more files (file_of name bytes)
 
 module _ (content : Content) (folder : Option (List ℕ)) where
   -- the bytes that the store has of the file of that name in the project
-  abbrev pub held : List ℕ → Option (List ℕ)
-  held name = get content (path_in folder name)
+  abbrev pub held_bytes : List ℕ → Option (List ℕ)
+  held_bytes name = get content (path_in folder name)
 
   -- The files with those that the names mean and the store has behind them, in order, each once; none where they would be too many.
-  abbrev pub entered : List (List ℕ) → List File → Option (List File)
-  entered [] files = Some files
-  entered (name ∷ names) files = option_and_then (entered names) (joined files name (found name files) (held name))
+  abbrev pub files_entered : List (List ℕ) → List File → Option (List File)
+  files_entered [] files = Some files
+  files_entered (name ∷ names) files = option_and_then (files_entered names) (files_with files name (position_of_file name files) (held_bytes name))
 
 -- ---- one file after another
 
@@ -57,32 +57,32 @@ pub data Ending : Type 0 where
   too_many : Ending
 
 -- The names before this one were entered, and its file is not among those that are there then: it is the next to be read.
-pub record IsNext (content : Content) (folder : Option (List ℕ)) (names : List (List ℕ)) (files : List File) (name : List ℕ) : Type 0 where
+pub record IsNextFile (content : Content) (folder : Option (List ℕ)) (names : List (List ℕ)) (files : List File) (name : List ℕ) : Type 0 where
   pub before : List (List ℕ)
   pub after : List (List ℕ)
   pub are_names : names ≡ before ++ name ∷ after
   pub there : List File
-  pub are_there : entered content folder before files ≡ Some there
-  pub is_new : found name there ≡ None
+  pub are_there : files_entered content folder before files ≡ Some there
+  pub is_new : position_of_file name there ≡ None
 
 -- The files that were looked at, and behind them those that are still to be looked at, in order: each in turn enters the files of its `subdir` calls.
 pub data Gathers (content : Content) (folder : Option (List ℕ)) : List File → List File → Ending → Type 0 where
   ended : (looked : List File) → Gathers content folder looked [] (whole looked)
   enters : (looked todo more : List File) (f : File) (names : List (List ℕ)) (end : Ending) → Enters f.name f.bytes names
-      → entered content folder names (looked ++ f ∷ todo) ≡ Some ((looked ++ f ∷ []) ++ more)
+      → files_entered content folder names (looked ++ f ∷ todo) ≡ Some ((looked ++ f ∷ []) ++ more)
       → Gathers content folder (looked ++ f ∷ []) more end → Gathers content folder looked (f ∷ todo) end
-  is_unparsed : (looked todo : List File) (f : File) (fault : ParseFault) → MayRefuse f.bytes fault → fault ≢ parse.OutOfMemory
+  is_unparsed : (looked todo : List File) (f : File) (fault : ParseFault) → MayNotRead f.bytes fault → fault ≢ parse.OutOfMemory
       → Gathers content folder looked (f ∷ todo) (unparsed f.name fault)
   is_unread : (looked todo : List File) (f : File) (names : List (List ℕ)) (name : List ℕ) → Enters f.name f.bytes names
-      → IsNext content folder names (looked ++ f ∷ todo) name → Gathers content folder looked (f ∷ todo) (unread name)
+      → IsNextFile content folder names (looked ++ f ∷ todo) name → Gathers content folder looked (f ∷ todo) (unread name)
   are_too_many : (looked todo : List File) (f : File) (names : List (List ℕ)) → Enters f.name f.bytes names
-      → entered content folder names (looked ++ f ∷ todo) ≡ None → Gathers content folder looked (f ∷ todo) too_many
+      → files_entered content folder names (looked ++ f ∷ todo) ≡ None → Gathers content folder looked (f ∷ todo) too_many
 
 -- The same from the root file on, which is read first.
 pub data Collects (content : Content) (folder : Option (List ℕ)) : Ending → Type 0 where
-  no_root : held content folder build_file ≡ None → Collects content folder rootless
+  no_root : held_bytes content folder build_file ≡ None → Collects content folder rootless
   unread_root : Collects content folder (unread build_file)
-  from_root : (bytes : List ℕ) (end : Ending) → held content folder build_file ≡ Some bytes → Gathers content folder [] (file_of build_file bytes ∷ []) end
+  from_root : (bytes : List ℕ) (end : Ending) → held_bytes content folder build_file ≡ Some bytes → Gathers content folder [] (file_of build_file bytes ∷ []) end
       → Collects content folder end
 
 -- P holds of what the store holds, if it tells it

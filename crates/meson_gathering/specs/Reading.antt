@@ -1,13 +1,13 @@
 -- How often a store is read for a project's files: once for the root file, and once for each name that is entered and that no file there has.
 use Rattle.std.specs.Prelude.{◌≡◌, ◌<◌, ◌≤◌, ◌⊎◌, true, ℕ, suc, List, [], ◌∷◌, ◌++◌, length, Option, Some, None, is_some}
 use Rattle.meson_splice.specs.declared.file_set.File.{File}
-use Rattle.meson_splice.specs.Files.{bytes_at, found}
+use Rattle.meson_splice.specs.Files.{bytes_at, position_of_file}
 use Rattle.meson_calls.specs.Directories.{build_file}
-use Rattle.meson_calls.specs.Loading.{name_at}
+use Rattle.meson_calls.specs.Loading.{name_of_file}
 use Rattle.meson_calls.specs.Subdirs.{Enters}
 use Rattle.meson_store.specs.Calls.{one_more}
 use Rattle.meson_store.specs.Content.{Content}
-use Rattle.meson_gathering.specs.Gathering.{Told, file_of, held, joined}
+use Rattle.meson_gathering.specs.Gathering.{Told, file_of, held_bytes, files_with}
 
 -- it was read once, or not at all
 abbrev pub OnceAtMost : ℕ → ℕ → Type 0
@@ -15,7 +15,7 @@ OnceAtMost reads reads' = (reads' ≡ reads) ⊎ (reads' ≡ one_more reads)
 
 -- the same of a file of that name, and not at all where it is there
 abbrev pub OnceIfNew : List ℕ → List File → ℕ → ℕ → Type 0
-OnceIfNew name files reads reads' = (reads' ≡ reads) ⊎ ((found name files ≡ None) × (reads' ≡ one_more reads))
+OnceIfNew name files reads reads' = (reads' ≡ reads) ⊎ ((position_of_file name files ≡ None) × (reads' ≡ one_more reads))
 
 -- of a store that told this before
 module _ (before : Option Content) (folder : Option (List ℕ)) where
@@ -23,9 +23,9 @@ module _ (before : Option Content) (folder : Option (List ℕ)) where
 
   -- a name is entered: where its file is there nothing is read; else the store is asked for it, once
   pub data EntersOne (name : List ℕ) (files : List File) (reads : ℕ) : List File → ℕ → Type 0 where
-    is_there : is_some (found name files) ≡ true → EntersOne name files reads files reads
-    is_read : (bytes : Option (List ℕ)) (new : List File) → found name files ≡ None → Told before (λ content. bytes ≡ held content folder name)
-        → joined files name None bytes ≡ Some new → EntersOne name files reads new (one_more reads)
+    is_there : is_some (position_of_file name files) ≡ true → EntersOne name files reads files reads
+    is_read : (bytes : Option (List ℕ)) (new : List File) → position_of_file name files ≡ None → Told before (λ content. bytes ≡ held_bytes content folder name)
+        → files_with files name None bytes ≡ Some new → EntersOne name files reads new (one_more reads)
 
   -- names are entered, one after another
   pub data EntersEach (files : List File) (reads : ℕ) : List (List ℕ) → List File → ℕ → Type 0 where
@@ -48,15 +48,15 @@ module _ (before : Option Content) (folder : Option (List ℕ)) where
 
   -- the names that the file at a place enters are entered
   abbrev pub EntersFor : List File → ℕ → ℕ → List File → ℕ → Type 0
-  EntersFor files place reads new reads' = (names : List (List ℕ)) × Enters (name_at place files) (bytes_at place files) names × EntersEach files reads names new reads'
+  EntersFor files place reads new reads' = (names : List (List ℕ)) × Enters (name_of_file place files) (bytes_at place files) names × EntersEach files reads names new reads'
 
   -- they are not known, or one of them is not entered
   abbrev pub StopsFor : List File → ℕ → ℕ → ℕ → Type 0
   StopsFor files place reads reads' =
-      (reads' ≡ reads) ⊎ ((names : List (List ℕ)) × Enters (name_at place files) (bytes_at place files) names × StopsEntering files reads names reads')
+      (reads' ≡ reads) ⊎ ((names : List (List ℕ)) × Enters (name_of_file place files) (bytes_at place files) names × StopsEntering files reads names reads')
 
   pub data Looks (reads : ℕ) : List File → ℕ → ℕ → Type 0 where
-    root_read : (bytes : List ℕ) → Told before (λ content. held content folder build_file ≡ Some bytes) → Looks reads (file_of build_file bytes ∷ []) 0 (one_more reads)
+    root_read : (bytes : List ℕ) → Told before (λ content. held_bytes content folder build_file ≡ Some bytes) → Looks reads (file_of build_file bytes ∷ []) 0 (one_more reads)
     next_file : (files new : List File) (place n m : ℕ) → Looks reads files place n → place < length files → EntersFor files place n new m → Looks reads new (suc place) m
 
   -- these are all files

@@ -1,13 +1,13 @@
 //! Reading the files of a project from a store.
 
 ghost use Rattle.std.specs.Prelude.{◌≡◌, ◌≤◌, ◌<◌, ◌∷◌, [], ℕ, List, Some, None, Option, All, IfOk, IfErr, IsNone, OnErr, OnOk, length, map, option_map, string_bytes, take, drop};
-ghost use Rattle.meson_splice.specs.Files.{bytes_at, found};
-ghost use Rattle.meson_syntax.specs.Reads.{IsSpanned, MayRefuse};
+ghost use Rattle.meson_splice.specs.Files.{bytes_at, position_of_file};
+ghost use Rattle.meson_syntax.specs.Reads.{IsSpanned, MayNotRead};
 ghost use Rattle.meson_syntax.specs.View.{view};
 ghost use Rattle.meson_calls.specs.Directories.{IsFileName, build_file};
-ghost use Rattle.meson_calls.specs.Loading.{HasFileName, IsProject, max_files, name_at};
+ghost use Rattle.meson_calls.specs.Loading.{HasFileName, IsProject, max_files, name_of_file};
 ghost use Rattle.meson_calls.specs.Subdirs.{Enters};
-ghost use Rattle.meson_gathering.specs.Gathering.{Collects, Finds, Gathers, Told, entered, file_of, held, named_folder, whole, with_more};
+ghost use Rattle.meson_gathering.specs.Gathering.{Collects, Finds, Gathers, Told, files_entered, file_of, held_bytes, named_folder, whole, with_more};
 ghost use Rattle.meson_gathering.specs.Gathered.{Grows, IsNotAdded, IsNotEntered, IsUnread, LooksAt, StopsAt, StopsLooking};
 ghost use Rattle.meson_gathering.specs.Reading.{EntersEach, EntersFor, EntersOne, OnceAtMost, OnceIfNew, ReadsFiles, StopsEntering, StopsFor, StopsReading};
 ghost use Rattle.meson_store.specs.Calls.{one_more};
@@ -43,7 +43,7 @@ pub fn read_file<S: Store>(
     name: &str,
 ) -> Result<Option<Vec<u8>>, StoreFault>
     ensures read { IfOk result (λ bytes. Told (S.content store.old)
-        (λ content. option_map (λ b. b.items) bytes ≡ held content (named_folder folder.entry) name.now)) }
+        (λ content. option_map (λ b. b.items) bytes ≡ held_bytes content (named_folder folder.entry) name.now)) }
     ensures failed { IfErr result (IsUnread (S.failures store.old) (S.failures store.new) name.now) }
     ensures kept { S.content store.new ≡ S.content store.old }
     ensures counts { S.failures store.old ≤ S.failures store.new }
@@ -64,7 +64,7 @@ pub fn read_file<S: Store>(
 fn add(alloc: Global, files: &mut NamedFiles, name: &str, bytes: Vec<u8>) -> Result<(), GatherFault>
     requires named { IsFileName name.now }
     requires few { length files.old ≤ max_files }
-    requires new { IsNone (found name.now files.old) }
+    requires new { IsNone (position_of_file name.now files.old) }
     ensures added { OnOk result (with_more files.old (file_of name.now bytes.items) ≡ Some files.new) }
     ensures grows { OnOk result (Grows files.old files.new) }
     ensures stopped { IfErr result (IsNotAdded files.old (file_of name.now bytes.items)) }
@@ -87,7 +87,7 @@ fn enter<S: Store>(
     requires named { IsFileName name.now }
     requires few { length files.old ≤ max_files }
     ensures entered { OnOk result (Told (S.content store.old)
-        (λ content. entered content (named_folder folder.entry) (name.now ∷ []) files.old ≡ Some files.new)) }
+        (λ content. files_entered content (named_folder folder.entry) (name.now ∷ []) files.old ≡ Some files.new)) }
     ensures grows { OnOk result (Grows files.old files.new) }
     ensures stopped { IfErr result (StopsAt (S.failures store.old) (S.failures store.new)
         (λ end. Told (S.content store.old) (λ content. IsNotEntered content (named_folder folder.entry) (name.now ∷ []) files.old end))) }
@@ -119,7 +119,7 @@ fn enter_all<S: Store>(
     requires named { All IsFileName (map string_bytes names.now) }
     requires few { length files.old ≤ max_files }
     ensures entered { OnOk result (Told (S.content store.old)
-        (λ content. entered content (named_folder folder.entry) (map string_bytes names.now) files.old ≡ Some files.new)) }
+        (λ content. files_entered content (named_folder folder.entry) (map string_bytes names.now) files.old ≡ Some files.new)) }
     ensures grows { OnOk result (Grows files.old files.new) }
     ensures stopped { IfErr result (StopsAt (S.failures store.old) (S.failures store.new)
         (λ end. Told (S.content store.old) (λ content. IsNotEntered content (named_folder folder.entry) (map string_bytes names.now) files.old end))) }
@@ -147,7 +147,7 @@ struct Entry {
 
 /// A file that is none, by its name.
 fn unparsed(alloc: Global, name: &str, fault: ParseFault) -> GatherFault
-    ensures { (bytes : List ℕ) → MayRefuse bytes fault → StopsLooking name.now bytes result }
+    ensures { (bytes : List ℕ) → MayNotRead bytes fault → StopsLooking name.now bytes result }
 {
     match fault {
         ParseFault::OutOfMemory => GatherFault::Store(StoreFault::OutOfMemory),
@@ -163,9 +163,9 @@ fn entry_at(alloc: Global, files: &NamedFiles, place: usize) -> Result<Entry, Ga
     requires within { place < length files.now }
     requires named { All HasFileName files.now }
     ensures reads { IfOk result (λ entry. IsSpanned (bytes_at place files.now) (view (bytes_at place files.now) entry.tree)) }
-    ensures names { IfOk result (λ entry. Enters (name_at place files.now) (bytes_at place files.now) (map string_bytes entry.names.items)) }
+    ensures names { IfOk result (λ entry. Enters (name_of_file place files.now) (bytes_at place files.now) (map string_bytes entry.names.items)) }
     ensures named { IfOk result (λ entry. All IsFileName (map string_bytes entry.names.items)) }
-    ensures stopped { IfErr result (StopsLooking (name_at place files.now) (bytes_at place files.now)) }
+    ensures stopped { IfErr result (StopsLooking (name_of_file place files.now) (bytes_at place files.now)) }
 {
     let name = files.name(place);
     let bytes = files.bytes(place);
@@ -214,7 +214,7 @@ fn root_set<S: Store>(
     folder: Option<&str>,
 ) -> Result<NamedFiles, GatherFault>
     ensures root { IfOk result (λ files. (bytes : List ℕ) × (files ≡ file_of build_file bytes ∷ [])
-        × Told (S.content store.old) (λ content. held content (named_folder folder.entry) build_file ≡ Some bytes)) }
+        × Told (S.content store.old) (λ content. held_bytes content (named_folder folder.entry) build_file ≡ Some bytes)) }
     ensures stopped { IfErr result (StopsAt (S.failures store.old) (S.failures store.new)
         (Finds (S.content store.old) (named_folder folder.entry))) }
     ensures kept { S.content store.new ≡ S.content store.old }

@@ -1,7 +1,7 @@
 //! The files that were read so far, with their names as a set.
 
 ghost use Rattle.std.specs.Prelude.{◌≡◌, ◌<◌, ◌++◌, ◌∷◌, [], IsNone, OnErr, OnOk, is_some, length, slice_index_or};
-ghost use Rattle.meson_splice.specs.Files.{bytes_at, found};
+ghost use Rattle.meson_splice.specs.Files.{bytes_at, position_of_file};
 ghost use Rattle.meson_splice.specs.declared.file_set.File.{File};
 ghost use Rattle.meson_gathering.specs.Gathering.{file_of};
 
@@ -73,7 +73,7 @@ impl NamedFiles {
 
     /// Whether a file has that name.
     pub(crate) fn has(&self, name: &str) -> bool
-        ensures { result ≡ is_some (found name.now self.now) }
+        ensures { result ≡ is_some (position_of_file name.now self.now) }
     {
         self.names.contains(name)
     }
@@ -88,7 +88,7 @@ impl NamedFiles {
         name: &str,
         bytes: Vec<u8>,
     ) -> Result<(), AllocError>
-        requires { IsNone (found name.now self.old) }
+        requires { IsNone (position_of_file name.now self.old) }
         ensures ok { OnOk result (self.new ≡ self.old ++ file_of name.now bytes.items ∷ []) }
         ensures kept { OnErr result (self.new ≡ self.old) }
     {

@@ -7,7 +7,7 @@ use Rattle.std.proofs.Math.Seq.{drop-cons, drop-length}
 use Rattle.serde_json.specs.Data.{Data}
 use Rattle.serde_json.specs.View.{view, items_view, members_view}
 use Rattle.serde_json.specs.declared.value.Value.{Value}
-use Rattle.meson_json.specs.Each.{each_of, each_member, names_of}
+use Rattle.meson_json.specs.Each.{each_of, each_member, names_of_members}
 
 -- what is done, before what comes
 abbrev pub after : {A : Type 0} → List A → Option (List A) → Option (List A)
@@ -52,12 +52,12 @@ pub each_member-all : {A : Type 0} (f : Data → Option A) (es : List Entry) (do
 unfolding each_member
 each_member-all f es done is = rw (is, append-nil) refl
 
-pub names_of-more : (es left : List Entry) (e : Entry) (done : List (List ℕ)) → es ≡ e ∷ left → done ++ names_of (members_view es) ≡ (done ++ string_bytes e.0 ∷ []) ++ names_of (members_view left)
-unfolding names_of
-names_of-more es left e done is = rw is (sym (append_assoc done (string_bytes e.0 ∷ []) (names_of (members_view left))))
+pub names_of-more : (es left : List Entry) (e : Entry) (done : List (List ℕ)) → es ≡ e ∷ left → done ++ names_of_members (members_view es) ≡ (done ++ string_bytes e.0 ∷ []) ++ names_of_members (members_view left)
+unfolding names_of_members
+names_of-more es left e done is = rw is (sym (append_assoc done (string_bytes e.0 ∷ []) (names_of_members (members_view left))))
 
-pub names_of-all : (es : List Entry) (done : List (List ℕ)) → es ≡ [] → done ++ names_of (members_view es) ≡ done
-unfolding names_of
+pub names_of-all : (es : List Entry) (done : List (List ℕ)) → es ≡ [] → done ++ names_of_members (members_view es) ≡ done
+unfolding names_of_members
 names_of-all es done is = rw is (append-nil done)
 
 -- ---- a test of each

@@ -8,7 +8,7 @@ use Rattle.meson_splice.specs.declared.change.Change.{Change}
 use Rattle.meson_splice.specs.declared.history.History.{History}
 use Rattle.meson_splice.specs.declared.splice.Splice.{Splice}
 use Rattle.meson_json.specs.Each.{each_of}
-use Rattle.meson_json.specs.Log.{splice_data, change_data, log_data, splice_of, titled_change_of, change_of, history_of, is_text, change_has_text, are_text, has_text}
+use Rattle.meson_json.specs.Log.{splice_data, change_data, log_data, splice_of_data, titled_change_of, change_of, history_of, is_text, change_has_text, are_text, is_text_history}
 use Rattle.meson_json.specs.Titles.{is_title}
 use Rattle.meson_json.specs.declared.version.Version.TheVariants.{Titled}
 use Rattle.meson_json.proofs.LogLines.{both}
@@ -37,11 +37,11 @@ pub log-depth : (h : History) → depth (log_data h) ≤ 127
 unfolding log_data
 log-depth h = omega (arith, changes-depth h.future, changes-depth h.past)
 
-splice-back : (s : Splice) → splice_of (splice_data s) ≡ Some s
-unfolding splice_of
+splice-back : (s : Splice) → splice_of_data (splice_data s) ≡ Some s
+unfolding splice_of_data
 splice-back s = refl
 
-splices-back : (ss : List Splice) → each_of splice_of (items_of (map splice_data ss)) ≡ Some ss
+splices-back : (ss : List Splice) → each_of splice_of_data (items_of (map splice_data ss)) ≡ Some ss
 unfolding each_of
 splices-back [] = refl
 splices-back (s ∷ ss) = rw (splice-back s, splices-back ss) refl
@@ -57,7 +57,7 @@ changes-back (c ∷ cs) h =
     let parts = both (change_has_text c) (are_text cs) h in
     rw (change-back c parts.0, changes-back cs parts.1) refl
 
-pub log-back : (h : History) → has_text h ≡ true → history_of (log_data h) ≡ Some h
+pub log-back : (h : History) → is_text_history h ≡ true → history_of (log_data h) ≡ Some h
 unfolding history_of log_data
 log-back h is =
     let parts = both (are_text h.future) (are_text h.past) is in

@@ -12,6 +12,6 @@ unfoldable pub each_member : {A : Type 0} → (Data → Option A) → Members �
 each_member f no_members = Some []
 each_member f (member name d ms) = option_and_then (λ x. option_map (λ xs. (name, x) ∷ xs) (each_member f ms)) (f d)
 
-unfoldable pub names_of : Members → List (List ℕ)
-names_of no_members = []
-names_of (member name d ms) = name ∷ names_of ms
+unfoldable pub names_of_members : Members → List (List ℕ)
+names_of_members no_members = []
+names_of_members (member name d ms) = name ∷ names_of_members ms

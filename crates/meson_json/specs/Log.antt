@@ -8,7 +8,7 @@ use Rattle.serde_json.specs.View.{items_of}
 use Rattle.serde_json.specs.Read.{read}
 use Rattle.serde_json.specs.Written.{compact_text}
 use Rattle.meson_json.specs.Each.{each_of}
-use Rattle.meson_json.specs.Members.{text_at, whole_at, has_members}
+use Rattle.meson_json.specs.Members.{member_text, whole_at, has_members}
 use Rattle.meson_json.specs.Titles.{is_title}
 use Rattle.meson_splice.specs.declared.change.Change.{Change}
 use Rattle.meson_splice.specs.declared.history.History.{History}
@@ -53,26 +53,26 @@ is_placed s = nat_lt s.at (2 ^ 64)
 abbrev pub are_placed : List Change → Bool
 are_placed cs = list_all (λ c. list_all is_placed c.splices) cs
 
-abbrev pub has_text : History → Bool
-has_text h = are_text h.future && are_text h.past
+abbrev pub is_text_history : History → Bool
+is_text_history h = are_text h.future && are_text h.past
 
 -- compact, and a line end; only what is text has a log
 unfoldable pub log_of : History → Result (List ℕ) ScriptFault
-log_of h = if has_text h then Ok (compact_text (log_data h) ++ 10 ∷ []) else Err BadLog
+log_of h = if is_text_history h then Ok (compact_text (log_data h) ++ 10 ∷ []) else Err BadLog
 
 -- ---- and back
 
 -- where it is an object of these four members
-unfoldable pub splice_of : Data → Option Splice
-splice_of d =
+unfoldable pub splice_of_data : Data → Option Splice
+splice_of_data d =
     if has_members 4 d
     then option_and_then (λ at. option_and_then (λ file. option_and_then (λ now. option_and_then (λ was.
-    Some (record { file = file; at = at; was = was; now = now })) (text_at (codes "was") d)) (text_at (codes "now") d)) (text_at (codes "file") d)) (whole_at (codes "at") d)
+    Some (record { file = file; at = at; was = was; now = now })) (member_text (codes "was") d)) (member_text (codes "now") d)) (member_text (codes "file") d)) (whole_at (codes "at") d)
     else None
 
 -- in the first version: the splices alone
 abbrev pub bare_change_of : Data → Option Change
-bare_change_of d = option_map (λ ss. record { splices = ss; title = [] }) (option_and_then (each_of splice_of) (as_array d))
+bare_change_of d = option_map (λ ss. record { splices = ss; title = [] }) (option_and_then (each_of splice_of_data) (as_array d))
 
 abbrev pub titled : List Splice → List ℕ → Option Change
 titled ss title = if is_title title then Some (record { splices = ss; title = title }) else None
@@ -81,7 +81,7 @@ titled ss title = if is_title title then Some (record { splices = ss; title = ti
 unfoldable pub titled_change_of : Data → Option Change
 titled_change_of d =
     if has_members 2 d
-    then option_and_then (λ ss. option_and_then (titled ss) (text_at (codes "title") d)) (option_and_then (each_of splice_of) (option_and_then as_array (get (codes "splices") d)))
+    then option_and_then (λ ss. option_and_then (titled ss) (member_text (codes "title") d)) (option_and_then (each_of splice_of_data) (option_and_then as_array (get (codes "splices") d)))
     else None
 
 abbrev pub version_of : ℕ → Option Version

@@ -4,8 +4,8 @@ use Rattle.serde_json.specs.Data.{Data}
 use Rattle.serde_json.specs.Events.{members_len}
 use Rattle.serde_json.specs.Find.{get, as_number, as_object, as_str, as_u64}
 
-abbrev pub text_at : List ℕ → Data → Option (List ℕ)
-text_at name d = option_and_then as_str (get name d)
+abbrev pub member_text : List ℕ → Data → Option (List ℕ)
+member_text name d = option_and_then as_str (get name d)
 
 -- a whole number of 64 bits without sign
 abbrev pub whole_at : List ℕ → Data → Option ℕ

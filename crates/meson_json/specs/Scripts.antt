@@ -4,8 +4,8 @@ use Rattle.serde_json.specs.Data.{Data, Items, no_items, item, Members, no_membe
 use Rattle.serde_json.specs.Events.{items_len}
 use Rattle.serde_json.specs.Find.{get, as_array, as_object, as_str}
 use Rattle.meson_splice.specs.Patch.{then_ok}
-use Rattle.meson_json.specs.Each.{each_of, each_member, names_of}
-use Rattle.meson_json.specs.Members.{text_at}
+use Rattle.meson_json.specs.Each.{each_of, each_member, names_of_members}
+use Rattle.meson_json.specs.Members.{member_text}
 use Rattle.meson_json.specs.Operations.{entry_type, target_operation, kwargs_operation, options_operation, role_of}
 use Rattle.meson_json.specs.Settings.{setting_of, option_value}
 use Rattle.meson_json.specs.Targets.{target_command}
@@ -26,7 +26,7 @@ use Rattle.meson_json.specs.declared.names.OptionsOperation.TheVariants as optio
 
 -- a text that has to be there
 abbrev pub required_text : ℕ → List ℕ → Data → Result (List ℕ) ScriptFault
-required_text i name d = ok_or (text_at name d) (BadField i name)
+required_text i name d = ok_or (member_text name d) (BadField i name)
 
 -- a text, or another one where there is no such member
 abbrev pub text_or : ℕ → List ℕ → List ℕ → Option Data → Result (List ℕ) ScriptFault
@@ -61,7 +61,7 @@ target_entry i d =
 -- ---- entries of type `kwargs`
 
 abbrev pub role_at : ℕ → Data → Result Role ScriptFault
-role_at i d = ok_or (option_and_then role_of (text_at (codes "function") d)) (BadField i (codes "function"))
+role_at i d = ok_or (option_and_then role_of (member_text (codes "function") d)) (BadField i (codes "function"))
 
 -- an operation that is done here
 abbrev pub kwargs_asked : ℕ → Option KwargsOperation → Result KwargsOperation ScriptFault
@@ -75,7 +75,7 @@ kwargs_command i kwargs.Set role id ms = then_ok (ok_or (each_member setting_of 
 kwargs_command i kwargs.Add role id ms = then_ok (ok_or (each_member setting_of ms) (BadField i (codes "kwargs"))) (λ pairs. Ok (command.KwargsAdd role id pairs))
 kwargs_command i kwargs.Remove role id ms = then_ok (ok_or (each_member setting_of ms) (BadField i (codes "kwargs"))) (λ pairs. Ok (command.KwargsRemove role id pairs))
 kwargs_command i kwargs.RemoveRegex role id ms = Err (Unsupported i)
-kwargs_command i kwargs.Delete role id ms = Ok (command.KwargsDelete role id (names_of ms))
+kwargs_command i kwargs.Delete role id ms = Ok (command.KwargsDelete role id (names_of_members ms))
 kwargs_command i kwargs.Info role id ms = Ok (command.KwargsInfo role id)
 
 unfoldable pub kwargs_entry : ℕ → Data → Result Command ScriptFault
@@ -90,7 +90,7 @@ kwargs_entry i d =
 
 unfoldable pub options_command : ℕ → OptionsOperation → Members → Result Command ScriptFault
 options_command i options.Set ms = then_ok (ok_or (each_member option_value ms) (BadField i (codes "options"))) (λ pairs. Ok (command.OptionsSet pairs))
-options_command i options.Delete ms = Ok (command.OptionsDelete (names_of ms))
+options_command i options.Delete ms = Ok (command.OptionsDelete (names_of_members ms))
 
 unfoldable pub options_entry : ℕ → Data → Result Command ScriptFault
 options_entry i d =
@@ -109,7 +109,7 @@ entry_command i d entry.DefaultOptions = options_entry i d
 unfoldable pub entry_of : ℕ → Data → Result Command ScriptFault
 entry_of i d =
     if is_some (as_object d)
-    then then_ok (ok_or (option_and_then entry_type (text_at (codes "type") d)) (UnknownType i)) (entry_command i d)
+    then then_ok (ok_or (option_and_then entry_type (member_text (codes "type") d)) (UnknownType i)) (entry_command i d)
     else Err (NotObject i)
 
 -- the commands of the entries from number i on

@@ -16,14 +16,14 @@ setting_of (string s) = Some (Text s)
 setting_of (array ds) = option_map Texts (each_of as_str ds)
 setting_of (object ms) = None
 
-abbrev pub word_of : Bool → List ℕ
-word_of true = codes "true"
-word_of false = codes "false"
+abbrev pub flag_word : Bool → List ℕ
+flag_word true = codes "true"
+flag_word false = codes "false"
 
 -- a text, `true`, `false`, or a whole number of 64 bits with sign in decimal
 abbrev pub option_value : Data → Option (List ℕ)
 option_value null = None
-option_value (boolean b) = Some (word_of b)
+option_value (boolean b) = Some (flag_word b)
 option_value (number n) = option_map signed_decimal (as_i64 n)
 option_value (string s) = Some s
 option_value (array ds) = None

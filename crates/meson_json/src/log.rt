@@ -6,7 +6,7 @@ ghost use Rattle.std.specs.Str.{is_utf8};
 ghost use Rattle.serde_json.specs.Data.{member, no_members, number, object, string, unsigned};
 ghost use Rattle.serde_json.specs.View.{items_view, view};
 ghost use Rattle.meson_json.specs.Each.{each_of};
-ghost use Rattle.meson_json.specs.Log.{are_placed, are_text, bare_change_of, change_data, change_has_text, change_of, changes_at, changes_data, has_text, history_of, is_placed, is_text, log_data, log_of, logged, splice_data, splice_of, splices_data, titled_change_of};
+ghost use Rattle.meson_json.specs.Log.{are_placed, are_text, bare_change_of, change_data, change_has_text, change_of, changes_at, changes_data, is_text_history, history_of, is_placed, is_text, log_data, log_of, logged, splice_data, splice_of_data, splices_data, titled_change_of};
 ghost use Rattle.meson_json.specs.Members.{has_members, whole_at};
 ghost use Rattle.meson_json.specs.declared.fault.ScriptFault.TheVariants.{BadLog, OutOfMemory};
 
@@ -105,9 +105,9 @@ fn log_object(alloc: Global, future: Value, past: Value) -> Result<Value, AllocE
 #[tactic(auto, unfolding(crate::specs::Log::log_data))]
 fn log_value(alloc: Global, history: &History) -> Result<Value, ScriptFault>
     ensures ok { IfOk result (λ v. view v ≡ log_data history.now) }
-    ensures text { OnOk result (has_text history.now ≡ true) }
+    ensures text { OnOk result (is_text_history history.now ≡ true) }
     ensures placed { OnOk result ((are_placed history.now.future ≡ true) × (are_placed history.now.past ≡ true)) }
-    ensures refused { IfErr result (λ e. e ≢ OutOfMemory → (e ≡ BadLog) × (has_text history.now ≡ false)) }
+    ensures refused { IfErr result (λ e. e ≢ OutOfMemory → (e ≡ BadLog) × (is_text_history history.now ≡ false)) }
 {
     let future = changes_value(alloc, history.future.get())?;
     let past = changes_value(alloc, history.past.get())?;
@@ -165,9 +165,9 @@ fn bytes_of(alloc: Global, text: &str) -> Result<Bytes, AllocError>
 
 #[tactic(auto, unfolding(crate::specs::Log::splice_of))]
 fn splice_from(alloc: Global, value: &Value) -> Result<Splice, ScriptFault>
-    ensures ok { IfOk result (λ s. splice_of (view value.now) ≡ Some s) }
+    ensures ok { IfOk result (λ s. splice_of_data (view value.now) ≡ Some s) }
     ensures text { IfOk result (λ s. is_text s ≡ true) }
-    ensures refused { IfErr result (λ e. e ≢ OutOfMemory → (e ≡ BadLog) × (splice_of (view value.now) ≡ None)) }
+    ensures refused { IfErr result (λ e. e ≢ OutOfMemory → (e ≡ BadLog) × (splice_of_data (view value.now) ≡ None)) }
 {
     if !has_members(value, 4) {
         return Err(ScriptFault::BadLog);
@@ -193,9 +193,9 @@ fn splice_from(alloc: Global, value: &Value) -> Result<Splice, ScriptFault>
 }
 
 fn splices_from(alloc: Global, list: &[Value]) -> Result<Many<Splice>, ScriptFault>
-    ensures ok { IfOk result (λ ss. each_of splice_of (items_view list.now) ≡ Some ss) }
+    ensures ok { IfOk result (λ ss. each_of splice_of_data (items_view list.now) ≡ Some ss) }
     ensures text { IfOk result (λ ss. list_all is_text ss ≡ true) }
-    ensures refused { IfErr result (λ e. e ≢ OutOfMemory → (e ≡ BadLog) × (each_of splice_of (items_view list.now) ≡ None)) }
+    ensures refused { IfErr result (λ e. e ≢ OutOfMemory → (e ≡ BadLog) × (each_of splice_of_data (items_view list.now) ≡ None)) }
 {
     let mut splices = Vec::new(alloc);
     for value in list {
@@ -291,7 +291,7 @@ fn changes_at(
 #[tactic(auto, unfolding(crate::specs::Log::history_of))]
 fn history_from(alloc: Global, value: &Value) -> Result<History, ScriptFault>
     ensures ok { IfOk result (λ h. history_of (view value.now) ≡ Some h) }
-    ensures text { IfOk result (λ h. has_text h ≡ true) }
+    ensures text { IfOk result (λ h. is_text_history h ≡ true) }
     ensures refused { IfErr result (λ e. e ≢ OutOfMemory → (e ≡ BadLog) × (history_of (view value.now) ≡ None)) }
 {
     if !has_members(value, 3) {
@@ -315,7 +315,7 @@ fn history_from(alloc: Global, value: &Value) -> Result<History, ScriptFault>
 #[tactic(auto, unfolding(crate::specs::Log::logged))]
 pub fn read_log(alloc: Global, bytes: &[u8]) -> Result<History, ScriptFault>
     ensures ok { IfOk result (λ h. logged bytes.now ≡ Some h) }
-    ensures text { IfOk result (λ h. has_text h ≡ true) }
+    ensures text { IfOk result (λ h. is_text_history h ≡ true) }
     ensures refused { IfErr result (λ e. e ≢ OutOfMemory → (e ≡ BadLog) × (logged bytes.now ≡ None)) }
 {
     match Value::from_slice(alloc, bytes) {

@@ -3,8 +3,8 @@
 ghost use Rattle.std.specs.Prelude.{◌≡◌, ◌≢◌, Err, IfErr, IfOk, Ok, option_map};
 ghost use Rattle.serde_json.specs.Find.{as_str, get};
 ghost use Rattle.serde_json.specs.View.{items_view, members_view, view};
-ghost use Rattle.meson_json.specs.Each.{each_member, each_of, names_of};
-ghost use Rattle.meson_json.specs.Members.{text_at};
+ghost use Rattle.meson_json.specs.Each.{each_member, each_of, names_of_members};
+ghost use Rattle.meson_json.specs.Members.{member_text};
 ghost use Rattle.meson_json.specs.Scripts.{members_or, required_text, text_or, texts_or_none};
 ghost use Rattle.meson_json.specs.Settings.{option_value, setting_of};
 ghost use Rattle.meson_json.specs.declared.fault.ScriptFault.TheVariants.{BadField, OutOfMemory};
@@ -16,7 +16,7 @@ use serde_json::{Map, Value};
 use std::alloc::{AllocError, Global};
 
 pub(crate) fn text_at<'a>(value: &'a Value, name: &str) -> Option<&'a str>
-    ensures { option_map (λ s. s.now) result ≡ text_at name.now (view value.now) }
+    ensures { option_map (λ s. s.now) result ≡ member_text name.now (view value.now) }
 {
     value.get(name).and_then(Value::as_str)
 }
@@ -188,7 +188,7 @@ pub(crate) fn option_texts(
 }
 
 pub(crate) fn names(alloc: Global, members: &Map<String, Value>) -> Result<Many<Text>, AllocError>
-    ensures { IfOk result (λ names. names ≡ names_of (members_view members.now.entries)) }
+    ensures { IfOk result (λ names. names ≡ names_of_members (members_view members.now.entries)) }
 {
     let mut names = Vec::new(alloc);
     for (name, _) in members.iter() {

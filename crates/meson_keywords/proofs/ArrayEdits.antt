@@ -16,7 +16,7 @@ use Rattle.meson_keywords.specs.declared.keys.ElementKind.{ElementKind}
 use Rattle.meson_keywords.specs.KeywordEdits.{all_behind, behind_all}
 use Rattle.meson_keywords.specs.Keys.{element_node, written_element}
 use Rattle.meson_syntax.proofs.parsing.Steps.{some-injective}
-use Rattle.meson_steps.specs.ListSteps.{MayStand}
+use Rattle.meson_steps.specs.ListSteps.{MayStandBetween}
 use Rattle.meson_calls.specs.Project.{child}
 use Rattle.meson_steps.specs.Steps.{step_in}
 use Rattle.meson_steps.specs.Steps.{Step}
@@ -39,7 +39,7 @@ old_depth (plain e) v is = let same = ap expression_depth (some-injective e v is
 old_depth (named s x e) v is = let same = ap expression_depth (some-injective e v is) in omega (arith, same)
 old_depth (pair s e f) v is = let same = ap expression_depth (some-injective f v is) in omega (arith, same)
 
-module _ (k : Container) (c : CallRef) (trees : List Plain) (all : All MayStand trees) (s : CallStands c trees) (n : ℕ) (a : Argument Nowhere) (l : Listing Nowhere) (there : nth (xs c trees all s) n ≡ Some a) (value : value_of a ≡ Some (k.make l)) where
+module _ (k : Container) (c : CallRef) (trees : List Plain) (all : All MayStandBetween trees) (s : CallStands c trees) (n : ℕ) (a : Argument Nowhere) (l : Listing Nowhere) (there : nth (xs c trees all s) n ≡ Some a) (value : value_of a ≡ Some (k.make l)) where
   abbrev outer : List (Argument Nowhere)
   outer = xs c trees all s
 
@@ -179,13 +179,13 @@ put_twice [] n a v w there = absurd cc
 put_twice (y ∷ ys) zero a v w there = ap (λ z. z ∷ ys) (value_twice a v w)
 put_twice (y ∷ ys) (suc n) a v w there = ap (λ l. y ∷ l) (put_twice ys n a v w there)
 
-pub holds_same : (k : Container) (c : CallRef) (trees : List Plain) (all : All MayStand trees) (s : CallStands c trees) (n : ℕ) (a : Argument Nowhere) (l : Listing Nowhere) → nth (xs c trees all s) n ≡ Some a
+pub holds_same : (k : Container) (c : CallRef) (trees : List Plain) (all : All MayStandBetween trees) (s : CallStands c trees) (n : ℕ) (a : Argument Nowhere) (l : Listing Nowhere) → nth (xs c trees all s) n ≡ Some a
     → value_of a ≡ Some (k.make l) → HoldsAs k c [] trees n a (xs c trees all s) (elements l)
 holds_same k c trees all s n a l there value =
     record { list = l; leaves = subst (LeavesAs c [] trees) (sym (put_same (xs c trees all s) n a (k.make l) there value)) (none_leaves c trees all s); are = refl }
 
 -- a step that puts another value there, and steps on that
-module _ (c : CallRef) (trees : List Plain) (all : All MayStand trees) (s : CallStands c trees) (n : ℕ) (a : Argument Nowhere) (there : nth (xs c trees all s) n ≡ Some a) (e : Edit) (w : Expression Nowhere)
+module _ (c : CallRef) (trees : List Plain) (all : All MayStandBetween trees) (s : CallStands c trees) (n : ℕ) (a : Argument Nowhere) (there : nth (xs c trees all s) n ≡ Some a) (e : Edit) (w : Expression Nowhere)
     (st : CallStep c trees all s e (exchanged_at n a (xs c trees all s) w)) where
   abbrev later : List Plain
   later = slice_set trees c.file st.now
@@ -208,7 +208,7 @@ module _ (c : CallRef) (trees : List Plain) (all : All MayStand trees) (s : Call
 
 -- ---- elements one behind the other
 
-pub puts_hold : (c : CallRef) (k : ElementKind) (ts : List (List ℕ)) → AreElements k ts → (trees : List Plain) (all : All MayStand trees) (s : CallStands c trees) (n : ℕ) (a : Argument Nowhere) (l : Listing Nowhere)
+pub puts_hold : (c : CallRef) (k : ElementKind) (ts : List (List ℕ)) → AreElements k ts → (trees : List Plain) (all : All MayStandBetween trees) (s : CallStands c trees) (n : ℕ) (a : Argument Nowhere) (l : Listing Nowhere)
     → nth (xs c trees all s) n ≡ Some a → value_of a ≡ Some (array l)
     → HoldsAs array_container c (all_behind (child c n) (length (elements l)) (map (written_element k) ts)) trees n a (xs c trees all s) (elements l ++ put_behind k ts)
 puts_hold c k [] are trees all s n a l there value =
@@ -232,7 +232,7 @@ puts_hold c k (t ∷ ts) are trees all s n a l there value =
     (subst₂ (λ m ys. HoldsAs array_container c (all_behind (child c n) m rest) after n b outer ys) long whole later))
 
 -- a lone value is wrapped, and elements go behind it
-pub wrap_holds : (c : CallRef) (k : ElementKind) (ts : List (List ℕ)) → AreElements k ts → (trees : List Plain) (all : All MayStand trees) (s : CallStands c trees) (n : ℕ) (a : Argument Nowhere) (v : Expression Nowhere)
+pub wrap_holds : (c : CallRef) (k : ElementKind) (ts : List (List ℕ)) → AreElements k ts → (trees : List Plain) (all : All MayStandBetween trees) (s : CallStands c trees) (n : ℕ) (a : Argument Nowhere) (v : Expression Nowhere)
     → nth (xs c trees all s) n ≡ Some a → value_of a ≡ Some v → expression_depth v ≡ 0
     → HoldsAs array_container c (step_in c (Wrap c.path.steps n) ∷ all_behind (child c n) 1 (map (written_element k) ts)) trees n a (xs c trees all s) (plain v ∷ put_behind k ts)
 wrap_holds c k ts are trees all s n a v there value flat =

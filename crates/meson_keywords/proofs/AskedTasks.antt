@@ -19,7 +19,7 @@ use Rattle.meson_keywords.specs.declared.keys.ElementKind.TheVariants as element
 use Rattle.meson_keywords.specs.declared.keys.ValueKind.{ValueKind}
 use Rattle.meson_keywords.specs.declared.keys.ValueKind.TheVariants as value
 use Rattle.meson_keywords.specs.Effects.{AreAskedTexts, IsPairText, IsSettingText}
-use Rattle.meson_keywords.specs.Keys.{are_elements, checked_values, identifier_list_keys, kind_of, list_kind, list_values, of_kind, switch_keys, text_keys, text_list_keys, text_of, texts_of, truth, truth_of, written_list, written_switch, written_value}
+use Rattle.meson_keywords.specs.Keys.{are_elements, checked_values, identifier_list_keys, key_kind, list_kind, list_values, of_kind, switch_keys, text_keys, text_list_keys, setting_text, setting_texts, truth_text, truth_of, written_list, written_switch, written_value}
 use Rattle.meson_keywords.specs.Tasking.{AreElements, Asked, IsKey, IsValue, MayBeWritten, asked_tasks, to_set, to_add, to_remove, to_delete, to_set_options, to_delete_options}
 use Rattle.meson_keywords.specs.Tasks.{Task, set, delete, add, remove, once, set_option, delete_option, add_entry, checked_option, delete_entry, delete_option_entry, each_made, remove_entry, set_entry, set_option_entry}
 use Rattle.meson_keywords.proofs.KeyNames.{identifier_list_key, switch_key, text_key, text_list_key}
@@ -27,7 +27,7 @@ use Rattle.meson_keywords.proofs.TasksSoFar.{value_may}
 use Rattle.meson_keywords.proofs.WrittenElements.{elements_are, list_level, list_shallow, list_written, switch_is}
 use Rattle.meson_steps.proofs.StepsDoable.{text_written}
 use Rattle.meson_steps.proofs.WentWell.{then_was}
-use Rattle.meson_steps.specs.WrittenValues.{written}
+use Rattle.meson_steps.specs.WrittenValues.{value_written}
 
 abbrev pub MayAll : List Task → Type 0
 MayAll ts = AllByRecursion MayBeWritten ts
@@ -51,7 +51,7 @@ module _ (r : Role) (key : List ℕ) (utf8 : IsUtf8 key) (k : ValueKind) where
   key_by false false false true is_a is_b is_c is_d h = identifier_list_key r key utf8 is_d
   key_by false false false false is_a is_b is_c is_d h = absurd cc
 
-  key_may : kind_of r key ≡ Ok k → IsKey key
+  key_may : key_kind r key ≡ Ok k → IsKey key
   key_may h = key_by (one_of (text_keys r) key) (one_of (switch_keys r) key) (one_of (text_list_keys r) key) (one_of (identifier_list_keys r) key) refl refl refl refl h
 
 -- ---- values
@@ -60,7 +60,7 @@ given : {X : Type 0} (key : List ℕ) (o : Option X) (x : X) → of_kind key o �
 given key None x is = absurd cc
 given key (Some y) x is = ap Some (ok_is y x is)
 
-are_given : (s : Setting) (ts : List (List ℕ)) → IsSettingText s → texts_of s ≡ Some ts → All IsUtf8 ts
+are_given : (s : Setting) (ts : List (List ℕ)) → IsSettingText s → setting_texts s ≡ Some ts → All IsUtf8 ts
 are_given (setting.Text t) ts utf8 is = let same : t ∷ [] ≡ ts = cc in subst (All IsUtf8) same (All-cons IsUtf8 t [] utf8 (All-nil IsUtf8))
 are_given (setting.Bool b) ts utf8 is = absurd cc
 are_given (setting.Texts us) ts utf8 is = let same : us ≡ ts = cc in subst (All IsUtf8) same utf8
@@ -71,15 +71,15 @@ checked_by e ts us false is h utf8 = absurd cc
 
 values_may : (e : ElementKind) (key : List ℕ) (s : Setting) (us : List (List ℕ)) → IsSettingText s → list_values e key s ≡ Ok us → AreElements e us
 values_may e key s us utf8 is =
-    let f = then_was (of_kind key (texts_of s)) (checked_values e) us is in
-    checked_by e f.0 us (are_elements e f.0) refl f.2 (are_given s f.0 utf8 (given key (texts_of s) f.0 f.1))
+    let f = then_was (of_kind key (setting_texts s)) (checked_values e) us is in
+    checked_by e f.0 us (are_elements e f.0) refl f.2 (are_given s f.0 utf8 (given key (setting_texts s) f.0 f.1))
 
 switch_may : (b : Bool) → IsValue (written_switch b)
 switch_may b =
-    let s = switch_is b (truth b) refl in
-    subst IsValue (sym (ok_is (written_switch b) (written (truth b) s.new) s.is)) (value_may (truth b) s.new)
+    let s = switch_is b (truth_text b) refl in
+    subst IsValue (sym (ok_is (written_switch b) (value_written (truth_text b) s.new) s.is)) (value_may (truth_text b) s.new)
 
-text_by : (key : List ℕ) (s : Setting) (new : Written (Expression Nowhere)) → IsSettingText s → of_kind key (option_map written_text (text_of s)) ≡ Ok new → IsValue new
+text_by : (key : List ℕ) (s : Setting) (new : Written (Expression Nowhere)) → IsSettingText s → of_kind key (option_map written_text (setting_text s)) ≡ Ok new → IsValue new
 text_by key (setting.Text t) new utf8 is = subst IsValue (ok_is (written_text t) new is) (text_written t utf8, tt, omega arith)
 text_by key (setting.Bool b) new utf8 is = absurd cc
 text_by key (setting.Texts ts) new utf8 is = absurd cc
@@ -111,17 +111,17 @@ may_each P make one (x ∷ xs) ts all is =
 
 set_may : (r : Role) (pair : List ℕ × Setting) (ts : List Task) → IsPairText pair → set_entry r pair ≡ Ok ts → MayAll ts
 set_may r pair ts utf8 is =
-    let f = then_was (kind_of r pair.0) (λ k. then_ok (written_value k pair.0 pair.1) (λ new. Ok (set pair.0 new ∷ []))) ts is in
+    let f = then_was (key_kind r pair.0) (λ k. then_ok (written_value k pair.0 pair.1) (λ new. Ok (set pair.0 new ∷ []))) ts is in
     let g = then_was (written_value f.0 pair.0 pair.1) (λ new. Ok (set pair.0 new ∷ [])) ts f.2 in
     subst MayAll (ok_is (set pair.0 g.0 ∷ []) ts g.2) ((key_may r pair.0 utf8.0 f.0 f.1, value_by f.0 pair.0 pair.1 g.0 utf8.1 g.1), tt)
 
 -- the key of a list and its values
 list_may : (r : Role) (pair : List ℕ × Setting) (make : ElementKind → List (List ℕ) → List Task) (ts : List Task) → IsPairText pair
-    → then_ok (then_ok (kind_of r pair.0) (list_kind pair.0)) (λ e. then_ok (list_values e pair.0 pair.1) (λ values. Ok (make e values))) ≡ Ok ts
+    → then_ok (then_ok (key_kind r pair.0) (list_kind pair.0)) (λ e. then_ok (list_values e pair.0 pair.1) (λ values. Ok (make e values))) ≡ Ok ts
     → (e : ElementKind) × (values : List (List ℕ)) × IsKey pair.0 × AreElements e values × (make e values ≡ ts)
 list_may r pair make ts utf8 is =
-    let f = then_was (then_ok (kind_of r pair.0) (list_kind pair.0)) (λ e. then_ok (list_values e pair.0 pair.1) (λ values. Ok (make e values))) ts is in
-    let g = then_was (kind_of r pair.0) (list_kind pair.0) f.0 f.1 in
+    let f = then_was (then_ok (key_kind r pair.0) (list_kind pair.0)) (λ e. then_ok (list_values e pair.0 pair.1) (λ values. Ok (make e values))) ts is in
+    let g = then_was (key_kind r pair.0) (list_kind pair.0) f.0 f.1 in
     let h = then_was (list_values f.0 pair.0 pair.1) (λ values. Ok (make f.0 values)) ts f.2 in
     (f.0, h.0, key_may r pair.0 utf8.0 g.0 g.1, values_may f.0 pair.0 pair.1 h.0 utf8.1 h.1, ok_is (make f.0 h.0) ts h.2)
 
@@ -141,7 +141,7 @@ remove_may r pair ts utf8 is =
 
 delete_may : (r : Role) (key : List ℕ) (ts : List Task) → Unit {0} → delete_entry r key ≡ Ok ts → MayAll ts
 delete_may r key ts u is =
-    let f = then_was (kind_of r key) (λ k. Ok (delete key ∷ [])) ts is in
+    let f = then_was (key_kind r key) (λ k. Ok (delete key ∷ [])) ts is in
     subst MayAll (ok_is (delete key ∷ []) ts f.2) (tt, tt)
 
 set_option_may : (pair : List ℕ × List ℕ) (ts : List Task) → IsUtf8 pair.0 × IsUtf8 pair.1 → set_option_entry pair ≡ Ok ts → MayAll ts

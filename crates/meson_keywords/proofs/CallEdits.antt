@@ -17,7 +17,7 @@ use Rattle.meson_calls.specs.declared.call.CallRef.{CallRef}
 use Rattle.meson_keywords.specs.Changing.{CallStands, LeavesCall}
 use Rattle.meson_keywords.specs.Keys.{written_named}
 use Rattle.meson_keywords.specs.KeywordEdits.{behind_all}
-use Rattle.meson_steps.specs.ListSteps.{AreDoable, MayStand, none, one, wide_depth}
+use Rattle.meson_steps.specs.ListSteps.{AreDoable, MayStandBetween, none, one, wide_depth}
 use Rattle.meson_steps.specs.Steps.{step_in}
 use Rattle.meson_steps.specs.Steps.{Step, all_stepped, stepped}
 use Rattle.meson_keywords.specs.TaskSteps.{elements_in, list_elements, or_same, trees_after}
@@ -65,13 +65,13 @@ list_fits (listing s trailing list) xs limit array_fits fits small = omega (arit
 
 -- ---- one edit
 
-module _ (c : CallRef) (trees : List Plain) (all : All MayStand trees) (s : CallStands c trees) where
+module _ (c : CallRef) (trees : List Plain) (all : All MayStandBetween trees) (s : CallStands c trees) where
   pub record CallStep (e : Edit) (ys : List (Argument Nowhere)) : Type 0 where
     pub now : Plain
     pub is_stepped : stepped (step_in c e) trees ≡ Some (slice_set trees c.file now)
     pub doable : (steps : List Step) → AreDoable steps (slice_set trees c.file now) → AreDoable (step_in c e ∷ steps) trees
     pub stands : CallStands c (slice_set trees c.file now)
-    pub all_stand : All MayStand (slice_set trees c.file now)
+    pub all_stand : All MayStandBetween (slice_set trees c.file now)
     pub are : elements stands.place.list ≡ ys
 
   abbrev pub xs : List (Argument Nowhere)
@@ -81,7 +81,7 @@ module _ (c : CallRef) (trees : List Plain) (all : All MayStand trees) (s : Call
   path = c.path.steps
 
   pub tree_level : LevelFile s.tree
-  tree_level = (all_nth MayStand trees c.file s.tree all s.is_tree).0
+  tree_level = (all_nth MayStandBetween trees c.file s.tree all s.is_tree).0
 
   pub call_step : (e : Edit) (ys : List (Argument Nowhere)) → Writes e → edited e s.tree ≡ Some (s.place.back (with_elements s.place.list ys)) → LevelFile (s.place.back (with_elements s.place.list ys))
       → depth_of ys ≤ max (depth_of xs) 1 → CallStep e ys
@@ -89,7 +89,7 @@ module _ (c : CallRef) (trees : List Plain) (all : All MayStand trees) (s : Call
       let l = with_elements s.place.list ys in
       let now = s.place.back l in
       let fits = list_fits s.place.list ys s.limit s.array_fits s.call_fits small in
-      let now_stands : MayStand now = (level, s.file_fits l fits) in
+      let now_stands : MayStandBetween now = (level, s.file_fits l fits) in
       let again = there_again s.tree path s.place s.is_place ys in
       record {
         now = now;
@@ -106,7 +106,7 @@ module _ (c : CallRef) (trees : List Plain) (all : All MayStand trees) (s : Call
           call_fits = subst (λ m. listing_depth m ≤ s.limit) (sym again.list) fits;
           file_fits = λ m within. subst (λ t. file_depth t ≤ wide_depth) (sym (again.back m)) (s.file_fits m within);
         };
-        all_stand = All-set MayStand trees c.file now now_stands all;
+        all_stand = All-set MayStandBetween trees c.file now now_stands all;
         are = ap elements again.list ∙ elements_with s.place.list ys;
       }
 
@@ -207,7 +207,7 @@ after_one st steps ts between is rest =
     let there = stepped_on steps between rest in
     ap (λ o. or_same ts (option_and_then (all_stepped steps) o)) is ∙ ap (or_same ts) there.1 ∙ sym (ap (or_same between) there.1)
 
-module _ (c : CallRef) (trees : List Plain) (all : All MayStand trees) (s : CallStands c trees) where
+module _ (c : CallRef) (trees : List Plain) (all : All MayStandBetween trees) (s : CallStands c trees) where
   pub none_leaves : LeavesAs c [] trees (xs c trees all s)
   none_leaves = record { call = record { doable = none trees; stands = s }; are = elements_are c trees all s }
 

@@ -22,7 +22,7 @@ use Rattle.meson_keywords.specs.Changing.{CallStands}
 use Rattle.meson_calls.specs.GoodLists.{GoodListing}
 use Rattle.meson_steps.specs.declared.journal.Saved.{Saved}
 use Rattle.meson_steps.specs.Journal.{is_saved}
-use Rattle.meson_steps.specs.ListSteps.{MayStand, wide_depth}
+use Rattle.meson_steps.specs.ListSteps.{MayStandBetween, wide_depth}
 use Rattle.meson_calls.specs.Loading.{views}
 use Rattle.meson_calls.specs.Strings.{AreGood}
 use Rattle.meson_keywords.specs.TaskSteps.{elements_in}
@@ -44,8 +44,8 @@ within_wide true n within = within
 within_wide false n within = omega (arith, within)
 
 -- they have their levels and are not too deep
-pub known_stand : (saved : List Saved) (files : List File) (trees : List Parsed) → AreKnown saved files trees → All MayStand (known_trees files trees)
-known_stand saved files trees known = plain_all MayStand files trees known.as_many (λ k d within.
+pub known_stand : (saved : List Saved) (files : List File) (trees : List Parsed) → AreKnown saved files trees → All MayStandBetween (known_trees files trees)
+known_stand saved files trees known = plain_all MayStandBetween files trees known.as_many (λ k d within.
     let r = (known.each k d within).reads in
     (r.spells.level, within_wide (is_saved k saved) _ r.depth))
 

@@ -3,7 +3,7 @@ use Rattle.std.proofs.Common.{◌≡◌, List, sym, subst₂}
 use Rattle.std.specs.Prelude.{All, Ok}
 use Rattle.meson_syntax.specs.Tree.{Nowhere, Plain, Argument}
 use Rattle.meson_calls.specs.declared.call.CallRef.{CallRef}
-use Rattle.meson_steps.specs.ListSteps.{MayStand}
+use Rattle.meson_steps.specs.ListSteps.{MayStandBetween}
 use Rattle.meson_steps.specs.Steps.{Step}
 use Rattle.meson_keywords.specs.Changing.{CallStands, LeavesCall}
 use Rattle.meson_keywords.specs.Effects.{TaskLeaves}
@@ -16,8 +16,8 @@ pub record Does (t : Task) (c : CallRef) (trees : List Plain) (steps : List Step
   pub leaves : TaskLeaves t (elements_in c trees) (elements_in c (trees_after steps trees))
 
 abbrev pub TaskDoes : Task → Type 0
-TaskDoes t = (c : CallRef) (trees : List Plain) → All MayStand trees → CallStands c trees → (steps : List Step) → task_steps t c (elements_in c trees) ≡ Ok steps → Does t c trees steps
+TaskDoes t = (c : CallRef) (trees : List Plain) → All MayStandBetween trees → CallStands c trees → (steps : List Step) → task_steps t c (elements_in c trees) ≡ Ok steps → Does t c trees steps
 
-pub does : (t : Task) (c : CallRef) (trees : List Plain) (all : All MayStand trees) (s : CallStands c trees) (steps : List Step) (ys : List (Argument Nowhere)) → LeavesAs c steps trees ys → TaskLeaves t (xs c trees all s) ys
+pub does : (t : Task) (c : CallRef) (trees : List Plain) (all : All MayStandBetween trees) (s : CallStands c trees) (steps : List Step) (ys : List (Argument Nowhere)) → LeavesAs c steps trees ys → TaskLeaves t (xs c trees all s) ys
     → Does t c trees steps
 does t c trees all s steps ys l leaves = record { call = l.call; leaves = subst₂ (TaskLeaves t) (sym (elements_are c trees all s)) (sym l.are) leaves }

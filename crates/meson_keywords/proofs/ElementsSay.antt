@@ -24,7 +24,7 @@ use Rattle.meson_calls.specs.Calls.{Numbered, value_with_name}
 use Rattle.meson_calls.specs.Keywords.{IsFirstNamed}
 use Rattle.meson_calls.specs.Sourced.{kept_args}
 use Rattle.meson_calls.specs.GoodLists.{GoodArgs}
-use Rattle.meson_keywords.specs.KeywordEdits.{all_known, element_text, one_at_most, passing, says, the_value}
+use Rattle.meson_keywords.specs.KeywordEdits.{all_of_kind, element_text, one_at_most, passing, says, the_value}
 use Rattle.meson_keywords.specs.Options.{key_text, keys_known}
 use Rattle.meson_calls.specs.Roles.{one_of}
 use Rattle.meson_steps.specs.Names.{distinct_by}
@@ -55,11 +55,11 @@ module _ (source : List ℕ) (args : List Arg) (i : ℕ) (d : Arg) (within : i <
   -- ---- all of a kind
 
   module _ (k : ElementKind) where
-    pub known_more : is_some (element_text k (arg_view source (get_or args i d))) ≡ true → all_known k (args_view source (drop i args)) ≡ all_known k (args_view source (drop (i + 1) args))
-    known_more holds = ap (all_known k) rest_is ∙ ap (λ b. b && all_known k (args_view source (drop (i + 1) args))) holds
+    pub known_more : is_some (element_text k (arg_view source (get_or args i d))) ≡ true → all_of_kind k (args_view source (drop i args)) ≡ all_of_kind k (args_view source (drop (i + 1) args))
+    known_more holds = ap (all_of_kind k) rest_is ∙ ap (λ b. b && all_of_kind k (args_view source (drop (i + 1) args))) holds
 
-    pub known_not : is_some (element_text k (arg_view source (get_or args i d))) ≡ false → all_known k (args_view source (drop i args)) ≡ false
-    known_not fails = ap (all_known k) rest_is ∙ ap (λ b. b && all_known k (args_view source (drop (i + 1) args))) fails
+    pub known_not : is_some (element_text k (arg_view source (get_or args i d))) ≡ false → all_of_kind k (args_view source (drop i args)) ≡ false
+    known_not fails = ap (all_of_kind k) rest_is ∙ ap (λ b. b && all_of_kind k (args_view source (drop (i + 1) args))) fails
 
   -- ---- all with a literal as the key
 

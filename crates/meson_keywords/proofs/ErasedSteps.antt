@@ -12,7 +12,7 @@ use Rattle.meson_calls.specs.declared.refusal.Refusal.{Refusal}
 use Rattle.meson_calls.specs.Calls.{Numbered, numbered, kept_number, value_with_name}
 use Rattle.meson_calls.specs.Calls as calls
 use Rattle.meson_keywords.specs.Keys.{written_list, written_named}
-use Rattle.meson_keywords.specs.KeywordEdits.{Shape, an_array, no_array, add_by_shape, all_behind, all_known, behind_all, element_text, keyword_in, new_elements, one_at_most, passing, remove_by_shape, remove_equal, removed_from, says, shape, text_in, the_value}
+use Rattle.meson_keywords.specs.KeywordEdits.{ValueShape, an_array, no_array, add_by_shape, all_behind, all_of_kind, behind_all, element_text, keyword_in, new_elements, one_at_most, passing, remove_by_shape, remove_equal, removed_from, says, value_shape, text_in, the_value}
 use Rattle.meson_keywords.specs.Options.{delete_by_shape, delete_by_value, entries, has_key, is_entry, is_entry_element, key_text, keys_known, of_list, option_text, options_key, set_by_shape, set_by_value, set_in_dictionary, set_in_list}
 use Rattle.meson_calls.specs.Project.{child}
 use Rattle.meson_keywords.specs.Tasks.{Task, set, delete, add, remove, once, set_option, delete_option}
@@ -73,10 +73,10 @@ texts_erased k [] = refl
 texts_erased k (x ∷ xs) =
     ap (λ o. cons_option o (filter_map (element_text k) (map erase_argument xs))) (element_erased k x) ∙ ap (cons_option (element_text k x)) (texts_erased k xs)
 
-known_erased : (k : ElementKind) (xs : List (Argument Span)) → all_known k (map erase_argument xs) ≡ all_known k xs
+known_erased : (k : ElementKind) (xs : List (Argument Span)) → all_of_kind k (map erase_argument xs) ≡ all_of_kind k xs
 known_erased k [] = refl
 known_erased k (x ∷ xs) =
-    ap (λ o. is_some o && all_known k (map erase_argument xs)) (element_erased k x) ∙ ap (λ b. is_some (element_text k x) && b) (known_erased k xs)
+    ap (λ o. is_some o && all_of_kind k (map erase_argument xs)) (element_erased k x) ∙ ap (λ b. is_some (element_text k x) && b) (known_erased k xs)
 
 passing_erased : (bare : Argument Nowhere → Bool) (spanned : Argument Span → Bool) → ((x : Argument Span) → bare (erase_argument x) ≡ spanned x) → (n : ℕ) (xs : List (Argument Span))
     → passing bare n (map erase_argument xs) ≡ passing spanned n xs
@@ -85,49 +85,49 @@ passing_erased bare spanned same n (x ∷ xs) =
     ap (λ b. if b then n ∷ passing bare (suc n) (map erase_argument xs) else passing bare (suc n) (map erase_argument xs)) (same x)
     ∙ ap (λ l. if spanned x then n ∷ l else l) (passing_erased bare spanned same (suc n) xs)
 
-abbrev erase_shape : Shape Span → Shape Nowhere
+abbrev erase_shape : ValueShape Span → ValueShape Nowhere
 erase_shape (an_array xs) = an_array (map erase_argument xs)
 erase_shape no_array = no_array
 
-shape_erased : (e : Expression Span) → shape (erase_expression e) ≡ erase_shape (shape e)
+shape_erased : (e : Expression Span) → value_shape (erase_expression e) ≡ erase_shape (value_shape e)
 shape_erased (array l) = ap an_array (erased_elements l)
 shape_erased _ = refl
 
 -- what is made of a value, by its text and its shape
-by_shape : {X : Type 0} (bare : Option (List ℕ) → Shape Nowhere → X) (spanned : Option (List ℕ) → Shape Span → X) → ((t : Option (List ℕ)) (s : Shape Span) → bare t (erase_shape s) ≡ spanned t s)
-    → (k : ElementKind) (e : Expression Span) → bare (text_in k (erase_expression e)) (shape (erase_expression e)) ≡ spanned (text_in k e) (shape e)
-by_shape bare spanned same k e = ap (λ t. bare t (shape (erase_expression e))) (text_erased k e) ∙ ap (bare (text_in k e)) (shape_erased e) ∙ same (text_in k e) (shape e)
+by_shape : {X : Type 0} (bare : Option (List ℕ) → ValueShape Nowhere → X) (spanned : Option (List ℕ) → ValueShape Span → X) → ((t : Option (List ℕ)) (s : ValueShape Span) → bare t (erase_shape s) ≡ spanned t s)
+    → (k : ElementKind) (e : Expression Span) → bare (text_in k (erase_expression e)) (value_shape (erase_expression e)) ≡ spanned (text_in k e) (value_shape e)
+by_shape bare spanned same k e = ap (λ t. bare t (value_shape (erase_expression e))) (text_erased k e) ∙ ap (bare (text_in k e)) (shape_erased e) ∙ same (text_in k e) (value_shape e)
 
 -- ---- values
 
-added_erased : (c : CallRef) (n : ℕ) (key : List ℕ) (k : ElementKind) (values : List (List ℕ)) (t : Option (List ℕ)) (s : Shape Span) → add_by_shape c n key k values t (erase_shape s) ≡ add_by_shape c n key k values t s
+added_erased : (c : CallRef) (n : ℕ) (key : List ℕ) (k : ElementKind) (values : List (List ℕ)) (t : Option (List ℕ)) (s : ValueShape Span) → add_by_shape c n key k values t (erase_shape s) ≡ add_by_shape c n key k values t s
 added_erased c n key k values t no_array = refl
 added_erased c n key k values t (an_array xs) =
     ap (λ m. Ok (all_behind (child c n) m (new_elements k (filter_map (element_text k) (map erase_argument xs)) values))) (many_erased xs)
     ∙ ap (λ known. Ok (all_behind (child c n) (length xs) (new_elements k known values))) (texts_erased k xs)
 
-removed_erased : (c : CallRef) (n : ℕ) (key : List ℕ) (k : ElementKind) (value : List ℕ) (t : Option (List ℕ)) (s : Shape Span)
+removed_erased : (c : CallRef) (n : ℕ) (key : List ℕ) (k : ElementKind) (value : List ℕ) (t : Option (List ℕ)) (s : ValueShape Span)
     → remove_by_shape c n key k value t (erase_shape s) ≡ remove_by_shape c n key k value t s
 removed_erased c n key k value t no_array = refl
 removed_erased c n key k value t (an_array xs) =
     ap (λ b. remove_equal (child c n) key b (passing (says k value) 0 (map erase_argument xs))) (known_erased k xs)
-    ∙ ap (remove_equal (child c n) key (all_known k xs)) (passing_erased (says k value) (says k value) (λ x. ap (calls.is value) (element_erased k x)) 0 xs)
+    ∙ ap (remove_equal (child c n) key (all_of_kind k xs)) (passing_erased (says k value) (says k value) (λ x. ap (calls.is value) (element_erased k x)) 0 xs)
 
 entry_erased : (name : List ℕ) (x : Argument Span) → is_entry_element name (erase_argument x) ≡ is_entry_element name x
 entry_erased name x = ap (is_entry name) (element_erased element.Text x)
 
-option_erased : (c : CallRef) (n : ℕ) (name entry : List ℕ) (t : Option (List ℕ)) (s : Shape Span) → set_by_shape c n name entry t (erase_shape s) ≡ set_by_shape c n name entry t s
+option_erased : (c : CallRef) (n : ℕ) (name entry : List ℕ) (t : Option (List ℕ)) (s : ValueShape Span) → set_by_shape c n name entry t (erase_shape s) ≡ set_by_shape c n name entry t s
 option_erased c n name entry t no_array = refl
 option_erased c n name entry t (an_array xs) =
     ap (λ b. of_list b (set_in_list (child c n) (length (map erase_argument xs)) entry (passing (is_entry_element name) 0 (map erase_argument xs)))) (known_erased element.Text xs)
-    ∙ ap (λ m. of_list (all_known element.Text xs) (set_in_list (child c n) m entry (passing (is_entry_element name) 0 (map erase_argument xs)))) (many_erased xs)
-    ∙ ap (λ l. of_list (all_known element.Text xs) (set_in_list (child c n) (length xs) entry l)) (passing_erased (is_entry_element name) (is_entry_element name) (entry_erased name) 0 xs)
+    ∙ ap (λ m. of_list (all_of_kind element.Text xs) (set_in_list (child c n) m entry (passing (is_entry_element name) 0 (map erase_argument xs)))) (many_erased xs)
+    ∙ ap (λ l. of_list (all_of_kind element.Text xs) (set_in_list (child c n) (length xs) entry l)) (passing_erased (is_entry_element name) (is_entry_element name) (entry_erased name) 0 xs)
 
-option_gone_erased : (c : CallRef) (n : ℕ) (name : List ℕ) (t : Option (List ℕ)) (s : Shape Span) → delete_by_shape c n name t (erase_shape s) ≡ delete_by_shape c n name t s
+option_gone_erased : (c : CallRef) (n : ℕ) (name : List ℕ) (t : Option (List ℕ)) (s : ValueShape Span) → delete_by_shape c n name t (erase_shape s) ≡ delete_by_shape c n name t s
 option_gone_erased c n name t no_array = refl
 option_gone_erased c n name t (an_array xs) =
     ap (λ b. of_list b (removed_from (child c n) 0 (passing (is_entry_element name) 0 (map erase_argument xs)))) (known_erased element.Text xs)
-    ∙ ap (λ l. of_list (all_known element.Text xs) (removed_from (child c n) 0 l)) (passing_erased (is_entry_element name) (is_entry_element name) (entry_erased name) 0 xs)
+    ∙ ap (λ l. of_list (all_of_kind element.Text xs) (removed_from (child c n) 0 l)) (passing_erased (is_entry_element name) (is_entry_element name) (entry_erased name) 0 xs)
 
 -- ---- a dictionary
 

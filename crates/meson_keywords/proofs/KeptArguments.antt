@@ -5,7 +5,7 @@ use Rattle.std.specs.List.{cons_option}
 use Rattle.std.proofs.lemmas.List.Elements.{filter-append, filter_map-append}
 use Rattle.std.proofs.Math.Seq.{take-append_seam}
 use Rattle.std.proofs.lemmas.Slice.Eq.{bytes_eq-Decides}
-use Rattle.meson_syntax.specs.Tree.{Name, bare, Nowhere, Expression, Argument, plain, named, pair}
+use Rattle.meson_syntax.specs.Tree.{Name, bare_name, Nowhere, Expression, Argument, plain, named, pair}
 use Rattle.meson_syntax.specs.Paths.{nth}
 use Rattle.meson_edit.specs.Edits.{removed}
 use Rattle.meson_calls.specs.Calls.{Numbered, value_with_name}
@@ -187,10 +187,10 @@ module _ (key : List ℕ) where
   none_there xs none = values_from xs 0 ∙ ap (map (λ (w : Numbered (Expression Nowhere)). w.value)) none
 
   abbrev new : Expression Nowhere → Argument Nowhere
-  new w = named tt (bare key) w
+  new w = named tt (bare_name key) w
 
   new_named : (w : Expression Nowhere) → value_with_name key (new w) ≡ Some w
-  new_named w = with_name tt (bare key) w true ((bytes_eq-Decides key key).1 refl)
+  new_named w = with_name tt (bare_name key) w true ((bytes_eq-Decides key key).1 refl)
 
   pub come_value : (xs : List (Argument Nowhere)) (w : Expression Nowhere) → keyword_in key xs ≡ [] → values_of key (xs ++ new w ∷ []) ≡ w ∷ []
   come_value xs w none =

@@ -15,7 +15,7 @@ use Rattle.meson_layout.specs.Looks as look
 use Rattle.meson_layout.specs.Pieces.{space}
 use Rattle.meson_layout.specs.Words.{remarks}
 use Rattle.meson_layout.proofs.FirstBytes.{no_blank_first, some_text}
-use Rattle.meson_syntax.specs.Tree.{bare as bare_name, Nowhere, Expression, named}
+use Rattle.meson_syntax.specs.Tree.{bare_name, Nowhere, Expression, named}
 use Rattle.meson_syntax.specs.Grammar.{argument_words, expression_words}
 use Rattle.meson_edit.specs.Places.{IsWritten}
 use Rattle.meson_steps.specs.WrittenTexts.{string_of}
@@ -25,7 +25,7 @@ use Rattle.meson_keywords.proofs.WrittenElements.{word_return}
 
 -- ---- the first byte of a value
 
-solid : (κ : Kind) → speaks (role κ) ≡ true → look.is_blank κ ≡ false
+solid : (κ : Kind) → speaks (role κ) ≡ true → look.is_blank_kind κ ≡ false
 solid k.Blank is = absurd cc
 solid _ is = refl
 

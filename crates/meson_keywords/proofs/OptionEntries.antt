@@ -11,7 +11,7 @@ use Rattle.meson_edit.specs.Edits.{with_value}
 use Rattle.meson_calls.specs.Calls as calls
 use Rattle.meson_keywords.specs.declared.keys.ElementKind.TheVariants as element
 use Rattle.meson_keywords.specs.Effects.{after_equals, is_of, value_of_option}
-use Rattle.meson_keywords.specs.KeywordEdits.{all_known, element_text, passing}
+use Rattle.meson_keywords.specs.KeywordEdits.{all_of_kind, element_text, passing}
 use Rattle.meson_keywords.specs.Options.{key_text, keys_known, option_text}
 use Rattle.meson_keywords.specs.Tasks.{before_equals}
 use Rattle.meson_steps.specs.WrittenTexts.{string_of}
@@ -70,13 +70,13 @@ new_pair name value name_utf8 value_utf8 =
     record { is = ap (calls.is name) (literal_value name name_utf8) ∙ same_name name; value = literal_value value value_utf8 }
 
 -- an element that has another value, among known ones
-pub known_plain : (name value : List ℕ) (front : List (Argument Nowhere)) (x : Argument Nowhere) (back : List (Argument Nowhere)) → all_known element.Text (front ++ x ∷ back) ≡ true
+pub known_plain : (name value : List ℕ) (front : List (Argument Nowhere)) (x : Argument Nowhere) (back : List (Argument Nowhere)) → all_of_kind element.Text (front ++ x ∷ back) ≡ true
     → (entry : List ℕ) → NewEntry name value (plain (string_of entry)) → NewEntry name value (with_value (string_of entry) x)
 known_plain name value [] (plain e) back known entry new = new
 known_plain name value [] (named s x e) back known entry new = absurd cc
 known_plain name value [] (pair s e f) back known entry new = absurd cc
 known_plain name value (y ∷ front) x back known entry new =
-    known_plain name value front x back (rest_known name (is_some (element_text element.Text y)) (all_known element.Text (front ++ x ∷ back)) known) entry new
+    known_plain name value front x back (rest_known name (is_some (element_text element.Text y)) (all_of_kind element.Text (front ++ x ∷ back)) known) entry new
 
 pub known_pair : (name value : List ℕ) → IsUtf8 value → (front : List (Argument Nowhere)) (x : Argument Nowhere) (back : List (Argument Nowhere)) → keys_known (front ++ x ∷ back) ≡ true → is_of name x ≡ true
     → NewEntry name value (with_value (string_of value) x)

@@ -13,10 +13,10 @@ use Rattle.meson_calls.specs.declared.call.CallRef.{CallRef}
 use Rattle.meson_keywords.specs.declared.keys.ElementKind.TheVariants as element
 use Rattle.meson_calls.specs.Calls.{Numbered}
 use Rattle.meson_keywords.specs.Changing.{CallStands}
-use Rattle.meson_keywords.specs.Effects.{Holds, TaskLeaves, held, held_in, holds, is_of, value_of_option, put_behind}
-use Rattle.meson_keywords.specs.KeywordEdits.{all_known, behind_all, keyword_in, one_at_most, passing, removed_from, shape, text_in}
+use Rattle.meson_keywords.specs.Effects.{Holds, TaskLeaves, held_elements, held_in, holds, is_of, value_of_option, put_behind}
+use Rattle.meson_keywords.specs.KeywordEdits.{all_of_kind, behind_all, keyword_in, one_at_most, passing, removed_from, value_shape, text_in}
 use Rattle.meson_keywords.specs.Keys.{written_list, written_named}
-use Rattle.meson_steps.specs.ListSteps.{MayStand}
+use Rattle.meson_steps.specs.ListSteps.{MayStandBetween}
 use Rattle.meson_keywords.specs.Options.{entries, has_key, is_entry, is_entry_element, keys_known, of_lone, option_text, options_key, set_by_shape, set_by_value, set_in_dictionary, set_in_list, set_in_lone, set_option_steps, set_option_there, written_pair}
 use Rattle.meson_calls.specs.Project.{child}
 use Rattle.meson_steps.specs.WrittenTexts.{string_of, written_text}
@@ -58,7 +58,7 @@ old_value name (pair s e f) is = (f, refl)
 
 -- ---- the value of the first entry becomes a text, and then later ones go
 
-module _ (k : Container) (name text : List ℕ) (utf8 : IsUtf8 text) (c : CallRef) (trees : List Plain) (all : All MayStand trees) (s : CallStands c trees) (n : ℕ) (a : Argument Nowhere) (l : Listing Nowhere)
+module _ (k : Container) (name text : List ℕ) (utf8 : IsUtf8 text) (c : CallRef) (trees : List Plain) (all : All MayStandBetween trees) (s : CallStands c trees) (n : ℕ) (a : Argument Nowhere) (l : Listing Nowhere)
     (there : nth (xs c trees all s) n ≡ Some a) (value : value_of a ≡ Some (k.make l)) (m : ℕ) (more : List ℕ) (is : passing (is_of name) 0 (elements l) ≡ m ∷ more) where
   abbrev pub first : FirstPasses (is_of name) (elements l) 0 m more
   first = first_passes (is_of name) (elements l) 0 m more is
@@ -107,7 +107,7 @@ module _ (k : Container) (name text : List ℕ) (utf8 : IsUtf8 text) (c : CallRe
 
 -- ---- the task
 
-module _ (name value : List ℕ) (name_utf8 : IsUtf8 name) (value_utf8 : IsUtf8 value) (c : CallRef) (trees : List Plain) (all : All MayStand trees) (s : CallStands c trees) (steps : List Step) where
+module _ (name value : List ℕ) (name_utf8 : IsUtf8 name) (value_utf8 : IsUtf8 value) (c : CallRef) (trees : List Plain) (all : All MayStandBetween trees) (s : CallStands c trees) (steps : List Step) where
   abbrev arguments : List (Argument Nowhere)
   arguments = xs c trees all s
 
@@ -135,26 +135,26 @@ module _ (name value : List ℕ) (name_utf8 : IsUtf8 name) (value_utf8 : IsUtf8 
     there : nth arguments n ≡ Some a
     there = is_it options_key arguments n e o
 
-    set_done : (made : List Step) (k : Container) → ((l : Listing Nowhere) → held (k.make l) ≡ elements l) → (ys : List (Argument Nowhere)) → HoldsAs k c made trees n a arguments ys → Sets (held e) ys → made ≡ steps
+    set_done : (made : List Step) (k : Container) → ((l : Listing Nowhere) → held_elements (k.make l) ≡ elements l) → (ys : List (Argument Nowhere)) → HoldsAs k c made trees n a arguments ys → Sets (held_elements e) ys → made ≡ steps
         → Does (set_option name value) c trees steps
     set_done made k all_held ys h sets same =
         subst (Does (set_option name value) c trees) same
         (does (set_option name value) c trees all s made _ h.leaves
-        (set_is (held e) ys (ap held_in (value_there options_key arguments n e o)) sets _ (holds_these options_key k all_held c made trees arguments ys n e o h)))
+        (set_is (held_elements e) ys (ap held_in (value_there options_key arguments n e o)) sets _ (holds_these options_key k all_held c made trees arguments ys n e o h)))
 
     in_lone : (text : List ℕ) → text_in element.Text e ≡ Some text → (b : Bool) → is_entry name (text_in element.Text e) ≡ b → set_in_lone c n entry b ≡ steps → Does (set_option name value) c trees steps
     in_lone text lone true is same =
         let one = lone_held element.Text e text lone in
         let new = string_of entry in
-        let sets : Sets (held e) (plain new ∷ []) = λ bare_name. lone_put name value (held e) (plain e) (plain new) one is (new_entry name value entry_utf8 bare_name) in
+        let sets : Sets (held_elements e) (plain new ∷ []) = λ bare_name. lone_put name value (held_elements e) (plain e) (plain new) one is (new_entry name value entry_utf8 bare_name) in
         subst (Does (set_option name value) c trees) same
         (does (set_option name value) c trees all s _ _
         (one_leaves c trees all s (Replace c.path.steps n (written_text entry)) _ (replace_step c trees all s n a e (written_text entry) there refl (text_written entry entry_utf8) tt (omega arith)))
-        (set_is (held e) (plain new ∷ []) (ap held_in (value_there options_key arguments n e o)) sets _
+        (set_is (held_elements e) (plain new ∷ []) (ap held_in (value_there options_key arguments n e o)) sets _
         (record { holds = ap held_in (put_value options_key arguments n e o new); others = put_others options_key arguments n e o new })))
     in_lone text lone false is same =
         let one = lone_held element.Text e text lone in
-        let sets : Sets (held e) (plain e ∷ put_behind element.Text (entry ∷ [])) = λ bare_name.
+        let sets : Sets (held_elements e) (plain e ∷ put_behind element.Text (entry ∷ [])) = λ bare_name.
         subst (λ bs. EntrySet name value bs (plain e ∷ plain (string_of entry) ∷ [])) (sym one)
         (behind_set name value (plain e ∷ []) (plain (string_of entry)) (ap (λ t. if t then 0 ∷ [] else []) is) (new_entry name value entry_utf8 bare_name)) in
         set_done _ array_container (λ l. refl) (plain e ∷ put_behind element.Text (entry ∷ []))
@@ -164,7 +164,7 @@ module _ (name value : List ℕ) (name_utf8 : IsUtf8 name) (value_utf8 : IsUtf8 
     lone_set None is h = absurd cc
     lone_set (Some text) is h = in_lone text is (is_entry name (text_in element.Text e)) refl cc
 
-  in_list : (n : ℕ) (l : Listing Nowhere) (o : OneNamed options_key arguments n (array l)) → all_known element.Text (elements l) ≡ true → (ns : List ℕ) → passing (is_of name) 0 (elements l) ≡ ns
+  in_list : (n : ℕ) (l : Listing Nowhere) (o : OneNamed options_key arguments n (array l)) → all_of_kind element.Text (elements l) ≡ true → (ns : List ℕ) → passing (is_of name) 0 (elements l) ≡ ns
       → set_in_list (child c n) (length (elements l)) entry ns ≡ steps → Does (set_option name value) c trees steps
   in_list n l o known [] is same =
       set_done n (array l) o _ array_container (λ m. refl) (elements l ++ put_behind element.Text (entry ∷ []))
@@ -176,7 +176,7 @@ module _ (name value : List ℕ) (name_utf8 : IsUtf8 name) (value_utf8 : IsUtf8 
       let f = first_passes (is_of name) (elements l) 0 m more is in
       let sets : Sets (elements l) (f.front ++ with_value (string_of entry) f.it ∷ filter (λ x. not (is_of name x)) f.back) = λ bare_name.
       first_put name value (elements l) m more f (with_value (string_of entry) f.it)
-      (known_plain name value f.front f.it f.back (subst (λ ys. all_known element.Text ys ≡ true) f.joined known) entry (new_entry name value entry_utf8 bare_name)) in
+      (known_plain name value f.front f.it f.back (subst (λ ys. all_of_kind element.Text ys ≡ true) f.joined known) entry (new_entry name value entry_utf8 bare_name)) in
       set_done n (array l) o _ array_container (λ j. refl) _ (first_holds array_container name entry entry_utf8 c trees all s n a l there refl m more is) sets same
 
   in_dictionary : (n : ℕ) (l : Listing Nowhere) (o : OneNamed options_key arguments n (dictionary l)) → keys_known (elements l) ≡ true → (ns : List ℕ) → passing (is_of name) 0 (elements l) ≡ ns
@@ -204,9 +204,9 @@ module _ (name value : List ℕ) (name_utf8 : IsUtf8 name) (value_utf8 : IsUtf8 
       (known_pair name value value_utf8 f.front f.it f.back (subst (λ ys. keys_known ys ≡ true) f.joined known) f.passes) in
       set_done n (dictionary l) o _ dictionary_container (λ j. refl) _ (first_holds dictionary_container name value value_utf8 c trees all s n a l there refl m more is) sets same
 
-  set_value : (n : ℕ) (e : Expression Nowhere) (o : OneNamed options_key arguments n e) → set_by_shape c n name entry (text_in element.Text e) (shape e) ≡ Ok steps → Does (set_option name value) c trees steps
+  set_value : (n : ℕ) (e : Expression Nowhere) (o : OneNamed options_key arguments n e) → set_by_shape c n name entry (text_in element.Text e) (value_shape e) ≡ Ok steps → Does (set_option name value) c trees steps
   set_value n (array l) o h =
-      let known = of_list_known (all_known element.Text (elements l)) (set_in_list (child c n) (length (elements l)) entry (passing (is_entry_element name) 0 (elements l))) steps h in
+      let known = of_list_known (all_of_kind element.Text (elements l)) (set_in_list (child c n) (length (elements l)) entry (passing (is_entry_element name) 0 (elements l))) steps h in
       in_list n l o known.0 (passing (is_of name) 0 (elements l)) refl (ap (set_in_list (child c n) (length (elements l)) entry) (sym (entry_tests name (elements l) 0 known.0)) ∙ known.1)
   set_value n e o h = lone_set n e o (text_in element.Text e) refl h
 

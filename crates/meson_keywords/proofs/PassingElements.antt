@@ -6,7 +6,7 @@ use Rattle.std.proofs.Math.Seq.{take-append_seam}
 use Rattle.meson_syntax.specs.Tree.{Nowhere, Argument, plain, named, pair}
 use Rattle.meson_keywords.specs.declared.keys.ElementKind.TheVariants as element
 use Rattle.meson_keywords.specs.Effects.{is_of}
-use Rattle.meson_keywords.specs.KeywordEdits.{all_known, element_text, passing}
+use Rattle.meson_keywords.specs.KeywordEdits.{all_of_kind, element_text, passing}
 use Rattle.meson_keywords.specs.Options.{has_key, is_entry_element, key_text, keys_known}
 use Rattle.meson_keywords.proofs.KeptArguments.{drop_seam}
 
@@ -127,11 +127,11 @@ module _ (name : List ℕ) where
   rest_known true b is = is
   rest_known false b is = absurd cc
 
-  pub entry_tests : (ys : List (Argument Nowhere)) (start : ℕ) → all_known element.Text ys ≡ true → passing (is_entry_element name) start ys ≡ passing (is_of name) start ys
+  pub entry_tests : (ys : List (Argument Nowhere)) (start : ℕ) → all_of_kind element.Text ys ≡ true → passing (is_entry_element name) start ys ≡ passing (is_of name) start ys
   entry_tests [] start known = refl
   entry_tests (plain e ∷ ys) start known =
       same_by (plain e) (is_of name (plain e)) start (passing (is_entry_element name) (suc start) ys) (passing (is_of name) (suc start) ys)
-      (entry_tests ys (suc start) (rest_known (is_some (element_text element.Text (plain e))) (all_known element.Text ys) known))
+      (entry_tests ys (suc start) (rest_known (is_some (element_text element.Text (plain e))) (all_of_kind element.Text ys) known))
   entry_tests (named s x e ∷ ys) start known = absurd cc
   entry_tests (pair s e f ∷ ys) start known = absurd cc
 

@@ -14,9 +14,9 @@ use Rattle.meson_calls.specs.declared.refusal.Refusal.TheVariants.{NotLiteral}
 use Rattle.meson_calls.specs.Calls as calls
 use Rattle.meson_calls.specs.Calls.{Numbered}
 use Rattle.meson_keywords.specs.Changing.{CallStands}
-use Rattle.meson_keywords.specs.Effects.{Holds, OptionIs, held, held_in, holds, is_of, value_of_option, values_of}
-use Rattle.meson_keywords.specs.KeywordEdits.{all_known, keyword_in, one_at_most, passing, remove_by_shape, remove_equal, remove_lone, remove_steps, remove_there, removed_from, says, shape, text_in}
-use Rattle.meson_steps.specs.ListSteps.{MayStand}
+use Rattle.meson_keywords.specs.Effects.{Holds, OptionIs, held_elements, held_in, holds, is_of, value_of_option, values_of}
+use Rattle.meson_keywords.specs.KeywordEdits.{all_of_kind, keyword_in, one_at_most, passing, remove_by_shape, remove_equal, remove_lone, remove_steps, remove_there, removed_from, says, value_shape, text_in}
+use Rattle.meson_steps.specs.ListSteps.{MayStandBetween}
 use Rattle.meson_keywords.specs.Options.{delete_by_shape, delete_by_value, delete_lone, delete_option_steps, delete_option_there, entries, has_key, is_entry, is_entry_element, keys_known, of_list, of_lone, options_key}
 use Rattle.meson_calls.specs.Project.{child}
 use Rattle.meson_steps.specs.Steps.{Step, step_in}
@@ -61,7 +61,7 @@ one_fewer [] n within = absurd (omega (arith, within))
 one_fewer (y ∷ ys) zero within = omega arith
 one_fewer (y ∷ ys) (suc n) within = let below : n < length ys = omega (arith, within) in omega (arith, one_fewer ys n below, below)
 
-pub removes_hold : (k : Container) (c : CallRef) (ns : List ℕ) (gone : ℕ) (trees : List Plain) (all : All MayStand trees) (s : CallStands c trees) (n : ℕ) (a : Argument Nowhere) (l : Listing Nowhere) → nth (xs c trees all s) n ≡ Some a → value_of a ≡ Some (k.make l)
+pub removes_hold : (k : Container) (c : CallRef) (ns : List ℕ) (gone : ℕ) (trees : List Plain) (all : All MayStandBetween trees) (s : CallStands c trees) (n : ℕ) (a : Argument Nowhere) (l : Listing Nowhere) → nth (xs c trees all s) n ≡ Some a → value_of a ≡ Some (k.make l)
     → Left gone (length (elements l)) ns → HoldsAs k c (removed_from (child c n) gone ns) trees n a (xs c trees all s) (left_after gone ns (elements l))
 removes_hold k c [] gone trees all s n a l there value left = holds_same k c trees all s n a l there value
 removes_hold k c (m ∷ ns) gone trees all s n a l there value left =
@@ -79,7 +79,7 @@ removes_hold k c (m ∷ ns) gone trees all s n a l there value left =
     (subst (λ zs. HoldsAs k c (removed_from (child c n) (suc gone) ns) after n b outer (left_after (suc gone) ns zs)) (elements_with l ys) later)
 
 -- the elements that pass a test go
-passing_hold : (k : Container) (test : Argument Nowhere → Bool) (c : CallRef) (trees : List Plain) (all : All MayStand trees) (s : CallStands c trees) (n : ℕ) (a : Argument Nowhere) (l : Listing Nowhere) → nth (xs c trees all s) n ≡ Some a
+passing_hold : (k : Container) (test : Argument Nowhere → Bool) (c : CallRef) (trees : List Plain) (all : All MayStandBetween trees) (s : CallStands c trees) (n : ℕ) (a : Argument Nowhere) (l : Listing Nowhere) → nth (xs c trees all s) n ≡ Some a
     → value_of a ≡ Some (k.make l) → HoldsAs k c (removed_from (child c n) 0 (passing test 0 (elements l))) trees n a (xs c trees all s) (filter (λ x. not (test x)) (elements l))
 passing_hold k test c trees all s n a l there value =
     let many : 0 - 0 + length (elements l) ≡ length (elements l) = omega arith in
@@ -91,7 +91,7 @@ passing_hold k test c trees all s n a l there value =
 abbrev pub done_with : List Step → Result (List Step) Refusal
 done_with steps = Ok steps
 
-module _ (key : List ℕ) (k : ElementKind) (wanted : List ℕ) (c : CallRef) (trees : List Plain) (all : All MayStand trees) (s : CallStands c trees) (steps : List Step) where
+module _ (key : List ℕ) (k : ElementKind) (wanted : List ℕ) (c : CallRef) (trees : List Plain) (all : All MayStandBetween trees) (s : CallStands c trees) (steps : List Step) where
   abbrev outer : List (Argument Nowhere)
   outer = xs c trees all s
 
@@ -112,7 +112,7 @@ module _ (key : List ℕ) (k : ElementKind) (wanted : List ℕ) (c : CallRef) (t
     abbrev a : Argument Nowhere
     a = it key outer n e o
 
-    lone_by : (b : Bool) → says k wanted (plain e) ≡ b → held e ≡ plain e ∷ [] → done_with (if b then step_in c (Remove c.path.steps n) ∷ [] else []) ≡ Ok steps → Does (remove key k wanted) c trees steps
+    lone_by : (b : Bool) → says k wanted (plain e) ≡ b → held_elements e ≡ plain e ∷ [] → done_with (if b then step_in c (Remove c.path.steps n) ∷ [] else []) ≡ Ok steps → Does (remove key k wanted) c trees steps
     lone_by true is lone h =
         let same : step_in c (Remove c.path.steps n) ∷ [] ≡ steps = cc in
         let nothing : [] ≡ fewer (values_of key outer) = sym (ap fewer (value_there key outer n e o) ∙ ap (filter other) lone ∙ ap (λ t. cond (not t) (plain e ∷ []) []) is) in
@@ -121,7 +121,7 @@ module _ (key : List ℕ) (k : ElementKind) (wanted : List ℕ) (c : CallRef) (t
         (record { holds = ap held_in (gone_value key outer n e o) ∙ nothing; others = gone_others key outer n e o }))
     lone_by false is lone h =
         let same : [] ≡ steps = cc in
-        let all_stay : held e ≡ filter other (held e) = lone ∙ sym (ap (filter other) lone ∙ ap (λ t. cond (not t) (plain e ∷ []) []) is) in
+        let all_stay : held_elements e ≡ filter other (held_elements e) = lone ∙ sym (ap (filter other) lone ∙ ap (λ t. cond (not t) (plain e ∷ []) []) is) in
         same_holds (e ∷ []) (value_there key outer n e o) all_stay same
 
     remove_from_lone : (t : Option (List ℕ)) → text_in k e ≡ t → remove_lone c n key wanted t ≡ Ok steps → Does (remove key k wanted) c trees steps
@@ -143,9 +143,9 @@ module _ (key : List ℕ) (k : ElementKind) (wanted : List ℕ) (c : CallRef) (t
     remove_from_array known [] hold h = nothing_by known hold h
     remove_from_array known (m ∷ ns) hold h = removed_as (removed_from (child c n) 0 (m ∷ ns)) hold cc
 
-  remove_value : (n : ℕ) (e : Expression Nowhere) (o : OneNamed key outer n e) → remove_by_shape c n key k wanted (text_in k e) (shape e) ≡ Ok steps → Does (remove key k wanted) c trees steps
+  remove_value : (n : ℕ) (e : Expression Nowhere) (o : OneNamed key outer n e) → remove_by_shape c n key k wanted (text_in k e) (value_shape e) ≡ Ok steps → Does (remove key k wanted) c trees steps
   remove_value n (array l) o h =
-      remove_from_array n (array l) o (all_known k (elements l)) (passing (says k wanted) 0 (elements l))
+      remove_from_array n (array l) o (all_of_kind k (elements l)) (passing (says k wanted) 0 (elements l))
       (passing_hold array_container (says k wanted) c trees all s n (it key outer n (array l) o) l (is_it key outer n (array l) o) refl) h
   remove_value n e o h = remove_from_lone n e o (text_in k e) refl h
 
@@ -164,7 +164,7 @@ pub of_list_known : (known : Bool) (made steps : List Step) → of_list known ma
 of_list_known true made steps h = (refl, cc)
 of_list_known false made steps h = absurd cc
 
-module _ (name : List ℕ) (c : CallRef) (trees : List Plain) (all : All MayStand trees) (s : CallStands c trees) (steps : List Step) where
+module _ (name : List ℕ) (c : CallRef) (trees : List Plain) (all : All MayStandBetween trees) (s : CallStands c trees) (steps : List Step) where
   abbrev arguments : List (Argument Nowhere)
   arguments = xs c trees all s
 
@@ -179,12 +179,12 @@ module _ (name : List ℕ) (c : CallRef) (trees : List Plain) (all : All MayStan
     arguments = h.others;
   }
 
-  deleted : (made : List Step) (n : ℕ) (e : Expression Nowhere) (o : OneNamed options_key arguments n e) (k : Container) → ((l : Listing Nowhere) → held (k.make l) ≡ elements l)
-      → HoldsAs k c made trees n (it options_key arguments n e o) arguments (kept (held e)) → made ≡ steps → Does (delete_option name) c trees steps
+  deleted : (made : List Step) (n : ℕ) (e : Expression Nowhere) (o : OneNamed options_key arguments n e) (k : Container) → ((l : Listing Nowhere) → held_elements (k.make l) ≡ elements l)
+      → HoldsAs k c made trees n (it options_key arguments n e o) arguments (kept (held_elements e)) → made ≡ steps → Does (delete_option name) c trees steps
   deleted made n e o k all_held h same =
       subst (Does (delete_option name) c trees) same
       (does (delete_option name) c trees all s made _ h.leaves
-      (gone_is (held e) (ap held_in (value_there options_key arguments n e o)) _ (holds_these options_key k all_held c made trees arguments (kept (held e)) n e o h)))
+      (gone_is (held_elements e) (ap held_in (value_there options_key arguments n e o)) _ (holds_these options_key k all_held c made trees arguments (kept (held_elements e)) n e o h)))
 
   nothing_gone : (bs : List (Argument Nowhere)) → holds options_key arguments ≡ bs → bs ≡ kept bs → [] ≡ steps → Does (delete_option name) c trees steps
   nothing_gone bs is all_stay same =
@@ -195,21 +195,21 @@ module _ (name : List ℕ) (c : CallRef) (trees : List Plain) (all : All MayStan
     lone_deleted : (text : List ℕ) → text_in element.Text e ≡ Some text → (b : Bool) → is_entry name (text_in element.Text e) ≡ b → delete_lone c n b ≡ steps → Does (delete_option name) c trees steps
     lone_deleted text lone true is same =
         let one = lone_held element.Text e text lone in
-        let nothing : kept (held e) ≡ [] = ap kept one ∙ ap (λ t. cond (not t) (plain e ∷ []) []) is in
+        let nothing : kept (held_elements e) ≡ [] = ap kept one ∙ ap (λ t. cond (not t) (plain e ∷ []) []) is in
         subst (Does (delete_option name) c trees) same
         (does (delete_option name) c trees all s _ _ (one_leaves c trees all s (Remove c.path.steps n) _ (remove_step c trees all s n (it options_key arguments n e o) (is_it options_key arguments n e o)))
-        (gone_is (held e) (ap held_in (value_there options_key arguments n e o)) _ (record { holds = ap held_in (gone_value options_key arguments n e o) ∙ sym nothing; others = gone_others options_key arguments n e o })))
+        (gone_is (held_elements e) (ap held_in (value_there options_key arguments n e o)) _ (record { holds = ap held_in (gone_value options_key arguments n e o) ∙ sym nothing; others = gone_others options_key arguments n e o })))
     lone_deleted text lone false is same =
         let one = lone_held element.Text e text lone in
-        nothing_gone (held e) (ap held_in (value_there options_key arguments n e o)) (one ∙ sym (ap kept one ∙ ap (λ t. cond (not t) (plain e ∷ []) []) is)) same
+        nothing_gone (held_elements e) (ap held_in (value_there options_key arguments n e o)) (one ∙ sym (ap kept one ∙ ap (λ t. cond (not t) (plain e ∷ []) []) is)) same
 
     lone_by_text : (t : Option (List ℕ)) → text_in element.Text e ≡ t → of_lone t (delete_lone c n (is_entry name (text_in element.Text e))) ≡ Ok steps → Does (delete_option name) c trees steps
     lone_by_text None is h = absurd cc
     lone_by_text (Some text) is h = lone_deleted text is (is_entry name (text_in element.Text e)) refl cc
 
-  delete_value : (n : ℕ) (e : Expression Nowhere) (o : OneNamed options_key arguments n e) → delete_by_shape c n name (text_in element.Text e) (shape e) ≡ Ok steps → Does (delete_option name) c trees steps
+  delete_value : (n : ℕ) (e : Expression Nowhere) (o : OneNamed options_key arguments n e) → delete_by_shape c n name (text_in element.Text e) (value_shape e) ≡ Ok steps → Does (delete_option name) c trees steps
   delete_value n (array l) o h =
-      let known = of_list_known (all_known element.Text (elements l)) (removed_from (child c n) 0 (passing (is_entry_element name) 0 (elements l))) steps h in
+      let known = of_list_known (all_of_kind element.Text (elements l)) (removed_from (child c n) 0 (passing (is_entry_element name) 0 (elements l))) steps h in
       let same = ap (removed_from (child c n) 0) (sym (entry_tests name (elements l) 0 known.0)) ∙ known.1 in
       deleted _ n (array l) o array_container (λ m. refl)
       (passing_hold array_container (is_of name) c trees all s n (it options_key arguments n (array l) o) l (is_it options_key arguments n (array l) o) refl) same

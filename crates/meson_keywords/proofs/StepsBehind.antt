@@ -22,7 +22,7 @@ use Rattle.meson_keywords.specs.KeywordEdits.{add_to_lone, remove_lone, the_valu
 use Rattle.meson_steps.specs.ListSteps.{bare}
 use Rattle.meson_steps.specs.Steps.{Step}
 use Rattle.meson_steps.specs.Meanings.{AreBehind, AreMeant}
-use Rattle.meson_keywords.specs.Tasking.{found_view}
+use Rattle.meson_keywords.specs.Tasking.{found_argument}
 
 -- ---- steps
 
@@ -57,15 +57,15 @@ all_meant whole meant before after is none b = record { steps = b.steps; is = is
 
 -- ---- the value in hand
 
-module _ (f : Option (Numbered (Expression Span)) → Result (List Step) Refusal) (key given source : List ℕ) (same : given ≡ key) (args : List Arg) (o : Option Found) (found : the_value given (args_view source args) ≡ Ok (option_map (found_view source) o)) where
-  pub by_value : then_ok (the_value key (args_view source args)) f ≡ f (option_map (found_view source) o)
+module _ (f : Option (Numbered (Expression Span)) → Result (List Step) Refusal) (key given source : List ℕ) (same : given ≡ key) (args : List Arg) (o : Option Found) (found : the_value given (args_view source args) ≡ Ok (option_map (found_argument source) o)) where
+  pub by_value : then_ok (the_value key (args_view source args)) f ≡ f (option_map (found_argument source) o)
   by_value = ap (λ k. then_ok (the_value k (args_view source args)) f) (sym same) ∙ ap (λ r. then_ok r f) found
 
-  pub by_some : (v : Found) → o ≡ Some v → then_ok (the_value key (args_view source args)) f ≡ f (Some (found_view source v))
-  by_some v is = by_value ∙ ap (λ p. f (option_map (found_view source) p)) is
+  pub by_some : (v : Found) → o ≡ Some v → then_ok (the_value key (args_view source args)) f ≡ f (Some (found_argument source v))
+  by_some v is = by_value ∙ ap (λ p. f (option_map (found_argument source) p)) is
 
   pub by_none : o ≡ None → then_ok (the_value key (args_view source args)) f ≡ f None
-  by_none is = by_value ∙ ap (λ p. f (option_map (found_view source) p)) is
+  by_none is = by_value ∙ ap (λ p. f (option_map (found_argument source) p)) is
 
 -- ---- a lone value
 

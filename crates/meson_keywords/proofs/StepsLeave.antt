@@ -12,17 +12,17 @@ use Rattle.meson_keywords.specs.Effects as effects
 use Rattle.meson_keywords.specs.Tasking.{MayBeWritten}
 use Rattle.meson_keywords.specs.Tasks.{Task}
 use Rattle.meson_keywords.specs.TaskSteps.{elements_in, task_steps, tasks_steps, trees_after}
-use Rattle.meson_steps.specs.ListSteps.{AreDoable, MayStand, none, one}
+use Rattle.meson_steps.specs.ListSteps.{AreDoable, MayStandBetween, none, one}
 use Rattle.meson_steps.specs.Steps.{Step}
 use Rattle.meson_keywords.proofs.CallEdits.{after_one}
 use Rattle.meson_keywords.proofs.TaskMay.{task_does}
 
 -- ---- steps behind steps
 
-stand_after : (steps : List Step) (trees : List Plain) → All MayStand trees → AreDoable steps trees → All MayStand (trees_after steps trees)
+stand_after : (steps : List Step) (trees : List Plain) → All MayStandBetween trees → AreDoable steps trees → All MayStandBetween (trees_after steps trees)
 stand_after steps trees all (none now) = all
 stand_after steps trees all (one st more now between writes is stand rest) =
-    subst (All MayStand) (sym (after_one st more trees between is rest)) (stand_after more between stand rest)
+    subst (All MayStandBetween) (sym (after_one st more trees between is rest)) (stand_after more between stand rest)
 
 record Joined (here later : List Step) (trees : List Plain) : Type 0 where
   doable : AreDoable (here ++ later) trees
@@ -46,9 +46,9 @@ record Leave (ts : List Task) (c : CallRef) (trees : List Plain) (steps : List S
 
 -- tasks that may be done wherever the call stands
 abbrev LeaveAll : List Task → CallRef → Type 0
-LeaveAll ts c = (trees : List Plain) → All MayStand trees → CallStands c trees → (steps : List Step) → tasks_steps c ts trees ≡ Ok steps → Leave ts c trees steps
+LeaveAll ts c = (trees : List Plain) → All MayStandBetween trees → CallStands c trees → (steps : List Step) → tasks_steps c ts trees ≡ Ok steps → Leave ts c trees steps
 
-module _ (t : Task) (may : MayBeWritten t) (ts : List Task) (c : CallRef) (later_ones : LeaveAll ts c) (trees : List Plain) (all : All MayStand trees) (s : CallStands c trees) (steps : List Step) where
+module _ (t : Task) (may : MayBeWritten t) (ts : List Task) (c : CallRef) (later_ones : LeaveAll ts c) (trees : List Plain) (all : All MayStandBetween trees) (s : CallStands c trees) (steps : List Step) where
   later_leave : (here : List Step) → task_steps t c (elements_in c trees) ≡ Ok here → (r : Result (List Step) Refusal) → tasks_steps c ts (trees_after here trees) ≡ r → then_ok r (λ later. Ok (here ++ later)) ≡ Ok steps
       → Leave (t ∷ ts) c trees steps
   later_leave here is (Err e) rest made = absurd cc

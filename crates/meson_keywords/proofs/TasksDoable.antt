@@ -13,10 +13,10 @@ use Rattle.meson_keywords.specs.declared.keys.ElementKind.{ElementKind}
 use Rattle.meson_keywords.specs.declared.keys.ElementKind.TheVariants as element
 use Rattle.meson_calls.specs.Calls.{Numbered}
 use Rattle.meson_keywords.specs.Changing.{CallStands}
-use Rattle.meson_keywords.specs.Effects.{Holds, coming, held, held_in, put_behind, values_of}
-use Rattle.meson_keywords.specs.KeywordEdits.{add_by_shape, add_steps, add_there, add_to_lone, all_behind, behind_all, element_text, new_elements, shape, text_in, delete_steps, delete_there, keyword_in, once_steps, one_at_most, set_steps, set_there}
+use Rattle.meson_keywords.specs.Effects.{Holds, coming, held_elements, held_in, put_behind, values_of}
+use Rattle.meson_keywords.specs.KeywordEdits.{add_by_shape, add_steps, add_there, add_to_lone, all_behind, behind_all, element_text, new_elements, value_shape, text_in, delete_steps, delete_there, keyword_in, once_steps, one_at_most, set_steps, set_there}
 use Rattle.meson_keywords.specs.Keys.{element_node, written_list, written_named}
-use Rattle.meson_steps.specs.ListSteps.{MayStand}
+use Rattle.meson_steps.specs.ListSteps.{MayStandBetween}
 use Rattle.meson_calls.specs.Project.{child}
 use Rattle.meson_steps.specs.Names.{distinct_by}
 use Rattle.meson_steps.specs.Steps.{Step, step_in}
@@ -32,7 +32,7 @@ use Rattle.meson_keywords.proofs.NamedWritten.{named_written}
 use Rattle.meson_keywords.proofs.WrittenElements.{distinct_elements, list_level, list_shallow, list_written}
 
 module _ (key : List ℕ) (new : Written (Expression Nowhere)) (is : IsIdentifier key) (utf8 : IsUtf8 key) (writes : IsWritten new.bytes (expression_words new.node)) (level : LevelExpression new.node) (small : expression_depth new.node ≤ 1)
-    (c : CallRef) (trees : List Plain) (all : All MayStand trees) (s : CallStands c trees) (steps : List Step) where
+    (c : CallRef) (trees : List Plain) (all : All MayStandBetween trees) (s : CallStands c trees) (steps : List Step) where
   abbrev outer : List (Argument Nowhere)
   outer = xs c trees all s
 
@@ -91,7 +91,7 @@ once_does key c trees all s steps made =
 
 -- ---- what an argument holds
 
-pub holds_these : (key : List ℕ) (k : Container) → ((l : _) → held (k.make l) ≡ elements l) → (c : CallRef) (steps : List Step) (trees : List Plain) (outer ys : List (Argument Nowhere)) (n : ℕ) (e : Expression Nowhere) (o : OneNamed key outer n e)
+pub holds_these : (key : List ℕ) (k : Container) → ((l : _) → held_elements (k.make l) ≡ elements l) → (c : CallRef) (steps : List Step) (trees : List Plain) (outer ys : List (Argument Nowhere)) (n : ℕ) (e : Expression Nowhere) (o : OneNamed key outer n e)
     (h : HoldsAs k c steps trees n (it key outer n e o) outer ys) → Holds key ys outer (exchanged_at n (it key outer n e o) outer (k.make h.list))
 holds_these key k all_held c steps trees outer ys n e o h = record {
   holds = ap held_in (put_value key outer n e o (k.make h.list)) ∙ all_held h.list ∙ h.are;
@@ -107,7 +107,7 @@ flat_text element.Identifier (identifier s x) text is = refl
 flat_text element.Identifier _ text is = absurd cc
 
 -- a value that is an element holds itself alone
-pub lone_held : (k : ElementKind) (e : Expression Nowhere) (text : List ℕ) → text_in k e ≡ Some text → held e ≡ plain e ∷ []
+pub lone_held : (k : ElementKind) (e : Expression Nowhere) (text : List ℕ) → text_in k e ≡ Some text → held_elements e ≡ plain e ∷ []
 lone_held element.Text (string s q x) text is = refl
 lone_held element.Text _ text is = absurd cc
 lone_held element.Identifier (identifier s x) text is = refl
@@ -117,7 +117,7 @@ put_twice_mapped : (k : ElementKind) (values : List (List ℕ)) → map plain (m
 put_twice_mapped k [] = refl
 put_twice_mapped k (t ∷ ts) = ap (λ l. plain (element_node k t) ∷ l) (put_twice_mapped k ts)
 
-module _ (key : List ℕ) (k : ElementKind) (values : List (List ℕ)) (is_key : IsIdentifier key) (utf8 : IsUtf8 key) (are : AreElements k values) (c : CallRef) (trees : List Plain) (all : All MayStand trees) (s : CallStands c trees) (steps : List Step) where
+module _ (key : List ℕ) (k : ElementKind) (values : List (List ℕ)) (is_key : IsIdentifier key) (utf8 : IsUtf8 key) (are : AreElements k values) (c : CallRef) (trees : List Plain) (all : All MayStandBetween trees) (s : CallStands c trees) (steps : List Step) where
   abbrev arguments : List (Argument Nowhere)
   arguments = xs c trees all s
 
@@ -139,12 +139,12 @@ module _ (key : List ℕ) (k : ElementKind) (values : List (List ℕ)) (is_key :
       let fresh = distinct_by (text ∷ []) values in
       let same : step_in c (Wrap c.path.steps n) ∷ all_behind (child c n) 1 (new_elements k (text ∷ []) values) ≡ steps = cc in
       let lone = lone_held k e text is in
-      let texts : filter_map (element_text k) (held e) ≡ text ∷ [] = ap (filter_map (element_text k)) lone ∙ ap (λ x. cons_option x []) is in
-      let whole : plain e ∷ put_behind k fresh ≡ grown (e ∷ []) = ap (λ l. l ++ put_behind k fresh) (sym lone) ∙ ap (λ l. held e ++ put_behind k (distinct_by l values)) (sym texts) in
+      let texts : filter_map (element_text k) (held_elements e) ≡ text ∷ [] = ap (filter_map (element_text k)) lone ∙ ap (λ x. cons_option x []) is in
+      let whole : plain e ∷ put_behind k fresh ≡ grown (e ∷ []) = ap (λ l. l ++ put_behind k fresh) (sym lone) ∙ ap (λ l. held_elements e ++ put_behind k (distinct_by l values)) (sym texts) in
       grows _ n e o (plain e ∷ put_behind k fresh)
       (wrap_holds c k fresh (distinct_elements k (text ∷ []) values are) trees all s n (it key arguments n e o) e (is_it key arguments n e o) refl (flat_text k e text is)) whole same
 
-  add_value : (n : ℕ) (e : Expression Nowhere) (o : OneNamed key arguments n e) → add_by_shape c n key k values (text_in k e) (shape e) ≡ Ok steps → Does (add key k values) c trees steps
+  add_value : (n : ℕ) (e : Expression Nowhere) (o : OneNamed key arguments n e) → add_by_shape c n key k values (text_in k e) (value_shape e) ≡ Ok steps → Does (add key k values) c trees steps
   add_value n (array l) o h =
       let known = filter_map (element_text k) (elements l) in
       let same : all_behind (child c n) (length (elements l)) (new_elements k known values) ≡ steps = cc in
@@ -156,7 +156,7 @@ module _ (key : List ℕ) (k : ElementKind) (values : List (List ℕ)) (is_key :
   add_by [] none h =
       let new = written_list k values in
       let same : behind_all c (length arguments) (written_named key new) ∷ [] ≡ steps = cc in
-      let holds_new : held new.node ≡ put_behind k values = elements_back (map plain (map (element_node k) values)) ∙ put_twice_mapped k values in
+      let holds_new : held_elements new.node ≡ put_behind k values = elements_back (map plain (map (element_node k) values)) ∙ put_twice_mapped k values in
       let whole : put_behind k values ≡ grown (values_of key arguments) = ap grown (sym (none_there key arguments none)) in
       subst (Does (add key k values) c trees) same
       (does (add key k values) c trees all s _ _

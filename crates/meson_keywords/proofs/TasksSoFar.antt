@@ -15,8 +15,8 @@ use Rattle.meson_keywords.specs.declared.keys.ElementKind.{ElementKind}
 use Rattle.meson_keywords.specs.declared.keys.ValueKind.{ValueKind}
 use Rattle.meson_calls.specs.declared.refusal.Refusal.{Refusal}
 use Rattle.meson_keywords.specs.declared.tasks.Task as code
-use Rattle.meson_keywords.specs.Keys.{kind_of, list_kind, list_values, written_value}
-use Rattle.meson_steps.specs.WrittenValues.{WrittenFor, written}
+use Rattle.meson_keywords.specs.Keys.{key_kind, list_kind, list_values, written_value}
+use Rattle.meson_steps.specs.WrittenValues.{WrittenFor, value_written}
 use Rattle.meson_keywords.specs.Options.{option_text}
 use Rattle.meson_keywords.specs.Tasks.{Task, set, delete, add, remove, once, set_option, delete_option, checked_option, each_made, set_entry, delete_entry, add_entry, remove_entry, set_option_entry, delete_option_entry}
 use Rattle.meson_keywords.specs.Tasking.{TaskIs, MayBeWritten, IsValue, TasksAre, none, one, AreTasks, AreTasksBehind, TasksSoFar}
@@ -74,13 +74,13 @@ module _ {X : Type 0} (make : X → Result (List Task) Refusal) (xs : List X) (w
 -- ---- entries
 
 module _ (r : Role) (pair : List ℕ × Setting) where
-  pub add_no_list : (e : Refusal) → then_ok (kind_of r pair.0) (list_kind pair.0) ≡ Err e → add_entry r pair ≡ Err e
+  pub add_no_list : (e : Refusal) → then_ok (key_kind r pair.0) (list_kind pair.0) ≡ Err e → add_entry r pair ≡ Err e
   add_no_list e is = ap (λ k. then_ok k (λ x. then_ok (list_values x pair.0 pair.1) (λ values. Ok (add pair.0 x values ∷ [])))) is
 
-  pub remove_no_list : (e : Refusal) → then_ok (kind_of r pair.0) (list_kind pair.0) ≡ Err e → remove_entry r pair ≡ Err e
+  pub remove_no_list : (e : Refusal) → then_ok (key_kind r pair.0) (list_kind pair.0) ≡ Err e → remove_entry r pair ≡ Err e
   remove_no_list e is = ap (λ k. then_ok k (λ x. then_ok (list_values x pair.0 pair.1) (λ values. Ok (once pair.0 ∷ map (remove pair.0 x) values)))) is
 
-  module _ (k : ElementKind) (is_list : then_ok (kind_of r pair.0) (list_kind pair.0) ≡ Ok k) where
+  module _ (k : ElementKind) (is_list : then_ok (key_kind r pair.0) (list_kind pair.0) ≡ Ok k) where
     pub add_by_kind : add_entry r pair ≡ then_ok (list_values k pair.0 pair.1) (λ values. Ok (add pair.0 k values ∷ []))
     add_by_kind = ap (λ o. then_ok o (λ x. then_ok (list_values x pair.0 pair.1) (λ values. Ok (add pair.0 x values ∷ [])))) is_list
 
@@ -99,13 +99,13 @@ module _ (r : Role) (pair : List ℕ × Setting) where
     pub remove_made : (vs : List (List ℕ)) → list_values k pair.0 pair.1 ≡ Ok vs → remove_entry r pair ≡ Ok (once pair.0 ∷ map (remove pair.0 k) vs)
     remove_made vs is = remove_by_kind ∙ ap (λ o. then_ok o (λ values. Ok (once pair.0 ∷ map (remove pair.0 k) values))) is
 
-  module _ (k : ValueKind) (is_kind : kind_of r pair.0 ≡ Ok k) (new : Written (Expression Nowhere)) (is_value : written_value k pair.0 pair.1 ≡ Ok new) where
+  module _ (k : ValueKind) (is_kind : key_kind r pair.0 ≡ Ok k) (new : Written (Expression Nowhere)) (is_value : written_value k pair.0 pair.1 ≡ Ok new) where
     pub set_made : set_entry r pair ≡ Ok (set pair.0 new ∷ [])
     set_made =
         ap (λ o. then_ok o (λ x. then_ok (written_value x pair.0 pair.1) (λ w. Ok (set pair.0 w ∷ [])))) is_kind
         ∙ ap (λ o. then_ok o (λ w. Ok (set pair.0 w ∷ []))) is_value
 
-pub delete_made : (r : Role) (key : List ℕ) (k : ValueKind) → kind_of r key ≡ Ok k → delete_entry r key ≡ Ok (delete key ∷ [])
+pub delete_made : (r : Role) (key : List ℕ) (k : ValueKind) → key_kind r key ≡ Ok k → delete_entry r key ≡ Ok (delete key ∷ [])
 delete_made r key k is = ap (λ o. then_ok o (λ x. Ok (delete key ∷ []))) is
 
 pub set_option_made : (pair : List ℕ × List ℕ) → checked_option pair.0 ≡ Ok tt → set_option_entry pair ≡ Ok (set_option pair.0 pair.1 ∷ [])
@@ -116,7 +116,7 @@ delete_option_made name is = ap (λ o. then_ok o (λ _. Ok (delete_option name �
 
 -- ---- what may be written
 
-pub value_may : (bytes : List ℕ) (w : WrittenFor bytes) → IsValue (written bytes w)
+pub value_may : (bytes : List ℕ) (w : WrittenFor bytes) → IsValue (value_written bytes w)
 value_may bytes w = (w.writes, w.level, w.shallow)
 
 equals_text : IsUtf8 (codes "=")

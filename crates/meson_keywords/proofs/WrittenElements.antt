@@ -28,7 +28,7 @@ use Rattle.meson_edit.specs.Places.{IsWritten}
 use Rattle.meson_keywords.specs.declared.keys.ElementKind.{ElementKind}
 use Rattle.meson_keywords.specs.declared.keys.ElementKind.TheVariants as element
 use Rattle.meson_calls.specs.declared.refusal.Refusal.{Refusal}
-use Rattle.meson_keywords.specs.Keys.{are_elements, element_bytes, element_node, is_identifier, truth, written_list, written_switch}
+use Rattle.meson_keywords.specs.Keys.{are_elements, element_bytes, element_node, is_identifier, truth_text, written_list, written_switch}
 use Rattle.meson_keywords.proofs.IdentifierTexts.{identifier_true}
 use Rattle.meson_calls.specs.Roles.{one_of}
 use Rattle.meson_steps.specs.WrittenTexts.{comma_between}
@@ -231,9 +231,9 @@ unfolding encode_utf8
 false_text = (codes "false", (refl, refl))
 
 abbrev truth_item : Bool → Lexeme
-truth_item b = record { kind = boolean_kind b; text = truth b }
+truth_item b = record { kind = boolean_kind b; text = truth_text b }
 
-pub switch_new : (b : Bool) → WrittenFor (truth b)
+pub switch_new : (b : Bool) → WrittenFor (truth_text b)
 switch_new true = record {
   node = (written_switch true).node;
   writes = record {
@@ -271,7 +271,7 @@ list_is : (e : ElementKind) (ts : List (List ℕ)) (bytes : List ℕ) → bytes 
 unfolding list_new
 list_is e ts bytes is are = subst (IsSet (Ok (written_list e ts))) (sym is) (record { new = list_new e ts are; is = refl })
 
-pub switch_is : (b : Bool) (bytes : List ℕ) → bytes ≡ truth b → IsSet (Ok (written_switch b)) bytes
+pub switch_is : (b : Bool) (bytes : List ℕ) → bytes ≡ truth_text b → IsSet (Ok (written_switch b)) bytes
 unfolding switch_new
 switch_is true bytes is = subst (IsSet (Ok (written_switch true))) (sym is) (record { new = switch_new true; is = refl })
 switch_is false bytes is = subst (IsSet (Ok (written_switch false))) (sym is) (record { new = switch_new false; is = refl })
@@ -280,7 +280,7 @@ pub list_set : (e : ElementKind) (ts : List (List ℕ)) → AreElements e ts →
 list_set e ts are (Ok bytes) is = list_is e ts bytes is are
 list_set e ts are (Err x) is = tt
 
-pub switch_set : (b : Bool) (r : Result (List ℕ) Refusal) → IfOk r (λ x. x ≡ truth b) → IfOk r (IsSet (Ok (written_switch b)))
+pub switch_set : (b : Bool) (r : Result (List ℕ) Refusal) → IfOk r (λ x. x ≡ truth_text b) → IfOk r (IsSet (Ok (written_switch b)))
 switch_set b (Ok bytes) is = switch_is b bytes is
 switch_set b (Err x) is = tt
 

@@ -14,7 +14,7 @@ use Rattle.meson_calls.specs.Loading.{IsProject, Loaded, project}
 use Rattle.meson_calls.specs.Project.{Placed}
 use Rattle.meson_steps.specs.declared.command.Setting.{Setting}
 use Rattle.meson_steps.specs.declared.command.Setting.TheVariants as setting
-use Rattle.meson_steps.specs.ListSteps.{MayStand}
+use Rattle.meson_steps.specs.ListSteps.{MayStandBetween}
 use Rattle.meson_steps.specs.Names.{distinct_by}
 use Rattle.meson_steps.specs.Results.{plain_trees}
 use Rattle.meson_steps.specs.Steps.{Step}
@@ -41,15 +41,15 @@ abbrev pub others : {S : Type 0} → List ℕ → List (Argument S) → List (Ar
 others key xs = filter (is_other key) xs
 
 -- what a value holds: the elements of an array or a dictionary; any other value is its own only element
-abbrev pub held : {S : Type 0} → Expression S → List (Argument S)
-held (array l) = elements l
-held (dictionary l) = elements l
-held e = plain e ∷ []
+abbrev pub held_elements : {S : Type 0} → Expression S → List (Argument S)
+held_elements (array l) = elements l
+held_elements (dictionary l) = elements l
+held_elements e = plain e ∷ []
 
 -- nothing where there is no value (of more than one value no command changes any)
 abbrev pub held_in : {S : Type 0} → List (Expression S) → List (Argument S)
 held_in [] = []
-held_in (v ∷ more) = held v
+held_in (v ∷ more) = held_elements v
 
 -- what the argument of a name holds
 abbrev pub holds : {S : Type 0} → List ℕ → List (Argument S) → List (Argument S)
@@ -70,7 +70,7 @@ pub record Holds (key : List ℕ) (now before after : List (Argument Nowhere)) :
 -- the values that come: each that is not there yet, once; where the argument is absent, all as they are handed in
 abbrev pub coming : ElementKind → List (List ℕ) → List (Expression Nowhere) → List (List ℕ)
 coming k values [] = values
-coming k values (v ∷ more) = distinct_by (filter_map (element_text k) (held v)) values
+coming k values (v ∷ more) = distinct_by (filter_map (element_text k) (held_elements v)) values
 
 abbrev pub put_behind : ElementKind → List (List ℕ) → List (Argument Nowhere)
 put_behind k values = map (λ text. plain (element_node k text)) values
@@ -84,14 +84,14 @@ after_equals (b ∷ bs) = if b == 61 then Some bs else after_equals bs
 
 -- An entry is a text, NAME=VALUE, or a pair of two texts.
 abbrev pub option_name : {S : Type 0} → Argument S → Option (List ℕ)
-option_name (plain e) = option_and_then before_equals (calls.literal e)
+option_name (plain e) = option_and_then before_equals (calls.literal_of e)
 option_name (named s x e) = None
-option_name (pair s k v) = calls.literal k
+option_name (pair s k v) = calls.literal_of k
 
 abbrev pub value_of_option : {S : Type 0} → Argument S → Option (List ℕ)
-value_of_option (plain e) = option_and_then after_equals (calls.literal e)
+value_of_option (plain e) = option_and_then after_equals (calls.literal_of e)
 value_of_option (named s x e) = None
-value_of_option (pair s k v) = calls.literal v
+value_of_option (pair s k v) = calls.literal_of v
 
 abbrev pub is_of : {S : Type 0} → List ℕ → Argument S → Bool
 is_of name x = calls.is name (option_name x)
@@ -121,7 +121,7 @@ pub data TasksLeave : List Task → (before after : List (Argument Nowhere)) →
 -- ---- the law: the steps that tasks mean, done where the call stands, leave of it what these tasks leave
 
 abbrev pub StepsLeave : Type 0
-StepsLeave = (ts : List Task) → AllByRecursion MayBeWritten ts → (c : CallRef) (trees : List Plain) → All MayStand trees → CallStands c trees → (steps : List Step)
+StepsLeave = (ts : List Task) → AllByRecursion MayBeWritten ts → (c : CallRef) (trees : List Plain) → All MayStandBetween trees → CallStands c trees → (steps : List Step)
     → tasks_steps c ts trees ≡ Ok steps → TasksLeave ts (elements_in c trees) (elements_in c (trees_after steps trees))
 
 -- ---- a request whose texts are UTF-8

@@ -5,7 +5,7 @@ use Rattle.meson_lex.specs.Bytes.{is_word_start, is_word_byte}
 use Rattle.meson_lex.specs.Kinds.{spelling, reserved}
 use Rattle.meson_lex.specs.Literals.{literal}
 use Rattle.meson_splice.specs.Patch.{then_ok}
-use Rattle.meson_syntax.specs.Tree.{bare as bare_name, Nowhere, Expression, identifier, boolean, Argument, plain, named}
+use Rattle.meson_syntax.specs.Tree.{bare_name, Nowhere, Expression, identifier, boolean, Argument, plain, named}
 use Rattle.meson_edit.specs.Edits.{Written}
 use Rattle.meson_calls.specs.declared.call.Role.{Role}
 use Rattle.meson_calls.specs.declared.call.Role.TheVariants as role
@@ -18,7 +18,7 @@ use Rattle.meson_keywords.specs.declared.keys.ValueKind.TheVariants as value
 use Rattle.meson_calls.specs.declared.refusal.Refusal.{Refusal}
 use Rattle.meson_calls.specs.declared.refusal.Refusal.TheVariants.{UnknownKey, WrongKind, BadName}
 use Rattle.meson_calls.specs.Roles.{one_of}
-use Rattle.meson_steps.specs.WrittenTexts.{string_of, array_of, comma_between, written_text}
+use Rattle.meson_steps.specs.WrittenTexts.{string_of, array_of_values, comma_between, written_text}
 
 -- ---- which keyword arguments, by what the call is one of
 
@@ -50,8 +50,8 @@ identifier_list_keys role.Target = codes "dependencies" ∷ codes "link_with" �
 abbrev pub is_key : Role → List ℕ → Bool
 is_key r key = one_of (text_keys r) key || (one_of (switch_keys r) key || (one_of (text_list_keys r) key || one_of (identifier_list_keys r) key))
 
-abbrev pub kind_of : Role → List ℕ → Result ValueKind Refusal
-kind_of r key =
+abbrev pub key_kind : Role → List ℕ → Result ValueKind Refusal
+key_kind r key =
     if one_of (text_keys r) key then Ok value.Text
     else (if one_of (switch_keys r) key then Ok value.Switch
     else (if one_of (text_list_keys r) key then Ok (value.ListOf element.Text)
@@ -84,13 +84,13 @@ written_element e text = record { bytes = element_bytes e text; node = plain (el
 
 -- the array of these, on one line
 abbrev pub written_list : ElementKind → List (List ℕ) → Written (Expression Nowhere)
-written_list e texts = record { bytes = 91 ∷ (comma_between (map (element_bytes e) texts) ++ 93 ∷ []); node = array_of (map (element_node e) texts) }
+written_list e texts = record { bytes = 91 ∷ (comma_between (map (element_bytes e) texts) ++ 93 ∷ []); node = array_of_values (map (element_node e) texts) }
 
-abbrev pub truth : Bool → List ℕ
-truth b = if b then codes "true" else codes "false"
+abbrev pub truth_text : Bool → List ℕ
+truth_text b = if b then codes "true" else codes "false"
 
 abbrev pub written_switch : Bool → Written (Expression Nowhere)
-written_switch b = record { bytes = truth b; node = boolean tt b }
+written_switch b = record { bytes = truth_text b; node = boolean tt b }
 
 -- `KEY: VALUE`
 abbrev pub written_named : List ℕ → Written (Expression Nowhere) → Written (Argument Nowhere)
@@ -105,15 +105,15 @@ truth_of (setting.Bool b) = Some b
 truth_of (setting.Texts ts) = None
 
 -- the values for a list: one text is a list of one
-abbrev pub texts_of : Setting → Option (List (List ℕ))
-texts_of (setting.Text t) = Some (t ∷ [])
-texts_of (setting.Bool b) = None
-texts_of (setting.Texts ts) = Some ts
+abbrev pub setting_texts : Setting → Option (List (List ℕ))
+setting_texts (setting.Text t) = Some (t ∷ [])
+setting_texts (setting.Bool b) = None
+setting_texts (setting.Texts ts) = Some ts
 
-abbrev pub text_of : Setting → Option (List ℕ)
-text_of (setting.Text t) = Some t
-text_of (setting.Bool b) = None
-text_of (setting.Texts ts) = None
+abbrev pub setting_text : Setting → Option (List ℕ)
+setting_text (setting.Text t) = Some t
+setting_text (setting.Bool b) = None
+setting_text (setting.Texts ts) = None
 
 -- a value that is there; without one the key takes no such value
 abbrev pub of_kind : {X : Type 0} → List ℕ → Option X → Result X Refusal
@@ -130,11 +130,11 @@ checked_values e texts = if are_elements e texts then Ok texts else Err BadName
 
 -- the elements that a list gets
 abbrev pub list_values : ElementKind → List ℕ → Setting → Result (List (List ℕ)) Refusal
-list_values e key s = then_ok (of_kind key (texts_of s)) (checked_values e)
+list_values e key s = then_ok (of_kind key (setting_texts s)) (checked_values e)
 
 -- what is written for a value of a kind
 abbrev pub written_value : ValueKind → List ℕ → Setting → Result (Written (Expression Nowhere)) Refusal
-written_value value.Text key s = of_kind key (option_map written_text (text_of s))
+written_value value.Text key s = of_kind key (option_map written_text (setting_text s))
 written_value value.Switch key s = of_kind key (option_map written_switch (truth_of s))
 written_value (value.ListOf e) key s = then_ok (list_values e key s) (λ texts. Ok (written_list e texts))
 

@@ -65,7 +65,7 @@ name_of _ = None
 
 -- the text of an element, if it is one of the kind: a string with a value, or a variable
 abbrev pub text_in : {S : Type 0} → ElementKind → Expression S → Option (List ℕ)
-text_in element.Text e = calls.literal e
+text_in element.Text e = calls.literal_of e
 text_in element.Identifier e = name_of e
 
 abbrev pub element_text : {S : Type 0} → ElementKind → Argument S → Option (List ℕ)
@@ -77,17 +77,17 @@ abbrev pub says : {S : Type 0} → ElementKind → List ℕ → Argument S → B
 says k text x = calls.is text (element_text k x)
 
 -- whether all are elements of the kind
-abbrev pub all_known : {S : Type 0} → ElementKind → List (Argument S) → Bool
-all_known k xs = list_all (λ x. is_some (element_text k x)) xs
+abbrev pub all_of_kind : {S : Type 0} → ElementKind → List (Argument S) → Bool
+all_of_kind k xs = list_all (λ x. is_some (element_text k x)) xs
 
 -- a value is an array of elements, or another expression
-pub data Shape (S : Type 0) : Type 0 where
-  an_array : List (Argument S) → Shape S
-  no_array : Shape S
+pub data ValueShape (S : Type 0) : Type 0 where
+  an_array : List (Argument S) → ValueShape S
+  no_array : ValueShape S
 
-abbrev pub shape : {S : Type 0} → Expression S → Shape S
-shape (array l) = an_array (elements l)
-shape _ = no_array
+abbrev pub value_shape : {S : Type 0} → Expression S → ValueShape S
+value_shape (array l) = an_array (elements l)
+value_shape _ = no_array
 
 -- ---- set and delete
 
@@ -119,14 +119,14 @@ add_to_lone c n key k values None = Err (NotLiteral key)
 add_to_lone c n key k values (Some text) = Ok (step_in c (Wrap c.path.steps n) ∷ all_behind (child c n) 1 (new_elements k (text ∷ []) values))
 
 -- An array gets each value that is no element yet, behind its last one.
-abbrev pub add_by_shape : {S : Type 0} → CallRef → ℕ → List ℕ → ElementKind → List (List ℕ) → Option (List ℕ) → Shape S → Result (List Step) Refusal
+abbrev pub add_by_shape : {S : Type 0} → CallRef → ℕ → List ℕ → ElementKind → List (List ℕ) → Option (List ℕ) → ValueShape S → Result (List Step) Refusal
 add_by_shape c n key k values text (an_array xs) = Ok (all_behind (child c n) (length xs) (new_elements k (filter_map (element_text k) xs) values))
 add_by_shape c n key k values text no_array = add_to_lone c n key k values text
 
 -- An absent argument is inserted as the list of the values, as they are handed in.
 abbrev pub add_there : {S : Type 0} → CallRef → ℕ → List ℕ → ElementKind → List (List ℕ) → Option (Numbered (Expression S)) → Result (List Step) Refusal
 add_there c many key k values None = Ok (behind_all c many (written_named key (written_list k values)) ∷ [])
-add_there c many key k values (Some v) = add_by_shape c v.number key k values (text_in k v.value) (shape v.value)
+add_there c many key k values (Some v) = add_by_shape c v.number key k values (text_in k v.value) (value_shape v.value)
 
 abbrev pub add_steps : {S : Type 0} → CallRef → List (Argument S) → List ℕ → ElementKind → List (List ℕ) → Result (List Step) Refusal
 add_steps c xs key k values = then_ok (the_value key xs) (add_there c (length xs) key k values)
@@ -143,13 +143,13 @@ abbrev pub remove_equal : CallRef → List ℕ → Bool → List ℕ → Result 
 remove_equal list key known [] = if known then Ok [] else Err (NotLiteral key)
 remove_equal list key known (n ∷ more) = Ok (removed_from list 0 (n ∷ more))
 
-abbrev pub remove_by_shape : {S : Type 0} → CallRef → ℕ → List ℕ → ElementKind → List ℕ → Option (List ℕ) → Shape S → Result (List Step) Refusal
-remove_by_shape c n key k value text (an_array xs) = remove_equal (child c n) key (all_known k xs) (passing (says k value) 0 xs)
+abbrev pub remove_by_shape : {S : Type 0} → CallRef → ℕ → List ℕ → ElementKind → List ℕ → Option (List ℕ) → ValueShape S → Result (List Step) Refusal
+remove_by_shape c n key k value text (an_array xs) = remove_equal (child c n) key (all_of_kind k xs) (passing (says k value) 0 xs)
 remove_by_shape c n key k value text no_array = remove_lone c n key value text
 
 abbrev pub remove_there : {S : Type 0} → CallRef → List ℕ → ElementKind → List ℕ → Option (Numbered (Expression S)) → Result (List Step) Refusal
 remove_there c key k value None = Ok []
-remove_there c key k value (Some v) = remove_by_shape c v.number key k value (text_in k v.value) (shape v.value)
+remove_there c key k value (Some v) = remove_by_shape c v.number key k value (text_in k v.value) (value_shape v.value)
 
 abbrev pub remove_steps : {S : Type 0} → CallRef → List (Argument S) → List ℕ → ElementKind → List ℕ → Result (List Step) Refusal
 remove_steps c xs key k value = then_ok (the_value key xs) (remove_there c key k value)

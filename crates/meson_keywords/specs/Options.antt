@@ -17,7 +17,7 @@ use Rattle.meson_steps.specs.WrittenTexts.{string_of, written_text}
 use Rattle.meson_steps.specs.Steps.{Step}
 use Rattle.meson_keywords.specs.Keys.{written_element, written_list, written_named}
 use Rattle.meson_keywords.specs.Tasks.{before_equals}
-use Rattle.meson_keywords.specs.KeywordEdits.{the_value, behind_all, removed_from, passing, text_in, element_text, all_known, Shape, an_array, no_array, shape}
+use Rattle.meson_keywords.specs.KeywordEdits.{the_value, behind_all, removed_from, passing, text_in, element_text, all_of_kind, ValueShape, an_array, no_array, value_shape}
 
 abbrev pub options_key : List ℕ
 options_key = codes "default_options"
@@ -60,12 +60,12 @@ of_lone (Some text) steps = Ok steps
 abbrev pub of_list : Bool → List Step → Result (List Step) Refusal
 of_list known steps = if known then Ok steps else Err (NotLiteral options_key)
 
-abbrev pub set_by_shape : {S : Type 0} → CallRef → ℕ → (name entry : List ℕ) → Option (List ℕ) → Shape S → Result (List Step) Refusal
-set_by_shape c n name entry text (an_array xs) = of_list (all_known element.Text xs) (set_in_list (child c n) (length xs) entry (passing (is_entry_element name) 0 xs))
+abbrev pub set_by_shape : {S : Type 0} → CallRef → ℕ → (name entry : List ℕ) → Option (List ℕ) → ValueShape S → Result (List Step) Refusal
+set_by_shape c n name entry text (an_array xs) = of_list (all_of_kind element.Text xs) (set_in_list (child c n) (length xs) entry (passing (is_entry_element name) 0 xs))
 set_by_shape c n name entry text no_array = of_lone text (set_in_lone c n entry (is_entry name text))
 
-abbrev pub delete_by_shape : {S : Type 0} → CallRef → ℕ → List ℕ → Option (List ℕ) → Shape S → Result (List Step) Refusal
-delete_by_shape c n name text (an_array xs) = of_list (all_known element.Text xs) (removed_from (child c n) 0 (passing (is_entry_element name) 0 xs))
+abbrev pub delete_by_shape : {S : Type 0} → CallRef → ℕ → List ℕ → Option (List ℕ) → ValueShape S → Result (List Step) Refusal
+delete_by_shape c n name text (an_array xs) = of_list (all_of_kind element.Text xs) (removed_from (child c n) 0 (passing (is_entry_element name) 0 xs))
 delete_by_shape c n name text no_array = of_lone text (delete_lone c n (is_entry name text))
 
 -- ---- a dictionary: each option is a key, a literal
@@ -79,7 +79,7 @@ entries _ = None
 abbrev pub key_text : {S : Type 0} → Argument S → Option (List ℕ)
 key_text (plain e) = None
 key_text (named s x e) = None
-key_text (pair s k v) = calls.literal k
+key_text (pair s k v) = calls.literal_of k
 
 abbrev pub has_key : {S : Type 0} → List ℕ → Argument S → Bool
 has_key name x = calls.is name (key_text x)
@@ -100,12 +100,12 @@ set_in_dictionary list many name value (n ∷ more) = step_in list (Replace list
 -- by the entries, if the value is a dictionary, and else by its text and its shape
 abbrev pub set_by_value : {S : Type 0} → CallRef → ℕ → (name value : List ℕ) → Expression S → Option (List (Argument S)) → Result (List Step) Refusal
 set_by_value c n name value e (Some xs) = of_list (keys_known xs) (set_in_dictionary (child c n) (length xs) name value (passing (has_key name) 0 xs))
-set_by_value c n name value e None = set_by_shape c n name (option_text name value) (text_in element.Text e) (shape e)
+set_by_value c n name value e None = set_by_shape c n name (option_text name value) (text_in element.Text e) (value_shape e)
 
 -- Every entry of the option goes. The dictionary stays, and be it empty.
 abbrev pub delete_by_value : {S : Type 0} → CallRef → ℕ → List ℕ → Expression S → Option (List (Argument S)) → Result (List Step) Refusal
 delete_by_value c n name e (Some xs) = of_list (keys_known xs) (removed_from (child c n) 0 (passing (has_key name) 0 xs))
-delete_by_value c n name e None = delete_by_shape c n name (text_in element.Text e) (shape e)
+delete_by_value c n name e None = delete_by_shape c n name (text_in element.Text e) (value_shape e)
 
 -- ---- whether `default_options:` is there or not
 

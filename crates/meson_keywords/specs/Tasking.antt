@@ -25,7 +25,7 @@ use Rattle.meson_keywords.specs.declared.tasks.Task.TheVariants as code_task
 use Rattle.meson_calls.specs.Calls.{Numbered}
 use Rattle.meson_keywords.specs.KeywordEdits.{says}
 use Rattle.meson_keywords.specs.Options.{has_key, is_entry_element}
-use Rattle.meson_steps.specs.WrittenValues.{WrittenFor, written}
+use Rattle.meson_steps.specs.WrittenValues.{WrittenFor, value_written}
 use Rattle.meson_keywords.specs.Tasks.{Task, set, delete, add, remove, once, set_option, delete_option, each_made, set_entry, delete_entry, add_entry, remove_entry, set_option_entry, delete_option_entry}
 
 -- ---- what a command asks
@@ -91,7 +91,7 @@ MayBeWritten (delete_option name) = Unit {0}
 
 -- The code's task is this one.
 abbrev pub TaskIs : code.Task → Task → Type 0
-TaskIs (code_task.Set key new) t = (w : WrittenFor new) × (t ≡ set key.now (written new w))
+TaskIs (code_task.Set key new) t = (w : WrittenFor new) × (t ≡ set key.now (value_written new w))
 TaskIs (code_task.Delete key) t = t ≡ delete key.now
 TaskIs (code_task.Add key kind values) t = t ≡ add key.now kind (map (λ x. x.now) values.items)
 TaskIs (code_task.Remove key kind value) t = t ≡ remove key.now kind value.now
@@ -123,8 +123,8 @@ pub record TasksSoFar (whole rest : Result (List Task) Refusal) (cs : List code.
 
 -- ---- elements
 
-abbrev pub found_view : List ℕ → Found → Numbered (Expression Span)
-found_view source f = record { number = f.number; value = expr_view source f.value.now }
+abbrev pub found_argument : List ℕ → Found → Numbered (Expression Span)
+found_argument source f = record { number = f.number; value = expr_view source f.value.now }
 
 abbrev pub test_of : {S : Type 0} → Test → Argument S → Bool
 test_of (test.Says kind text) x = says kind text.now x

@@ -9,7 +9,7 @@ use Rattle.meson_steps.specs.declared.command.Setting.{Setting}
 use Rattle.meson_keywords.specs.declared.keys.ElementKind.{ElementKind}
 use Rattle.meson_calls.specs.declared.refusal.Refusal.{Refusal}
 use Rattle.meson_calls.specs.declared.refusal.Refusal.TheVariants.{BadName}
-use Rattle.meson_keywords.specs.Keys.{kind_of, list_kind, list_values, written_value}
+use Rattle.meson_keywords.specs.Keys.{key_kind, list_kind, list_values, written_value}
 
 -- one change of a call
 pub data Task : Type 0 where
@@ -35,20 +35,20 @@ each_made make [] = Ok []
 each_made make (x ∷ xs) = then_ok (make x) (λ here. then_ok (each_made make xs) (λ later. Ok (here ++ later)))
 
 abbrev pub set_entry : Role → List ℕ × Setting → Result (List Task) Refusal
-set_entry r pair = then_ok (kind_of r pair.0) (λ k. then_ok (written_value k pair.0 pair.1) (λ new. Ok (set pair.0 new ∷ [])))
+set_entry r pair = then_ok (key_kind r pair.0) (λ k. then_ok (written_value k pair.0 pair.1) (λ new. Ok (set pair.0 new ∷ [])))
 
 -- of a deleted argument no value is asked
 abbrev pub delete_entry : Role → List ℕ → Result (List Task) Refusal
-delete_entry r key = then_ok (kind_of r key) (λ k. Ok (delete key ∷ []))
+delete_entry r key = then_ok (key_kind r key) (λ k. Ok (delete key ∷ []))
 
 abbrev pub add_entry : Role → List ℕ × Setting → Result (List Task) Refusal
 add_entry r pair =
-    then_ok (then_ok (kind_of r pair.0) (list_kind pair.0)) (λ e. then_ok (list_values e pair.0 pair.1) (λ values. Ok (add pair.0 e values ∷ [])))
+    then_ok (then_ok (key_kind r pair.0) (list_kind pair.0)) (λ e. then_ok (list_values e pair.0 pair.1) (λ values. Ok (add pair.0 e values ∷ [])))
 
 -- one value after another; without values the argument may still be there once only
 abbrev pub remove_entry : Role → List ℕ × Setting → Result (List Task) Refusal
 remove_entry r pair =
-    then_ok (then_ok (kind_of r pair.0) (list_kind pair.0)) (λ e. then_ok (list_values e pair.0 pair.1) (λ values. Ok (once pair.0 ∷ map (remove pair.0 e) values)))
+    then_ok (then_ok (key_kind r pair.0) (list_kind pair.0)) (λ e. then_ok (list_values e pair.0 pair.1) (λ values. Ok (once pair.0 ∷ map (remove pair.0 e) values)))
 
 -- ---- options: each is one text, NAME=VALUE
 

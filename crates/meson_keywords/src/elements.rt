@@ -5,14 +5,14 @@ ghost use Rattle.std.specs.List.{filter_map, list_any};
 ghost use Rattle.std.specs.Str.{IsUtf8};
 ghost use Rattle.meson_syntax.specs.Grammar.{argument_words, expression_words};
 ghost use Rattle.meson_syntax.specs.View.{arg_view, args_view, expr_view};
-ghost use Rattle.meson_calls.specs.Calls.{is, literal};
+ghost use Rattle.meson_calls.specs.Calls.{is, literal_of};
 ghost use Rattle.meson_calls.specs.GoodLists.{GoodArgs};
-ghost use Rattle.meson_keywords.specs.KeywordEdits.{all_known, an_array, element_text, name_of, no_array, passing, says, shape, text_in, the_value};
+ghost use Rattle.meson_keywords.specs.KeywordEdits.{all_of_kind, an_array, element_text, name_of, no_array, passing, says, value_shape, text_in, the_value};
 ghost use Rattle.meson_keywords.specs.Options.{entries, is_entry, keys_known};
 ghost use Rattle.meson_calls.specs.Picking.{Source};
 ghost use Rattle.meson_steps.specs.Names.{distinct_by};
 ghost use Rattle.meson_calls.specs.Strings.{AreGood};
-ghost use Rattle.meson_keywords.specs.Tasking.{found_view, test_of};
+ghost use Rattle.meson_keywords.specs.Tasking.{found_argument, test_of};
 
 use crate::keys::{ElementKind, key_text};
 use crate::tasks::before_equals;
@@ -52,7 +52,7 @@ pub(crate) fn the_value<'t>(
     requires good { GoodArgs subject.source.now subject.args.now }
     requires utf8 { IsUtf8 key.now }
     ensures good { IfOk result (λ o. MatchOption o (Unit {0}) (λ f. AreGood (expression_words (expr_view subject.entry.source.now f.value.now)))) }
-    ensures found { IfOk result (λ o. the_value key.now (args_view subject.entry.source.now subject.entry.args.now) ≡ Ok (option_map (found_view subject.entry.source.now) o)) }
+    ensures found { IfOk result (λ o. the_value key.now (args_view subject.entry.source.now subject.entry.args.now) ≡ Ok (option_map (found_argument subject.entry.source.now) o)) }
     ensures refused { IfErr result (λ e. e ≢ Refusal.OutOfMemory → the_value key.now (args_view subject.entry.source.now subject.entry.args.now) ≡ Err e) }
 {
     let args = subject.args;
@@ -78,8 +78,8 @@ pub(crate) fn the_value<'t>(
 /// The elements of a value that is an array.
 pub(crate) fn array_in(value: &Expr) -> Option<&[Arg]>
     ensures shape { (source : Source) → MatchOption result
-        (shape (expr_view source value.now) ≡ no_array)
-        (λ args. shape (expr_view source value.now) ≡ an_array (args_view source args.now)) }
+        (value_shape (expr_view source value.now) ≡ no_array)
+        (λ args. value_shape (expr_view source value.now) ≡ an_array (args_view source args.now)) }
     ensures good { (source : Source) → AreGood (expression_words (expr_view source value.now)) → MatchOption result (Unit {0}) (λ args. GoodArgs source args.now) }
 {
     match value {
@@ -164,7 +164,7 @@ pub(crate) fn is_entry(
     value: &Expr,
 ) -> Result<bool, AllocError>
     requires { AreGood (expression_words (expr_view source.now value.now)) }
-    ensures { IfOk result (λ b. b ≡ is_entry name.now (literal (expr_view source.now value.now))) }
+    ensures { IfOk result (λ b. b ≡ is_entry name.now (literal_of (expr_view source.now value.now))) }
 {
     match literal(alloc, source, value)? {
         Some(found) => match before_equals(found.as_str().as_bytes()) {
@@ -233,7 +233,7 @@ pub(crate) fn all_known(
     elements: &[Arg],
 ) -> Result<bool, AllocError>
     requires { GoodArgs source.now elements.now }
-    ensures { IfOk result (λ b. b ≡ all_known kind (args_view source.now elements.now)) }
+    ensures { IfOk result (λ b. b ≡ all_of_kind kind (args_view source.now elements.now)) }
 {
     for i in 0..elements.len() {
         match &elements[i] {

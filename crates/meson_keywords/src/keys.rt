@@ -2,7 +2,7 @@
 
 ghost use Rattle.std.specs.Prelude.{◌≡◌, ◌≢◌, ◌∷◌, [], Err, IfErr, IfOk, Ok, map, true};
 ghost use Rattle.std.specs.Str.{IsUtf8};
-ghost use Rattle.meson_keywords.specs.Keys.{are_elements, identifier_list_keys, is_key, kind_of, list_kind, switch_keys, text_keys, text_list_keys};
+ghost use Rattle.meson_keywords.specs.Keys.{are_elements, identifier_list_keys, is_key, key_kind, list_kind, switch_keys, text_keys, text_list_keys};
 ghost use Rattle.meson_calls.specs.Roles.{one_of};
 ghost use Rattle.meson_keywords.specs.Tasking.{AreElements, IsKey};
 
@@ -113,9 +113,9 @@ pub fn is_key(role: Role, key: &[u8]) -> bool
 /// # Errors
 /// Commands don't change it in such a call, or memory is refused.
 pub(crate) fn kind_of(role: Role, key: &Text) -> Result<ValueKind, Refusal>
-    ensures found { IfOk result (λ k. kind_of role key.now ≡ Ok k) }
+    ensures found { IfOk result (λ k. key_kind role key.now ≡ Ok k) }
     ensures key { IfOk result (λ k. IsKey key.now) }
-    ensures refused { IfErr result (λ e. e ≢ Refusal.OutOfMemory → kind_of role key.now ≡ Err e) }
+    ensures refused { IfErr result (λ e. e ≢ Refusal.OutOfMemory → key_kind role key.now ≡ Err e) }
 {
     let name = key.get().as_bytes();
     if is_text_key(role, name) {

@@ -7,11 +7,11 @@ ghost use Rattle.meson_syntax.specs.Tree.{Argument, Nowhere};
 ghost use Rattle.meson_syntax.specs.Grammar.{expression_words};
 ghost use Rattle.meson_syntax.specs.View.{args_view, expr_view};
 ghost use Rattle.meson_calls.specs.GoodLists.{GoodArgs};
-ghost use Rattle.meson_keywords.specs.KeywordEdits.{add_by_shape, add_steps, add_to_lone, all_behind, all_known, behind_all, delete_steps, once_steps};
-ghost use Rattle.meson_keywords.specs.KeywordEdits.{passing, remove_by_shape, remove_equal, remove_steps, removed_from, says, set_steps, shape, text_in};
+ghost use Rattle.meson_keywords.specs.KeywordEdits.{add_by_shape, add_steps, add_to_lone, all_behind, all_of_kind, behind_all, delete_steps, once_steps};
+ghost use Rattle.meson_keywords.specs.KeywordEdits.{passing, remove_by_shape, remove_equal, remove_steps, removed_from, says, set_steps, value_shape, text_in};
 ghost use Rattle.meson_keywords.specs.Keys.{written_element};
 ghost use Rattle.meson_steps.specs.ListSteps.{bare};
-ghost use Rattle.meson_steps.specs.WrittenValues.{WrittenFor, written};
+ghost use Rattle.meson_steps.specs.WrittenValues.{WrittenFor, value_written};
 ghost use Rattle.meson_calls.specs.Strings.{AreGood};
 ghost use Rattle.meson_steps.specs.Meanings.{AreBehind, AreMeant};
 
@@ -117,9 +117,9 @@ pub(crate) fn set_steps(
 ) -> Result<Vec<ListStep>, Refusal>
     requires { GoodArgs subject.source.now subject.args.now }
     ensures meant { let args = args_view subject.entry.source.now subject.entry.args.now in (w : WrittenFor new) →
-        IfOk result (λ steps. AreMeant (set_steps subject.entry.call.now args key.now (written new w)) steps.items) }
+        IfOk result (λ steps. AreMeant (set_steps subject.entry.call.now args key.now (value_written new w)) steps.items) }
     ensures refused { let args = args_view subject.entry.source.now subject.entry.args.now in (w : WrittenFor new) →
-        IfErr result (λ e. e ≢ Refusal.OutOfMemory → set_steps subject.entry.call.now args key.now (written new w) ≡ Err e) }
+        IfErr result (λ e. e ≢ Refusal.OutOfMemory → set_steps subject.entry.call.now args key.now (value_written new w) ≡ Err e) }
 {
     let key = key.get().as_bytes();
     let found = the_value(alloc, subject, key)?;
@@ -224,9 +224,9 @@ fn add_to_value(
     requires good { AreGood (expression_words (expr_view subject.source.now found.value.now)) }
     requires utf8 { IsUtf8 key.now }
     ensures done { let held = expr_view subject.entry.source.now found.entry.value.now in let texts = map (λ x. x.now) values.now in OnOk result (AreBehind
-        (add_by_shape subject.entry.call.now found.entry.number key.now kind texts (text_in kind held) (shape held)) steps.old.items steps.new.items) }
+        (add_by_shape subject.entry.call.now found.entry.number key.now kind texts (text_in kind held) (value_shape held)) steps.old.items steps.new.items) }
     ensures refused { let held = expr_view subject.entry.source.now found.entry.value.now in let texts = map (λ x. x.now) values.now in IfErr result (λ e.
-        e ≢ Refusal.OutOfMemory → add_by_shape subject.entry.call.now found.entry.number key.now kind texts (text_in kind held) (shape held) ≡ Err e) }
+        e ≢ Refusal.OutOfMemory → add_by_shape subject.entry.call.now found.entry.number key.now kind texts (text_in kind held) (value_shape held) ≡ Err e) }
 {
     match array_in(found.value) {
         Some(elements) => {
@@ -286,9 +286,9 @@ fn remove_from_array(
     requires good { GoodArgs source.now elements.now }
     requires utf8 { IsUtf8 key.now }
     ensures done { let args = args_view source.now elements.now in
-        OnOk result (AreBehind (remove_equal list.now key.now (all_known kind args) (passing (says kind value.now) 0 args)) steps.old.items steps.new.items) }
+        OnOk result (AreBehind (remove_equal list.now key.now (all_of_kind kind args) (passing (says kind value.now) 0 args)) steps.old.items steps.new.items) }
     ensures refused { let args = args_view source.now elements.now in
-        IfErr result (λ e. e ≢ Refusal.OutOfMemory → remove_equal list.now key.now (all_known kind args) (passing (says kind value.now) 0 args) ≡ Err e) }
+        IfErr result (λ e. e ≢ Refusal.OutOfMemory → remove_equal list.now key.now (all_of_kind kind args) (passing (says kind value.now) 0 args) ≡ Err e) }
 {
     let equal = passing(alloc, source, Test::Says(kind, value), elements)?;
     if equal.as_slice().is_empty() && !all_known(alloc, source, kind, elements)? {
@@ -314,9 +314,9 @@ fn remove_from_value(
     requires good { AreGood (expression_words (expr_view subject.source.now found.value.now)) }
     requires utf8 { IsUtf8 key.now }
     ensures done { let held = expr_view subject.entry.source.now found.entry.value.now in let call = subject.entry.call.now in OnOk result (AreBehind
-        (remove_by_shape call found.entry.number key.now kind text.now (text_in kind held) (shape held)) steps.old.items steps.new.items) }
+        (remove_by_shape call found.entry.number key.now kind text.now (text_in kind held) (value_shape held)) steps.old.items steps.new.items) }
     ensures refused { let held = expr_view subject.entry.source.now found.entry.value.now in let call = subject.entry.call.now in
-        IfErr result (λ e. e ≢ Refusal.OutOfMemory → remove_by_shape call found.entry.number key.now kind text.now (text_in kind held) (shape held) ≡ Err e) }
+        IfErr result (λ e. e ≢ Refusal.OutOfMemory → remove_by_shape call found.entry.number key.now kind text.now (text_in kind held) (value_shape held) ≡ Err e) }
 {
     let Found { number, value } = found;
     let source = subject.source;

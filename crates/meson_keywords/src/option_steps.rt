@@ -3,10 +3,10 @@
 ghost use Rattle.std.specs.Prelude.{◌≡◌, ◌≢◌, ◌++◌, ◌∷◌, [], Err, IfErr, IfOk, OnOk, Some, false, length, map, true};
 ghost use Rattle.meson_syntax.specs.Grammar.{expression_words};
 ghost use Rattle.meson_syntax.specs.View.{args_view, expr_view};
-ghost use Rattle.meson_calls.specs.Calls.{literal};
+ghost use Rattle.meson_calls.specs.Calls.{literal_of};
 ghost use Rattle.meson_calls.specs.GoodLists.{GoodArgs};
 ghost use Rattle.meson_calls.specs.Project.{child};
-ghost use Rattle.meson_keywords.specs.KeywordEdits.{all_known, passing, removed_from, shape};
+ghost use Rattle.meson_keywords.specs.KeywordEdits.{all_of_kind, passing, removed_from, value_shape};
 ghost use Rattle.meson_keywords.specs.Keys.{written_list, written_named};
 ghost use Rattle.meson_steps.specs.ListSteps.{bare};
 ghost use Rattle.meson_keywords.specs.Options.{delete_by_shape, delete_by_value, delete_option_steps, entries, has_key, keys_known};
@@ -92,7 +92,7 @@ fn set_in_lone(
     steps: &mut Vec<ListStep>,
 ) -> Result<(), Refusal>
     requires { AreGood (expression_words (expr_view subject.source.now found.value.now)) }
-    ensures done { let same = is_entry name.now (literal (expr_view subject.entry.source.now found.entry.value.now)) in
+    ensures done { let same = is_entry name.now (literal_of (expr_view subject.entry.source.now found.entry.value.now)) in
         OnOk result (map Some steps.new.items ≡ map Some steps.old.items ++ map bare (set_in_lone subject.entry.call.now found.entry.number entry.now same)) }
     ensures refused { IfErr result (λ e. e ≡ Refusal.OutOfMemory) }
 {
@@ -114,9 +114,9 @@ fn set_in_lone(
 /// It does, or memory is refused.
 fn only_literals(alloc: Global, source: &[u8], elements: &[Arg]) -> Result<(), Refusal>
     requires { GoodArgs source.now elements.now }
-    ensures all { OnOk result (all_known ElementKind.Text (args_view source.now elements.now) ≡ true) }
+    ensures all { OnOk result (all_of_kind ElementKind.Text (args_view source.now elements.now) ≡ true) }
     ensures refused { let args = args_view source.now elements.now in
-        IfErr result (λ e. e ≢ Refusal.OutOfMemory → (e ≡ Refusal.NotLiteral options_key) × (all_known ElementKind.Text args ≡ false)) }
+        IfErr result (λ e. e ≢ Refusal.OutOfMemory → (e ≡ Refusal.NotLiteral options_key) × (all_of_kind ElementKind.Text args ≡ false)) }
 {
     if !all_known(alloc, source, ElementKind::Text, elements)? {
         return Err(not_literal(alloc, OPTIONS.as_bytes())?);
@@ -182,9 +182,9 @@ fn set_in_value(
 ) -> Result<(), Refusal>
     requires { AreGood (expression_words (expr_view subject.source.now found.value.now)) }
     ensures done { let held = expr_view subject.entry.source.now found.entry.value.now in let call = subject.entry.call.now in
-        OnOk result (AreBehind (set_by_shape call found.entry.number name.now entry.now (literal held) (shape held)) steps.old.items steps.new.items) }
+        OnOk result (AreBehind (set_by_shape call found.entry.number name.now entry.now (literal_of held) (value_shape held)) steps.old.items steps.new.items) }
     ensures refused { let held = expr_view subject.entry.source.now found.entry.value.now in let call = subject.entry.call.now in
-        IfErr result (λ e. e ≢ Refusal.OutOfMemory → set_by_shape call found.entry.number name.now entry.now (literal held) (shape held) ≡ Err e) }
+        IfErr result (λ e. e ≢ Refusal.OutOfMemory → set_by_shape call found.entry.number name.now entry.now (literal_of held) (value_shape held) ≡ Err e) }
 {
     let source = subject.source;
     match array_in(found.value) {
@@ -293,9 +293,9 @@ fn delete_in_value(
 ) -> Result<(), Refusal>
     requires { AreGood (expression_words (expr_view subject.source.now found.value.now)) }
     ensures done { let held = expr_view subject.entry.source.now found.entry.value.now in let call = subject.entry.call.now in
-        OnOk result (AreBehind (delete_by_shape call found.entry.number name.now (literal held) (shape held)) steps.old.items steps.new.items) }
+        OnOk result (AreBehind (delete_by_shape call found.entry.number name.now (literal_of held) (value_shape held)) steps.old.items steps.new.items) }
     ensures refused { let held = expr_view subject.entry.source.now found.entry.value.now in
-        IfErr result (λ e. e ≢ Refusal.OutOfMemory → delete_by_shape subject.entry.call.now found.entry.number name.now (literal held) (shape held) ≡ Err e) }
+        IfErr result (λ e. e ≢ Refusal.OutOfMemory → delete_by_shape subject.entry.call.now found.entry.number name.now (literal_of held) (value_shape held) ≡ Err e) }
 {
     let Found { number, value } = found;
     let source = subject.source;

@@ -85,9 +85,9 @@ fn delete_tasks<'c>(alloc: Global, role: Role, keys: &'c [Text]) -> Result<Vec<T
 /// # Errors
 /// It is not changed in such a call, or is no list, or memory is refused.
 fn element_kind(role: Role, key: &Text) -> Result<ElementKind, Refusal>
-    ensures found { IfOk result (λ e. then_ok (keys.kind_of role key.now) (keys.list_kind key.now) ≡ Ok e) }
+    ensures found { IfOk result (λ e. then_ok (keys.key_kind role key.now) (keys.list_kind key.now) ≡ Ok e) }
     ensures key { IfOk result (λ e. IsKey key.now) }
-    ensures refused { IfErr result (λ e. e ≢ Refusal.OutOfMemory → then_ok (keys.kind_of role key.now) (keys.list_kind key.now) ≡ Err e) }
+    ensures refused { IfErr result (λ e. e ≢ Refusal.OutOfMemory → then_ok (keys.key_kind role key.now) (keys.list_kind key.now) ≡ Err e) }
 {
     let kind = kind_of(role, key)?;
     list_kind(key, kind)

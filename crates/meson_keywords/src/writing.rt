@@ -3,7 +3,7 @@
 ghost use Rattle.std.specs.Prelude.{◌≡◌, ◌≢◌, ◌++◌, ◌∷◌, [], All, Err, IfErr, IfOk, Ok, OnOk, codes, map, option_map};
 ghost use Rattle.std.specs.Str.{IsUtf8};
 ghost use Rattle.meson_lex.specs.Literals.{literal};
-ghost use Rattle.meson_keywords.specs.Keys.{element_bytes, list_values, texts_of, truth, truth_of, written_value};
+ghost use Rattle.meson_keywords.specs.Keys.{element_bytes, list_values, setting_texts, truth_text, truth_of, written_value};
 ghost use Rattle.meson_steps.specs.WrittenValues.{IsSet};
 ghost use Rattle.meson_steps.specs.WrittenTexts.{comma_between};
 ghost use Rattle.meson_keywords.specs.Tasking.{AreElements};
@@ -127,7 +127,7 @@ fn truth_of(setting: &Setting) -> Option<bool>
 
 /// `true` or `false`.
 fn written_switch(alloc: Global, yes: bool) -> Result<Bytes, AllocError>
-    ensures { IfOk result (λ b. b ≡ truth yes) }
+    ensures { IfOk result (λ b. b ≡ truth_text yes) }
 {
     let mut out = Vec::new(alloc);
     if yes {
@@ -140,7 +140,7 @@ fn written_switch(alloc: Global, yes: bool) -> Result<Bytes, AllocError>
 
 /// The values for a list: one text is a list of one.
 fn texts_of<'c>(alloc: Global, setting: &'c Setting) -> Result<Option<Vec<&'c Text>>, AllocError>
-    ensures { IfOk result (λ o. option_map (λ v. map (λ x. x.now) v.items) o ≡ texts_of setting.now) }
+    ensures { IfOk result (λ o. option_map (λ v. map (λ x. x.now) v.items) o ≡ setting_texts setting.now) }
 {
     let mut all = Vec::new(alloc);
     match setting {

@@ -10,7 +10,7 @@ use Rattle.meson_lex.specs.declared.kinds.Kind.TheVariants as k
 use Rattle.meson_lex.specs.declared.kinds.Span.{Span}
 use Rattle.meson_lex.specs.declared.fault.LexFault.{LexFault}
 use Rattle.meson_lex.specs.Items.{Lexeme, joined, IsItemList}
-use Rattle.meson_lex.specs.Lexed.{placed, IsLexed}
+use Rattle.meson_lex.specs.Lexed.{with_spans, IsLexed}
 use Rattle.meson_lex.specs.Significant.{Opens, role}
 use Rattle.meson_layout.specs.Layout.{IsSpanOf, IsBracketOf}
 use Rattle.meson_language_cases.specs.Opening.{is_open}
@@ -52,7 +52,7 @@ pub record Split (xs : List Lexeme) (n : ℕ) : Type 0 where
 abbrev pub SplitFrom : ℕ → List Lexeme → ℕ → Type 0
 SplitFrom at xs n = (front rest : List Lexeme) × (xs ≡ front ++ rest) × (at + length (joined front) ≡ n)
 
-begin-split : (xs : List Lexeme) (at n : ℕ) → begins_at n (placed at xs) ≡ true → SplitFrom at xs n
+begin-split : (xs : List Lexeme) (at n : ℕ) → begins_at n (with_spans at xs) ≡ true → SplitFrom at xs n
 begin-split [] at n h = absurd cc
 begin-split (x ∷ xs) at n h =
     ⊎_elim
@@ -60,7 +60,7 @@ begin-split (x ∷ xs) at n h =
     (λ m. let r = begin-split xs (at + length x.text) n m in let size = length-append x.text (joined r.0) in let here = r.3 in (x ∷ r.0, r.1, ap (λ l. x ∷ l) r.2, omega arith))
     (or_cases _ _ h)
 
-end-split : (xs : List Lexeme) (at n : ℕ) → ends_at n (placed at xs) ≡ true → SplitFrom at xs n
+end-split : (xs : List Lexeme) (at n : ℕ) → ends_at n (with_spans at xs) ≡ true → SplitFrom at xs n
 end-split [] at n h = absurd cc
 end-split (x ∷ xs) at n h =
     ⊎_elim
@@ -87,7 +87,7 @@ longer (x ∷ a) b (y ∷ c) d e h =
 append-end : (a c b d : List Lexeme) (xs : List Lexeme) → xs ≡ c ++ d → c ≡ a ++ b → xs ≡ a ++ (b ++ d)
 append-end a c b d xs e f = e ∙ ap (λ l. l ++ d) f ∙ Rattle.std.proofs.Common.append_assoc a b d
 
-span-of : (xs : List Lexeme) (s : Span) → begins_at s.from (placed 0 xs) ≡ true → ends_at s.to (placed 0 xs) ≡ true → s.from < s.to → IsSpanOf xs s
+span-of : (xs : List Lexeme) (s : Span) → begins_at s.from (with_spans 0 xs) ≡ true → ends_at s.to (with_spans 0 xs) ≡ true → s.from < s.to → IsSpanOf xs s
 span-of xs s b e h =
     let from = begin-split xs 0 s.from b in
     let to = end-split xs 0 s.to e in
@@ -118,7 +118,7 @@ if-both false c h = absurd cc
 abbrev BracketFrom : ℕ → List Lexeme → ℕ → Type 0
 BracketFrom at xs n = (front : List Lexeme) × (x : Lexeme) × (rest : List Lexeme) × (xs ≡ front ++ x ∷ rest) × (at + length (joined front) ≡ n) × (role x.kind ≡ Opens)
 
-open-split : (xs : List Lexeme) (at n : ℕ) → opens_at n (placed at xs) ≡ true → BracketFrom at xs n
+open-split : (xs : List Lexeme) (at n : ℕ) → opens_at n (with_spans at xs) ≡ true → BracketFrom at xs n
 open-split [] at n h = absurd cc
 open-split (x ∷ xs) at n h =
     ⊎_elim
@@ -126,7 +126,7 @@ open-split (x ∷ xs) at n h =
     (λ m. let r = open-split xs (at + length x.text) n m in let size = length-append x.text (joined r.0) in let here = r.4 in (x ∷ r.0, r.1, r.2, ap (λ l. x ∷ l) r.3, omega arith, r.5))
     (or_cases _ _ h)
 
-bracket-of : (xs : List Lexeme) (at : ℕ) → opens_at at (placed 0 xs) ≡ true → IsBracketOf xs at
+bracket-of : (xs : List Lexeme) (at : ℕ) → opens_at at (with_spans 0 xs) ≡ true → IsBracketOf xs at
 bracket-of xs at h =
     let r = open-split xs 0 at h in
     let size = r.4 in
@@ -134,11 +134,11 @@ bracket-of xs at h =
 
 -- ---- what the walk found
 
-clean-more : (xs : List Lexeme) (at : ℕ) (f : LexFault) → is_clean (placed at xs ++ Err f ∷ []) ≡ true → ⊥
+clean-more : (xs : List Lexeme) (at : ℕ) (f : LexFault) → is_clean (with_spans at xs ++ Err f ∷ []) ≡ true → ⊥
 clean-more [] at f h = absurd cc
 clean-more (x ∷ xs) at f h = clean-more xs (at + length x.text) f h
 
-whole-of : (source : List ℕ) (results : List (Result Item LexFault)) → IsLexed 0 source results → is_clean results ≡ true → (xs : List Lexeme) × IsItemList source xs × (results ≡ placed 0 xs)
+whole-of : (source : List ℕ) (results : List (Result Item LexFault)) → IsLexed 0 source results → is_clean results ≡ true → (xs : List Lexeme) × IsItemList source xs × (results ≡ with_spans 0 xs)
 whole-of source results (IsLexed.whole xs list are) h = (xs, list, are)
 whole-of source results (IsLexed.faulty xs rest f has are) h = absurd (clean-more xs 0 f (sym (ap is_clean are) ∙ h))
 

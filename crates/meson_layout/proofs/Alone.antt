@@ -10,8 +10,8 @@ use Rattle.meson_lex.specs.Neighbours.{Shape, StandsBefore, blanks, closed, exte
 use Rattle.meson_lex.specs.Significant.{Closes, role}
 use Rattle.meson_lex.proofs.Seams.{AreItems-split}
 use Rattle.meson_lex.proofs.Standing.{list_returns}
-use Rattle.meson_layout.specs.Edited.{ListIn}
-use Rattle.meson_layout.specs.Layout.{Parts, before_len, parts, parts_from}
+use Rattle.meson_layout.specs.Edited.{ListOfItems}
+use Rattle.meson_layout.specs.Layout.{Parts, before_len, parts, parts_of_items}
 use Rattle.meson_layout.specs.Local.{alone, nearer_span}
 use Rattle.meson_layout.proofs.FirstBytes.{some_text}
 use Rattle.meson_layout.proofs.Made.{listed-joined}
@@ -57,7 +57,7 @@ closed-end c is [] rest h = ((h.0.0, h.0.1, subst (λ σ. StandsBefore σ c.text
 closed-end c is (x ∷ xs) rest h =
     ((h.0.0, h.0.1, other-end (shape x.kind) x.text (joined (xs ++ c ∷ [])) rest (some-bytes xs c rest h.1) (list_returns (xs ++ c ∷ []) rest h.1) h.0.2), closed-end c is xs rest h.1)
 
-module _ (source : List ℕ) (items : List Lexeme) (list : IsItemList source items) (l : ListIn items) where
+module _ (source : List ℕ) (items : List Lexeme) (list : IsItemList source items) (l : ListOfItems items) where
   whole : l.front ++ (alone items l ++ l.rest) ≡ items
   whole = ap (λ xs. l.front ++ l.open_item ∷ xs) (append_assoc l.inner (l.close_item ∷ []) l.rest) ∙ sym l.parts
 
@@ -87,5 +87,5 @@ pub parts-behind : (w : Lexeme) (xs : List Lexeme) (s : Span) → length w.text 
 unfolding parts
 parts-behind w xs s behind =
     let size : s.to - s.from ≡ s.to - length w.text - (s.from - length w.text) = omega arith in
-    ap (λ n. parts_from n (s.to - s.from) (w ∷ xs)) (first-behind s.from w xs behind)
-    ∙ ap (λ m. parts_from (suc (before_len (s.from - length w.text) xs)) m (w ∷ xs)) size
+    ap (λ n. parts_of_items n (s.to - s.from) (w ∷ xs)) (first-behind s.from w xs behind)
+    ∙ ap (λ m. parts_of_items (suc (before_len (s.from - length w.text) xs)) m (w ∷ xs)) size

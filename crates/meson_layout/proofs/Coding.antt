@@ -10,9 +10,9 @@ use Rattle.meson_lex.specs.Items.{Lexeme, joined}
 use Rattle.meson_layout.specs.declared.primitive.Primitive.{Primitive}
 use Rattle.meson_layout.specs.declared.primitive.Primitive.TheVariants.{First, After, Remove, Replace, Wrap, RemoveStatement, Append}
 use Rattle.meson_layout.specs.declared.removal.Growth.{Growth}
-use Rattle.meson_layout.specs.Looks.{is_blank, is_comma, is_line_end, begins, one, but_last, last_few, line_before, gap_len, all_white, at_most_blank, note_len, comma_note_len, closes}
+use Rattle.meson_layout.specs.Looks.{is_blank_kind, is_comma, is_line_end, first_is, one_if, but_last, last_few, line_before, gap_len, all_white, at_most_blank, note_len, comma_note_len, closing_follows}
 use Rattle.meson_layout.specs.Pieces.{Piece, Keep, Change, old_items, new_items, as_one, comma, space, line_feed, open_square, close_square, splices}
-use Rattle.meson_layout.specs.Insertion.{plain, with_comma, without_comma, before_bracket, no_comma_on_line, stacked, inserted_by, inserted}
+use Rattle.meson_layout.specs.Insertion.{plain_insertion, with_comma, without_comma, before_bracket, no_comma_on_line, stacked, inserted_by, inserted}
 use Rattle.meson_layout.specs.Removal.{grown, one_gone, two_gone, two_ranges, comma_len, comma_behind, comma_before, no_comma_behind, removed}
 use Rattle.meson_layout.specs.Statements.{at_line_start, statement_gone, statement_removed, line_end_of, appended}
 use Rattle.meson_layout.specs.Layout.{before_len, parts, replaced, wrapped, first_in, pieces}
@@ -106,7 +106,7 @@ module _ (left own right : List Lexeme) (coded : AreUtf8 left) where
     line-new : AreUtf8 (line ++ new)
     line-new = coded-append line new line-is new-is
 
-    plain-fine : Fine All3 (plain left own right new)
+    plain-fine : Fine All3 (plain_insertion left own right new)
     plain-fine = record { old = ends; news = ((comma-coded, (space-coded, new-is)), tt) }
 
     with-comma-fine : (n : ℕ) → Fine All3 (with_comma n left own right line new)
@@ -124,7 +124,7 @@ module _ (left own right : List Lexeme) (coded : AreUtf8 left) where
 
     no-comma-fine : (o : Option ℕ) → Fine All3 (no_comma_on_line o left own right line new)
     no-comma-fine (Some n) = without-comma-fine n
-    no-comma-fine None = cond_both (closes right) _ _ (Fine All3) (λ h. bracket-fine) (λ h. plain-fine)
+    no-comma-fine None = cond_both (closing_follows right) _ _ (Fine All3) (λ h. bracket-fine) (λ h. plain-fine)
 
     stacked-fine : (o : Option ℕ) → Fine All3 (stacked o left own right line new)
     stacked-fine (Some n) = with-comma-fine n
@@ -208,7 +208,7 @@ module _ (left own right : List Lexeme) where
   no-comma-behind-fine : (m : ℕ) → Fine (left ++ (own ++ right)) (no_comma_behind m left own right)
   no-comma-behind-fine m =
       let before = but_last m left in
-      cond_both (begins is_comma (reverse before)) _ _ (Fine (left ++ (own ++ right)))
+      cond_both (first_is is_comma (reverse before)) _ _ (Fine (left ++ (own ++ right)))
       (λ h. comma-before-fine (but_last 1 before) (last_few 1 before) (last_few m left)
       (sym (append_assoc (but_last 1 before) (last_few 1 before) (last_few m left)) ∙ ap (λ l. l ++ last_few m left) (whole 1 before) ∙ whole m left))
       (λ h. one-gone-fine (grown left right) left own right)
@@ -217,7 +217,7 @@ module _ (left own right : List Lexeme) where
   unfolding removed
   removed-fine =
       let n = gap_len right in
-      cond_both (begins is_comma (drop n right)) _ _ (Fine (left ++ (own ++ right)))
+      cond_both (first_is is_comma (drop n right)) _ _ (Fine (left ++ (own ++ right)))
       (λ h. comma-behind-fine (take n right) (drop n right) (take-append-drop n right))
       (λ h. no-comma-behind-fine (gap_len (reverse left)))
 
@@ -235,9 +235,9 @@ module _ (left own right : List Lexeme) where
   statement-fine : Fine (left ++ (own ++ right)) (statement_removed left own right)
   unfolding statement_removed
   statement-fine =
-      let n = one is_blank (reverse left) in
-      let m = one is_blank right in
-      cond_both (at_line_start (reverse (but_last n left)) && begins is_line_end (drop m right)) _ _ (Fine (left ++ (own ++ right))) (λ h. gone-fine n (m + 1)) (λ h. gone-fine n m)
+      let n = one_if is_blank_kind (reverse left) in
+      let m = one_if is_blank_kind right in
+      cond_both (at_line_start (reverse (but_last n left)) && first_is is_line_end (drop m right)) _ _ (Fine (left ++ (own ++ right))) (λ h. gone-fine n (m + 1)) (λ h. gone-fine n m)
 
 line-coded : (items : List Lexeme) → AreUtf8 items → IsCoded (line_end_of items)
 line-coded [] a = line-feed-coded

@@ -121,7 +121,7 @@ gap-spoken (x ∷ xs) h = ap (λ l. l ++ spoken xs) (gap-word x.kind (word x) h.
 
 -- ---- kinds of items
 
-pub blank-kind : (κ : Kind) → look.is_blank κ ≡ true → κ ≡ k.Blank
+pub blank-kind : (κ : Kind) → look.is_blank_kind κ ≡ true → κ ≡ k.Blank
 blank-kind k.Blank h = refl
 blank-kind _ h = absurd cc
 

@@ -6,7 +6,7 @@ use Rattle.meson_lex.specs.Items.{joined}
 use Rattle.meson_splice.specs.declared.fault.SpliceFault.{SpliceFault}
 use Rattle.meson_splice.specs.declared.file_set.File.{File}
 use Rattle.meson_splice.specs.declared.splice.Splice.{Splice}
-use Rattle.meson_splice.specs.Files.{found, bytes_at, with_bytes}
+use Rattle.meson_splice.specs.Files.{position_of_file, bytes_at, with_bytes}
 use Rattle.meson_splice.specs.Patch.{patched, patched_all, then_ok}
 use Rattle.meson_splice.proofs.Sets.{found-within, patched_in-done}
 use Rattle.meson_layout.specs.Pieces.{Piece, Keep, Change, splices}
@@ -40,18 +40,18 @@ place-same name (f ∷ files) zero b = refl
 place-same name (f ∷ files) (suc i) b = ap (λ n. cond (not (bytes_eq f.name name)) (1 + n) 0) (place-same name files i b)
 
 -- the file stands where it stood
-found-same : (name : List ℕ) (files : List File) (i : ℕ) (b : List ℕ) → found name (with_bytes i b files) ≡ found name files
+found-same : (name : List ℕ) (files : List File) (i : ℕ) (b : List ℕ) → position_of_file name (with_bytes i b files) ≡ position_of_file name files
 found-same name files i b = ap₂ (λ n m. cond (nat_lt n m) (Some n) None) (place-same name files i b) (len-same files i b)
 
 module _ (file text : List ℕ) (i : ℕ) where
   -- what splices of that file do to any set in which the file stands there
   abbrev Follows : List Splice → Type 0
-  Follows ss = (files : List File) (source : List ℕ) → found file files ≡ Some i → bytes_at i files ≡ source → patched_by source ss ≡ Ok text → patched_all files ss ≡ Ok (with_bytes i text files)
+  Follows ss = (files : List File) (source : List ℕ) → position_of_file file files ≡ Some i → bytes_at i files ≡ source → patched_by source ss ≡ Ok text → patched_all files ss ≡ Ok (with_bytes i text files)
 
-  one-first : (s : Splice) (ss : List Splice) → s.file ≡ file → Follows ss → (files : List File) (source : List ℕ) → found file files ≡ Some i → bytes_at i files ≡ source
+  one-first : (s : Splice) (ss : List Splice) → s.file ≡ file → Follows ss → (files : List File) (source : List ℕ) → position_of_file file files ≡ Some i → bytes_at i files ≡ source
       → (r : Result (List ℕ) SpliceFault) → patched source s ≡ r → then_ok r (λ next. patched_by next ss) ≡ Ok text → patched_all files (s ∷ ss) ≡ Ok (with_bytes i text files)
   one-first s ss named follows files source here is (Ok b) one more =
-      let at : found s.file files ≡ Some i = ap (λ n. found n files) named ∙ here in
+      let at : position_of_file s.file files ≡ Some i = ap (λ n. position_of_file n files) named ∙ here in
       let step = patched_in-done files s i b at (ap (λ c. patched c s) is ∙ one) in
       let later = follows (with_bytes i b files) b (found-same file files i b ∙ here) (read-back files i b (found-within file files i here)) more in
       ap (λ r. then_ok r (λ next. patched_all next ss)) step ∙ later ∙ ap Ok (twice files i b text)

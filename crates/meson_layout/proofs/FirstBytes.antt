@@ -33,7 +33,7 @@ not_blank test no_space no_tab b h = or_from _ _ (apart test b 32 h no_space) (a
 begins-is : (test : ℕ → Bool) (text other : List ℕ) → text ≡ other → begins test other ≡ false → begins test text ≡ false
 begins-is test text other e h = ap (begins test) e ∙ h
 
-first_blank : (k : Kind) (text : List ℕ) → look.is_blank k ≡ false → OfKind k text → begins is_blank text ≡ false
+first_blank : (k : Kind) (text : List ℕ) → look.is_blank_kind k ≡ false → OfKind k text → begins is_blank text ≡ false
 first_blank Blank text solid h = absurd cc
 first_blank LineEnd text solid (inl h) = begins-is is_blank text (10 ∷ []) h refl
 first_blank LineEnd text solid (inr h) = begins-is is_blank text (13 ∷ 10 ∷ []) h refl
@@ -51,7 +51,7 @@ first_blank FormatMultilineString text solid h = ap (begins is_blank) (sym h.joi
 first_blank _ text solid h = ap (begins is_blank) h
 
 -- what is no blank begins with none
-pub no_blank_first : (x : Lexeme) → look.is_blank x.kind ≡ false → OfKind x.kind x.text → begins is_blank x.text ≡ false
+pub no_blank_first : (x : Lexeme) → look.is_blank_kind x.kind ≡ false → OfKind x.kind x.text → begins is_blank x.text ≡ false
 no_blank_first x solid h = first_blank x.kind x.text solid h
 
 -- ---- what may stand behind nearly everything

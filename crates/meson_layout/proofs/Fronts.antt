@@ -13,7 +13,7 @@ use Rattle.meson_layout.specs.declared.primitive.Primitive.{Primitive}
 use Rattle.meson_layout.specs.declared.primitive.Primitive.TheVariants.{First, After, Remove, Replace, Wrap, RemoveStatement, Append}
 use Rattle.meson_splice.specs.declared.splice.Splice.{Splice}
 use Rattle.meson_layout.specs.Insertion.{first}
-use Rattle.meson_layout.specs.Layout.{IsPlaced, IsSpanOf, before_len, end_of, layout_of, parts, replaced, wrapped}
+use Rattle.meson_layout.specs.Layout.{IsPlaced, IsSpanOf, before_len, end_of_look, layout_of, parts, replaced, wrapped}
 use Rattle.meson_layout.specs.Pieces.{as_one, splices}
 use Rattle.meson_layout.proofs.Near.{AllGood, good-front}
 use Rattle.meson_layout.proofs.Parts.{before-is, parts-are}
@@ -71,7 +71,7 @@ parts-front items s f at g =
 
 -- an edit is laid out by the items that begin before its end
 pub laid-by-front : (file : List ℕ) (items : List Lexeme) (p : Primitive) → IsPlaced p items → AllGood items → length (joined items) + 1 < 2 ^ 64
-    → layout_of file (up_to (end_of p) items) p ≡ layout_of file items p
+    → layout_of file (up_to (end_of_look p) items) p ≡ layout_of file items p
 laid-by-front file items (First bracket new) at g small =
     ap (λ l. splices file 0 (first l [] (as_one new))) (up_to-again (bracket + 1) items)
 laid-by-front file items (After element new) at g small = ap (λ xs. layout_of file xs (After element new)) (up_to-all (2 ^ 64 - 1) items (omega arith))

@@ -66,7 +66,7 @@ speaking y ys h = ap (λ ws. ws ++ spoken ys) (speaking-by (role y.kind) (word y
 word-comma : (y : Lexeme) → word y ≡ comma_word → look.is_comma y.kind ≡ true
 word-comma y e = ap (λ (a : Word). look.is_comma a.0) e
 
-stopped-comma : (rest : List Lexeme) (more : List Word) → Stops rest → spoken rest ≡ comma_word ∷ more → look.begins look.is_comma rest ≡ true
+stopped-comma : (rest : List Lexeme) (more : List Word) → Stops rest → spoken rest ≡ comma_word ∷ more → look.first_is look.is_comma rest ≡ true
 stopped-comma [] more s e = absurd cc
 stopped-comma (y ∷ ys) more s e =
     let both : word y ∷ spoken ys ≡ comma_word ∷ more = sym (speaking y ys s) ∙ e in
@@ -74,7 +74,7 @@ stopped-comma (y ∷ ys) more s e =
     word-comma y same
 
 -- where the first word is a comma, one stands beyond the gap
-pub comma-beyond : (xs : List Lexeme) (more : List Word) → spoken xs ≡ comma_word ∷ more → look.begins look.is_comma (drop (look.gap_len xs) xs) ≡ true
+pub comma-beyond : (xs : List Lexeme) (more : List Word) → spoken xs ≡ comma_word ∷ more → look.first_is look.is_comma (drop (look.gap_len xs) xs) ≡ true
 comma-beyond xs more e =
     let n = look.gap_len xs in
     let words : spoken (drop n xs) ≡ spoken xs = sym (sym (ap spoken (take-append-drop n xs)) ∙ spoken-append (take n xs) (drop n xs) ∙ ap (λ ws. ws ++ spoken (drop n xs)) (gap-spoken (take n xs) (gap-front xs))) in
@@ -94,7 +94,7 @@ nil-snoc : (ys : List Word) (b : Word) → [] ≡ ys ++ b ∷ [] → ⊥
 nil-snoc [] b e = absurd cc
 nil-snoc (y ∷ ys) b e = absurd cc
 
-back-comma : (rest front : List Lexeme) (gap : List Lexeme) (words : List Word) → reverse front ≡ rest → Stops rest → AllGap gap → spoken (front ++ gap) ≡ words ++ comma_word ∷ [] → look.begins look.is_comma rest ≡ true
+back-comma : (rest front : List Lexeme) (gap : List Lexeme) (words : List Word) → reverse front ≡ rest → Stops rest → AllGap gap → spoken (front ++ gap) ≡ words ++ comma_word ∷ [] → look.first_is look.is_comma rest ≡ true
 back-comma [] front gap words e s g is =
     let none : front ≡ [] = sym (reverse-reverse front) ∙ ap reverse e in
     absurd (nil-snoc words comma_word (sym (ap (λ l. spoken (l ++ gap)) none ∙ gap-spoken gap g) ∙ is))
@@ -105,7 +105,7 @@ back-comma (y ∷ ys) front gap words e s g is =
     word-comma y (snoc-last (spoken (reverse ys)) words (word y) comma_word (sym said ∙ is))
 
 -- where the last word is a comma, one stands before the gap at the end
-pub comma-before-gap : (left : List Lexeme) (words : List Word) → spoken left ≡ words ++ comma_word ∷ [] → look.begins look.is_comma (reverse (look.but_last (look.gap_len (reverse left)) left)) ≡ true
+pub comma-before-gap : (left : List Lexeme) (words : List Word) → spoken left ≡ words ++ comma_word ∷ [] → look.first_is look.is_comma (reverse (look.but_last (look.gap_len (reverse left)) left)) ≡ true
 comma-before-gap left words e =
     let n = look.gap_len (reverse left) in
     let g = gap-back left in

@@ -65,7 +65,7 @@ pub record Line (line : List Lexeme) : Type 0 where
 end-loose : (x : Lexeme) → look.is_line_end x.kind ≡ true → IsLoose x
 end-loose x h = near-loose x (ap Rattle.meson_layout.proofs.Seams.loose (line-kind x.kind h))
 
-blank-loose : (x : Lexeme) → look.is_blank x.kind ≡ true → IsLoose x
+blank-loose : (x : Lexeme) → look.is_blank_kind x.kind ≡ true → IsLoose x
 blank-loose x h = near-loose x (ap Rattle.meson_layout.proofs.Seams.loose (blank-kind x.kind h))
 
 after-blank : (a : Lexeme) (b ys : List Lexeme) → IsLoose a → AtMostBlank b → Follow line_feed ys → Follow a (b ++ ys)
@@ -193,7 +193,7 @@ module _ (o c : Lexeme) (left own right : List Lexeme) (site : Site o c left own
         (none-remarks line (new ++ right) (white-remarks line (line-all line is_line)) ∙ none-remarks new right fresh.no_remarks)
 
     -- behind the comma and the rest of the line: a new line, the new element and a comma
-    pub comma-made : (skipped rest : List Lexeme) → right ≡ skipped ++ rest → spoken skipped ≡ comma_word ∷ [] → look.begins look.is_line_end (rest ++ c ∷ []) ≡ true
+    pub comma-made : (skipped rest : List Lexeme) → right ≡ skipped ++ rest → spoken skipped ≡ comma_word ∷ [] → look.first_is look.is_line_end (rest ++ c ∷ []) ≡ true
         → Made o c (left ++ own) right (left ++ (own ++ (skipped ++ (line ++ (new ++ (comma ∷ rest)))))) (with_new left own right new) (all_remarks left own right)
     comma-made skipped rest is says ends =
         let z = last tail skipped in

@@ -9,7 +9,7 @@ use Rattle.meson_layout.specs.Looks as look
 use Rattle.meson_lex.specs.Words.{spoken}
 use Rattle.meson_layout.specs.Words.{IsBehindElement}
 use Rattle.meson_layout.specs.Pieces.{Piece, old_items, new_items, comma, space}
-use Rattle.meson_layout.specs.Insertion.{plain, with_comma, without_comma, before_bracket, no_comma_on_line, stacked, inserted_by, inserted}
+use Rattle.meson_layout.specs.Insertion.{plain_insertion, with_comma, without_comma, before_bracket, no_comma_on_line, stacked, inserted_by, inserted}
 use Rattle.meson_layout.proofs.Near.{AllGood, good-front, good-rest}
 use Rattle.meson_layout.proofs.Ends.{back-joins, within-left, within-right, AllMild, gap-mild, gap-spoken}
 use Rattle.meson_layout.proofs.Splits.{LineBack, line-before-split, NoteSplit, note-split, CommaSplit, comma-note-split, begun, white-gap}
@@ -26,7 +26,7 @@ pub record Shaped (front : List Lexeme) (o c : Lexeme) (rest items left right : 
 regroup : (front left own xs end : List Lexeme) (o : Lexeme) → (front ++ o ∷ left) ++ (own ++ (xs ++ end)) ≡ front ++ o ∷ ((left ++ (own ++ xs)) ++ end)
 regroup front left own xs end o = simp append_assoc
 
-pub begins-close : (test : Kind → Bool) (xs : List Lexeme) (c : Lexeme) (rest : List Lexeme) → look.begins test (xs ++ c ∷ rest) ≡ look.begins test (xs ++ c ∷ [])
+pub begins-close : (test : Kind → Bool) (xs : List Lexeme) (c : Lexeme) (rest : List Lexeme) → look.first_is test (xs ++ c ∷ rest) ≡ look.first_is test (xs ++ c ∷ [])
 begins-close test [] c rest = refl
 begins-close test (x ∷ xs) c rest = refl
 
@@ -43,7 +43,7 @@ module _ (front : List Lexeme) (o c : Lexeme) (rest left own right new : List Le
   nothing : before ++ (own ++ (after ++ [])) ≡ before ++ (own ++ after)
   nothing = ap (λ l. before ++ (own ++ l)) (append-nil after)
 
-  plain-shaped : Fits (plain before own after new)
+  plain-shaped : Fits (plain_insertion before own after new)
   plain-shaped = record {
     inner = left ++ (own ++ (comma ∷ space ∷ (new ++ right)));
     old = nothing;
@@ -64,7 +64,7 @@ module _ (front : List Lexeme) (o c : Lexeme) (rest left own right new : List Le
   comma-shaped : (n : ℕ) (line : List Lexeme) → Line line → CommaSplit n after → Fits (with_comma n before own after line new)
   comma-shaped n line is s =
       let w = within-right right c rest (take n after) (drop n after) site.closes (sym (take-append-drop n after)) s.mild in
-      let ends = sym (begins-close look.is_line_end w.0 c rest) ∙ sym (ap (look.begins look.is_line_end) w.2) ∙ s.ends in
+      let ends = sym (begins-close look.is_line_end w.0 c rest) ∙ sym (ap (look.first_is look.is_line_end) w.2) ∙ s.ends in
       record {
         inner = left ++ (own ++ (take n after ++ (line ++ (new ++ (comma ∷ w.0)))));
         old = ap (λ l. before ++ (own ++ l)) (ap (λ l. take n after ++ l) (append-nil (drop n after)) ∙ take-append-drop n after);
@@ -81,7 +81,7 @@ module _ (front : List Lexeme) (o c : Lexeme) (rest left own right new : List Le
   note-shaped zero line is s = bracket-shaped line is
   note-shaped (suc n) line is s =
       let w = within-right right c rest (take (suc n) after) (drop (suc n) after) site.closes (sym (take-append-drop (suc n) after)) (gap-mild _ s.gap) in
-      let ends = sym (begins-close look.is_line_end w.0 c rest) ∙ sym (ap (look.begins look.is_line_end) w.2) ∙ s.ends in
+      let ends = sym (begins-close look.is_line_end w.0 c rest) ∙ sym (ap (look.first_is look.is_line_end) w.2) ∙ s.ends in
       record {
         inner = left ++ (own ++ (comma ∷ (take (suc n) after ++ (line ++ (new ++ w.0)))));
         old = ap (λ l. before ++ (own ++ l)) (ap (λ l. take (suc n) after ++ l) (append-nil (drop (suc n) after)) ∙ take-append-drop (suc n) after);
@@ -110,7 +110,7 @@ module _ (front : List Lexeme) (o c : Lexeme) (rest left own right new : List Le
       }
 
   at-none : (line : List Lexeme) → Line line → Fits (no_comma_on_line None before own after line new)
-  at-none line is = cond_both (look.closes after) _ _ Fits (λ h. bracket-shaped line is) (λ h. plain-shaped)
+  at-none line is = cond_both (look.closing_follows after) _ _ Fits (λ h. bracket-shaped line is) (λ h. plain-shaped)
 
   at-note : (o : Option ℕ) (line : List Lexeme) → Line line → look.note_len after ≡ o → Fits (no_comma_on_line o before own after line new)
   at-note (Some n) line is e = note-shaped n line is (note-split after n e)

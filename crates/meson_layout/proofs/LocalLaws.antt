@@ -8,7 +8,7 @@ use Rattle.meson_lex.proofs.Seams.{joined-append}
 use Rattle.meson_splice.specs.declared.splice.Splice.{Splice}
 use Rattle.meson_layout.specs.declared.primitive.Primitive.{Primitive}
 use Rattle.meson_layout.specs.declared.primitive.Primitive.TheVariants.{First, After, Remove, Replace, Wrap, RemoveStatement, Append}
-use Rattle.meson_layout.specs.Edited.{ListIn, PartIn}
+use Rattle.meson_layout.specs.Edited.{ListOfItems, PartIn}
 use Rattle.meson_layout.specs.Insertion.{first, inserted}
 use Rattle.meson_layout.specs.Layout.{Parts, before_len, first_in, layout_of, parts, replaced, wrapped}
 use Rattle.meson_layout.specs.Local.{IsOfList, LocalLaw, alone, farther, nearer, nearer_span}
@@ -27,7 +27,7 @@ use Rattle.meson_layout.proofs.ValueLaws.{first-parts, open-one}
 abbrev Anywhere : List ℕ → Lexeme → Lexeme → List Lexeme → List Lexeme → List Lexeme → (List Lexeme → List Lexeme → List Lexeme → List Piece) → Type 0
 Anywhere file o c left own right f = (front rest : List Lexeme) → splices file 0 (f (front ++ o ∷ left) own (right ++ c ∷ rest)) ≡ splices file (length (joined front)) (f (o ∷ left) own (right ++ c ∷ []))
 
-module _ (file source : List ℕ) (items : List Lexeme) (list : IsItemList source items) (l : ListIn items) where
+module _ (file source : List ℕ) (items : List Lexeme) (list : IsItemList source items) (l : ListOfItems items) where
   abbrev far : ℕ
   far = length (joined l.front)
 

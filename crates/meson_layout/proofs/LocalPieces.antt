@@ -74,11 +74,11 @@ module _ (o c : Lexeme) (bar : Bars o.kind) (end : Bars c.kind) where
       else removal.one_range (front ++ o ∷ (left ++ mid)) own right
 
   no-comma-is : (front left own right : List Lexeme)
-      → removal.no_comma_behind (look.gap_len (reverse (front ++ o ∷ left))) (front ++ o ∷ left) own right ≡ by_comma (look.begins look.is_comma (reverse (before_gap left))) front (before_gap left) (in_gap left) own right
+      → removal.no_comma_behind (look.gap_len (reverse (front ++ o ∷ left))) (front ++ o ∷ left) own right ≡ by_comma (look.first_is look.is_comma (reverse (before_gap left))) front (before_gap left) (in_gap left) own right
   no-comma-is front left own right =
       let w = last-within front left (gap left) (gap-few-left left) in
       let whole = front ++ o ∷ left in
-      let test = look.begins look.is_comma in
+      let test = look.first_is look.is_comma in
       ap (λ n. removal.no_comma_behind n whole own right) (ap look.gap_len (reverse-around front o left) ∙ gap-bar o bar (reverse left) (reverse front))
       ∙ ap (λ xs. if test (reverse xs) then removal.comma_before (look.but_last 1 xs) (look.last_few 1 xs) (look.last_few (gap left) whole) own right else removal.one_range whole own right) w.0
       ∙ ap (λ xs. if test (reverse (front ++ o ∷ before_gap left)) then removal.comma_before (look.but_last 1 (front ++ o ∷ before_gap left)) (look.last_few 1 (front ++ o ∷ before_gap left)) xs own right else removal.one_range whole own right) w.1
@@ -93,12 +93,12 @@ module _ (o c : Lexeme) (bar : Bars o.kind) (end : Bars c.kind) where
       then removal.comma_behind left own (take n right) (drop n right ++ c ∷ rest)
       else removal.no_comma_behind (look.gap_len (reverse left)) left own (right ++ c ∷ rest)
 
-  removed-is : (left own right rest : List Lexeme) → removal.removed left own (right ++ c ∷ rest) ≡ by_comma_behind (look.begins look.is_comma (drop (look.gap_len right) right)) (look.gap_len right) left own right rest
+  removed-is : (left own right rest : List Lexeme) → removal.removed left own (right ++ c ∷ rest) ≡ by_comma_behind (look.first_is look.is_comma (drop (look.gap_len right) right)) (look.gap_len right) left own right rest
   unfolding removal.removed
   removed-is left own right rest =
       let n = look.gap_len right in
       let whole = right ++ c ∷ rest in
-      let test = look.begins look.is_comma in
+      let test = look.first_is look.is_comma in
       let other = removal.no_comma_behind (look.gap_len (reverse left)) left own whole in
       ap (λ m. if test (drop m whole) then removal.comma_behind left own (take m whole) (drop m whole) else other) (gap-bar c end right rest)
       ∙ ap (λ xs. if test xs then removal.comma_behind left own (take n whole) xs else other) (drop-append-le n right (c ∷ rest) (gap-few right))
@@ -152,8 +152,8 @@ module _ (o c : Lexeme) (bar : Bars o.kind) (end : Bars c.kind) where
         ∙ sym (ap (λ xs. splices file far (Keep left ∷ Keep own ∷ Change [] (comma ∷ []) ∷ Keep xs ∷ Change [] (line ++ new) ∷ Keep [] ∷ [])) (taken (suc n) right le []))
 
     bracket-same : (b : Bool) (left own right line new : List Lexeme)
-        → Same (if b then insertion.before_bracket (front ++ left) own (right ++ c ∷ rest) line new else insertion.plain (front ++ left) own (right ++ c ∷ rest) new)
-        (if b then insertion.before_bracket left own (right ++ c ∷ []) line new else insertion.plain left own (right ++ c ∷ []) new)
+        → Same (if b then insertion.before_bracket (front ++ left) own (right ++ c ∷ rest) line new else insertion.plain_insertion (front ++ left) own (right ++ c ∷ rest) new)
+        (if b then insertion.before_bracket left own (right ++ c ∷ []) line new else insertion.plain_insertion left own (right ++ c ∷ []) new)
     bracket-same true left own right line new = behind-same left own right (comma ∷ (line ++ new))
     bracket-same false left own right line new = behind-same left own right (comma ∷ space ∷ new)
 
@@ -161,8 +161,8 @@ module _ (o c : Lexeme) (bar : Bars o.kind) (end : Bars c.kind) where
         → Same (insertion.no_comma_on_line n (front ++ left) own (right ++ c ∷ rest) line new) (insertion.no_comma_on_line n left own (right ++ c ∷ []) line new)
     at-note (Some n) left own right line new le = no-comma-same n left own right line new le
     at-note None left own right line new le =
-        ap (λ b. splices file 0 (if b then insertion.before_bracket (front ++ left) own (right ++ c ∷ rest) line new else insertion.plain (front ++ left) own (right ++ c ∷ rest) new)) (closes-either c end right rest)
-        ∙ bracket-same (look.closes (right ++ c ∷ [])) left own right line new
+        ap (λ b. splices file 0 (if b then insertion.before_bracket (front ++ left) own (right ++ c ∷ rest) line new else insertion.plain_insertion (front ++ left) own (right ++ c ∷ rest) new)) (closes-either c end right rest)
+        ∙ bracket-same (look.closing_follows (right ++ c ∷ [])) left own right line new
 
     at-comma : (n : Option ℕ) (left own right line new : List Lexeme) → IfSome n (λ i. i ≤ length right)
         → Same (insertion.stacked n (front ++ left) own (right ++ c ∷ rest) line new) (insertion.stacked n left own (right ++ c ∷ []) line new)
@@ -248,10 +248,10 @@ module _ (o c : Lexeme) (bar : Bars o.kind) (end : Bars c.kind) where
     one-or-two false left range mid other right whole = two-ranges left range mid other right
 
     comma-len : (after xs : List Lexeme) → 1 ≤ length after → removal.comma_len (after ++ c ∷ xs) ≡ removal.comma_len after
-    comma-len after xs some = ap (λ n. 1 + n) (ap (look.one look.is_blank) (drop-append-le 1 after (c ∷ xs) some) ∙ blank-bar c end (drop 1 after) xs)
+    comma-len after xs some = ap (λ n. 1 + n) (ap (look.one_if look.is_blank_kind) (drop-append-le 1 after (c ∷ xs) some) ∙ blank-bar c end (drop 1 after) xs)
 
     comma-few-behind : (after : List Lexeme) → 1 ≤ length after → removal.comma_len after ≤ length after
-    comma-few-behind after some = let few = one-le look.is_blank (drop 1 after) in let size = length-drop 1 after in omega arith
+    comma-few-behind after some = let few = one-le look.is_blank_kind (drop 1 after) in let size = length-drop 1 after in omega arith
 
     comma-behind-by : (n : ℕ) (left own mid after : List Lexeme) → n ≤ length after
         → Same (removal.comma_behind_by n (front ++ o ∷ left) own mid (after ++ c ∷ rest)) (removal.comma_behind_by n (o ∷ left) own mid (after ++ c ∷ []))
@@ -270,7 +270,7 @@ module _ (o c : Lexeme) (bar : Bars o.kind) (end : Bars c.kind) where
         ∙ comma-behind-by (removal.comma_len after) left own mid after (comma-few-behind after some)
         ∙ sym (ap (λ n. splices file far (removal.comma_behind_by n (o ∷ left) own mid (after ++ c ∷ []))) (comma-len after [] some))
 
-    no-comma-by : (b : Bool) (left mid own right : List Lexeme) → look.begins look.is_comma (reverse left) ≡ b → Same (by_comma b front left mid own (right ++ c ∷ rest)) (by_comma b [] left mid own (right ++ c ∷ []))
+    no-comma-by : (b : Bool) (left mid own right : List Lexeme) → look.first_is look.is_comma (reverse left) ≡ b → Same (by_comma b front left mid own (right ++ c ∷ rest)) (by_comma b [] left mid own (right ++ c ∷ []))
     no-comma-by false left mid own right is = one-range (left ++ mid) own right
     no-comma-by true left mid own right is =
         let some : 1 ≤ length left = let n = begins-some look.is_comma 0 (reverse left) is in let size = length-reverse left in omega arith in
@@ -287,10 +287,10 @@ module _ (o c : Lexeme) (bar : Bars o.kind) (end : Bars c.kind) where
         → Same (removal.no_comma_behind (look.gap_len (reverse (front ++ o ∷ left))) (front ++ o ∷ left) own (right ++ c ∷ rest)) (removal.no_comma_behind (look.gap_len (reverse (o ∷ left))) (o ∷ left) own (right ++ c ∷ []))
     no-comma-behind left own right =
         ap (splices file 0) (no-comma-is front left own (right ++ c ∷ rest))
-        ∙ no-comma-by (look.begins look.is_comma (reverse (before_gap left))) (before_gap left) (in_gap left) own right refl
+        ∙ no-comma-by (look.first_is look.is_comma (reverse (before_gap left))) (before_gap left) (in_gap left) own right refl
         ∙ sym (ap (splices file far) (no-comma-is [] left own (right ++ c ∷ [])))
 
-    removed-by : (b : Bool) (left own right : List Lexeme) → look.begins look.is_comma (drop (look.gap_len right) right) ≡ b
+    removed-by : (b : Bool) (left own right : List Lexeme) → look.first_is look.is_comma (drop (look.gap_len right) right) ≡ b
         → Same (by_comma_behind b (look.gap_len right) (front ++ o ∷ left) own right rest) (by_comma_behind b (look.gap_len right) (o ∷ left) own right [])
     removed-by true left own right is =
         let n = look.gap_len right in
@@ -301,5 +301,5 @@ module _ (o c : Lexeme) (bar : Bars o.kind) (end : Bars c.kind) where
     pub removed-same : (left own right : List Lexeme) → Same (removal.removed (front ++ o ∷ left) own (right ++ c ∷ rest)) (removal.removed (o ∷ left) own (right ++ c ∷ []))
     removed-same left own right =
         ap (splices file 0) (removed-is (front ++ o ∷ left) own right rest)
-        ∙ removed-by (look.begins look.is_comma (drop (look.gap_len right) right)) left own right refl
+        ∙ removed-by (look.first_is look.is_comma (drop (look.gap_len right) right)) left own right refl
         ∙ sym (ap (splices file far) (removed-is (o ∷ left) own right []))

@@ -9,7 +9,7 @@ use Rattle.meson_layout.specs.Looks as look
 use Rattle.meson_lex.specs.Words.{spoken}
 use Rattle.meson_layout.specs.Words.{remarks}
 use Rattle.meson_layout.specs.Pieces.{Piece, old_items, new_items, splices, line_feed}
-use Rattle.meson_layout.specs.Edited.{ListIn, Keeps, Edited}
+use Rattle.meson_layout.specs.Edited.{ListOfItems, Keeps, Edited}
 use Rattle.meson_layout.proofs.Near.{Follow, IsGood, AllGood, items-good, items-follow, good-join, good-front, good-rest}
 use Rattle.meson_layout.proofs.Merge.{merge, merge-joined, merge-spoken, merge-remarks, merge-items, merge-listed}
 use Rattle.meson_layout.proofs.Patched.{patched-pieces}
@@ -23,21 +23,21 @@ pub record Made (o c : Lexeme) (left right inner : List Lexeme) (words : List Wo
   pub keeps : Keeps left right (joined inner)
 
 -- what is known of a list among the items of a text
-pub record Within (items : List Lexeme) (l : ListIn items) : Type 0 where
+pub record Within (items : List Lexeme) (l : ListOfItems items) : Type 0 where
   pub fits : Follow l.open_item (l.inner ++ l.close_item ∷ l.rest)
   pub good_open : IsGood l.open_item
   pub good_inner : AllGood l.inner
   pub good_close : IsGood l.close_item
 
-opens-solid : (κ : Kind) → role κ ≡ Opens → look.is_blank κ ≡ false
+opens-solid : (κ : Kind) → role κ ≡ Opens → look.is_blank_kind κ ≡ false
 opens-solid k.Blank h = absurd cc
 opens-solid _ h = refl
 
-closes-solid : (κ : Kind) → role κ ≡ Closes → look.is_blank κ ≡ false
+closes-solid : (κ : Kind) → role κ ≡ Closes → look.is_blank_kind κ ≡ false
 closes-solid k.Blank h = absurd cc
 closes-solid _ h = refl
 
-pub within : (source : List ℕ) (items : List Lexeme) (l : ListIn items) → IsItemList source items → Within items l
+pub within : (source : List ℕ) (items : List Lexeme) (l : ListOfItems items) → IsItemList source items → Within items l
 within source items l list =
     let each : AreItems (l.front ++ l.open_item ∷ (l.inner ++ l.close_item ∷ l.rest)) [] = subst (λ xs. AreItems xs []) l.parts list.each in
     let back = (AreItems-split l.front (l.open_item ∷ (l.inner ++ l.close_item ∷ l.rest)) [] each).1 in
@@ -55,7 +55,7 @@ listed-joined front inner rest o c =
     ∙ ap (λ xs. joined front ++ joined (o ∷ xs)) (sym (append_assoc inner (c ∷ []) rest))
     ∙ ap (λ t. joined front ++ t) (joined-append (o ∷ (inner ++ c ∷ [])) rest)
 
-pub edited : (file source : List ℕ) (items : List Lexeme) (l : ListIn items) (list : IsItemList source items) (ps : List Piece) (left right inner : List Lexeme) (words : List Word) (notes : List Lexeme)
+pub edited : (file source : List ℕ) (items : List Lexeme) (l : ListOfItems items) (list : IsItemList source items) (ps : List Piece) (left right inner : List Lexeme) (words : List Word) (notes : List Lexeme)
     → old_items ps ≡ items → new_items ps ≡ l.front ++ l.open_item ∷ (inner ++ l.close_item ∷ l.rest) → Made l.open_item l.close_item left right inner words notes
     → Edited source items l left right (splices file 0 ps) words notes
 edited file source items l list ps left right inner words notes old new made =

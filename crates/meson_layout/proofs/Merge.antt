@@ -20,7 +20,7 @@ abbrev pub blank_of : List ℕ → Lexeme
 blank_of text = record { kind = k.Blank; text = text }
 
 abbrev pub glued : Lexeme → Lexeme → List Lexeme → List Lexeme
-glued x y ys = cond (look.is_blank x.kind && look.is_blank y.kind) (blank_of (x.text ++ y.text) ∷ ys) (x ∷ y ∷ ys)
+glued x y ys = cond (look.is_blank_kind x.kind && look.is_blank_kind y.kind) (blank_of (x.text ++ y.text) ∷ ys) (x ∷ y ∷ ys)
 
 abbrev pub glue : Lexeme → List Lexeme → List Lexeme
 glue x [] = x ∷ []
@@ -30,14 +30,14 @@ abbrev pub merge : List Lexeme → List Lexeme
 merge [] = []
 merge (x ∷ xs) = glue x (merge xs)
 
-blank_kind : (κ : Kind) → look.is_blank κ ≡ true → κ ≡ k.Blank
+blank_kind : (κ : Kind) → look.is_blank_kind κ ≡ true → κ ≡ k.Blank
 blank_kind k.Blank h = refl
 blank_kind _ h = absurd cc
 
 -- a fact on two items, by whether both are blanks
-on-glued : (P : List Lexeme → Type 0) (x y : Lexeme) (ys : List Lexeme) → (x.kind ≡ k.Blank → y.kind ≡ k.Blank → P (blank_of (x.text ++ y.text) ∷ ys)) → ((look.is_blank x.kind && look.is_blank y.kind) ≡ false → P (x ∷ y ∷ ys)) → P (glued x y ys)
+on-glued : (P : List Lexeme → Type 0) (x y : Lexeme) (ys : List Lexeme) → (x.kind ≡ k.Blank → y.kind ≡ k.Blank → P (blank_of (x.text ++ y.text) ∷ ys)) → ((look.is_blank_kind x.kind && look.is_blank_kind y.kind) ≡ false → P (x ∷ y ∷ ys)) → P (glued x y ys)
 on-glued P x y ys both other =
-    cond_both (look.is_blank x.kind && look.is_blank y.kind) _ _ P (λ h. let p = and_parts (look.is_blank x.kind) (look.is_blank y.kind) h in both (blank_kind x.kind p.0) (blank_kind y.kind p.1)) other
+    cond_both (look.is_blank_kind x.kind && look.is_blank_kind y.kind) _ _ P (λ h. let p = and_parts (look.is_blank_kind x.kind) (look.is_blank_kind y.kind) h in both (blank_kind x.kind p.0) (blank_kind y.kind p.1)) other
 
 -- ---- what stays
 
@@ -132,7 +132,7 @@ glue-apart x (y ∷ ys) h = on-glued Apart x y ys (λ b c. keep y c ys h) (λ e.
   where
     keep : (y : Lexeme) → y.kind ≡ k.Blank → (ys : List Lexeme) → Apart (y ∷ ys) → Apart (blank_of (x.text ++ y.text) ∷ ys)
     keep y c [] h = tt
-    keep y c (z ∷ zs) h = (subst (λ κ. (look.is_blank κ && look.is_blank z.kind) ≡ false) c h.0, h.1)
+    keep y c (z ∷ zs) h = (subst (λ κ. (look.is_blank_kind κ && look.is_blank_kind z.kind) ≡ false) c h.0, h.1)
 
 blank-before : (x : Lexeme) (κ : Kind) (text : List ℕ) → κ ≡ k.Blank → (ys : List Lexeme) → Follow (record { kind = κ; text = text }) ys → Follow (blank_of x.text) ys
 blank-before x κ text c [] h = tt
@@ -160,23 +160,23 @@ merge-items o xs f g = let m = merged o xs f g in chain-items (merge xs) o m.0 m
 
 -- ---- brackets stay where they are
 
-glue-solid : (x : Lexeme) (ys : List Lexeme) → look.is_blank x.kind ≡ false → glue x ys ≡ x ∷ ys
+glue-solid : (x : Lexeme) (ys : List Lexeme) → look.is_blank_kind x.kind ≡ false → glue x ys ≡ x ∷ ys
 glue-solid x [] h = refl
-glue-solid x (y ∷ ys) h = ap (λ b. cond (b && look.is_blank y.kind) (blank_of (x.text ++ y.text) ∷ ys) (x ∷ y ∷ ys)) h
+glue-solid x (y ∷ ys) h = ap (λ b. cond (b && look.is_blank_kind y.kind) (blank_of (x.text ++ y.text) ∷ ys) (x ∷ y ∷ ys)) h
 
-glue-end : (x : Lexeme) (ys : List Lexeme) (c : Lexeme) (zs : List Lexeme) → look.is_blank c.kind ≡ false → glue x (ys ++ c ∷ zs) ≡ glue x ys ++ c ∷ zs
-glue-end x [] c zs h = not-both (look.is_blank x.kind) (look.is_blank c.kind) _ _ h
+glue-end : (x : Lexeme) (ys : List Lexeme) (c : Lexeme) (zs : List Lexeme) → look.is_blank_kind c.kind ≡ false → glue x (ys ++ c ∷ zs) ≡ glue x ys ++ c ∷ zs
+glue-end x [] c zs h = not-both (look.is_blank_kind x.kind) (look.is_blank_kind c.kind) _ _ h
   where
     not-both : {A : Type 0} (p q : Bool) (u v : A) → q ≡ false → cond (p && q) u v ≡ v
     not-both true q u v e = cond-false q u v e
     not-both false q u v e = refl
-glue-end x (y ∷ ys) c zs h = spread (look.is_blank x.kind && look.is_blank y.kind) (blank_of (x.text ++ y.text) ∷ ys) (x ∷ y ∷ ys) (c ∷ zs)
+glue-end x (y ∷ ys) c zs h = spread (look.is_blank_kind x.kind && look.is_blank_kind y.kind) (blank_of (x.text ++ y.text) ∷ ys) (x ∷ y ∷ ys) (c ∷ zs)
   where
     spread : (b : Bool) (us vs ws : List Lexeme) → cond b (us ++ ws) (vs ++ ws) ≡ cond b us vs ++ ws
     spread true us vs ws = refl
     spread false us vs ws = refl
 
-pub merge-listed : (o c : Lexeme) (xs : List Lexeme) → look.is_blank o.kind ≡ false → look.is_blank c.kind ≡ false → merge (o ∷ (xs ++ c ∷ [])) ≡ o ∷ (merge xs ++ c ∷ [])
+pub merge-listed : (o c : Lexeme) (xs : List Lexeme) → look.is_blank_kind o.kind ≡ false → look.is_blank_kind c.kind ≡ false → merge (o ∷ (xs ++ c ∷ [])) ≡ o ∷ (merge xs ++ c ∷ [])
 merge-listed o c xs h g = glue-solid o (merge (xs ++ c ∷ [])) h ∙ ap (λ l. o ∷ l) (merge-end xs)
   where
     merge-end : (xs : List Lexeme) → merge (xs ++ c ∷ []) ≡ merge xs ++ c ∷ []

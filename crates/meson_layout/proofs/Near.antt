@@ -142,7 +142,7 @@ items-follow o (x ∷ xs) rest l h = (l x, items-chain x xs rest h)
 abbrev pub Apart : List Lexeme → Type 0
 Apart [] = ⊤
 Apart (x ∷ []) = ⊤
-Apart (x ∷ y ∷ ys) = ((look.is_blank x.kind && look.is_blank y.kind) ≡ false) × Apart (y ∷ ys)
+Apart (x ∷ y ∷ ys) = ((look.is_blank_kind x.kind && look.is_blank_kind y.kind) ≡ false) × Apart (y ∷ ys)
 
 at-end : (σ : Shape) (text : List ℕ) → StandsBefore σ text []
 at-end blanks text = refl
@@ -159,7 +159,7 @@ begins-front test [] more some h = absurd (some refl)
 begins-front test (b ∷ bs) more some h = h
 
 -- the two kinds are blanks, or the other one begins with no blank
-stronger : (k : Kind) (text next : List ℕ) → ((look.is_blank k ≡ true) → begins is_blank next ≡ false) → StandsBy (shape k) text next → StandsBefore (shape k) text next
+stronger : (k : Kind) (text next : List ℕ) → ((look.is_blank_kind k ≡ true) → begins is_blank next ≡ false) → StandsBy (shape k) text next → StandsBefore (shape k) text next
 stronger k.Blank text next apart h = apart refl
 stronger k.Comment text next apart h = h
 stronger k.Identifier text next apart h = h
@@ -167,7 +167,7 @@ stronger k.PlainString text next apart h = h
 stronger k.FormatString text next apart h = h
 stronger _ text next apart h = h
 
-apart-first : (x y : Lexeme) → (look.is_blank x.kind && look.is_blank y.kind) ≡ false → look.is_blank x.kind ≡ true → look.is_blank y.kind ≡ false
+apart-first : (x y : Lexeme) → (look.is_blank_kind x.kind && look.is_blank_kind y.kind) ≡ false → look.is_blank_kind x.kind ≡ true → look.is_blank_kind y.kind ≡ false
 apart-first x y h b = rw b at h
 
 pub chain-items : (xs : List Lexeme) (o : Lexeme) → Follow o xs → AllGood xs → Apart xs → AreItems xs []

@@ -7,7 +7,7 @@ use Rattle.std.specs.Prelude.{◌==◌}
 use Rattle.meson_lex.specs.declared.kinds.Span.{Span}
 use Rattle.meson_lex.specs.Items.{Lexeme, joined}
 use Rattle.meson_lex.proofs.Seams.{joined-append}
-use Rattle.meson_layout.specs.Layout.{before_len, parts_by, parts_from, parts}
+use Rattle.meson_layout.specs.Layout.{before_len, parts_by, parts_of_items, parts}
 use Rattle.meson_layout.proofs.FirstBytes.{some_text}
 use Rattle.meson_layout.proofs.Near.{IsGood, AllGood, good-front, good-rest}
 
@@ -51,6 +51,6 @@ parts-are items left own right s e from to g =
     let whole = ap length (joined-append left own) ∙ length-append (joined left) (joined own) in
     let size : s.to - s.from ≡ length (joined own) = omega arith in
     let n = before-is items left (own ++ right) s.from e from (good-front left (own ++ right) good) in
-    ap (λ m. parts_from m (s.to - s.from) items) n
-    ∙ ap (parts_from (length left) (s.to - s.from)) e
+    ap (λ m. parts_of_items m (s.to - s.from) items) n
+    ∙ ap (parts_of_items (length left) (s.to - s.from)) e
     ∙ parts-by left own right (s.to - s.from) size (good-front own right (good-rest left (own ++ right) good))

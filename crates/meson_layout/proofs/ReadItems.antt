@@ -6,7 +6,7 @@ use Rattle.std.specs.Prelude.{slice_range}
 use Rattle.meson_lex.specs.declared.kinds.Item.{Item}
 use Rattle.meson_lex.specs.declared.fault.LexFault.{LexFault}
 use Rattle.meson_lex.specs.Items.{Lexeme, joined, IsItemList}
-use Rattle.meson_lex.specs.Lexed.{placed, IsLexed}
+use Rattle.meson_lex.specs.Lexed.{with_spans, IsLexed}
 use Rattle.meson_lex.proofs.ScanLexed.{one_lexed}
 
 abbrev pub read_one : List ℕ → Item → Lexeme
@@ -27,7 +27,7 @@ slice-part source front part rest at end joins here there =
     ∙ ap (take (length part)) (drop-append_seam front (part ++ rest))
     ∙ take-append_seam part rest
 
-read-placed : (xs : List Lexeme) (source front : List ℕ) (at : ℕ) → source ≡ front ++ joined xs → length front ≡ at → read source (placed at xs) ≡ xs
+read-placed : (xs : List Lexeme) (source front : List ℕ) (at : ℕ) → source ≡ front ++ joined xs → length front ≡ at → read source (with_spans at xs) ≡ xs
 read-placed [] source front at joins here = refl
 read-placed (x ∷ xs) source front at joins here =
     let text : slice_range source at (at + length x.text) ≡ x.text = slice-part source front x.text (joined xs) at (at + length x.text) joins here refl in
@@ -36,5 +36,5 @@ read-placed (x ∷ xs) source front at joins here =
 
 pub read-all : (source : List ℕ) (results : List (Result Item LexFault)) (xs : List Lexeme) → IsLexed 0 source results → IsItemList source xs → read source results ≡ xs
 read-all source results xs lexed list =
-    ap (read source) (one_lexed 0 source results (placed 0 xs) lexed (IsLexed.whole xs list refl))
+    ap (read source) (one_lexed 0 source results (with_spans 0 xs) lexed (IsLexed.whole xs list refl))
     ∙ read-placed xs source [] 0 (sym list.joins) refl

@@ -72,16 +72,16 @@ record CommaFront (after : List Lexeme) : Type 0 where
   pub white : AllOf look.is_white blank
   pub is : take (comma_len after) after ≡ first ∷ blank
 
-comma-front : (after : List Lexeme) → look.begins look.is_comma after ≡ true → CommaFront after
+comma-front : (after : List Lexeme) → look.first_is look.is_comma after ≡ true → CommaFront after
 comma-front after h =
     let b = begun look.is_comma after h in
     let more : drop 1 after ≡ b.more = ap (drop 1) b.is in
-    let q = look.one look.is_blank (drop 1 after) in
+    let q = look.one_if look.is_blank_kind (drop 1 after) in
     record {
       first = b.first;
       blank = take q (drop 1 after);
       comma = b.passes;
-      white = blank-white _ (one-all look.is_blank (drop 1 after));
+      white = blank-white _ (one-all look.is_blank_kind (drop 1 after));
       is = take-add 1 q after ∙ ap (λ xs. take 1 xs ++ take q (drop 1 after)) b.is;
     }
 
@@ -168,7 +168,7 @@ module _ (front : List Lexeme) (o c : Lexeme) (rest left own right : List Lexeme
 
   -- ---- a comma behind
 
-  module _ (mid after : List Lexeme) (parts : behind ≡ mid ++ after) (gap : AllGap mid) (begins : look.begins look.is_comma after ≡ true) where
+  module _ (mid after : List Lexeme) (parts : behind ≡ mid ++ after) (gap : AllGap mid) (begins : look.first_is look.is_comma after ≡ true) where
     abbrev n : ℕ
     n = comma_len after
 
@@ -211,7 +211,7 @@ module _ (front : List Lexeme) (o c : Lexeme) (rest left own right : List Lexeme
     abbrev m : ℕ
     m = look.gap_len (reverse before)
 
-    module _ (begins : look.begins look.is_comma (reverse (look.but_last m before)) ≡ true) where
+    module _ (begins : look.first_is look.is_comma (reverse (look.but_last m before)) ≡ true) where
       before-shaped : Fits (comma_before (look.but_last 1 (look.but_last m before)) (look.last_few 1 (look.but_last m before)) (look.last_few m before) own behind)
       before-shaped =
           let g = gap-back before in
@@ -264,7 +264,7 @@ module _ (front : List Lexeme) (o c : Lexeme) (rest left own right : List Lexeme
 
     none-shaped : Fits (no_comma_behind m before own behind)
     none-shaped =
-        cond_both (look.begins look.is_comma (reverse (look.but_last m before))) _ _ Fits before-shaped (λ none. alone-shaped (alone-words without (λ f e. false≢true (sym none ∙ comma-before-gap before (spoken front ++ (spoken (o ∷ []) ++ f)) (said f e)))))
+        cond_both (look.first_is look.is_comma (reverse (look.but_last m before))) _ _ Fits before-shaped (λ none. alone-shaped (alone-words without (λ f e. false≢true (sym none ∙ comma-before-gap before (spoken front ++ (spoken (o ∷ []) ++ f)) (said f e)))))
       where
         said : (f : List Word) → spoken left ≡ f ++ comma_word ∷ [] → spoken before ≡ (spoken front ++ (spoken (o ∷ []) ++ f)) ++ comma_word ∷ []
         said f e =
@@ -280,7 +280,7 @@ module _ (front : List Lexeme) (o c : Lexeme) (rest left own right : List Lexeme
   unfolding removed
   removed-shaped =
       let n = look.gap_len behind in
-      cond_both (look.begins look.is_comma (drop n behind)) _ _ Fits
+      cond_both (look.first_is look.is_comma (drop n behind)) _ _ Fits
       (λ h. behind-shaped (take n behind) (drop n behind) (sym (take-append-drop n behind)) (gap-front behind) h)
       (λ h. none-shaped (no-comma-words follows (λ more e. false≢true (sym h ∙ comma-beyond behind (more ++ spoken (c ∷ rest)) (spoken-append right (c ∷ rest) ∙ ap (λ u. u ++ spoken (c ∷ rest)) e)))))
     where

@@ -4,7 +4,7 @@ use Rattle.meson_lex.specs.Items.{Lexeme, joined}
 use Rattle.meson_lex.proofs.Seams.{joined-append}
 use Rattle.meson_layout.specs.Looks as look
 use Rattle.meson_layout.specs.Pieces.{Piece, Keep, Change, splices, comma}
-use Rattle.meson_layout.specs.Insertion.{plain, with_comma, without_comma, before_bracket, no_comma_on_line, stacked, inserted_by, inserted}
+use Rattle.meson_layout.specs.Insertion.{plain_insertion, with_comma, without_comma, before_bracket, no_comma_on_line, stacked, inserted_by, inserted}
 
 pub joined-same : (line x y more : List Lexeme) → joined x ≡ joined y → joined (line ++ (x ++ more)) ≡ joined (line ++ (y ++ more))
 joined-same line x y more e =
@@ -36,7 +36,7 @@ module _ (left own right x y : List Lexeme) (e : joined x ≡ joined y) where
   abbrev Same : (List Lexeme → List Piece) → Type 0
   Same f = SameText (f x) (f y)
 
-  plain-same : Same (plain left own right)
+  plain-same : Same (plain_insertion left own right)
   plain-same = (refl, (refl, (refl, ap (λ t. 44 ∷ 32 ∷ t) e, (refl, tt))))
 
   bracket-same : (line : List Lexeme) → Same (before_bracket left own right line)
@@ -49,13 +49,13 @@ module _ (left own right x y : List Lexeme) (e : joined x ≡ joined y) where
   note-same zero line = bracket-same line
   note-same (suc n) line = (refl, (refl, (refl, refl, (refl, (refl, line-same line x y e, (refl, tt))))))
 
-  close-same : (b : Bool) (line : List Lexeme) → SameText (cond b (before_bracket left own right line x) (plain left own right x)) (cond b (before_bracket left own right line y) (plain left own right y))
+  close-same : (b : Bool) (line : List Lexeme) → SameText (cond b (before_bracket left own right line x) (plain_insertion left own right x)) (cond b (before_bracket left own right line y) (plain_insertion left own right y))
   close-same true line = bracket-same line
   close-same false line = plain-same
 
   no-comma-same : (o : Option ℕ) (line : List Lexeme) → Same (no_comma_on_line o left own right line)
   no-comma-same (Some n) line = note-same n line
-  no-comma-same None line = close-same (look.closes right) line
+  no-comma-same None line = close-same (look.closing_follows right) line
 
   stacked-same : (o : Option ℕ) (line : List Lexeme) → Same (stacked o left own right line)
   stacked-same (Some n) line = comma-same n line

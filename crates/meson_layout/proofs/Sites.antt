@@ -6,14 +6,14 @@ use Rattle.meson_lex.specs.Items.{Lexeme, joined, IsItemList}
 use Rattle.meson_layout.specs.Words.{remarks}
 use Rattle.meson_layout.specs.Layout.{parts}
 use Rattle.meson_layout.specs.Pieces.{as_one, line_feed}
-use Rattle.meson_layout.specs.Edited.{ListIn, PartIn, IsNew}
+use Rattle.meson_layout.specs.Edited.{ListOfItems, PartIn, IsNew}
 use Rattle.meson_layout.proofs.Near.{Follow, AllGood, items-good, items-follow, follow-front}
 use Rattle.meson_layout.proofs.Ends.{remarks-append}
 use Rattle.meson_layout.proofs.Made.{within}
 use Rattle.meson_layout.proofs.Parts.{parts-are}
 use Rattle.meson_layout.proofs.Inserted.{Site, Fresh, all_remarks}
 
-module _ (source : List ℕ) (items : List Lexeme) (list : IsItemList source items) (l : ListIn items) where
+module _ (source : List ℕ) (items : List Lexeme) (list : IsItemList source items) (l : ListOfItems items) where
   abbrev o : Lexeme
   o = l.open_item
 

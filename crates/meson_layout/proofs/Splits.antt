@@ -18,7 +18,7 @@ AllOf test xs = AllByRecursion (λ (x : Lexeme). test x.kind ≡ true) xs
 
 -- ---- the first item
 
-pub one-all : (test : Kind → Bool) (xs : List Lexeme) → AllOf test (take (look.one test xs) xs)
+pub one-all : (test : Kind → Bool) (xs : List Lexeme) → AllOf test (take (look.one_if test xs) xs)
 one-all test [] = tt
 one-all test (x ∷ xs) = cond_both (test x.kind) _ _ (λ n. AllOf test (take n (x ∷ xs))) (λ h. (h, tt)) (λ h. tt)
 
@@ -28,7 +28,7 @@ pub record Begun (test : Kind → Bool) (xs : List Lexeme) : Type 0 where
   pub is : xs ≡ first ∷ more
   pub passes : test first.kind ≡ true
 
-pub begun : (test : Kind → Bool) (xs : List Lexeme) → look.begins test xs ≡ true → Begun test xs
+pub begun : (test : Kind → Bool) (xs : List Lexeme) → look.first_is test xs ≡ true → Begun test xs
 begun test [] h = absurd cc
 begun test (x ∷ xs) h = record { first = x; more = xs; is = refl; passes = h }
 
@@ -44,7 +44,7 @@ drop-add n m xs =
 
 -- ---- kinds
 
-blank-gap : (xs : List Lexeme) → AllOf look.is_blank xs → AllGap xs
+blank-gap : (xs : List Lexeme) → AllOf look.is_blank_kind xs → AllGap xs
 blank-gap [] h = tt
 blank-gap (x ∷ xs) h = (ap look.is_gap (blank-kind x.kind h.0), blank-gap xs h.1)
 
@@ -65,7 +65,7 @@ pub white-join : (xs ys : List Lexeme) → AllOf look.is_white xs → AllOf look
 white-join [] ys h g = g
 white-join (x ∷ xs) ys h g = (h.0, white-join xs ys h.1 g)
 
-pub blank-white : (xs : List Lexeme) → AllOf look.is_blank xs → AllOf look.is_white xs
+pub blank-white : (xs : List Lexeme) → AllOf look.is_blank_kind xs → AllOf look.is_white xs
 blank-white [] h = tt
 blank-white (x ∷ xs) h = (ap look.is_white (blank-kind x.kind h.0), blank-white xs h.1)
 
@@ -89,25 +89,25 @@ white-spoken xs h = gap-spoken xs (white-gap xs h)
 
 pub record NoteSplit (n : ℕ) (right : List Lexeme) : Type 0 where
   pub gap : AllGap (take n right)
-  pub ends : look.begins look.is_line_end (drop n right) ≡ true
+  pub ends : look.first_is look.is_line_end (drop n right) ≡ true
 
-note-by : (right : List Lexeme) (p m n : ℕ) → AllGap (take p right) → AllGap (take m (drop p right)) → cond (look.begins look.is_line_end (drop m (drop p right))) (Some (p + m)) None ≡ Some n → NoteSplit n right
+note-by : (right : List Lexeme) (p m n : ℕ) → AllGap (take p right) → AllGap (take m (drop p right)) → cond (look.first_is look.is_line_end (drop m (drop p right))) (Some (p + m)) None ≡ Some n → NoteSplit n right
 note-by right p m n g h is =
-    let s = some-if (look.begins look.is_line_end (drop m (drop p right))) (p + m) n is in
+    let s = some-if (look.first_is look.is_line_end (drop m (drop p right))) (p + m) n is in
     subst (λ q. NoteSplit q right) s.1 (record {
       gap = subst AllGap (sym (take-add p m right)) (gap-join (take p right) (take m (drop p right)) g h);
-      ends = ap (look.begins look.is_line_end) (drop-add p m right) ∙ s.0;
+      ends = ap (look.first_is look.is_line_end) (drop-add p m right) ∙ s.0;
     })
 
 pub note-split : (right : List Lexeme) (n : ℕ) → look.note_len right ≡ Some n → NoteSplit n right
 note-split right n is =
-    let p = look.one look.is_blank right in
-    note-by right p (look.one look.is_comment (drop p right)) n (blank-gap _ (one-all look.is_blank right)) (comment-gap _ (one-all look.is_comment (drop p right))) is
+    let p = look.one_if look.is_blank_kind right in
+    note-by right p (look.one_if look.is_comment (drop p right)) n (blank-gap _ (one-all look.is_blank_kind right)) (comment-gap _ (one-all look.is_comment (drop p right))) is
 
 pub record CommaSplit (n : ℕ) (right : List Lexeme) : Type 0 where
   pub mild : AllMild (take n right)
   pub says : spoken (take n right) ≡ comma_word ∷ []
-  pub ends : look.begins look.is_line_end (drop n right) ≡ true
+  pub ends : look.first_is look.is_line_end (drop n right) ≡ true
 
 comma-word-of : (κ : Kind) (text : List ℕ) → κ ≡ k.Comma → spoken (record { kind = κ; text = text } ∷ []) ≡ comma_word ∷ []
 comma-word-of κ text e = ap (λ c. spoken (record { kind = c; text = text } ∷ [])) e
@@ -136,7 +136,7 @@ comma-split-at a x more right p m is_a is_x gap comma note =
           ∙ spoken-append a (x ∷ [])
           ∙ ap (λ l. l ++ spoken (x ∷ [])) (gap-spoken a gap)
           ∙ comma-spoken x comma;
-      ends = ap (look.begins look.is_line_end) (drop-add (p + 1) m right ∙ ap (drop m) back) ∙ note.ends;
+      ends = ap (look.first_is look.is_line_end) (drop-add (p + 1) m right ∙ ap (drop m) back) ∙ note.ends;
     }
 
 comma-note-by : (b : Bool) (right : List Lexeme) (p n : ℕ) → AllGap (take p right) → (b ≡ true → Begun look.is_comma (drop p right)) → cond b (look.more_by (p + 1) (look.note_len (drop 1 (drop p right)))) None ≡ Some n → CommaSplit n right
@@ -149,30 +149,30 @@ comma-note-by true right p n gap g is =
 
 pub comma-note-split : (right : List Lexeme) (n : ℕ) → look.comma_note_len right ≡ Some n → CommaSplit n right
 comma-note-split right n is =
-    let p = look.one look.is_blank right in
-    comma-note-by (look.begins look.is_comma (drop p right)) right p n (blank-gap _ (one-all look.is_blank right)) (begun look.is_comma (drop p right)) is
+    let p = look.one_if look.is_blank_kind right in
+    comma-note-by (look.first_is look.is_comma (drop p right)) right p n (blank-gap _ (one-all look.is_blank_kind right)) (begun look.is_comma (drop p right)) is
 
 -- the end of a line: nothing or one blank, and a line end
 pub line-behind-split : (right : List Lexeme) (n : ℕ) → look.line_behind right ≡ Some n → AllOf look.is_white (take n right)
-line-behind-split right n is = by-look (look.begins look.is_line_end (drop p right)) (begun look.is_line_end (drop p right)) is
+line-behind-split right n is = by-look (look.first_is look.is_line_end (drop p right)) (begun look.is_line_end (drop p right)) is
   where
     p : ℕ
-    p = look.one look.is_blank right
+    p = look.one_if look.is_blank_kind right
 
-    by-look : (b : Bool) → (b ≡ true → Begun look.is_line_end (drop (look.one look.is_blank right) right)) → cond b (Some (suc (look.one look.is_blank right))) None ≡ Some n → AllOf look.is_white (take n right)
+    by-look : (b : Bool) → (b ≡ true → Begun look.is_line_end (drop (look.one_if look.is_blank_kind right) right)) → cond b (Some (suc (look.one_if look.is_blank_kind right))) None ≡ Some n → AllOf look.is_white (take n right)
     by-look false g is = absurd cc
     by-look true g is =
         let e = g refl in
-        let q = look.one look.is_blank right in
+        let q = look.one_if look.is_blank_kind right in
         let s = some-if true (suc q) n is in
         let size : n ≡ q + 1 = sym s.1 ∙ omega arith in
         let whole : take n right ≡ take q right ++ e.first ∷ [] = ap (λ m. take m right) size ∙ take-add q 1 right ∙ ap (λ l. take q right ++ take 1 l) e.is in
-        subst (AllOf look.is_white) (sym whole) (white-join (take q right) (e.first ∷ []) (blank-white (take q right) (one-all look.is_blank right)) (line-white (e.first ∷ []) (e.passes, tt)))
+        subst (AllOf look.is_white) (sym whole) (white-join (take q right) (e.first ∷ []) (blank-white (take q right) (one-all look.is_blank_kind right)) (line-white (e.first ∷ []) (e.passes, tt)))
 
 -- ---- before an element
 
 abbrev pub AtMostBlank : List Lexeme → Type 0
-AtMostBlank xs = (xs ≡ []) ⊎ ((b : Lexeme) × (look.is_blank b.kind ≡ true) × (xs ≡ b ∷ []))
+AtMostBlank xs = (xs ≡ []) ⊎ ((b : Lexeme) × (look.is_blank_kind b.kind ≡ true) × (xs ≡ b ∷ []))
 
 -- a line end, and nothing or one blank
 pub record LineBack (n : ℕ) (left : List Lexeme) : Type 0 where
@@ -191,24 +191,24 @@ line-back-none left x ys e h =
     let all = back-parts left (reverse ys ++ x ∷ []) [] 0 (parts ∙ sym (append-nil (reverse ys ++ x ∷ []))) refl in
     record { end = x; blank = []; is_end = h; is_blank = inl refl; line = one.1; gone = all.1; stays = all.0 ∙ ap (λ l. l ++ x ∷ []) (sym one.0) }
 
-line-back-one : (left : List Lexeme) (x y : Lexeme) (ys : List Lexeme) → reverse left ≡ x ∷ y ∷ ys → look.is_blank x.kind ≡ true → look.is_line_end y.kind ≡ true → LineBack 1 left
+line-back-one : (left : List Lexeme) (x y : Lexeme) (ys : List Lexeme) → reverse left ≡ x ∷ y ∷ ys → look.is_blank_kind x.kind ≡ true → look.is_line_end y.kind ≡ true → LineBack 1 left
 line-back-one left x y ys e b h =
     let parts = last-two left x y ys e in
     let two = back-parts left (reverse ys) (y ∷ x ∷ []) 2 parts refl in
     let one = back-parts left (reverse ys ++ y ∷ []) (x ∷ []) 1 (parts ∙ sym (append_assoc (reverse ys) (y ∷ []) (x ∷ []))) refl in
     record { end = y; blank = x ∷ []; is_end = h; is_blank = inr (x, b, refl); line = two.1; gone = one.1; stays = one.0 ∙ ap (λ l. l ++ y ∷ []) (sym two.0) }
 
-near-one : (left : List Lexeme) (x : Lexeme) (ys : List Lexeme) (b : Bool) (n : ℕ) → reverse left ≡ x ∷ ys → (b ≡ true → (look.is_blank x.kind ≡ true) × Begun look.is_line_end ys) → cond b (Some 1) None ≡ Some n → LineBack n left
+near-one : (left : List Lexeme) (x : Lexeme) (ys : List Lexeme) (b : Bool) (n : ℕ) → reverse left ≡ x ∷ ys → (b ≡ true → (look.is_blank_kind x.kind ≡ true) × Begun look.is_line_end ys) → cond b (Some 1) None ≡ Some n → LineBack n left
 near-one left x ys false n e g is = absurd cc
 near-one left x ys true n e g is =
     let p = g refl in
     let s = some-if true 1 n is in
     subst (λ m. LineBack m left) s.1 (line-back-one left x p.1.first p.1.more (e ∙ ap (λ l. x ∷ l) p.1.is) p.0 p.1.passes)
 
-near-by : (left : List Lexeme) (x : Lexeme) (ys : List Lexeme) (b : Bool) (n : ℕ) → reverse left ≡ x ∷ ys → (b ≡ true → look.is_line_end x.kind ≡ true) → cond b (Some 0) (cond (look.is_blank x.kind && look.begins look.is_line_end ys) (Some 1) None) ≡ Some n → LineBack n left
+near-by : (left : List Lexeme) (x : Lexeme) (ys : List Lexeme) (b : Bool) (n : ℕ) → reverse left ≡ x ∷ ys → (b ≡ true → look.is_line_end x.kind ≡ true) → cond b (Some 0) (cond (look.is_blank_kind x.kind && look.first_is look.is_line_end ys) (Some 1) None) ≡ Some n → LineBack n left
 near-by left x ys true n e g is = let s = some-if true 0 n is in subst (λ m. LineBack m left) s.1 (line-back-none left x ys e (g refl))
 near-by left x ys false n e g is =
-    near-one left x ys (look.is_blank x.kind && look.begins look.is_line_end ys) n e (λ h. let p = and_parts (look.is_blank x.kind) (look.begins look.is_line_end ys) h in (p.0, begun look.is_line_end ys p.1)) is
+    near-one left x ys (look.is_blank_kind x.kind && look.first_is look.is_line_end ys) n e (λ h. let p = and_parts (look.is_blank_kind x.kind) (look.first_is look.is_line_end ys) h in (p.0, begun look.is_line_end ys p.1)) is
 
 near-split : (left rev : List Lexeme) (n : ℕ) → reverse left ≡ rev → look.line_near rev ≡ Some n → LineBack n left
 near-split left [] n e is = absurd cc

@@ -15,7 +15,7 @@ use Rattle.meson_lex.specs.Words.{IsTight}
 use Rattle.meson_layout.specs.Pieces.{Piece, old_items, new_items, splices, line_feed}
 use Rattle.meson_layout.specs.Layout.{Parts}
 use Rattle.meson_layout.specs.Statements.{at_line_start, statement_gone, statement_removed}
-use Rattle.meson_layout.specs.FileLaws.{line_start, behind_token, StatementIn, EditedFile, IsItsLineEnd, StatementGone, StatementRemovalLaw}
+use Rattle.meson_layout.specs.FileLaws.{line_start, behind_token, StatementIn, EditedFile, IsItsLineEnd, StatementCut, StatementRemovalLaw}
 use Rattle.meson_layout.proofs.Near.{Follow, AllGood, IsLoose, last, items-good, items-follow, follow-join, follow-front, follow-rest, good-join, good-front, good-rest}
 use Rattle.meson_layout.proofs.Seams.{near-loose, loose, no-comment, speaks-no-line, reloose}
 use Rattle.meson_layout.proofs.Merge.{merge, merge-joined, merge-run, merge-items}
@@ -43,11 +43,11 @@ to-end-append s xs ys =
     ap₂ (λ u (v : State). u ++ closing v.fresh) (emitted-append s xs ys) (after-append s xs ys) ∙ append_assoc (emitted s xs) (emitted (after s xs) ys) (closing (after (after s xs) ys).fresh)
 
 -- blanks change nothing
-blank-kind-run : (κ : Kind) (text : List ℕ) (s : State) → look.is_blank κ ≡ true → (emit s (record { kind = κ; text = text }) ≡ []) × (step s (record { kind = κ; text = text }) ≡ s)
+blank-kind-run : (κ : Kind) (text : List ℕ) (s : State) → look.is_blank_kind κ ≡ true → (emit s (record { kind = κ; text = text }) ≡ []) × (step s (record { kind = κ; text = text }) ≡ s)
 blank-kind-run k.Blank text s h = (refl, refl)
 blank-kind-run _ text s h = absurd cc
 
-blank-run : (s : State) (xs : List Lexeme) → AllOf look.is_blank xs → (emitted s xs ≡ []) × (after s xs ≡ s)
+blank-run : (s : State) (xs : List Lexeme) → AllOf look.is_blank_kind xs → (emitted s xs ≡ []) × (after s xs ≡ s)
 blank-run s [] h = (refl, refl)
 blank-run s (x ∷ xs) h =
     let one = blank-kind-run x.kind x.text s h.0 in
@@ -118,20 +118,20 @@ file-edited file source items list ps text tokens old new fits good says =
     }
 
 -- the blank at the end
-last-blank : (left : List Lexeme) → AllOf look.is_blank (look.last_few (look.one look.is_blank (reverse left)) left)
-last-blank left = cond_both (look.begins look.is_blank (reverse left)) _ _ (λ n. AllOf look.is_blank (look.last_few n left))
-    (λ h. let b = begun look.is_blank (reverse left) h in let p = back-parts left (reverse b.more) (b.first ∷ []) 1 (last-one left b.first b.more b.is) refl in subst (AllOf look.is_blank) (sym p.1) (b.passes, tt))
-    (λ h. let p = back-parts left left [] 0 (sym (append-nil left)) refl in subst (AllOf look.is_blank) (sym p.1) tt)
+last-blank : (left : List Lexeme) → AllOf look.is_blank_kind (look.last_few (look.one_if look.is_blank_kind (reverse left)) left)
+last-blank left = cond_both (look.first_is look.is_blank_kind (reverse left)) _ _ (λ n. AllOf look.is_blank_kind (look.last_few n left))
+    (λ h. let b = begun look.is_blank_kind (reverse left) h in let p = back-parts left (reverse b.more) (b.first ∷ []) 1 (last-one left b.first b.more b.is) refl in subst (AllOf look.is_blank_kind) (sym p.1) (b.passes, tt))
+    (λ h. let p = back-parts left left [] 0 (sym (append-nil left)) refl in subst (AllOf look.is_blank_kind) (sym p.1) tt)
 
-at-most-last : (left : List Lexeme) → look.at_most_blank (look.last_few (look.one look.is_blank (reverse left)) left) ≡ true
-at-most-last left = cond_both (look.begins look.is_blank (reverse left)) _ _ (λ n. look.at_most_blank (look.last_few n left) ≡ true)
-    (λ h. let b = begun look.is_blank (reverse left) h in let p = back-parts left (reverse b.more) (b.first ∷ []) 1 (last-one left b.first b.more b.is) refl in ap look.at_most_blank p.1 ∙ b.passes)
+at-most-last : (left : List Lexeme) → look.at_most_blank (look.last_few (look.one_if look.is_blank_kind (reverse left)) left) ≡ true
+at-most-last left = cond_both (look.first_is look.is_blank_kind (reverse left)) _ _ (λ n. look.at_most_blank (look.last_few n left) ≡ true)
+    (λ h. let b = begun look.is_blank_kind (reverse left) h in let p = back-parts left (reverse b.more) (b.first ∷ []) 1 (last-one left b.first b.more b.is) refl in ap look.at_most_blank p.1 ∙ b.passes)
     (λ h. let p = back-parts left left [] 0 (sym (append-nil left)) refl in ap look.at_most_blank p.1)
 
 -- the blank at the beginning
-at-most-first : (right : List Lexeme) → look.at_most_blank (take (look.one look.is_blank right) right) ≡ true
-at-most-first right = cond_both (look.begins look.is_blank right) _ _ (λ m. look.at_most_blank (take m right) ≡ true)
-    (λ h. let b = begun look.is_blank right h in ap (λ xs. look.at_most_blank (take 1 xs)) b.is ∙ b.passes)
+at-most-first : (right : List Lexeme) → look.at_most_blank (take (look.one_if look.is_blank_kind right) right) ≡ true
+at-most-first right = cond_both (look.first_is look.is_blank_kind right) _ _ (λ m. look.at_most_blank (take m right) ≡ true)
+    (λ h. let b = begun look.is_blank_kind right h in ap (λ xs. look.at_most_blank (take 1 xs)) b.is ∙ b.passes)
     (λ h. refl)
 
 module _ (file source : List ℕ) (items : List Lexeme) (list : IsItemList source items) (s : Span) (more : List Word) (p : StatementIn items s more) where
@@ -147,9 +147,9 @@ module _ (file source : List ℕ) (items : List Lexeme) (list : IsItemList sourc
       let whole : after start items ≡ after behind_token p.right = ap (after start) (p.parts ∙ sym (append_assoc p.left p.own p.right)) ∙ after-append start (p.left ++ p.own) p.right ∙ ap (λ (v : State). after v p.right) p.ends in
       drop-line p.right more (ap₂ (λ (u v : State). emitted u p.right ++ closing v.fresh) (sym p.ends) (sym whole) ∙ p.is_right)
 
-  gone-by : (n m : ℕ) → AllOf look.is_blank (look.last_few n p.left) → look.at_most_blank (look.last_few n p.left) ≡ true → (blank line : List Lexeme) → take m p.right ≡ blank ++ line
+  gone-by : (n m : ℕ) → AllOf look.is_blank_kind (look.last_few n p.left) → look.at_most_blank (look.last_few n p.left) ≡ true → (blank line : List Lexeme) → take m p.right ≡ blank ++ line
       → AllOf look.is_white (take m p.right) → look.at_most_blank blank ≡ true → IsItsLineEnd (look.but_last n p.left) line
-      → StatementGone source p.left p.right (splices file 0 (statement_gone n m p.left p.own p.right)) (emitted start p.left ++ more)
+      → StatementCut source p.left p.right (splices file 0 (statement_gone n m p.left p.own p.right)) (emitted start p.left ++ more)
   gone-by n m blanks one_blank blank line lost_is white blank_is line_is =
       let front = look.but_last n p.left in
       let gone = look.last_few n p.left in
@@ -197,7 +197,7 @@ module _ (file source : List ℕ) (items : List Lexeme) (list : IsItemList sourc
       regroup : (a b r t d : List Lexeme) → a ++ ((b ++ (r ++ t)) ++ (d ++ [])) ≡ (a ++ b) ++ (r ++ (t ++ d))
       regroup a b r t d = simp (append_assoc, append-nil)
 
-      blank-no-line : (κ : Kind) → look.is_blank κ ≡ true → look.is_line_end κ ≡ false
+      blank-no-line : (κ : Kind) → look.is_blank_kind κ ≡ true → look.is_line_end κ ≡ false
       blank-no-line k.Blank h = refl
       blank-no-line _ h = absurd cc
 
@@ -207,19 +207,19 @@ module _ (file source : List ℕ) (items : List Lexeme) (list : IsItemList sourc
           let of : AllGood (t.first ∷ (t.more ++ xs)) = subst (λ l. AllGood (l ++ xs)) t.begins g in
           no-comment x t.first at.0 (speaks-no-line t.first.kind t.first_speaks) of.0
 
-      calm-by : (x : Lexeme) (gone : List Lexeme) (xs : List Lexeme) → IsTight p.own → AllOf look.is_blank gone → Follow x (gone ++ (p.own ++ p.right)) → AllGood (gone ++ (p.own ++ p.right)) → look.is_comment x.kind ≡ false
+      calm-by : (x : Lexeme) (gone : List Lexeme) (xs : List Lexeme) → IsTight p.own → AllOf look.is_blank_kind gone → Follow x (gone ++ (p.own ++ p.right)) → AllGood (gone ++ (p.own ++ p.right)) → look.is_comment x.kind ≡ false
       calm-by x [] xs t b f g = first-calm x p.right t f g
       calm-by x (z ∷ gone) xs t b f g = no-comment x z f.0 (blank-no-line z.kind b.0) g.0
 
-  statement-gone : StatementGone source p.left p.right (splices file 0 (statement_removed p.left p.own p.right)) (emitted start p.left ++ more)
+  statement-gone : StatementCut source p.left p.right (splices file 0 (statement_removed p.left p.own p.right)) (emitted start p.left ++ more)
   unfolding statement_removed
   statement-gone =
-      let n = look.one look.is_blank (reverse p.left) in
-      let m = look.one look.is_blank p.right in
-      let blank = one-all look.is_blank p.right in
-      cond_both (at_line_start (reverse (look.but_last n p.left)) && look.begins look.is_line_end (drop m p.right)) _ _ (λ ps. StatementGone source p.left p.right (splices file 0 ps) (emitted start p.left ++ more))
+      let n = look.one_if look.is_blank_kind (reverse p.left) in
+      let m = look.one_if look.is_blank_kind p.right in
+      let blank = one-all look.is_blank_kind p.right in
+      cond_both (at_line_start (reverse (look.but_last n p.left)) && look.first_is look.is_line_end (drop m p.right)) _ _ (λ ps. StatementCut source p.left p.right (splices file 0 ps) (emitted start p.left ++ more))
       (λ h.
-      let both = and_parts (at_line_start (reverse (look.but_last n p.left))) (look.begins look.is_line_end (drop m p.right)) h in
+      let both = and_parts (at_line_start (reverse (look.but_last n p.left))) (look.first_is look.is_line_end (drop m p.right)) h in
       let e = begun look.is_line_end (drop m p.right) both.1 in
       let lost : take (m + 1) p.right ≡ take m p.right ++ e.first ∷ [] = take-add m 1 p.right ∙ ap (λ xs. take m p.right ++ take 1 xs) e.is in
       gone-by n (m + 1) (last-blank p.left) (at-most-last p.left) (take m p.right) (e.first ∷ []) lost
@@ -230,4 +230,4 @@ module _ (file source : List ℕ) (items : List Lexeme) (list : IsItemList sourc
 pub statement-removal-law : StatementRemovalLaw
 statement-removal-law file source items list s more p =
     let at = parts-are items p.left p.own p.right s p.parts p.from p.to (items-good items [] list.each) in
-    subst (λ ss. StatementGone source p.left p.right ss (emitted start p.left ++ more)) (sym (ap (λ (q : Parts). splices file 0 (statement_removed q.left q.own q.right)) at)) (statement-gone file source items list s more p)
+    subst (λ ss. StatementCut source p.left p.right ss (emitted start p.left ++ more)) (sym (ap (λ (q : Parts). splices file 0 (statement_removed q.left q.own q.right)) at)) (statement-gone file source items list s more p)

@@ -15,7 +15,7 @@ use Rattle.meson_layout.specs.Words.{remarks, IsBehindElement, IsBeforeValue}
 use Rattle.meson_layout.specs.Pieces.{as_one, splices, line_feed, open_square, close_square}
 use Rattle.meson_layout.specs.Insertion.{first}
 use Rattle.meson_layout.specs.Layout.{Parts, before_len, first_in, layout_of, replaced, wrapped}
-use Rattle.meson_layout.specs.Edited.{ListIn, PartIn, IsNew, Edited}
+use Rattle.meson_layout.specs.Edited.{ListOfItems, PartIn, IsNew, Edited}
 use Rattle.meson_layout.specs.Laws.{FirstLaw, ReplacementLaw, WrapLaw, WrapKeeps}
 use Rattle.meson_layout.proofs.FirstBytes.{soft_item}
 use Rattle.meson_layout.proofs.Near.{Follow, AllGood, IsLoose, last, items-good, follow-join, follow-front, follow-rest, good-join, good-front, good-rest}
@@ -71,7 +71,7 @@ replaced-made o c left own right site ends behind new v =
       };
     }
 
-module _ (file source : List ℕ) (items : List Lexeme) (list : IsItemList source items) (l : ListIn items) (s : Span) (p : PartIn items l s) (ends : IsBeforeValue (spoken p.left)) (follows : IsBehindElement (spoken p.right)) where
+module _ (file source : List ℕ) (items : List Lexeme) (list : IsItemList source items) (l : ListOfItems items) (s : Span) (p : PartIn items l s) (ends : IsBeforeValue (spoken p.left)) (follows : IsBehindElement (spoken p.right)) where
   abbrev left : List Lexeme
   left = before source items list l s p
 
@@ -189,7 +189,7 @@ first-made o c inner l fits good soft none fresh f = record {
 }
 
 -- the pieces on both sides of the bracket
-pub first-parts : (source : List ℕ) (items : List Lexeme) → IsItemList source items → (l : ListIn items) (at : ℕ) → at ≡ length (joined l.front) → (new : List ℕ)
+pub first-parts : (source : List ℕ) (items : List Lexeme) → IsItemList source items → (l : ListOfItems items) (at : ℕ) → at ≡ length (joined l.front) → (new : List ℕ)
     → first_in (before_len (at + 1) items) items (as_one new) ≡ first (l.front ++ l.open_item ∷ []) (l.inner ++ l.close_item ∷ l.rest) (as_one new)
 first-parts source items list l at is_at new =
     let o = l.open_item in

@@ -10,7 +10,7 @@ use Rattle.meson_lex.specs.Words.{spoken, IsTight}
 use Rattle.meson_layout.specs.Words.{remarks, IsCommaAtMost}
 
 -- a list, from its opening bracket to its closing one
-pub record ListIn (items : List Lexeme) : Type 0 where
+pub record ListOfItems (items : List Lexeme) : Type 0 where
   pub front : List Lexeme
   pub open_item : Lexeme
   pub inner : List Lexeme
@@ -21,7 +21,7 @@ pub record ListIn (items : List Lexeme) : Type 0 where
   pub closes : role close_item.kind ≡ Closes
 
 -- a part of the list: an element, or the value of one
-pub record PartIn (items : List Lexeme) (l : ListIn items) (s : Span) : Type 0 where
+pub record PartIn (items : List Lexeme) (l : ListOfItems items) (s : Span) : Type 0 where
   pub left : List Lexeme
   pub own : List Lexeme
   pub right : List Lexeme
@@ -55,7 +55,7 @@ pub record Keeps (left right : List Lexeme) (text : List ℕ) : Type 0 where
   pub lost_is : IsCommaAtMost (spoken lost)
 
 -- The splices give a text that differs within the brackets alone. There stands a list with these words and remarks, and the items left and right of the touched part are kept.
-pub record Edited (source : List ℕ) (items : List Lexeme) (l : ListIn items) (left right : List Lexeme) (ss : List Splice) (words : List Word) (notes : List Lexeme) : Type 0 where
+pub record Edited (source : List ℕ) (items : List Lexeme) (l : ListOfItems items) (left right : List Lexeme) (ss : List Splice) (words : List Word) (notes : List Lexeme) : Type 0 where
   pub inner : List Lexeme
   pub text : List ℕ
   pub patches : patched_by source ss ≡ Ok (joined l.front ++ (text ++ joined l.rest))

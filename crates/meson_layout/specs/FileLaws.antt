@@ -44,7 +44,7 @@ IsItsLineEnd front line = (line ≡ []) ⊎ ((at_line_start (reverse front) ≡ 
 
 -- A removed statement: its tokens and those of its line end go. All before it and all behind it stays, but for the blank directly before it, the one
 -- directly behind it, and behind that the line end of a statement that began its line.
-pub record StatementGone (source : List ℕ) (left right : List Lexeme) (ss : List Splice) (tokens : List Word) : Type 0 where
+pub record StatementCut (source : List ℕ) (left right : List Lexeme) (ss : List Splice) (tokens : List Word) : Type 0 where
   pub front : List Lexeme
   pub gone : List Lexeme
   pub blank : List Lexeme
@@ -59,7 +59,7 @@ pub record StatementGone (source : List ℕ) (left right : List Lexeme) (ss : Li
 
 abbrev pub StatementRemovalLaw : Type 0
 StatementRemovalLaw = (file source : List ℕ) (items : List Lexeme) → IsItemList source items → (s : Span) (more : List Word) (p : StatementIn items s more)
-    → StatementGone source p.left p.right (layout_of file items (RemoveStatement s)) (emitted start p.left ++ more)
+    → StatementCut source p.left p.right (layout_of file items (RemoveStatement s)) (emitted start p.left ++ more)
 
 -- a statement as it is written, by itself
 pub record IsStatement (bytes : List ℕ) (fresh : List Lexeme) (words : List Word) : Type 0 where

@@ -1,7 +1,7 @@
 -- Where a new element goes: `left`, `own` and `right` are the items before, of and behind the element after which it comes.
 use Rattle.std.specs.Prelude.{ℕ, zero, suc, List, [], ◌∷◌, ◌++◌, take, drop, if◌then◌else◌, Option, Some, None}
 use Rattle.meson_lex.specs.Items.{Lexeme}
-use Rattle.meson_layout.specs.Looks.{last_few, line_before, note_len, comma_note_len, closes}
+use Rattle.meson_layout.specs.Looks.{last_few, line_before, note_len, comma_note_len, closing_follows}
 use Rattle.meson_layout.specs.Pieces.{Piece, Keep, Change, comma, space}
 
 -- The list has no element: directly after its bracket.
@@ -9,8 +9,8 @@ abbrev pub first : List Lexeme → List Lexeme → List Lexeme → List Piece
 first left right new = Keep left ∷ Change [] new ∷ Keep right ∷ []
 
 -- Directly after the element.
-abbrev pub plain : List Lexeme → List Lexeme → List Lexeme → List Lexeme → List Piece
-plain left own right new = Keep left ∷ Keep own ∷ Change [] (comma ∷ space ∷ new) ∷ Keep right ∷ []
+abbrev pub plain_insertion : List Lexeme → List Lexeme → List Lexeme → List Lexeme → List Piece
+plain_insertion left own right new = Keep left ∷ Keep own ∷ Change [] (comma ∷ space ∷ new) ∷ Keep right ∷ []
 
 -- Stacked: the element is first on its line, and `line` is the line end before it with its indent.
 
@@ -29,7 +29,7 @@ before_bracket left own right line new = Keep left ∷ Keep own ∷ Change [] (c
 
 abbrev pub no_comma_on_line : Option ℕ → List Lexeme → List Lexeme → List Lexeme → List Lexeme → List Lexeme → List Piece
 no_comma_on_line (Some n) left own right line new = without_comma n left own right line new
-no_comma_on_line None left own right line new = if closes right then before_bracket left own right line new else plain left own right new
+no_comma_on_line None left own right line new = if closing_follows right then before_bracket left own right line new else plain_insertion left own right new
 
 abbrev pub stacked : Option ℕ → List Lexeme → List Lexeme → List Lexeme → List Lexeme → List Lexeme → List Piece
 stacked (Some n) left own right line new = with_comma n left own right line new
@@ -37,7 +37,7 @@ stacked None left own right line new = no_comma_on_line (note_len right) left ow
 
 abbrev pub inserted_by : Option ℕ → List Lexeme → List Lexeme → List Lexeme → List Lexeme → List Piece
 inserted_by (Some n) left own right new = stacked (comma_note_len right) left own right (last_few (suc n) left) new
-inserted_by None left own right new = plain left own right new
+inserted_by None left own right new = plain_insertion left own right new
 
 unfoldable pub inserted : List Lexeme → List Lexeme → List Lexeme → List Lexeme → List Piece
 inserted left own right new = inserted_by (line_before left) left own right new

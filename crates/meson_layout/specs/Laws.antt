@@ -7,24 +7,24 @@ use Rattle.meson_lex.specs.Items.{Lexeme, joined, IsItemList}
 use Rattle.meson_lex.specs.Significant.{Word}
 use Rattle.meson_splice.specs.declared.file_set.File.{File}
 use Rattle.meson_splice.specs.declared.splice.Splice.{Splice}
-use Rattle.meson_splice.specs.Files.{found, bytes_at, with_bytes}
+use Rattle.meson_splice.specs.Files.{position_of_file, bytes_at, with_bytes}
 use Rattle.meson_splice.specs.Patch.{patched_all}
 use Rattle.meson_layout.specs.declared.primitive.Primitive.{Primitive}
 use Rattle.meson_layout.specs.declared.primitive.Primitive.TheVariants.{First, After, Remove, Replace, Wrap, RemoveStatement, Append}
 use Rattle.meson_layout.specs.Layout.{layout_of}
 use Rattle.meson_lex.specs.Words.{spoken}
 use Rattle.meson_layout.specs.Words.{remarks, comma_word, IsBehindElement, IsBeforeElement, IsBeforeValue}
-use Rattle.meson_layout.specs.Edited.{ListIn, PartIn, IsNew, Edited, patched_by}
+use Rattle.meson_layout.specs.Edited.{ListOfItems, PartIn, IsNew, Edited, patched_by}
 
 -- The first element of a list that has none.
 abbrev pub FirstLaw : Type 0
-FirstLaw = (file source : List ℕ) (items : List Lexeme) → IsItemList source items → (l : ListIn items) → spoken l.inner ≡ []
+FirstLaw = (file source : List ℕ) (items : List Lexeme) → IsItemList source items → (l : ListOfItems items) → spoken l.inner ≡ []
     → (at : ℕ) → at ≡ length (joined l.front) → (new : List ℕ) (fresh : List Lexeme) → IsNew new fresh
     → Edited source items l [] l.inner (layout_of file items (First at new)) (spoken fresh) (remarks l.inner)
 
 -- A new element behind another one: its words come behind a comma. No comment and no continuation goes.
 abbrev pub InsertionLaw : Type 0
-InsertionLaw = (file source : List ℕ) (items : List Lexeme) → IsItemList source items → (l : ListIn items) (s : Span) (p : PartIn items l s) → IsBehindElement (spoken p.right)
+InsertionLaw = (file source : List ℕ) (items : List Lexeme) → IsItemList source items → (l : ListOfItems items) (s : Span) (p : PartIn items l s) → IsBehindElement (spoken p.right)
     → (new : List ℕ) (fresh : List Lexeme) → IsNew new fresh
     → Edited source items l (p.left ++ p.own) p.right (layout_of file items (After s new)) (spoken p.left ++ (spoken p.own ++ comma_word ∷ (spoken fresh ++ spoken p.right))) (remarks l.inner)
 
@@ -37,30 +37,30 @@ IsWithout left right words =
 
 -- An element removed: its own comments and continuations go, and no others.
 abbrev pub RemovalLaw : Type 0
-RemovalLaw = (file source : List ℕ) (items : List Lexeme) → IsItemList source items → (l : ListIn items) (s : Span) (p : PartIn items l s)
+RemovalLaw = (file source : List ℕ) (items : List Lexeme) → IsItemList source items → (l : ListOfItems items) (s : Span) (p : PartIn items l s)
     → IsBeforeElement (spoken p.left) → IsBehindElement (spoken p.right) → (words : List Word) → IsWithout (spoken p.left) (spoken p.right) words
     → Edited source items l p.left p.right (layout_of file items (Remove s)) words (remarks p.left ++ remarks p.right)
 
 -- A value that becomes another one.
 abbrev pub ReplacementLaw : Type 0
-ReplacementLaw = (file source : List ℕ) (items : List Lexeme) → IsItemList source items → (l : ListIn items) (s : Span) (p : PartIn items l s)
+ReplacementLaw = (file source : List ℕ) (items : List Lexeme) → IsItemList source items → (l : ListOfItems items) (s : Span) (p : PartIn items l s)
     → IsBeforeValue (spoken p.left) → IsBehindElement (spoken p.right) → (new : List ℕ) (fresh : List Lexeme) → IsNew new fresh
     → Edited source items l p.left p.right (layout_of file items (Replace s new)) (spoken p.left ++ (spoken fresh ++ spoken p.right)) (remarks p.left ++ remarks p.right)
 
 -- A value that becomes the array of it.
 abbrev pub WrapLaw : Type 0
-WrapLaw = (file source : List ℕ) (items : List Lexeme) → IsItemList source items → (l : ListIn items) (s : Span) (p : PartIn items l s)
+WrapLaw = (file source : List ℕ) (items : List Lexeme) → IsItemList source items → (l : ListOfItems items) (s : Span) (p : PartIn items l s)
     → IsBeforeValue (spoken p.left) → IsBehindElement (spoken p.right)
     → Edited source items l p.left p.right (layout_of file items (Wrap s)) (spoken p.left ++ ((OpenSquare, []) ∷ (spoken p.own ++ (CloseSquare, []) ∷ spoken p.right))) (remarks l.inner)
 
 -- It is one splice, and the value keeps its bytes.
 abbrev pub WrapKeeps : Type 0
-WrapKeeps = (file source : List ℕ) (items : List Lexeme) → IsItemList source items → (l : ListIn items) (s : Span) (p : PartIn items l s)
+WrapKeeps = (file source : List ℕ) (items : List Lexeme) → IsItemList source items → (l : ListOfItems items) (s : Span) (p : PartIn items l s)
     → layout_of file items (Wrap s) ≡ record { file = file; at = s.from; was = joined p.own; now = 91 ∷ (joined p.own ++ 93 ∷ []) } ∷ []
 
 -- In a set of files the splices of an edit change the one file, and in the same way.
 abbrev pub FilesLaw : Type 0
-FilesLaw = (files : List File) (i : ℕ) (file source text : List ℕ) (items : List Lexeme) (primitive : Primitive) → found file files ≡ Some i → bytes_at i files ≡ source
+FilesLaw = (files : List File) (i : ℕ) (file source text : List ℕ) (items : List Lexeme) (primitive : Primitive) → position_of_file file files ≡ Some i → bytes_at i files ≡ source
     → patched_by source (layout_of file items primitive) ≡ Ok text → patched_all files (layout_of file items primitive) ≡ Ok (with_bytes i text files)
 
 -- what is new is UTF-8

@@ -27,11 +27,11 @@ pub record Parts : Type 0 where
 abbrev pub parts_by : ℕ → List Lexeme → List Lexeme → Parts
 parts_by n left rest = record { left = left; own = take n rest; right = drop n rest }
 
-abbrev pub parts_from : ℕ → ℕ → List Lexeme → Parts
-parts_from n size items = parts_by (before_len size (drop n items)) (take n items) (drop n items)
+abbrev pub parts_of_items : ℕ → ℕ → List Lexeme → Parts
+parts_of_items n size items = parts_by (before_len size (drop n items)) (take n items) (drop n items)
 
 unfoldable pub parts : Span → List Lexeme → Parts
-parts s items = parts_from (before_len s.from items) (s.to - s.from) items
+parts s items = parts_of_items (before_len s.from items) (s.to - s.from) items
 
 -- ---- pieces
 
@@ -59,11 +59,11 @@ abbrev pub layout_of : List ℕ → List Lexeme → Primitive → List Splice
 layout_of file items primitive = splices file 0 (pieces primitive items)
 
 -- The layout looks at no item that begins at this offset or behind it.
-abbrev pub end_of : Primitive → ℕ
-end_of (First bracket new) = bracket + 1
-end_of (Replace value new) = value.to
-end_of (Wrap value) = value.to
-end_of _ = 2 ^ 64 - 1
+abbrev pub end_of_look : Primitive → ℕ
+end_of_look (First bracket new) = bracket + 1
+end_of_look (Replace value new) = value.to
+end_of_look (Wrap value) = value.to
+end_of_look _ = 2 ^ 64 - 1
 
 -- ---- conditions
 

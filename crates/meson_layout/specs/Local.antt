@@ -5,7 +5,7 @@ use Rattle.meson_lex.specs.Items.{Lexeme, joined, IsItemList}
 use Rattle.meson_splice.specs.declared.splice.Splice.{Splice}
 use Rattle.meson_layout.specs.declared.primitive.Primitive.{Primitive}
 use Rattle.meson_layout.specs.declared.primitive.Primitive.TheVariants.{First, After, Remove, Replace, Wrap, RemoveStatement, Append}
-use Rattle.meson_layout.specs.Edited.{ListIn, PartIn}
+use Rattle.meson_layout.specs.Edited.{ListOfItems, PartIn}
 use Rattle.meson_layout.specs.Layout.{layout_of}
 
 -- ---- places that count from the beginning of the list
@@ -29,11 +29,11 @@ farther n s = record { file = s.file; at = n + s.at; was = s.was; now = s.now }
 
 -- ---- the list alone
 
-abbrev pub alone : (items : List Lexeme) → ListIn items → List Lexeme
+abbrev pub alone : (items : List Lexeme) → ListOfItems items → List Lexeme
 alone items l = l.open_item ∷ (l.inner ++ l.close_item ∷ [])
 
 -- the edit names the list's bracket, or a part of the list
-abbrev pub IsOfList : (items : List Lexeme) → ListIn items → Primitive → Type 0
+abbrev pub IsOfList : (items : List Lexeme) → ListOfItems items → Primitive → Type 0
 IsOfList items l (First bracket new) = bracket ≡ length (joined l.front)
 IsOfList items l (After element new) = PartIn items l element
 IsOfList items l (Remove element) = PartIn items l element
@@ -43,14 +43,14 @@ IsOfList items l (RemoveStatement statement) = ⊥
 IsOfList items l (Append new) = ⊥
 
 -- the list's span in a source of these items
-abbrev pub span_in : (items : List Lexeme) → ListIn items → Span
+abbrev pub span_in : (items : List Lexeme) → ListOfItems items → Span
 span_in items l = record { from = length (joined l.front); to = length (joined (l.front ++ alone items l)) }
 
 -- The source has an item list with a list at the span, and the edit is one of that list.
 pub record IsReadyIn (source : List ℕ) (list : Span) (primitive : Primitive) : Type 0 where
   pub items : List Lexeme
   pub are_items : IsItemList source items
-  pub list_in : ListIn items
+  pub list_in : ListOfItems items
   pub span : list ≡ span_in items list_in
   pub of_list : IsOfList items list_in primitive
 
@@ -58,5 +58,5 @@ pub record IsReadyIn (source : List ℕ) (list : Span) (primitive : Primitive) :
 
 -- Where a list stands changes nothing in how an edit of it is laid out: its splices are those in the list's own text.
 abbrev pub LocalLaw : Type 0
-LocalLaw = (file source : List ℕ) (items : List Lexeme) → IsItemList source items → (l : ListIn items) → (primitive : Primitive) → IsOfList items l primitive
+LocalLaw = (file source : List ℕ) (items : List Lexeme) → IsItemList source items → (l : ListOfItems items) → (primitive : Primitive) → IsOfList items l primitive
     → layout_of file items primitive ≡ map (farther (length (joined l.front))) (layout_of file (alone items l) (nearer (length (joined l.front)) primitive))

@@ -8,9 +8,9 @@ use Rattle.meson_lex.specs.Items.{Lexeme}
 
 -- ---- kinds
 
-abbrev pub is_blank : Kind → Bool
-is_blank Blank = true
-is_blank _ = false
+abbrev pub is_blank_kind : Kind → Bool
+is_blank_kind Blank = true
+is_blank_kind _ = false
 
 -- a continuation is no line end
 abbrev pub is_line_end : Kind → Bool
@@ -45,13 +45,13 @@ is_white LineEnd = true
 is_white _ = false
 
 -- the first item is of such a kind
-abbrev pub begins : (Kind → Bool) → List Lexeme → Bool
-begins test [] = false
-begins test (x ∷ xs) = test x.kind
+abbrev pub first_is : (Kind → Bool) → List Lexeme → Bool
+first_is test [] = false
+first_is test (x ∷ xs) = test x.kind
 
 -- 1, where the first item is of such a kind
-abbrev pub one : (Kind → Bool) → List Lexeme → ℕ
-one test xs = if begins test xs then 1 else 0
+abbrev pub one_if : (Kind → Bool) → List Lexeme → ℕ
+one_if test xs = if first_is test xs then 1 else 0
 
 -- all but the last n, and the last n
 abbrev pub but_last : ℕ → List Lexeme → List Lexeme
@@ -65,7 +65,7 @@ last_few n xs = drop (length xs - n) xs
 -- How many items stand between a line end and what follows it: none, or one blank. (Nearest first.)
 abbrev pub line_near : List Lexeme → Option ℕ
 line_near [] = None
-line_near (x ∷ xs) = if is_line_end x.kind then Some 0 else (if is_blank x.kind && begins is_line_end xs then Some 1 else None)
+line_near (x ∷ xs) = if is_line_end x.kind then Some 0 else (if is_blank_kind x.kind && first_is is_line_end xs then Some 1 else None)
 
 abbrev pub line_before : List Lexeme → Option ℕ
 line_before left = line_near (reverse left)
@@ -73,15 +73,15 @@ line_before left = line_near (reverse left)
 -- How many items end a line: nothing or one blank, and a line end.
 abbrev pub line_behind : List Lexeme → Option ℕ
 line_behind right =
-    let n = one is_blank right in
-    if begins is_line_end (drop n right) then Some (suc n) else None
+    let n = one_if is_blank_kind right in
+    if first_is is_line_end (drop n right) then Some (suc n) else None
 
 -- How many items stand before the line end that ends this line, where these are at most a blank and a comment.
 abbrev pub note_len : List Lexeme → Option ℕ
 note_len right =
-    let n = one is_blank right in
-    let m = one is_comment (drop n right) in
-    if begins is_line_end (drop m (drop n right)) then Some (n + m) else None
+    let n = one_if is_blank_kind right in
+    let m = one_if is_comment (drop n right) in
+    if first_is is_line_end (drop m (drop n right)) then Some (n + m) else None
 
 abbrev pub more_by : ℕ → Option ℕ → Option ℕ
 more_by n None = None
@@ -90,12 +90,12 @@ more_by n (Some m) = Some (n + m)
 -- The same, where a comma stands before these, and at most a blank before it.
 abbrev pub comma_note_len : List Lexeme → Option ℕ
 comma_note_len right =
-    let n = one is_blank right in
-    if begins is_comma (drop n right) then more_by (n + 1) (note_len (drop 1 (drop n right))) else None
+    let n = one_if is_blank_kind right in
+    if first_is is_comma (drop n right) then more_by (n + 1) (note_len (drop 1 (drop n right))) else None
 
 -- a closing bracket follows, and before it at most a blank
-abbrev pub closes : List Lexeme → Bool
-closes right = begins is_closing (drop (one is_blank right) right)
+abbrev pub closing_follows : List Lexeme → Bool
+closing_follows right = first_is is_closing (drop (one_if is_blank_kind right) right)
 
 -- ---- gaps
 
@@ -109,5 +109,5 @@ all_white xs = list_all (λ (x : Lexeme). is_white x.kind) xs
 -- nothing, or one blank
 abbrev pub at_most_blank : List Lexeme → Bool
 at_most_blank [] = true
-at_most_blank (x ∷ []) = is_blank x.kind
+at_most_blank (x ∷ []) = is_blank_kind x.kind
 at_most_blank (x ∷ y ∷ ys) = false

@@ -4,8 +4,8 @@ use Rattle.meson_lex.specs.Items.{Lexeme, joined}
 use Rattle.meson_layout.specs.declared.place.Place.{Place}
 
 -- the file's offsets fit, and one more
-abbrev pub Fits : Place → Type 0
-Fits p = length (joined p.left.now) + (length (joined p.own.now) + length (joined p.right.now)) + 1 < 2 ^ 64
+abbrev pub PlaceFits : Place → Type 0
+PlaceFits p = length (joined p.left.now) + (length (joined p.own.now) + length (joined p.right.now)) + 1 < 2 ^ 64
 
 -- the pieces of a place
 abbrev pub at_place : {A : Type 0} → (List Lexeme → List Lexeme → List Lexeme → A) → Place → A

@@ -3,7 +3,7 @@ use Rattle.std.specs.Prelude.{ℕ, ◌+◌, List, [], ◌∷◌, ◌++◌, take,
 use Rattle.meson_lex.specs.Items.{Lexeme}
 use Rattle.meson_splice.specs.declared.splice.Splice.{Splice}
 use Rattle.meson_layout.specs.declared.removal.Growth.{Growth}
-use Rattle.meson_layout.specs.Looks.{is_blank, is_comma, begins, one, but_last, last_few, line_before, line_behind, gap_len, all_white, at_most_blank}
+use Rattle.meson_layout.specs.Looks.{is_blank_kind, is_comma, first_is, one_if, but_last, last_few, line_before, line_behind, gap_len, all_white, at_most_blank}
 use Rattle.meson_layout.specs.Pieces.{Piece, Keep, Change}
 
 -- ---- whole lines
@@ -46,7 +46,7 @@ two_ranges left range mid other right = two_ranges_by (grown mid right) left ran
 
 -- how many items a comma is with the blank behind it
 abbrev pub comma_len : List Lexeme → ℕ
-comma_len after = 1 + one is_blank (drop 1 after)
+comma_len after = 1 + one_if is_blank_kind (drop 1 after)
 
 abbrev pub comma_behind_by : ℕ → List Lexeme → List Lexeme → List Lexeme → List Lexeme → List Piece
 comma_behind_by n left own mid after = if at_most_blank mid then one_range left (own ++ (mid ++ take n after)) (drop n after) else two_ranges left own mid (take n after) (drop n after)
@@ -68,11 +68,11 @@ comma_before left range mid own right =
 abbrev pub no_comma_behind : ℕ → List Lexeme → List Lexeme → List Lexeme → List Piece
 no_comma_behind m left own right =
     let before = but_last m left in
-    if begins is_comma (reverse before) then comma_before (but_last 1 before) (last_few 1 before) (last_few m left) own right else one_range left own right
+    if first_is is_comma (reverse before) then comma_before (but_last 1 before) (last_few 1 before) (last_few m left) own right else one_range left own right
 
 unfoldable pub removed : List Lexeme → List Lexeme → List Lexeme → List Piece
 removed left own right =
     let n = gap_len right in
-    if begins is_comma (drop n right)
+    if first_is is_comma (drop n right)
     then comma_behind left own (take n right) (drop n right)
     else no_comma_behind (gap_len (reverse left)) left own right

@@ -1,7 +1,7 @@
 -- What goes with a removed statement, and where a new one goes.
 use Rattle.std.specs.Prelude.{ℕ, ◌+◌, Bool, true, ◌&&◌, List, [], ◌∷◌, ◌++◌, take, drop, reverse, if◌then◌else◌}
 use Rattle.meson_lex.specs.Items.{Lexeme}
-use Rattle.meson_layout.specs.Looks.{is_blank, is_line_end, begins, one, but_last, last_few}
+use Rattle.meson_layout.specs.Looks.{is_blank_kind, is_line_end, first_is, one_if, but_last, last_few}
 use Rattle.meson_layout.specs.Pieces.{Piece, Keep, Change, line_feed}
 
 -- nothing at all, or a line end (nearest first)
@@ -16,9 +16,9 @@ statement_gone n m left own right = Keep (but_last n left) ∷ Change (last_few 
 -- The blank directly before and the one directly behind go, and the line end behind that where the statement began its line.
 unfoldable pub statement_removed : List Lexeme → List Lexeme → List Lexeme → List Piece
 statement_removed left own right =
-    let n = one is_blank (reverse left) in
-    let m = one is_blank right in
-    if at_line_start (reverse (but_last n left)) && begins is_line_end (drop m right) then statement_gone n (m + 1) left own right else statement_gone n m left own right
+    let n = one_if is_blank_kind (reverse left) in
+    let m = one_if is_blank_kind right in
+    if at_line_start (reverse (but_last n left)) && first_is is_line_end (drop m right) then statement_gone n (m + 1) left own right else statement_gone n m left own right
 
 -- the first line end of a text, else LF
 abbrev pub line_end_of : List Lexeme → Lexeme

@@ -3,10 +3,10 @@
 ghost use Rattle.std.specs.Prelude.{◌≡◌, ◌+◌, ◌<◌, ◌≤◌, ◌^◌, ◌++◌, ◌∷◌, [], IfErr, IfOk, List, drop, length, take};
 ghost use Rattle.meson_lex.specs.Items.{IsItemList, joined};
 ghost use Rattle.meson_lex.specs.Items.{Lexeme};
-ghost use Rattle.meson_layout.specs.Layout.{FirstFits, IsReady, before_len, end_of, layout_of, parts, replaced, wrapped};
+ghost use Rattle.meson_layout.specs.Layout.{FirstFits, IsReady, before_len, end_of_look, layout_of, parts, replaced, wrapped};
 ghost use Rattle.meson_layout.specs.Insertion.{first};
 ghost use Rattle.meson_layout.specs.Pieces.{as_one, splices};
-ghost use Rattle.meson_layout.specs.Places.{Fits, at_place};
+ghost use Rattle.meson_layout.specs.Places.{PlaceFits, at_place};
 ghost use Rattle.meson_splice.specs.declared.fault.SpliceFault.TheVariants.{OutOfMemory};
 
 use crate::lexemes::{Lexeme, lexemes};
@@ -43,7 +43,7 @@ fn place_of<'i, 'a>(
     span: Span,
 ) -> Place<'i, 'a>
     requires { length (joined items.now) + 1 < 2 ^ 64 }
-    ensures fits { Fits result }
+    ensures fits { PlaceFits result }
     ensures file { result.file.now ≡ file.entry.now }
     ensures left { result.left.now ≡ (parts span items.entry.now).left }
     ensures own { result.own.now ≡ (parts span items.entry.now).own }
@@ -63,7 +63,7 @@ fn place_of<'i, 'a>(
 impl<'i, 'a> Place<'i, 'a> {
     /// The value becomes other bytes.
     fn replaced(self, new: &[u8]) -> Result<Vec<Splice>, SpliceFault>
-        requires { Fits self }
+        requires { PlaceFits self }
         ensures done { IfOk result (λ v. v.items ≡ splices self.entry.file.now 0 (at_place replaced self.entry (as_one new.now))) }
         ensures refused { IfErr result (λ e. e ≡ OutOfMemory) }
     {
@@ -89,7 +89,7 @@ impl<'i, 'a> Place<'i, 'a> {
     /// The value becomes the array of it.
     #[tactic(auto, using(crate::proofs::Texts::joined_closed))]
     fn wrapped(self) -> Result<Vec<Splice>, SpliceFault>
-        requires { Fits self }
+        requires { PlaceFits self }
         ensures done { IfOk result (λ v. v.items ≡ splices self.entry.file.now 0 (at_place wrapped self.entry)) }
         ensures refused { IfErr result (λ e. e ≡ OutOfMemory) }
     {
@@ -153,7 +153,7 @@ pub(crate) fn layout_items(
 /// The offset before which all items begin that the layout of an edit looks at.
 fn end_of(primitive: &Primitive) -> usize
     requires { FirstFits primitive.now }
-    ensures { result ≡ end_of primitive.now }
+    ensures { result ≡ end_of_look primitive.now }
 {
     match primitive {
         Primitive::First { bracket, .. } => *bracket + 1,

@@ -2,9 +2,9 @@
 
 ghost use Rattle.std.specs.Prelude.{◌≡◌, ◌++◌, ◌∷◌, [], OnOk, ◌+◌, ◌<◌, ◌≤◌, ◌^◌, IfErr, IfOk, length, take, zero};
 ghost use Rattle.meson_lex.specs.Items.{joined};
-ghost use Rattle.meson_layout.specs.Insertion.{before_bracket, first, inserted, plain, with_comma, without_comma};
+ghost use Rattle.meson_layout.specs.Insertion.{before_bracket, first, inserted, plain_insertion, with_comma, without_comma};
 ghost use Rattle.meson_layout.specs.Pieces.{as_one, splices};
-ghost use Rattle.meson_layout.specs.Places.{Fits, at_place};
+ghost use Rattle.meson_layout.specs.Places.{PlaceFits, at_place};
 ghost use Rattle.meson_splice.specs.declared.fault.SpliceFault.TheVariants.{OutOfMemory};
 
 use crate::lexemes::Lexeme;
@@ -25,8 +25,8 @@ fn push_line(to: &mut Vec<u8>, line: &[Lexeme<'_>], new: &[u8]) -> Result<(), Sp
 impl<'i, 'a> Place<'i, 'a> {
     /// Directly after the element.
     fn plain(self, new: &[u8]) -> Result<Vec<Splice>, SpliceFault>
-        requires { Fits self }
-        ensures done { IfOk result (λ v. v.items ≡ splices self.entry.file.now 0 (at_place plain self.entry (as_one new.now))) }
+        requires { PlaceFits self }
+        ensures done { IfOk result (λ v. v.items ≡ splices self.entry.file.now 0 (at_place plain_insertion self.entry (as_one new.now))) }
         ensures refused { IfErr result (λ e. e ≡ OutOfMemory) }
     {
         let mut now = Vec::new(self.alloc);
@@ -38,7 +38,7 @@ impl<'i, 'a> Place<'i, 'a> {
     /// Behind the element, on a line of its own: a comma and the new line.
     #[tactic(auto, using(crate::proofs::Texts::line_joined))]
     fn before_bracket(self, line: &[Lexeme<'a>], new: &[u8]) -> Result<Vec<Splice>, SpliceFault>
-        requires { Fits self }
+        requires { PlaceFits self }
         ensures done { IfOk result (λ v. v.items ≡ splices self.entry.file.now 0 (at_place before_bracket self.entry line.now (as_one new.now))) }
         ensures refused { IfErr result (λ e. e ≡ OutOfMemory) }
     {
@@ -56,7 +56,7 @@ impl<'i, 'a> Place<'i, 'a> {
         line: &[Lexeme<'a>],
         new: &[u8],
     ) -> Result<Vec<Splice>, SpliceFault>
-        requires fits { Fits self }
+        requires fits { PlaceFits self }
         requires within { n ≤ length self.right.now }
         ensures done { IfOk result (λ v. v.items ≡ splices self.entry.file.now 0 (at_place (with_comma n) self.entry line.now (as_one new.now))) }
         ensures refused { IfErr result (λ e. e ≡ OutOfMemory) }
@@ -76,7 +76,7 @@ impl<'i, 'a> Place<'i, 'a> {
         line: &[Lexeme<'a>],
         new: &[u8],
     ) -> Result<Vec<Splice>, SpliceFault>
-        requires fits { Fits self }
+        requires fits { PlaceFits self }
         requires within { n ≤ length self.right.now }
         ensures done { IfOk result (λ v. v.items ≡ splices self.entry.file.now 0 (at_place (without_comma n) self.entry line.now (as_one new.now))) }
         ensures refused { IfErr result (λ e. e ≡ OutOfMemory) }
@@ -91,7 +91,7 @@ impl<'i, 'a> Place<'i, 'a> {
 
     /// A comma directly after the element.
     fn comma(self) -> Result<Splice, SpliceFault>
-        requires { Fits self }
+        requires { PlaceFits self }
         ensures done { let p = self.entry in let end = length (joined p.left.now) + length (joined p.own.now) in
             IfOk result (λ s. s ≡ record { file = p.file.now; at = end; was = []; now = 44 ∷ [] }) }
         ensures refused { IfErr result (λ e. e ≡ OutOfMemory) }
@@ -115,7 +115,7 @@ impl<'i, 'a> Place<'i, 'a> {
         line: &[Lexeme<'a>],
         new: &[u8],
     ) -> Result<Splice, SpliceFault>
-        requires fits { Fits self }
+        requires fits { PlaceFits self }
         requires within { n ≤ length self.right.now }
         requires apart { 1 ≤ n }
         ensures done { let p = self.entry in let at = length (joined p.left.now) + length (joined p.own.now) + 1 + length (joined (take n p.right.now)) in
@@ -131,7 +131,7 @@ impl<'i, 'a> Place<'i, 'a> {
     /// A new element behind this one.
     #[tactic(auto, unfolding(crate::specs::Insertion::inserted))]
     pub(crate) fn inserted(self, new: &[u8]) -> Result<Vec<Splice>, SpliceFault>
-        requires { Fits self }
+        requires { PlaceFits self }
         ensures done { IfOk result (λ v. v.items ≡ splices self.entry.file.now 0 (at_place inserted self.entry (as_one new.now))) }
         ensures refused { IfErr result (λ e. e ≡ OutOfMemory) }
     {

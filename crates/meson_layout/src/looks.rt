@@ -1,14 +1,14 @@
 //! Looks at the items beside an element or a statement.
 
 ghost use Rattle.std.specs.Prelude.{◌≡◌, ◌≤◌, ◌+◌, IfSome, length, reverse};
-ghost use Rattle.meson_layout.specs.Looks.{all_white, at_most_blank, begins, closes, comma_note_len, gap_len, is_blank, is_closing, is_comma, is_comment, is_gap, is_line_end, line_before, line_behind, line_near, note_len, one};
+ghost use Rattle.meson_layout.specs.Looks.{all_white, at_most_blank, first_is, closing_follows, comma_note_len, gap_len, is_blank_kind, is_closing, is_comma, is_comment, is_gap, is_line_end, line_before, line_behind, line_near, note_len, one_if};
 ghost use Rattle.meson_layout.specs.Statements.{at_line_start};
 
 use crate::lexemes::Lexeme;
 use meson_lex::Kind;
 
 fn is_blank(kind: Kind) -> bool
-    ensures { result ≡ is_blank kind }
+    ensures { result ≡ is_blank_kind kind }
 {
     matches!(kind, Kind::Blank)
 }
@@ -40,7 +40,7 @@ fn is_gap(kind: Kind) -> bool
 }
 
 pub(crate) fn begins_line_end(items: &[Lexeme<'_>]) -> bool
-    ensures { result ≡ begins is_line_end items.now }
+    ensures { result ≡ first_is is_line_end items.now }
 {
     match items {
         [x, ..] => is_line_end(x.kind),
@@ -49,7 +49,7 @@ pub(crate) fn begins_line_end(items: &[Lexeme<'_>]) -> bool
 }
 
 pub(crate) fn begins_comma(items: &[Lexeme<'_>]) -> bool
-    ensures { result ≡ begins is_comma items.now }
+    ensures { result ≡ first_is is_comma items.now }
 {
     match items {
         [x, ..] => matches!(x.kind, Kind::Comma),
@@ -59,7 +59,7 @@ pub(crate) fn begins_comma(items: &[Lexeme<'_>]) -> bool
 
 /// Whether a comma stands last.
 pub(crate) fn ends_comma(items: &[Lexeme<'_>]) -> bool
-    ensures { result ≡ begins is_comma (reverse items.now) }
+    ensures { result ≡ first_is is_comma (reverse items.now) }
 {
     match items {
         [.., x] => matches!(x.kind, Kind::Comma),
@@ -68,7 +68,7 @@ pub(crate) fn ends_comma(items: &[Lexeme<'_>]) -> bool
 }
 
 fn begins_closing(items: &[Lexeme<'_>]) -> bool
-    ensures { result ≡ begins is_closing items.now }
+    ensures { result ≡ first_is is_closing items.now }
 {
     match items {
         [x, ..] => is_closing(x.kind),
@@ -78,7 +78,7 @@ fn begins_closing(items: &[Lexeme<'_>]) -> bool
 
 /// How many blanks stand first: one at most.
 pub(crate) fn blanks(items: &[Lexeme<'_>]) -> usize
-    ensures value { result ≡ one is_blank items.now }
+    ensures value { result ≡ one_if is_blank_kind items.now }
     ensures within { result ≤ length items.now }
 {
     match items {
@@ -89,7 +89,7 @@ pub(crate) fn blanks(items: &[Lexeme<'_>]) -> usize
 
 /// How many comments stand first: one at most.
 fn comments(items: &[Lexeme<'_>]) -> usize
-    ensures value { result ≡ one is_comment items.now }
+    ensures value { result ≡ one_if is_comment items.now }
     ensures within { result ≤ length items.now }
 {
     match items {
@@ -100,7 +100,7 @@ fn comments(items: &[Lexeme<'_>]) -> usize
 
 /// How many blanks stand last: one at most.
 pub(crate) fn last_blanks(items: &[Lexeme<'_>]) -> usize
-    ensures value { result ≡ one is_blank (reverse items.now) }
+    ensures value { result ≡ one_if is_blank_kind (reverse items.now) }
     ensures within { result ≤ length items.now }
 {
     match items {
@@ -177,7 +177,7 @@ pub(crate) fn comma_note_len(items: &[Lexeme<'_>]) -> Option<usize>
 
 /// Whether a closing bracket follows, and before it at most a blank.
 pub(crate) fn closes(items: &[Lexeme<'_>]) -> bool
-    ensures { result ≡ closes items.now }
+    ensures { result ≡ closing_follows items.now }
 {
     begins_closing(&items[blanks(items)..])
 }

@@ -2,7 +2,7 @@
 
 ghost use Rattle.std.specs.Prelude.{◌≡◌, ◌+◌, ◌<◌, ◌^◌, ◌++◌, ◌∷◌, [], IfErr, IfOk, OnErr, OnOk, length};
 ghost use Rattle.meson_lex.specs.Items.{joined};
-ghost use Rattle.meson_layout.specs.Places.{Fits};
+ghost use Rattle.meson_layout.specs.Places.{PlaceFits};
 ghost use Rattle.meson_splice.specs.declared.fault.SpliceFault.TheVariants.{OutOfMemory};
 
 use crate::lexemes::Lexeme;
@@ -120,7 +120,7 @@ pub(crate) struct Place<'i, 'a> {
 impl<'i, 'a> Place<'i, 'a> {
     /// The offset behind it.
     pub(crate) fn end(self) -> usize
-        requires { Fits self }
+        requires { PlaceFits self }
         ensures { result ≡ length (joined self.entry.left.now) + length (joined self.entry.own.now) }
     {
         text_len(self.left) + text_len(self.own)

@@ -5,7 +5,7 @@ ghost use Rattle.meson_layout.specs.Looks.{gap_len, last_few};
 ghost use Rattle.meson_lex.specs.Items.{joined};
 ghost use Rattle.meson_layout.specs.Removal.{comma_before, comma_behind, comma_len, gone, grown, no_comma_behind, one_range, removed, two_ranges};
 ghost use Rattle.meson_layout.specs.Pieces.{splices};
-ghost use Rattle.meson_layout.specs.Places.{Fits, at_place};
+ghost use Rattle.meson_layout.specs.Places.{PlaceFits, at_place};
 ghost use Rattle.meson_splice.specs.declared.fault.SpliceFault.TheVariants.{OutOfMemory};
 
 use crate::lexemes::Lexeme;
@@ -166,7 +166,7 @@ impl<'i, 'a> Place<'i, 'a> {
     /// This goes, and no comma stands behind it.
     #[tactic(auto, using(crate::proofs::Texts::joined_take, crate::proofs::Texts::joined_split))]
     fn without_comma_behind(self) -> Result<Vec<Splice>, SpliceFault>
-        requires { Fits self }
+        requires { PlaceFits self }
         ensures done { let p = self.entry in
             IfOk result (λ v. v.items ≡ splices p.file.now 0 (no_comma_behind (gap_len (reverse p.left.now)) p.left.now p.own.now p.right.now)) }
         ensures refused { IfErr result (λ e. e ≡ OutOfMemory) }
@@ -183,7 +183,7 @@ impl<'i, 'a> Place<'i, 'a> {
     /// This element goes.
     #[tactic(auto, using(crate::proofs::Texts::joined_take), unfolding(crate::specs::Removal::removed))]
     pub(crate) fn removed(self) -> Result<Vec<Splice>, SpliceFault>
-        requires { Fits self }
+        requires { PlaceFits self }
         ensures done { IfOk result (λ v. v.items ≡ splices self.entry.file.now 0 (at_place removed self.entry)) }
         ensures refused { IfErr result (λ e. e ≡ OutOfMemory) }
     {

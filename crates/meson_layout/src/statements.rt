@@ -3,7 +3,7 @@
 ghost use Rattle.std.specs.Prelude.{◌≡◌, ◌+◌, ◌<◌, ◌≤◌, ◌^◌, ◌++◌, IfErr, IfOk, length};
 ghost use Rattle.meson_lex.specs.Items.{joined};
 ghost use Rattle.meson_layout.specs.Pieces.{as_one, splices};
-ghost use Rattle.meson_layout.specs.Places.{Fits, at_place};
+ghost use Rattle.meson_layout.specs.Places.{PlaceFits, at_place};
 ghost use Rattle.meson_layout.specs.Statements.{appended, line_end_of, statement_gone, statement_removed};
 ghost use Rattle.meson_splice.specs.declared.fault.SpliceFault.TheVariants.{OutOfMemory};
 
@@ -18,7 +18,7 @@ impl<'i, 'a> Place<'i, 'a> {
     /// This goes with n items before it and m items behind it.
     #[tactic(auto, using(crate::proofs::Texts::joined_take, crate::proofs::Texts::joined_three))]
     fn statement_gone(self, n: usize, m: usize) -> Result<Vec<Splice>, SpliceFault>
-        requires fits { Fits self }
+        requires fits { PlaceFits self }
         requires before { n ≤ length self.left.now }
         requires behind { m ≤ length self.right.now }
         ensures done { IfOk result (λ v. v.items ≡ splices self.entry.file.now 0 (at_place (statement_gone n m) self.entry)) }
@@ -35,7 +35,7 @@ impl<'i, 'a> Place<'i, 'a> {
     /// This statement goes.
     #[tactic(auto, unfolding(crate::specs::Statements::statement_removed))]
     pub(crate) fn statement_removed(self) -> Result<Vec<Splice>, SpliceFault>
-        requires { Fits self }
+        requires { PlaceFits self }
         ensures done { IfOk result (λ v. v.items ≡ splices self.entry.file.now 0 (at_place statement_removed self.entry)) }
         ensures refused { IfErr result (λ e. e ≡ OutOfMemory) }
     {

@@ -7,7 +7,7 @@ use Rattle.std.proofs.lemmas.Bool.{cond-false, cond_both, and_left, eqb-true, ne
 use Rattle.std.proofs.lemmas.Str.{chars-nil}
 use Rattle.meson_lex.specs.declared.escapes.Escaped.{Escaped}
 use Rattle.meson_lex.specs.Bytes.{is_octal, is_hexadecimal, begins}
-use Rattle.meson_lex.specs.Literals.{kept, letter_escape, is_scalar, numbered, octal_escape, hexadecimal_escape, escape}
+use Rattle.meson_lex.specs.Literals.{kept_backslash, letter_escape, is_scalar, character_of, octal_escape, hexadecimal_escape, escape}
 use Rattle.meson_lex.proofs.Characters.{AsciiFirst, first_char, fails_high, begins_chars, run_chars, Cuts, cuts_none, cuts_more, cuts_run}
 use Rattle.meson_lex.proofs.Digits.{octal_low, hexadecimal_low}
 
@@ -16,7 +16,7 @@ use Rattle.meson_lex.proofs.Digits.{octal_low, hexadecimal_low}
 apart : (c n : ℕ) → 128 ≤ c → n < 128 → eqb c n ≡ false
 apart c n high low = ne_eqb c n (λ e. absurd (omega (arith, e)))
 
-high_letter : (c : ℕ) → 128 ≤ c → letter_escape c ≡ kept
+high_letter : (c : ℕ) → 128 ≤ c → letter_escape c ≡ kept_backslash
 high_letter c high =
     cond-false (eqb c 92) _ _ (apart c 92 high (omega arith)) ∙ cond-false (eqb c 39) _ _ (apart c 39 high (omega arith))
     ∙ cond-false (eqb c 97) _ _ (apart c 97 high (omega arith)) ∙ cond-false (eqb c 98) _ _ (apart c 98 high (omega arith))
@@ -25,7 +25,7 @@ high_letter c high =
     ∙ cond-false (eqb c 118) _ _ (apart c 118 high (omega arith))
 
 -- the backslash before it stays
-pub high_escape : (c : ℕ) (cs : List ℕ) → 128 ≤ c → escape (c ∷ cs) ≡ Some kept
+pub high_escape : (c : ℕ) (cs : List ℕ) → 128 ≤ c → escape (c ∷ cs) ≡ Some kept_backslash
 high_escape c cs high =
     cond-false (is_octal c) _ _ (fails_high is_octal octal_low c high)
     ∙ cond-false (eqb c 120) _ _ (apart c 120 high (omega arith)) ∙ cond-false (eqb c 117) _ _ (apart c 117 high (omega arith))
@@ -67,7 +67,7 @@ abbrev pub CutsAfter : List ℕ → Option Escaped → Type 0
 CutsAfter bs None = Unit {0}
 CutsAfter bs (Some e) = Cuts bs e.taken
 
-numbered_cuts : (bs : List ℕ) (n taken : ℕ) → Cuts bs taken → CutsAfter bs (numbered n taken)
+numbered_cuts : (bs : List ℕ) (n taken : ℕ) → Cuts bs taken → CutsAfter bs (character_of n taken)
 numbered_cuts bs n taken cuts = cond_both (is_scalar n) _ _ (CutsAfter bs) (λ _. cuts) (λ _. tt)
 
 hexadecimal_cuts : (b : ℕ) (bs : List ℕ) (wanted : ℕ) → AsciiFirst b bs → IsUtf8 (b ∷ bs) → CutsAfter (b ∷ bs) (hexadecimal_escape wanted (take_while is_hexadecimal (take wanted bs)))

@@ -10,7 +10,7 @@ use Rattle.meson_lex.specs.Bytes.{is_blank, is_line_byte, is_line_feed, begins, 
 use Rattle.meson_lex.specs.Kinds.{IsComment, IsContinuation, OfKind}
 use Rattle.meson_lex.specs.Neighbours.{MayStand}
 use Rattle.meson_lex.specs.Faults.{HasBareReturn, after_backslash, backslash}
-use Rattle.meson_lex.specs.Scan.{Front, note_len, continuation_of, continuation_front, plain, front}
+use Rattle.meson_lex.specs.Scan.{Front, comment_len, continuation_of, continuation_front, plain, front}
 use Rattle.meson_lex.proofs.Runs.{run_passes, run_take}
 use Rattle.meson_lex.proofs.FrontComplete.{found, front_continuation}
 use Rattle.meson_lex.proofs.Openings.{bare_at, stray, bare_again}
@@ -40,7 +40,7 @@ no_return_note (b ∷ bs) which =
     (λ comment. no_return_in (λ c. not (is_line_byte c)) refl (b ∷ bs) (and_from _ _ (ap (λ c. not (is_line_byte c)) comment.0) comment.1))
     which
 
-note_found : (l : List ℕ) → ((take (note_len l) l ≡ []) ⊎ IsComment (take (note_len l) l)) × (length (take (note_len l) l) ≡ note_len l)
+note_found : (l : List ℕ) → ((take (comment_len l) l ≡ []) ⊎ IsComment (take (comment_len l) l)) × (length (take (comment_len l) l) ≡ comment_len l)
 note_found [] = (inl refl, refl)
 note_found (c ∷ cs) =
     let test : ℕ → Bool = λ x. not (is_line_byte x) in
@@ -100,10 +100,10 @@ continuation_found at bs =
     let m : ℕ = prefix_len is_blank bs in
     let l : List ℕ = drop m bs in
     let note = note_found l in
-    let joins : take m bs ++ (take (note_len l) l ++ drop (note_len l) l) ≡ bs = ap (λ r. take m bs ++ r) (take-append-drop (note_len l) l) ∙ take-append-drop m bs in
+    let joins : take m bs ++ (take (comment_len l) l ++ drop (comment_len l) l) ≡ bs = ap (λ r. take m bs ++ r) (take-append-drop (comment_len l) l) ∙ take-append-drop m bs in
     let blanks_len = length-prefix_len is_blank bs in
-    let len : 1 + (m + note_len l) ≡ 1 + (length (take m bs) + length (take (note_len l) l)) = omega (arith, note.1, blanks_len) in
-    tail_sound at (take m bs) (take (note_len l) l) (drop (note_len l) l) (92 ∷ bs) (1 + (m + note_len l)) (ap (λ r. 92 ∷ r) joins) (run_passes is_blank bs) note.0 len
+    let len : 1 + (m + comment_len l) ≡ 1 + (length (take m bs) + length (take (comment_len l) l)) = omega (arith, note.1, blanks_len) in
+    tail_sound at (take m bs) (take (comment_len l) l) (drop (comment_len l) l) (92 ∷ bs) (1 + (m + comment_len l)) (ap (λ r. 92 ∷ r) joins) (run_passes is_blank bs) note.0 len
 
 -- where a backslash is stray, no continuation and no bare CR stands
 continuation_sound_of : (at : ℕ) (bs : List ℕ) (r : Front) → front at (92 ∷ bs) ≡ r → ContinuationSound at (92 ∷ bs) r → Sound at (92 ∷ bs) r

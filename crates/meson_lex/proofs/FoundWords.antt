@@ -10,7 +10,7 @@ use Rattle.meson_lex.specs.declared.fault.LexFault.TheVariants.{BadNumber}
 use Rattle.meson_lex.specs.Bytes.{is_digit, is_word_start, is_word_byte, is_quote, begins, begins_three_quotes, first_bare_return}
 use Rattle.meson_lex.specs.Kinds.{is_integer, spelling, reserved, IsNoneOf, OfKind}
 use Rattle.meson_lex.specs.Neighbours.{MayStand}
-use Rattle.meson_lex.specs.Faults.{opens, quote_kind, formatted}
+use Rattle.meson_lex.specs.Faults.{opened_string, quote_kind, formatted}
 use Rattle.meson_lex.specs.Scan.{Front, kind_among, word_kind, word_front, number_front, front}
 use Rattle.meson_lex.proofs.Runs.{run_passes, run_ends, none_bare, run_len, run_joins, run_take}
 use Rattle.meson_lex.proofs.FrontComplete.{found, front_integer}
@@ -29,10 +29,10 @@ quote_kind_some : (bs : List ℕ) → begins is_quote bs ≡ true → option_map
 quote_kind_some bs q e =
     cond_both (begins_three_quotes bs) _ _ (λ o. option_map formatted o ≡ None → ⊥) (λ _ x. cc) (λ _. subst (λ o. option_map formatted o ≡ None → ⊥) (sym (cond-true (begins is_quote bs) _ _ q)) (λ x. cc)) e
 
-f_apart : (rest : List ℕ) → opens (102 ∷ rest) ≡ None → begins is_quote rest ≡ false
+f_apart : (rest : List ℕ) → opened_string (102 ∷ rest) ≡ None → begins is_quote rest ≡ false
 f_apart rest e = false_from_ne_true _ (λ q. quote_kind_some rest q e)
 
-pub word_sound : (at b : ℕ) (bs : List ℕ) → opens (b ∷ bs) ≡ None → is_word_start b ≡ true → Sound at (b ∷ bs) (word_front (b ∷ bs))
+pub word_sound : (at b : ℕ) (bs : List ℕ) → opened_string (b ∷ bs) ≡ None → is_word_start b ≡ true → Sound at (b ∷ bs) (word_front (b ∷ bs))
 unfolding word_front
 word_sound at b bs closed start =
     let passes : is_word_byte b ≡ true = or_left _ _ start in
@@ -45,7 +45,7 @@ word_sound at b bs closed start =
     let len = run_len is_word_byte b bs passes in
     let K : Kind → Type 0 = λ k. IsFound (b ∷ bs) k n in
     let item : (k : Kind) → OfKind k text → MayStand k text rest → K k = λ k is may. record { text = text; rest = rest; joins = joins; is = is; bare = bare; may = may; len = len } in
-    let f : text ≡ codes "f" → begins is_quote rest ≡ false = λ is_f. f_apart rest (ap (λ t. opens (t ++ rest)) (sym is_f) ∙ ap opens joins ∙ closed) in
+    let f : text ≡ codes "f" → begins is_quote rest ≡ false = λ is_f. f_apart rest (ap (λ t. opened_string (t ++ rest)) (sym is_f) ∙ ap opened_string joins ∙ closed) in
     subst (λ t. K (word_kind t)) (sym (run_take is_word_byte b bs passes))
     (kind_sound K text reserved
     (λ e. item WordTrue e ends, (λ e. item WordFalse e ends, (λ e. item WordIf e ends, (λ e. item WordElif e ends, (λ e. item WordElse e ends, (λ e. item WordEndif e ends, (λ e. item WordAnd e ends, (λ e. item WordOr e ends, (λ e. item WordNot e ends, (λ e. item WordIn e ends, (λ e. item WordForeach e ends, (λ e. item WordEndforeach e ends, (λ e. item WordBreak e ends, (λ e. item WordContinue e ends, tt))))))))))))))

@@ -11,8 +11,8 @@ use Rattle.meson_lex.specs.declared.fault.LexFault.TheVariants.{BadNumber}
 use Rattle.meson_lex.specs.Bytes.{is_blank, is_line_byte, is_digit, is_hexadecimal, is_octal, is_binary, is_word_start, is_word_byte, is_quote, is_equals, begins, begins_two, begins_three_quotes, begins_bare_return, first_bare_return}
 use Rattle.meson_lex.specs.Kinds.{is_run, is_after_zero, is_integer, IsRun, IsLineEnd, IsComment, IsWord, IsContinuation, IsQuotedRest, IsTripledRest, IsString, opener, spelling, reserved, IsNoneOf, OfKind}
 use Rattle.meson_lex.specs.Neighbours.{MayStand}
-use Rattle.meson_lex.specs.Faults.{opens, quote_kind, formatted}
-use Rattle.meson_lex.specs.Scan.{Front, kind_among, word_kind, word_front, number_front, comment_of, comment_front, note_len, continuation_of, continuation_front, unless_bare, string_of, string_front, plain_mark, equal_mark, plain_front, equal_front, mark_front, line_front, plain, front_of, front, rest_len}
+use Rattle.meson_lex.specs.Faults.{opened_string, quote_kind, formatted}
+use Rattle.meson_lex.specs.Scan.{Front, kind_among, word_kind, word_front, number_front, comment_of, comment_front, comment_len, continuation_of, continuation_front, unless_bare, quoted_front, string_front, plain_mark, equal_mark, plain_front, equal_front, mark_front, line_front, plain, front_of, front, rest_len}
 use Rattle.meson_lex.proofs.Runs.{run_stops}
 use Rattle.meson_lex.proofs.StringEnds.{rest_closed}
 
@@ -28,15 +28,15 @@ pub quote_kind_none : (bs : List ℕ) → begins is_quote bs ≡ false → quote
 quote_kind_none [] h = refl
 quote_kind_none (b ∷ bs) h = cond-false (begins_three_quotes (b ∷ bs)) _ _ (and_left _ _ h) ∙ cond-false (is_quote b) _ _ h
 
-pub opens_none : (b : ℕ) (bs : List ℕ) → eqb b 102 ≡ false → eqb b 39 ≡ false → opens (b ∷ bs) ≡ None
+pub opens_none : (b : ℕ) (bs : List ℕ) → eqb b 102 ≡ false → eqb b 39 ≡ false → opened_string (b ∷ bs) ≡ None
 opens_none b bs f q = cond-false (eqb b 102) _ _ f ∙ quote_kind_none (b ∷ bs) q
 
-pub front_plain : (at b : ℕ) (bs : List ℕ) → opens (b ∷ bs) ≡ None → front at (b ∷ bs) ≡ plain at b bs
+pub front_plain : (at b : ℕ) (bs : List ℕ) → opened_string (b ∷ bs) ≡ None → front at (b ∷ bs) ≡ plain at b bs
 unfolding front
 front_plain at b bs none = ap (front_of at b bs) none
 
 -- a string is opened
-pub front_string : (at : ℕ) (k : Kind) (bytes : List ℕ) → opens bytes ≡ Some k → front at bytes ≡ string_front at k bytes
+pub front_string : (at : ℕ) (k : Kind) (bytes : List ℕ) → opened_string bytes ≡ Some k → front at bytes ≡ string_front at k bytes
 unfolding front
 front_string at k [] e = absurd (cc)
 front_string at k (b ∷ bs) e = ap (front_of at b bs) e
@@ -55,17 +55,17 @@ front_line_end at text rest h =
     ⊎_elim (λ e. subst P (sym e) refl) (λ e. subst P (sym e) refl) h
 
 -- `f` before a quote is no word
-word_opens : (text rest : List ℕ) → IsWord text → (text ≡ codes "f" → begins is_quote rest ≡ false) → opens (text ++ rest) ≡ None
+word_opens : (text rest : List ℕ) → IsWord text → (text ≡ codes "f" → begins is_quote rest ≡ false) → opened_string (text ++ rest) ≡ None
 word_opens [] rest word f = absurd word
 word_opens (b ∷ []) rest word f =
     ⊎_elim
-    (λ is. subst (λ x. opens (x ∷ rest) ≡ None) (sym (eqb-true b 102 is)) (ap (option_map formatted) (quote_kind_none rest (f (ap (λ x. x ∷ []) (eqb-true b 102 is))))))
+    (λ is. subst (λ x. opened_string (x ∷ rest) ≡ None) (sym (eqb-true b 102 is)) (ap (option_map formatted) (quote_kind_none rest (f (ap (λ x. x ∷ []) (eqb-true b 102 is))))))
     (λ other. opens_none b rest other (apart is_word_start b 39 word.0 refl))
     (cases_Bool (eqb b 102))
 word_opens (b ∷ c ∷ cs) rest word f =
     let c_word = (and_parts (is_word_byte c) (list_all is_word_byte cs) word.1).0 in
     ⊎_elim
-    (λ is. subst (λ x. opens (x ∷ c ∷ (cs ++ rest)) ≡ None) (sym (eqb-true b 102 is)) (ap (option_map formatted) (quote_kind_none (c ∷ (cs ++ rest)) (apart is_word_byte c 39 c_word refl))))
+    (λ is. subst (λ x. opened_string (x ∷ c ∷ (cs ++ rest)) ≡ None) (sym (eqb-true b 102 is)) (ap (option_map formatted) (quote_kind_none (c ∷ (cs ++ rest)) (apart is_word_byte c 39 c_word refl))))
     (λ other. opens_none b (c ∷ (cs ++ rest)) other (apart is_word_start b 39 word.0 refl))
     (cases_Bool (eqb b 102))
 
@@ -190,7 +190,7 @@ line_ends_note : (tail : List ℕ) → begins is_line_byte tail ≡ true → beg
 line_ends_note [] line = refl
 line_ends_note (c ∷ cs) line = ap not line
 
-note_reads : (note tail : List ℕ) → (note ≡ []) ⊎ IsComment note → begins is_line_byte tail ≡ true → note_len (note ++ tail) ≡ length note
+note_reads : (note tail : List ℕ) → (note ≡ []) ⊎ IsComment note → begins is_line_byte tail ≡ true → comment_len (note ++ tail) ≡ length note
 note_reads [] [] which line = refl
 note_reads [] (c ∷ cs) which line = cond-false (eqb c 35) _ _ (apart is_line_byte c 35 line refl)
 note_reads (b ∷ bs) tail which line =
@@ -203,8 +203,8 @@ unfolding continuation_front
 continuation_reads at blanks note tail all which line =
     let bs : List ℕ = blanks ++ (note ++ tail) in
     let m_is = run_stops is_blank blanks (note ++ tail) all (line_no_blank note tail which line) in
-    let P : ℕ → Type 0 = λ m. continuation_of at (1 + (m + note_len (drop m bs))) (drop (note_len (drop m bs)) (drop m bs)) ≡ continuation_of at (1 + (length blanks + length note)) tail in
-    let Q : List ℕ → Type 0 = λ l. continuation_of at (1 + (length blanks + note_len l)) (drop (note_len l) l) ≡ continuation_of at (1 + (length blanks + length note)) tail in
+    let P : ℕ → Type 0 = λ m. continuation_of at (1 + (m + comment_len (drop m bs))) (drop (comment_len (drop m bs)) (drop m bs)) ≡ continuation_of at (1 + (length blanks + length note)) tail in
+    let Q : List ℕ → Type 0 = λ l. continuation_of at (1 + (length blanks + comment_len l)) (drop (comment_len l) l) ≡ continuation_of at (1 + (length blanks + length note)) tail in
     let R : ℕ → Type 0 = λ n. continuation_of at (1 + (length blanks + n)) (drop n (note ++ tail)) ≡ continuation_of at (1 + (length blanks + length note)) tail in
     subst P (sym m_is) (subst Q (sym (drop_at blanks (note ++ tail) _ refl)) (subst R (sym (note_reads note tail which line)) (ap (continuation_of at (1 + (length blanks + length note))) (drop_at note tail _ refl))))
 
@@ -249,13 +249,13 @@ text_opens r rest closed may = cond-false (begins_two is_quote (r ++ rest)) _ _ 
 abbrev pub NoQuoteAfterEmpty : Kind → List ℕ → List ℕ → Type 0
 NoQuoteAfterEmpty k text rest = text ≡ opener k ++ 39 ∷ [] → begins is_quote rest ≡ false
 
-pub opens_string : (k : Kind) (text rest : List ℕ) → IsString k text → NoQuoteAfterEmpty k text rest → opens (text ++ rest) ≡ Some k
+pub opens_string : (k : Kind) (text rest : List ℕ) → IsString k text → NoQuoteAfterEmpty k text rest → opened_string (text ++ rest) ≡ Some k
 opens_string PlainString text rest s may =
-    subst (λ t. opens (t ++ rest) ≡ Some PlainString) s.joins (text_opens s.rest rest s.closed (λ e. may (sym s.joins ∙ ap (λ r. 39 ∷ r) e)))
+    subst (λ t. opened_string (t ++ rest) ≡ Some PlainString) s.joins (text_opens s.rest rest s.closed (λ e. may (sym s.joins ∙ ap (λ r. 39 ∷ r) e)))
 opens_string FormatString text rest s may =
-    subst (λ t. opens (t ++ rest) ≡ Some FormatString) s.joins (ap (option_map formatted) (text_opens s.rest rest s.closed (λ e. may (sym s.joins ∙ ap (λ r. 102 ∷ 39 ∷ r) e))))
-opens_string MultilineString text rest s may = subst (λ t. opens (t ++ rest) ≡ Some MultilineString) s.joins refl
-opens_string FormatMultilineString text rest s may = subst (λ t. opens (t ++ rest) ≡ Some FormatMultilineString) s.joins refl
+    subst (λ t. opened_string (t ++ rest) ≡ Some FormatString) s.joins (ap (option_map formatted) (text_opens s.rest rest s.closed (λ e. may (sym s.joins ∙ ap (λ r. 102 ∷ 39 ∷ r) e))))
+opens_string MultilineString text rest s may = subst (λ t. opened_string (t ++ rest) ≡ Some MultilineString) s.joins refl
+opens_string FormatMultilineString text rest s may = subst (λ t. opened_string (t ++ rest) ≡ Some FormatMultilineString) s.joins refl
 opens_string _ text rest s may = absurd s.closed
 
 -- a closed string is found, or its first bare CR
@@ -267,7 +267,7 @@ string_again at k text rest s may =
     let dropped : drop (length (opener k)) bytes ≡ s.rest ++ rest = ap (drop (length (opener k))) regroup ∙ drop_at (opener k) (s.rest ++ rest) _ refl in
     let len : length text ≡ length (opener k) + length s.rest = ap length (sym s.joins) ∙ length-append (opener k) s.rest in
     front_string at k bytes (opens_string k text rest s may)
-    ∙ ap (string_of at k bytes) (ap (rest_len k) dropped ∙ rest_closed k s.rest rest s.closed)
+    ∙ ap (quoted_front at k bytes) (ap (rest_len k) dropped ∙ rest_closed k s.rest rest s.closed)
     ∙ ap (λ n. unless_bare at (first_bare_return (take n bytes)) (found k n)) (sym len)
     ∙ ap (λ t. unless_bare at (first_bare_return t) (found k (length text))) (take_at text rest _ refl)
 
@@ -285,7 +285,7 @@ word_kind_none (k ∷ ks) text none =
     cond-false (bytes_eq text (spelling k)) _ _ (false_from_ne_true _ (λ same. none.0 ((bytes_eq-Decides text (spelling k)).0 same))) ∙ word_kind_none ks text none.1
 
 -- a mark by itself
-mark_plain : (at b : ℕ) (k : Kind) (rest : List ℕ) → opens (b ∷ rest) ≡ None → plain at b rest ≡ mark_front at b rest → plain_mark b ≡ Some k → (equal_mark b ≡ None) ⊎ (begins is_equals rest ≡ false) → front at (b ∷ rest) ≡ found k 1
+mark_plain : (at b : ℕ) (k : Kind) (rest : List ℕ) → opened_string (b ∷ rest) ≡ None → plain at b rest ≡ mark_front at b rest → plain_mark b ≡ Some k → (equal_mark b ≡ None) ⊎ (begins is_equals rest ≡ false) → front at (b ∷ rest) ≡ found k 1
 unfolding mark_front
 mark_plain at b k rest none is mark which =
     front_plain at b rest none ∙ is

@@ -9,8 +9,8 @@ use Rattle.meson_lex.specs.declared.fault.LexFault.TheVariants.{StrayByte, OpenS
 use Rattle.meson_lex.specs.Bytes.{is_line_byte, is_line_feed, is_quote, begins, begins_three_quotes, begins_bare_return, first_bare_return}
 use Rattle.meson_lex.specs.Kinds.{IsString, IsRestOf, opener, OfKind}
 use Rattle.meson_lex.specs.Neighbours.{MayStand}
-use Rattle.meson_lex.specs.Faults.{IsOpen, opens, quote_kind, formatted, HasBareReturn, after_comment, after_backslash, in_string, in_open}
-use Rattle.meson_lex.specs.Scan.{Front, continuation_of, unless_bare, string_of, string_front, line_front, plain, front, rest_len}
+use Rattle.meson_lex.specs.Faults.{IsOpen, opened_string, quote_kind, formatted, HasBareReturn, after_comment, after_backslash, in_string, in_open}
+use Rattle.meson_lex.specs.Scan.{Front, continuation_of, unless_bare, quoted_front, string_front, line_front, plain, front, rest_len}
 use Rattle.meson_lex.proofs.StringEnds.{rest_closed, rest_finds, three_quotes, FindsFront, IsStringKind}
 use Rattle.meson_lex.proofs.FrontComplete.{found, front_comment, front_backslash_reads, front_string, string_again, NoQuoteAfterEmpty}
 
@@ -59,14 +59,14 @@ plain_opened bs (Some PlainString) h = (h.0, h.1, tt)
 plain_opened bs (Some MultilineString) h = (h.0, h.1, tt)
 plain_opened bs (Some _) h = absurd h.2
 
-pub is_opened : (bytes : List ℕ) → Opened bytes (opens bytes)
+pub is_opened : (bytes : List ℕ) → Opened bytes (opened_string bytes)
 is_opened [] = tt
 is_opened (b ∷ bs) =
     cond_both (eqb b 102) _ _ (Opened (b ∷ bs))
     (λ f. subst (λ x. Opened (x ∷ bs) (option_map formatted (quote_kind bs))) (sym (eqb-true b 102 f)) (format_opened bs _ (quote_opened bs)))
     (λ _. plain_opened (b ∷ bs) _ (quote_opened (b ∷ bs)))
 
-pub opened_as : (bytes : List ℕ) (k : Kind) → opens bytes ≡ Some k → Opened bytes (Some k)
+pub opened_as : (bytes : List ℕ) (k : Kind) → opened_string bytes ≡ Some k → Opened bytes (Some k)
 opened_as bytes k e = subst (Opened bytes) e (is_opened bytes)
 
 -- ---- strings
@@ -87,16 +87,16 @@ not_empty FormatMultilineString text rest place s bare e = let none : first_bare
 not_empty _ text rest place s bare e = absurd s.closed
 
 -- two quotes and a third open another string
-pub may_string : (k : Kind) (text rest : List ℕ) → opens (text ++ rest) ≡ Some k → IsString k text → MayStand k text rest
+pub may_string : (k : Kind) (text rest : List ℕ) → opened_string (text ++ rest) ≡ Some k → IsString k text → MayStand k text rest
 may_string PlainString text rest e s = λ is.
     false_from_ne_true _ (λ q.
-    let at_quotes : opens (39 ∷ 39 ∷ rest) ≡ Some MultilineString = cond-true (begins is_quote rest) _ _ q in
-    let same : Some MultilineString ≡ Some PlainString = sym at_quotes ∙ ap (λ t. opens (t ++ rest)) (sym is) ∙ e in
+    let at_quotes : opened_string (39 ∷ 39 ∷ rest) ≡ Some MultilineString = cond-true (begins is_quote rest) _ _ q in
+    let same : Some MultilineString ≡ Some PlainString = sym at_quotes ∙ ap (λ t. opened_string (t ++ rest)) (sym is) ∙ e in
     cc)
 may_string FormatString text rest e s = λ is.
     false_from_ne_true _ (λ q.
-    let at_quotes : opens (102 ∷ 39 ∷ 39 ∷ rest) ≡ Some FormatMultilineString = ap (option_map formatted) (cond-true (begins is_quote rest) _ _ q) in
-    let same : Some FormatMultilineString ≡ Some FormatString = sym at_quotes ∙ ap (λ t. opens (t ++ rest)) (sym is) ∙ e in
+    let at_quotes : opened_string (102 ∷ 39 ∷ 39 ∷ rest) ≡ Some FormatMultilineString = ap (option_map formatted) (cond-true (begins is_quote rest) _ _ q) in
+    let same : Some FormatMultilineString ≡ Some FormatString = sym at_quotes ∙ ap (λ t. opened_string (t ++ rest)) (sym is) ∙ e in
     cc)
 may_string MultilineString text rest e s = tt
 may_string FormatMultilineString text rest e s = tt
@@ -113,12 +113,12 @@ none_closed k bytes none text rest joins s =
 string_joins : (k : Kind) (bytes rest : List ℕ) → opener k ++ rest ≡ bytes → drop (length (opener k)) bytes ≡ rest
 string_joins k bytes rest joins = ap (drop (length (opener k))) (sym joins) ∙ drop_at (opener k) rest _ refl
 
-pub open_again : (at : ℕ) (k : Kind) (bytes : List ℕ) → opens bytes ≡ Some k → IsOpen k bytes → front at bytes ≡ unless_bare at (first_bare_return bytes) (Err (OpenString at))
+pub open_again : (at : ℕ) (k : Kind) (bytes : List ℕ) → opened_string bytes ≡ Some k → IsOpen k bytes → front at bytes ≡ unless_bare at (first_bare_return bytes) (Err (OpenString at))
 unfolding string_front
 open_again at k bytes opened not_closed =
     let o = opened_as bytes k opened in
     let dropped = string_joins k bytes o.0 o.1 in
-    front_string at k bytes opened ∙ ap (string_of at k bytes) (ap (rest_len k) dropped ∙ none_found (rest_len k o.0) refl (rest_finds k o.0 o.2))
+    front_string at k bytes opened ∙ ap (quoted_front at k bytes) (ap (rest_len k) dropped ∙ none_found (rest_len k o.0) refl (rest_finds k o.0 o.2))
   where
     none_found : (r : Option ℕ) → rest_len k (opened_as bytes k opened).0 ≡ r → FindsFront (IsRestOf k) (opened_as bytes k opened).0 r → rest_len k (opened_as bytes k opened).0 ≡ None
     none_found None e h = e
@@ -167,7 +167,7 @@ bare_again at k bytes (in_open kind opened not_closed bare) =
     open_again at kind bytes opened not_closed ∙ ap (λ o. unless_bare at o (Err (OpenString at))) bare
 
 -- what opens a string lies within the text
-pub opened_within : (bytes : List ℕ) (k : Kind) → Some k ≡ opens bytes → length (opener k) ≤ length bytes
+pub opened_within : (bytes : List ℕ) (k : Kind) → Some k ≡ opened_string bytes → length (opener k) ≤ length bytes
 opened_within bytes k e =
     let o = opened_as bytes k (sym e) in
     omega (arith, ap length o.1, length-append (opener k) o.0)

@@ -8,7 +8,7 @@ use Rattle.meson_lex.specs.declared.kinds.Kind.TheVariants.{Blank, LineEnd, Comm
 use Rattle.meson_lex.specs.declared.fault.LexFault.{LexFault}
 use Rattle.meson_lex.specs.Kinds.{OfKind}
 use Rattle.meson_lex.specs.Items.{Lexeme, joined, IsItem, AreItems}
-use Rattle.meson_lex.specs.Lexed.{placed}
+use Rattle.meson_lex.specs.Lexed.{with_spans}
 use Rattle.meson_lex.specs.Scan.{Front, front, scan_after, scan_within, scan}
 use Rattle.meson_lex.proofs.FrontComplete.{front_again}
 use Rattle.meson_lex.proofs.FoundLines.{Sound, IsFound}
@@ -81,10 +81,10 @@ scan_item at k [] rest h = absurd (no_empty k h.0)
 scan_item at k (b ∷ bs) rest h = scan_item_cons at k b bs rest h
 
 -- the items, and then the rest
-pub scan_items : (at : ℕ) (xs : List Lexeme) (rest : List ℕ) → AreItems xs rest → scan at (joined xs ++ rest) ≡ placed at xs ++ scan (at + length (joined xs)) rest
+pub scan_items : (at : ℕ) (xs : List Lexeme) (rest : List ℕ) → AreItems xs rest → scan at (joined xs ++ rest) ≡ with_spans at xs ++ scan (at + length (joined xs)) rest
 scan_items at [] rest h = ap (λ n. scan n rest) (sym (add-zero at))
 scan_items at (x ∷ xs) rest h =
     let later = scan_items (at + length x.text) xs rest h.1 in
     let place : at + length x.text + length (joined xs) ≡ at + length (x.text ++ joined xs) = omega (arith, length-append x.text (joined xs)) in
     ap (scan at) (append_assoc x.text (joined xs) rest) ∙ scan_item at x.kind x.text (joined xs ++ rest) h.0
-    ∙ ap (λ l. item_at at x.kind (length x.text) ∷ l) (later ∙ ap (λ n. placed (at + length x.text) xs ++ scan n rest) place)
+    ∙ ap (λ l. item_at at x.kind (length x.text) ∷ l) (later ∙ ap (λ n. with_spans (at + length x.text) xs ++ scan n rest) place)

@@ -11,7 +11,7 @@ use Rattle.meson_lex.specs.Kinds.{OfKind}
 use Rattle.meson_lex.specs.Neighbours.{MayStand}
 use Rattle.meson_lex.specs.Items.{joined}
 use Rattle.meson_lex.specs.Faults.{HasBareReturn, after_comment, after_backslash, in_string, in_open, HasFault}
-use Rattle.meson_lex.specs.Lexed.{placed, IsLexed, whole, faulty}
+use Rattle.meson_lex.specs.Lexed.{with_spans, IsLexed, whole, faulty}
 use Rattle.meson_lex.specs.Scan.{Front, front, scan_after, scan}
 use Rattle.meson_lex.proofs.FaultComplete.{fault_again}
 use Rattle.meson_lex.proofs.FoundLines.{Sound, IsFound}
@@ -88,9 +88,9 @@ scan_fault at (b ∷ bs) fault h = scan_next at b bs ∙ ap (scan_after scan at 
 
 pub scan_only : (at : ℕ) (bytes : List ℕ) (results : List (Result Item LexFault)) → IsLexed at bytes results → results ≡ scan at bytes
 scan_only at bytes results (whole xs h e) =
-    e ∙ sym (append-nil (placed at xs)) ∙ sym (scan_items at xs [] h.each) ∙ ap (scan at) (append-nil (joined xs) ∙ h.joins)
+    e ∙ sym (append-nil (with_spans at xs)) ∙ sym (scan_items at xs [] h.each) ∙ ap (scan at) (append-nil (joined xs) ∙ h.joins)
 scan_only at bytes results (faulty xs rest fault h e) =
-    e ∙ ap (λ l. placed at xs ++ l) (sym (scan_fault (at + length (joined xs)) rest fault h.at_front)) ∙ sym (scan_items at xs rest h.each) ∙ ap (scan at) h.joins
+    e ∙ ap (λ l. with_spans at xs ++ l) (sym (scan_fault (at + length (joined xs)) rest fault h.at_front)) ∙ sym (scan_items at xs rest h.each) ∙ ap (scan at) h.joins
 
 -- a text is lexed in one way
 pub one_lexed : (at : ℕ) (bytes : List ℕ) (rs qs : List (Result Item LexFault)) → IsLexed at bytes rs → IsLexed at bytes qs → rs ≡ qs

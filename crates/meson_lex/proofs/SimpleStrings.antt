@@ -5,8 +5,8 @@ use Rattle.std.proofs.lemmas.Bool.{or_left, or_right, eq-eqb}
 use Rattle.memchr.specs.Find.{is_byte2, is_byte3, Passes, NoneBefore}
 use Rattle.meson_lex.specs.declared.kinds.Kind.TheVariants.{PlainString}
 use Rattle.meson_lex.specs.Bytes.{first_bare_return}
-use Rattle.meson_lex.specs.Faults.{opens}
-use Rattle.meson_lex.specs.Scan.{quoted_len, string_of, string_front, unless_bare}
+use Rattle.meson_lex.specs.Faults.{opened_string}
+use Rattle.meson_lex.specs.Scan.{quoted_len, quoted_front, string_front, unless_bare}
 use Rattle.meson_lex.proofs.ByteSearch.{return_over}
 use Rattle.meson_lex.proofs.Openings.{opened_as}
 use Rattle.meson_lex.proofs.StringSearch.{quoted_quote}
@@ -35,13 +35,13 @@ simple_of : (at : ℕ) (rest : List ℕ) (len : ℕ) → quoted_len rest ≡ Som
 unfolding string_front
 simple_of at rest len closes bare =
     let one : suc len ≡ 1 + len = omega arith in
-    ap (string_of at PlainString (39 ∷ rest)) closes
+    ap (quoted_front at PlainString (39 ∷ rest)) closes
     ∙ ap (λ o. unless_bare at o (Ok (PlainString, 1 + len)))
     (subst (λ n. first_bare_return (take n (39 ∷ rest)) ≡ None) one (return_over 39 (take len rest) (λ e. cc) ∙ ap (option_map (λ k. 1 + k)) bare))
 
 -- the whole string is what its opening says and its end
-pub simple_string : (at : ℕ) (bytes : List ℕ) (len : ℕ) → opens bytes ≡ Some PlainString → quoted_len (drop 1 bytes) ≡ Some len → first_bare_return (take len (drop 1 bytes)) ≡ None → string_front at PlainString bytes ≡ Ok (PlainString, 1 + len)
-simple_string at bytes len opens closes bare =
-    let opened = opened_as bytes PlainString opens in
+pub simple_string : (at : ℕ) (bytes : List ℕ) (len : ℕ) → opened_string bytes ≡ Some PlainString → quoted_len (drop 1 bytes) ≡ Some len → first_bare_return (take len (drop 1 bytes)) ≡ None → string_front at PlainString bytes ≡ Ok (PlainString, 1 + len)
+simple_string at bytes len opened_string closes bare =
+    let opened = opened_as bytes PlainString opened_string in
     subst (λ l. quoted_len (drop 1 l) ≡ Some len → first_bare_return (take len (drop 1 l)) ≡ None → string_front at PlainString l ≡ Ok (PlainString, 1 + len)) opened.1
     (simple_of at opened.0 len) closes bare

@@ -7,7 +7,7 @@ use Rattle.meson_lex.specs.declared.kinds.Item.{Item}
 use Rattle.meson_lex.specs.declared.fault.LexFault.{LexFault}
 use Rattle.meson_lex.specs.Bytes.{begins_bare_return, first_bare_return}
 use Rattle.meson_lex.specs.Items.{Lexeme, joined, IsItem, AreItems}
-use Rattle.meson_lex.specs.Lexed.{placed, IsLexed, whole, faulty, StandsIn}
+use Rattle.meson_lex.specs.Lexed.{with_spans, IsLexed, whole, faulty, StandsIn}
 
 abbrev AllStand : List ℕ → List (Result Item LexFault) → Type 0
 AllStand source results = AllByRecursion (λ r. IfOk r (StandsIn source)) results
@@ -17,7 +17,7 @@ all_append source [] qs h g = g
 all_append source (r ∷ rs) qs h g = (h.0, all_append source rs qs h.1 g)
 
 -- behind the bytes before them
-placed_stand : (source front : List ℕ) (offset : ℕ) (xs : List Lexeme) (rest : List ℕ) → length front ≡ offset → front ++ (joined xs ++ rest) ≡ source → AreItems xs rest → AllStand source (placed offset xs)
+placed_stand : (source front : List ℕ) (offset : ℕ) (xs : List Lexeme) (rest : List ℕ) → length front ≡ offset → front ++ (joined xs ++ rest) ≡ source → AreItems xs rest → AllStand source (with_spans offset xs)
 placed_stand source front offset [] rest at joins each = tt
 placed_stand source front offset (x ∷ xs) rest at joins each =
     let behind : front ++ (x.text ++ (joined xs ++ rest)) ≡ source = ap (λ l. front ++ l) (sym (append_assoc x.text (joined xs) rest)) ∙ joins in
@@ -36,7 +36,7 @@ pub lexed_stand : (source : List ℕ) (results : List (Result Item LexFault)) �
 lexed_stand source results (whole xs list is) =
     subst (AllStand source) (sym is) (placed_stand source [] 0 xs [] refl (append-nil (joined xs) ∙ list.joins) list.each)
 lexed_stand source results (faulty xs rest fault has is) =
-    subst (AllStand source) (sym is) (all_append source (placed 0 xs) (Err fault ∷ []) (placed_stand source [] 0 xs rest refl has.joins has.each) (tt, tt))
+    subst (AllStand source) (sym is) (all_append source (with_spans 0 xs) (Err fault ∷ []) (placed_stand source [] 0 xs rest refl has.joins has.each) (tt, tt))
 
 -- ---- no bare CR in an item is no bare CR in the text
 

@@ -21,9 +21,9 @@ formatted MultilineString = FormatMultilineString
 formatted _ = FormatString
 
 -- the kind of string that the text opens
-abbrev pub opens : List ℕ → Option Kind
-opens [] = None
-opens (b ∷ bs) = if b == 102 then option_map formatted (quote_kind bs) else quote_kind (b ∷ bs)
+abbrev pub opened_string : List ℕ → Option Kind
+opened_string [] = None
+opened_string (b ∷ bs) = if b == 102 then option_map formatted (quote_kind bs) else quote_kind (b ∷ bs)
 
 -- no front of the text is a closed string of the kind
 abbrev pub IsOpen : Kind → List ℕ → Type 0
@@ -40,7 +40,7 @@ pub data HasBareReturn (bytes : List ℕ) (place : ℕ) : Type 0 where
   -- in a string
   in_string : (kind : Kind) (text rest : List ℕ) → text ++ rest ≡ bytes → IsString kind text → first_bare_return text ≡ Some place → HasBareReturn bytes place
   -- anywhere behind the opening of a string that is not closed
-  in_open : (kind : Kind) → opens bytes ≡ Some kind → IsOpen kind bytes → first_bare_return bytes ≡ Some place → HasBareReturn bytes place
+  in_open : (kind : Kind) → opened_string bytes ≡ Some kind → IsOpen kind bytes → first_bare_return bytes ≡ Some place → HasBareReturn bytes place
 
 -- ---- the four faults
 
@@ -62,7 +62,7 @@ pub record IsBadNumber (bytes : List ℕ) : Type 0 where
 -- a string is opened and not closed, and no bare CR follows
 pub record IsOpenString (bytes : List ℕ) : Type 0 where
   pub kind : Kind
-  pub opened : opens bytes ≡ Some kind
+  pub opened : opened_string bytes ≡ Some kind
   pub not_closed : IsOpen kind bytes
   pub no_return : first_bare_return bytes ≡ None
 

@@ -15,8 +15,8 @@ use Rattle.meson_lex.specs.Bytes.{is_octal, is_hexadecimal, begins}
 
 -- how a character is written between single quotes: a quote and a backslash behind a backslash, LF, CR and TAB as \n, \r and \t,
 -- other control characters as \x and two digits, all else as it is
-abbrev pub written : ℕ → List ℕ
-written c =
+abbrev pub written_byte : ℕ → List ℕ
+written_byte c =
     if c == 39 then 92 ∷ 39 ∷ []
     else (if c == 92 then 92 ∷ 92 ∷ []
     else (if c == 10 then 92 ∷ 110 ∷ []
@@ -27,13 +27,13 @@ written c =
 
 -- the plain string that is written for a text
 abbrev pub literal : List ℕ → List ℕ
-literal text = 39 ∷ (flat_map written text ++ 39 ∷ [])
+literal text = 39 ∷ (flat_map written_byte text ++ 39 ∷ [])
 
 -- ---- escapes
 
 -- the backslash stands for itself, and what follows it is read as it stands
-abbrev pub kept : Escaped
-kept = record { character = 92; taken = 0 }
+abbrev pub kept_backslash : Escaped
+kept_backslash = record { character = 92; taken = 0 }
 
 -- the character that a backslash and this one stand for, by Syntax's table of escapes: \\ \' \a \b \f \n \r \t \v; any other backslash stays
 abbrev pub letter_escape : ℕ → Escaped
@@ -47,28 +47,28 @@ letter_escape c =
     else (if c == 114 then record { character = 13; taken = 1 }
     else (if c == 116 then record { character = 9; taken = 1 }
     else (if c == 118 then record { character = 11; taken = 1 }
-    else kept))))))))
+    else kept_backslash))))))))
 
 -- a Unicode scalar value
 abbrev pub is_scalar : ℕ → Bool
 is_scalar n = nat_lt n 55296 || nat_le 57344 n && nat_lt n 1114112
 
 -- the character of a number that so many characters named; a number that is no character's makes the literal opaque
-abbrev pub numbered : ℕ → ℕ → Option Escaped
-numbered n taken = if is_scalar n then Some (record { character = n; taken = taken }) else None
+abbrev pub character_of : ℕ → ℕ → Option Escaped
+character_of n taken = if is_scalar n then Some (record { character = n; taken = taken }) else None
 
 -- one to three octal digits, as many as stand there (a number above 255 is a character too: decided here)
 abbrev pub octal_escape : List ℕ → Option Escaped
-octal_escape digits = numbered (digits_value 8 digits) (length digits)
+octal_escape digits = character_of (digits_value 8 digits) (length digits)
 
 -- a letter and just so many hexadecimal digits: \x and two, \u and four, \U and eight (with fewer the backslash stays: decided here)
 abbrev pub hexadecimal_escape : ℕ → List ℕ → Option Escaped
-hexadecimal_escape wanted digits = if length digits == wanted then numbered (digits_value 16 digits) (wanted + 1) else Some kept
+hexadecimal_escape wanted digits = if length digits == wanted then character_of (digits_value 16 digits) (wanted + 1) else Some kept_backslash
 
 -- the character that a backslash and what follows it stand for, and how many of the characters behind it that takes; none where it makes the
 -- literal opaque
 abbrev pub escape : List ℕ → Option Escaped
-escape [] = Some kept
+escape [] = Some kept_backslash
 escape (c ∷ cs) =
     if is_octal c then octal_escape (take_while is_octal (take 3 (c ∷ cs)))
     else (if c == 120 then hexadecimal_escape 2 (take_while is_hexadecimal (take 2 cs))

@@ -8,7 +8,7 @@ use Rattle.meson_lex.specs.declared.fault.LexFault.{LexFault}
 use Rattle.meson_lex.specs.declared.fault.LexFault.TheVariants.{StrayByte, OpenString, BadNumber, BareCarriageReturn}
 use Rattle.meson_lex.specs.Bytes.{is_blank, is_line_byte, is_digit, is_word_start, is_word_byte, is_equals, is_line_feed, begins, begins_three_quotes, begins_bare_return, first_bare_return}
 use Rattle.meson_lex.specs.Kinds.{is_integer, opener, spelling, reserved}
-use Rattle.meson_lex.specs.Faults.{opens}
+use Rattle.meson_lex.specs.Faults.{opened_string}
 
 -- a kind and a length, or a fault
 abbrev pub Front : Type 0
@@ -48,9 +48,9 @@ comment_front at bytes =
     comment_of at n (drop n bytes)
 
 -- n bytes of a comment at the front, or none
-abbrev pub note_len : List ℕ → ℕ
-note_len [] = 0
-note_len (b ∷ bs) = if b == 35 then prefix_len (λ c. not (is_line_byte c)) (b ∷ bs) else 0
+abbrev pub comment_len : List ℕ → ℕ
+comment_len [] = 0
+comment_len (b ∷ bs) = if b == 35 then prefix_len (λ c. not (is_line_byte c)) (b ∷ bs) else 0
 
 -- a backslash, blanks and a comment have n bytes, and what follows them
 abbrev pub continuation_of : ℕ → ℕ → List ℕ → Front
@@ -63,7 +63,7 @@ continuation_of at n (b ∷ bs) =
 unfoldable pub continuation_front : ℕ → List ℕ → Front
 continuation_front at bs =
     let m = prefix_len is_blank bs in
-    let n = note_len (drop m bs) in
+    let n = comment_len (drop m bs) in
     continuation_of at (1 + (m + n)) (drop n (drop m bs))
 
 -- the fault of a bare CR, where there is one
@@ -83,12 +83,12 @@ rest_len FormatString bytes = quoted_len bytes
 rest_len _ bytes = tripled_len bytes
 
 -- a string whose rest has n bytes, or one that is not closed
-abbrev pub string_of : ℕ → Kind → List ℕ → Option ℕ → Front
-string_of at k bytes None = unless_bare at (first_bare_return bytes) (Err (OpenString at))
-string_of at k bytes (Some n) = unless_bare at (first_bare_return (take (length (opener k) + n) bytes)) (Ok (k, length (opener k) + n))
+abbrev pub quoted_front : ℕ → Kind → List ℕ → Option ℕ → Front
+quoted_front at k bytes None = unless_bare at (first_bare_return bytes) (Err (OpenString at))
+quoted_front at k bytes (Some n) = unless_bare at (first_bare_return (take (length (opener k) + n) bytes)) (Ok (k, length (opener k) + n))
 
 unfoldable pub string_front : ℕ → Kind → List ℕ → Front
-string_front at k bytes = string_of at k bytes (rest_len k (drop (length (opener k)) bytes))
+string_front at k bytes = quoted_front at k bytes (rest_len k (drop (length (opener k)) bytes))
 
 -- the mark that a byte is by itself, and the one that it is with a `=` after it
 abbrev pub plain_mark : ℕ → Option Kind
@@ -157,7 +157,7 @@ front_of at b bs (Some k) = string_front at k (b ∷ bs)
 -- what stands at the front of a text that is not empty and begins at place at
 unfoldable pub front : ℕ → List ℕ → Front
 front at [] = Err (StrayByte at)
-front at (b ∷ bs) = front_of at b bs (opens (b ∷ bs))
+front at (b ∷ bs) = front_of at b bs (opened_string (b ∷ bs))
 
 -- what stands at the front, and then what follows it
 abbrev pub scan_after : (ℕ → List ℕ → List (Result Item LexFault)) → ℕ → List ℕ → Front → List (Result Item LexFault)

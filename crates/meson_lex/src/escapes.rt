@@ -4,7 +4,7 @@ ghost use Rattle.std.specs.Char.{digit_value};
 ghost use Rattle.std.specs.List.{take_while, prefix_len};
 ghost use Rattle.std.specs.Str.Parse.{digits_value, AllDigits};
 ghost use Rattle.meson_lex.specs.Bytes.{is_octal, is_hexadecimal};
-ghost use Rattle.meson_lex.specs.Literals.{letter_escape, numbered, octal_escape, hexadecimal_escape, escape};
+ghost use Rattle.meson_lex.specs.Literals.{letter_escape, character_of, octal_escape, hexadecimal_escape, escape};
 
 use crate::bytes::{begins_byte, is_hexadecimal, is_octal};
 
@@ -110,7 +110,7 @@ fn hexadecimal_digits(bytes: &[u8]) -> &[u8]
 
 /// The character of a number; none where it is no character's.
 fn numbered(number: u32, taken: usize) -> Option<Escaped>
-    ensures { result ≡ numbered number taken }
+    ensures { result ≡ character_of number taken }
 {
     let character = char::from_u32(number)?;
     Some(Escaped { character, taken })

@@ -2,7 +2,7 @@
 ghost use Rattle.std.specs.Prelude.{◌≡◌, ◌+◌, ◌<◌, ◌≤◌, ◌^◌, length, not};
 ghost use Rattle.std.specs.List.{prefix_len};
 ghost use Rattle.meson_lex.specs.Bytes.{is_blank, is_line_byte};
-ghost use Rattle.meson_lex.specs.Scan.{note_len, continuation_of, continuation_front, comment_front, line_front};
+ghost use Rattle.meson_lex.specs.Scan.{comment_len, continuation_of, continuation_front, comment_front, line_front};
 
 use crate::bytes::{begins_bare_return, begins_byte, is_blank};
 use crate::fault::LexFault;
@@ -57,7 +57,7 @@ pub fn comment_front(bytes: &[u8], at: usize) -> Result<(Kind, usize), LexFault>
 /// The length of a comment at the front; 0 where there is none.
 fn note_len(bytes: &[u8]) -> usize
     ensures within { result ≤ length bytes.now }
-    ensures value { result ≡ note_len bytes.now }
+    ensures value { result ≡ comment_len bytes.now }
 {
     match bytes {
         [b'#', ..] => line_len(bytes),

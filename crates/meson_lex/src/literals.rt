@@ -5,7 +5,7 @@ ghost use Rattle.std.specs.Str.{chars, encode_utf8_all};
 ghost use Rattle.std.specs.String.{string_bytes};
 ghost use Rattle.meson_lex.specs.declared.kinds.Kind.TheVariants.{PlainString, MultilineString};
 ghost use Rattle.meson_lex.specs.Kinds.{IsString};
-ghost use Rattle.meson_lex.specs.Literals.{written, literal, unescaped, value};
+ghost use Rattle.meson_lex.specs.Literals.{written_byte, literal, unescaped, value};
 
 use crate::escapes::escape;
 use crate::fault::LiteralFault;
@@ -79,7 +79,7 @@ fn hexadecimal_digit(n: u8) -> u8
 }
 
 fn push_written(out: &mut Vec<u8>, b: u8) -> Result<(), AllocError>
-    ensures { OnOk result (out.new.items ≡ out.old.items ++ written b) }
+    ensures { OnOk result (out.new.items ≡ out.old.items ++ written_byte b) }
 {
     match b {
         b'\'' => out.extend_from_slice(b"\\'"),

@@ -2,7 +2,7 @@
 ghost use Rattle.std.specs.Prelude.{◌≡◌, ◌+◌, ◌<◌, ◌≤◌, ◌^◌, Some, None, length, take, IfSome};
 ghost use Rattle.meson_lex.specs.Bytes.{first_bare_return};
 ghost use Rattle.meson_lex.specs.Kinds.{opener};
-ghost use Rattle.meson_lex.specs.Faults.{quote_kind, opens};
+ghost use Rattle.meson_lex.specs.Faults.{quote_kind, opened_string};
 ghost use Rattle.meson_lex.specs.Scan.{quoted_len, tripled_len, rest_len, string_front};
 
 use crate::bytes::{begins_byte, begins_three_quotes, first_bare_return};
@@ -25,7 +25,7 @@ fn quote_kind(bytes: &[u8]) -> Option<Kind>
 
 /// The kind of string that `bytes` open, with or without an `f`.
 pub fn opens(bytes: &[u8]) -> Option<Kind>
-    ensures { result ≡ opens bytes.now }
+    ensures { result ≡ opened_string bytes.now }
 {
     match bytes {
         [] => None,
@@ -142,7 +142,7 @@ fn simple_len(bytes: &[u8]) -> Option<usize>
 pub fn string_front(bytes: &[u8], kind: Kind, at: usize) -> Result<(Kind, usize), LexFault>
     requires fits { at + length bytes.now < 2 ^ 64 }
     requires opened { length (opener kind) ≤ length bytes.now }
-    requires opens { opens bytes.now ≡ Some kind }
+    requires opens { opened_string bytes.now ≡ Some kind }
     ensures { result ≡ string_front at kind bytes.now }
 {
     if let Kind::PlainString = kind {

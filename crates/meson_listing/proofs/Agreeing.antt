@@ -19,7 +19,7 @@ use Rattle.meson_calls.specs.Calls.{Call, call_of, keyword}
 use Rattle.meson_calls.specs.Finding.{the_call}
 use Rattle.meson_calls.specs.Loading.{Loaded, AreParsed, IsProject, project}
 use Rattle.meson_calls.specs.Project.{Project, Placed, placed}
-use Rattle.meson_calls.specs.Sources.{answer, call_at, once, source_marks, sources, sources_key, sources_of_call}
+use Rattle.meson_calls.specs.Sources.{sources_of_marks, call_at, once, source_marks, sources, sources_key, sources_of_call}
 use Rattle.meson_sources.specs.Extras.{extra_files, extra_of_call}
 use Rattle.meson_sources.specs.SourceEdits.{extra_key, extra_marks}
 use Rattle.meson_steps.specs.declared.command.Command.{Command}
@@ -83,7 +83,7 @@ module _ (l : Loaded) (c : Placed (Call Span)) (at : CallAt (project l) c) where
 
   -- ---- keyword arguments
 
-  call_listing_is : (r : Role) → listing.call_at l r c.place ≡ Some (then_ok (keywords_of_call (bytes_at c.place.file l.files) r c.it) (λ pairs. Ok (call_data l.files c.place.file its_head.told pairs)))
+  call_listing_is : (r : Role) → listing.call_listing l r c.place ≡ Some (then_ok (keywords_of_call (bytes_at c.place.file l.files) r c.it) (λ pairs. Ok (call_data l.files c.place.file its_head.told pairs)))
   call_listing_is r =
       ap (option_and_then (λ h. option_map (λ ks. then_ok ks (λ pairs. Ok (call_data l.files c.place.file h pairs))) (keywords l r c.place))) head_is
       ∙ ap (option_map (λ ks. then_ok ks (λ pairs. Ok (call_data l.files c.place.file its_head.told pairs)))) (keywords_are r)
@@ -122,13 +122,13 @@ targets_agree l id = found_then (the_call (project l) role.Target id) _ _ (λ c 
         let extra = keyword extra_key c.it in
         let h = (has_head at.value c.it at.is_call).told in
         ap (λ o. no_steps (or_not_found o)) (target_is l c at)
-        ∙ once_then sources_key (keyword sources_key c.it) (answer c.place (source_marks (project l) c)) _ (then_ok (once extra_key extra tt) (λ (u : Unit {0}). Ok []))
-        (once_then extra_key extra (answer c.place (extra_marks (project l) c)) (λ xs. Ok (target_data l.files c.place.file h (answer c.place (source_marks (project l) c)) xs)) (Ok []) refl)
+        ∙ once_then sources_key (keyword sources_key c.it) (sources_of_marks c.place (source_marks (project l) c)) _ (then_ok (once extra_key extra tt) (λ (u : Unit {0}). Ok []))
+        (once_then extra_key extra (sources_of_marks c.place (extra_marks (project l) c)) (λ xs. Ok (target_data l.files c.place.file h (sources_of_marks c.place (source_marks (project l) c)) xs)) (Ok []) refl)
 
 pub calls_agree : CallsAgree
 calls_agree l r id = found_then (the_call (project l) r id) _ _ (λ c found. here c (role_found (project l) r id c found).at)
   where
-    here : (c : Placed (Call Span)) → CallAt (project l) c → no_steps (or_not_found (listing.call_at l r c.place)) ≡ call_told r c.it
+    here : (c : Placed (Call Span)) → CallAt (project l) c → no_steps (or_not_found (listing.call_listing l r c.place)) ≡ call_told r c.it
     here c at =
         ap (λ o. no_steps (or_not_found o)) (call_listing_is l c at r)
         ∙ told_then (call_told r c.it) _ (call_data l.files c.place.file (has_head at.value c.it at.is_call).told)

@@ -4,14 +4,14 @@ use Rattle.std.specs.Prelude.{codes, flat_map}
 use Rattle.std.proofs.lemmas.List.{at_drop_more, map-append}
 use Rattle.serde_json.specs.Data.{Data, string}
 use Rattle.meson_splice.specs.declared.file_set.File.{File}
-use Rattle.meson_calls.specs.Loading.{name_at}
+use Rattle.meson_calls.specs.Loading.{name_of_file}
 use Rattle.meson_listing.specs.Inventory.{file_data, file_line}
 use Rattle.meson_listing.proofs.Names.{name_there}
 
 nobody : File
 nobody = record { name = []; bytes = [] }
 
-module _ (files : List File) (i : ℕ) (within : i < length files) (name : List ℕ) (is : name ≡ name_at i files) where
+module _ (files : List File) (i : ℕ) (within : i < length files) (name : List ℕ) (is : name ≡ name_of_file i files) where
   named : name ≡ (get_or files i nobody).name
   named = is ∙ sym (name_there files i nobody within)
 

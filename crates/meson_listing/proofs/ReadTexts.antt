@@ -6,7 +6,7 @@ use Rattle.meson_lex.specs.declared.kinds.Item.{Item}
 use Rattle.meson_lex.specs.declared.fault.LexFault.{LexFault}
 use Rattle.meson_lex.specs.declared.kinds.Span.{Span}
 use Rattle.meson_lex.specs.Items.{IsItemList, Lexeme, joined}
-use Rattle.meson_lex.specs.Lexed.{placed, whole as all_items}
+use Rattle.meson_lex.specs.Lexed.{with_spans, whole as all_items}
 use Rattle.meson_lex.specs.Located.{located}
 use Rattle.meson_lex.specs.Scan.{scan}
 use Rattle.meson_lex.proofs.ScanLexed.{scan_only}
@@ -32,16 +32,16 @@ cut bytes [] = []
 cut bytes (Ok i ∷ more) = record { kind = i.kind; text = take (item_len i) bytes } ∷ cut (drop (item_len i) bytes) more
 cut bytes (Err fault ∷ more) = []
 
-cut-placed : (at : ℕ) (xs : List Lexeme) → cut (joined xs) (placed at xs) ≡ xs
+cut-placed : (at : ℕ) (xs : List Lexeme) → cut (joined xs) (with_spans at xs) ≡ xs
 cut-placed at [] = refl
 cut-placed at (x ∷ xs) =
     let long : at + length x.text - at ≡ length x.text = omega arith in
     let own : take (at + length x.text - at) (x.text ++ joined xs) ≡ x.text = ap (λ n. take n (x.text ++ joined xs)) long ∙ take_at x.text (joined xs) (length x.text) refl in
     let rest : drop (at + length x.text - at) (x.text ++ joined xs) ≡ joined xs = ap (λ n. drop n (x.text ++ joined xs)) long ∙ drop_at x.text (joined xs) (length x.text) refl in
-    ap₂ (λ t ls. let l : Lexeme = record { kind = x.kind; text = t } in l ∷ ls) own (ap (λ bs. cut bs (placed (at + length x.text) xs)) rest ∙ cut-placed (at + length x.text) xs)
+    ap₂ (λ t ls. let l : Lexeme = record { kind = x.kind; text = t } in l ∷ ls) own (ap (λ bs. cut bs (with_spans (at + length x.text) xs)) rest ∙ cut-placed (at + length x.text) xs)
 
 cut-items : (bytes : List ℕ) (xs : List Lexeme) → IsItemList bytes xs → cut bytes (scan 0 bytes) ≡ xs
-cut-items bytes xs h = ap₂ cut (sym h.joins) (sym (scan_only 0 bytes (placed 0 xs) (all_items xs h refl))) ∙ cut-placed 0 xs
+cut-items bytes xs h = ap₂ cut (sym h.joins) (sym (scan_only 0 bytes (with_spans 0 xs) (all_items xs h refl))) ∙ cut-placed 0 xs
 
 -- ---- trees
 

@@ -12,7 +12,7 @@ use Rattle.serde_json.specs.Find.{get_member}
 use Rattle.serde_json.proofs.Views.{get_member-put, get_member-put_other}
 use Rattle.meson_plan.specs.declared.details.Shown.{Shown}
 use Rattle.meson_listing.specs.Entries.{put_each, shown_data}
-use Rattle.meson_listing.specs.Laws.{NamesRise, names}
+use Rattle.meson_listing.specs.Laws.{NamesRise, member_names}
 
 -- ---- names that rise
 
@@ -31,31 +31,31 @@ module _ (k : List ℕ) (d : Data) (l : List ℕ) (e : Data) (ms : Members) wher
   abbrev placed : Ordering → Members
   placed o = match_ordering o (member k d (member l e ms)) (member l d ms) (member l e (put k d ms))
 
-  above_placed : (x : List ℕ) (o : Ordering) → slice_cmp nat_cmp x k ≡ Less → Above x (l ∷ names ms) → Above x (names (put k d ms)) → Above x (names (placed o))
+  above_placed : (x : List ℕ) (o : Ordering) → slice_cmp nat_cmp x k ≡ Less → Above x (l ∷ member_names ms) → Above x (member_names (put k d ms)) → Above x (member_names (placed o))
   above_placed x Less below above later = (below, above)
   above_placed x Equal below above later = above
   above_placed x Greater below above later = (above.0, later)
 
-  rise_placed : (o : Ordering) → slice_cmp nat_cmp k l ≡ o → Rise (l ∷ names ms) → Rise (names (put k d ms)) → (slice_cmp nat_cmp l k ≡ Less → Above l (names (put k d ms))) → Rise (names (placed o))
+  rise_placed : (o : Ordering) → slice_cmp nat_cmp k l ≡ o → Rise (l ∷ member_names ms) → Rise (member_names (put k d ms)) → (slice_cmp nat_cmp l k ≡ Less → Above l (member_names (put k d ms))) → Rise (member_names (placed o))
   unfolding IsStrictlySortedBy
-  rise_placed Less is rise later above = ((is, all_above k l (names ms) is rise.0), rise)
+  rise_placed Less is rise later above = ((is, all_above k l (member_names ms) is rise.0), rise)
   rise_placed Equal is rise later above = rise
   rise_placed Greater is rise later above = (above (nat_list_cmp_total.antisymm l k ∙ ap ordering_reverse is), later)
 
-put_above : (x k : List ℕ) (d : Data) (ms : Members) → slice_cmp nat_cmp x k ≡ Less → Above x (names ms) → Above x (names (put k d ms))
+put_above : (x k : List ℕ) (d : Data) (ms : Members) → slice_cmp nat_cmp x k ≡ Less → Above x (member_names ms) → Above x (member_names (put k d ms))
 put_above x k d no_members below above = (below, tt)
 put_above x k d (member l e ms) below above = above_placed k d l e ms x (slice_cmp nat_cmp k l) below above (put_above x k d ms below above.1)
 
-put_rises : (k : List ℕ) (d : Data) (ms : Members) → Rise (names ms) → Rise (names (put k d ms))
+put_rises : (k : List ℕ) (d : Data) (ms : Members) → Rise (member_names ms) → Rise (member_names (put k d ms))
 unfolding IsStrictlySortedBy
 put_rises k d no_members rise = (tt, tt)
 put_rises k d (member l e ms) rise = rise_placed k d l e ms (slice_cmp nat_cmp k l) refl rise (put_rises k d ms rise.1) (λ below. put_above l k d ms below rise.0)
 
-all_rise : (pairs : List (List ℕ × Shown)) (ms : Members) → Rise (names ms) → Rise (names (put_each ms pairs))
+all_rise : (pairs : List (List ℕ × Shown)) (ms : Members) → Rise (member_names ms) → Rise (member_names (put_each ms pairs))
 all_rise [] ms rise = rise
 all_rise (p ∷ pairs) ms rise = all_rise pairs (put p.0 (shown_data p.1) ms) (put_rises p.0 (shown_data p.1) ms rise)
 
-nothing_rises : Rise (names no_members)
+nothing_rises : Rise (member_names no_members)
 unfolding IsStrictlySortedBy
 nothing_rises = tt
 

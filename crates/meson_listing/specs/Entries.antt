@@ -5,7 +5,7 @@ use Rattle.serde_json.specs.View.{items_of}
 use Rattle.meson_splice.specs.declared.file_set.File.{File}
 use Rattle.meson_calls.specs.declared.call.SourceItem.{SourceItem}
 use Rattle.meson_calls.specs.declared.call.Sources.{Sources}
-use Rattle.meson_calls.specs.Loading.{name_at}
+use Rattle.meson_calls.specs.Loading.{name_of_file}
 use Rattle.meson_plan.specs.declared.details.Head.{Head}
 use Rattle.meson_plan.specs.declared.details.Shown.{Shown}
 use Rattle.meson_plan.specs.declared.details.Shown.TheVariants as shown
@@ -17,7 +17,7 @@ text_or_null (Some text) = string text
 -- ---- sources
 
 abbrev pub item_data : List File → SourceItem → Data
-item_data files i = object (member (codes "at") (number (unsigned i.span.from)) (member (codes "file") (string (name_at i.file files)) (member (codes "value") (string i.value) (member (codes "variable") (text_or_null i.variable) no_members))))
+item_data files i = object (member (codes "at") (number (unsigned i.span.from)) (member (codes "file") (string (name_of_file i.file files)) (member (codes "value") (string i.value) (member (codes "variable") (text_or_null i.variable) no_members))))
 
 abbrev pub items_data : List File → List SourceItem → Data
 items_data files is = array (items_of (map (item_data files) is))
@@ -57,13 +57,13 @@ keywords_data pairs = object (put_each no_members pairs)
 unfoldable pub target_data : List File → ℕ → Head → Sources → Sources → Data
 target_data files file head sources extra =
     object (member (codes "at") (number (unsigned head.at)) (member (codes "extra_files") (items_data files extra.items)
-    (member (codes "file") (string (name_at file files)) (member (codes "function") (string head.function)
+    (member (codes "file") (string (name_of_file file files)) (member (codes "function") (string head.function)
     (member (codes "hidden") (boolean head.hidden) (member (codes "name") (text_or_null head.name)
     (member (codes "opaque_extra_files") (number (unsigned extra.opaque)) (member (codes "opaque_sources") (number (unsigned sources.opaque))
     (member (codes "sources") (items_data files sources.items) (member (codes "type") (string (codes "target")) no_members))))))))))
 
 unfoldable pub call_data : List File → ℕ → Head → List (List ℕ × Shown) → Data
 call_data files file head pairs =
-    object (member (codes "at") (number (unsigned head.at)) (member (codes "file") (string (name_at file files))
+    object (member (codes "at") (number (unsigned head.at)) (member (codes "file") (string (name_of_file file files))
     (member (codes "function") (string head.function) (member (codes "hidden") (boolean head.hidden)
     (member (codes "kwargs") (keywords_data pairs) (member (codes "type") (string (codes "kwargs")) no_members))))))

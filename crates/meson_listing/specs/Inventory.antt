@@ -4,7 +4,7 @@ use Rattle.serde_json.specs.Data.{Data, number, unsigned, string, array, object,
 use Rattle.serde_json.specs.View.{items_of}
 use Rattle.meson_splice.specs.declared.file_set.File.{File}
 use Rattle.meson_splice.specs.Files.{bytes_at}
-use Rattle.meson_calls.specs.Loading.{Loaded, name_at}
+use Rattle.meson_calls.specs.Loading.{Loaded, name_of_file}
 use Rattle.meson_listing.specs.Entries.{text_or_null}
 use Rattle.meson_listing.specs.Holdings.{holdings}
 use Rattle.meson_listing.specs.declared.holdings.HeldCall.{HeldCall}
@@ -16,12 +16,12 @@ file_data f = string f.name
 
 -- where a call stands
 abbrev pub spot_data : List File → HeldCall → Data
-spot_data files c = object (member (codes "at") (number (unsigned c.head.at)) (member (codes "file") (string (name_at c.file files)) no_members))
+spot_data files c = object (member (codes "at") (number (unsigned c.head.at)) (member (codes "file") (string (name_of_file c.file files)) no_members))
 
 -- and what names it
 abbrev pub call_data : List File → HeldCall → Data
 call_data files c =
-    object (member (codes "at") (number (unsigned c.head.at)) (member (codes "file") (string (name_at c.file files)) (member (codes "function") (string c.head.function)
+    object (member (codes "at") (number (unsigned c.head.at)) (member (codes "file") (string (name_of_file c.file files)) (member (codes "function") (string c.head.function)
     (member (codes "name") (text_or_null c.head.name) (member (codes "variable") (text_or_null c.variable) no_members)))))
 
 abbrev pub project_data : Loaded → Data
@@ -47,7 +47,7 @@ variable_part (Some name) = codes ", variable " ++ name
 -- `FILE:LINE: FUNCTION 'NAME', variable VARIABLE`, and what else is to be said of it
 abbrev pub call_line : List File → List ℕ → HeldCall → List ℕ
 call_line files more c =
-    name_at c.file files ++ (codes ":" ++ (decimal (line_number (bytes_at c.file files) c.head.at) ++ (codes ": "
+    name_of_file c.file files ++ (codes ":" ++ (decimal (line_number (bytes_at c.file files) c.head.at) ++ (codes ": "
     ++ (c.head.function ++ (named_part c.head.name ++ (variable_part c.variable ++ (more ++ codes "\n")))))))
 
 abbrev pub file_line : File → List ℕ

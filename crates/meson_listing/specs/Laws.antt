@@ -59,12 +59,12 @@ CallsListed = (l : Loaded) (r : Role) (id : List ℕ) → IsListedAs l (command.
 
 -- ---- The names of keyword arguments rise, and each has its value.
 
-abbrev pub names : Members → List (List ℕ)
-names no_members = []
-names (member name d ms) = name ∷ names ms
+abbrev pub member_names : Members → List (List ℕ)
+member_names no_members = []
+member_names (member name d ms) = name ∷ member_names ms
 
 pub record AreInOrder (pairs : List (List ℕ × Shown)) : Type 0 where
-  pub rising : IsStrictlySortedBy (slice_cmp nat_cmp) (names (put_each no_members pairs))
+  pub rising : IsStrictlySortedBy (slice_cmp nat_cmp) (member_names (put_each no_members pairs))
   pub each : AllPairs (λ p q. p.0 ≢ q.0) pairs → All (λ p. get_member p.0 (put_each no_members pairs) ≡ Some (shown_data p.1)) pairs
 
 abbrev pub NamesRise : Type 0

@@ -20,8 +20,8 @@ target_at l c =
     option_and_then (λ h. option_and_then (λ s. option_map (λ x. then_ok s (λ is. then_ok x (λ xs. Ok (target_data l.files c.file h is xs))))
     (extra_files (project l) c)) (sources (project l) c)) (head (project l) c)
 
-abbrev pub call_at : Loaded → Role → CallRef → Option (Result Data Refusal)
-call_at l r c = option_and_then (λ h. option_map (λ ks. then_ok ks (λ pairs. Ok (call_data l.files c.file h pairs))) (keywords l r c)) (head (project l) c)
+abbrev pub call_listing : Loaded → Role → CallRef → Option (Result Data Refusal)
+call_listing l r c = option_and_then (λ h. option_map (λ ks. then_ok ks (λ pairs. Ok (call_data l.files c.file h pairs))) (keywords l r c)) (head (project l) c)
 
 -- one always stands where an id leads
 abbrev pub or_not_found : Option (Result Data Refusal) → Result Data Refusal
@@ -34,4 +34,4 @@ target_listing l id = then_ok (the_call (project l) role.Target id) (λ c. or_no
 
 -- of the call of this role that the id names
 abbrev pub kwargs_listing : Loaded → Role → List ℕ → Result Data Refusal
-kwargs_listing l r id = then_ok (the_call (project l) r id) (λ c. or_not_found (call_at l r c.place))
+kwargs_listing l r id = then_ok (the_call (project l) r id) (λ c. or_not_found (call_listing l r c.place))

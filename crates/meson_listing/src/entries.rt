@@ -3,7 +3,7 @@
 ghost use Rattle.std.specs.Prelude.{◌≡◌, IfOk, OnOk, codes};
 ghost use Rattle.serde_json.specs.Data.{member, no_members, number, put as with_member, string, unsigned};
 ghost use Rattle.serde_json.specs.View.{members_view, view};
-ghost use Rattle.meson_calls.specs.Loading.{name_at};
+ghost use Rattle.meson_calls.specs.Loading.{name_of_file};
 ghost use Rattle.meson_listing.specs.Entries.{id_data, ids_data, item_data, items_data, keywords_data, shown_data, text_or_null, texts_data};
 
 use meson_plan::{Shown, SourceItem};
@@ -13,7 +13,7 @@ use std::alloc::{AllocError, Global};
 
 /// The name of the file of a number.
 pub(crate) fn file_name(files: &FileSet, file: usize) -> &str
-    ensures { result.now ≡ name_at file files.now }
+    ensures { result.now ≡ name_of_file file files.now }
 {
     if file < files.len() {
         files.name(file)

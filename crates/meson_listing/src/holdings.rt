@@ -1,7 +1,7 @@
 //! What a project holds: its targets, and the `subdir` calls that enter none of its files.
 
 ghost use Rattle.std.specs.Prelude.{◌≡◌, All, IfOk, Some};
-ghost use Rattle.meson_calls.specs.Knowns.{AreNames};
+ghost use Rattle.meson_calls.specs.Knowns.{AreFileNames};
 ghost use Rattle.meson_calls.specs.Loading.{HasFileName};
 ghost use Rattle.meson_calls.specs.Notes.{note_view, note_views};
 ghost use Rattle.meson_calls.specs.Picking.{places_that};
@@ -103,7 +103,7 @@ fn enters_one(
     call: &HeldCall,
 ) -> Result<bool, AllocError>
     requires named { All HasFileName files.now }
-    requires names { AreNames names.now files.now }
+    requires names { AreFileNames names.now files.now }
     ensures { IfOk result (λ one. one ≡ enters_one files.now call.now) }
 {
     if call.file >= files.len() {

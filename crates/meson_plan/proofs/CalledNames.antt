@@ -24,7 +24,7 @@ node_good of_expression x e is good = let same : x ≡ e = cc in subst (λ y. Ar
 node_good of_statement x e is good = cc
 node_good of_block x e is good = cc
 
-expression_good : (f : tree.File Span) (path : List ℕ) (e : Expression Span) → paths.expression_at f path ≡ Some e → AreGood (file_words f) → AreGood (expression_words e)
+expression_good : (f : tree.File Span) (path : List ℕ) (e : Expression Span) → paths.expression_on_path f path ≡ Some e → AreGood (file_words f) → AreGood (expression_words e)
 expression_good (tree.file s b) path e is good =
     let o = and-then-some (λ h. expression_of Span h.sort h.inside) (reach Span of_block b path) e is in
     let h = o.0 in
@@ -33,7 +33,7 @@ expression_good (tree.file s b) path e is good =
     node_good h.sort h.inside e o.2 (good_left (node_words Span h.sort h.inside) h.behind (good_right h.before (node_words Span h.sort h.inside ++ h.behind) whole))
 
 pub called_named : (files : List File) (trees : List Parsed) (n : ℕ) (path : List ℕ) (d : Parsed) → n < length trees → AreParsed files trees → (s : Span) (x : Name Span) (l : Listing Span)
-    → Some (call s x l) ≡ paths.expression_at (view (bytes_at n files) (get_or trees n d)) path → IsIdentifier x.text
+    → Some (call s x l) ≡ paths.expression_on_path (view (bytes_at n files) (get_or trees n d)) path → IsIdentifier x.text
 called_named files trees n path d within are s x l is =
     let the_tree = view (bytes_at n files) (get_or trees n d) in
     let spanned = spanned_at files trees n d within are in

@@ -31,14 +31,14 @@ module _ (files : List File) (trees : List Parsed) (c : CallRef) where
   p = named_trees files (views files trees)
 
   pub past_files : length trees ≤ c.file → is_call p c ≡ false
-  past_files past = ap (λ f. is_some (called_by c (option_and_then (λ g. paths.expression_at g.tree c.path.steps) f))) (nth_past files trees c.file past)
+  past_files past = ap (λ f. is_some (called_by c (option_and_then (λ g. paths.expression_on_path g.tree c.path.steps) f))) (nth_past files trees c.file past)
 
   module _ (d : Parsed) (many : length trees ≡ length files) (within : c.file < length trees) where
-    pub stands : expression_at p c ≡ paths.expression_at (view (bytes_at c.file files) (get_or trees c.file d)) c.path.steps
-    stands = ap (λ f. option_and_then (λ g. paths.expression_at g.tree c.path.steps) f) (nth_there files trees c.file d many within)
+    pub stands : expression_at p c ≡ paths.expression_on_path (view (bytes_at c.file files) (get_or trees c.file d)) c.path.steps
+    stands = ap (λ f. option_and_then (λ g. paths.expression_on_path g.tree c.path.steps) f) (nth_there files trees c.file d many within)
 
-    pub no_expression : None ≡ paths.expression_at (view (bytes_at c.file files) (get_or trees c.file d)) c.path.steps → is_call p c ≡ false
+    pub no_expression : None ≡ paths.expression_on_path (view (bytes_at c.file files) (get_or trees c.file d)) c.path.steps → is_call p c ≡ false
     no_expression none = no_call c (expression_at p c) (ap (option_and_then call_of) (stands ∙ sym none))
 
-    pub other_expression : (e : Expression Span) → Some e ≡ paths.expression_at (view (bytes_at c.file files) (get_or trees c.file d)) c.path.steps → call_of e ≡ None → is_call p c ≡ false
+    pub other_expression : (e : Expression Span) → Some e ≡ paths.expression_on_path (view (bytes_at c.file files) (get_or trees c.file d)) c.path.steps → call_of e ≡ None → is_call p c ≡ false
     other_expression e is other = no_call c (expression_at p c) (ap (option_and_then call_of) (stands ∙ sym is) ∙ other)

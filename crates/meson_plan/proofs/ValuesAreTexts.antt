@@ -10,7 +10,7 @@ use Rattle.meson_syntax.specs.declared.tree.Arg.{Arg}
 use Rattle.meson_syntax.specs.declared.tree.Arg.TheFolds.{the_lemmas}
 use Rattle.meson_syntax.specs.declared.tree.List as rust
 use Rattle.meson_syntax.specs.Tree.{Name, Expression, call, Argument, plain, named, pair, Arguments, no_arguments, argument, arguments_of, Listing, listing, File}
-use Rattle.meson_syntax.specs.Paths.{nth, expression_at, list_at, ListAt, ElementAt, elements_at, element_at, value_of}
+use Rattle.meson_syntax.specs.Paths.{nth, expression_on_path, list_at, ListAt, ElementAt, elements_at, element_at, value_of}
 use Rattle.meson_syntax.specs.Places.{expression_span, ListStands, PartStands}
 use Rattle.meson_syntax.specs.Reads.{IsSpanned, of_files}
 use Rattle.meson_syntax.specs.View.{text_at, arg_view, args_view, list_view}
@@ -67,7 +67,7 @@ module _ (source : List ℕ) where
   list_text : (l : Listing Span) → ((n : ℕ) (e : ElementAt Span) (v : Expression Span) → element_at l n ≡ Some e → value_of e.element ≡ Some v → IsUtf8 (source_text source v)) → ListHasTexts source l
   list_text (listing s trailing list) all = each_text list trailing all
 
-pub call_texts : (bytes : List ℕ) (f : File Span) → IsSpanned bytes f → (path : List ℕ) (s : Span) (x : Name Span) (l : Listing Span) → expression_at f path ≡ Some (call s x l) → ListHasTexts bytes l
+pub call_texts : (bytes : List ℕ) (f : File Span) → IsSpanned bytes f → (path : List ℕ) (s : Span) (x : Name Span) (l : Listing Span) → expression_on_path f path ≡ Some (call s x l) → ListHasTexts bytes l
 call_texts bytes f spanned path s x l is =
     let o = list_of Span f path (call s x l) _ is refl in
     list_text bytes l (λ n e v is_e is_v. value_text bytes f spanned path o.place n e v o.is_place (ap (λ k. element_at k n) o.list ∙ is_e) is_v)

@@ -15,7 +15,7 @@ use Rattle.meson_calls.specs.declared.call.Role.{Role}
 use Rattle.meson_calls.specs.declared.call.Role.TheVariants.{Target}
 use Rattle.meson_calls.specs.declared.call.Sources.{Sources}
 use Rattle.meson_calls.specs.declared.refusal.Refusal.{Refusal}
-use Rattle.meson_calls.specs.Calls.{Call, first, first_literal, keyword, literal, value_without_name}
+use Rattle.meson_calls.specs.Calls.{Call, first_of, first_literal, keyword, literal_of, value_without_name}
 use Rattle.meson_calls.specs.Loading.{Loaded, project}
 use Rattle.meson_calls.specs.Picking.{call_with}
 use Rattle.meson_calls.specs.Project.{Project, Placed, expression_at}
@@ -42,7 +42,7 @@ is_call p c = is_some (call_at p c)
 
 -- a `kwargs:` argument may hold further keyword arguments
 abbrev pub is_hidden : {S : Type 0} → Call S → Bool
-is_hidden c = is_some (first (keyword kwargs_key c))
+is_hidden c = is_some (first_of (keyword kwargs_key c))
 
 -- the offset of the first byte, the function, whether arguments are hidden, and the text of the first argument without a name, if that is a literal
 abbrev pub head_of : Expression Span → Option Head
@@ -83,7 +83,7 @@ of_each f [] = Some []
 of_each f (x ∷ xs) = option_and_then (λ y. option_map (λ ys. y ∷ ys) (of_each f xs)) (f x)
 
 abbrev pub literal_in : {S : Type 0} → Argument S → Option (List ℕ)
-literal_in x = option_and_then literal (value_without_name x)
+literal_in x = option_and_then literal_of (value_without_name x)
 
 abbrev pub variable_in : {S : Type 0} → Argument S → Option (List ℕ)
 variable_in x = option_and_then name_of (value_without_name x)

@@ -16,7 +16,7 @@ use Rattle.meson_calls.specs.Directories.{IsFileName, goes_nowhere, is_control, 
 use Rattle.meson_calls.specs.Loading.{HasFileName}
 use Rattle.meson_script.proofs.StackFacts.{nothing-is-undone}
 use Rattle.meson_script.proofs.Undos.{undos-are-steps}
-use Rattle.meson_script.specs.Stack.{Stack, Stands, undo, undos}
+use Rattle.meson_script.specs.Stack.{Stack, Stands, taken_back, undos}
 use Rattle.meson_sums.specs.Laws.{Collision, IsOnALine, SumsTell}
 use Rattle.meson_sums.specs.Sums.{sums}
 use Rattle.meson_rewrite.specs.Laws.{CheckedUndosRestore, SameSumsUndo}
@@ -99,7 +99,7 @@ not-done (suc count) h files s after stands none done = go (undos count s) refl 
     go None is earlier = let between = done-before (undone_times count h files) (λ m. undone m.0 m.1) after done in earlier between.0 stands is between.1
     go (Some r) is earlier =
         let all = undos-are-steps count h files s r stands is in
-        let empty : undo r ≡ None = sym (ap (option_and_then undo) is) ∙ none in
+        let empty : taken_back r ≡ None = sym (ap (option_and_then taken_back) is) ∙ none in
         let refused = ap (λ p. then_ok p (λ m. undone m.0 m.1)) all.1 ∙ nothing-is-undone all.0 r.present r all.2 empty in
         not-both NothingToUndo after (sym refused ∙ done)
 

@@ -8,7 +8,7 @@ use Rattle.meson_script.specs.declared.session.Report.{Report}
 use Rattle.meson_script.specs.declared.session.Session.{Session}
 use Rattle.meson_splice.specs.declared.file_set.File.{File}
 use Rattle.meson_sums.specs.Sums.{sums}
-use Rattle.meson_rewrite.specs.Steps.{HasSums, MayRefuse}
+use Rattle.meson_rewrite.specs.Steps.{HasSums, MayRefuseStep}
 use Rattle.meson_rewrite.specs.Stops.{WantsMemory}
 use Rattle.meson_rewrite.specs.declared.request.NamedFile.{NamedFile}
 use Rattle.meson_rewrite.specs.declared.request.Step.{Step}
@@ -22,5 +22,5 @@ module _ (kept : NamedFile) (old : Session) (files : List File) (bytes : List �
   other-sums is has = not_from_Decides _ (bytes_eq-Decides (sums files) bytes) is (ap sums are_files ∙ sym has ∙ sym are_bytes)
 
 -- a refusal of a step, want of memory aside
-pub may-refuse : (step : Step) (old : Session) (r : Result Report Stop) → IfErr r (MayRefuse step old) → IfErr r (λ why. WantsMemory why ⊎ MayRefuse step old why)
-may-refuse step old r refused = IfErr-weaker r (MayRefuse step old) (λ why. WantsMemory why ⊎ MayRefuse step old why) (λ why may. inr may) refused
+pub may-refuse : (step : Step) (old : Session) (r : Result Report Stop) → IfErr r (MayRefuseStep step old) → IfErr r (λ why. WantsMemory why ⊎ MayRefuseStep step old why)
+may-refuse step old r refused = IfErr-weaker r (MayRefuseStep step old) (λ why. WantsMemory why ⊎ MayRefuseStep step old why) (λ why may. inr may) refused

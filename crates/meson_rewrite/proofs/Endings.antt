@@ -9,14 +9,14 @@ use Rattle.meson_command.specs.declared.fault.UsageFault.{UsageFault}
 use Rattle.meson_script.specs.declared.session.Session.{Session}
 use Rattle.meson_store.specs.Calls.{counted}
 use Rattle.meson_store.proofs.Restoring.{CutLast, HasOld, each-map, puts-cut, restored, untold-restored}
-use Rattle.meson_store.specs.Commit.{AreReplaced, CommitFails, Put, TakenBack, put_all, put_in, puts}
+use Rattle.meson_store.specs.Commit.{AreReplaced, CommitFails, Put, TakenBack, put_all, put_at, puts}
 use Rattle.meson_store.specs.Content.{Content}
 use Rattle.meson_store.specs.Seen.{Seen, Untouched}
 use Rattle.meson_store.specs.declared.store_fault.StoreFault.{StoreFault}
 use Rattle.meson_store.specs.declared.store_fault.StoreFault.TheVariants as store
 use Rattle.meson_gathering.proofs.Stopping.{rose_before, stops_within}
 use Rattle.meson_gathering.specs.Gathering.{Finds, file_of}
-use Rattle.meson_rewrite.specs.Edited.{IsEdited, IsShown, IsTold}
+use Rattle.meson_rewrite.specs.Edited.{IsEdited, IsShown, OnlyTells}
 use Rattle.meson_rewrite.specs.Lines.{status, stop_status, store_fault_status, usage_status, version_line}
 use Rattle.meson_rewrite.proofs.Holding.{IsHeld, held-collected}
 use Rattle.meson_rewrite.specs.Listed.{listed_text}
@@ -24,7 +24,7 @@ use Rattle.meson_rewrite.specs.Logs.{log_name, with_log}
 use Rattle.meson_rewrite.specs.Opening.{IsNoLog, Opens, OpensNone, log_unread, bad_log, no_log, no_project}
 use Rattle.meson_rewrite.specs.Requests.{AsksFor, AsksForNone, only_asks, script}
 use Rattle.meson_rewrite.specs.Runs.{Edits, Ends, IsUnchanged, KeepsFiles, ListingEnds, OnlyAsks, StepEnds, asks_for_none, done, has_none, helped, listed, lists, memory_ran_out, misused, no_memory, not_opened, refused, shown, steps, told, told_version, unwritten, wants_memory, written}
-use Rattle.meson_rewrite.specs.Steps.{MayRefuse, only_tells}
+use Rattle.meson_rewrite.specs.Steps.{MayRefuseStep, only_tells}
 use Rattle.meson_rewrite.specs.Stops.{WantsMemory}
 use Rattle.meson_rewrite.specs.declared.steps.Edit.{Edit}
 use Rattle.meson_rewrite.specs.declared.request.Listing.{Listing}
@@ -117,11 +117,11 @@ module _ (dir : Option (List ℕ)) (step : Step) (dry_run : Bool) where
     stopped-opening stop (inr none) = not_opened stop u none
 
     module _ (old : Session) (log : List ℕ) (opens : Opens b.content dir old log) where
-      pub stopped-acting : (stop : Stop) → WantsMemory stop ⊎ MayRefuse step old stop → StepEnds dir step dry_run b a (Err stop)
+      pub stopped-acting : (stop : Stop) → WantsMemory stop ⊎ MayRefuseStep step old stop → StepEnds dir step dry_run b a (Err stop)
       stopped-acting stop (inl m) = no_memory stop u m
       stopped-acting stop (inr may) = refused old log stop u opens may
 
-      pub told-ends : only_tells step ≡ true → (said : Said) → IsTold old step said → StepEnds dir step dry_run b a (Ok said)
+      pub told-ends : only_tells step ≡ true → (said : Said) → OnlyTells old step said → StepEnds dir step dry_run b a (Ok said)
       told-ends only said t = subst (λ s. StepEnds dir step dry_run b a (Ok s)) (sym t.is_said) (told old t.new log t.report u opens t.does only)
 
       pub dry-ends : only_tells step ≡ false → dry_run ≡ true → (said : Said) → IsShown old step said → StepEnds dir step dry_run b a (Ok said)
@@ -189,7 +189,7 @@ untouched-same before after u = (u.kept, u.no_replace)
 cut-old : {before : Option Content} (dir : Option (List ℕ)) (step : Step) (e : Edits before dir step) (m : Content) → before ≡ Some m → CutLast (HasOld m) (written e)
 cut-old dir step e m is =
     puts-cut (HasOld m) dir e.old.project.files (file_of log_name e.log) (with_log e.new.project.files e.new_log)
-    (each-map (IsHeld m dir) (λ f. (bytes : List ℕ) → HasOld m (put_in dir f bytes)) (λ f h bytes. h) e.old.project.files (held-collected m dir e.old.project.files (e.opens.found m is)))
+    (each-map (IsHeld m dir) (λ f. (bytes : List ℕ) → HasOld m (put_at dir f bytes)) (λ f h bytes. h) e.old.project.files (held-collected m dir e.old.project.files (e.opens.found m is)))
 
 -- a commit for which memory ran out
 ran-out : (dir : Option (List ℕ)) (step : Step) (before after : Seen) (e : Edits before.content dir step) → TakenBack (written e) before after store.OutOfMemory → after.content ≡ before.content

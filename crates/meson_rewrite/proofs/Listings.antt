@@ -28,7 +28,7 @@ use Rattle.meson_listing.specs.Entries.{call_data, id_data, item_data, put_each,
 use Rattle.meson_listing.specs.Holdings.{holdings}
 use Rattle.meson_listing.specs.Inventory.{file_data, project_data, spot_data}
 use Rattle.meson_listing.specs.Inventory as inventory
-use Rattle.meson_listing.specs.Listing.{call_at, kwargs_listing, or_not_found, target_at, target_listing}
+use Rattle.meson_listing.specs.Listing.{call_listing, kwargs_listing, or_not_found, target_at, target_listing}
 use Rattle.meson_script.specs.Running.{Runs, nothing_ran, ran_more, told}
 use Rattle.meson_script.specs.declared.session.Report.{Report}
 use Rattle.meson_script.specs.declared.session.Session.{Session}
@@ -145,7 +145,7 @@ target-listing-plain l id = then-plain (the_call (project l) role.Target id) _ (
     (λ x. then-plain s _ (λ is. then-plain x _ (λ xs. target-plain l.files c.place.file h is xs)))))))
 
 call-listing-plain : (l : Loaded) (r : Role) (id : List ℕ) → Plain (kwargs_listing l r id)
-call-listing-plain l r id = then-plain (the_call (project l) r id) _ (λ c. or-plain (call_at l r c.place)
+call-listing-plain l r id = then-plain (the_call (project l) r id) _ (λ c. or-plain (call_listing l r c.place)
     (and-plain (head (project l) c.place) _ (λ h. map-plain (keywords l r c.place) _ (λ ks. then-plain ks _ (λ pairs. call-plain l.files c.place.file h pairs)))))
 
 -- ---- the listings of a script

@@ -4,7 +4,7 @@ use Rattle.std.proofs.lemmas.List.{reverse-append}
 use Rattle.std.proofs.lemmas.List.Elements.{All-get_or}
 use Rattle.std.proofs.lemmas.List.Quantifiers.{position-Some}
 use Rattle.std.proofs.lemmas.Slice.Eq.{bytes_eq-Decides}
-use Rattle.meson_splice.specs.Files.{found}
+use Rattle.meson_splice.specs.Files.{position_of_file}
 use Rattle.meson_splice.specs.declared.file_set.File.{File}
 use Rattle.meson_calls.specs.Directories.{IsFileName, build_file}
 use Rattle.meson_calls.specs.Loading.{HasFileName}
@@ -27,12 +27,12 @@ other_name name named is = ends_so name named (λ front ends. other_end front (s
 nobody : File
 nobody = record { name = []; bytes = [] }
 
-not_found : (files : List File) → All HasFileName files → (o : Option ℕ) → found log_name files ≡ o → found log_name files ≡ None
+not_found : (files : List File) → All HasFileName files → (o : Option ℕ) → position_of_file log_name files ≡ o → position_of_file log_name files ≡ None
 not_found files named None is = is
 not_found files named (Some i) is =
     let at = position-Some (λ f. bytes_eq f.name log_name) files i nobody is in
     let f = get_or files i nobody in
     absurd (other_name f.name (All-get_or HasFileName files i nobody at.0 named) ((bytes_eq-Decides f.name log_name).0 at.1))
 
-pub no_log : (files : List File) → All HasFileName files → found log_name files ≡ None
-no_log files named = not_found files named (found log_name files) refl
+pub no_log : (files : List File) → All HasFileName files → position_of_file log_name files ≡ None
+no_log files named = not_found files named (position_of_file log_name files) refl

@@ -10,7 +10,7 @@ use Rattle.meson_splice.specs.declared.history.History.{History}
 use Rattle.meson_splice.specs.declared.splice.Splice.{Splice}
 use Rattle.meson_splice.specs.Past.{redone, redone_from, undone, undone_from}
 use Rattle.meson_calls.specs.declared.load_fault.LoadFault.TheVariants as load
-use Rattle.meson_calls.specs.Loading.{name_at}
+use Rattle.meson_calls.specs.Loading.{name_of_file}
 use Rattle.meson_script.specs.Undoing.{MayNotStep, StopsBack}
 use Rattle.meson_script.specs.declared.fault.UndoFault.{UndoFault}
 use Rattle.meson_script.specs.declared.fault.UndoFault.TheVariants as undo
@@ -111,7 +111,7 @@ nth place [] = []
 nth zero (n ∷ ns) = n
 nth (suc place) (n ∷ ns) = nth place ns
 
-name-nth : (place : ℕ) (files : List File) → name_at place files ≡ nth place (names files)
+name-nth : (place : ℕ) (files : List File) → name_of_file place files ≡ nth place (names files)
 name-nth place [] = refl
 name-nth zero (f ∷ files) = refl
 name-nth (suc place) (f ∷ files) = name-nth place files

@@ -8,7 +8,7 @@ use Rattle.meson_store.specs.Content.{Content}
 use Rattle.meson_store.specs.declared.store_fault.StoreFault.{StoreFault}
 use Rattle.meson_store.specs.declared.store_fault.StoreFault.TheVariants as store
 use Rattle.meson_gathering.specs.Gathered.{IsUnread}
-use Rattle.meson_gathering.specs.Gathering.{Finds, Told, held, whole}
+use Rattle.meson_gathering.specs.Gathering.{Finds, Told, held_bytes, whole}
 use Rattle.meson_rewrite.proofs.Endings.{no-log-before}
 use Rattle.meson_rewrite.specs.Logs.{IsBadLog, IsLog, log_name}
 use Rattle.meson_rewrite.specs.Opening.{IsNoLog, OpensNone, bad_log, log_unread, no_log}
@@ -22,7 +22,7 @@ log-read there bytes text h e same is = subst (λ x. IsLog x text h) e (same, is
 pub none-read : (there : Option (List ℕ)) (text : List ℕ) (h : History) → None ≡ there → IsLog None text h → IsLog there text h
 none-read there text h e is = subst (λ x. IsLog x text h) e is
 
-pub bad-read : (before : Option Content) (dir : Option (List ℕ)) (failed failed' : ℕ) (bytes : List ℕ) (why : Stop) → Told before (λ content. Some bytes ≡ held content dir log_name)
+pub bad-read : (before : Option Content) (dir : Option (List ℕ)) (failed failed' : ℕ) (bytes : List ℕ) (why : Stop) → Told before (λ content. Some bytes ≡ held_bytes content dir log_name)
     → WantsMemory why ⊎ ((why ≡ Script script.BadLog) × (logged bytes ≡ None)) → WantsMemory why ⊎ IsNoLog before dir failed failed' why
 bad-read before dir failed failed' bytes why told (inl m) = inl m
 bad-read before dir failed failed' bytes why told (inr b) =

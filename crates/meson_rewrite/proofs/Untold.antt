@@ -8,11 +8,11 @@ use Rattle.meson_command.specs.declared.fault.UsageFault.{UsageFault}
 use Rattle.meson_splice.specs.declared.file_set.File.{File}
 use Rattle.meson_store.proofs.Leaving.{some-is, untold-at}
 use Rattle.meson_store.proofs.Restoring.{Each, apart-or-not, each-append, each-map, puts-each}
-use Rattle.meson_store.specs.Commit.{Put, TakenBack, path_in, put_in, still_new}
+use Rattle.meson_store.specs.Commit.{Put, TakenBack, path_in, put_at, still_new}
 use Rattle.meson_store.specs.Content.{Content}
 use Rattle.meson_store.specs.Seen.{Seen}
 use Rattle.meson_store.specs.declared.store_fault.StoreFault.{StoreFault}
-use Rattle.meson_gathering.specs.Gathering.{file_of, held}
+use Rattle.meson_gathering.specs.Gathering.{file_of, held_bytes}
 use Rattle.meson_rewrite.proofs.Holding.{IsHeld, held-collected}
 use Rattle.meson_rewrite.specs.Logs.{IsLog, empty_log, log_name, with_log}
 use Rattle.meson_rewrite.specs.Runs.{Edits, Ends, IsKept, KeepsUntold, ListingEnds, StepEnds, asks_for_none, dir_of, done, has_none, helped, listed, lists, memory_ran_out, misused, no_memory, not_opened, refused, shown, steps, told, told_version, unwritten, wants_memory, written}
@@ -38,13 +38,13 @@ module _ (dir : Option (List ℕ)) (old : Content) where
       puts-each IsOld dir (with_log e.old.project.files e.log) (with_log e.new.project.files e.new_log)
       (each-append Old e.old.project.files (file_of log_name e.log ∷ [])
       (each-map (IsHeld old dir) Old (λ f h bytes. record { held_so = inl h; named = refl }) e.old.project.files (held-collected old dir e.old.project.files (e.opens.found old is)))
-      (λ bytes. record { held_so = log (held old dir log_name) refl (e.opens.is_log old is); named = refl }, tt))
+      (λ bytes. record { held_so = log (held_bytes old dir log_name) refl (e.opens.is_log old is); named = refl }, tt))
     where
       Old : File → Type 0
-      Old f = (bytes : List ℕ) → IsOld (put_in dir f bytes)
+      Old f = (bytes : List ℕ) → IsOld (put_at dir f bytes)
 
-      log : (there : Option (List ℕ)) → held old dir log_name ≡ there → IsLog there e.log e.old.history →
-          (held old dir log_name ≡ Some e.log) ⊎ ((path_in dir log_name ≡ path_in dir log_name) × (e.log ≡ empty_log) × (held old dir log_name ≡ None))
+      log : (there : Option (List ℕ)) → held_bytes old dir log_name ≡ there → IsLog there e.log e.old.history →
+          (held_bytes old dir log_name ≡ Some e.log) ⊎ ((path_in dir log_name ≡ path_in dir log_name) × (e.log ≡ empty_log) × (held_bytes old dir log_name ≡ None))
       log None is l = inr (refl, l.0, is)
       log (Some text) is l = inl (is ∙ ap Some (sym l.0))
 

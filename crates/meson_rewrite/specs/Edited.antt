@@ -8,7 +8,7 @@ use Rattle.meson_script.specs.declared.fault.UndoFault.TheVariants as undo
 use Rattle.meson_script.specs.declared.session.Report.{Report}
 use Rattle.meson_script.specs.declared.session.Session.{Session}
 use Rattle.meson_rewrite.specs.Logs.{with_log}
-use Rattle.meson_rewrite.specs.Steps.{Does, Shows, says}
+use Rattle.meson_rewrite.specs.Steps.{Does, Shows, said_of}
 use Rattle.meson_rewrite.specs.declared.steps.Edit.{Edit}
 use Rattle.meson_rewrite.specs.declared.request.Step.{Step}
 use Rattle.meson_rewrite.specs.declared.said.Said.{Said}
@@ -23,14 +23,14 @@ pub record IsEdited (old : Session) (log : List ℕ) (step : Step) (edit : Edit)
   pub is_log : log_of new.history ≡ Ok new_log
   pub before : edit.before ≡ with_log old.project.files log
   pub after : edit.after ≡ with_log new.project.files new_log
-  pub said : edit.said ≡ says step report
+  pub said : edit.said ≡ said_of step report
 
 -- a step that only tells
-pub record IsTold (old : Session) (step : Step) (said : Said) : Type 0 where
+pub record OnlyTells (old : Session) (step : Step) (said : Said) : Type 0 where
   pub new : Session
   pub report : Report
   pub does : Does step old report new
-  pub is_said : said ≡ says step report
+  pub is_said : said ≡ said_of step report
 
 -- a step that is shown, and not done
 pub record IsShown (old : Session) (step : Step) (said : Said) : Type 0 where

@@ -1,14 +1,14 @@
 -- The session of a project in a store: its files, and the history that its log holds.
 use Rattle.std.specs.Prelude.{◌≡◌, true, ℕ, List, Option}
 use Rattle.meson_calls.specs.Loading.{IsProject}
-use Rattle.meson_json.specs.Log.{has_text}
+use Rattle.meson_json.specs.Log.{is_text_history}
 use Rattle.meson_json.specs.declared.fault.ScriptFault.TheVariants.{BadLog}
 use Rattle.meson_script.specs.declared.session.Session.{Session}
 use Rattle.meson_splice.specs.declared.file_set.File.{File}
 use Rattle.meson_store.specs.Content.{Content, Rose}
 use Rattle.meson_store.specs.declared.store_fault.StoreFault.TheVariants.{ReadFailed}
 use Rattle.meson_gathering.specs.declared.fault.GatherFault.{GatherFault}
-use Rattle.meson_gathering.specs.Gathering.{Told, Finds, held, whole}
+use Rattle.meson_gathering.specs.Gathering.{Told, Finds, held_bytes, whole}
 use Rattle.meson_gathering.specs.Gathered.{StopsAt}
 use Rattle.meson_rewrite.specs.Logs.{IsBadLog, IsLog, log_name}
 use Rattle.meson_rewrite.specs.Stops.{gathering_stop}
@@ -19,13 +19,13 @@ module _ (before : Option Content) (dir : Option (List ℕ)) where
   pub record Opens (session : Session) (log : List ℕ) : Type 0 where
     pub found : Finds before dir (whole session.project.files)
     pub is_project : IsProject session.project
-    pub is_log : Told before (λ content. IsLog (held content dir log_name) log session.history)
-    pub text : has_text session.history ≡ true
+    pub is_log : Told before (λ content. IsLog (held_bytes content dir log_name) log session.history)
+    pub text : is_text_history session.history ≡ true
 
   -- why there is none, want of memory aside: the log is not read, or is none
   pub data IsNoLog (failed failed' : ℕ) : Stop → Type 0 where
     log_unread : Rose failed failed' → IsNoLog failed failed' (Store (ReadFailed log_name))
-    bad_log : Told before (λ content. IsBadLog (held content dir log_name)) → IsNoLog failed failed' (Script BadLog)
+    bad_log : Told before (λ content. IsBadLog (held_bytes content dir log_name)) → IsNoLog failed failed' (Script BadLog)
 
   -- the files are no project, or they are and have no log
   pub data OpensNone (failed failed' : ℕ) : Stop → Type 0 where

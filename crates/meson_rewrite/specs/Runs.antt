@@ -21,7 +21,7 @@ use Rattle.meson_rewrite.specs.Listed.{listed_text}
 use Rattle.meson_rewrite.specs.Logs.{empty_log, log_name, with_log}
 use Rattle.meson_rewrite.specs.Opening.{Opens, OpensNone}
 use Rattle.meson_rewrite.specs.Requests.{AsksFor, AsksForNone, only_asks, only_shows}
-use Rattle.meson_rewrite.specs.Steps.{Does, MayRefuse, Shows, only_tells, says}
+use Rattle.meson_rewrite.specs.Steps.{Does, MayRefuseStep, Shows, only_tells, said_of}
 use Rattle.meson_rewrite.specs.Stops.{WantsMemory}
 use Rattle.meson_rewrite.specs.declared.request.Listing.{Listing}
 use Rattle.meson_rewrite.specs.declared.request.Request.TheVariants as request
@@ -59,15 +59,15 @@ module _ (dir : Option (List ℕ)) (step : Step) (dry_run : Bool) (before after 
     -- there is no session
     not_opened : (stop : Stop) → Untouched before after → OpensNone before.content dir before.failures after.failures stop → StepEnds (Err stop)
     -- the step is refused on it
-    refused : (old : Session) (log : List ℕ) (stop : Stop) → Untouched before after → Opens before.content dir old log → MayRefuse step old stop → StepEnds (Err stop)
+    refused : (old : Session) (log : List ℕ) (stop : Stop) → Untouched before after → Opens before.content dir old log → MayRefuseStep step old stop → StepEnds (Err stop)
     -- its listings are told, and nothing is written
     told : (old new : Session) (log : List ℕ) (report : Report) → Untouched before after → Opens before.content dir old log → Does step old report new → only_tells step ≡ true
-        → StepEnds (Ok (says step report))
+        → StepEnds (Ok (said_of step report))
     -- what it makes of the files is shown, and nothing is written
     shown : (old new : Session) (log : List ℕ) (report : Report) (said : Said) → Untouched before after → Opens before.content dir old log → Does step old report new
         → only_tells step ≡ false → dry_run ≡ true → Shows old report new said → StepEnds (Ok said)
     -- each file that differs was replaced, then the log, and no other
-    done : (edits : Edits before.content dir step) → only_tells step ≡ false → dry_run ≡ false → AreReplaced (written edits) before after → StepEnds (Ok (says step edits.report))
+    done : (edits : Edits before.content dir step) → only_tells step ≡ false → dry_run ≡ false → AreReplaced (written edits) before after → StepEnds (Ok (said_of step edits.report))
     -- one could not be replaced, what was replaced got its old bytes again, and the fault tells of it
     unwritten : (edits : Edits before.content dir step) (fault : StoreFault) → only_tells step ≡ false → dry_run ≡ false → TakenBack (written edits) before after fault
         → StepEnds (Err (Store fault))

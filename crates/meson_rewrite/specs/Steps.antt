@@ -16,7 +16,7 @@ use Rattle.meson_steps.specs.declared.command.Command.{Command}
 use Rattle.meson_script.specs.declared.fault.UndoFault.{UndoFault}
 use Rattle.meson_script.specs.declared.session.Report.{Report}
 use Rattle.meson_script.specs.declared.session.Session.{Session}
-use Rattle.meson_script.specs.Running.{Keeps, MayStop}
+use Rattle.meson_script.specs.Running.{KeepsChange, MayStop}
 use Rattle.meson_script.specs.Undoing.{MayNotStep, Steps, StepsBack, StopsBack}
 use Rattle.meson_sums.specs.Sums.{sums}
 use Rattle.meson_rewrite.specs.Lines.{done_line, forgot_line, title_line}
@@ -40,8 +40,8 @@ abbrev pub HasSums : Session → NamedFile → Type 0
 HasSums session kept = kept.bytes ≡ sums session.project.files
 
 abbrev pub Does : Step → Session → Report → Session → Type 0
-Does (Run script title) old report new = Keeps old script.commands title report new
-Does (Tell script) old report new = Keeps old script.commands [] report new
+Does (Run script title) old report new = KeepsChange old script.commands title report new
+Does (Tell script) old report new = KeepsChange old script.commands [] report new
 Does Undo old report new = Steps old old.history.past (undone old.history old.project.files) report new
 Does (UndoTo count) old report new = StepsBack count old report new
 Does (UndoChecked count kept) old report new = HasSums old kept × StepsBack count old report new
@@ -66,15 +66,15 @@ StopsStepsBack count old why = (fault : UndoFault) × (between : Session) × Sto
 abbrev pub StopsChecked : ℕ → NamedFile → Session → Stop → Type 0
 StopsChecked count kept old why = ((HasSums old kept → ⊥) × (why ≡ OtherFiles kept.name)) ⊎ (HasSums old kept × StopsStepsBack count old why)
 
-abbrev pub MayRefuse : Step → Session → Stop → Type 0
-MayRefuse (Run script title) old why = StopsRun old script.commands why
-MayRefuse (Tell script) old why = StopsRun old script.commands why
-MayRefuse Undo old why = StopsStep old (undone old.history old.project.files) why
-MayRefuse (UndoTo count) old why = StopsStepsBack count old why
-MayRefuse (UndoChecked count kept) old why = StopsChecked count kept old why
-MayRefuse (ForgetOldest count) old why = (length old.history.past < count) × (why ≡ Splice NothingToUndo)
-MayRefuse ForgetAll old why = ⊥
-MayRefuse Redo old why = StopsStep old (redone old.history old.project.files) why
+abbrev pub MayRefuseStep : Step → Session → Stop → Type 0
+MayRefuseStep (Run script title) old why = StopsRun old script.commands why
+MayRefuseStep (Tell script) old why = StopsRun old script.commands why
+MayRefuseStep Undo old why = StopsStep old (undone old.history old.project.files) why
+MayRefuseStep (UndoTo count) old why = StopsStepsBack count old why
+MayRefuseStep (UndoChecked count kept) old why = StopsChecked count kept old why
+MayRefuseStep (ForgetOldest count) old why = (length old.history.past < count) × (why ≡ Splice NothingToUndo)
+MayRefuseStep ForgetAll old why = ⊥
+MayRefuseStep Redo old why = StopsStep old (redone old.history old.project.files) why
 
 -- what is kept gets a title
 abbrev pub IsTitled : Step → Type 0
@@ -107,12 +107,12 @@ pub record Shows (old : Session) (report : Report) (new : Session) (said : Said)
   pub is_diff : IsDiff old.project.files new.project.files said.out
   pub is_listing : said.err ≡ listing_line (view report.info)
 
-abbrev pub says : Step → Report → Said
-says (Run script title) report = record { out = done_line report.files report.splices; err = listing_line (view report.info) }
-says (Tell script) report = record { out = []; err = listing_line (view report.info) }
-says Undo report = record { out = step_lines report; err = listing_line (view report.info) }
-says (UndoTo count) report = record { out = step_lines report; err = listing_line (view report.info) }
-says (UndoChecked count kept) report = record { out = step_lines report; err = listing_line (view report.info) }
-says (ForgetOldest count) report = record { out = forgot_line (decimal count); err = listing_line (view report.info) }
-says ForgetAll report = record { out = forgot_line (codes "all"); err = listing_line (view report.info) }
-says Redo report = record { out = step_lines report; err = listing_line (view report.info) }
+abbrev pub said_of : Step → Report → Said
+said_of (Run script title) report = record { out = done_line report.files report.splices; err = listing_line (view report.info) }
+said_of (Tell script) report = record { out = []; err = listing_line (view report.info) }
+said_of Undo report = record { out = step_lines report; err = listing_line (view report.info) }
+said_of (UndoTo count) report = record { out = step_lines report; err = listing_line (view report.info) }
+said_of (UndoChecked count kept) report = record { out = step_lines report; err = listing_line (view report.info) }
+said_of (ForgetOldest count) report = record { out = forgot_line (decimal count); err = listing_line (view report.info) }
+said_of ForgetAll report = record { out = forgot_line (codes "all"); err = listing_line (view report.info) }
+said_of Redo report = record { out = step_lines report; err = listing_line (view report.info) }

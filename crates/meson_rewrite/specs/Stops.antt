@@ -4,7 +4,7 @@ use Rattle.meson_splice.specs.declared.fault.SpliceFault.TheVariants as splice
 use Rattle.meson_splice.specs.declared.file_set.File.{File}
 use Rattle.meson_calls.specs.declared.load_fault.LoadFault.TheVariants as load
 use Rattle.meson_calls.specs.declared.refusal.Refusal.TheVariants as refusal
-use Rattle.meson_calls.specs.Loading.{name_at}
+use Rattle.meson_calls.specs.Loading.{name_of_file}
 use Rattle.meson_json.specs.declared.fault.ScriptFault.TheVariants as script
 use Rattle.meson_script.specs.declared.fault.UndoFault.{UndoFault}
 use Rattle.meson_script.specs.declared.fault.UndoFault.TheVariants as undo
@@ -26,7 +26,7 @@ abbrev pub undo_stop : List File → UndoFault → Stop
 undo_stop files (undo.Splice fault) = Splice fault
 undo_stop files (undo.Load load.TooManyFiles) = TooManyFiles
 undo_stop files (undo.Load (load.BadFileName place)) = BadFileName place
-undo_stop files (undo.Load (load.Parse place fault)) = Parse (name_at place files) fault
+undo_stop files (undo.Load (load.Parse place fault)) = Parse (name_of_file place files) fault
 undo_stop files (undo.Load load.OutOfMemory) = Store store.OutOfMemory
 
 -- memory was refused, whichever step asked for it

@@ -1,10 +1,10 @@
 //! The session of a project in a store.
 
 ghost use Rattle.std.specs.Prelude.{◌≡◌, ◌≤◌, ◌⊎◌, IfOk, IfErr, None, OnErr, OnOk, Some, true};
-ghost use Rattle.meson_json.specs.Log.{has_text, logged};
+ghost use Rattle.meson_json.specs.Log.{is_text_history, logged};
 ghost use Rattle.meson_json.specs.declared.fault.ScriptFault.TheVariants.{BadLog};
 ghost use Rattle.meson_rewrite.specs.declared.stop.Stop.TheVariants.{Script};
-ghost use Rattle.meson_gathering.specs.Gathering.{Told, held, named_folder};
+ghost use Rattle.meson_gathering.specs.Gathering.{Told, held_bytes, named_folder};
 ghost use Rattle.meson_rewrite.specs.Logs.{IsLog, log_name};
 ghost use Rattle.meson_rewrite.specs.Opening.{IsNoLog, Opens, OpensNone};
 ghost use Rattle.meson_rewrite.specs.StoreReads.{ReadsAtMost, ReadsWithLog};
@@ -33,7 +33,7 @@ struct Log {
 /// The log of a text.
 fn log_in(alloc: Global, text: Vec<u8>) -> Result<Log, Stop>
     ensures log { IfOk result (λ log. (log.text ≡ text) × (logged text.items ≡ Some log.history)) }
-    ensures text { IfOk result (λ log. has_text log.history ≡ true) }
+    ensures text { IfOk result (λ log. is_text_history log.history ≡ true) }
     ensures none { IfErr result (λ why. WantsMemory why ⊎ ((why ≡ Script BadLog) × (logged text.items ≡ None))) }
 {
     match read_log(alloc, text.as_slice()) {
@@ -45,8 +45,8 @@ fn log_in(alloc: Global, text: Vec<u8>) -> Result<Log, Stop>
 /// The log of the project in this folder; that of no changes where there is none.
 fn read_history<S: Store>(alloc: Global, store: &mut S, dir: Option<&str>) -> Result<Log, Stop>
     ensures read { IfOk result (λ log. Told (S.content store.old)
-        (λ content. IsLog (held content (named_folder dir.entry) log_name) log.text.items log.history)) }
-    ensures text { IfOk result (λ log. has_text log.history ≡ true) }
+        (λ content. IsLog (held_bytes content (named_folder dir.entry) log_name) log.text.items log.history)) }
+    ensures text { IfOk result (λ log. is_text_history log.history ≡ true) }
     ensures none { IfErr result (λ why. WantsMemory why
         ⊎ IsNoLog (S.content store.old) (named_folder dir.entry) (S.failures store.old) (S.failures store.new) why) }
     ensures kept { S.content store.new ≡ S.content store.old }
@@ -65,7 +65,7 @@ fn read_history<S: Store>(alloc: Global, store: &mut S, dir: Option<&str>) -> Re
 /// The log of no changes.
 fn no_changes(alloc: Global) -> Result<Log, Stop>
     ensures log { IfOk result (λ log. IsLog None log.text.items log.history) }
-    ensures text { IfOk result (λ log. has_text log.history ≡ true) }
+    ensures text { IfOk result (λ log. is_text_history log.history ≡ true) }
     ensures none { IfErr result WantsMemory }
 {
     match empty_log(alloc) {

@@ -6,7 +6,7 @@ ghost use Rattle.serde_json.specs.View.{view};
 ghost use Rattle.serde_json.specs.Written.{compact_text, has_float};
 ghost use Rattle.meson_rewrite.specs.Lines.{line};
 ghost use Rattle.meson_rewrite.specs.Runs.{CannotSay, Says};
-ghost use Rattle.meson_rewrite.specs.Steps.{is_empty_array, listing_line, says};
+ghost use Rattle.meson_rewrite.specs.Steps.{is_empty_array, listing_line, said_of};
 ghost use Rattle.meson_store.specs.Output.{Fails, Gets};
 
 use crate::lines::{all_forgotten_text, done_text, forgotten_text, step_text};
@@ -70,7 +70,7 @@ impl Said {
     /// What is said of a step.
     pub(crate) fn of(alloc: Global, step: &Step, report: &Report) -> Result<Said, AllocError>
         requires { has_float (view report.now.info) ≡ false }
-        ensures { IfOk result (λ said. said ≡ says step.now report.now) }
+        ensures { IfOk result (λ said. said ≡ said_of step.now report.now) }
     {
         let err = listing_text(alloc, &report.info)?;
         let out = match step {

@@ -3,11 +3,11 @@
 ghost use Rattle.std.specs.Prelude.{◌≡◌, ◌<◌, ◌⊎◌, [], IfOk, IfErr, List, Ok, OnOk, length, map, true, ℕ};
 ghost use Rattle.serde_json.specs.Data.{array, no_items};
 ghost use Rattle.serde_json.specs.View.{view};
-ghost use Rattle.meson_calls.specs.Loading.{IsProject, name_at};
-ghost use Rattle.meson_json.specs.Log.{has_text, log_of};
-ghost use Rattle.meson_rewrite.specs.Edited.{IsEdited, IsShown, IsTold, IsWithin};
+ghost use Rattle.meson_calls.specs.Loading.{IsProject, name_of_file};
+ghost use Rattle.meson_json.specs.Log.{is_text_history, log_of};
+ghost use Rattle.meson_rewrite.specs.Edited.{IsEdited, IsShown, OnlyTells, IsWithin};
 ghost use Rattle.meson_rewrite.specs.Logs.{with_log};
-ghost use Rattle.meson_rewrite.specs.Steps.{Does, IsTitled, MayRefuse};
+ghost use Rattle.meson_rewrite.specs.Steps.{Does, IsTitled, MayRefuseStep};
 ghost use Rattle.meson_rewrite.specs.Stops.{WantsMemory, undo_stop};
 
 use crate::opening::{LOG, Opened};
@@ -28,7 +28,7 @@ use std::mem;
 /// The file of this number would be none.
 fn unparsed(alloc: Global, files: &FileSet, place: usize, fault: ParseFault) -> Stop
     requires { place < length files.now }
-    ensures { (result ≡ Stop.Parse (name_at place files.now) fault) ⊎ (result ≡ Stop.Splice SpliceFault.OutOfMemory) }
+    ensures { (result ≡ Stop.Parse (name_of_file place files.now) fault) ⊎ (result ≡ Stop.Splice SpliceFault.OutOfMemory) }
 {
     match String::from_str(alloc, files.name(place)) {
         Ok(name) => Stop::Parse {
@@ -56,8 +56,8 @@ fn undo_stop(alloc: Global, files: &FileSet, fault: UndoFault) -> Stop
 /// Takes back the newest changes of a session, so many.
 fn back_to(alloc: Global, session: &mut Session, count: usize) -> Result<Report, Stop>
     ensures does { IfOk result (λ report. Does (Step.UndoTo count) session.old report session.new) }
-    ensures refused { IfErr result (MayRefuse (Step.UndoTo count) session.old) }
-    ensures text { OnOk result (has_text session.old.history ≡ true → has_text session.new.history ≡ true) }
+    ensures refused { IfErr result (MayRefuseStep (Step.UndoTo count) session.old) }
+    ensures text { OnOk result (is_text_history session.old.history ≡ true → is_text_history session.new.history ≡ true) }
     ensures project { OnOk result (IsProject session.new.project) }
 {
     match session.undo_to(alloc, count) {
@@ -74,8 +74,8 @@ fn checked_back(
     kept: &NamedFile,
 ) -> Result<Report, Stop>
     ensures does { IfOk result (λ report. Does (Step.UndoChecked count kept.now) session.old report session.new) }
-    ensures refused { IfErr result (λ why. WantsMemory why ⊎ MayRefuse (Step.UndoChecked count kept.now) session.old why) }
-    ensures text { OnOk result (has_text session.old.history ≡ true → has_text session.new.history ≡ true) }
+    ensures refused { IfErr result (λ why. WantsMemory why ⊎ MayRefuseStep (Step.UndoChecked count kept.now) session.old why) }
+    ensures text { OnOk result (is_text_history session.old.history ≡ true → is_text_history session.new.history ≡ true) }
     ensures project { OnOk result (IsProject session.new.project) }
 {
     let same = are_kept(alloc, session.files(), kept.bytes.get())?;
@@ -102,8 +102,8 @@ fn nothing_done(alloc: Global) -> Report
 /// Lets the oldest changes of a session go, so many.
 fn oldest_forgotten(alloc: Global, session: &mut Session, count: usize) -> Result<Report, Stop>
     ensures does { IfOk result (λ report. Does (Step.ForgetOldest count) session.old report session.new) }
-    ensures refused { IfErr result (MayRefuse (Step.ForgetOldest count) session.old) }
-    ensures text { OnOk result (has_text session.old.history ≡ true → has_text session.new.history ≡ true) }
+    ensures refused { IfErr result (MayRefuseStep (Step.ForgetOldest count) session.old) }
+    ensures text { OnOk result (is_text_history session.old.history ≡ true → is_text_history session.new.history ≡ true) }
     ensures project { IsProject session.new.project }
 {
     session.project.reads();
@@ -116,7 +116,7 @@ fn oldest_forgotten(alloc: Global, session: &mut Session, count: usize) -> Resul
 /// Lets all changes of a session go.
 fn all_forgotten(alloc: Global, session: &mut Session) -> Report
     ensures does { Does Step.ForgetAll session.old result session.new }
-    ensures text { has_text session.new.history ≡ true }
+    ensures text { is_text_history session.new.history ≡ true }
     ensures project { IsProject session.new.project }
 {
     session.project.reads();
@@ -128,8 +128,8 @@ fn all_forgotten(alloc: Global, session: &mut Session) -> Report
 fn act(alloc: Global, session: &mut Session, step: &Step) -> Result<Report, Stop>
     requires { IsTitled step.now }
     ensures does { IfOk result (λ report. Does step.now session.old report session.new) }
-    ensures refused { IfErr result (λ why. WantsMemory why ⊎ MayRefuse step.now session.old why) }
-    ensures text { OnOk result (has_text session.old.history ≡ true → has_text session.new.history ≡ true) }
+    ensures refused { IfErr result (λ why. WantsMemory why ⊎ MayRefuseStep step.now session.old why) }
+    ensures text { OnOk result (is_text_history session.old.history ≡ true → is_text_history session.new.history ≡ true) }
     ensures project { OnOk result (IsProject session.new.project) }
 {
     match step {
@@ -158,7 +158,7 @@ fn act(alloc: Global, session: &mut Session, step: &Step) -> Result<Report, Stop
 
 /// The log of a session whose history is text.
 fn new_log(alloc: Global, session: &Session) -> Result<Vec<u8>, Stop>
-    requires { has_text session.now.history ≡ true }
+    requires { is_text_history session.now.history ≡ true }
     ensures log { IfOk result (λ text. log_of session.now.history ≡ Ok text.items) }
     ensures none { IfErr result WantsMemory }
 {
@@ -181,7 +181,7 @@ fn with_log(alloc: Global, project: &Project, text: Vec<u8>) -> Result<FileSet, 
 
 /// The files of a session whose history is text, and its log behind them.
 fn logged(alloc: Global, session: &Session) -> Result<FileSet, Stop>
-    requires { has_text session.now.history ≡ true }
+    requires { is_text_history session.now.history ≡ true }
     ensures files { IfOk result (λ all. (text : List ℕ) × (log_of session.now.history ≡ Ok text) × (all ≡ with_log session.now.project.files text)) }
     ensures none { IfErr result WantsMemory }
 {
@@ -201,11 +201,11 @@ pub(crate) struct Edit {
 
 /// Does a step on a session whose history is text and is logged in this text, and gives what is to be written.
 fn edit_of(alloc: Global, session: &mut Session, log: Vec<u8>, step: &Step) -> Result<Edit, Stop>
-    requires text { has_text session.old.history ≡ true }
+    requires text { is_text_history session.old.history ≡ true }
     requires title { IsTitled step.now }
     ensures edited { IfOk result (IsEdited session.old log.items step.now) }
     ensures same_names { IfOk result (λ edit. map (λ f. f.name) edit.before ≡ map (λ f. f.name) edit.after) }
-    ensures refused { IfErr result (λ why. WantsMemory why ⊎ MayRefuse step.now session.old why) }
+    ensures refused { IfErr result (λ why. WantsMemory why ⊎ MayRefuseStep step.now session.old why) }
 {
     let before = with_log(alloc, session.project(), log)?;
     let report = act(alloc, session, step)?;
@@ -220,11 +220,11 @@ fn edit_of(alloc: Global, session: &mut Session, log: Vec<u8>, step: &Step) -> R
 
 /// What a step makes of a session whose history is text.
 pub(crate) fn edited(alloc: Global, opened: Opened, step: &Step) -> Result<Edit, Stop>
-    requires text { has_text opened.session.history ≡ true }
+    requires text { is_text_history opened.session.history ≡ true }
     requires title { IsTitled step.now }
     ensures edited { IfOk result (IsEdited opened.session opened.log.items step.now) }
     ensures same_names { IfOk result (λ edit. map (λ f. f.name) edit.before ≡ map (λ f. f.name) edit.after) }
-    ensures refused { IfErr result (λ why. WantsMemory why ⊎ MayRefuse step.now opened.session why) }
+    ensures refused { IfErr result (λ why. WantsMemory why ⊎ MayRefuseStep step.now opened.session why) }
 {
     let Opened { mut session, log } = opened;
     let edit = edit_of(alloc, &mut session, log, step);
@@ -236,8 +236,8 @@ pub(crate) fn edited(alloc: Global, opened: Opened, step: &Step) -> Result<Edit,
 /// What is to be told of a step on a session.
 pub(crate) fn told(alloc: Global, opened: Opened, step: &Step) -> Result<Said, Stop>
     requires { IsTitled step.now }
-    ensures told { IfOk result (IsTold opened.session step.now) }
-    ensures refused { IfErr result (λ why. WantsMemory why ⊎ MayRefuse step.now opened.session why) }
+    ensures told { IfOk result (OnlyTells opened.session step.now) }
+    ensures refused { IfErr result (λ why. WantsMemory why ⊎ MayRefuseStep step.now opened.session why) }
 {
     let Opened {
         mut session,
@@ -251,7 +251,7 @@ pub(crate) fn told(alloc: Global, opened: Opened, step: &Step) -> Result<Said, S
 pub(crate) fn shown(alloc: Global, opened: Opened, step: &Step) -> Result<Said, Stop>
     requires { IsTitled step.now }
     ensures shown { IfOk result (IsShown opened.session step.now) }
-    ensures refused { IfErr result (λ why. WantsMemory why ⊎ MayRefuse step.now opened.session why) }
+    ensures refused { IfErr result (λ why. WantsMemory why ⊎ MayRefuseStep step.now opened.session why) }
 {
     let Opened {
         mut session,

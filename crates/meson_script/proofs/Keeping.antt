@@ -1,20 +1,20 @@
 -- What a script that is kept makes of a history.
 use Rattle.std.proofs.Common.{◌≡◌, ℕ, true, List, refl, ap, ◌∙◌}
 use Rattle.meson_calls.specs.Loading.{IsProject}
-use Rattle.meson_json.specs.Log.{has_text}
+use Rattle.meson_json.specs.Log.{is_text_history}
 use Rattle.meson_json.specs.Titles.{is_title}
 use Rattle.meson_steps.specs.declared.command.Command.{Command}
 use Rattle.meson_script.specs.declared.session.Report.{Report}
 use Rattle.meson_script.specs.declared.session.Session.{Session}
-use Rattle.meson_script.specs.Running.{Keeps}
+use Rattle.meson_script.specs.Running.{KeepsChange}
 use Rattle.meson_script.specs.Stack.{Stack, Stands, ran}
 use Rattle.meson_script.proofs.RunFacts.{runs-text}
 use Rattle.meson_script.proofs.StepFacts.{run-stands}
 use Rattle.meson_script.proofs.TextFacts.{kept-text}
 
-pub keeps-stands : (old new : Session) (commands : List Command) (title : List ℕ) (report : Report) → Keeps old commands title report new → IsProject new.project
+pub keeps-stands : (old new : Session) (commands : List Command) (title : List ℕ) (report : Report) → KeepsChange old commands title report new → IsProject new.project
     → (s : Stack) → Stands old.history old.project.files s → Stands new.history new.project.files (ran s title new.project.files)
 keeps-stands old new commands title report k is = run-stands old.project new.project old.project old.history new.history commands title k.splices k.splices report.relexed k.listings refl k.runs is refl k.kept
 
-pub keeps-text : (old new : Session) (commands : List Command) (title : List ℕ) (report : Report) → Keeps old commands title report new → has_text old.history ≡ true → is_title title ≡ true → has_text new.history ≡ true
-keeps-text old new commands title report k before is = ap has_text k.kept ∙ kept-text old.history k.splices title before is (runs-text old.project new.project commands k.splices report.relexed k.listings k.runs)
+pub keeps-text : (old new : Session) (commands : List Command) (title : List ℕ) (report : Report) → KeepsChange old commands title report new → is_text_history old.history ≡ true → is_title title ≡ true → is_text_history new.history ≡ true
+keeps-text old new commands title report k before is = ap is_text_history k.kept ∙ kept-text old.history k.splices title before is (runs-text old.project new.project commands k.splices report.relexed k.listings k.runs)

@@ -8,11 +8,11 @@ use Rattle.meson_syntax.specs.declared.fault.ParseFault.{ParseFault}
 use Rattle.meson_syntax.specs.declared.fault.ParseFault.TheVariants as parse
 use Rattle.meson_syntax.specs.declared.tree.Parsed.{Parsed}
 use Rattle.meson_syntax.specs.Tree.{Plain}
-use Rattle.meson_syntax.specs.Reads.{Reads, MayRefuse, of_files}
+use Rattle.meson_syntax.specs.Reads.{Reads, MayNotRead, of_files}
 use Rattle.meson_syntax.proofs.parsing.Refusals.{unreadable-none}
 use Rattle.meson_calls.specs.declared.load_fault.LoadFault.TheVariants.{TooManyFiles, BadFileName, Parse, OutOfMemory}
 use Rattle.meson_calls.specs.Directories.{IsFileName}
-use Rattle.meson_calls.specs.Loading.{Loaded, IsProject, AreParsed, HasFileName, HasTree, name_at}
+use Rattle.meson_calls.specs.Loading.{Loaded, IsProject, AreParsed, HasFileName, HasTree, name_of_file}
 use Rattle.meson_script.specs.Stack.{Loads}
 use Rattle.meson_script.specs.Laws.{LoadsOrWantsMemory}
 
@@ -28,7 +28,7 @@ project-loads p h = record { few = h.few; named = h.named; trees = trees-of p.fi
 
 -- ---- and their faults
 
-named_at : (files : List File) (i : ℕ) → i < length files → All HasFileName files → IsFileName (name_at i files)
+named_at : (files : List File) (i : ℕ) → i < length files → All HasFileName files → IsFileName (name_of_file i files)
 named_at [] i within all = absurd (omega arith)
 named_at (f ∷ files) zero within all = All-head HasFileName f files all
 named_at (f ∷ files) (suc i) within all = let below : i < length files = omega arith in named_at files i below (All-tail HasFileName f files all)
@@ -39,7 +39,7 @@ tree_at (f ∷ files) zero within all = All-head HasTree f files all
 tree_at (f ∷ files) (suc i) within all = let below : i < length files = omega arith in tree_at files i below (All-tail HasTree f files all)
 
 -- bytes that read as a tree get no fault but want of memory
-no_fault : (bytes : List ℕ) (t : Plain) (fault : ParseFault) → Reads bytes t → fault ≢ parse.OutOfMemory → MayRefuse bytes fault → ⊥
+no_fault : (bytes : List ℕ) (t : Plain) (fault : ParseFault) → Reads bytes t → fault ≢ parse.OutOfMemory → MayNotRead bytes fault → ⊥
 no_fault bytes t parse.TooLarge reads told why = unreadable-none of_files bytes parse.TooLarge why t reads
 no_fault bytes t parse.NotUtf8 reads told why = unreadable-none of_files bytes parse.NotUtf8 why t reads
 no_fault bytes t parse.ByteOrderMark reads told why = unreadable-none of_files bytes parse.ByteOrderMark why t reads

@@ -17,7 +17,7 @@ use Rattle.meson_steps.specs.declared.command.Command.{Command}
 use Rattle.meson_script.specs.Running.{Runs}
 use Rattle.meson_script.specs.declared.fault.UndoFault.{UndoFault}
 use Rattle.meson_script.specs.declared.fault.UndoFault.TheVariants.{Splice, Load}
-use Rattle.meson_script.specs.Stack.{Kept, Stack, Stands, Loads, ran, back, forth, undo, redo, RefusesUndo, RefusesRedo}
+use Rattle.meson_script.specs.Stack.{KeptSet, Stack, Stands, Loads, ran, back, forth, taken_back, done_again, RefusesUndo, RefusesRedo}
 use Rattle.meson_script.specs.Undoing.{MayNotChange, MayNotStep}
 use Rattle.meson_script.proofs.Loading.{loads-or-wants-memory, project-loads}
 use Rattle.meson_script.proofs.RunFacts.{runs-patch}
@@ -89,7 +89,7 @@ same_step h k fs gs e = let pairs : ◌≡◌ {A = History × List File} (h, fs)
 stood : (h k : History) (fs gs : List File) (t : Stack) → h ≡ k → fs ≡ gs → Stands h fs t → Stands k gs t
 stood h k fs gs t same_h same_fs st = subst (λ g. Stands k g t) same_fs (subst (λ j. Stands j fs t) same_h st)
 
-undo-stands-by : (o : Option Stack) (h k : History) (fs gs : List File) (s : Stack) → undo s ≡ o → Stands h fs s → undone h fs ≡ Ok (k, gs) → (t : Stack) × (undo s ≡ Some t) × Stands k gs t
+undo-stands-by : (o : Option Stack) (h k : History) (fs gs : List File) (s : Stack) → taken_back s ≡ o → Stands h fs s → undone h fs ≡ Ok (k, gs) → (t : Stack) × (taken_back s ≡ Some t) × Stands k gs t
 undo-stands-by None h k fs gs s is st done =
     let other : ◌≡◌ {A = Stepped} (Err splice.NothingToUndo) (Ok (k, gs)) = sym (nothing-is-undone h fs s st is) ∙ done in
     absurd (let bad : ⊥ = cc in bad)
@@ -98,10 +98,10 @@ undo-stands-by (Some t) h k fs gs s is st done =
     let same = same_step n.0 k t.present gs (sym n.1 ∙ done) in
     (t, is, stood n.0 k t.present gs t same.0 same.1 n.2)
 
-pub undo-stands : (h k : History) (fs gs : List File) (s : Stack) → Stands h fs s → undone h fs ≡ Ok (k, gs) → (t : Stack) × (undo s ≡ Some t) × Stands k gs t
-undo-stands h k fs gs s st done = undo-stands-by (undo s) h k fs gs s refl st done
+pub undo-stands : (h k : History) (fs gs : List File) (s : Stack) → Stands h fs s → undone h fs ≡ Ok (k, gs) → (t : Stack) × (taken_back s ≡ Some t) × Stands k gs t
+undo-stands h k fs gs s st done = undo-stands-by (taken_back s) h k fs gs s refl st done
 
-redo-stands-by : (o : Option Stack) (h k : History) (fs gs : List File) (s : Stack) → redo s ≡ o → Stands h fs s → redone h fs ≡ Ok (k, gs) → (t : Stack) × (redo s ≡ Some t) × Stands k gs t
+redo-stands-by : (o : Option Stack) (h k : History) (fs gs : List File) (s : Stack) → done_again s ≡ o → Stands h fs s → redone h fs ≡ Ok (k, gs) → (t : Stack) × (done_again s ≡ Some t) × Stands k gs t
 redo-stands-by None h k fs gs s is st done =
     let other : ◌≡◌ {A = Stepped} (Err splice.NothingToRedo) (Ok (k, gs)) = sym (nothing-is-redone h fs s st is) ∙ done in
     absurd (let bad : ⊥ = cc in bad)
@@ -110,8 +110,8 @@ redo-stands-by (Some t) h k fs gs s is st done =
     let same = same_step n.0 k t.present gs (sym n.1 ∙ done) in
     (t, is, stood n.0 k t.present gs t same.0 same.1 n.2)
 
-pub redo-stands : (h k : History) (fs gs : List File) (s : Stack) → Stands h fs s → redone h fs ≡ Ok (k, gs) → (t : Stack) × (redo s ≡ Some t) × Stands k gs t
-redo-stands h k fs gs s st done = redo-stands-by (redo s) h k fs gs s refl st done
+pub redo-stands : (h k : History) (fs gs : List File) (s : Stack) → Stands h fs s → redone h fs ≡ Ok (k, gs) → (t : Stack) × (done_again s ≡ Some t) × Stands k gs t
+redo-stands h k fs gs s st done = redo-stands-by (done_again s) h k fs gs s refl st done
 
 -- ---- what is refused then
 
@@ -152,11 +152,11 @@ redo-refuses-done s t h k fs (Load (load.Parse i fault)) done loads why = loads_
 redo-refuses-done s t h k fs (Load load.OutOfMemory) done loads why = tt
 
 -- nothing to undo: that alone is the refusal
-none_undo : (past : List Kept) (present : List File) (future : List Kept) → back past present future ≡ None → past ≡ []
+none_undo : (past : List KeptSet) (present : List File) (future : List KeptSet) → back past present future ≡ None → past ≡ []
 none_undo [] present future is = refl
 none_undo (p ∷ past) present future is = absurd (let bad : ⊥ = cc in bad)
 
-none_redo : (past : List Kept) (future : List Kept) (present : List File) → forth past future present ≡ None → future ≡ []
+none_redo : (past : List KeptSet) (future : List KeptSet) (present : List File) → forth past future present ≡ None → future ≡ []
 none_redo past [] present is = refl
 none_redo past (n ∷ future) present is = absurd (let bad : ⊥ = cc in bad)
 
@@ -194,16 +194,16 @@ redo-refuses-none s h fs (Load (load.BadFileName i)) none empty why = not_done (
 redo-refuses-none s h fs (Load (load.Parse i fault)) none empty why = not_done (redone h fs) splice.NothingToRedo why.0 why.1 none why.2
 redo-refuses-none s h fs (Load load.OutOfMemory) none empty why = tt
 
-undo-refuses-by : (o : Option Stack) (s : Stack) (h : History) (fs : List File) (f : UndoFault) → undo s ≡ o → Stands h fs s → MayNotStep (undone h fs) f → RefusesUndo s f
+undo-refuses-by : (o : Option Stack) (s : Stack) (h : History) (fs : List File) (f : UndoFault) → taken_back s ≡ o → Stands h fs s → MayNotStep (undone h fs) f → RefusesUndo s f
 undo-refuses-by None s h fs f is st why = undo-refuses-none s h fs f (nothing-is-undone h fs s st is) (none_undo s.past s.present s.future is) why
 undo-refuses-by (Some t) s h fs f is st why = let n = undo-is-a-step h fs s t st is in undo-refuses-done s t h n.0 fs f n.1 n.2.loads why
 
 pub undo-refuses : (s : Stack) (h : History) (fs : List File) (f : UndoFault) → Stands h fs s → MayNotStep (undone h fs) f → RefusesUndo s f
-undo-refuses s h fs f st why = undo-refuses-by (undo s) s h fs f refl st why
+undo-refuses s h fs f st why = undo-refuses-by (taken_back s) s h fs f refl st why
 
-redo-refuses-by : (o : Option Stack) (s : Stack) (h : History) (fs : List File) (f : UndoFault) → redo s ≡ o → Stands h fs s → MayNotStep (redone h fs) f → RefusesRedo s f
+redo-refuses-by : (o : Option Stack) (s : Stack) (h : History) (fs : List File) (f : UndoFault) → done_again s ≡ o → Stands h fs s → MayNotStep (redone h fs) f → RefusesRedo s f
 redo-refuses-by None s h fs f is st why = redo-refuses-none s h fs f (nothing-is-redone h fs s st is) (none_redo s.past s.future s.present is) why
 redo-refuses-by (Some t) s h fs f is st why = let n = redo-is-a-step h fs s t st is in redo-refuses-done s t h n.0 fs f n.1 n.2.loads why
 
 pub redo-refuses : (s : Stack) (h : History) (fs : List File) (f : UndoFault) → Stands h fs s → MayNotStep (redone h fs) f → RefusesRedo s f
-redo-refuses s h fs f st why = redo-refuses-by (redo s) s h fs f refl st why
+redo-refuses s h fs f st why = redo-refuses-by (done_again s) s h fs f refl st why

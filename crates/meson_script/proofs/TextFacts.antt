@@ -9,7 +9,7 @@ use Rattle.meson_splice.specs.declared.history.History.{History}
 use Rattle.meson_splice.specs.declared.splice.Splice.{Splice}
 use Rattle.meson_splice.specs.Past.{Forgets}
 use Rattle.meson_layout.specs.Laws.{AreTexts}
-use Rattle.meson_json.specs.Log.{are_text, change_has_text, has_text, is_text}
+use Rattle.meson_json.specs.Log.{are_text, change_has_text, is_text_history, is_text}
 use Rattle.meson_json.specs.Titles.{is_title}
 
 both : (a b : Bool) → (a && b) ≡ true → (a ≡ true) × (b ≡ true)
@@ -33,8 +33,8 @@ one-less-text cs c h =
     (parts.0, (both (change_has_text c) true parts.1).0)
 
 -- a change that is kept
-pub kept-text : (h : History) (splices : List Splice) (title : List ℕ) → has_text h ≡ true → is_title title ≡ true → AreTexts splices
-    → has_text (record { past = h.past ++ record { splices = splices; title = title } ∷ []; future = [] }) ≡ true
+pub kept-text : (h : History) (splices : List Splice) (title : List ℕ) → is_text_history h ≡ true → is_title title ≡ true → AreTexts splices
+    → is_text_history (record { past = h.past ++ record { splices = splices; title = title } ∷ []; future = [] }) ≡ true
 kept-text h splices title is named a =
     one-more-text h.past (record { splices = splices; title = title }) (both (are_text h.future) (are_text h.past) is).1 (join (list_all is_text splices) (is_title title) (all-text splices a) named)
 
@@ -44,20 +44,20 @@ moved-text from to here there c is gone a b =
     let parts = one-less-text here c (sym (ap are_text is) ∙ a) in
     (parts.0, ap are_text gone ∙ one-more-text to c b parts.1)
 
-pub undone-text : (h k : History) (c : Change) → h.past ≡ k.past ++ c ∷ [] → k.future ≡ h.future ++ c ∷ [] → has_text h ≡ true → has_text k ≡ true
+pub undone-text : (h k : History) (c : Change) → h.past ≡ k.past ++ c ∷ [] → k.future ≡ h.future ++ c ∷ [] → is_text_history h ≡ true → is_text_history k ≡ true
 undone-text h k c is gone t =
     let parts = both (are_text h.future) (are_text h.past) t in
     let moved = moved-text h.past h.future k.past k.future c is gone parts.1 parts.0 in
     join (are_text k.future) (are_text k.past) moved.1 moved.0
 
-pub redone-text : (h k : History) (c : Change) → h.future ≡ k.future ++ c ∷ [] → k.past ≡ h.past ++ c ∷ [] → has_text h ≡ true → has_text k ≡ true
+pub redone-text : (h k : History) (c : Change) → h.future ≡ k.future ++ c ∷ [] → k.past ≡ h.past ++ c ∷ [] → is_text_history h ≡ true → is_text_history k ≡ true
 redone-text h k c is gone t =
     let parts = both (are_text h.future) (are_text h.past) t in
     let moved = moved-text h.future h.past k.future k.past c is gone parts.0 parts.1 in
     join (are_text k.future) (are_text k.past) moved.0 moved.1
 
 -- what is left where the oldest changes are let go
-pub forgets-text : (count : ℕ) (h k : History) → Forgets count h k → has_text h ≡ true → has_text k ≡ true
+pub forgets-text : (count : ℕ) (h k : History) → Forgets count h k → is_text_history h ≡ true → is_text_history k ≡ true
 forgets-text count h k f t =
     let parts = both (are_text h.future) (are_text h.past) t in
     let past = both (are_text f.gone) (are_text k.past) (sym (list_all-append change_has_text f.gone k.past) ∙ sym (ap are_text f.past) ∙ parts.1) in

@@ -13,14 +13,14 @@ use Rattle.meson_splice.specs.declared.splice.Splice.{Splice as ASplice}
 use Rattle.meson_splice.specs.Past.{undone, undone_from, undone_times}
 use Rattle.meson_splice.specs.Patch.{inverses_of, patched_all, then_ok}
 use Rattle.meson_splice.proofs.Times.{undone-more, undone-past}
-use Rattle.meson_json.specs.Log.{has_text}
+use Rattle.meson_json.specs.Log.{is_text_history}
 use Rattle.meson_steps.specs.Results.{saturated}
 use Rattle.meson_script.specs.declared.fault.UndoFault.{UndoFault}
 use Rattle.meson_script.specs.declared.fault.UndoFault.TheVariants.{Splice}
 use Rattle.meson_script.specs.declared.session.Report.{Report}
 use Rattle.meson_script.specs.declared.session.Session.{Session}
 use Rattle.meson_script.specs.Laws.{UndosAreSteps}
-use Rattle.meson_script.specs.Stack.{RefusesUndo, RefusesUndos, Stack, Stands, undo, undos}
+use Rattle.meson_script.specs.Stack.{RefusesUndo, RefusesUndos, Stack, Stands, taken_back, undos}
 use Rattle.meson_script.specs.Undoing.{MayNotStep, Steps, StopsBack, oldest_title}
 use Rattle.meson_script.proofs.RunFacts.{change-names, names}
 use Rattle.meson_script.proofs.StackFacts.{undo-is-a-step}
@@ -36,7 +36,7 @@ pub record AreBack (many : ℕ) (old : Session) (splices : ℕ) (title : List �
   pub are_steps : undone_times many old.history old.project.files ≡ Ok (now.history, now.project.files)
   pub counted : splices ≡ saturated (total taken)
   pub titled : title ≡ oldest_title taken
-  pub text : has_text old.history ≡ true → has_text now.history ≡ true
+  pub text : is_text_history old.history ≡ true → is_text_history now.history ≡ true
   pub step : (s : Stack) → Stands old.history old.project.files s → (t : Stack) × (undos many s ≡ Some t) × Stands now.history now.project.files t
 
 pub none-back : (old : Session) (title : List ℕ) → title ≡ [] → AreBack 0 old 0 title old
@@ -92,14 +92,14 @@ one_more_counted : (splices more sum : ℕ) → splices ≡ saturated sum → sa
 one_more_counted splices more sum is = omega (arith, is)
 
 step_more : (many : ℕ) (old now next : Session) (report : Report) (s : Stack)
-    → ((r : Stack) → Stands now.history now.project.files r → (t : Stack) × (undo r ≡ Some t) × Stands next.history next.project.files t)
+    → ((r : Stack) → Stands now.history now.project.files r → (t : Stack) × (taken_back r ≡ Some t) × Stands next.history next.project.files t)
     → (t : Stack) × (undos many s ≡ Some t) × Stands now.history now.project.files t → (t : Stack) × (undos (suc many) s ≡ Some t) × Stands next.history next.project.files t
-step_more many old now next report s further (r, so_far, stands) = let last = further r stands in (last.0, ap (option_and_then undo) so_far ∙ last.1, last.2)
+step_more many old now next report s further (r, so_far, stands) = let last = further r stands in (last.0, ap (option_and_then taken_back) so_far ∙ last.1, last.2)
 
 pub one-more-back : (many : ℕ) (old now next : Session) (splices all : ℕ) (title told : List ℕ) (report : Report) → AreBack many old splices title now
     → Steps now now.history.past (undone now.history now.project.files) report next
-    → ((r : Stack) → Stands now.history now.project.files r → (t : Stack) × (undo r ≡ Some t) × Stands next.history next.project.files t)
-    → (has_text now.history ≡ true → has_text next.history ≡ true)
+    → ((r : Stack) → Stands now.history now.project.files r → (t : Stack) × (taken_back r ≡ Some t) × Stands next.history next.project.files t)
+    → (is_text_history now.history ≡ true → is_text_history next.history ≡ true)
     → all ≡ saturated (splices + report.splices) → told ≡ report.title → AreBack (many + 1) old all told next
 one-more-back many old now next splices all title told report b s further text are is_title =
     let plus : suc many ≡ many + 1 = omega arith in
@@ -140,7 +140,7 @@ no-memory-stops count s fault is = (0, s, (λ other. absurd (other is)), refl, s
 
 -- ---- of a history that fits
 
-none_before : (o : Option Stack) (t : Stack) → option_and_then undo o ≡ Some t → (r : Stack) × (o ≡ Some r) × (undo r ≡ Some t)
+none_before : (o : Option Stack) (t : Stack) → option_and_then taken_back o ≡ Some t → (r : Stack) × (o ≡ Some r) × (taken_back r ≡ Some t)
 none_before (Some r) t is = (r, refl, is)
 none_before None t is = absurd (let bad : ⊥ = cc in bad)
 

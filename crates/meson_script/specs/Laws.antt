@@ -14,11 +14,11 @@ use Rattle.meson_calls.specs.declared.load_fault.LoadFault.TheVariants as load
 use Rattle.meson_calls.specs.Loading.{Loaded, IsProject, MayNotLoad}
 use Rattle.meson_steps.specs.declared.command.Command.{Command}
 use Rattle.meson_script.specs.Running.{Runs}
-use Rattle.meson_script.specs.Stack.{Kept, Loads, Stack, Stands, ran, ran_all, redo, undo, undos}
+use Rattle.meson_script.specs.Stack.{KeptSet, Loads, Stack, Stands, ran, ran_all, done_again, taken_back, undos}
 
 -- n runs and then n undos give the files before them
 abbrev pub RunsThenUndosRestore : Type 0
-RunsThenUndosRestore = (s : Stack) (sets : List Kept) → option_map (λ t. t.present) (undos (length sets) (ran_all s sets)) ≡ Some s.present
+RunsThenUndosRestore = (s : Stack) (sets : List KeptSet) → option_map (λ t. t.present) (undos (length sets) (ran_all s sets)) ≡ Some s.present
 
 -- a project with an empty history stands for a stack without past and future
 abbrev pub BeginsAStack : Type 0
@@ -30,10 +30,10 @@ RunIsAStep = (h : History) (files after : List File) (s : Stack) (c : Change) �
     → Stands (record { past = h.past ++ c ∷ []; future = [] }) after (ran s c.title after)
 
 abbrev pub UndoIsAStep : Type 0
-UndoIsAStep = (h : History) (files : List File) (s t : Stack) → Stands h files s → undo s ≡ Some t → (k : History) × (undone h files ≡ Ok (k, t.present)) × Stands k t.present t
+UndoIsAStep = (h : History) (files : List File) (s t : Stack) → Stands h files s → taken_back s ≡ Some t → (k : History) × (undone h files ≡ Ok (k, t.present)) × Stands k t.present t
 
 abbrev pub NothingIsUndone : Type 0
-NothingIsUndone = (h : History) (files : List File) (s : Stack) → Stands h files s → undo s ≡ None → undone h files ≡ Err NothingToUndo
+NothingIsUndone = (h : History) (files : List File) (s : Stack) → Stands h files s → taken_back s ≡ None → undone h files ≡ Err NothingToUndo
 
 -- so many undos of a history that fits are as many undos of the stack
 abbrev pub UndosAreSteps : Type 0
@@ -41,10 +41,10 @@ UndosAreSteps = (count : ℕ) (h : History) (files : List File) (s t : Stack) �
     → (k : History) × (undone_times count h files ≡ Ok (k, t.present)) × Stands k t.present t
 
 abbrev pub RedoIsAStep : Type 0
-RedoIsAStep = (h : History) (files : List File) (s t : Stack) → Stands h files s → redo s ≡ Some t → (k : History) × (redone h files ≡ Ok (k, t.present)) × Stands k t.present t
+RedoIsAStep = (h : History) (files : List File) (s t : Stack) → Stands h files s → done_again s ≡ Some t → (k : History) × (redone h files ≡ Ok (k, t.present)) × Stands k t.present t
 
 abbrev pub NothingIsRedone : Type 0
-NothingIsRedone = (h : History) (files : List File) (s : Stack) → Stands h files s → redo s ≡ None → redone h files ≡ Err NothingToRedo
+NothingIsRedone = (h : History) (files : List File) (s : Stack) → Stands h files s → done_again s ≡ None → redone h files ≡ Err NothingToRedo
 
 -- the files after commands are those before them with the splices done
 abbrev pub RunsPatch : Type 0

@@ -68,7 +68,7 @@ pub record MayStop (old : Loaded) (commands : List Command) (index : ℕ) (refus
 
 -- An accepted script: its commands run, and their splices are kept as one change of this title, also where there are none. It tells
 -- the listings.
-pub record Keeps (old : Session) (commands : List Command) (title : List ℕ) (report : Report) (new : Session) : Type 0 where
+pub record KeepsChange (old : Session) (commands : List Command) (title : List ℕ) (report : Report) (new : Session) : Type 0 where
   pub splices : List Splice
   pub listings : List Data
   pub runs : Runs old.project commands splices report.relexed listings new.project

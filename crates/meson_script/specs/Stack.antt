@@ -11,46 +11,46 @@ use Rattle.meson_script.specs.declared.fault.UndoFault.{UndoFault}
 use Rattle.meson_script.specs.declared.fault.UndoFault.TheVariants.{Splice, Load}
 
 -- the set before or after a change, with what the change is for
-pub record Kept : Type 0 where
+pub record KeptSet : Type 0 where
   pub files : List File
   pub title : List ℕ
 
-abbrev pub kept : List File → List ℕ → Kept
-kept files title = record { files = files; title = title }
+abbrev pub kept_set : List File → List ℕ → KeptSet
+kept_set files title = record { files = files; title = title }
 
 -- the sets before, newest first; the set that stands; the sets to redo, next first
 pub record Stack : Type 0 where
-  pub past : List Kept
+  pub past : List KeptSet
   pub present : List File
-  pub future : List Kept
+  pub future : List KeptSet
 
 -- ---- the steps
 
 abbrev pub ran : Stack → List ℕ → List File → Stack
-ran s title files = record { past = kept s.present title ∷ s.past; present = files; future = [] }
+ran s title files = record { past = kept_set s.present title ∷ s.past; present = files; future = [] }
 
-abbrev pub back : List Kept → List File → List Kept → Option Stack
+abbrev pub back : List KeptSet → List File → List KeptSet → Option Stack
 back [] present future = None
-back (p ∷ past) present future = Some (record { past = past; present = p.files; future = kept present p.title ∷ future })
+back (p ∷ past) present future = Some (record { past = past; present = p.files; future = kept_set present p.title ∷ future })
 
-abbrev pub undo : Stack → Option Stack
-undo s = back s.past s.present s.future
+abbrev pub taken_back : Stack → Option Stack
+taken_back s = back s.past s.present s.future
 
-abbrev pub forth : List Kept → List Kept → List File → Option Stack
+abbrev pub forth : List KeptSet → List KeptSet → List File → Option Stack
 forth past [] present = None
-forth past (n ∷ future) present = Some (record { past = kept present n.title ∷ past; present = n.files; future = future })
+forth past (n ∷ future) present = Some (record { past = kept_set present n.title ∷ past; present = n.files; future = future })
 
-abbrev pub redo : Stack → Option Stack
-redo s = forth s.past s.future s.present
+abbrev pub done_again : Stack → Option Stack
+done_again s = forth s.past s.future s.present
 
 -- runs, one after another, and undos
-abbrev pub ran_all : Stack → List Kept → Stack
+abbrev pub ran_all : Stack → List KeptSet → Stack
 ran_all s [] = s
 ran_all s (new ∷ more) = ran_all (ran s new.title new.files) more
 
 abbrev pub undos : ℕ → Stack → Option Stack
 undos zero s = Some s
-undos (suc n) s = option_and_then undo (undos n s)
+undos (suc n) s = option_and_then taken_back (undos n s)
 
 -- ---- what a history and files stand for
 
@@ -59,14 +59,14 @@ on_ok (Ok x) f = f x
 on_ok (Err e) f = None
 
 -- the sets met by taking the changes back, newest first
-abbrev pub earlier : List Change → List File → Option (List Kept)
+abbrev pub earlier : List Change → List File → Option (List KeptSet)
 earlier [] files = Some []
-earlier (c ∷ changes) files = on_ok (patched_all files (inverses_of c.splices)) (λ before. option_map (λ sets. kept before c.title ∷ sets) (earlier changes before))
+earlier (c ∷ changes) files = on_ok (patched_all files (inverses_of c.splices)) (λ before. option_map (λ sets. kept_set before c.title ∷ sets) (earlier changes before))
 
 -- the sets met by doing them, next first
-abbrev pub later : List Change → List File → Option (List Kept)
+abbrev pub later : List Change → List File → Option (List KeptSet)
 later [] files = Some []
-later (c ∷ changes) files = on_ok (patched_all files c.splices) (λ after. option_map (λ sets. kept after c.title ∷ sets) (later changes after))
+later (c ∷ changes) files = on_ok (patched_all files c.splices) (λ after. option_map (λ sets. kept_set after c.title ∷ sets) (later changes after))
 
 -- files that load as a project, want of memory aside
 pub record Loads (files : List File) : Type 0 where
@@ -74,7 +74,7 @@ pub record Loads (files : List File) : Type 0 where
   pub named : All HasFileName files
   pub trees : All HasTree files
 
-abbrev pub KeptLoads : Kept → Type 0
+abbrev pub KeptLoads : KeptSet → Type 0
 KeptLoads k = Loads k.files
 
 -- The history fits the files, and both stand for the stack: each set that is met loads.

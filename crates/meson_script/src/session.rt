@@ -3,10 +3,10 @@
 ghost use Rattle.std.specs.Prelude.{◌≡◌, ◌≢◌, ◌∷◌, [], IfErr, IfOk, OnErr, OnOk, Some, length, true};
 ghost use Rattle.meson_calls.specs.Loading.{IsProject, MayNotLoad};
 ghost use Rattle.meson_calls.specs.declared.refusal.Refusal.TheVariants.{OutOfMemory};
-ghost use Rattle.meson_json.specs.Log.{has_text};
+ghost use Rattle.meson_json.specs.Log.{is_text_history};
 ghost use Rattle.meson_json.specs.Titles.{is_title};
-ghost use Rattle.meson_script.specs.Running.{Keeps, MayStop, Reaches};
-ghost use Rattle.meson_script.specs.Stack.{RefusesRedo, RefusesUndo, RefusesUndos, Stack, Stands, ran, redo, undo, undos};
+ghost use Rattle.meson_script.specs.Running.{KeepsChange, MayStop, Reaches};
+ghost use Rattle.meson_script.specs.Stack.{RefusesRedo, RefusesUndo, RefusesUndos, Stack, Stands, ran, done_again, taken_back, undos};
 ghost use Rattle.meson_script.specs.Undoing.{MayNotStep, Steps, StepsBack, StopsBack};
 ghost use Rattle.meson_splice.specs.Past.{redone, undone};
 
@@ -128,7 +128,7 @@ impl Session {
     /// # Errors
     /// The first refusal with the number of its command, or want of memory.
     pub fn run(&mut self, alloc: Global, script: &Script) -> Result<Report, RunFault>
-        ensures done { IfOk result (λ r. Keeps self.old script.now.commands [] r self.new) }
+        ensures done { IfOk result (λ r. KeepsChange self.old script.now.commands [] r self.new) }
         ensures refused { IfErr result (λ f. f.refusal ≢ OutOfMemory → MayStop self.old.project script.now.commands f.index f.refusal) }
         // Also where memory is refused, the commands before that number were performed.
         ensures index { IfErr result (λ f. Reaches self.old.project script.now.commands f.index) }
@@ -137,7 +137,7 @@ impl Session {
         ensures step { OnOk result ((s : Stack) → Stands self.old.history self.old.project.files s
             → Stands self.new.history self.new.project.files (ran s [] self.new.project.files)) }
         // A history that has a log has one then.
-        ensures text { OnOk result (has_text self.old.history ≡ true → has_text self.new.history ≡ true) }
+        ensures text { OnOk result (is_text_history self.old.history ≡ true → is_text_history self.new.history ≡ true) }
         // The new files read as the new trees.
         ensures project { OnOk result (IsProject self.new.project) }
     {
@@ -155,13 +155,13 @@ impl Session {
         title: &str,
     ) -> Result<Report, RunFault>
         requires { is_title title.now ≡ true }
-        ensures done { IfOk result (λ r. Keeps self.old script.now.commands title.now r self.new) }
+        ensures done { IfOk result (λ r. KeepsChange self.old script.now.commands title.now r self.new) }
         ensures refused { IfErr result (λ f. f.refusal ≢ OutOfMemory → MayStop self.old.project script.now.commands f.index f.refusal) }
         ensures index { IfErr result (λ f. Reaches self.old.project script.now.commands f.index) }
         ensures kept { OnErr result (self.new ≡ self.old) }
         ensures step { OnOk result ((s : Stack) → Stands self.old.history self.old.project.files s
             → Stands self.new.history self.new.project.files (ran s title.now self.new.project.files)) }
-        ensures text { OnOk result (has_text self.old.history ≡ true → has_text self.new.history ≡ true) }
+        ensures text { OnOk result (is_text_history self.old.history ≡ true → is_text_history self.new.history ≡ true) }
         ensures project { OnOk result (IsProject self.new.project) }
     {
         match script.commands.get() {
@@ -172,7 +172,7 @@ impl Session {
 
     /// Does a command and keeps what it did. A refused command changes nothing, so it needs no copy of the project.
     fn run_one(&mut self, alloc: Global, command: &Command, title: &str) -> Result<Report, RunFault>
-        ensures done { IfOk result (λ r. Keeps self.old (command.now ∷ []) title.now r self.new) }
+        ensures done { IfOk result (λ r. KeepsChange self.old (command.now ∷ []) title.now r self.new) }
         ensures refused { IfErr result (λ f. f.refusal ≢ OutOfMemory → MayStop self.old.project (command.now ∷ []) f.index f.refusal) }
         ensures index { IfErr result (λ f. f.index ≡ 0) }
         ensures kept { OnErr result (self.new ≡ self.old) }
@@ -226,7 +226,7 @@ impl Session {
         commands: &[Command],
         title: &str,
     ) -> Result<Report, RunFault>
-        ensures done { IfOk result (λ r. Keeps self.old commands.now title.now r self.new) }
+        ensures done { IfOk result (λ r. KeepsChange self.old commands.now title.now r self.new) }
         ensures refused { IfErr result (λ f. f.refusal ≢ OutOfMemory → MayStop self.old.project commands.now f.index f.refusal) }
         ensures index { IfErr result (λ f. Reaches self.old.project commands.now f.index) }
         ensures kept { OnErr result (self.new ≡ self.old) }
@@ -273,9 +273,9 @@ impl Session {
         ensures kept { OnErr result (self.new ≡ self.old) }
         // Of a history that fits, this is a step of the stack, and only an empty past is refused.
         ensures step { OnOk result ((s : Stack) → Stands self.old.history self.old.project.files s
-            → (t : Stack) × (undo s ≡ Some t) × Stands self.new.history self.new.project.files t) }
+            → (t : Stack) × (taken_back s ≡ Some t) × Stands self.new.history self.new.project.files t) }
         ensures fits { IfErr result (λ f. (s : Stack) → Stands self.old.history self.old.project.files s → RefusesUndo s f) }
-        ensures text { OnOk result (has_text self.old.history ≡ true → has_text self.new.history ≡ true) }
+        ensures text { OnOk result (is_text_history self.old.history ≡ true → is_text_history self.new.history ≡ true) }
         // The new files read as the new trees.
         ensures project { OnOk result (IsProject self.new.project) }
     {
@@ -309,7 +309,7 @@ impl Session {
         ensures step { OnOk result ((s : Stack) → Stands self.old.history self.old.project.files s
             → (t : Stack) × (undos count s ≡ Some t) × Stands self.new.history self.new.project.files t) }
         ensures fits { IfErr result (λ f. (s : Stack) → Stands self.old.history self.old.project.files s → RefusesUndos count s f) }
-        ensures text { OnOk result (has_text self.old.history ≡ true → has_text self.new.history ≡ true) }
+        ensures text { OnOk result (is_text_history self.old.history ≡ true → is_text_history self.new.history ≡ true) }
         // The new files read as the new trees.
         ensures project { OnOk result (IsProject self.new.project) }
     {
@@ -341,9 +341,9 @@ impl Session {
         ensures kept { OnErr result (self.new ≡ self.old) }
         // Of a history that fits, this is a step of the stack, and only an empty future is refused.
         ensures step { OnOk result ((s : Stack) → Stands self.old.history self.old.project.files s
-            → (t : Stack) × (redo s ≡ Some t) × Stands self.new.history self.new.project.files t) }
+            → (t : Stack) × (done_again s ≡ Some t) × Stands self.new.history self.new.project.files t) }
         ensures fits { IfErr result (λ f. (s : Stack) → Stands self.old.history self.old.project.files s → RefusesRedo s f) }
-        ensures text { OnOk result (has_text self.old.history ≡ true → has_text self.new.history ≡ true) }
+        ensures text { OnOk result (is_text_history self.old.history ≡ true → is_text_history self.new.history ≡ true) }
         // The new files read as the new trees.
         ensures project { OnOk result (IsProject self.new.project) }
     {

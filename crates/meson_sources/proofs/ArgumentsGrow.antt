@@ -138,12 +138,12 @@ module _ (c : CallRef) (n : ℕ) (a : Argument Nowhere) (v : Expression Nowhere)
             (record { tree = h.tree; was = h.is_tree; place = h.place; is_place = h.is_place; other = with_elements h.place.list outer; now = m.now ∙ ap Some (sym now); others = m.others });
       }
 
-  pub all_more : (names : List (List ℕ)) (xs : List (Argument Nowhere)) (k : ℕ) (trees after : List Plain) → length xs ≡ suc k → Holding xs trees → all_stepped (edits.inserted (child c n) (suc k) names) trees ≡ Some after
+  pub all_more : (names : List (List ℕ)) (xs : List (Argument Nowhere)) (k : ℕ) (trees after : List Plain) → length xs ≡ suc k → Holding xs trees → all_stepped (edits.insertion_steps (child c n) (suc k) names) trees ≡ Some after
       → Holding (xs ++ strings names) after
   all_more [] xs k trees after many h made = subst (λ l. Holding l after) (sym (append-nil xs)) (subst (Holding xs) (some-injective _ _ made) h)
   all_more (name ∷ more) xs k trees after many h made =
       let new = (written_source name).node in
-      let s = and-then-some (all_stepped (edits.inserted (child c n) (suc (suc k)) more)) (stepped (step_in (child c n) (After inner k (written_source name))) trees) after made in
+      let s = and-then-some (all_stepped (edits.insertion_steps (child c n) (suc (suc k)) more)) (stepped (step_in (child c n) (After inner k (written_source name))) trees) after made in
       let longer : length (xs ++ new ∷ []) ≡ suc (suc k) = omega (arith, length-append xs (new ∷ []), many) in
       subst (λ l. Holding l after) (append_assoc xs (new ∷ []) (strings more))
       (all_more more (xs ++ new ∷ []) (suc k) s.0 after longer (one_more xs k name trees s.0 many h s.1) s.2)

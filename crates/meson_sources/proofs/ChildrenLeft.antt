@@ -5,7 +5,7 @@ use Rattle.std.proofs.lemmas.Bool.{eqb-true, eq-eqb}
 use Rattle.meson_syntax.specs.declared.operator.StringKind.{StringKind}
 use Rattle.meson_syntax.specs.Tree.{Nowhere, Expression, string, Listing, Argument}
 use Rattle.meson_syntax.specs.Paths.{nth}
-use Rattle.meson_syntax.specs.Parts.{an_expression, node_at, parts}
+use Rattle.meson_syntax.specs.Parts.{an_expression, node_at, child_nodes}
 use Rattle.meson_syntax.proofs.parsing.Steps.{some-injective}
 use Rattle.meson_edit.specs.Edits.{elements}
 use Rattle.meson_sources.specs.Effects.{string_child}
@@ -19,7 +19,7 @@ use Rattle.meson_steps.proofs.PlainTrees.{nth_map}
 
 -- the strings among the children of a node, each at its number
 abbrev pub seen : Node → List (Option (Expression Nowhere))
-seen x = map string_child (parts x)
+seen x = map string_child (child_nodes x)
 
 -- ---- what is no string
 
@@ -28,7 +28,7 @@ no_string (an_expression (string s q t)) other = absurd (other q t refl)
 no_string _ other = refl
 
 -- a string has no children
-pub with_child : (x : Node) (n : ℕ) (y : Node) → nth (parts x) n ≡ Some y → string_child x ≡ None
+pub with_child : (x : Node) (n : ℕ) (y : Node) → nth (child_nodes x) n ≡ Some y → string_child x ≡ None
 with_child (an_expression (string s q t)) n y is = absurd cc
 with_child _ n y is = refl
 
@@ -79,8 +79,8 @@ module _ (old new : Node) (xs : List (Argument Nowhere)) (gone : ℕ) (g : Loses
   -- no such node is the string that goes
   not_it : (x : Node) → x ≡ old → (k : ℕ) (path : List ℕ) (y : Node) → node_at x (k ∷ path) ≡ Some y → string_child y ≡ None → gone ≡ k → ⊥
   not_it x same k path y is other at_it =
-      let child : nth (parts x) k ≡ Some (a_string g.kind g.text) =
-      ap (λ z. nth (parts z) k) same ∙ ap (λ ps. nth ps k) g.old_parts ∙ nth_map part xs k ∙ ap (λ i. option_map part (nth xs i)) (sym at_it) ∙ ap (option_map part) g.is_string in
+      let child : nth (child_nodes x) k ≡ Some (a_string g.kind g.text) =
+      ap (λ z. nth (child_nodes z) k) same ∙ ap (λ ps. nth ps k) g.old_parts ∙ nth_map part xs k ∙ ap (λ i. option_map part (nth xs i)) (sym at_it) ∙ ap (option_map part) g.is_string in
       nothing_in g.kind g.text path y (sym (ap (option_and_then (λ z. node_at z path)) child) ∙ is) other
 
   -- nor under it
@@ -88,7 +88,7 @@ module _ (old new : Node) (xs : List (Argument Nowhere)) (gone : ℕ) (g : Loses
   clear_path list x now p [] y is other = tt
   clear_path [] x now p (k ∷ path) y is other = not_it x p.0 k path y is other
   clear_path (m ∷ list) x now p (k ∷ path) y is other = λ head.
-      let from : nth (parts x) k ≡ Some p.0 = ap (nth (parts x)) (sym head) ∙ differ_old p.0 p.1 p.2.parts in
+      let from : nth (child_nodes x) k ≡ Some p.0 = ap (nth (child_nodes x)) (sym head) ∙ differ_old p.0 p.1 p.2.parts in
       clear_path list p.0 p.1 p.3 path y (sym (ap (option_and_then (λ z. node_at z path)) from) ∙ is) other
 
   -- the node that the path `at` named and the path `path` names then: it has the same strings, and is the same where the list is not in it
@@ -105,8 +105,8 @@ module _ (old new : Node) (xs : List (Argument Nowhere)) (gone : ℕ) (g : Loses
       → Kept now (m ∷ list) (k ∷ path) (if b then k ∷ path_after list gone path else k ∷ path) z
   by_head m list x now y next s rest k path z is other apart true same =
       let head : m ≡ k = eqb-true m k same in
-      let from : nth (parts x) k ≡ Some y = ap (nth (parts x)) (sym head) ∙ differ_old y next s.parts in
-      let to : nth (parts now) k ≡ Some next = ap (nth (parts now)) (sym head) ∙ differ_new y next s.parts in
+      let from : nth (child_nodes x) k ≡ Some y = ap (nth (child_nodes x)) (sym head) ∙ differ_old y next s.parts in
+      let to : nth (child_nodes now) k ≡ Some next = ap (nth (child_nodes now)) (sym head) ∙ differ_new y next s.parts in
       let r = rest path z (sym (ap (option_and_then (λ w. node_at w path)) from) ∙ is) other (λ equal. apart (ap (λ i. i ∷ list) head ∙ ap (λ l. k ∷ l) equal)) in
       record {
         node = r.node;

@@ -29,12 +29,12 @@ AreLevel p = (n : ℕ) (f : BuildFile Span) → nth_file p n ≡ Some f → Leve
 pub value_stands : (p : Project Span) → AreLevel p → (c : CallRef) (e : Expression Span) (l : ListIn Span) → expression_at p c ≡ Some e → list_in e ≡ Some l → holds_pairs l.bracket ≡ false
     → (j : ℕ) (a : Argument Span) (x : Expression Span) → nth (elements l.list) j ≡ Some a → value_of a ≡ Some x → expression_at p (child c j) ≡ Some x
 value_stands p levels c e l is is_list none j a x is_element is_value =
-    let o = and-then-some (λ (g : BuildFile Span). paths.expression_at g.tree c.path.steps) (nth_file p c.file) e is in
+    let o = and-then-some (λ (g : BuildFile Span). paths.expression_on_path g.tree c.path.steps) (nth_file p c.file) e is in
     let f = o.0.tree in
     let i = list_of Span f c.path.steps e l o.2 is_list in
     let first = (list-fits Span f c.path.steps i.place i.is_place).level (levels c.file o.0 o.1) in
     let level = subst (λ b. LevelListing l.list b) i.bracket (subst (λ m. LevelListing m i.place.bracket) i.list first) in
-    ap (option_and_then (λ (g : BuildFile Span). paths.expression_at g.tree (c.path.steps ++ j ∷ []))) o.1
+    ap (option_and_then (λ (g : BuildFile Span). paths.expression_on_path g.tree (c.path.steps ++ j ∷ []))) o.1
     ∙ value_below Span f c.path.steps e j x o.2 (list_part Span e l j a x is_list none level is_element is_value)
 
 pub parsed_level : (files : List splice.File) (trees : List Parsed) → AreParsed files trees → AreLevel (named_trees files (views files trees))

@@ -7,7 +7,7 @@ use Rattle.meson_syntax.specs.Parts.{Any, an_expression, a_statement, a_block, e
 use Rattle.meson_syntax.proofs.paths.Reaching.{and-then-some}
 use Rattle.meson_syntax.proofs.PathNodes.{expression-reached, list-reached}
 use Rattle.meson_edit.specs.Edits.{elements}
-use Rattle.meson_sources.specs.Renaming.{StandsIn}
+use Rattle.meson_sources.specs.Renaming.{IsElementAt}
 use Rattle.meson_sources.proofs.RenamedStrings.{element_at}
 use Rattle.meson_sources.proofs.StringsStay.{list_any}
 
@@ -37,10 +37,10 @@ elements_there t path n =
     let at : Listing Nowhere → Option (Argument Nowhere) = λ l. nth (elements l) n in
     sym (of_map (λ (p : ListAt Nowhere). p.list) at (list_at t path)) ∙ ap (option_and_then at) (lists_there t path) ∙ in_turn list_any at (node_at (root t) path)
 
-pub stands_at : (t : Plain) (path : List ℕ) (n : ℕ) (it : Argument Nowhere) → StandsIn t path n it → element_at (root t) path n ≡ Some it
+pub stands_at : (t : Plain) (path : List ℕ) (n : ℕ) (it : Argument Nowhere) → IsElementAt t path n it → element_at (root t) path n ≡ Some it
 stands_at t path n it s = sym (elements_there t path n) ∙ ap (option_and_then (λ (p : ListAt Nowhere). nth (elements p.list) n)) s.is_place ∙ s.is_element
 
-pub at_stands : (t : Plain) (path : List ℕ) (n : ℕ) (it : Argument Nowhere) → element_at (root t) path n ≡ Some it → StandsIn t path n it
+pub at_stands : (t : Plain) (path : List ℕ) (n : ℕ) (it : Argument Nowhere) → element_at (root t) path n ≡ Some it → IsElementAt t path n it
 at_stands t path n it is =
     let o = and-then-some (λ (p : ListAt Nowhere). nth (elements p.list) n) (list_at t path) it (elements_there t path n ∙ is) in
     record { place = o.0; is_place = o.1; is_element = o.2 }

@@ -17,7 +17,7 @@ use Rattle.meson_calls.specs.Expansion.{Mark}
 use Rattle.meson_calls.specs.Loading.{IsProject, Loaded, project}
 use Rattle.meson_calls.specs.Project.{Placed, child}
 use Rattle.meson_calls.specs.Sources.{first_empty, first_list, or_option}
-use Rattle.meson_steps.specs.ListSteps.{MayStand}
+use Rattle.meson_steps.specs.ListSteps.{MayStandBetween}
 use Rattle.meson_steps.specs.Results.{plain_trees}
 use Rattle.meson_steps.specs.Steps.{Step, all_stepped, step_in, stepped}
 use Rattle.meson_steps.specs.WrittenTexts.{string_of}
@@ -69,7 +69,7 @@ module _ (old : Loaded) (is : IsProject old) (c : Placed (Call Span)) (t : Targe
   xs = elements q.place.list
 
   level : LevelFile tree
-  level = (all_nth MayStand trees c.place.file tree (all_stand old is.parsed c.place) (tree_is old c.place t.there)).0
+  level = (all_nth MayStandBetween trees c.place.file tree (all_stand old is.parsed c.place) (tree_is old c.place t.there)).0
 
   had : elements_found c.place trees ≡ Some xs
   had =
@@ -108,16 +108,16 @@ module _ (old : Loaded) (is : IsProject old) (c : Placed (Call Span)) (t : Targe
       → ArgumentComes c.place (extra_argument (name ∷ more)) trees after
   new_argument name more after done = go (length (elements_there (project old) c.place)) refl done
     where
-      go : (n : ℕ) → length (elements_there (project old) c.place) ≡ n → all_stepped (step_in c.place (After path (n - 1) (written_keyword name)) ∷ edits.inserted (child c.place n) 1 more) trees ≡ Some after
+      go : (n : ℕ) → length (elements_there (project old) c.place) ≡ n → all_stepped (step_in c.place (After path (n - 1) (written_keyword name)) ∷ edits.insertion_steps (child c.place n) 1 more) trees ≡ Some after
           → ArgumentComes c.place (extra_argument (name ∷ more)) trees after
       go zero many made = absurd (not_empty (elements t.there.list.list) (subst (λ l. 0 < plain_count (elements l)) (sym t.is_list) (some_first c.it t.first t.is_first)) (ap length (sym (elements_are (project old) c.place t.there)) ∙ many))
       go (suc m) many made =
           let new = written_keyword name in
           let all : length xs ≡ suc m = ap (λ l. length (elements l)) q.list ∙ as_many t.there.list.list ∙ ap length (sym (elements_are (project old) c.place t.there)) ∙ many in
           let less : suc m - 1 ≡ m = omega arith in
-          let made_there : all_stepped (step_in c.place (After path m new) ∷ edits.inserted (child c.place (suc m)) 1 more) trees ≡ Some after =
-          ap (λ k. all_stepped (step_in c.place (After path k new) ∷ edits.inserted (child c.place (suc m)) 1 more) trees) (sym less) ∙ made in
-          let s = and-then-some (all_stepped (edits.inserted (child c.place (suc m)) 1 more)) (stepped (step_in c.place (After path m new)) trees) after made_there in
+          let made_there : all_stepped (step_in c.place (After path m new) ∷ edits.insertion_steps (child c.place (suc m)) 1 more) trees ≡ Some after =
+          ap (λ k. all_stepped (step_in c.place (After path k new) ∷ edits.insertion_steps (child c.place (suc m)) 1 more) trees) (sym less) ∙ made in
+          let s = and-then-some (all_stepped (edits.insertion_steps (child c.place (suc m)) 1 more)) (stepped (step_in c.place (After path m new)) trees) after made_there in
           let g = keyword_grown tree path q.place q.is_place level (q.bracket ∙ t.is_round) m all name in
           let last = last_there xs m all in
           let first = plain (string_of name) ∷ [] in
@@ -132,7 +132,7 @@ module _ (old : Loaded) (is : IsProject old) (c : Placed (Call Span)) (t : Targe
           }
 
   module _ (v : Numbered (Expression Span)) (others : List (Numbered (Expression Span))) (is_there : keyword extra_key c.it ≡ v ∷ others) where
-    grown : (names : List (List ℕ)) (after : List Plain) → all_stepped (step_in c.place (Wrap path v.number) ∷ edits.inserted (child c.place v.number) 1 names) trees ≡ Some after
+    grown : (names : List (List ℕ)) (after : List Plain) → all_stepped (step_in c.place (Wrap path v.number) ∷ edits.insertion_steps (child c.place v.number) 1 names) trees ≡ Some after
         → ArgumentGrows c.place v.number names trees after
     grown names after done =
         let k = keyword_there extra_key c.it v others is_there in
@@ -144,7 +144,7 @@ module _ (old : Loaded) (is : IsProject old) (c : Placed (Call Span)) (t : Targe
         let is_value = value_erased k.it v.value k.is_value in
         let g = wrapped_grown tree path q.place q.is_place level (ap holds_pairs (q.bracket ∙ t.is_round)) n a w there is_value in
         let cut = cut_at xs n a there in
-        let s = and-then-some (all_stepped (edits.inserted (child c.place n) 1 names)) (stepped (step_in c.place (Wrap path n)) trees) after done in
+        let s = and-then-some (all_stepped (edits.insertion_steps (child c.place n) 1 names)) (stepped (step_in c.place (Wrap path n)) trees) after done in
         let one : List (Argument Nowhere) = plain w ∷ [] in
         let ys = take n xs ++ with_value (array_of w) a ∷ drop (suc n) xs in
         let made = ap (option_and_then (exchanged n array_of xs)) there ∙ ap (option_map (λ x. take n xs ++ with_value (array_of x) a ∷ drop (suc n) xs)) is_value in
@@ -168,7 +168,7 @@ module _ (old : Loaded) (is : IsProject old) (c : Placed (Call Span)) (t : Targe
         → ArgumentGrows c.place v.number names trees after
     by_literal None names steps after made done = absurd cc
     by_literal (Some text) names steps after made done =
-        let same : step_in c.place (Wrap path v.number) ∷ edits.inserted (child c.place v.number) 1 names ≡ steps = cc in
+        let same : step_in c.place (Wrap path v.number) ∷ edits.insertion_steps (child c.place v.number) 1 names ≡ steps = cc in
         grown names after (ap (λ s. all_stepped s trees) same ∙ done)
 
   without_list : (values : List (Numbered (Expression Span))) → keyword extra_key c.it ≡ values → (name : List ℕ) (more : List (List ℕ)) (steps : List Step) (after : List Plain)
@@ -176,7 +176,7 @@ module _ (old : Loaded) (is : IsProject old) (c : Placed (Call Span)) (t : Targe
   without_list [] is_there name more steps after made done =
       let same : into_new_list (project old) c.place (name ∷ more) ≡ steps = cc in
       new_argument name more after (ap (λ s. all_stepped s trees) same ∙ done)
-  without_list (v ∷ others) is_there name more steps after made done = by_literal v others is_there (calls.literal v.value) (name ∷ more) steps after made done
+  without_list (v ∷ others) is_there name more steps after made done = by_literal v others is_there (calls.literal_of v.value) (name ∷ more) steps after made done
 
   comes : (list : Option CallRef) → ((l : CallRef) → list ≡ Some l → Home (project old) l) → (names : List (List ℕ)) (steps : List Step) (after : List Plain)
       → extra_inserted (project old) c list names ≡ Ok steps → all_stepped steps trees ≡ Some after → ExtraComes c list names trees after

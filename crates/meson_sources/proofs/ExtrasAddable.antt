@@ -12,12 +12,12 @@ use Rattle.meson_calls.specs.declared.call.CallRef.{CallRef}
 use Rattle.meson_calls.specs.Calls.{Call, Numbered, numbered, kept_number, value_with_name, keyword}
 use Rattle.meson_calls.specs.Calls as calls
 use Rattle.meson_calls.specs.Expansion.{Mark}
-use Rattle.meson_steps.specs.ListSteps.{MayStand, AreDoable, none}
+use Rattle.meson_steps.specs.ListSteps.{MayStandBetween, AreDoable, none}
 use Rattle.meson_calls.specs.Loading.{Loaded, AreParsed, project}
 use Rattle.meson_steps.specs.Results.{plain_trees}
 use Rattle.meson_calls.specs.Project.{Project, Placed, child}
 use Rattle.meson_steps.specs.Steps.{step_in}
-use Rattle.meson_sources.specs.SourceEdits.{checked_extra, extra_key, extra_marks, new_names, inserted, inserted_in, written_keyword, elements_there, into_new_list, behind_value, without_home, extra_inserted}
+use Rattle.meson_sources.specs.SourceEdits.{checked_extra, extra_key, extra_marks, new_names, insertion_steps, inserted_in, written_keyword, elements_there, into_new_list, behind_value, without_home, extra_inserted}
 use Rattle.meson_steps.specs.Names.{checked_names}
 use Rattle.meson_calls.specs.Sources.{not_hidden}
 use Rattle.meson_calls.specs.Sources.{kwargs_key, first_list, first_empty, or_option, once}
@@ -57,7 +57,7 @@ module _ (old : Loaded) (are : AreParsed old.files old.parsed) (c : Placed (Call
   tree = erase t.there.file.tree
 
   tree_level : LevelFile tree
-  tree_level = (all_nth MayStand (plain_trees old) c.place.file tree (all_stand old are c.place) (tree_is old c.place t.there)).0
+  tree_level = (all_nth MayStandBetween (plain_trees old) c.place.file tree (all_stand old are c.place) (tree_is old c.place t.there)).0
 
   tree_shallow : file_depth tree ≤ 64
   tree_shallow = all_nth (λ u. file_depth u ≤ 64) (plain_trees old) c.place.file tree (parsed_shallow old.files old.parsed are) (tree_is old c.place t.there)
@@ -66,7 +66,7 @@ module _ (old : Loaded) (are : AreParsed old.files old.parsed) (c : Placed (Call
   new_list_doable name more utf8 = go (length (elements_there (project old) c.place)) refl
     where
       go : (n : ℕ) → length (elements_there (project old) c.place) ≡ n
-          → AreDoable (step_in c.place (After c.place.path.steps (n - 1) (written_keyword name)) ∷ inserted (child c.place n) 1 more) (plain_trees old)
+          → AreDoable (step_in c.place (After c.place.path.steps (n - 1) (written_keyword name)) ∷ insertion_steps (child c.place n) 1 more) (plain_trees old)
       go zero is = absurd (not_empty (elements t.there.list.list) (subst (λ l. 0 < plain_count (elements l)) (sym t.is_list) (some_first c.it t.first t.is_first)) (ap length (sym (elements_are (project old) c.place t.there)) ∙ is))
       go (suc m) is =
           let q = plain_place t.there.file.tree c.place.path.steps t.there.list t.there.is_list in
@@ -74,12 +74,12 @@ module _ (old : Loaded) (are : AreParsed old.files old.parsed) (c : Placed (Call
           ap (λ l. length (elements l)) q.list ∙ as_many t.there.list.list ∙ ap length (sym (elements_are (project old) c.place t.there)) ∙ is in
           let g = keyword_grown tree c.place.path.steps q.place q.is_place tree_level (q.bracket ∙ t.is_round) m many name in
           let less : suc m - 1 ≡ m = omega arith in
-          subst (λ k. AreDoable (step_in c.place (After c.place.path.steps k (written_keyword name)) ∷ inserted (child c.place (suc m)) 1 more) (plain_trees old)) (sym less)
+          subst (λ k. AreDoable (step_in c.place (After c.place.path.steps k (written_keyword name)) ∷ insertion_steps (child c.place (suc m)) 1 more) (plain_trees old)) (sym less)
           (array_doable c.place (suc m) (After c.place.path.steps m (written_keyword name)) more (All-tail IsUtf8 name more utf8) (plain_trees old) tree (tree_is old c.place t.there) (all_stand old are c.place)
           tree_shallow (keyword_written name (All-head IsUtf8 name more utf8)) g)
 
   wrap_doable : (v : Numbered (Expression Span)) (others : List (Numbered (Expression Span))) → keyword extra_key c.it ≡ v ∷ others → (names : List (List ℕ)) → All IsUtf8 names
-      → AreDoable (step_in c.place (Wrap c.place.path.steps v.number) ∷ inserted (child c.place v.number) 1 names) (plain_trees old)
+      → AreDoable (step_in c.place (Wrap c.place.path.steps v.number) ∷ insertion_steps (child c.place v.number) 1 names) (plain_trees old)
   wrap_doable v others is names utf8 =
       let path = c.place.path.steps in
       let k = keyword_there extra_key c.it v others is in
@@ -93,7 +93,7 @@ module _ (old : Loaded) (are : AreParsed old.files old.parsed) (c : Placed (Call
       → (steps : List Step) → behind_value c.place v.number text names ≡ Ok steps → AreDoable steps (plain_trees old)
   value_doable v others is None names utf8 steps made = absurd cc
   value_doable v others is (Some text) names utf8 steps made =
-      let same : step_in c.place (Wrap c.place.path.steps v.number) ∷ inserted (child c.place v.number) 1 names ≡ steps = cc in
+      let same : step_in c.place (Wrap c.place.path.steps v.number) ∷ insertion_steps (child c.place v.number) 1 names ≡ steps = cc in
       subst (λ s. AreDoable s (plain_trees old)) same (wrap_doable v others is names utf8)
 
   homeless_doable : (values : List (Numbered (Expression Span))) → keyword extra_key c.it ≡ values → (name : List ℕ) (more : List (List ℕ)) → All IsUtf8 (name ∷ more)
@@ -101,7 +101,7 @@ module _ (old : Loaded) (are : AreParsed old.files old.parsed) (c : Placed (Call
   homeless_doable [] is name more utf8 steps made =
       let same : into_new_list (project old) c.place (name ∷ more) ≡ steps = cc in
       subst (λ s. AreDoable s (plain_trees old)) same (new_list_doable name more utf8)
-  homeless_doable (v ∷ others) is name more utf8 steps made = value_doable v others is (calls.literal v.value) (name ∷ more) utf8 steps made
+  homeless_doable (v ∷ others) is name more utf8 steps made = value_doable v others is (calls.literal_of v.value) (name ∷ more) utf8 steps made
 
   -- ---- by the home
 

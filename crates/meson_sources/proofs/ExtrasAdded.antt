@@ -12,7 +12,7 @@ use Rattle.meson_syntax.specs.View.{expr_view, list_view}
 use Rattle.meson_calls.specs.declared.call.CallRef.{CallRef}
 use Rattle.meson_calls.specs.declared.refusal.Refusal.{Refusal}
 use Rattle.meson_steps.specs.declared.step.ListStep.{ListStep}
-use Rattle.meson_calls.specs.Calls.{Call, Numbered, keyword, value_with_name, literal}
+use Rattle.meson_calls.specs.Calls.{Call, Numbered, keyword, value_with_name, literal_of}
 use Rattle.meson_calls.specs.Expansion.{max_followed}
 use Rattle.meson_calls.specs.Keywords.{IsFirstNamed}
 use Rattle.meson_steps.specs.ListSteps.{bare}
@@ -21,7 +21,7 @@ use Rattle.meson_calls.specs.Picking.{call_with}
 use Rattle.meson_calls.specs.Project.{Project, Placed, placed}
 use Rattle.meson_calls.specs.Sourced.{kept_args}
 use Rattle.meson_calls.specs.Sources.{or_option, first_list, first_empty}
-use Rattle.meson_sources.specs.SourceEdits.{extra_key, checked_extra, extra_added, extra_inserted, without_home, into_new_list, behind_value, inserted, inserted_in, plain_len, elements_there, new_names}
+use Rattle.meson_sources.specs.SourceEdits.{extra_key, checked_extra, extra_added, extra_inserted, without_home, into_new_list, behind_value, insertion_steps, inserted_in, plain_len, elements_there, new_names}
 use Rattle.meson_calls.specs.Tallies.{Tally}
 use Rattle.meson_sources.specs.Targeted.{extra_gathered, lone_or_new, new_list_steps}
 use Rattle.meson_steps.specs.Meanings.{AreMeant, AreBehind}
@@ -34,10 +34,10 @@ use Rattle.meson_sources.proofs.ExtrasMeant.{extras, extra_fields}
 
 module _ (source key : List ℕ) (args : List Arg) (n : ℕ) (d : Arg) (within : n < length args) (first : IsFirstNamed source key args n) where
   pub lone : (c : CallRef) (names : List (List ℕ)) → 0 < length names → (s x : Span) (e : Expr) → get_or args n d ≡ arg.Named s x e
-      → behind_value c n (literal (expr_view source e)) names ≡ lone_or_new c (length args) (kept_args source (value_with_name key) 0 args) names
+      → behind_value c n (literal_of (expr_view source e)) names ≡ lone_or_new c (length args) (kept_args source (value_with_name key) 0 args) names
   lone c [] some s x e is = absurd (omega arith)
   lone c (name ∷ names) some s x e is =
-      ap (λ v. behind_value c n (literal v) (name ∷ names)) (sym (value_is source key args n d within first s x e is)) ∙ ap (λ vs. lone_or_new c (length args) vs (name ∷ names)) (sym first.is_first)
+      ap (λ v. behind_value c n (literal_of v) (name ∷ names)) (sym (value_is source key args n d within first s x e is)) ∙ ap (λ vs. lone_or_new c (length args) vs (name ∷ names)) (sym first.is_first)
 
 -- ---- by the home
 
@@ -76,11 +76,11 @@ module _ (p : Project Span) (c : CallRef) (source : List ℕ) (l : rust.List) (f
         ap (λ r. then_ok r (λ marks. extra_inserted p it (or_option (first_list marks) (first_empty marks)) (new_names marks names))) checked
         ∙ ap (λ h. extra_inserted p it h (new_names ms names)) (sym home_is) ∙ ap (extra_inserted p it home) (sym new_is)
 
-    pub home_meant : (h : CallRef) → home ≡ Some h → (n : ℕ) → n ≡ plain_len p h → (steps : List ListStep) → map Some steps ≡ map bare (inserted h n new) → AreMeant (extra_added p it names) steps
+    pub home_meant : (h : CallRef) → home ≡ Some h → (n : ℕ) → n ≡ plain_len p h → (steps : List ListStep) → map Some steps ≡ map bare (insertion_steps h n new) → AreMeant (extra_added p it names) steps
     home_meant h some n is_n steps are = record {
       steps = inserted_in p h new;
       is = by_home ∙ ap (λ o. extra_inserted p it o new) some ∙ at_home h new;
-      bare = sym (are ∙ ap (λ k. map bare (inserted h k new)) is_n);
+      bare = sym (are ∙ ap (λ k. map bare (insertion_steps h k new)) is_n);
     }
 
     module _ (none : home ≡ None) (there : length (rust.out-List l).items ≡ length (elements_there p c)) where

@@ -16,7 +16,7 @@ use Rattle.meson_calls.specs.Picking.{call_with}
 use Rattle.meson_sources.specs.Spots.{spots_of_names}
 use Rattle.meson_calls.specs.Sources.{kwargs_key, once, expand_arguments}
 use Rattle.meson_calls.specs.Sourced.{kept_args}
-use Rattle.meson_sources.specs.SourceEdits.{extra_key, extra_marks, checked_extra, spots_named, removed, distinct_spots, extra_removed}
+use Rattle.meson_sources.specs.SourceEdits.{extra_key, extra_marks, checked_extra, spots_named, removal_steps, distinct_spots, extra_removed}
 use Rattle.meson_steps.specs.Names.{checked_names, distinct}
 use Rattle.meson_calls.specs.Sources.{not_hidden}
 use Rattle.meson_steps.specs.Steps.{Step}
@@ -81,17 +81,17 @@ module _ (p : Project Span) (c : CallRef) (source : List ℕ) (l : rust.List) (f
   -- ---- removal
 
   abbrev after_marks : Result (List (Mark Span)) Refusal → Result (List Step) Refusal
-  after_marks r = then_ok r (λ marks. then_ok (spots_named marks (distinct names)) (λ spots. Ok (removed (distinct_spots spots))))
+  after_marks r = then_ok r (λ marks. then_ok (spots_named marks (distinct names)) (λ spots. Ok (removal_steps (distinct_spots spots))))
 
   pub extra_unchecked : (e : Refusal) → checked_extra p it names ≡ Err e → extra_removed p it names ≡ Err e
   extra_unchecked e is = ap after_marks is
 
   module _ (checked : checked_extra p it names ≡ Ok extras) (t : Tally) (is : t ≡ (extra_gathered p max_followed c source (rust.out-List l).items).tally) where
-    after_checks : extra_removed p it names ≡ then_ok (spots_of_names t.items t.numbers t.unknown (distinct names)) (λ spots. Ok (removed (distinct_spots spots)))
-    after_checks = ap after_marks checked ∙ ap (λ r. then_ok r (λ spots. Ok (removed (distinct_spots spots)))) (sym (told_spots t extras (extra_fields t is) (distinct names)))
+    after_checks : extra_removed p it names ≡ then_ok (spots_of_names t.items t.numbers t.unknown (distinct names)) (λ spots. Ok (removal_steps (distinct_spots spots)))
+    after_checks = ap after_marks checked ∙ ap (λ r. then_ok r (λ spots. Ok (removal_steps (distinct_spots spots)))) (sym (told_spots t extras (extra_fields t is) (distinct names)))
 
-    pub extra_gone : (steps : List ListStep) → AreMeant (then_ok (spots_of_names t.items t.numbers t.unknown (distinct names)) (λ spots. Ok (removed (distinct_spots spots)))) steps → AreMeant (extra_removed p it names) steps
+    pub extra_gone : (steps : List ListStep) → AreMeant (then_ok (spots_of_names t.items t.numbers t.unknown (distinct names)) (λ spots. Ok (removal_steps (distinct_spots spots)))) steps → AreMeant (extra_removed p it names) steps
     extra_gone steps meant = record { steps = meant.steps; is = after_checks ∙ meant.is; bare = meant.bare }
 
-    pub extra_not_gone : (e : Refusal) → then_ok (spots_of_names t.items t.numbers t.unknown (distinct names)) (λ spots. Ok (removed (distinct_spots spots))) ≡ Err e → extra_removed p it names ≡ Err e
+    pub extra_not_gone : (e : Refusal) → then_ok (spots_of_names t.items t.numbers t.unknown (distinct names)) (λ spots. Ok (removal_steps (distinct_spots spots))) ≡ Err e → extra_removed p it names ≡ Err e
     extra_not_gone e refused = after_checks ∙ refused

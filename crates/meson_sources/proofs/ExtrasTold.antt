@@ -13,7 +13,7 @@ use Rattle.meson_calls.specs.Expansion.{Mark, max_followed}
 use Rattle.meson_calls.specs.Picking.{call_with}
 use Rattle.meson_calls.specs.Project.{Project, placed}
 use Rattle.meson_calls.specs.Sourced.{kept_args}
-use Rattle.meson_calls.specs.Sources.{answer, first_empty, first_list, once, opaque_count, or_call, or_option}
+use Rattle.meson_calls.specs.Sources.{sources_of_marks, first_empty, first_list, once, opaque_count, or_call, or_option}
 use Rattle.meson_calls.specs.Tallies.{Tally}
 use Rattle.meson_sources.specs.Extras.{extra_of_call}
 use Rattle.meson_sources.specs.SourceEdits.{extra_key, extra_marks}
@@ -29,7 +29,7 @@ sources_with c items unknown list vacant = record { items = items; opaque = unkn
 abbrev pub sources_by : CallRef → Tally → Sources
 sources_by c t = sources_with c t.items t.unknown t.list t.vacant
 
-answered : (c : CallRef) (ms : List (Mark Span)) (t : Tally) → Told t ms → answer c ms ≡ sources_by c t
+answered : (c : CallRef) (ms : List (Mark Span)) (t : Tally) → Told t ms → sources_of_marks c ms ≡ sources_by c t
 answered c ms t told =
     ap (λ is. sources_with c is (opaque_count ms) (first_list ms) (first_empty ms)) (sym told.are_items)
     ∙ ap (λ n. sources_with c t.items n (first_list ms) (first_empty ms)) (sym told.is_unknown)
@@ -44,10 +44,10 @@ module _ (p : Project Span) (c : CallRef) (source : List ℕ) (l : rust.List) (f
   marks = extra_marks p (placed c (call_with function (list_view source l)))
 
   pub told_twice : 1 < values → extra_of_call p (placed c (call_with function (list_view source l))) ≡ Err (DuplicateKeyword extra_key)
-  told_twice many = ap (λ xs. once extra_key xs (answer c marks)) (keyword_is p c source l function extra_key) ∙ once_twice extra_key _ (answer c marks) many
+  told_twice many = ap (λ xs. once extra_key xs (sources_of_marks c marks)) (keyword_is p c source l function extra_key) ∙ once_twice extra_key _ (sources_of_marks c marks) many
 
   pub told_once : values ≤ 1 → (t : Tally) → t ≡ (extra_gathered p max_followed c source (rust.out-List l).items).tally
       → extra_of_call p (placed c (call_with function (list_view source l))) ≡ Ok (sources_by c t)
   told_once few t is =
-      ap (λ xs. once extra_key xs (answer c marks)) (keyword_is p c source l function extra_key) ∙ once_few extra_key _ (answer c marks) few
+      ap (λ xs. once extra_key xs (sources_of_marks c marks)) (keyword_is p c source l function extra_key) ∙ once_few extra_key _ (sources_of_marks c marks) few
       ∙ ap Ok (answered c marks t (extra_fields p c source l function [] t is))

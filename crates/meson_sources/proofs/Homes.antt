@@ -11,11 +11,11 @@ use Rattle.meson_syntax.proofs.paths.Reaching.{list-fits}
 use Rattle.meson_edit.specs.Edits.{elements}
 use Rattle.meson_calls.specs.declared.call.CallRef.{CallRef}
 use Rattle.meson_calls.specs.Expansion.{Slot, in_list, fixed, Mark, known, opaque, empty}
-use Rattle.meson_steps.specs.ListSteps.{MayStand, AreDoable}
+use Rattle.meson_steps.specs.ListSteps.{MayStandBetween, AreDoable}
 use Rattle.meson_calls.specs.Loading.{Loaded, AreParsed, project}
 use Rattle.meson_steps.specs.Results.{plain_trees}
 use Rattle.meson_calls.specs.Project.{Project}
-use Rattle.meson_sources.specs.SourceEdits.{inserted, inserted_in, plain_len, elements_there}
+use Rattle.meson_sources.specs.SourceEdits.{insertion_steps, inserted_in, plain_len, elements_there}
 use Rattle.meson_calls.specs.Sources.{first_list, first_empty, list_of_slot, or_option}
 use Rattle.meson_calls.specs.CallPlaces.{ListThere}
 use Rattle.meson_sources.specs.Standings.{StringThere, NothingThere, SlotStands, MarkStands}
@@ -75,7 +75,7 @@ module _ (old : Loaded) (are : AreParsed old.files old.parsed) (c : CallRef) whe
   abbrev tree : ListThere (project old) c → Plain
   tree there = erase there.file.tree
 
-  pub all_stand : All MayStand (plain_trees old)
+  pub all_stand : All MayStandBetween (plain_trees old)
   all_stand = trees_stand old.files old.parsed are
 
   -- room behind the last element without a name
@@ -83,7 +83,7 @@ module _ (old : Loaded) (are : AreParsed old.files old.parsed) (c : CallRef) whe
   room_there there values k many =
       let path = c.path.steps in
       let q = plain_place there.file.tree path there.list there.is_list in
-      let level : LevelFile (tree there) = (all_nth MayStand (plain_trees old) c.file (tree there) all_stand (tree_is old c there)).0 in
+      let level : LevelFile (tree there) = (all_nth MayStandBetween (plain_trees old) c.file (tree there) all_stand (tree_is old c there)).0 in
       let low = (list-fits Nowhere (tree there) path q.place q.is_place).level level in
       let count = ap (λ l. plain_count (elements l)) q.list ∙ count_erased there.list.list ∙ many in
       let holds = ap holds_values q.bracket ∙ values in
@@ -100,7 +100,7 @@ module _ (old : Loaded) (are : AreParsed old.files old.parsed) (c : CallRef) whe
       nothing (inl none) zero_left = none
       nothing (inr some) zero_left = absurd (omega (arith, some, zero_left))
 
-      go : (n : ℕ) → plain_count (elements h.there.list.list) ≡ n → AreDoable (inserted c n names) (plain_trees old)
+      go : (n : ℕ) → plain_count (elements h.there.list.list) ≡ n → AreDoable (insertion_steps c n names) (plain_trees old)
       go zero zero_left =
           let path = c.path.steps in
           let q = plain_place h.there.file.tree path h.there.list h.there.is_list in

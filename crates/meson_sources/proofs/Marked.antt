@@ -6,7 +6,7 @@ use Rattle.std.proofs.lemmas.List.{length-map}
 use Rattle.meson_lex.specs.declared.kinds.Span.{Span}
 use Rattle.meson_splice.specs.Patch.{then_ok}
 use Rattle.meson_calls.specs.Expansion.{Slot, in_list, fixed, Item, Mark}
-use Rattle.meson_sources.specs.Spots.{spot_at, spots_at, all_there, spots_from, spots_of_names}
+use Rattle.meson_sources.specs.Spots.{spot_if_there, spots_at, all_there, spots_from, spots_of_names}
 use Rattle.meson_calls.specs.Sources.{items, opaque_count, first_list, first_empty, list_of_slot, source_item}
 use Rattle.meson_sources.specs.SourceEdits.{new_names, has_text, is_known, items_of, Spot, spot_of, spots_of, spots_by, spots_named, removable}
 use Rattle.meson_steps.specs.Names.{distinct}
@@ -56,13 +56,13 @@ numbers_of is = map (λ i. number_of_slot i.slot) is
 abbrev spots_there : List (Item Span) → List (Option Spot)
 spots_there is = map (λ i. spot_of i.slot) is
 
-spot_is : (s : Slot) → spot_at (list_of_slot s) (number_of_slot s) ≡ spot_of s
+spot_is : (s : Slot) → spot_if_there (list_of_slot s) (number_of_slot s) ≡ spot_of s
 spot_is (in_list p n) = refl
 spot_is fixed = refl
 
 spots_are : (name : List ℕ) (is : List (Item Span)) → spots_at name (map source_item is) (numbers_of is) ≡ spots_there (filter (has_text name) is)
 spots_are name [] = refl
-spots_are name (i ∷ is) = elim (has_text name i) as (λ b. (if b then spot_at (list_of_slot i.slot) (number_of_slot i.slot) ∷ spots_at name (map source_item is) (numbers_of is) else spots_at name (map source_item is) (numbers_of is))
+spots_are name (i ∷ is) = elim (has_text name i) as (λ b. (if b then spot_if_there (list_of_slot i.slot) (number_of_slot i.slot) ∷ spots_at name (map source_item is) (numbers_of is) else spots_at name (map source_item is) (numbers_of is))
     ≡ spots_there (if b then i ∷ filter (has_text name) is else filter (has_text name) is)) [
       | true ↦ ap (λ s. s ∷ spots_at name (map source_item is) (numbers_of is)) (spot_is i.slot) ∙ ap (λ ss. spot_of i.slot ∷ ss) (spots_are name is)
       | false ↦ spots_are name is

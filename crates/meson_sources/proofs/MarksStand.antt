@@ -11,7 +11,7 @@ use Rattle.meson_syntax.specs.Tree.{Expression, identifier, string, array, call,
 use Rattle.meson_syntax.proofs.paths.Every.{Every, every-append}
 use Rattle.meson_edit.specs.Edits.{elements}
 use Rattle.meson_calls.specs.declared.call.CallRef.{CallRef}
-use Rattle.meson_calls.specs.Expansion.{Slot, in_list, fixed, Mark, opaque, Expansion, Stand, joined, element, operand_at, or_empty, within, is_files, are_plus, literal_item, expand_by, expand_operands, expand_listing, expand_each, expand_argument}
+use Rattle.meson_calls.specs.Expansion.{Slot, in_list, fixed, Mark, opaque, Expansion, Stand, both_expanded, element, operand_at, or_empty, within, is_files, are_plus, literal_item, expand_by, expand_operands, expand_listing, expand_each, expand_argument}
 use Rattle.meson_calls.specs.Project.{Project, child, expression_at}
 use Rattle.meson_calls.specs.Roles.{one_of}
 use Rattle.meson_calls.specs.CallPlaces.{ListThere}
@@ -106,14 +106,14 @@ module _ (p : Project Span) (levels : AreLevel p) where
     row_met true x followed m = m
     row_met false x followed m = opaque_met p
 
-    joined_met : (e : Expansion Span) (more : Expansion Span) → Met p e.marks → Every (MarkStands p) more.marks → Met p (joined e more).marks
+    joined_met : (e : Expansion Span) (more : Expansion Span) → Met p e.marks → Every (MarkStands p) more.marks → Met p (both_expanded e more).marks
     joined_met e more first others = record { each = every-append (MarkStands p) e.marks more.marks first.each others; some = λ nothing. first.some (front e.marks more.marks nothing) }
       where
         front : (xs ys : List (Mark Span)) → xs ++ ys ≡ [] → xs ≡ []
         front [] ys h = refl
         front (x ∷ xs) ys h = absurd cc
 
-    after_first : (e : Expansion Span) (more : Expansion Span) (a : Argument Span) (es : List (Argument Span)) → Met p e.marks → Every (MarkStands p) more.marks → Within p (a ∷ es) (joined e more).marks
+    after_first : (e : Expansion Span) (more : Expansion Span) (a : Argument Span) (es : List (Argument Span)) → Met p e.marks → Every (MarkStands p) more.marks → Within p (a ∷ es) (both_expanded e more).marks
     after_first e more a es first others = let m = joined_met e more first others in record { each = m.each; none = λ nothing. absurd (m.some nothing) }
 
     mutual
@@ -128,7 +128,7 @@ module _ (p : Project Span) (levels : AreLevel p) where
       expression_met (row at e os) s followed h =
           let first = expand_by lists follow e (operand_at s 0) followed in
           let more = expand_operands lists follow os 1 s first.followed in
-          row_met (are_plus os && lists e) (joined first more) followed
+          row_met (are_plus os && lists e) (both_expanded first more) followed
           (joined_met first more (expression_met e (operand_at s 0) followed (record { is_at = child_stands p s.place (row at e os) h.is_at 0 e refl; slot = tt }))
           (operands_met os 1 s first.followed (row_stands p s.place at e os h.is_at)))
       expression_met _ s followed h = opaque_met p

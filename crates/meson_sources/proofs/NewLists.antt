@@ -12,7 +12,7 @@ use Rattle.meson_edit.specs.Sequences.{MayFollow}
 use Rattle.meson_edit.proofs.sequences.Deepened.{edits-deepen-by-one}
 use Rattle.meson_edit.proofs.sequences.Levelled.{insertions-keep-levels, wraps-keep-levels}
 use Rattle.meson_calls.specs.declared.call.CallRef.{CallRef}
-use Rattle.meson_steps.specs.ListSteps.{MayStand, AreDoable}
+use Rattle.meson_steps.specs.ListSteps.{MayStandBetween, AreDoable}
 use Rattle.meson_calls.specs.Project.{child}
 use Rattle.meson_steps.specs.WrittenTexts.{string_of}
 use Rattle.meson_sources.specs.SourceEdits as plan
@@ -100,10 +100,10 @@ module _ (t : Plain) (path : List ℕ) (q : ListAt Nowhere) (is_q : list_at t pa
 -- ---- trees of a project
 
 -- the first step makes an array of one element, the others put strings behind that
-pub array_doable : (c : CallRef) (n : ℕ) (e : Edit) (names : List (List ℕ)) → All IsUtf8 names → (trees : List Plain) (t : Plain) → nth trees c.file ≡ Some t → All MayStand trees → file_depth t ≤ 64
-    → Writes e → Arrayed t c.path.steps n e → AreDoable (step_in c e ∷ plan.inserted (child c n) 1 names) trees
+pub array_doable : (c : CallRef) (n : ℕ) (e : Edit) (names : List (List ℕ)) → All IsUtf8 names → (trees : List Plain) (t : Plain) → nth trees c.file ≡ Some t → All MayStandBetween trees → file_depth t ≤ 64
+    → Writes e → Arrayed t c.path.steps n e → AreDoable (step_in c e ∷ plan.insertion_steps (child c n) 1 names) trees
 array_doable c n e names utf8 trees t is all shallow writes g =
     let deep = g.depth in
-    let now_stands : MayStand g.now = (g.level, omega (arith, shallow, deep)) in
-    step_doable (step_in c e) (plan.inserted (child c n) 1 names) trees t g.now is g.is writes all now_stands
-    (behind_doable (child c n) names utf8 0 (slice_set trees c.file g.now) g.now (changed_there trees c.file t g.now is) (All-set MayStand trees c.file g.now now_stands all) g.room)
+    let now_stands : MayStandBetween g.now = (g.level, omega (arith, shallow, deep)) in
+    step_doable (step_in c e) (plan.insertion_steps (child c n) 1 names) trees t g.now is g.is writes all now_stands
+    (behind_doable (child c n) names utf8 0 (slice_set trees c.file g.now) g.now (changed_there trees c.file t g.now is) (All-set MayStandBetween trees c.file g.now now_stands all) g.room)

@@ -12,9 +12,9 @@ use Rattle.meson_syntax.proofs.paths.Reaching.{map-some}
 use Rattle.meson_edit.specs.Edits.{elements}
 use Rattle.meson_calls.specs.declared.call.CallRef.{CallRef}
 use Rattle.meson_calls.specs.Project.{place}
-use Rattle.meson_steps.specs.ListSteps.{MayStand}
+use Rattle.meson_steps.specs.ListSteps.{MayStandBetween}
 use Rattle.meson_steps.proofs.WithOne.{changed_there, others_there}
-use Rattle.meson_sources.specs.Effects.{ListsLose, NoneIn, NoneUnder, OthersStay, StringsGo, but, elements_found, place_after, spot_at, string_child}
+use Rattle.meson_sources.specs.Effects.{ListsLose, NoneIn, NoneUnder, AllElseStays, StringsGo, but, elements_found, place_after, spot_of_child, string_child}
 use Rattle.meson_sources.specs.Effects as effects
 use Rattle.meson_sources.specs.SourceEdits.{Spot, is_path, moved_up, path_after, same_spot, spot_after, spots_after}
 use Rattle.meson_sources.proofs.ChildrenLeft.{at_list, clear_path, elements_left, kept, path_stays, seen, seen_left}
@@ -58,7 +58,7 @@ pub record NodeIn (trees : List Plain) (c : CallRef) (y : Node) : Type 0 where
   pub is_node : node_at (root tree) c.path.steps ≡ Some y
   pub other : string_child y ≡ None
 
-module _ (trees : List Plain) (all : All MayStand trees) (s : Spot) (there : StringIn trees s) where
+module _ (trees : List Plain) (all : All MayStandBetween trees) (s : Spot) (there : StringIn trees s) where
   abbrev path : List ℕ
   path = s.list.path.steps
 
@@ -81,7 +81,7 @@ module _ (trees : List Plain) (all : All MayStand trees) (s : Spot) (there : Str
     in_tree : s.list.file ≡ c.file → node_at (root there.tree) c.path.steps ≡ Some y
     in_tree file = ap (λ t. node_at (root t) c.path.steps) (some-injective _ _ (sym there.is_tree ∙ ap (nth trees) file ∙ h.is_tree)) ∙ h.is_node
 
-    clear_of : (n : ℕ) → Apart s (spot_at c n) → Clear s (spot_at c n)
+    clear_of : (n : ℕ) → Apart s (spot_of_child c n) → Clear s (spot_of_child c n)
     clear_of n apart = record {
       above = λ file. clear_path g.old g.new g.xs k g.loses new_other path (root there.tree) (root gone.now) g.put c.path.steps y (in_tree file) h.other;
       other = apart;
@@ -204,7 +204,7 @@ module _ (trees : List Plain) (all : All MayStand trees) (s : Spot) (there : Str
       after_by b n = if b then record {
         list = place c.file (path_after path k c.path.steps);
         number = if is_path path c.path.steps then moved_up k n else n;
-      } else spot_at c n
+      } else spot_of_child c n
 
       pub record Next (now : CallRef) : Type 0 where
         pub node : Node
@@ -218,8 +218,8 @@ module _ (trees : List Plain) (all : All MayStand trees) (s : Spot) (there : Str
         pub under : AllByRecursion (λ u. NotUnder u c) more → AllByRecursion (λ u. NotUnder u now) (spots_after s more)
 
       -- another spot of the place goes later where it went
-      later : (n : ℕ) → Apart s (spot_at c n) → list_any (λ u. same_spot u (spot_after s (spot_at c n))) (spots_after s more) ≡ before n
-      later n apart = any_still s (spot_at c n) (clear_of n apart) more every ∙ ap (λ b. b || effects.goes more c n) (sym (apart_not_same s (spot_at c n) apart))
+      later : (n : ℕ) → Apart s (spot_of_child c n) → list_any (λ u. same_spot u (spot_after s (spot_of_child c n))) (spots_after s more) ≡ before n
+      later n apart = any_still s (spot_of_child c n) (clear_of n apart) more every ∙ ap (λ b. b || effects.goes more c n) (sym (apart_not_same s (spot_of_child c n) apart))
 
       by_path : nat_eq s.list.file c.file ≡ true → (b : Bool) → is_path path c.path.steps ≡ b → Next (place c.file (path_after path k c.path.steps))
       by_path file true is =
@@ -230,7 +230,7 @@ module _ (trees : List Plain) (all : All MayStand trees) (s : Spot) (there : Str
           let gone_here : before k ≡ true =
           ap (λ b. (b && (is_path path c.path.steps && nat_eq k k)) || effects.goes more c k) file
           ∙ ap (λ b. (b && nat_eq k k) || effects.goes more c k) is ∙ ap (λ b. b || effects.goes more c k) (eq-eqb k k refl) in
-          let moves : (n : ℕ) → spot_after s (spot_at c n) ≡ spot_at now (moved_up k n) = λ n.
+          let moves : (n : ℕ) → spot_after s (spot_of_child c n) ≡ spot_of_child now (moved_up k n) = λ n.
           ap (λ b. after_by b n) file ∙ ap (λ b. record { list = now; number = if b then moved_up k n else n }) is in
           let later_same : (n : ℕ) → (k ≡ n → ⊥) → effects.goes (spots_after s more) now (moved_up k n) ≡ before n = λ n other.
           ap (λ t. list_any (λ u. same_spot u t) (spots_after s more)) (sym (moves n)) ∙ later n (λ equal. other equal.2) in
@@ -250,7 +250,7 @@ module _ (trees : List Plain) (all : All MayStand trees) (s : Spot) (there : Str
           let not_same : path ≡ c.path.steps → ⊥ = λ same. let yes = is_same_path path c.path.steps same in cc in
           let m = of_other files not_same in
           let now = place c.file (path_after path k c.path.steps) in
-          let moves : (n : ℕ) → spot_after s (spot_at c n) ≡ spot_at now n = λ n.
+          let moves : (n : ℕ) → spot_after s (spot_of_child c n) ≡ spot_of_child now n = λ n.
           ap (λ b. after_by b n) file ∙ ap (λ b. record { list = now; number = if b then moved_up k n else n }) is in
           let later_same : (n : ℕ) → effects.goes (spots_after s more) now n ≡ before n = λ n.
           ap (λ t. list_any (λ u. same_spot u t) (spots_after s more)) (sym (moves n)) ∙ later n (λ equal. not_same equal.1) in
@@ -285,7 +285,7 @@ module _ (trees : List Plain) (all : All MayStand trees) (s : Spot) (there : Str
             under = all_elsewhere not_same more;
           }
 
-      pub next : Next (spot_after s (spot_at c 0)).list
+      pub next : Next (spot_after s (spot_of_child c 0)).list
       next = by_file (nat_eq s.list.file c.file) refl
 
   pub all_clear : (ts : List Spot) → Every (StringIn trees) ts → Every (Apart s) ts → Every (Clear s) ts

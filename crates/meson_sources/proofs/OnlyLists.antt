@@ -57,13 +57,13 @@ module _ (c : CallRef) where
       record { tree = m.old; was = m.was; place = p.0; is_place = p.1; other = with_elements p.0.list y.0; now = m.now ∙ ap Some (sym y.2); others = m.others }
 
   -- strings that come one behind the other
-  pub inserted_only : (names : List (List ℕ)) (n : ℕ) (first trees after : List Plain) → OnlyList c first trees → all_stepped (edits.inserted c n names) trees ≡ Some after → OnlyList c first after
+  pub inserted_only : (names : List (List ℕ)) (n : ℕ) (first trees after : List Plain) → OnlyList c first trees → all_stepped (edits.insertion_steps c n names) trees ≡ Some after → OnlyList c first after
   inserted_only [] n first trees after only made = subst (OnlyList c first) (some-injective _ _ made) only
   inserted_only (name ∷ more) zero first trees after only made =
       let e = First path (written_source name) in
-      let s = and-then-some (all_stepped (edits.inserted c 1 more)) (stepped (step_in c e) trees) after made in
+      let s = and-then-some (all_stepped (edits.insertion_steps c 1 more)) (stepped (step_in c e) trees) after made in
       inserted_only more 1 first s.0 after (both_only first trees s.0 only (edit_only e (λ t. refl) trees s.0 s.1)) s.2
   inserted_only (name ∷ more) (suc n) first trees after only made =
       let e = After path n (written_source name) in
-      let s = and-then-some (all_stepped (edits.inserted c (suc (suc n)) more)) (stepped (step_in c e) trees) after made in
+      let s = and-then-some (all_stepped (edits.insertion_steps c (suc (suc n)) more)) (stepped (step_in c e) trees) after made in
       inserted_only more (suc (suc n)) first s.0 after (both_only first trees s.0 only (edit_only e (λ t. refl) trees s.0 s.1)) s.2

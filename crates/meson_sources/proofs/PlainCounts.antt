@@ -69,5 +69,5 @@ module _ (b : Bracket) (none : holds_pairs b ≡ false) where
 pub elements_are : (p : Project Span) (c : CallRef) (there : ListThere p c) → elements_there p c ≡ elements there.list.list
 elements_are p c there =
     let at = list_node Span there.file.tree c.path.steps there.list there.is_list in
-    ap (λ o. elements_of (option_and_then list_in (option_and_then (λ (f : BuildFile Span). paths.expression_at f.tree c.path.steps) o))) there.is_file
+    ap (λ o. elements_of (option_and_then list_in (option_and_then (λ (f : BuildFile Span). paths.expression_on_path f.tree c.path.steps) o))) there.is_file
     ∙ ap (λ o. elements_of (option_and_then list_in o)) at.is_node ∙ ap elements_of at.is_inner ∙ ap elements at.list

@@ -11,7 +11,7 @@ use Rattle.meson_splice.specs.Files.{bytes_at}
 use Rattle.meson_syntax.specs.declared.tree.List as rust
 use Rattle.meson_syntax.specs.declared.tree.Parsed.{Parsed}
 use Rattle.meson_syntax.specs.Tree.{Expression, Block, Argument, plain, named, pair, File, Listing}
-use Rattle.meson_syntax.specs.Paths.{Sort, of_expression, of_statement, of_block, Node, Hole, ListIn, list_in, ListAt, list_at, list_of_node, list_within, expression_of, expression_at, reach, block_of}
+use Rattle.meson_syntax.specs.Paths.{Sort, of_expression, of_statement, of_block, Node, Hole, ListIn, list_in, ListAt, list_at, list_of_node, list_within, expression_of, expression_on_path, reach, block_of}
 use Rattle.meson_syntax.specs.View.{arg_view, args_view, list_view, view}
 use Rattle.meson_edit.specs.Edits.{elements}
 use Rattle.meson_calls.specs.declared.call.CallRef.{CallRef}
@@ -76,18 +76,18 @@ module _ {S : Type 0} (f : File S) where
   of_hole None = refl
   of_hole (Some h) = of_node h.sort h.inside h.before h.behind h.back
 
-  lists_alike : (path : List ℕ) → option_map (λ (p : ListAt S). p.list) (list_at f path) ≡ option_map (λ (l : ListIn S). l.list) (option_and_then list_in (expression_at f path))
+  lists_alike : (path : List ℕ) → option_map (λ (p : ListAt S). p.list) (list_at f path) ≡ option_map (λ (l : ListIn S). l.list) (option_and_then list_in (expression_on_path f path))
   lists_alike path = of_hole (reach S of_block (block_of f) path)
 
-  pub elements_are : (path : List ℕ) → elements_of (option_and_then list_in (expression_at f path)) ≡ elements_or_none (option_map (λ (p : ListAt S). p.list) (list_at f path))
-  elements_are path = by_list (option_and_then list_in (expression_at f path)) ∙ ap elements_or_none (sym (lists_alike path))
+  pub elements_are : (path : List ℕ) → elements_of (option_and_then list_in (expression_on_path f path)) ≡ elements_or_none (option_map (λ (p : ListAt S). p.list) (list_at f path))
+  elements_are path = by_list (option_and_then list_in (expression_on_path f path)) ∙ ap elements_or_none (sym (lists_alike path))
 
 module _ (files : List files.File) (trees : List Parsed) (c : CallRef) where
   abbrev p : Project Span
   p = named_trees files (views files trees)
 
   abbrev count_of : Option (BuildFile Span) → ℕ
-  count_of f = length (filter is_plain (elements_of (option_and_then list_in (option_and_then (λ g. expression_at g.tree c.path.steps) f))))
+  count_of f = length (filter is_plain (elements_of (option_and_then list_in (option_and_then (λ g. expression_on_path g.tree c.path.steps) f))))
 
   pub no_plains : length trees ≤ c.file → 0 ≡ plain_len p c
   no_plains past = sym (ap count_of (nth_past files trees c.file past))

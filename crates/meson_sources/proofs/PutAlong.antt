@@ -3,8 +3,8 @@ use Rattle.std.specs.Prelude.{option_map}
 use Rattle.std.proofs.Common.{◌≡◌, ℕ, List, [], ◌∷◌, Some, refl, ap, subst, arith}
 use Rattle.meson_lex.specs.Significant.{Word}
 use Rattle.meson_syntax.specs.Tree.{Nowhere, Plain, Expression, array, dictionary, call, Listing, Block, file}
-use Rattle.meson_syntax.specs.Paths.{Sort, of_expression, of_statement, of_block, Node, Hole, around, children, child, reach, block_of, ListIn, list_in, ListAt, list_at, list_within, list_of_node}
-use Rattle.meson_syntax.specs.Parts.{Any, an_expression, a_block, any_of, parts}
+use Rattle.meson_syntax.specs.Paths.{Sort, of_expression, of_statement, of_block, Node, Hole, around, children, nth_hole, reach, block_of, ListIn, list_in, ListAt, list_at, list_within, list_of_node}
+use Rattle.meson_syntax.specs.Parts.{Any, an_expression, a_block, any_of, child_nodes}
 use Rattle.meson_syntax.proofs.parsing.Steps.{some-injective}
 use Rattle.meson_syntax.proofs.paths.Every.{every-nth}
 use Rattle.meson_syntax.proofs.paths.Reaching.{map-some, and-then-some}
@@ -15,7 +15,7 @@ use Rattle.meson_sources.proofs.StringsStay.{list_any, StringsStay, StaysAmong, 
 module _ (S : Type 0) where
   -- one step of the path: the child of this number becomes another one
   pub record StepsTo (x now y next : Any S) (n : ℕ) : Type 0 where
-    pub parts : Differ y next n (parts x) (parts now)
+    pub parts : Differ y next n (child_nodes x) (child_nodes now)
     pub strings : StringsStay S y x now
 
   -- the node `new` where the path leads from x to `old`
@@ -23,7 +23,7 @@ module _ (S : Type 0) where
   PutAt old new [] x now = (x ≡ old) × (now ≡ new)
   PutAt old new (n ∷ path) x now = (y : Any S) × (next : Any S) × StepsTo x now y next n × PutAt old new path y next
 
-  child_put : (sort : Sort) (x : Node sort S) (n : ℕ) (h : Hole S (Node sort S)) → child S sort x n ≡ Some h → (y : Node h.sort S)
+  child_put : (sort : Sort) (x : Node sort S) (n : ℕ) (h : Hole S (Node sort S)) → nth_hole S sort x n ≡ Some h → (y : Node h.sort S)
       → StepsTo (any_of S sort x) (any_of S sort (h.back y)) (any_of S h.sort h.inside) (any_of S h.sort y) n
   child_put sort x n h is y = record {
     parts = every-at-nth (PutsAmong S sort x) 0 n n (children S sort x) h (omega arith) (children_put S sort x) is y;
@@ -36,7 +36,7 @@ module _ (S : Type 0) where
   pub reach_put : (sort : Sort) (x : Node sort S) (path : List ℕ) (h : Hole S (Node sort S)) → reach S sort x path ≡ Some h → Put sort x path h
   reach_put sort x [] h is = subst (Put sort x []) (some-injective _ _ is) (λ y. (refl, refl))
   reach_put sort x (n ∷ path) h is =
-      let o = and-then-some (λ g. option_map (around g.before g.behind g.back) (reach S g.sort g.inside path)) (child S sort x n) h is in
+      let o = and-then-some (λ g. option_map (around g.before g.behind g.back) (reach S g.sort g.inside path)) (nth_hole S sort x n) h is in
       let g = o.0 in
       let m = map-some (around g.before g.behind g.back) (reach S g.sort g.inside path) h o.2 in
       let i = m.0 in

@@ -6,14 +6,14 @@ use Rattle.meson_syntax.specs.Operators.{holds_pairs, holds_values}
 use Rattle.meson_syntax.specs.Tree.{Nowhere, Plain, array, dictionary, call, Listing, listing, Argument, arguments_of, argument_list, string}
 use Rattle.meson_syntax.specs.Grammar.{LevelListing, LevelFile}
 use Rattle.meson_syntax.specs.Paths.{ListAt, nth}
-use Rattle.meson_syntax.specs.Parts.{Any, an_expression, a_statement, a_block, arguments_parts, listing_parts, parts}
+use Rattle.meson_syntax.specs.Parts.{Any, an_expression, a_statement, a_block, arguments_parts, listing_parts, child_nodes}
 use Rattle.meson_syntax.proofs.parsing.Complete.{list-of-arguments}
 use Rattle.meson_syntax.proofs.parsing.Steps.{some-injective}
 use Rattle.meson_syntax.proofs.paths.Every.{Every}
 use Rattle.meson_syntax.proofs.paths.Reaching.{map-some, list-fits}
 use Rattle.meson_edit.specs.Edits.{Remove, elements, with_elements, removed, edited}
 use Rattle.meson_edit.proofs.sequences.Changed.{changed}
-use Rattle.meson_sources.specs.Renaming.{StandsIn, IsString, RemovalsRename, number_after}
+use Rattle.meson_sources.specs.Renaming.{IsElementAt, IsStringElement, RemovalsRename, number_after}
 use Rattle.meson_sources.specs.SourceEdits.{path_after}
 use Rattle.meson_sources.proofs.ElementsThere.{root, stands_at, at_stands}
 use Rattle.meson_calls.proofs.ListNodes.{plain_holds, values_no_pairs}
@@ -27,7 +27,7 @@ use Rattle.meson_sources.proofs.StringsStay.{list_any}
 parts_of_list : (m l : Listing Nowhere) → m ≡ l → listing_parts m ≡ arguments_parts (arguments_of (elements l))
 parts_of_list (listing s trailing list) l same = sym (ap arguments_parts (list-of-arguments list)) ∙ ap (λ u. arguments_parts (arguments_of (elements u))) same
 
-list_parts : (x : Any Nowhere) (l : Listing Nowhere) → list_any x ≡ Some l → parts x ≡ arguments_parts (arguments_of (elements l))
+list_parts : (x : Any Nowhere) (l : Listing Nowhere) → list_any x ≡ Some l → child_nodes x ≡ arguments_parts (arguments_of (elements l))
 list_parts (an_expression (array m)) l is = parts_of_list m l (some-injective _ _ is)
 list_parts (an_expression (dictionary m)) l is = parts_of_list m l (some-injective _ _ is)
 list_parts (an_expression (call s x m)) l is = parts_of_list m l (some-injective _ _ is)
@@ -49,7 +49,7 @@ module _ (old new : Any Nowhere) (l : Listing Nowhere) (gone : ℕ) (is_old : li
   abbrev xs : List (Argument Nowhere)
   xs = elements l
 
-  loses : (it : Argument Nowhere) → nth xs gone ≡ Some it → IsString it → Every HasOnePart xs → LosesString old new xs gone
+  loses : (it : Argument Nowhere) → nth xs gone ≡ Some it → IsStringElement it → Every HasOnePart xs → LosesString old new xs gone
   loses it here s every = record {
     old_elements = λ n. ap (option_and_then (λ u. nth (elements u) n)) is_old;
     new_elements = λ n. ap (option_and_then (λ u. nth (elements u) n)) is_new ∙ ap (λ ys. nth ys n) (with_them l (without gone xs));
@@ -63,7 +63,7 @@ module _ (old new : Any Nowhere) (l : Listing Nowhere) (gone : ℕ) (is_old : li
   }
 
 -- where a string stands, values may
-string_holds : (l : Listing Nowhere) (b : Bracket) (n : ℕ) (it : Argument Nowhere) → IsString it → nth (elements l) n ≡ Some it → LevelListing l b → holds_values b ≡ true
+string_holds : (l : Listing Nowhere) (b : Bracket) (n : ℕ) (it : Argument Nowhere) → IsStringElement it → nth (elements l) n ≡ Some it → LevelListing l b → holds_values b ≡ true
 string_holds (listing s trailing list) b n it is_string is level = plain_holds list b false n (string tt is_string.kind is_string.text) level.1 (is ∙ ap Some is_string.is)
 
 -- how a string goes from its list
@@ -76,7 +76,7 @@ pub record Goes (t now : Plain) (list : List ℕ) (gone : ℕ) : Type 0 where
   pub is_listing : list_any new ≡ Some listing
   pub put : PutAt Nowhere old new list (root t) (root now)
 
-pub goes : (t now : Plain) → LevelFile t → (list : List ℕ) (gone : ℕ) (it : Argument Nowhere) → StandsIn t list gone it → IsString it → edited (Remove list gone) t ≡ Some now → Goes t now list gone
+pub goes : (t now : Plain) → LevelFile t → (list : List ℕ) (gone : ℕ) (it : Argument Nowhere) → IsElementAt t list gone it → IsStringElement it → edited (Remove list gone) t ≡ Some now → Goes t now list gone
 goes t now level list gone it here is_string is =
     let c = changed (Remove list gone) list t now is in
     let q = c.place in
@@ -105,8 +105,8 @@ removals_rename t now level list gone it here is_string is path n other there ot
     (strings_move g.old g.new g.xs gone g.loses list (root t) (root now) g.put path n other_string.kind other_string.text found apart ∙ ap Some (sym other_string.is))
 
 -- no other element stands under the string that goes
-pub removals_apart : (t now : Plain) → LevelFile t → (list : List ℕ) (gone : ℕ) (it : Argument Nowhere) → StandsIn t list gone it → IsString it → edited (Remove list gone) t ≡ Some now
-    → (path : List ℕ) (n : ℕ) (other : Argument Nowhere) → StandsIn t path n other → NotThrough list gone path
+pub removals_apart : (t now : Plain) → LevelFile t → (list : List ℕ) (gone : ℕ) (it : Argument Nowhere) → IsElementAt t list gone it → IsStringElement it → edited (Remove list gone) t ≡ Some now
+    → (path : List ℕ) (n : ℕ) (other : Argument Nowhere) → IsElementAt t path n other → NotThrough list gone path
 removals_apart t now level list gone it here is_string is path n other there =
     let g = goes t now level list gone it here is_string is in
     stands_apart g.old g.new g.xs gone g.loses list (root t) (root now) g.put path n other (stands_at t path n other there)

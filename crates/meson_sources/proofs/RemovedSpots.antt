@@ -11,11 +11,11 @@ use Rattle.meson_syntax.proofs.paths.Every.{Every}
 use Rattle.meson_edit.specs.Edits.{Remove, elements, with_elements, removed, edited}
 use Rattle.meson_edit.proofs.sequences.Deepened.{removals-stay-within}
 use Rattle.meson_edit.proofs.sequences.Levelled.{removals-keep-levels}
-use Rattle.meson_steps.specs.ListSteps.{AreDoable, none, one, MayStand}
+use Rattle.meson_steps.specs.ListSteps.{AreDoable, none, one, MayStandBetween}
 use Rattle.meson_calls.specs.Loading.{Loaded, project}
 use Rattle.meson_steps.specs.Results.{plain_trees}
 use Rattle.meson_calls.specs.Project.{place}
-use Rattle.meson_sources.specs.Renaming.{StandsIn}
+use Rattle.meson_sources.specs.Renaming.{IsElementAt}
 use Rattle.meson_steps.specs.Steps.{step_in}
 use Rattle.meson_sources.specs.SourceEdits.{Spot, moved_up, path_after, is_path, spot_after, spots_after, removed_by, distinct_spots}
 use Rattle.meson_sources.specs.Standings.{SpotStands, RemovalsDoable}
@@ -32,14 +32,14 @@ use Rattle.meson_steps.proofs.WithOne.{change_there, changed_there, others_there
 pub record Without (trees : List Plain) (s : Spot) (there : StringIn trees s) : Type 0 where
   pub now : Plain
   pub is_now : edited (Remove s.list.path.steps s.number) there.tree ≡ Some now
-  pub may : MayStand now
+  pub may : MayStandBetween now
 
-pub goes : (trees : List Plain) → All MayStand trees → (s : Spot) (there : StringIn trees s) → Without trees s there
+pub goes : (trees : List Plain) → All MayStandBetween trees → (s : Spot) (there : StringIn trees s) → Without trees s there
 goes trees all s there =
     let q = there.stands.place in
     let path = s.list.path.steps in
     let n = s.number in
-    let may = all_nth MayStand trees s.list.file there.tree all there.is_tree in
+    let may = all_nth MayStandBetween trees s.list.file there.tree all there.is_tree in
     let now = q.back (with_elements q.list (removed n (elements q.list) there.it)) in
     let is : edited (Remove path n) there.tree ≡ Some now =
     ap (option_and_then (λ (p : ListAt Nowhere). option_map (λ list. p.back (with_elements p.list list)) (option_map (removed n (elements p.list)) (nth (elements p.list) n)))) there.stands.is_place
@@ -48,25 +48,25 @@ goes trees all s there =
     let shallow : file_depth now ≤ 65 = omega (arith, deep, may.1) in
     record { now = now; is_now = is; may = (removals-keep-levels path n there.tree now may.0 is, shallow) }
 
-module _ (trees : List Plain) (all : All MayStand trees) (s : Spot) (there : StringIn trees s) where
+module _ (trees : List Plain) (all : All MayStandBetween trees) (s : Spot) (there : StringIn trees s) where
   abbrev gone : Without trees s there
   gone = goes trees all s there
 
   abbrev pub between : List Plain
   between = slice_set trees s.list.file gone.now
 
-  pub between_stand : All MayStand between
-  between_stand = All-set MayStand trees s.list.file gone.now gone.may all
+  pub between_stand : All MayStandBetween between
+  between_stand = All-set MayStandBetween trees s.list.file gone.now gone.may all
 
   pub level : LevelFile there.tree
-  level = (all_nth MayStand trees s.list.file there.tree all there.is_tree).0
+  level = (all_nth MayStandBetween trees s.list.file there.tree all there.is_tree).0
 
   module _ (t : Spot) (here : StringIn trees t) (apart : Apart s t) where
     same_tree : s.list.file ≡ t.list.file → here.tree ≡ there.tree
     same_tree file = some-injective _ _ (sym here.is_tree ∙ sym (ap (nth trees) file) ∙ there.is_tree)
 
-    stands_too : s.list.file ≡ t.list.file → StandsIn there.tree t.list.path.steps t.number here.it
-    stands_too file = subst (λ u. StandsIn u t.list.path.steps t.number here.it) (same_tree file) here.stands
+    stands_too : s.list.file ≡ t.list.file → IsElementAt there.tree t.list.path.steps t.number here.it
+    stands_too file = subst (λ u. IsElementAt u t.list.path.steps t.number here.it) (same_tree file) here.stands
 
     pub clear : Clear s t
     clear = record {
@@ -117,7 +117,7 @@ module _ (trees : List Plain) (all : All MayStand trees) (s : Spot) (there : Str
 
 -- ---- all of them
 
-removed_doable : (left : ℕ) (spots : List Spot) (trees : List Plain) → All MayStand trees → Every (StringIn trees) spots → AreApart spots → AreDoable (removed_by left spots) trees
+removed_doable : (left : ℕ) (spots : List Spot) (trees : List Plain) → All MayStandBetween trees → Every (StringIn trees) spots → AreApart spots → AreDoable (removed_by left spots) trees
 removed_doable zero spots trees all are apart = none trees
 removed_doable (suc left) [] trees all are apart = none trees
 removed_doable (suc left) (s ∷ more) trees all are apart =

@@ -7,7 +7,7 @@ use Rattle.meson_edit.specs.Edits.{Remove}
 use Rattle.meson_steps.specs.declared.step.ListStep.{ListStep}
 use Rattle.meson_steps.specs.ListSteps.{bare}
 use Rattle.meson_steps.specs.Steps.{step_in}
-use Rattle.meson_sources.specs.SourceEdits.{Spot, spot_after, spots_after, removed, removed_by}
+use Rattle.meson_sources.specs.SourceEdits.{Spot, spot_after, spots_after, removal_steps, removed_by}
 use Rattle.meson_sources.specs.Spots.{after_each}
 
 pub after_more : (gone : List Spot) (g s : Spot) → after_each spot_after (gone ++ g ∷ []) s ≡ spot_after g (after_each spot_after gone s)
@@ -33,7 +33,7 @@ module _ {X : Type 0} (view : X → Spot) where
   abbrev pub steps_left : List Spot → List X → List (Option ListStep)
   steps_left gone xs = map bare (removed_by (length xs) (map (after_each spot_after gone) (map view xs)))
 
-  pub none_gone : (xs : List X) → steps_left [] xs ≡ map bare (removed (map view xs))
+  pub none_gone : (xs : List X) → steps_left [] xs ≡ map bare (removal_steps (map view xs))
   none_gone xs = ap (λ ys. map bare (removed_by (length xs) ys)) (after_none (map view xs)) ∙ ap (λ n. map bare (removed_by n (map view xs))) (sym (length-map xs view))
 
   next_gone : (gone : List Spot) (x : X) (xs : List X)

@@ -5,7 +5,7 @@ use Rattle.std.proofs.lemmas.Bool.{eqb-true, eq-eqb}
 use Rattle.meson_syntax.specs.declared.operator.StringKind.{StringKind}
 use Rattle.meson_syntax.specs.Tree.{Nowhere, string, Argument, plain}
 use Rattle.meson_syntax.specs.Paths.{nth}
-use Rattle.meson_syntax.specs.Parts.{Any, an_expression, parts, node_at}
+use Rattle.meson_syntax.specs.Parts.{Any, an_expression, child_nodes, node_at}
 use Rattle.meson_sources.specs.Renaming.{number_after}
 use Rattle.meson_sources.specs.SourceEdits.{moved_up, path_after, is_path}
 use Rattle.meson_sources.proofs.OneGone.{without, moved, part}
@@ -39,8 +39,8 @@ NotThrough (m ∷ list) gone (n ∷ path) = m ≡ n → NotThrough list gone pat
 pub record LosesString (old new : Node) (xs : List (Argument Nowhere)) (gone : ℕ) : Type 0 where
   pub old_elements : (n : ℕ) → element_any old n ≡ nth xs n
   pub new_elements : (n : ℕ) → element_any new n ≡ nth (without gone xs) n
-  pub old_parts : parts old ≡ map part xs
-  pub new_parts : parts new ≡ map part (without gone xs)
+  pub old_parts : child_nodes old ≡ map part xs
+  pub new_parts : child_nodes new ≡ map part (without gone xs)
   pub kind : StringKind
   pub text : List ℕ
   pub is_string : nth xs gone ≡ Some (plain (string tt kind text))
@@ -59,16 +59,16 @@ module _ (old new : Node) (xs : List (Argument Nowhere)) (gone : ℕ) (g : Loses
   -- nothing is under the string that goes
   not_gone : (x : Node) → x ≡ old → (k : ℕ) (path : List ℕ) (n : ℕ) (a : Argument Nowhere) → element_at x (k ∷ path) n ≡ Some a → gone ≡ k → ⊥
   not_gone x same k path n a is at_it =
-      let child : nth (parts x) k ≡ Some (a_string g.kind g.text) =
-      ap (λ y. nth (parts y) k) same ∙ ap (λ ps. nth ps k) g.old_parts ∙ nth_map part xs k ∙ ap (λ i. option_map part (nth xs i)) (sym at_it) ∙ ap (option_map part) g.is_string in
+      let child : nth (child_nodes x) k ≡ Some (a_string g.kind g.text) =
+      ap (λ y. nth (child_nodes y) k) same ∙ ap (λ ps. nth ps k) g.old_parts ∙ nth_map part xs k ∙ ap (λ i. option_map part (nth xs i)) (sym at_it) ∙ ap (option_map part) g.is_string in
       let none = ap (λ o. option_and_then (λ y. element_any y n) (option_and_then (λ y. node_at y path) o)) child ∙ no_element g.kind g.text path n in
       cc
 
-  pub child_moved : (x now : Node) → x ≡ old → now ≡ new → (k : ℕ) → (gone ≡ k → ⊥) → nth (parts now) (moved_up gone k) ≡ nth (parts x) k
+  pub child_moved : (x now : Node) → x ≡ old → now ≡ new → (k : ℕ) → (gone ≡ k → ⊥) → nth (child_nodes now) (moved_up gone k) ≡ nth (child_nodes x) k
   child_moved x now same_old same_new k other =
       let j = moved_up gone k in
-      ap (λ y. nth (parts y) j) same_new ∙ ap (λ ps. nth ps j) g.new_parts ∙ nth_map part (without gone xs) j ∙ ap (option_map part) (moved xs gone k other)
-      ∙ sym (nth_map part xs k) ∙ sym (ap (λ ps. nth ps k) g.old_parts) ∙ sym (ap (λ y. nth (parts y) k) same_old)
+      ap (λ y. nth (child_nodes y) j) same_new ∙ ap (λ ps. nth ps j) g.new_parts ∙ nth_map part (without gone xs) j ∙ ap (option_map part) (moved xs gone k other)
+      ∙ sym (nth_map part xs k) ∙ sym (ap (λ ps. nth ps k) g.old_parts) ∙ sym (ap (λ y. nth (child_nodes y) k) same_old)
 
   -- ---- paths
 
@@ -86,8 +86,8 @@ module _ (old new : Node) (xs : List (Argument Nowhere)) (gone : ℕ) (g : Loses
       → element_at now (if b then k ∷ path_after list gone path else k ∷ path) (if b && is_path list path then moved_up gone n else n) ≡ Some (plain (string tt q t))
   by_head m list x now y next s moves k path n q t is other true same =
       let head : m ≡ k = eqb-true m k same in
-      let from : nth (parts x) k ≡ Some y = ap (nth (parts x)) (sym head) ∙ differ_old y next s.parts in
-      let to : nth (parts now) k ≡ Some next = ap (nth (parts now)) (sym head) ∙ differ_new y next s.parts in
+      let from : nth (child_nodes x) k ≡ Some y = ap (nth (child_nodes x)) (sym head) ∙ differ_old y next s.parts in
+      let to : nth (child_nodes now) k ≡ Some next = ap (nth (child_nodes now)) (sym head) ∙ differ_new y next s.parts in
       let after = path_after list gone path in
       let number = number_after list gone path n in
       ap (under after number) to
@@ -112,5 +112,5 @@ module _ (old new : Node) (xs : List (Argument Nowhere)) (gone : ℕ) (g : Loses
   stands_apart list x now p [] n a is = tt
   stands_apart [] x now p (k ∷ path) n a is = not_gone x p.0 k path n a is
   stands_apart (m ∷ list) x now p (k ∷ path) n a is = λ head.
-      let from : nth (parts x) k ≡ Some p.0 = ap (nth (parts x)) (sym head) ∙ differ_old p.0 p.1 p.2.parts in
+      let from : nth (child_nodes x) k ≡ Some p.0 = ap (nth (child_nodes x)) (sym head) ∙ differ_old p.0 p.1 p.2.parts in
       stands_apart list p.0 p.1 p.3 path n a (sym (ap (under path n) from) ∙ is)

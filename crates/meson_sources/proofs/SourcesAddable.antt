@@ -7,7 +7,7 @@ use Rattle.meson_lex.specs.declared.kinds.Span.{Span}
 use Rattle.meson_syntax.specs.Tree.{Expression, Listing, listing, plain, named, pair, Arguments, no_arguments, argument, argument_list}
 use Rattle.meson_edit.specs.Edits.{elements}
 use Rattle.meson_calls.specs.declared.call.CallRef.{CallRef}
-use Rattle.meson_calls.specs.Calls.{Call, numbered, kept_number, value_without_name, first, first_argument, keyword}
+use Rattle.meson_calls.specs.Calls.{Call, numbered, kept_number, value_without_name, first_of, first_argument, keyword}
 use Rattle.meson_calls.specs.Expansion.{Mark}
 use Rattle.meson_steps.specs.ListSteps.{AreDoable}
 use Rattle.meson_calls.specs.Loading.{project}
@@ -30,7 +30,7 @@ new_texts marks names all = All-filter (λ name. not (is_known marks name)) IsUt
 
 -- ---- the call of a target
 
-first_plain : (list : Arguments Span) (n : ℕ) (e : Expression Span) → option_map (λ a. a.value) (first (filter_map (kept_number value_without_name) (numbered n list))) ≡ Some e → 0 < plain_count (argument_list list)
+first_plain : (list : Arguments Span) (n : ℕ) (e : Expression Span) → option_map (λ a. a.value) (first_of (filter_map (kept_number value_without_name) (numbered n list))) ≡ Some e → 0 < plain_count (argument_list list)
 unfolding plain_count
 first_plain no_arguments n e is = absurd cc
 first_plain (argument (plain x) more) n e is = omega arith

@@ -15,7 +15,7 @@ use Rattle.meson_calls.specs.Calls.{keyword}
 use Rattle.meson_calls.specs.Loading.{IsProject, Loaded, project}
 use Rattle.meson_calls.specs.Sources.{home, once, source_marks, sources_key}
 use Rattle.meson_calls.proofs.ListNodes.{values_no_pairs}
-use Rattle.meson_steps.specs.ListSteps.{MayStand}
+use Rattle.meson_steps.specs.ListSteps.{MayStandBetween}
 use Rattle.meson_steps.specs.Names.{checked_names}
 use Rattle.meson_steps.specs.Results.{plain_trees}
 use Rattle.meson_steps.specs.Steps.{all_stepped, step_in, stepped}
@@ -81,12 +81,12 @@ module _ (list : CallRef) where
   abbrev path : List ℕ
   path = list.path.steps
 
-  puts : (names : List (List ℕ)) (front back : List (Argument Nowhere)) (trees after : List Plain) → elements_found list trees ≡ Some (front ++ back) → all_stepped (edits.inserted list (length front) names) trees ≡ Some after
+  puts : (names : List (List ℕ)) (front back : List (Argument Nowhere)) (trees after : List Plain) → elements_found list trees ≡ Some (front ++ back) → all_stepped (edits.insertion_steps list (length front) names) trees ≡ Some after
       → elements_found list after ≡ Some (front ++ (strings names ++ back))
   puts [] front back trees after had made = ap (elements_found list) (sym (some-injective _ _ made)) ∙ had
   puts (name ∷ more) [] back trees after had made =
       let new = written_source name in
-      let s = and-then-some (all_stepped (edits.inserted list 1 more)) (stepped (step_in list (First path new)) trees) after made in
+      let s = and-then-some (all_stepped (edits.insertion_steps list 1 more)) (stepped (step_in list (First path new)) trees) after made in
       let e = one_edit list (First path new) (λ t. refl) trees s.0 s.1 back had in
       let f = none_before new.node back e.ys e.are in
       puts more (new.node ∷ []) [] s.0 after (e.has ∙ ap Some (sym f.1)) s.2
@@ -94,14 +94,14 @@ module _ (list : CallRef) where
   puts (name ∷ more) (x ∷ front) back trees after had made =
       let new = written_source name in
       let n = length front in
-      let s = and-then-some (all_stepped (edits.inserted list (suc (suc n)) more)) (stepped (step_in list (After path n new)) trees) after made in
+      let s = and-then-some (all_stepped (edits.insertion_steps list (suc (suc n)) more)) (stepped (step_in list (After path n new)) trees) after made in
       let e = one_edit list (After path n new) (λ t. refl) trees s.0 s.1 (x ∷ (front ++ back)) had in
       let last = nth_last x front back in
       let put : inserted n new.node (x ∷ (front ++ back)) last.0 ≡ (x ∷ front ++ new.node ∷ []) ++ back =
       ap₂ (λ l m. x ∷ (l ++ new.node ∷ m)) (take_front front back) (drop_front front back) ∙ ap (λ l. x ∷ l) (sym (append_assoc front (new.node ∷ []) back)) in
       let are : e.ys ≡ (x ∷ front ++ new.node ∷ []) ++ back = some-injective _ _ (sym e.are ∙ ap (option_map (inserted n new.node (x ∷ (front ++ back)))) last.1) ∙ put in
       let longer : length (x ∷ front ++ new.node ∷ []) ≡ suc (suc n) = omega (arith, length-append front (new.node ∷ [])) in
-      puts more (x ∷ front ++ new.node ∷ []) back s.0 after (e.has ∙ ap Some are) (ap (λ m. all_stepped (edits.inserted list m more) s.0) longer ∙ s.2)
+      puts more (x ∷ front ++ new.node ∷ []) back s.0 after (e.has ∙ ap Some are) (ap (λ m. all_stepped (edits.insertion_steps list m more) s.0) longer ∙ s.2)
       ∙ ap (λ l. Some (x ∷ l)) (append_assoc front (new.node ∷ []) (strings more ++ back))
 
 -- ---- those without a name stand first
@@ -128,7 +128,7 @@ module _ (old : Loaded) (is : IsProject old) (c : CallRef) (h : Home (project ol
       let tree = erase h.there.file.tree in
       let q = plain_place h.there.file.tree path h.there.list h.there.is_list in
       let xs = elements q.place.list in
-      let level : LevelFile tree = (all_nth MayStand (plain_trees old) c.file tree (all_stand old is.parsed c) (tree_is old c h.there)).0 in
+      let level : LevelFile tree = (all_nth MayStandBetween (plain_trees old) c.file tree (all_stand old is.parsed c) (tree_is old c h.there)).0 in
       let low = (list-fits Nowhere tree path q.place q.is_place).level level in
       let no_pairs = values_no_pairs q.place.bracket (ap holds_values q.bracket ∙ h.values) in
       let order = in_order q.place.bracket no_pairs xs false (list_levels q.place.list q.place.bracket low) in
@@ -139,7 +139,7 @@ module _ (old : Loaded) (is : IsProject old) (c : CallRef) (h : Home (project ol
       record {
         elements = xs;
         had = had;
-        has = puts c names (filter is_plain xs) (filter not_plain xs) (plain_trees old) after (had ∙ ap Some order) (ap (λ n. all_stepped (edits.inserted c n names) (plain_trees old)) (sym count) ∙ made);
+        has = puts c names (filter is_plain xs) (filter not_plain xs) (plain_trees old) after (had ∙ ap Some order) (ap (λ n. all_stepped (edits.insertion_steps c n names) (plain_trees old)) (sym count) ∙ made);
         only = inserted_only c names (plain_len (project old) c) (plain_trees old) (plain_trees old) after (unchanged c (plain_trees old) xs had) made;
       }
 

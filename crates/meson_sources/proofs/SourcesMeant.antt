@@ -18,7 +18,7 @@ use Rattle.meson_calls.specs.Picking.{call_with}
 use Rattle.meson_sources.specs.Spots.{spots_of_names}
 use Rattle.meson_calls.specs.Sources.{sources_key, source_marks, home, once, or_call, or_option, first_list}
 use Rattle.meson_calls.specs.Sourced.{kept_args, all_gathered}
-use Rattle.meson_sources.specs.SourceEdits.{new_names, inserted, plain_len, spots_named, removed, distinct_spots, sources_added, sources_removed}
+use Rattle.meson_sources.specs.SourceEdits.{new_names, insertion_steps, plain_len, spots_named, removal_steps, distinct_spots, sources_added, sources_removed}
 use Rattle.meson_steps.specs.Names.{checked_names, distinct}
 use Rattle.meson_calls.specs.Tallies.{Tally}
 use Rattle.meson_steps.specs.Meanings.{AreMeant}
@@ -57,36 +57,36 @@ module _ (p : Project Span) (c : CallRef) (source : List ℕ) (l : rust.List) (f
   module _ (checked : checked_names names ≡ Ok tt) where
     pub added_twice : 1 < args → sources_added p it names ≡ Err (DuplicateKeyword sources_key)
     added_twice many =
-        let y = inserted (home c ms) (plain_len p (home c ms)) (new_names ms names) in
+        let y = insertion_steps (home c ms) (plain_len p (home c ms)) (new_names ms names) in
         ap (λ r. then_ok r (λ _. once sources_key (keyword sources_key it.it) y)) checked ∙ many_are y many
 
     pub removed_twice : 1 < args → sources_removed p it names ≡ Err (DuplicateKeyword sources_key)
     removed_twice many =
-        let rest = λ (marks : List (Mark Span)). then_ok (spots_named marks (distinct names)) (λ spots. Ok (removed (distinct_spots spots))) in
+        let rest = λ (marks : List (Mark Span)). then_ok (spots_named marks (distinct names)) (λ spots. Ok (removal_steps (distinct_spots spots))) in
         ap (λ r. then_ok r (λ _. then_ok (once sources_key (keyword sources_key it.it) ms) rest)) checked ∙ ap (λ r. then_ok r rest) (many_are ms many)
 
     module _ (few : args ≤ 1) (t : Tally) (is : t ≡ (all_gathered p max_followed c source (rust.out-List l).items).tally) where
       pub added : (place : CallRef) → place ≡ or_call c (or_option t.list t.vacant) → (n : ℕ) → n ≡ plain_len p place → (new : List (List ℕ)) → new ≡ new_among t.items names
-          → (steps : List ListStep) → map Some steps ≡ map bare (inserted place n new) → AreMeant (sources_added p it names) steps
+          → (steps : List ListStep) → map Some steps ≡ map bare (insertion_steps place n new) → AreMeant (sources_added p it names) steps
       added place is_place n is_n new is_new steps are =
           let f = fields t is in
-          let y = inserted (home c ms) (plain_len p (home c ms)) (new_names ms names) in
+          let y = insertion_steps (home c ms) (plain_len p (home c ms)) (new_names ms names) in
           let place_is = is_place ∙ ap (λ o. or_call c (or_option o t.vacant)) f.is_list ∙ ap (λ o. or_call c (or_option (first_list ms) o)) f.is_vacant in
           let new_is = is_new ∙ ap (λ xs. new_among xs names) f.are_items ∙ new_are ms names in
           record {
             steps = y;
             is = ap (λ r. then_ok r (λ _. once sources_key (keyword sources_key it.it) y)) checked ∙ few_are y few;
-            bare = sym (are ∙ ap (λ k. map bare (inserted place k new)) is_n ∙ ap (λ h. map bare (inserted h (plain_len p h) new)) place_is ∙ ap (λ ns. map bare (inserted (home c ms) (plain_len p (home c ms)) ns)) new_is);
+            bare = sym (are ∙ ap (λ k. map bare (insertion_steps place k new)) is_n ∙ ap (λ h. map bare (insertion_steps h (plain_len p h) new)) place_is ∙ ap (λ ns. map bare (insertion_steps (home c ms) (plain_len p (home c ms)) ns)) new_is);
           }
 
-      after_checks : sources_removed p it names ≡ then_ok (spots_of_names t.items t.numbers t.unknown (distinct names)) (λ spots. Ok (removed (distinct_spots spots)))
+      after_checks : sources_removed p it names ≡ then_ok (spots_of_names t.items t.numbers t.unknown (distinct names)) (λ spots. Ok (removal_steps (distinct_spots spots)))
       after_checks =
-          let rest = λ (marks : List (Mark Span)). then_ok (spots_named marks (distinct names)) (λ spots. Ok (removed (distinct_spots spots))) in
+          let rest = λ (marks : List (Mark Span)). then_ok (spots_named marks (distinct names)) (λ spots. Ok (removal_steps (distinct_spots spots))) in
           ap (λ r. then_ok r (λ _. then_ok (once sources_key (keyword sources_key it.it) ms) rest)) checked ∙ ap (λ r. then_ok r rest) (few_are ms few)
-          ∙ ap (λ r. then_ok r (λ spots. Ok (removed (distinct_spots spots)))) (sym (told_spots t ms (fields t is) (distinct names)))
+          ∙ ap (λ r. then_ok r (λ spots. Ok (removal_steps (distinct_spots spots)))) (sym (told_spots t ms (fields t is) (distinct names)))
 
-      pub gone : (steps : List ListStep) → AreMeant (then_ok (spots_of_names t.items t.numbers t.unknown (distinct names)) (λ spots. Ok (removed (distinct_spots spots)))) steps → AreMeant (sources_removed p it names) steps
+      pub gone : (steps : List ListStep) → AreMeant (then_ok (spots_of_names t.items t.numbers t.unknown (distinct names)) (λ spots. Ok (removal_steps (distinct_spots spots)))) steps → AreMeant (sources_removed p it names) steps
       gone steps meant = record { steps = meant.steps; is = after_checks ∙ meant.is; bare = meant.bare }
 
-      pub not_gone : (e : Refusal) → then_ok (spots_of_names t.items t.numbers t.unknown (distinct names)) (λ spots. Ok (removed (distinct_spots spots))) ≡ Err e → sources_removed p it names ≡ Err e
+      pub not_gone : (e : Refusal) → then_ok (spots_of_names t.items t.numbers t.unknown (distinct names)) (λ spots. Ok (removal_steps (distinct_spots spots))) ≡ Err e → sources_removed p it names ≡ Err e
       not_gone e refused = after_checks ∙ refused

@@ -5,7 +5,7 @@ use Rattle.meson_syntax.specs.Tree.{Nowhere, Plain, Argument, plain, string, era
 use Rattle.meson_edit.specs.Edits.{elements}
 use Rattle.meson_calls.specs.Loading.{Loaded, project}
 use Rattle.meson_steps.specs.Results.{plain_trees}
-use Rattle.meson_sources.specs.Renaming.{StandsIn, IsString}
+use Rattle.meson_sources.specs.Renaming.{IsElementAt, IsStringElement}
 use Rattle.meson_sources.specs.SourceEdits.{Spot}
 use Rattle.meson_sources.specs.Standings.{SpotStands}
 use Rattle.meson_steps.proofs.PlainTrees.{element_erased, plain_place, tree_there}
@@ -15,8 +15,8 @@ pub record StringIn (trees : List Plain) (s : Spot) : Type 0 where
   pub tree : Plain
   pub is_tree : nth trees s.list.file ≡ Some tree
   pub it : Argument Nowhere
-  pub stands : StandsIn tree s.list.path.steps s.number it
-  pub is_string : IsString it
+  pub stands : IsElementAt tree s.list.path.steps s.number it
+  pub is_string : IsStringElement it
 
 pub spot_in : (old : Loaded) (s : Spot) → SpotStands (project old) s → StringIn (plain_trees old) s
 spot_in old s there =

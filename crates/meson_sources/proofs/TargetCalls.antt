@@ -62,8 +62,8 @@ module _ (files : List File) (trees : List Parsed) (are : AreParsed files trees)
   at_place : expression_at p place ≡ Some stands.value
   at_place = subst (λ k. expression_at p k ≡ Some stands.value) place_is stands.is_at
 
-  in_file : (g : BuildFile Span) × (nth_file p place.file ≡ Some g) × (paths.expression_at g.tree place.path.steps ≡ Some stands.value)
-  in_file = and-then-some (λ (g : BuildFile Span). paths.expression_at g.tree place.path.steps) (nth_file p place.file) stands.value at_place
+  in_file : (g : BuildFile Span) × (nth_file p place.file ≡ Some g) × (paths.expression_on_path g.tree place.path.steps ≡ Some stands.value)
+  in_file = and-then-some (λ (g : BuildFile Span). paths.expression_on_path g.tree place.path.steps) (nth_file p place.file) stands.value at_place
 
   pub inside_trees : place.file < length trees
   inside_trees = some_within files trees place.file in_file.0 in_file.1
@@ -72,14 +72,14 @@ module _ (files : List File) (trees : List Parsed) (are : AreParsed files trees)
     abbrev f : tree.File Span
     f = view (bytes_at place.file files) (get_or trees place.file d)
 
-    value_is : paths.expression_at f place.path.steps ≡ Some stands.value
+    value_is : paths.expression_on_path f place.path.steps ≡ Some stands.value
     value_is =
-        sym (ap (option_and_then (λ (g : BuildFile Span). paths.expression_at g.tree place.path.steps)) (nth_there files trees place.file d (as_many files trees are) inside_trees)) ∙ at_place
+        sym (ap (option_and_then (λ (g : BuildFile Span). paths.expression_on_path g.tree place.path.steps)) (nth_there files trees place.file d (as_many files trees are) inside_trees)) ∙ at_place
 
-    pub some_value : None ≡ paths.expression_at f place.path.steps → ⊥
+    pub some_value : None ≡ paths.expression_on_path f place.path.steps → ⊥
     some_value none = let h = none ∙ value_is in cc
 
-    module _ (e : Expression Span) (is : Some e ≡ paths.expression_at f place.path.steps) where
+    module _ (e : Expression Span) (is : Some e ≡ paths.expression_on_path f place.path.steps) where
       same_value : stands.value ≡ e
       same_value = some-injective _ _ (sym (is ∙ value_is))
 

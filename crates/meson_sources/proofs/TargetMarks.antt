@@ -11,7 +11,7 @@ use Rattle.meson_syntax.proofs.PathNodes.{list-reached}
 use Rattle.meson_syntax.proofs.paths.Reaching.{and-then-some, map-some}
 use Rattle.meson_syntax.proofs.paths.Every.{Every, every-append}
 use Rattle.meson_edit.specs.Edits.{elements}
-use Rattle.meson_calls.specs.Calls.{Call, Numbered, numbered, arguments_of, value_without_name, value_with_name, kept_number, positional, keyword}
+use Rattle.meson_calls.specs.Calls.{Call, Numbered, numbered, numbered_arguments, value_without_name, value_with_name, kept_number, positional, keyword}
 use Rattle.meson_calls.specs.Expansion.{in_list, fixed}
 use Rattle.meson_calls.specs.Loading.{project}
 use Rattle.meson_calls.specs.Project.{Project, BuildFile, Placed, child, expression_at}
@@ -38,7 +38,7 @@ numbered_each choose Q (argument a more) n f = go (choose a) refl (numbered_each
     go (Some x) is all = let k : n + 0 ≡ n = omega arith in (subst (λ i. Q (record { number = i; value = x })) k (f 0 a x refl is), all)
 
 listed_each : (choose : Argument Span → Option (Expression Span)) (Q : Numbered (Expression Span) → Type 0) (l : Listing Span)
-    → ((j : ℕ) (a : Argument Span) (x : Expression Span) → nth (elements l) j ≡ Some a → choose a ≡ Some x → Q (record { number = j; value = x })) → Every Q (filter_map (kept_number choose) (arguments_of l))
+    → ((j : ℕ) (a : Argument Span) (x : Expression Span) → nth (elements l) j ≡ Some a → choose a ≡ Some x → Q (record { number = j; value = x })) → Every Q (filter_map (kept_number choose) (numbered_arguments l))
 listed_each choose Q (listing s trailing list) f =
     numbered_each choose Q list 0 (λ j a x is chosen. let k : j ≡ 0 + j = omega arith in subst (λ i. Q (record { number = i; value = x })) k (f j a x is chosen))
 
@@ -73,7 +73,7 @@ module _ (p : Project Span) (levels : AreLevel p) (c : Placed (Call Span)) (t : 
       record {
         value = at.node;
         list = at.inner;
-        is_at = ap (option_and_then (λ (g : BuildFile Span). paths.expression_at g.tree path)) t.there.is_file ∙ at.is_node;
+        is_at = ap (option_and_then (λ (g : BuildFile Span). paths.expression_on_path g.tree path)) t.there.is_file ∙ at.is_node;
         is_list = at.is_inner;
         same = at.list ∙ t.is_list;
         none = ap holds_pairs (at.bracket ∙ t.is_round);

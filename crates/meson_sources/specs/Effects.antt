@@ -2,9 +2,9 @@
 use Rattle.std.specs.Prelude.{◌≡◌, ℕ, zero, suc, Bool, true, false, not, ◌&&◌, if◌then◌else◌, List, [], ◌∷◌, ◌++◌, length, map, Option, Some, None, Ok, option_and_then, option_map}
 use Rattle.std.specs.List.{AllByRecursion, filter, list_any}
 use Rattle.meson_lex.specs.declared.kinds.Span.{Span}
-use Rattle.meson_syntax.specs.Parts.{Any, an_expression, a_block, node_at, parts}
+use Rattle.meson_syntax.specs.Parts.{Any, an_expression, a_block, node_at, child_nodes}
 use Rattle.meson_syntax.specs.Paths.{ListAt, block_of, list_at, nth, value_of}
-use Rattle.meson_syntax.specs.Tree.{bare, Nowhere, Plain, Expression, array, string, Listing, listing, Argument, plain, named, arguments_of}
+use Rattle.meson_syntax.specs.Tree.{bare_name, Nowhere, Plain, Expression, array, string, Listing, listing, Argument, plain, named, arguments_of}
 use Rattle.meson_edit.specs.Edits.{elements, with_value}
 use Rattle.meson_calls.specs.declared.call.CallRef.{CallRef}
 use Rattle.meson_calls.specs.declared.call.Role.TheVariants as role
@@ -60,7 +60,7 @@ array_holding xs = array (listing tt false (arguments_of xs))
 
 -- `extra_files: ['NAME', ..]`
 abbrev pub extra_argument : List (List ℕ) → Argument Nowhere
-extra_argument names = named tt (bare extra_key) (array_holding (strings names))
+extra_argument names = named tt (bare_name extra_key) (array_holding (strings names))
 
 -- The call has its arguments in their order, and this one behind them; and all else is as it was.
 pub record ArgumentComes (c : CallRef) (new : Argument Nowhere) (before after : List Plain) : Type 0 where
@@ -106,7 +106,7 @@ ExtraIsAdded = (old : Loaded) → IsProject old → (id : List ℕ) (c : Placed 
 
 -- the children of what stands at a place: of an array its elements, of a call the values of its arguments
 abbrev pub children_found : CallRef → List Plain → Option (List (Any Nowhere))
-children_found c trees = option_and_then (λ t. option_map parts (node_at (a_block (block_of t)) c.path.steps)) (nth trees c.file)
+children_found c trees = option_and_then (λ t. option_map child_nodes (node_at (a_block (block_of t)) c.path.steps)) (nth trees c.file)
 
 -- a child that is a string
 abbrev pub string_child : Any Nowhere → Option (Expression Nowhere)
@@ -118,18 +118,18 @@ abbrev pub but : {X : Type 0} → (ℕ → Bool) → List X → List X
 but gone [] = []
 but gone (x ∷ xs) = if gone 0 then but (λ n. gone (suc n)) xs else x ∷ but (λ n. gone (suc n)) xs
 
-abbrev pub spot_at : CallRef → ℕ → Spot
-spot_at c n = record { list = c; number = n }
+abbrev pub spot_of_child : CallRef → ℕ → Spot
+spot_of_child c n = record { list = c; number = n }
 
 -- whether the child of this number is one of those that go
 abbrev pub goes : List Spot → CallRef → ℕ → Bool
-goes spots c n = list_any (λ s. same_spot s (spot_at c n)) spots
+goes spots c n = list_any (λ s. same_spot s (spot_of_child c n)) spots
 
 -- where a place is after so many of these spots have gone
 abbrev pub place_after : ℕ → List Spot → CallRef → CallRef
 place_after zero spots c = c
 place_after (suc left) [] c = c
-place_after (suc left) (s ∷ more) c = place_after left (spots_after s more) (spot_after s (spot_at c 0)).list
+place_after (suc left) (s ∷ more) c = place_after left (spots_after s more) (spot_after s (spot_of_child c 0)).list
 
 -- Of these children the strings at the spots are gone. All others stay in their order, and each that is a string is as it was.
 pub record OnlyTheseGo (spots : List Spot) (c : CallRef) (children : List (Any Nowhere)) (after : List Plain) : Type 0 where
@@ -159,15 +159,15 @@ abbrev pub NoneIn : List Spot → CallRef → Type 0
 NoneIn spots c = AllByRecursion (λ s. (rest : List ℕ) → s.list.file ≡ c.file → s.list.path.steps ≡ c.path.steps ++ rest → ⊥) spots
 
 -- All else in which nothing goes is as it was, where its place has moved to.
-abbrev pub OthersStay : List Spot → (before after : List Plain) → Type 0
-OthersStay spots before after = (c : CallRef) (x : Any Nowhere) → node_found c before ≡ Some x → string_child x ≡ None → NoneIn spots c → node_found (place_after (length spots) spots c) after ≡ Some x
+abbrev pub AllElseStays : List Spot → (before after : List Plain) → Type 0
+AllElseStays spots before after = (c : CallRef) (x : Any Nowhere) → node_found c before ≡ Some x → string_child x ≡ None → NoneIn spots c → node_found (place_after (length spots) spots c) after ≡ Some x
 
 abbrev pub has_one_of : List (List ℕ) → Item Span → Bool
 has_one_of names i = list_any (λ name. has_text name i) names
 
 -- whether what has the slot stands at the spot
 abbrev pub is_at : Spot → Slot → Bool
-is_at s (in_list c n) = same_spot s (spot_at c n)
+is_at s (in_list c n) = same_spot s (spot_of_child c n)
 is_at s fixed = false
 
 -- Each of the items that has one of these names stands at one of the spots, and at each spot stands such an item.
@@ -182,7 +182,7 @@ pub record NamesGo (marks : List (Mark Span)) (names : List (List ℕ)) (before 
   pub of_names : AreSpotsOf (items marks) (distinct names) spots
   pub lists : ListsLose (distinct_spots spots) before after
   pub gone : StringsGo (distinct_spots spots) before after
-  pub others : OthersStay (distinct_spots spots) before after
+  pub others : AllElseStays (distinct_spots spots) before after
 
 -- the laws: of the target's sources, or of its extra files, those that are named are gone from all lists that held them, and nothing else is
 abbrev pub SourcesAreRemoved : Type 0

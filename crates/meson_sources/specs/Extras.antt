@@ -6,12 +6,12 @@ use Rattle.meson_calls.specs.declared.call.Sources.{Sources}
 use Rattle.meson_calls.specs.declared.refusal.Refusal.{Refusal}
 use Rattle.meson_calls.specs.Project.{Project, Placed}
 use Rattle.meson_calls.specs.Calls.{Call, keyword}
-use Rattle.meson_calls.specs.Sources.{answer, call_at, once}
+use Rattle.meson_calls.specs.Sources.{sources_of_marks, call_at, once}
 use Rattle.meson_sources.specs.SourceEdits.{extra_key, extra_marks}
 
 -- A call with the keyword twice is refused. Where no list is met, a further file goes into the call.
 abbrev pub extra_of_call : Project Span → Placed (Call Span) → Result Sources Refusal
-extra_of_call p c = once extra_key (keyword extra_key c.it) (answer c.place (extra_marks p c))
+extra_of_call p c = once extra_key (keyword extra_key c.it) (sources_of_marks c.place (extra_marks p c))
 
 -- those of the target at that place
 abbrev pub extra_files : Project Span → CallRef → Option (Result Sources Refusal)

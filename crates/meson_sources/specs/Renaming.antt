@@ -8,13 +8,13 @@ use Rattle.meson_edit.specs.Edits.{Remove, elements, edited}
 use Rattle.meson_sources.specs.SourceEdits.{moved_up, path_after, is_path}
 
 -- The element of this number in the list that the path names is this one.
-pub record StandsIn (t : Plain) (path : List ℕ) (n : ℕ) (it : Argument Nowhere) : Type 0 where
+pub record IsElementAt (t : Plain) (path : List ℕ) (n : ℕ) (it : Argument Nowhere) : Type 0 where
   pub place : ListAt Nowhere
   pub is_place : list_at t path ≡ Some place
   pub is_element : nth (elements place.list) n ≡ Some it
 
 -- an element that is a string
-pub record IsString (it : Argument Nowhere) : Type 0 where
+pub record IsStringElement (it : Argument Nowhere) : Type 0 where
   pub kind : StringKind
   pub text : List ℕ
   pub is : it ≡ plain (string tt kind text)
@@ -26,6 +26,6 @@ number_after list gone path n = if is_path list path then moved_up gone n else n
 -- A string that goes moves each other string to its new spot, and to no other.
 abbrev pub RemovalsRename : Type 0
 RemovalsRename =
-    (t now : Plain) → LevelFile t → (list : List ℕ) (gone : ℕ) (it : Argument Nowhere) → StandsIn t list gone it → IsString it → edited (Remove list gone) t ≡ Some now
-    → (path : List ℕ) (n : ℕ) (other : Argument Nowhere) → StandsIn t path n other → IsString other → ((list ≡ path) × (gone ≡ n) → ⊥)
-    → StandsIn now (path_after list gone path) (number_after list gone path n) other
+    (t now : Plain) → LevelFile t → (list : List ℕ) (gone : ℕ) (it : Argument Nowhere) → IsElementAt t list gone it → IsStringElement it → edited (Remove list gone) t ≡ Some now
+    → (path : List ℕ) (n : ℕ) (other : Argument Nowhere) → IsElementAt t path n other → IsStringElement other → ((list ≡ path) × (gone ≡ n) → ⊥)
+    → IsElementAt now (path_after list gone path) (number_after list gone path n) other

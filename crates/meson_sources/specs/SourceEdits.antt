@@ -4,7 +4,7 @@ use Rattle.std.specs.Prelude.{ℕ, zero, suc, ◌-◌, Bool, true, false, not, �
 use Rattle.std.specs.List.{filter, list_any}
 use Rattle.meson_lex.specs.Literals.{literal}
 use Rattle.meson_splice.specs.Patch.{then_ok}
-use Rattle.meson_syntax.specs.Tree.{bare as bare_name, Nowhere, Expression, array, listing, Argument, plain, named, pair, arguments_of}
+use Rattle.meson_syntax.specs.Tree.{bare_name, Nowhere, Expression, array, listing, Argument, plain, named, pair, arguments_of}
 use Rattle.meson_syntax.specs.Paths.{ListIn, list_in}
 use Rattle.meson_edit.specs.Edits.{Written, First, After, Remove, Wrap, elements}
 use Rattle.meson_calls.specs.declared.call.CallRef.{CallRef}
@@ -43,10 +43,10 @@ abbrev pub written_source : List ℕ → Written (Argument Nowhere)
 written_source name = record { bytes = literal name; node = plain (string_of name) }
 
 -- one behind the other, into a list with so many elements without a name, behind the last of these
-abbrev pub inserted : CallRef → ℕ → List (List ℕ) → List Step
-inserted list n [] = []
-inserted list zero (name ∷ more) = step_in list (First list.path.steps (written_source name)) ∷ inserted list 1 more
-inserted list (suc n) (name ∷ more) = step_in list (After list.path.steps n (written_source name)) ∷ inserted list (suc (suc n)) more
+abbrev pub insertion_steps : CallRef → ℕ → List (List ℕ) → List Step
+insertion_steps list n [] = []
+insertion_steps list zero (name ∷ more) = step_in list (First list.path.steps (written_source name)) ∷ insertion_steps list 1 more
+insertion_steps list (suc n) (name ∷ more) = step_in list (After list.path.steps n (written_source name)) ∷ insertion_steps list (suc (suc n)) more
 
 abbrev pub is_plain : {S : Type 0} → Argument S → Bool
 is_plain (plain e) = true
@@ -65,7 +65,7 @@ abbrev pub plain_len : {S : Type 0} → Project S → CallRef → ℕ
 plain_len p list = length (filter is_plain (elements_there p list))
 
 abbrev pub inserted_in : {S : Type 0} → Project S → CallRef → List (List ℕ) → List Step
-inserted_in p list names = inserted list (plain_len p list) names
+inserted_in p list names = insertion_steps list (plain_len p list) names
 
 -- ---- removal
 
@@ -136,8 +136,8 @@ removed_by zero spots = []
 removed_by (suc left) [] = []
 removed_by (suc left) (s ∷ more) = step_in s.list (Remove s.list.path.steps s.number) ∷ removed_by left (spots_after s more)
 
-abbrev pub removed : List Spot → List Step
-removed spots = removed_by (length spots) spots
+abbrev pub removal_steps : List Spot → List Step
+removal_steps spots = removed_by (length spots) spots
 
 -- each spot once
 abbrev pub same_spot : Spot → Spot → Bool
@@ -158,7 +158,7 @@ sources_added p c names =
 
 abbrev pub sources_removed : {S : Type 0} → Project S → Placed (Call S) → List (List ℕ) → Result (List Step) Refusal
 sources_removed p c names =
-    then_ok (checked_names names) (λ _. then_ok (once sources_key (keyword sources_key c.it) (source_marks p c)) (λ marks. then_ok (spots_named marks (distinct names)) (λ spots. Ok (removed (distinct_spots spots)))))
+    then_ok (checked_names names) (λ _. then_ok (once sources_key (keyword sources_key c.it) (source_marks p c)) (λ marks. then_ok (spots_named marks (distinct names)) (λ spots. Ok (removal_steps (distinct_spots spots)))))
 
 -- ---- extra files
 
@@ -177,16 +177,16 @@ written_keyword name = record { bytes = extra_key ++ (codes ": [" ++ (literal na
 abbrev pub into_new_list : {S : Type 0} → Project S → CallRef → List (List ℕ) → List Step
 into_new_list p c [] = []
 into_new_list p c (name ∷ more) =
-    step_in c (After c.path.steps (length (elements_there p c) - 1) (written_keyword name)) ∷ inserted (child c (length (elements_there p c))) 1 more
+    step_in c (After c.path.steps (length (elements_there p c) - 1) (written_keyword name)) ∷ insertion_steps (child c (length (elements_there p c))) 1 more
 
 -- A lone literal is wrapped first. No other value can be changed.
 abbrev pub behind_value : CallRef → ℕ → Option (List ℕ) → List (List ℕ) → Result (List Step) Refusal
 behind_value c n None names = Err (NotLiteral extra_key)
-behind_value c n (Some text) names = Ok (step_in c (Wrap c.path.steps n) ∷ inserted (child c n) 1 names)
+behind_value c n (Some text) names = Ok (step_in c (Wrap c.path.steps n) ∷ insertion_steps (child c n) 1 names)
 
 abbrev pub without_home : {S : Type 0} → Project S → CallRef → List (Numbered (Expression S)) → List (List ℕ) → Result (List Step) Refusal
 without_home p c [] names = Ok (into_new_list p c names)
-without_home p c (v ∷ more) names = behind_value c v.number (calls.literal v.value) names
+without_home p c (v ∷ more) names = behind_value c v.number (calls.literal_of v.value) names
 
 -- into the list of the first item that stands in one, or the first list that holds nothing
 abbrev pub extra_inserted : {S : Type 0} → Project S → Placed (Call S) → Option CallRef → List (List ℕ) → Result (List Step) Refusal
@@ -202,4 +202,4 @@ abbrev pub extra_added : {S : Type 0} → Project S → Placed (Call S) → List
 extra_added p c names = then_ok (checked_extra p c names) (λ marks. extra_inserted p c (or_option (first_list marks) (first_empty marks)) (new_names marks names))
 
 abbrev pub extra_removed : {S : Type 0} → Project S → Placed (Call S) → List (List ℕ) → Result (List Step) Refusal
-extra_removed p c names = then_ok (checked_extra p c names) (λ marks. then_ok (spots_named marks (distinct names)) (λ spots. Ok (removed (distinct_spots spots))))
+extra_removed p c names = then_ok (checked_extra p c names) (λ marks. then_ok (spots_named marks (distinct names)) (λ spots. Ok (removal_steps (distinct_spots spots))))

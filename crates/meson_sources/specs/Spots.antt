@@ -15,14 +15,14 @@ spot_view s = record { list = place s.file s.list.items; number = s.number }
 -- ---- spots of a name
 
 -- the spot of a list and a number, if both are there
-abbrev pub spot_at : Option CallRef → Option ℕ → Option Spot
-spot_at None number = None
-spot_at (Some list) None = None
-spot_at (Some list) (Some number) = Some (record { list = list; number = number })
+abbrev pub spot_if_there : Option CallRef → Option ℕ → Option Spot
+spot_if_there None number = None
+spot_if_there (Some list) None = None
+spot_if_there (Some list) (Some number) = Some (record { list = list; number = number })
 
 -- those of the items of a name
 abbrev pub spots_at : List ℕ → List SourceItem → List (Option ℕ) → List (Option Spot)
-spots_at name (i ∷ items) (n ∷ numbers) = if has_value name i then spot_at i.list n ∷ spots_at name items numbers else spots_at name items numbers
+spots_at name (i ∷ items) (n ∷ numbers) = if has_value name i then spot_if_there i.list n ∷ spots_at name items numbers else spots_at name items numbers
 spots_at name _ _ = []
 
 -- all of them, if all are there
@@ -52,8 +52,8 @@ after_each after (g ∷ gone) s = after_each after gone (after g s)
 abbrev pub before_all : List Spot → Option (List Spot) → Option (List Spot)
 before_all first more = option_map (λ later. first ++ later) more
 
-abbrev pub behind_all : List Spot → Result (List Spot) Refusal → Result (List Spot) Refusal
-behind_all first more = then_ok more (λ later. Ok (first ++ later))
+abbrev pub joined_spots : List Spot → Result (List Spot) Refusal → Result (List Spot) Refusal
+joined_spots first more = then_ok more (λ later. Ok (first ++ later))
 
 abbrev pub is_some_there : List (Option Spot) → Bool
 is_some_there [] = false

@@ -14,7 +14,7 @@ use Rattle.meson_calls.specs.Project.{Project, Placed}
 use Rattle.meson_calls.specs.Calls.{Call, first_argument}
 use Rattle.meson_calls.specs.Expansion.{Slot, in_list, fixed, Mark, known, opaque, empty}
 use Rattle.meson_calls.specs.Sources.{source_marks}
-use Rattle.meson_sources.specs.SourceEdits.{Spot, distinct_spots, removed, extra_marks, sources_added, sources_removed, extra_added, extra_removed}
+use Rattle.meson_sources.specs.SourceEdits.{Spot, distinct_spots, removal_steps, extra_marks, sources_added, sources_removed, extra_added, extra_removed}
 use Rattle.meson_calls.specs.Finding.{the_call}
 use Rattle.meson_calls.specs.Loading.{Loaded, AreParsed, project}
 use Rattle.meson_calls.specs.CallPlaces.{ListThere}
@@ -74,7 +74,7 @@ ExtrasStand = (old : Loaded) → AreParsed old.files old.parsed → (c : Placed 
 -- ---- what may be done
 
 abbrev pub RemovalsDoable : Type 0
-RemovalsDoable = (old : Loaded) → AreParsed old.files old.parsed → (spots : List Spot) → All (SpotStands (project old)) spots → AreDoable (removed (distinct_spots spots)) (plain_trees old)
+RemovalsDoable = (old : Loaded) → AreParsed old.files old.parsed → (spots : List Spot) → All (SpotStands (project old)) spots → AreDoable (removal_steps (distinct_spots spots)) (plain_trees old)
 
 -- a command whose steps may be done, by what its call holds
 abbrev pub MayBeDone : (Project Span → Placed (Call Span) → List (Mark Span)) → (Project Span → Placed (Call Span) → List (List ℕ) → Result (List Step) Refusal) → Type 0

@@ -16,7 +16,7 @@ use Rattle.meson_calls.specs.declared.call.Role.TheVariants as role
 use Rattle.meson_calls.specs.Project.{Project, Placed, child}
 use Rattle.meson_calls.specs.Finding.{the_call}
 use Rattle.meson_steps.specs.Steps.{step_in}
-use Rattle.meson_sources.specs.SourceEdits.{extra_key, written_keyword, inserted, behind_value, sources_added, sources_removed, extra_added, extra_removed}
+use Rattle.meson_sources.specs.SourceEdits.{extra_key, written_keyword, insertion_steps, behind_value, sources_added, sources_removed, extra_added, extra_removed}
 use Rattle.meson_calls.specs.Sourced.{kept_args, arguments_by}
 use Rattle.meson_steps.specs.Steps.{Step}
 use Rattle.meson_calls.specs.Tallies.{Gathered, expanded, no_marks}
@@ -40,9 +40,9 @@ target_steps p target change names = then_ok (the_call p role.Target target) (ch
 -- the first into a new list behind so many arguments, and the others behind it
 abbrev pub new_list_steps : CallRef → ℕ → List (List ℕ) → List Step
 new_list_steps c n [] = []
-new_list_steps c n (name ∷ more) = step_in c (After c.path.steps (n - 1) (written_keyword name)) ∷ inserted (child c n) 1 more
+new_list_steps c n (name ∷ more) = step_in c (After c.path.steps (n - 1) (written_keyword name)) ∷ insertion_steps (child c n) 1 more
 
 abbrev pub lone_or_new : {S : Type 0} → CallRef → ℕ → List (Numbered (Expression S)) → List (List ℕ) → Result (List Step) Refusal
 lone_or_new c n values [] = Ok []
 lone_or_new c n [] (name ∷ more) = Ok (new_list_steps c n (name ∷ more))
-lone_or_new c n (v ∷ values) (name ∷ more) = behind_value c v.number (calls.literal v.value) (name ∷ more)
+lone_or_new c n (v ∷ values) (name ∷ more) = behind_value c v.number (calls.literal_of v.value) (name ∷ more)

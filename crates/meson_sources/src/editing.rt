@@ -10,7 +10,7 @@ ghost use Rattle.meson_calls.specs.Loading.{AreParsed};
 ghost use Rattle.meson_calls.specs.Named.{AreVariables, project_of};
 ghost use Rattle.meson_calls.specs.Picking.{Source, call_with};
 ghost use Rattle.meson_calls.specs.Project.{placed};
-ghost use Rattle.meson_sources.specs.SourceEdits.{inserted, is_plain, plain_len, sources_added, sources_removed};
+ghost use Rattle.meson_sources.specs.SourceEdits.{insertion_steps, is_plain, plain_len, sources_added, sources_removed};
 ghost use Rattle.meson_calls.specs.Sourced.{kept_args};
 ghost use Rattle.meson_steps.specs.ListSteps.{bare};
 ghost use Rattle.meson_steps.specs.Meanings.{AreMeant};
@@ -68,7 +68,7 @@ pub(crate) fn insertions(
     names: &[&Text],
 ) -> Result<Vec<ListStep>, Refusal>
     requires { AreParsed variables.now.files.now variables.now.trees.now }
-    ensures done { IfOk result (λ steps. map Some steps.items ≡ map bare (inserted list.now (plain_len (project_of variables.now) list.now) (map (λ x. x.now) names.now))) }
+    ensures done { IfOk result (λ steps. map Some steps.items ≡ map bare (insertion_steps list.now (plain_len (project_of variables.now) list.now) (map (λ x. x.now) names.now))) }
     ensures refused { IfErr result (λ e. e ≡ Refusal.OutOfMemory) }
 {
     let mut steps = Vec::new(variables.alloc);

@@ -5,7 +5,7 @@ ghost use Rattle.std.specs.Str.{IsUtf8};
 ghost use Rattle.meson_lex.specs.Literals as lex;
 ghost use Rattle.meson_syntax.specs.Grammar.{expression_words};
 ghost use Rattle.meson_syntax.specs.View.{expr_view, list_view};
-ghost use Rattle.meson_calls.specs.Calls.{literal, value_with_name};
+ghost use Rattle.meson_calls.specs.Calls.{literal_of, value_with_name};
 ghost use Rattle.meson_calls.specs.Expansion.{max_followed};
 ghost use Rattle.meson_calls.specs.GoodLists.{GoodArgs, GoodListing};
 ghost use Rattle.meson_steps.specs.ListSteps.{bare};
@@ -148,8 +148,8 @@ fn behind_value(
     steps: &mut Vec<ListStep>,
 ) -> Result<(), Refusal>
     requires { AreGood (expression_words (expr_view source.now value.now)) }
-    ensures done { OnOk result (AreBehind (behind_value call.now number (literal (expr_view source.now value.now)) (map (λ x. x.now) names.now)) steps.old.items steps.new.items) }
-    ensures refused { IfErr result (λ e. e ≢ Refusal.OutOfMemory → behind_value call.now number (literal (expr_view source.now value.now)) (map (λ x. x.now) names.now) ≡ Err e) }
+    ensures done { OnOk result (AreBehind (behind_value call.now number (literal_of (expr_view source.now value.now)) (map (λ x. x.now) names.now)) steps.old.items steps.new.items) }
+    ensures refused { IfErr result (λ e. e ≢ Refusal.OutOfMemory → behind_value call.now number (literal_of (expr_view source.now value.now)) (map (λ x. x.now) names.now) ≡ Err e) }
 {
     match literal(alloc, source, value)? {
         Some(_) => {}

@@ -4,7 +4,7 @@ ghost use Rattle.std.specs.Prelude.{◌≡◌, ◌<◌, ◌^◌, ◌++◌, IfErr
 ghost use Rattle.std.specs.List.{list_any};
 ghost use Rattle.meson_steps.specs.ListSteps.{bare};
 ghost use Rattle.meson_sources.specs.Naming.{has_value, new_among};
-ghost use Rattle.meson_sources.specs.SourceEdits.{inserted};
+ghost use Rattle.meson_sources.specs.SourceEdits.{insertion_steps};
 ghost use Rattle.meson_steps.specs.Names.{distinct};
 
 use meson_calls::marks::Marks;
@@ -69,7 +69,7 @@ pub(crate) fn insert(
     steps: &mut Vec<ListStep>,
 ) -> Result<(), Refusal>
     requires { from < 2 ^ 63 }
-    ensures done { OnOk result (map Some steps.new.items ≡ map Some steps.old.items ++ map bare (inserted list.now from (map (λ x. x.now) names.now))) }
+    ensures done { OnOk result (map Some steps.new.items ≡ map Some steps.old.items ++ map bare (insertion_steps list.now from (map (λ x. x.now) names.now))) }
     ensures refused { IfErr result (λ e. e ≡ Refusal.OutOfMemory) }
 {
     for i in 0..names.len() {

@@ -6,8 +6,8 @@ ghost use Rattle.meson_splice.specs.Patch.{then_ok};
 ghost use Rattle.meson_steps.specs.ListSteps.{bare};
 ghost use Rattle.meson_steps.specs.Meanings.{AreMeant};
 ghost use Rattle.meson_steps.specs.Names.{distinct};
-ghost use Rattle.meson_sources.specs.Spots.{after_each, all_there, before_all, is_some_there, spot_at, spot_view, spots_at, spots_of_names};
-ghost use Rattle.meson_sources.specs.SourceEdits.{distinct_spots, moved_up, path_after, removed, same_spot, spot_after};
+ghost use Rattle.meson_sources.specs.Spots.{after_each, all_there, before_all, is_some_there, spot_if_there, spot_view, spots_at, spots_of_names};
+ghost use Rattle.meson_sources.specs.SourceEdits.{distinct_spots, moved_up, path_after, removal_steps, same_spot, spot_after};
 
 use meson_calls::marks::Marks;
 use meson_calls::place::place_of;
@@ -109,7 +109,7 @@ fn distinct_spots<'s>(alloc: Global, found: &'s [Spot]) -> Result<Vec<&'s Spot>,
 
 /// The steps by which elements go one after the other, each from where it stands then.
 fn removals(alloc: Global, spots: &[&Spot]) -> Result<Vec<ListStep>, AllocError>
-    ensures { IfOk result (λ steps. map Some steps.items ≡ map bare (removed (map (λ x. spot_view x.now) spots.now))) }
+    ensures { IfOk result (λ steps. map Some steps.items ≡ map bare (removal_steps (map (λ x. spot_view x.now) spots.now))) }
 {
     let mut done = Vec::new(alloc);
     let mut steps = Vec::new(alloc);
@@ -126,7 +126,7 @@ fn removals(alloc: Global, spots: &[&Spot]) -> Result<Vec<ListStep>, AllocError>
 
 /// The steps by which the elements at these spots go, each once.
 pub(crate) fn removed(alloc: Global, spots: &[Spot]) -> Result<Vec<ListStep>, AllocError>
-    ensures { IfOk result (λ steps. map Some steps.items ≡ map bare (removed (distinct_spots (map spot_view spots.now)))) }
+    ensures { IfOk result (λ steps. map Some steps.items ≡ map bare (removal_steps (distinct_spots (map spot_view spots.now)))) }
 {
     let all = distinct_spots(alloc, spots)?;
     removals(alloc, all.as_slice())
@@ -138,7 +138,7 @@ fn spot_of(
     list: &Option<CallRef>,
     number: Option<usize>,
 ) -> Result<Option<Spot>, AllocError>
-    ensures { IfOk result (λ spot. option_map spot_view spot ≡ spot_at list.now number) }
+    ensures { IfOk result (λ spot. option_map spot_view spot ≡ spot_if_there list.now number) }
 {
     match (list, number) {
         (Some(place), Some(number)) => {
@@ -226,8 +226,8 @@ pub(crate) fn names_removed(
     names: &[Text],
 ) -> Result<Vec<ListStep>, Refusal>
     requires { length marks.now.numbers.items ≡ length marks.now.items.items }
-    ensures meant { IfOk result (λ steps. AreMeant (then_ok (spots_of_names marks.now.items.items marks.now.numbers.items (length marks.now.unknown.items) (distinct names.now)) (λ spots. Ok (removed (distinct_spots spots)))) steps.items) }
-    ensures refused { IfErr result (λ e. e ≢ Refusal.OutOfMemory → then_ok (spots_of_names marks.now.items.items marks.now.numbers.items (length marks.now.unknown.items) (distinct names.now)) (λ spots. Ok (removed (distinct_spots spots))) ≡ Err e) }
+    ensures meant { IfOk result (λ steps. AreMeant (then_ok (spots_of_names marks.now.items.items marks.now.numbers.items (length marks.now.unknown.items) (distinct names.now)) (λ spots. Ok (removal_steps (distinct_spots spots)))) steps.items) }
+    ensures refused { IfErr result (λ e. e ≢ Refusal.OutOfMemory → then_ok (spots_of_names marks.now.items.items marks.now.numbers.items (length marks.now.unknown.items) (distinct names.now)) (λ spots. Ok (removal_steps (distinct_spots spots))) ≡ Err e) }
 {
     let names = distinct(alloc, names)?;
     let spots = spots_of(alloc, marks, names.as_slice())?;

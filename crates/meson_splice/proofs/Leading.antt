@@ -3,7 +3,7 @@ use Rattle.std.proofs.Common.{◌≡◌, ◌∙◌, ℕ, zero, suc, ◌<◌, Boo
 use Rattle.std.specs.Prelude.{bytes_eq}
 use Rattle.std.proofs.lemmas.List.Quantifiers.{position-Some}
 use Rattle.std.proofs.lemmas.Slice.Eq.{bytes_eq-Decides}
-use Rattle.meson_splice.specs.Files.{bytes_at, found, with_bytes}
+use Rattle.meson_splice.specs.Files.{bytes_at, position_of_file, with_bytes}
 use Rattle.meson_splice.specs.Gap.{LeadsTo, StopsBy}
 use Rattle.meson_splice.specs.Patch.{patched, patched_all, patched_in, then_ok}
 use Rattle.meson_splice.specs.declared.fault.SpliceFault.{SpliceFault}
@@ -32,7 +32,7 @@ bytes-with_bytes (f ∷ files) zero b within = refl
 bytes-with_bytes (f ∷ files) (suc i) b within = bytes-with_bytes files i b (omega arith)
 
 -- a splice at the file that is found, whatever its bytes are
-patched_in-with_bytes : (files : List File) (s : Splice) (i : ℕ) (b : List ℕ) → found s.file files ≡ Some i
+patched_in-with_bytes : (files : List File) (s : Splice) (i : ℕ) (b : List ℕ) → position_of_file s.file files ≡ Some i
     → patched_in (with_bytes i b files) s ≡ then_ok (patched b s) (λ c. Ok (with_bytes i c files))
 patched_in-with_bytes files s i b h =
     let at = position-Some (λ f. bytes_eq f.name s.file) files i nobody h in
@@ -53,7 +53,7 @@ leads-more file b c d splices left more s so_far first same done = record {
   alike = λ files i h.
       so_far.alike files i h
       ∙ ap (patched_all (with_bytes i c files)) first
-      ∙ ap (λ r. then_ok r (λ fs. patched_all fs more)) (patched_in-with_bytes files s i c (ap (λ name. found name files) same ∙ h) ∙ ap (λ r. then_ok r (λ x. Ok (with_bytes i x files))) done);
+      ∙ ap (λ r. then_ok r (λ fs. patched_all fs more)) (patched_in-with_bytes files s i c (ap (λ name. position_of_file name files) same ∙ h) ∙ ap (λ r. then_ok r (λ x. Ok (with_bytes i x files))) done);
 }
 
 pub leads-refused : (file b c : List ℕ) (splices left more : List Splice) (s : Splice) (e : SpliceFault) → LeadsTo file b splices c left → left ≡ s ∷ more → s.file ≡ file → patched c s ≡ Err e
@@ -62,7 +62,7 @@ leads-refused file b c splices left more s e so_far first same refused = record 
   refused = λ files i h.
       so_far.alike files i h
       ∙ ap (patched_all (with_bytes i c files)) first
-      ∙ ap (λ r. then_ok r (λ fs. patched_all fs more)) (patched_in-with_bytes files s i c (ap (λ name. found name files) same ∙ h) ∙ ap (λ r. then_ok r (λ x. Ok (with_bytes i x files))) refused);
+      ∙ ap (λ r. then_ok r (λ fs. patched_all fs more)) (patched_in-with_bytes files s i c (ap (λ name. position_of_file name files) same ∙ h) ∙ ap (λ r. then_ok r (λ x. Ok (with_bytes i x files))) refused);
 }
 
 -- ---- names

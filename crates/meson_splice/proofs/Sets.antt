@@ -4,7 +4,7 @@ use Rattle.std.specs.Prelude.{slice_set, bytes_eq, nat_lt}
 use Rattle.std.proofs.lemmas.Bool.Decides.{nat_tests}
 use Rattle.std.proofs.lemmas.List.Quantifiers.{all_pairs_push, position-Some}
 use Rattle.std.proofs.lemmas.Slice.Eq.{bytes_eq-Decides}
-use Rattle.meson_splice.specs.Files.{IsDistinct, bytes_at, found, with_bytes}
+use Rattle.meson_splice.specs.Files.{IsDistinct, bytes_at, position_of_file, with_bytes}
 use Rattle.meson_splice.specs.Patch.{patched, patched_in, then_ok}
 use Rattle.meson_splice.specs.declared.fault.SpliceFault.{SpliceFault}
 use Rattle.meson_splice.specs.declared.fault.SpliceFault.TheVariants.{NoFile}
@@ -26,7 +26,7 @@ pub not_here : (b : Bool) (n m : ℕ) → cond (nat_lt (cond (not b) (1 + n) 0) 
 not_here true n m h = absurd (let no : ⊥ = grind (arith, nat_tests) in no)
 not_here false n m h = (refl, grind (arith, nat_tests))
 
-other_name : (name : List ℕ) (files : List File) (i : ℕ) (d : File) → found name files ≡ None → i < length files → (get_or files i d).name ≢ name
+other_name : (name : List ℕ) (files : List File) (i : ℕ) (d : File) → position_of_file name files ≡ None → i < length files → (get_or files i d).name ≢ name
 other_name name [] i d none within = absurd (omega arith)
 other_name name (f ∷ files) zero d none within =
     let both = not_here (bytes_eq f.name name) _ _ none in
@@ -35,7 +35,7 @@ other_name name (f ∷ files) (suc i) d none within =
     let both = not_here (bytes_eq f.name name) _ _ none in
     other_name name files i d both.1 (omega arith)
 
-pub distinct-push : (files : List File) (f : File) → IsDistinct files → found f.name files ≡ None → IsDistinct (files ++ f ∷ [])
+pub distinct-push : (files : List File) (f : File) → IsDistinct files → position_of_file f.name files ≡ None → IsDistinct (files ++ f ∷ [])
 distinct-push files f distinct none = all_pairs_push (λ a b. a.name ≢ b.name) files f distinct (λ k d within. other_name f.name files k d none within)
 
 -- ---- a splice at the file that is found
@@ -56,21 +56,21 @@ patched_in-at (f ∷ files) s (suc i) d within here before =
 pub nobody : File
 nobody = record { name = []; bytes = [] }
 
-pub found-within : (name : List ℕ) (files : List File) (i : ℕ) → found name files ≡ Some i → i < length files
+pub found-within : (name : List ℕ) (files : List File) (i : ℕ) → position_of_file name files ≡ Some i → i < length files
 found-within name files i h = (position-Some (λ f. bytes_eq f.name name) files i nobody h).0
 
-patched_in-found : (files : List File) (s : Splice) (i : ℕ) → found s.file files ≡ Some i → patched_in files s ≡ then_ok (patched (bytes_at i files) s) (λ b. Ok (with_bytes i b files))
+patched_in-found : (files : List File) (s : Splice) (i : ℕ) → position_of_file s.file files ≡ Some i → patched_in files s ≡ then_ok (patched (bytes_at i files) s) (λ b. Ok (with_bytes i b files))
 patched_in-found files s i h =
     let at = position-Some (λ f. bytes_eq f.name s.file) files i nobody h in
     patched_in-at files s i nobody at.0 at.1 at.2
 
-pub patched_in-done : (files : List File) (s : Splice) (i : ℕ) (b : List ℕ) → found s.file files ≡ Some i → patched (bytes_at i files) s ≡ Ok b → patched_in files s ≡ Ok (with_bytes i b files)
+pub patched_in-done : (files : List File) (s : Splice) (i : ℕ) (b : List ℕ) → position_of_file s.file files ≡ Some i → patched (bytes_at i files) s ≡ Ok b → patched_in files s ≡ Ok (with_bytes i b files)
 patched_in-done files s i b h done = patched_in-found files s i h ∙ ap (λ r. then_ok r (λ c. Ok (with_bytes i c files))) done
 
-pub patched_in-refused : (files : List File) (s : Splice) (i : ℕ) (e : SpliceFault) → found s.file files ≡ Some i → patched (bytes_at i files) s ≡ Err e → patched_in files s ≡ Err e
+pub patched_in-refused : (files : List File) (s : Splice) (i : ℕ) (e : SpliceFault) → position_of_file s.file files ≡ Some i → patched (bytes_at i files) s ≡ Err e → patched_in files s ≡ Err e
 patched_in-refused files s i e h refused = patched_in-found files s i h ∙ ap (λ r. then_ok r (λ c. Ok (with_bytes i c files))) refused
 
-pub patched_in-none : (files : List File) (s : Splice) → found s.file files ≡ None → patched_in files s ≡ Err (NoFile s.file)
+pub patched_in-none : (files : List File) (s : Splice) → position_of_file s.file files ≡ None → patched_in files s ≡ Err (NoFile s.file)
 patched_in-none [] s none = refl
 patched_in-none (f ∷ files) s none =
     let both = not_here (bytes_eq f.name s.file) _ _ none in

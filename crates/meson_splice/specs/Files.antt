@@ -8,8 +8,8 @@ abbrev pub IsDistinct : List File → Type 0
 IsDistinct files = AllPairs (λ a b. a.name ≢ b.name) files
 
 -- the place of the file of that name
-abbrev pub found : List ℕ → List File → Option ℕ
-found name files = position (λ f. bytes_eq f.name name) files
+abbrev pub position_of_file : List ℕ → List File → Option ℕ
+position_of_file name files = position (λ f. bytes_eq f.name name) files
 
 -- the bytes of file i
 abbrev pub bytes_at : ℕ → List File → List ℕ

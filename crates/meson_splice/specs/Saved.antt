@@ -6,10 +6,10 @@ use Rattle.meson_splice.specs.declared.change.Saved.{Saved}
 use Rattle.meson_splice.specs.declared.file_set.File.{File}
 
 -- the files with the saved bytes, of which the first come last
-abbrev pub put_back : List Saved → List File → List File
-put_back [] files = files
-put_back (s ∷ saved) files = with_bytes s.place s.bytes (put_back saved files)
+abbrev pub bytes_put_back : List Saved → List File → List File
+bytes_put_back [] files = files
+bytes_put_back (s ∷ saved) files = with_bytes s.place s.bytes (bytes_put_back saved files)
 
 -- whether bytes of the file at that place are saved
-abbrev pub is_saved : ℕ → List Saved → Bool
-is_saved place saved = list_any (λ s. s.place == place) saved
+abbrev pub bytes_saved : ℕ → List Saved → Bool
+bytes_saved place saved = list_any (λ s. s.place == place) saved

@@ -5,7 +5,7 @@ ghost use Rattle.meson_splice.specs.Files.{with_bytes};
 ghost use Rattle.meson_splice.specs.Gap.{LeadsTo, StopsBy};
 ghost use Rattle.meson_splice.specs.Ordered.{ordered};
 ghost use Rattle.meson_splice.specs.Patch.{inverses_of, patched_all};
-ghost use Rattle.meson_splice.specs.Saved.{is_saved, put_back};
+ghost use Rattle.meson_splice.specs.Saved.{bytes_saved, bytes_put_back};
 ghost use Rattle.meson_splice.specs.declared.fault.SpliceFault.TheVariants.{OutOfMemory};
 
 use crate::fault::SpliceFault;
@@ -45,7 +45,7 @@ pub(crate) struct Saved {
 
 /// Whether bytes of the file at that place are saved.
 fn is_saved(saved: &[Saved], place: usize) -> bool
-    ensures { result ≡ is_saved place saved.now }
+    ensures { result ≡ bytes_saved place saved.now }
 {
     saved.iter().any(|s| s.place == place)
 }
@@ -59,7 +59,7 @@ fn exchange(
 ) -> Result<(), AllocError>
     requires { place < length files.old }
     ensures files { OnOk result (files.new ≡ with_bytes place bytes files.old) }
-    ensures saved { put_back saved.new.items files.new ≡ put_back saved.old.items files.old }
+    ensures saved { bytes_put_back saved.new.items files.new ≡ bytes_put_back saved.old.items files.old }
 {
     if is_saved(saved, place) {
         files.exchange(place, bytes);
@@ -113,7 +113,7 @@ fn step(
     ensures done { let all = ordered way splices.now in
         IfOk result (λ next. patched_all files.old (drop done all) ≡ patched_all files.new (drop next all)) }
     ensures refused { IfErr result (λ e. e ≢ OutOfMemory → patched_all files.old (drop done (ordered way splices.now)) ≡ Err e) }
-    ensures saved { put_back saved.new.items files.new ≡ put_back saved.old.items files.old }
+    ensures saved { bytes_put_back saved.new.items files.new ≡ bytes_put_back saved.old.items files.old }
 {
     let splice = way.at(splices, done);
     let (place, bytes) = splice.patched_in(alloc, files)?;
@@ -124,7 +124,7 @@ fn step(
 
 /// Puts saved bytes back.
 pub(crate) fn put_back(files: &mut FileSet, saved: Vec<Saved>)
-    ensures { files.new ≡ put_back saved.items files.old }
+    ensures { files.new ≡ bytes_put_back saved.items files.old }
 {
     let mut left = saved;
     while let Some(last) = left.pop() {
@@ -141,7 +141,7 @@ fn changed(
     splices: &[Splice],
 ) -> Result<Vec<Saved>, SpliceFault>
     ensures done { OnOk result (patched_all files.old (ordered way splices.now) ≡ Ok files.new) }
-    ensures saved { IfOk result (λ saved. put_back saved.items files.new ≡ files.old) }
+    ensures saved { IfOk result (λ saved. bytes_put_back saved.items files.new ≡ files.old) }
     ensures refused { IfErr result (λ e. e ≢ OutOfMemory → patched_all files.old (ordered way splices.now) ≡ Err e) }
     ensures kept { OnErr result (files.new ≡ files.old) }
 {
@@ -166,7 +166,7 @@ pub(crate) fn applied(
     change: &Change,
 ) -> Result<Vec<Saved>, SpliceFault>
     ensures done { OnOk result (patched_all files.old change.now.splices ≡ Ok files.new) }
-    ensures saved { IfOk result (λ saved. put_back saved.items files.new ≡ files.old) }
+    ensures saved { IfOk result (λ saved. bytes_put_back saved.items files.new ≡ files.old) }
     ensures refused { IfErr result (λ e. e ≢ OutOfMemory → patched_all files.old change.now.splices ≡ Err e) }
     ensures kept { OnErr result (files.new ≡ files.old) }
 {
@@ -180,7 +180,7 @@ pub(crate) fn reverted(
     change: &Change,
 ) -> Result<Vec<Saved>, SpliceFault>
     ensures done { OnOk result (patched_all files.old (inverses_of change.now.splices) ≡ Ok files.new) }
-    ensures saved { IfOk result (λ saved. put_back saved.items files.new ≡ files.old) }
+    ensures saved { IfOk result (λ saved. bytes_put_back saved.items files.new ≡ files.old) }
     ensures refused { IfErr result (λ e. e ≢ OutOfMemory → patched_all files.old (inverses_of change.now.splices) ≡ Err e) }
     ensures kept { OnErr result (files.new ≡ files.old) }
 {

@@ -1,7 +1,7 @@
 //! A project's files: names and bytes in order, each name once.
 
 ghost use Rattle.std.specs.Prelude.{◌≡◌, ◌↔◌, ◌<◌, ◌++◌, ◌∷◌, [], IfErr, IfOk, IsNone, IsSome, IsTrue, OnErr, OnOk, length, slice_index_or, string_bytes};
-ghost use Rattle.meson_splice.specs.Files.{IsDistinct, bytes_at, found, with_bytes};
+ghost use Rattle.meson_splice.specs.Files.{IsDistinct, bytes_at, position_of_file, with_bytes};
 ghost use Rattle.meson_splice.specs.declared.file_set.File.{File};
 
 use crate::fault::SpliceFault;
@@ -126,7 +126,7 @@ impl FileSet {
 
     /// The place of the file of this name.
     pub fn find(&self, name: &str) -> Option<usize>
-        ensures { result ≡ found name.now self.now }
+        ensures { result ≡ position_of_file name.now self.now }
     {
         self.files.iter().position(|f| f.name.get() == name)
     }
@@ -135,8 +135,8 @@ impl FileSet {
     pub fn push(&mut self, name: String, bytes: Vec<u8>) -> Result<(), Unpushed>
         ensures ok { OnOk result (self.new ≡ self.old ++ record { name = string_bytes name; bytes = bytes.items } ∷ []) }
         // The name is there exactly where the fault says so.
-        ensures twice { IfErr result (λ u. (u.fault ≡ PushFault.NameTwice) ↔ IsSome (found (string_bytes name) self.old)) }
-        ensures new_name { OnOk result (IsNone (found (string_bytes name) self.old)) }
+        ensures twice { IfErr result (λ u. (u.fault ≡ PushFault.NameTwice) ↔ IsSome (position_of_file (string_bytes name) self.old)) }
+        ensures new_name { OnOk result (IsNone (position_of_file (string_bytes name) self.old)) }
         ensures handed_back { IfErr result (λ u. (u.name ≡ string_bytes name) × (u.bytes ≡ bytes.items)) }
         ensures kept { OnErr result (self.new ≡ self.old) }
     {
@@ -166,7 +166,7 @@ impl FileSet {
     /// # Errors
     /// Want of memory.
     pub fn push_new(&mut self, name: String, bytes: Vec<u8>) -> Result<(), AllocError>
-        requires { IsNone (found (string_bytes name) self.old) }
+        requires { IsNone (position_of_file (string_bytes name) self.old) }
         ensures ok { OnOk result (self.new ≡ self.old ++ record { name = string_bytes name; bytes = bytes.items } ∷ []) }
         ensures kept { OnErr result (self.new ≡ self.old) }
     {

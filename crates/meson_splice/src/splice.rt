@@ -2,7 +2,7 @@
 
 ghost use Rattle.std.specs.Prelude.{◌≡◌, ◌≢◌, ◌<◌, ◌++◌, Err, IfErr, IfOk, Ok, OnErr, OnOk, Some, length};
 ghost use Rattle.meson_splice.specs.Borrowed.{splice_of};
-ghost use Rattle.meson_splice.specs.Files.{found, with_bytes};
+ghost use Rattle.meson_splice.specs.Files.{position_of_file, with_bytes};
 ghost use Rattle.meson_splice.specs.Patch.{inverse_of, patched, patched_in};
 ghost use Rattle.meson_splice.specs.declared.fault.SpliceFault.TheVariants.{OutOfMemory};
 
@@ -98,7 +98,7 @@ impl<'a> Borrowed<'a> {
         alloc: Global,
         files: &FileSet,
     ) -> Result<(usize, Bytes), SpliceFault>
-        ensures place { IfOk result (λ r. (found self.entry.file.now files.now ≡ Some r.0) × (r.0 < length files.now)) }
+        ensures place { IfOk result (λ r. (position_of_file self.entry.file.now files.now ≡ Some r.0) × (r.0 < length files.now)) }
         ensures done { IfOk result (λ r. patched_in files.now (splice_of self.entry) ≡ Ok (with_bytes r.0 r.1 files.now)) }
         ensures refused { IfErr result (λ e. e ≢ OutOfMemory → patched_in files.now (splice_of self.entry) ≡ Err e) }
     {

@@ -9,9 +9,9 @@ use Rattle.meson_syntax.specs.declared.operator.Bracket.{Bracket}
 use Rattle.meson_syntax.specs.declared.operator.Bracket.TheVariants as bracket
 use Rattle.meson_lex.specs.declared.kinds.Kind.TheVariants as k
 use Rattle.meson_syntax.specs.Tree.{Expression, identifier, boolean, integer, string, paren, array, dictionary, call, unary, row, postfix, conditional, Operands, no_operands, operand, Tail, method, index, Tails, no_tails, tail, Listing, listing, Argument, plain, named, pair, Arguments, no_arguments, argument, Statement, evaluate, assign, selection, iteration, breaks, continues, Branches, no_branches, branch, Otherwise, nothing_else, otherwise, Statements, no_statements, statement, statement_list, Block, block, File}
-use Rattle.meson_syntax.specs.Paths.{Sort, of_expression, of_statement, of_block, Node, Hole, around, all_around, nth, children, child, reach, block_of, argument_children, arguments_children, listing_children, operands_children, tail_children, tails_children, expression_children, branches_children, otherwise_children, statement_children, statements_children, block_children}
+use Rattle.meson_syntax.specs.Paths.{Sort, of_expression, of_statement, of_block, Node, Hole, around, all_around, nth, children, nth_hole, reach, block_of, argument_children, arguments_children, listing_children, operands_children, tail_children, tails_children, expression_children, branches_children, otherwise_children, statement_children, statements_children, block_children}
 use Rattle.meson_syntax.specs.ExchangeStatements.{BlockAt, block_of_node, block_at}
-use Rattle.meson_syntax.specs.Parts.{Any, an_expression, a_statement, a_block, any_of, argument_parts, arguments_parts, listing_parts, operands_parts, tail_parts, tails_parts, expression_parts, branches_parts, otherwise_parts, statement_parts, statements_parts, block_parts, parts, node_at}
+use Rattle.meson_syntax.specs.Parts.{Any, an_expression, a_statement, a_block, any_of, argument_parts, arguments_parts, listing_parts, operands_parts, tail_parts, tails_parts, expression_parts, branches_parts, otherwise_parts, statement_parts, statements_parts, block_parts, child_nodes, node_at}
 use Rattle.meson_steps.specs.Layers.{block_any, next_layer}
 
 module _ (S : Type 0) where
@@ -115,7 +115,7 @@ module _ (S : Type 0) where
   block-insides : (b : Block S) → insides (block_children b) ≡ block_parts b
   block-insides (block s list) = insides-around [] [] (block s) (statements_children list) ∙ statements-insides list
 
-  children-insides : (sort : Sort) (x : Node sort S) → insides (children S sort x) ≡ parts (any_of S sort x)
+  children-insides : (sort : Sort) (x : Node sort S) → insides (children S sort x) ≡ child_nodes (any_of S sort x)
   children-insides of_expression e = expression-insides e
   children-insides of_statement s = statement-insides s
   children-insides of_block b = block-insides b
@@ -127,7 +127,7 @@ module _ (S : Type 0) where
   nth-map f (x ∷ xs) zero = refl
   nth-map f (x ∷ xs) (suc n) = nth-map f xs n
 
-  child-inside : (sort : Sort) (x : Node sort S) (n : ℕ) → nth (parts (any_of S sort x)) n ≡ option_map inside_of (child S sort x n)
+  child-inside : (sort : Sort) (x : Node sort S) (n : ℕ) → nth (child_nodes (any_of S sort x)) n ≡ option_map inside_of (nth_hole S sort x n)
   unfolding insides
   child-inside sort x n = ap (λ l. nth l n) (sym (children-insides sort x)) ∙ nth-map inside_of (children S sort x) n
 
@@ -144,7 +144,7 @@ module _ (S : Type 0) where
   unfolding inside_of
   reached sort x [] = refl
   reached sort x (n ∷ path) =
-      ap (λ o. option_and_then (λ y. node_at y path) o) (child-inside sort x n) ∙ through (child S sort x n) path (λ h. reached h.sort h.inside path)
+      ap (λ o. option_and_then (λ y. node_at y path) o) (child-inside sort x n) ∙ through (nth_hole S sort x n) path (λ h. reached h.sort h.inside path)
 
   -- ---- blocks
 

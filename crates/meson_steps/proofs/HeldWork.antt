@@ -19,7 +19,7 @@ use Rattle.meson_steps.specs.declared.journal.Saved.TheVariants as saved
 use Rattle.meson_steps.specs.declared.spans.ListSpot.{ListSpot}
 use Rattle.meson_steps.specs.declared.work.Work.{Work}
 use Rattle.meson_steps.specs.Held.{IsHeldOf, IsReadAgain, IsSettled, settled}
-use Rattle.meson_steps.specs.Journal.{IsSavedToo, changed_tree, file_of, is_saved, settled_tree}
+use Rattle.meson_steps.specs.Journal.{IsSavedToo, changed_tree, saved_file, is_saved, settled_tree}
 use Rattle.meson_steps.specs.ListSteps.{AreDoable}
 use Rattle.meson_steps.specs.Results.{plain_trees, saturated}
 use Rattle.meson_steps.specs.Steps.{Step, StepsMake}
@@ -30,26 +30,26 @@ use Rattle.meson_steps.proofs.Restoring.{changed_is}
 
 -- ---- what is saved
 
-saved_here : (x : Saved) (more : List Saved) (k : ℕ) → file_of x ≡ k → is_saved k (x ∷ more) ≡ true
-saved_here x more k same = ap (λ b. b || is_saved k more) (eq-eqb (file_of x) k same)
+saved_here : (x : Saved) (more : List Saved) (k : ℕ) → saved_file x ≡ k → is_saved k (x ∷ more) ≡ true
+saved_here x more k same = ap (λ b. b || is_saved k more) (eq-eqb (saved_file x) k same)
 
-saved_other : (x : Saved) (more : List Saved) (k : ℕ) → k ≢ file_of x → is_saved k (x ∷ more) ≡ is_saved k more
-saved_other x more k other = elim (eqb_tells (file_of x) k) [
+saved_other : (x : Saved) (more : List Saved) (k : ℕ) → k ≢ saved_file x → is_saved k (x ∷ more) ≡ is_saved k more
+saved_other x more k other = elim (eqb_tells (saved_file x) k) [
   | inl both ↦ absurd (other (sym both.1))
   | inr both ↦ ap (λ b. b || is_saved k more) both.0
 ]
 
-pub saved_first : (x : Saved) (more : List Saved) → IsSavedToo (file_of x) more (x ∷ more)
-saved_first x more = record { here = saved_here x more (file_of x) refl; others = λ k other. saved_other x more k other }
+pub saved_first : (x : Saved) (more : List Saved) → IsSavedToo (saved_file x) more (x ∷ more)
+saved_first x more = record { here = saved_here x more (saved_file x) refl; others = λ k other. saved_other x more k other }
 
-pub saved_again : (x y : Saved) (more : List Saved) → file_of y ≡ file_of x → IsSavedToo (file_of x) (x ∷ more) (y ∷ more)
+pub saved_again : (x y : Saved) (more : List Saved) → saved_file y ≡ saved_file x → IsSavedToo (saved_file x) (x ∷ more) (y ∷ more)
 saved_again x y more same = record {
-  here = saved_here y more (file_of x) same;
+  here = saved_here y more (saved_file x) same;
   others = λ k other. saved_other y more k (λ is. other (is ∙ same)) ∙ sym (saved_other x more k other);
 }
 
-saved_alike : (x : Saved) (before after : List Saved) → IsSavedToo (file_of x) before after → (k : ℕ) → is_saved k after ≡ is_saved k (x ∷ before)
-saved_alike x before after too k = elim (cases_eq k (file_of x)) [
+saved_alike : (x : Saved) (before after : List Saved) → IsSavedToo (saved_file x) before after → (k : ℕ) → is_saved k after ≡ is_saved k (x ∷ before)
+saved_alike x before after too k = elim (cases_eq k (saved_file x)) [
   | inl same ↦ ap (λ i. is_saved i after) same ∙ too.here ∙ sym (saved_here x before k (sym same))
   | inr other ↦ too.others k other ∙ sym (saved_other x before k other)
 ]

@@ -7,7 +7,7 @@ use Rattle.meson_syntax.specs.declared.operator.Bracket.TheVariants as bracket
 use Rattle.meson_syntax.specs.Operators.{holds_pairs}
 use Rattle.meson_syntax.specs.Tree.{Nowhere, Plain, Expression, array, dictionary, call, Listing, listing, Argument, plain, named, pair, Arguments, no_arguments, argument, argument_list, arguments_of, Block}
 use Rattle.meson_syntax.specs.Grammar.{LevelArguments, LevelListing, LevelFile, expression_depth, listing_depth}
-use Rattle.meson_syntax.specs.Paths.{Sort, of_expression, of_statement, of_block, Node, Hole, around, expression_in, arguments_children, listing_children, child, nth, reach, block_of, with_block, ListIn, list_in, ListAt, list_within, list_of_node, list_at, value_of}
+use Rattle.meson_syntax.specs.Paths.{Sort, of_expression, of_statement, of_block, Node, Hole, around, expression_in, arguments_children, listing_children, nth_hole, nth, reach, block_of, with_block, ListIn, list_in, ListAt, list_within, list_of_node, list_at, value_of}
 use Rattle.meson_syntax.proofs.parsing.Complete.{list-of-arguments}
 use Rattle.meson_syntax.proofs.parsing.Steps.{some-injective}
 use Rattle.meson_syntax.proofs.paths.Reaching.{map-some, and-then-some, list-fits}
@@ -98,15 +98,15 @@ listed_child (listing s trailing list) b n a v fails level is value =
     some_elements (z ∷ xs) x ys = refl
 
 node_child : (e : Expression Nowhere) (l : ListIn Nowhere) (n : ℕ) (a : Argument Nowhere) (v : Expression Nowhere) → list_in e ≡ Some l → holds_pairs l.bracket ≡ false → LevelListing l.list l.bracket → nth (elements l.list) n ≡ Some a → value_of a ≡ Some v
-    → Child (child Nowhere of_expression e n) v (λ y. l.back (with_elements l.list (exchanged_at n a (elements l.list) y)))
+    → Child (nth_hole Nowhere of_expression e n) v (λ y. l.back (with_elements l.list (exchanged_at n a (elements l.list) y)))
 node_child (array m) l n a v is none level there value =
-    subst (λ (k : ListIn Nowhere). LevelListing k.list k.bracket → nth (elements k.list) n ≡ Some a → Child (child Nowhere of_expression (array m) n) v (λ y. k.back (with_elements k.list (exchanged_at n a (elements k.list) y)))) (some-injective _ _ is)
+    subst (λ (k : ListIn Nowhere). LevelListing k.list k.bracket → nth (elements k.list) n ≡ Some a → Child (nth_hole Nowhere of_expression (array m) n) v (λ y. k.back (with_elements k.list (exchanged_at n a (elements k.list) y)))) (some-injective _ _ is)
     (λ low here.
     let c = listed_child m bracket.Square n a v refl low here value in
     record { before = _; behind = _; back = λ y. array (c.back y); is = nth_map _ (listing_children m bracket.Square) n ∙ ap (option_map _) c.is; back_is = λ y. ap array (c.back_is y) })
     level there
 node_child (call s f m) l n a v is none level there value =
-    subst (λ (k : ListIn Nowhere). LevelListing k.list k.bracket → nth (elements k.list) n ≡ Some a → Child (child Nowhere of_expression (call s f m) n) v (λ y. k.back (with_elements k.list (exchanged_at n a (elements k.list) y)))) (some-injective _ _ is)
+    subst (λ (k : ListIn Nowhere). LevelListing k.list k.bracket → nth (elements k.list) n ≡ Some a → Child (nth_hole Nowhere of_expression (call s f m) n) v (λ y. k.back (with_elements k.list (exchanged_at n a (elements k.list) y)))) (some-injective _ _ is)
     (λ low here.
     let c = listed_child m bracket.Round n a v refl low here value in
     record { before = _; behind = _; back = λ y. call s f (c.back y); is = nth_map _ (listing_children m bracket.Round) n ∙ ap (option_map _) c.is; back_is = λ y. ap (call s f) (c.back_is y) })
@@ -118,14 +118,14 @@ node_child _ l n a v is none level there value = absurd cc
 -- ---- along a path
 
 abbrev Below : (sort : Sort) (x : Node sort Nowhere) (path : List ℕ) (n : ℕ) (v : Expression Nowhere) (h : Hole Nowhere (Node sort Nowhere)) → Type 0
-Below sort x path n v h = (put : Expression Nowhere → Node h.sort Nowhere) → Child (child Nowhere h.sort h.inside n) v put → Child (reach Nowhere sort x (path ++ n ∷ [])) v (λ y. h.back (put y))
+Below sort x path n v h = (put : Expression Nowhere → Node h.sort Nowhere) → Child (nth_hole Nowhere h.sort h.inside n) v put → Child (reach Nowhere sort x (path ++ n ∷ [])) v (λ y. h.back (put y))
 
 below : (sort : Sort) (x : Node sort Nowhere) (path : List ℕ) (n : ℕ) (v : Expression Nowhere) (h : Hole Nowhere (Node sort Nowhere)) → reach Nowhere sort x path ≡ Some h → Below sort x path n v h
 below sort x [] n v h is =
     subst (Below sort x [] n v) (some-injective _ _ is)
     (λ put c. record { before = _; behind = _; back = c.back; is = ap (option_and_then (λ g. option_map (around g.before g.behind g.back) (reach Nowhere g.sort g.inside []))) c.is; back_is = c.back_is })
 below sort x (m ∷ path) n v h is =
-    let o = and-then-some (λ g. option_map (around g.before g.behind g.back) (reach Nowhere g.sort g.inside path)) (child Nowhere sort x m) h is in
+    let o = and-then-some (λ g. option_map (around g.before g.behind g.back) (reach Nowhere g.sort g.inside path)) (nth_hole Nowhere sort x m) h is in
     let g = o.0 in
     let i = map-some (around g.before g.behind g.back) (reach Nowhere g.sort g.inside path) h o.2 in
     subst (Below sort x (m ∷ path) n v) i.2
@@ -163,7 +163,7 @@ pub record InnerPlace (k : Container) (t : Plain) (path : List ℕ) (q : ListAt 
 
 inner_by : (k : Container) (t : Plain) (path : List ℕ) (q : ListAt Nowhere) (n : ℕ) (a : Argument Nowhere) (l : Listing Nowhere) (sort : Sort) (x : Node sort Nowhere) (before behind : List Word) (back : Node sort Nowhere → Block Nowhere)
     → list_of_node Nowhere sort x t before behind back ≡ Some q → holds_pairs q.bracket ≡ false → LevelListing q.list q.bracket → nth (elements q.list) n ≡ Some a → value_of a ≡ Some (k.make l)
-    → ((put : Expression Nowhere → Node sort Nowhere) → Child (child Nowhere sort x n) (k.make l) put → Child (reach Nowhere of_block (block_of t) (path ++ n ∷ [])) (k.make l) (λ y. back (put y)))
+    → ((put : Expression Nowhere → Node sort Nowhere) → Child (nth_hole Nowhere sort x n) (k.make l) put → Child (reach Nowhere of_block (block_of t) (path ++ n ∷ [])) (k.make l) (λ y. back (put y)))
     → InnerPlace k t path q n a l
 inner_by k t path q n a l of_expression x before behind back is none level there value down =
     let o = map-some (list_within t before behind back) (list_in x) q is in

@@ -4,7 +4,7 @@ use Rattle.meson_splice.specs.declared.file_set.File.{File}
 use Rattle.meson_splice.specs.declared.splice.Splice.{Splice}
 use Rattle.meson_splice.specs.Files.{with_bytes}
 use Rattle.meson_edit.proofs.Keeping.{edits-keep}
-use Rattle.meson_calls.specs.Loading.{name_at}
+use Rattle.meson_calls.specs.Loading.{name_of_file}
 use Rattle.meson_steps.specs.Steps.{Step, StepsMake, Laid}
 use Rattle.meson_steps.specs.Steps as making
 use Rattle.meson_steps.specs.Keeping.{StepKeeps, StepsKeep, MakingKeeps}
@@ -18,7 +18,7 @@ one_keeps files s here laid = record {
   spanned = laid.spanned;
   items = laid.items;
   are_items = laid.are_items;
-  keeps = edits-keep s.edit laid.limits _ laid.file laid.spanned laid.items laid.are_items (name_at s.file files) laid.writes laid.now laid.is_now laid.primitive laid.is_primitive laid.text laid.is_text;
+  keeps = edits-keep s.edit laid.limits _ laid.file laid.spanned laid.items laid.are_items (name_of_file s.file files) laid.writes laid.now laid.is_now laid.primitive laid.is_primitive laid.text laid.is_text;
 }
 
 pub making_keeps : MakingKeeps

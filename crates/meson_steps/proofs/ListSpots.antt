@@ -3,7 +3,7 @@ use Rattle.std.proofs.Common.{◌≡◌, ℕ, Bool, true, false, List, Option, S
 use Rattle.std.specs.Prelude.{if◌then◌else◌, option_map, option_and_then}
 use Rattle.meson_lex.specs.declared.kinds.Span.{Span}
 use Rattle.meson_lex.specs.Significant.{Word}
-use Rattle.meson_syntax.specs.Paths.{Hole, ListAt, ListIn, Node, Sort, block_of, expression_at, expression_of, list_at, list_in, list_of_node, list_span, list_within, of_block, of_expression, of_statement, reach}
+use Rattle.meson_syntax.specs.Paths.{Hole, ListAt, ListIn, Node, Sort, block_of, expression_on_path, expression_of, list_at, list_in, list_of_node, list_span, list_within, of_block, of_expression, of_statement, reach}
 use Rattle.meson_syntax.specs.Tree.{Block, Expression, File}
 use Rattle.meson_steps.specs.declared.spans.ListSpot.{ListSpot}
 use Rattle.meson_steps.specs.Working.{spot_at}
@@ -22,7 +22,7 @@ spot_of_node f of_expression e before behind back = spot_inside f before behind 
 spot_of_node f of_statement s before behind back = refl
 spot_of_node f of_block b before behind back = refl
 
-pub spot_reached : (f : File Span) (path : List ℕ) → option_map spot_at (list_at f path) ≡ option_and_then spot_in (expression_at f path)
+pub spot_reached : (f : File Span) (path : List ℕ) → option_map spot_at (list_at f path) ≡ option_and_then spot_in (expression_on_path f path)
 spot_reached f path = each (reach Span of_block (block_of f) path) where
   each : (r : Option (Hole Span (Block Span))) → option_map spot_at (option_and_then (λ h. list_of_node Span h.sort h.inside f h.before h.behind h.back) r)
       ≡ option_and_then spot_in (option_and_then (λ h. expression_of Span h.sort h.inside) r)

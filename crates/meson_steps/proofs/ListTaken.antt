@@ -11,7 +11,7 @@ use Rattle.meson_syntax.specs.declared.tree.Parsed.{Parsed}
 use Rattle.meson_syntax.specs.Exchange.{IsListText}
 use Rattle.meson_syntax.specs.Furthest.{furthest_list}
 use Rattle.meson_syntax.specs.Grammar.{listing_depth}
-use Rattle.meson_syntax.specs.ListPut.{exchanged}
+use Rattle.meson_syntax.specs.ListPut.{list_exchanged}
 use Rattle.meson_syntax.specs.MovedCode.{moved_list, moved_parsed}
 use Rattle.meson_syntax.specs.Moves.{moved}
 use Rattle.meson_syntax.specs.Paths.{ListAt, list_at, list_span}
@@ -65,7 +65,7 @@ module _ (t : Parsed) (new : SavedList) (m : MayTake t new) where
 
   -- the tree with the new list
   abbrev pub taken : Parsed
-  taken = exchanged path new.from new.was new.now (moved_list (λ n. n + new.from) new.list) t
+  taken = list_exchanged path new.from new.was new.now (moved_list (λ n. n + new.from) new.list) t
 
   before_is : length m.bytes ≡ new.from + (new.was + length m.back)
   before_is = omega (arith, ap length m.is.parts, length-append m.front (m.was ++ m.back), length-append m.was m.back, m.from_is, m.was_is)
@@ -93,8 +93,8 @@ module _ (t : Parsed) (new : SavedList) (m : MayTake t new) where
 
   pub taken_is : taken ≡ tree_with path m.front m.was m.now new.list t
   taken_is =
-      ap (λ n. exchanged path n new.was new.now (moved_list (λ k. k + n) new.list) t) m.from_is
-      ∙ ap₂ (λ w n. exchanged path (length m.front) w n (moved_list (λ k. k + length m.front) new.list) t) m.was_is m.now_is
+      ap (λ n. list_exchanged path n new.was new.now (moved_list (λ k. k + n) new.list) t) m.from_is
+      ∙ ap₂ (λ w n. list_exchanged path (length m.front) w n (moved_list (λ k. k + length m.front) new.list) t) m.was_is m.now_is
 
   pub taken_spanned : IsSpannedWithin wide after (view after taken)
   taken_spanned = subst (λ u. IsSpannedWithin wide after (view after u)) (sym taken_is) (trees-exchange wide m.bytes t path m.p m.front m.was m.now m.back new.list m.is)
@@ -130,11 +130,11 @@ module _ (t : Parsed) (new : SavedList) (m : MayTake t new) where
         ∙ old-lists-look wide m.bytes t path m.p m.front m.was m.now m.back new.list m.is old gives_there
 
     -- which gives the old tree again
-    pub goes_back : exchanged path new.from new.now new.was kept taken ≡ t
+    pub goes_back : list_exchanged path new.from new.now new.was kept taken ≡ t
     goes_back =
-        ap (exchanged path new.from new.now new.was kept) taken_is
-        ∙ ap (λ n. exchanged path n new.now new.was kept (tree_with path m.front m.was m.now new.list t)) m.from_is
-        ∙ ap₂ (λ n w. exchanged path (length m.front) n w kept (tree_with path m.front m.was m.now new.list t)) m.now_is m.was_is
+        ap (list_exchanged path new.from new.now new.was kept) taken_is
+        ∙ ap (λ n. list_exchanged path n new.now new.was kept (tree_with path m.front m.was m.now new.list t)) m.from_is
+        ∙ ap₂ (λ n w. list_exchanged path (length m.front) n w kept (tree_with path m.front m.was m.now new.list t)) m.now_is m.was_is
         ∙ trees-exchange-back wide m.bytes t path m.p m.front m.was m.now m.back new.list m.is kept kept_looks
 
 -- ---- a list that was moved to its place before
@@ -144,7 +144,7 @@ module _ (t : Parsed) (new : SavedList) (m : MayTakeMoved t new) where
   unmoved = record new { list = m.own }
 
   pub settled_is : settled_tree new t ≡ taken t unmoved m.takes
-  settled_is = ap (λ l. exchanged new.place.path.steps new.from new.was new.now l t) m.moved
+  settled_is = ap (λ l. list_exchanged new.place.path.steps new.from new.was new.now l t) m.moved
 
   pub settled_spanned : IsSpannedWithin wide (m.takes.front ++ (m.takes.now ++ m.takes.back)) (view (m.takes.front ++ (m.takes.now ++ m.takes.back)) (settled_tree new t))
   settled_spanned = subst (λ u. IsSpannedWithin wide (m.takes.front ++ (m.takes.now ++ m.takes.back)) (view (m.takes.front ++ (m.takes.now ++ m.takes.back)) u)) (sym settled_is) (taken_spanned t unmoved m.takes)

@@ -16,7 +16,7 @@ use Rattle.meson_syntax.specs.Reads.{IsSourceWithin, IsSpannedWithin}
 use Rattle.meson_syntax.proofs.parsing.Steps.{some-injective}
 use Rattle.meson_syntax.proofs.parsing.CompleteFiles.{whole-complete}
 use Rattle.meson_edit.specs.Places.{primitive_of}
-use Rattle.meson_calls.specs.Loading.{name_at}
+use Rattle.meson_calls.specs.Loading.{name_of_file}
 use Rattle.meson_steps.specs.Steps.{Step, StepsMake, none, step, Laid, effective, read_again}
 use Rattle.meson_syntax.proofs.kept.WithinFiles.{other_limits}
 
@@ -52,7 +52,7 @@ one_laid files s here there p q =
     let same_file : p.file ≡ q.file = one_spanned p.limits q.limits bytes p.file q.file p.spanned q.spanned in
     let same_items : p.items ≡ q.items = one_list bytes p.items q.items p.are_items q.are_items in
     let same : p.primitive ≡ q.primitive = some-injective _ _ (sym p.is_primitive ∙ ap (λ f. primitive_of f s.edit) same_file ∙ q.is_primitive) in
-    p.is_layout ∙ ap₂ (λ xs y. effective (layout_of (name_at s.file files) xs y)) same_items same ∙ sym q.is_layout
+    p.is_layout ∙ ap₂ (λ xs y. effective (layout_of (name_of_file s.file files) xs y)) same_items same ∙ sym q.is_layout
 
 -- ---- one step after another
 

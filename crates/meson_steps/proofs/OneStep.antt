@@ -28,15 +28,15 @@ use Rattle.meson_syntax.proofs.kept.WithinFiles.{other_limits}
 use Rattle.meson_syntax.proofs.parsing.Answers.{reads-found}
 use Rattle.meson_syntax.proofs.parsing.Steps.{some-injective}
 use Rattle.meson_edit.specs.Edits.{Edit, edited, edited_list}
-use Rattle.meson_edit.specs.Laws.{IsEditOf, Makes, WritesList}
+use Rattle.meson_edit.specs.Laws.{IsEditOf, MakesText, WritesList}
 use Rattle.meson_edit.proofs.lists.Answers.{list-edits-look, list-edits-write}
 use Rattle.meson_edit.proofs.lists.Found.{Found, found}
 use Rattle.meson_edit.proofs.lists.ReadAlone.{written-lists-read}
 use Rattle.meson_calls.specs.declared.call.CallRef.{CallRef}
 use Rattle.meson_steps.specs.declared.step.ListStep.{ListStep}
 use Rattle.meson_steps.specs.Journal.{is_saved}
-use Rattle.meson_steps.specs.ListSteps.{AreDoable, MayStand, bare, wide_depth}
-use Rattle.meson_calls.specs.Loading.{HasFileName, Loaded, max_files, name_at}
+use Rattle.meson_steps.specs.ListSteps.{AreDoable, MayStandBetween, bare, wide_depth}
+use Rattle.meson_calls.specs.Loading.{HasFileName, Loaded, max_files, name_of_file}
 use Rattle.meson_steps.specs.Results.{plain_trees, saturated}
 use Rattle.meson_steps.specs.Steps.{Step, StepsMake, Laid, bytes_again, effective, list_of, read_again}
 use Rattle.meson_steps.specs.Working.{AreKnown, HasReached, IsChanged, MayChange, MayChangeList, Standing, limits_of, placed_edit, stood}
@@ -86,7 +86,7 @@ module _ (old : Loaded) (w : Standing) (before rest : List Step) (s : Step) (r :
   bytes = bytes_at i files
 
   abbrev pub name : List ℕ
-  name = name_at i files
+  name = name_of_file i files
 
   many : length parsed ≡ length files
   many = r.known.as_many
@@ -130,10 +130,10 @@ module _ (old : Loaded) (w : Standing) (before rest : List Step) (s : Step) (r :
     edited_is : edited s.edit (erase f) ≡ Some changed.new
     edited_is = ap (edited s.edit) (sym plain_is) ∙ changed.is (erase f)
 
-    stands : MayStand changed.new
-    stands = all_at MayStand plain i changed.new changed.within (subst (All MayStand) changed.are next.stand)
+    stands : MayStandBetween changed.new
+    stands = all_at MayStandBetween plain i changed.new changed.within (subst (All MayStandBetween) changed.are next.stand)
 
-    pub made : Makes bytes f items name s.edit changed.new
+    pub made : MakesText bytes f items name s.edit changed.new
     made = every_edit s.edit limits bytes f spanned items are_items name next.writes changed.new edited_is stands.0
 
     -- ---- the list

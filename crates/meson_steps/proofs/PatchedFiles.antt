@@ -14,7 +14,7 @@ use Rattle.meson_splice.specs.declared.file_set.File.{File}
 use Rattle.meson_splice.specs.declared.splice.Splice.{Splice}
 use Rattle.meson_splice.specs.Files.{IsDistinct, bytes_at, with_bytes}
 use Rattle.meson_splice.specs.Patch.{patched, patched_in, patched_all, then_ok}
-use Rattle.meson_calls.specs.Loading.{name_at}
+use Rattle.meson_calls.specs.Loading.{name_of_file}
 use Rattle.meson_steps.specs.Steps.{effective}
 use Rattle.meson_steps.proofs.Spliced.{patched_named, same_text}
 use Rattle.meson_steps.proofs.OtherBytes.{bytes_there, as_many_files}
@@ -108,19 +108,19 @@ distinct_with files i b distinct = λ j k d before within.
     let first : j < length files = omega (arith, before, inside) in
     λ same. distinct j k d before inside (sym (name_kept files i j b d first) ∙ same ∙ name_kept files i k b d inside)
 
-name_put : (files : List File) (i : ℕ) (b : List ℕ) → name_at i (with_bytes i b files) ≡ name_at i files
+name_put : (files : List File) (i : ℕ) (b : List ℕ) → name_of_file i (with_bytes i b files) ≡ name_of_file i files
 name_put [] i b = refl
 name_put (f ∷ files) zero b = refl
 name_put (f ∷ files) (suc i) b = name_put files i b
 
-pub all_patched : (files : List File) (i : ℕ) (text : List ℕ) (ss : List Splice) → IsDistinct files → i < length files → OfFile (name_at i files) ss → patched_by (bytes_at i files) ss ≡ Ok text
+pub all_patched : (files : List File) (i : ℕ) (text : List ℕ) (ss : List Splice) → IsDistinct files → i < length files → OfFile (name_of_file i files) ss → patched_by (bytes_at i files) ss ≡ Ok text
     → patched_all files ss ≡ Ok (with_bytes i text files)
 all_patched files i text [] distinct within all done =
     let same : bytes_at i files ≡ text = cc in ap Ok (sym (put_same files i) ∙ ap (λ b. with_bytes i b files) same)
 all_patched files i text (s ∷ ss) distinct within all done = go (patched (bytes_at i files) s) refl done (λ next distinct within all rest. all_patched (with_bytes i next files) i text ss distinct within all rest)
   where
     go : (r : Result (List ℕ) SpliceFault) → patched (bytes_at i files) s ≡ r → then_ok r (λ next. patched_by next ss) ≡ Ok text
-        → ((next : List ℕ) → IsDistinct (with_bytes i next files) → i < length (with_bytes i next files) → OfFile (name_at i (with_bytes i next files)) ss → patched_by (bytes_at i (with_bytes i next files)) ss ≡ Ok text
+        → ((next : List ℕ) → IsDistinct (with_bytes i next files) → i < length (with_bytes i next files) → OfFile (name_of_file i (with_bytes i next files)) ss → patched_by (bytes_at i (with_bytes i next files)) ss ≡ Ok text
         → patched_all (with_bytes i next files) ss ≡ Ok (with_bytes i text (with_bytes i next files)))
         → patched_all files (s ∷ ss) ≡ Ok (with_bytes i text files)
     go (Ok next) is rest later =

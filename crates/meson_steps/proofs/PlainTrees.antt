@@ -14,7 +14,7 @@ use Rattle.meson_syntax.specs.View.{view}
 use Rattle.meson_syntax.proofs.paths.Erased.{lists-erase}
 use Rattle.meson_syntax.proofs.paths.Reaching.{map-some}
 use Rattle.meson_edit.specs.Edits.{elements}
-use Rattle.meson_steps.specs.ListSteps.{MayStand}
+use Rattle.meson_steps.specs.ListSteps.{MayStandBetween}
 use Rattle.meson_calls.specs.declared.call.CallRef.{CallRef}
 use Rattle.meson_calls.specs.CallPlaces.{ListThere}
 use Rattle.meson_calls.specs.Loading.{Loaded, AreParsed, named_trees, project, views}
@@ -30,14 +30,14 @@ tree_there (g ∷ files) (t ∷ parsed) zero f is = ap (option_map (λ (h : Buil
 tree_there (g ∷ files) (t ∷ parsed) (suc i) f is = tree_there files parsed i f is
 
 -- they have their levels and are not too deep
-pub trees_stand : (files : List files.File) (parsed : List Parsed) → AreParsed files parsed → All MayStand (map erase (views files parsed))
-trees_stand [] [] are = All-nil MayStand
+pub trees_stand : (files : List files.File) (parsed : List Parsed) → AreParsed files parsed → All MayStandBetween (map erase (views files parsed))
+trees_stand [] [] are = All-nil MayStandBetween
 trees_stand [] (t ∷ parsed) are = absurd are
 trees_stand (f ∷ files) [] are = absurd are
 trees_stand (f ∷ files) (t ∷ parsed) are =
     let r = are.0.reads in
     let d = r.depth in
-    All-cons MayStand (erase (view f.bytes t)) (map erase (views files parsed)) (r.spells.level, omega (arith, d)) (trees_stand files parsed are.1)
+    All-cons MayStandBetween (erase (view f.bytes t)) (map erase (views files parsed)) (r.spells.level, omega (arith, d)) (trees_stand files parsed are.1)
 
 abbrev pub IsShallow : Plain → Type 0
 IsShallow t = file_depth t ≤ max_depth

@@ -17,7 +17,7 @@ use Rattle.meson_syntax.specs.declared.operator.Bracket.TheVariants as bracket
 use Rattle.meson_syntax.specs.Tree.{Nowhere, Arguments, plain, arguments_of}
 use Rattle.meson_syntax.specs.Grammar.{arguments_words, LevelArguments, Flagged, arguments_depth}
 use Rattle.meson_calls.specs.declared.refusal.Refusal.{Refusal}
-use Rattle.meson_steps.specs.WrittenTexts.{string_of, array_of, comma_between, written_text, written_texts}
+use Rattle.meson_steps.specs.WrittenTexts.{string_of, array_of_values, comma_between, written_text, written_texts}
 use Rattle.meson_steps.specs.WrittenValues.{WrittenFor, IsSet}
 
 -- ---- one text
@@ -146,7 +146,7 @@ strings_flat (t ∷ ts) = let flat = strings_flat ts in omega (arith, flat)
 
 pub texts_new : (ts : List (List ℕ)) → Texts ts → WrittenFor (91 ∷ (comma_between (map literal ts) ++ 93 ∷ []))
 texts_new ts are = record {
-  node = array_of (map string_of ts);
+  node = array_of_values (map string_of ts);
   writes = record {
     items = all ts;
     is_new = record {

@@ -8,25 +8,25 @@ use Rattle.meson_splice.specs.declared.splice.Splice.{Splice}
 use Rattle.meson_splice.specs.Files.{IsDistinct, bytes_at, with_bytes}
 use Rattle.meson_splice.specs.Patch.{patched, patched_in, then_ok}
 use Rattle.meson_splice.proofs.Inverses.{patched-means-patches}
-use Rattle.meson_calls.specs.Loading.{name_at}
+use Rattle.meson_calls.specs.Loading.{name_of_file}
 
 -- ---- a splice of the i-th file
 
 tail_distinct : (f : File) (files : List File) → IsDistinct (f ∷ files) → IsDistinct files
 tail_distinct f files all = λ i j d before within. let next : suc i < suc j = omega (arith, before) in let inside : suc j < length (f ∷ files) = omega (arith, within) in all (suc i) (suc j) d next inside
 
-name_there : (files : List File) (i : ℕ) (d : File) → i < length files → name_at i files ≡ (slice_index_or files i d).name
+name_there : (files : List File) (i : ℕ) (d : File) → i < length files → name_of_file i files ≡ (slice_index_or files i d).name
 name_there [] i d within = absurd (omega (arith, within))
 name_there (f ∷ files) zero d within = refl
 name_there (f ∷ files) (suc i) d within = let below : i < length files = omega (arith, within) in name_there files i d below
 
-other_name : (f : File) (files : List File) (i : ℕ) → IsDistinct (f ∷ files) → i < length files → f.name ≢ name_at i files
+other_name : (f : File) (files : List File) (i : ℕ) → IsDistinct (f ∷ files) → i < length files → f.name ≢ name_of_file i files
 other_name f files i all within =
     let first : 0 < suc i = omega arith in
     let inside : suc i < length (f ∷ files) = omega (arith, within) in
     λ same. all 0 (suc i) f first inside (same ∙ name_there files i f within)
 
-pub patched_named : (files : List File) (i : ℕ) (s : Splice) (text : List ℕ) → IsDistinct files → i < length files → s.file ≡ name_at i files → patched (bytes_at i files) s ≡ Ok text
+pub patched_named : (files : List File) (i : ℕ) (s : Splice) (text : List ℕ) → IsDistinct files → i < length files → s.file ≡ name_of_file i files → patched (bytes_at i files) s ≡ Ok text
     → patched_in files s ≡ Ok (with_bytes i text files)
 patched_named [] i s text all within name done = absurd (omega (arith, within))
 patched_named (f ∷ files) zero s text all within name done =

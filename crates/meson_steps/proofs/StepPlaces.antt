@@ -12,7 +12,7 @@ use Rattle.meson_edit.proofs.statements.Appended as appended
 use Rattle.meson_edit.proofs.statements.Removed as removed
 use Rattle.meson_steps.specs.declared.step.ListEdit.{ListEdit}
 use Rattle.meson_steps.specs.declared.step.ListStep.{ListStep}
-use Rattle.meson_steps.specs.ListSteps.{AreDoable, MayStand, one, bare, bare_edit, edits_list, path_of}
+use Rattle.meson_steps.specs.ListSteps.{AreDoable, MayStandBetween, one, bare, bare_edit, edits_list, path_of}
 use Rattle.meson_calls.specs.Project.{place}
 use Rattle.meson_steps.specs.Steps.{Step, list_of, stepped}
 use Rattle.meson_steps.specs.Working.{placed_edit}
@@ -58,7 +58,7 @@ pub record NextDoable (s : Step) (rest : List Step) (trees : List Plain) : Type 
   pub between : List Plain
   pub writes : Writes s.edit
   pub is : stepped s trees ≡ Some between
-  pub stand : All MayStand between
+  pub stand : All MayStandBetween between
   pub doable : AreDoable rest between
 
 pub next_doable : (s : Step) (rest : List Step) (trees : List Plain) → AreDoable (s ∷ rest) trees → NextDoable s rest trees

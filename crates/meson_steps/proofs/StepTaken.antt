@@ -16,7 +16,7 @@ use Rattle.meson_syntax.specs.View.{view}
 use Rattle.meson_steps.specs.declared.step.ListEdit.{ListEdit}
 use Rattle.meson_steps.specs.declared.step.ListStep.{ListStep}
 use Rattle.meson_steps.specs.ListSteps.{bare, bare_edit, edits_list, path_of}
-use Rattle.meson_calls.specs.Loading.{Loaded, name_at}
+use Rattle.meson_calls.specs.Loading.{Loaded, name_of_file}
 use Rattle.meson_calls.specs.Project.{place}
 use Rattle.meson_steps.specs.Laying.{AreLaid}
 use Rattle.meson_steps.specs.Steps.{Step, bytes_again, effective}
@@ -90,7 +90,7 @@ module _ (old : Loaded) (w : Standing) (step : ListStep) (before rest : List Ste
       code_are_laid nm d is_name e (Err x) items_of done = tt
       code_are_laid nm d is_name e (Ok v) items_of done =
           let same : t ≡ get_or w.trees step.list.file e = there ∙ same_read w.trees step.list.file t e code_in_trees in
-          let name : nm ≡ name_at step.list.file w.files = is_name ∙ sym (nth_name w.files step.list.file d code_in_files) in
+          let name : nm ≡ name_of_file step.list.file w.files = is_name ∙ sym (nth_name w.files step.list.file d code_in_files) in
           subst (λ u. AreLaid w.files u step (items_of v)) same (record {
             primitive = p;
             is_primitive = subst (λ i. Some p ≡ placed_edit (view (bytes_at i w.files) t) step.list.path.steps step.edit) (sym file_is) laid;
@@ -98,10 +98,10 @@ module _ (old : Loaded) (w : Standing) (step : ListStep) (before rest : List Ste
           })
 
       module _ (nm : List ℕ) (d : File) (is_name : nm ≡ (get_or w.files step.list.file d).name) (splices : List Splice) (done : (list : List Lexeme) → IsItemList bs list → splices ≡ effective (layout_of nm list p)) where
-        name : nm ≡ name_at s.file w.files
-        name = is_name ∙ sym (nth_name w.files step.list.file d code_in_files) ∙ ap (λ i. name_at i w.files) file_is
+        name : nm ≡ name_of_file s.file w.files
+        name = is_name ∙ sym (nth_name w.files step.list.file d code_in_files) ∙ ap (λ i. name_of_file i w.files) file_is
 
-        are : splices ≡ effective (layout_of (name_at s.file w.files) (items old w before rest s r t at) made_here)
+        are : splices ≡ effective (layout_of (name_of_file s.file w.files) (items old w before rest s r t at) made_here)
         are = splices_are old w before rest s r t at step is p laid splices
             (λ list of. done list (subst (λ b. IsItemList b list) (sym here) of) ∙ ap (λ n. effective (layout_of n list p)) name)
 
@@ -146,21 +146,21 @@ module _ (old : Loaded) (w : Standing) (step : ListStep) (before rest : List Ste
     is_p : IsLaid u is_u (Some l.primitive)
     is_p = subst (λ i. Some l.primitive ≡ placed_edit (view (bytes_at i w.files) u) step.list.path.steps step.edit) file_is l.is_primitive
 
-    is_name : name_at step.list.file w.files ≡ (get_or w.files step.list.file no_file).name
+    is_name : name_of_file step.list.file w.files ≡ (get_or w.files step.list.file no_file).name
     is_name = nth_name w.files step.list.file no_file code_in_files
 
     pub step_same : splices ≡ [] → HasReached old (before ++ s ∷ []) rest w
-    step_same empty = code_same u is_u l.primitive is_p (bytes_at step.list.file w.files) refl (name_at step.list.file w.files) no_file is_name splices l.are empty
+    step_same empty = code_same u is_u l.primitive is_p (bytes_at step.list.file w.files) refl (name_of_file step.list.file w.files) no_file is_name splices l.are empty
 
     pub step_may_list : edits_list step.edit ≡ true → (e : Parsed) → MayChangeList w.files step.list splices (get_or w.trees step.list.file e)
-    step_may_list of_list = code_may_list u is_u l.primitive is_p (bytes_at step.list.file w.files) refl (name_at step.list.file w.files) no_file is_name splices l.are of_list
+    step_may_list of_list = code_may_list u is_u l.primitive is_p (bytes_at step.list.file w.files) refl (name_of_file step.list.file w.files) no_file is_name splices l.are of_list
 
     pub step_may : MayChange w.files step.list.file splices
-    step_may = code_may u is_u l.primitive is_p (bytes_at step.list.file w.files) refl (name_at step.list.file w.files) no_file is_name splices l.are
+    step_may = code_may u is_u l.primitive is_p (bytes_at step.list.file w.files) refl (name_of_file step.list.file w.files) no_file is_name splices l.are
 
     module _ (some : splices ≡ [] → ⊥) (new : Standing) where
       pub step_new : edits_list step.edit ≡ false → IsChanged w new step.list.file splices (length (bytes_at step.list.file new.files)) → HasReached old (before ++ s ∷ []) rest new
-      step_new = code_new u is_u l.primitive is_p (bytes_at step.list.file w.files) refl (name_at step.list.file w.files) no_file is_name splices l.are some new
+      step_new = code_new u is_u l.primitive is_p (bytes_at step.list.file w.files) refl (name_of_file step.list.file w.files) no_file is_name splices l.are some new
 
       pub step_new_list : edits_list step.edit ≡ true → IsChanged w new step.list.file splices (list_again w.files new.files step.list u) → HasReached old (before ++ s ∷ []) rest new
-      step_new_list = code_new_list u is_u l.primitive is_p (bytes_at step.list.file w.files) refl (name_at step.list.file w.files) no_file is_name splices l.are some new
+      step_new_list = code_new_list u is_u l.primitive is_p (bytes_at step.list.file w.files) refl (name_of_file step.list.file w.files) no_file is_name splices l.are some new

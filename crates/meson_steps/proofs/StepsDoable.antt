@@ -9,7 +9,7 @@ use Rattle.meson_syntax.specs.Grammar.{expression_words}
 use Rattle.meson_syntax.specs.Paths.{nth}
 use Rattle.meson_edit.specs.Edits.{Written, edited}
 use Rattle.meson_edit.specs.Places.{IsWritten, Writes}
-use Rattle.meson_steps.specs.ListSteps.{MayStand, AreDoable, one}
+use Rattle.meson_steps.specs.ListSteps.{MayStandBetween, AreDoable, one}
 use Rattle.meson_steps.specs.WrittenValues.{IsSet}
 use Rattle.meson_steps.specs.WrittenTexts.{string_of, written_text}
 use Rattle.meson_steps.specs.Steps.{Step}
@@ -19,10 +19,10 @@ use Rattle.meson_steps.proofs.WithOne.{change_there}
 -- ---- one step
 
 -- the trees after a step that makes one of them another one
-pub step_doable : (s : Step) (steps : List Step) (trees : List Plain) (t now : Plain) → nth trees s.file ≡ Some t → edited s.edit t ≡ Some now → Writes s.edit → All MayStand trees → MayStand now
+pub step_doable : (s : Step) (steps : List Step) (trees : List Plain) (t now : Plain) → nth trees s.file ≡ Some t → edited s.edit t ≡ Some now → Writes s.edit → All MayStandBetween trees → MayStandBetween now
     → AreDoable steps (slice_set trees s.file now) → AreDoable (s ∷ steps) trees
 step_doable s steps trees t now is made writes all stands rest =
-    one s steps trees (slice_set trees s.file now) writes (change_there (edited s.edit) trees s.file t now is made) (All-set MayStand trees s.file now stands all) rest
+    one s steps trees (slice_set trees s.file now) writes (change_there (edited s.edit) trees s.file t now is made) (All-set MayStandBetween trees s.file now stands all) rest
 
 -- ---- strings
 

@@ -5,7 +5,7 @@ use Rattle.meson_lex.specs.declared.kinds.Span.{Span}
 use Rattle.meson_syntax.specs.declared.tree.List as rust
 use Rattle.meson_syntax.specs.declared.tree.Parsed.{Parsed}
 use Rattle.meson_syntax.specs.Furthest.{furthest}
-use Rattle.meson_syntax.specs.ListPut.{exchanged}
+use Rattle.meson_syntax.specs.ListPut.{list_exchanged}
 use Rattle.meson_syntax.specs.MovedCode.{moved_list}
 use Rattle.meson_syntax.specs.Paths.{ListAt}
 use Rattle.meson_syntax.specs.Reads.{wide}
@@ -28,7 +28,7 @@ changed_tree (suc i) change (t ∷ trees) = t ∷ changed_tree i change trees
 -- the trees with what one step exchanged put back
 abbrev pub put_one : Saved → List Parsed → List Parsed
 put_one (saved.Tree file tree) trees = slice_set trees file tree
-put_one (saved.List s) trees = changed_tree s.place.file (exchanged s.place.path.steps s.from s.now s.was s.list) trees
+put_one (saved.List s) trees = changed_tree s.place.file (list_exchanged s.place.path.steps s.from s.now s.was s.list) trees
 
 -- the trees with all of it put back, the newest, which comes last, first
 abbrev pub put_back : List Saved → List Parsed → List Parsed
@@ -60,13 +60,13 @@ pub record PutsBack (saved : List Saved) (trees first : List Parsed) : Type 0 wh
 
 -- ---- which files
 
-abbrev pub file_of : Saved → ℕ
-file_of (saved.Tree file tree) = file
-file_of (saved.List s) = s.place.file
+abbrev pub saved_file : Saved → ℕ
+saved_file (saved.Tree file tree) = file
+saved_file (saved.List s) = s.place.file
 
 -- whether something of a file is saved
 abbrev pub is_saved : ℕ → List Saved → Bool
-is_saved file saved = list_any (λ s. file_of s == file) saved
+is_saved file saved = list_any (λ s. saved_file s == file) saved
 
 -- Something of this file is saved, and of the others where it was.
 pub record IsSavedToo (file : ℕ) (before after : List Saved) : Type 0 where
@@ -92,7 +92,7 @@ pub record MayTake (t : Parsed) (new : SavedList) : Type 0 where
 
 -- the tree with a list, in its place, for the one that stands there
 abbrev pub settled_tree : SavedList → Parsed → Parsed
-settled_tree new = exchanged new.place.path.steps new.from new.was new.now new.list
+settled_tree new = list_exchanged new.place.path.steps new.from new.was new.now new.list
 
 -- A list that was read, and moved to its place, may take the place of the list that stands there.
 pub record MayTakeMoved (t : Parsed) (new : SavedList) : Type 0 where

@@ -8,7 +8,7 @@ use Rattle.meson_splice.specs.declared.splice.Splice.{Splice}
 use Rattle.meson_splice.specs.Files.{bytes_at}
 use Rattle.meson_syntax.specs.declared.tree.Parsed.{Parsed}
 use Rattle.meson_syntax.specs.View.{view}
-use Rattle.meson_calls.specs.Loading.{name_at}
+use Rattle.meson_calls.specs.Loading.{name_of_file}
 use Rattle.meson_steps.specs.declared.step.ListStep.{ListStep}
 use Rattle.meson_steps.specs.Steps.{effective}
 use Rattle.meson_steps.specs.Working.{placed_edit}
@@ -17,4 +17,4 @@ use Rattle.meson_steps.specs.Working.{placed_edit}
 pub record AreLaid (files : List File) (t : Parsed) (step : ListStep) (splices : List Splice) : Type 0 where
   pub primitive : Primitive
   pub is_primitive : Some primitive ≡ placed_edit (view (bytes_at step.list.file files) t) step.list.path.steps step.edit
-  pub are : (items : List Lexeme) → IsItemList (bytes_at step.list.file files) items → splices ≡ effective (layout_of (name_at step.list.file files) items primitive)
+  pub are : (items : List Lexeme) → IsItemList (bytes_at step.list.file files) items → splices ≡ effective (layout_of (name_of_file step.list.file files) items primitive)

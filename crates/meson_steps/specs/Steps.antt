@@ -20,7 +20,7 @@ use Rattle.meson_edit.specs.Edits.{Edit, First, After, Remove, Replace, Wrap, Re
 use Rattle.meson_edit.specs.Laws.{IsEditOf, WritesList}
 use Rattle.meson_edit.specs.Places.{primitive_of, Writes}
 use Rattle.meson_calls.specs.declared.call.CallRef.{CallRef}
-use Rattle.meson_calls.specs.Loading.{name_at}
+use Rattle.meson_calls.specs.Loading.{name_of_file}
 
 -- an edit of one of the files
 pub record Step : Type 0 where
@@ -65,9 +65,9 @@ pub record Laid (files : List File) (s : Step) (splices : List Splice) : Type 0 
   pub are_items : IsItemList (bytes_at s.file files) items
   pub primitive : Primitive
   pub is_primitive : primitive_of file s.edit ≡ Some primitive
-  pub is_layout : splices ≡ effective (layout_of (name_at s.file files) items primitive)
+  pub is_layout : splices ≡ effective (layout_of (name_of_file s.file files) items primitive)
   pub text : List ℕ
-  pub is_text : patched_by (bytes_at s.file files) (layout_of (name_at s.file files) items primitive) ≡ Ok text
+  pub is_text : patched_by (bytes_at s.file files) (layout_of (name_of_file s.file files) items primitive) ≡ Ok text
   pub made : patched_all files splices ≡ Ok (with_bytes s.file text files)
   pub texts : AreTexts splices
 

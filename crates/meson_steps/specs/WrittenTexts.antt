@@ -10,8 +10,8 @@ use Rattle.meson_edit.specs.Edits.{Written}
 abbrev pub string_of : List ℕ → Expression Nowhere
 string_of text = string tt quotes.Plain (literal text)
 
-abbrev pub array_of : List (Expression Nowhere) → Expression Nowhere
-array_of values = array (listing tt false (arguments_of (map plain values)))
+abbrev pub array_of_values : List (Expression Nowhere) → Expression Nowhere
+array_of_values values = array (listing tt false (arguments_of (map plain values)))
 
 -- texts with a comma and a blank between them
 abbrev pub comma_between : List (List ℕ) → List ℕ
@@ -23,4 +23,4 @@ abbrev pub written_text : List ℕ → Written (Expression Nowhere)
 written_text text = record { bytes = literal text; node = string_of text }
 
 abbrev pub written_texts : List (List ℕ) → Written (Expression Nowhere)
-written_texts texts = record { bytes = 91 ∷ (comma_between (map literal texts) ++ 93 ∷ []); node = array_of (map string_of texts) }
+written_texts texts = record { bytes = 91 ∷ (comma_between (map literal texts) ++ 93 ∷ []); node = array_of_values (map string_of texts) }

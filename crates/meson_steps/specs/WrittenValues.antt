@@ -13,10 +13,10 @@ pub record WrittenFor (bytes : List ℕ) : Type 0 where
   pub level : LevelExpression node
   pub shallow : expression_depth node ≤ 1
 
-abbrev pub written : (bytes : List ℕ) → WrittenFor bytes → Written (Expression Nowhere)
-written bytes w = record { bytes = bytes; node = w.node }
+abbrev pub value_written : (bytes : List ℕ) → WrittenFor bytes → Written (Expression Nowhere)
+value_written bytes w = record { bytes = bytes; node = w.node }
 
 -- what is set are these bytes
 pub record IsSet (set : Result (Written (Expression Nowhere)) Refusal) (bytes : List ℕ) : Type 0 where
   pub new : WrittenFor bytes
-  pub is : set ≡ Ok (written bytes new)
+  pub is : set ≡ Ok (value_written bytes new)

@@ -2,13 +2,13 @@
 
 ghost use Rattle.std.specs.Prelude.{◌+◌, ◌<◌, ◌≡◌, OnOk, Some, length, slice_index_or, slice_set};
 ghost use Rattle.meson_lex.specs.declared.kinds.Span.{Span};
-ghost use Rattle.meson_syntax.specs.ListPut.{exchanged};
+ghost use Rattle.meson_syntax.specs.ListPut.{list_exchanged};
 ghost use Rattle.meson_syntax.specs.MovedCode.{moved_parsed};
 ghost use Rattle.meson_syntax.specs.Moves.{moved};
 ghost use Rattle.meson_syntax.specs.Paths.{ListAt, list_at};
 ghost use Rattle.meson_syntax.specs.View.{list_view, view};
 ghost use Rattle.meson_calls.specs.Picking.{Source};
-ghost use Rattle.meson_steps.specs.Journal.{IsSavedToo, MayPut, MayPutBack, MayShift, MayTakeMoved, PutsBack, Trees, changed_tree, file_of, is_saved, put_back, put_one, settled_tree};
+ghost use Rattle.meson_steps.specs.Journal.{IsSavedToo, MayPut, MayPutBack, MayShift, MayTakeMoved, PutsBack, Trees, changed_tree, saved_file, is_saved, put_back, put_one, settled_tree};
 
 use meson_calls::CallRef;
 use meson_lex::Span;
@@ -38,7 +38,7 @@ pub struct SavedList {
 impl Saved {
     /// The number of the file.
     fn file(&self) -> usize
-        ensures { result ≡ file_of self.now }
+        ensures { result ≡ saved_file self.now }
     {
         match self {
             Saved::Tree { file, .. } => *file,
@@ -79,7 +79,7 @@ pub(crate) fn exchange(
 /// that stood there. Takes no memory.
 fn put_in(tree: &mut Parsed, path: &Path, list: List, from: usize, was: usize, now: usize) -> List
     requires { MayShift from was now tree.old }
-    ensures is { tree.new ≡ exchanged path.now.steps from was now list tree.old }
+    ensures is { tree.new ≡ list_exchanged path.now.steps from was now list tree.old }
     ensures gives { (source : Source) (r : ListAt Span) → list_at (view source (moved_parsed (moved (from + was) was now) tree.old)) path.now.steps
         ≡ Some r → list_view source result ≡ r.list }
 {

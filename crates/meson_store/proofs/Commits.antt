@@ -4,9 +4,9 @@ use Rattle.std.specs.Prelude.{bytes_eq, slice_index_or}
 use Rattle.meson_splice.specs.Files.{bytes_at}
 use Rattle.meson_splice.specs.declared.file_set.File.{File}
 use Rattle.meson_store.specs.Calls.{counted, one_more}
-use Rattle.meson_store.specs.Content.{Content, replaced}
+use Rattle.meson_store.specs.Content.{Content, content_with}
 use Rattle.meson_store.specs.declared.committing.Planned.{Planned}
-use Rattle.meson_store.specs.Commit.{Put, path_in, put_in, puts, put_all, names_of}
+use Rattle.meson_store.specs.Commit.{Put, path_in, put_at, puts, put_all, names_of}
 use Rattle.meson_store.specs.Planned.{put_of}
 
 -- the bytes that a file gets at that path, and those that it held
@@ -15,13 +15,13 @@ put path name was bytes = record { path = path; name = name; was = was; bytes = 
 
 -- one more file was put
 put-next : (plan : List Planned) (i : ℕ) (file : Planned) → file ≡ slice_index_or plan i file → i < length plan → (c : Option Content) →
-    put_all (map put_of (take (suc i) plan)) c ≡ replaced (put_all (map put_of (take i plan)) c) (put_of file).path (put_of file).bytes
+    put_all (map put_of (take (suc i) plan)) c ≡ content_with (put_all (map put_of (take i plan)) c) (put_of file).path (put_of file).bytes
 put-next [] i file is h c = absurd (omega arith)
-put-next (p ∷ plan) zero file is h c = ap (λ f. replaced c (put_of f).path (put_of f).bytes) (sym is)
-put-next (p ∷ plan) (suc i) file is h c = put-next plan i file is (omega arith) (replaced c (put_of p).path (put_of p).bytes)
+put-next (p ∷ plan) zero file is h c = ap (λ f. content_with c (put_of f).path (put_of f).bytes) (sym is)
+put-next (p ∷ plan) (suc i) file is h c = put-next plan i file is (omega arith) (content_with c (put_of p).path (put_of p).bytes)
 
 pub put-more : (plan : List Planned) (i : ℕ) (file : Planned) → file ≡ slice_index_or plan i file → i < length plan → (c : Option Content) →
-    put_all (map put_of (take (i + 1) plan)) c ≡ replaced (put_all (map put_of (take i plan)) c) (put_of file).path (put_of file).bytes
+    put_all (map put_of (take (i + 1) plan)) c ≡ content_with (put_all (map put_of (take i plan)) c) (put_of file).path (put_of file).bytes
 put-more plan i file is h c = rw add-one (put-next plan i file is h c)
 
 -- one more replace was counted
@@ -43,7 +43,7 @@ cut-at (p ∷ plan) (suc i) file is h = let rest = cut-at plan i file is (omega 
 
 -- one more file of the two sets was looked at
 pub puts-more : (folder : Option (List ℕ)) (before after : List File) (i : ℕ) (d : File) → i < length before → i < length after →
-    puts folder (drop i before) (drop i after) ≡ cond (bytes_eq (bytes_at i before) (bytes_at i after)) (puts folder (drop (suc i) before) (drop (suc i) after)) (put_in folder (record { name = (slice_index_or before i d).name; bytes = bytes_at i before }) (bytes_at i after) ∷ puts folder (drop (suc i) before) (drop (suc i) after))
+    puts folder (drop i before) (drop i after) ≡ cond (bytes_eq (bytes_at i before) (bytes_at i after)) (puts folder (drop (suc i) before) (drop (suc i) after)) (put_at folder (record { name = (slice_index_or before i d).name; bytes = bytes_at i before }) (bytes_at i after) ∷ puts folder (drop (suc i) before) (drop (suc i) after))
 puts-more folder [] after i d h k = absurd (omega arith)
 puts-more folder (b ∷ before) [] i d h k = absurd (omega arith)
 puts-more folder (b ∷ before) (a ∷ after) zero d h k = refl
@@ -58,7 +58,7 @@ not-false r true e f = refl
 not-false r false e f = absurd (let no : ⊥ = cc in no)
 
 put-is : (folder : Option (List ℕ)) (path name was bytes name' was' bytes' : List ℕ) → path ≡ path_in folder name → name ≡ name' → was ≡ was' → bytes ≡ bytes' →
-    put path name was bytes ≡ put_in folder (record { name = name'; bytes = was' }) bytes'
+    put path name was bytes ≡ put_at folder (record { name = name'; bytes = was' }) bytes'
 put-is folder path name was bytes name' was' bytes' e f w h =
     ap (λ p. put p name was bytes) e ∙ ap (λ n. put (path_in folder n) n was bytes) f ∙ ap (λ o. put (path_in folder name') name' o bytes) w
     ∙ ap (λ b. put (path_in folder name') name' was' b) h
@@ -78,7 +78,7 @@ module _ (folder : Option (List ℕ)) (before after : List File) (i : ℕ) (was 
   unfolding rest
   plan-more path name more t is_path is_name is_more =
       let d : File = record { name = []; bytes = [] } in
-      let file : Put = put_in folder (record { name = (slice_index_or before i d).name; bytes = bytes_at i before }) (bytes_at i after) in
+      let file : Put = put_at folder (record { name = (slice_index_or before i d).name; bytes = bytes_at i before }) (bytes_at i after) in
       let step : puts folder (drop i before) (drop i after) ≡ put path name was bytes ∷ rest =
       puts-more folder before after i d h k
       ∙ ap (λ b. cond b rest (file ∷ rest)) (not-true differs _ test t)
@@ -91,7 +91,7 @@ module _ (folder : Option (List ℕ)) (before after : List File) (i : ℕ) (was 
   unfolding rest
   plan-kept same f is_same =
       let d : File = record { name = []; bytes = [] } in
-      let file : Put = put_in folder (record { name = (slice_index_or before i d).name; bytes = bytes_at i before }) (bytes_at i after) in
+      let file : Put = put_at folder (record { name = (slice_index_or before i d).name; bytes = bytes_at i before }) (bytes_at i after) in
       let step : puts folder (drop i before) (drop i after) ≡ rest = puts-more folder before after i d h k ∙ ap (λ b. cond b rest (file ∷ rest)) (not-false differs _ test f) in
       let done : same ++ rest ≡ all = ap (λ ps. ps ++ rest) is_same ∙ ap (λ ps. plan ++ ps) (sym step) ∙ so_far in
       rw add-one done

@@ -8,8 +8,8 @@ use Rattle.meson_splice.specs.Files.{IsDistinct}
 use Rattle.meson_splice.specs.declared.file_set.File.{File}
 use Rattle.meson_store.proofs.Restoring.{Each, IsNoneOf, apart-or-not, at-other, at-same, each-append, each-forward, each-left, each-map, each-reverse, each-right, elsewhere, put_all-told, puts-each, writes}
 use Rattle.meson_store.specs.Calls.{Leaves}
-use Rattle.meson_store.specs.Commit.{CommitFails, GoBack, Put, TakenBack, all_back, fault_of, is_back, is_lost, path_in, put_all, put_in, puts, still_new, to_go_back}
-use Rattle.meson_store.specs.Content.{Content, replaced}
+use Rattle.meson_store.specs.Commit.{CommitFails, GoBack, Put, TakenBack, all_back, fault_of, is_back, is_lost, path_in, put_all, put_at, puts, still_new, to_go_back}
+use Rattle.meson_store.specs.Content.{Content, content_with}
 use Rattle.meson_store.specs.Laws.{Failed, IsTold, tried}
 use Rattle.meson_store.specs.Seen.{Seen}
 use Rattle.meson_store.specs.declared.store.StoreError.{StoreError}
@@ -74,7 +74,7 @@ puts-apart folder (b ∷ old) (a ∷ new) distinct =
     others = of-all (λ f. (bytes : List ℕ) → (path_in folder b.name ≡ path_in folder f.name) → ⊥) old
         (λ f c bytes e. distinct 0 (suc c.0) f (omega arith) (omega (arith, c.1)) (path-is folder b.name f.name e ∙ ap (λ g. g.name) (sym c.2)))
 
-    go : (same : Bool) → Apart (puts folder old new) → Apart (cond same (puts folder old new) (put_in folder b a.bytes ∷ puts folder old new))
+    go : (same : Bool) → Apart (puts folder old new) → Apart (cond same (puts folder old new) (put_at folder b a.bytes ∷ puts folder old new))
     go true rest = rest
     go false rest = (puts-each (λ p. path_in folder b.name ≡ p.path → ⊥) folder old new others, rest)
 
@@ -85,12 +85,12 @@ some-is e = cc
 
 after-loss : (why : StoreError) (path bytes : List ℕ) (c : Content) (s t : Option Content) → s ≡ Some c → Leaves why path bytes s t → (t ≡ Some c) ⊎ (t ≡ Some (insert c path bytes))
 after-loss error.Device path bytes c s t e (inl l) = inl (l ∙ e)
-after-loss error.Device path bytes c s t e (inr l) = inr (l ∙ ap (λ z. replaced z path bytes) e)
+after-loss error.Device path bytes c s t e (inr l) = inr (l ∙ ap (λ z. content_with z path bytes) e)
 after-loss error.Unchanged path bytes c s t e l = inl (l ∙ e)
 after-loss error.OutOfMemory path bytes c s t e l = inl (l ∙ e)
 
-after-back : (path bytes : List ℕ) (c : Content) (s t : Option Content) → s ≡ Some c → t ≡ replaced s path bytes → t ≡ Some (insert c path bytes)
-after-back path bytes c s t e l = l ∙ ap (λ z. replaced z path bytes) e
+after-back : (path bytes : List ℕ) (c : Content) (s t : Option Content) → s ≡ Some c → t ≡ content_with s path bytes → t ≡ Some (insert c path bytes)
+after-back path bytes c s t e l = l ∙ ap (λ z. content_with z path bytes) e
 
 -- other files stay
 back-elsewhere : (files : List Put) (s u : Seen) (names : List (List ℕ)) → GoBack files s u names → (c n : Content) → s.content ≡ Some c → u.content ≡ Some n → (q : List ℕ) →

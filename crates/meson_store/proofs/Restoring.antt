@@ -10,8 +10,8 @@ use Rattle.std.specs.FinMap.{get, insert, get-insert, same_map, slice_cmp-IsAnti
 use Rattle.std.specs.Prelude.{bytes_eq}
 use Rattle.meson_splice.specs.declared.file_set.File.{File}
 use Rattle.meson_store.specs.Calls.{Leaves}
-use Rattle.meson_store.specs.Commit.{TakenBack, GoBack, Put, all_back, fault_of, is_back, is_lost, put_all, put_in, puts, to_go_back}
-use Rattle.meson_store.specs.Content.{Content, replaced}
+use Rattle.meson_store.specs.Commit.{TakenBack, GoBack, Put, all_back, fault_of, is_back, is_lost, put_all, put_at, puts, to_go_back}
+use Rattle.meson_store.specs.Content.{Content, content_with}
 use Rattle.meson_store.specs.Seen.{Seen}
 use Rattle.meson_store.specs.declared.store.StoreError.{StoreError}
 use Rattle.meson_store.specs.declared.store.StoreError.TheVariants as error
@@ -201,36 +201,36 @@ untold-restored files before after h none =
   where
     left : (why : StoreError) (path bytes : List ℕ) (c d : Option Content) → Leaves why path bytes c d → c ≡ None → d ≡ None
     left error.Device path bytes c d (inl l) e = l ∙ e
-    left error.Device path bytes c d (inr l) e = l ∙ ap (λ z. replaced z path bytes) e
+    left error.Device path bytes c d (inr l) e = l ∙ ap (λ z. content_with z path bytes) e
     left error.Unchanged path bytes c d l e = l ∙ e
     left error.OutOfMemory path bytes c d l e = l ∙ e
 
 -- ---- files that are to be written
 
-pub puts-each : (P : Put → Type 0) (folder : Option (List ℕ)) (before after : List File) → Each (λ f. (bytes : List ℕ) → P (put_in folder f bytes)) before → Each P (puts folder before after)
+pub puts-each : (P : Put → Type 0) (folder : Option (List ℕ)) (before after : List File) → Each (λ f. (bytes : List ℕ) → P (put_at folder f bytes)) before → Each P (puts folder before after)
 puts-each P folder [] after h = tt
 puts-each P folder (b ∷ before) [] h = tt
 puts-each P folder (b ∷ before) (a ∷ after) h = go (bytes_eq b.bytes a.bytes) (puts-each P folder before after h.1)
   where
-    go : (same : Bool) → Each P (puts folder before after) → Each P (cond same (puts folder before after) (put_in folder b a.bytes ∷ puts folder before after))
+    go : (same : Bool) → Each P (puts folder before after) → Each P (cond same (puts folder before after) (put_at folder b a.bytes ∷ puts folder before after))
     go true rest = rest
     go false rest = (h.0 a.bytes, rest)
 
 -- the last file may be another one
-pub puts-cut : (P : Put → Type 0) (folder : Option (List ℕ)) (before : List File) (last : File) (after : List File) → Each (λ f. (bytes : List ℕ) → P (put_in folder f bytes)) before
+pub puts-cut : (P : Put → Type 0) (folder : Option (List ℕ)) (before : List File) (last : File) (after : List File) → Each (λ f. (bytes : List ℕ) → P (put_at folder f bytes)) before
     → CutLast P (puts folder (before ++ last ∷ []) after)
 puts-cut P folder [] last [] h = record { front = []; last = []; all = refl; few = omega arith; each = tt }
 puts-cut P folder [] last (a ∷ after) h =
     record { front = []; last = puts folder (last ∷ []) (a ∷ after); all = refl; few = few (bytes_eq last.bytes a.bytes); each = tt }
   where
-    few : (same : Bool) → length (cond same (puts folder [] after) (put_in folder last a.bytes ∷ puts folder [] after)) ≤ 1
+    few : (same : Bool) → length (cond same (puts folder [] after) (put_at folder last a.bytes ∷ puts folder [] after)) ≤ 1
     few true = omega arith
     few false = omega arith
 puts-cut P folder (b ∷ before) last [] h = record { front = []; last = []; all = refl; few = omega arith; each = tt }
 puts-cut P folder (b ∷ before) last (a ∷ after) h = go (bytes_eq b.bytes a.bytes) (puts-cut P folder before last after h.1)
   where
     go : (same : Bool) → CutLast P (puts folder (before ++ last ∷ []) after)
-        → CutLast P (cond same (puts folder (before ++ last ∷ []) after) (put_in folder b a.bytes ∷ puts folder (before ++ last ∷ []) after))
+        → CutLast P (cond same (puts folder (before ++ last ∷ []) after) (put_at folder b a.bytes ∷ puts folder (before ++ last ∷ []) after))
     go true cut = cut
     go false cut =
-        record { front = put_in folder b a.bytes ∷ cut.front; last = cut.last; all = ap (λ ps. put_in folder b a.bytes ∷ ps) cut.all; few = cut.few; each = (h.0 a.bytes, cut.each) }
+        record { front = put_at folder b a.bytes ∷ cut.front; last = cut.last; all = ap (λ ps. put_at folder b a.bytes ∷ ps) cut.all; few = cut.few; each = (h.0 a.bytes, cut.each) }

@@ -1,6 +1,6 @@
 -- What a call of a store did, by its answer.
 use Rattle.std.specs.Prelude.{◌≡◌, ℕ, suc, zero, ◌+◌, ◌-◌, ◌^◌, min, ◌⊎◌, List, Option}
-use Rattle.meson_store.specs.Content.{Content, replaced, Rose}
+use Rattle.meson_store.specs.Content.{Content, content_with, Rose}
 use Rattle.meson_store.specs.declared.store.StoreError.{StoreError}
 use Rattle.meson_store.specs.declared.store.StoreError.TheVariants as error
 
@@ -21,6 +21,6 @@ FailureCounted error.OutOfMemory old new = Unit {0}
 
 -- what the store holds after a replace failed
 abbrev pub Leaves : StoreError → List ℕ → List ℕ → Option Content → Option Content → Type 0
-Leaves error.Device name bytes before after = (after ≡ before) ⊎ (after ≡ replaced before name bytes)
+Leaves error.Device name bytes before after = (after ≡ before) ⊎ (after ≡ content_with before name bytes)
 Leaves error.Unchanged name bytes before after = after ≡ before
 Leaves error.OutOfMemory name bytes before after = after ≡ before

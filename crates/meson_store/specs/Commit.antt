@@ -3,7 +3,7 @@ use Rattle.std.specs.Prelude.{◌≡◌, ◌≤◌, ◌⊎◌, ℕ, List, [], �
 use Rattle.std.specs.Prelude.{if◌then◌else◌, Option, Some, None}
 use Rattle.meson_splice.specs.declared.file_set.File.{File}
 use Rattle.meson_store.specs.Calls.{counted}
-use Rattle.meson_store.specs.Content.{Content, replaced}
+use Rattle.meson_store.specs.Content.{Content, content_with}
 use Rattle.meson_store.specs.Seen.{IsNotReplaced, IsReplaced, Seen, Untouched}
 use Rattle.meson_store.specs.declared.store.StoreError.{StoreError}
 use Rattle.meson_store.specs.declared.store.StoreError.TheVariants as error
@@ -22,20 +22,20 @@ pub record Put : Type 0 where
   pub was : List ℕ
   pub bytes : List ℕ
 
-abbrev pub put_in : Option (List ℕ) → File → List ℕ → Put
-put_in folder file bytes = record { path = path_in folder file.name; name = file.name; was = file.bytes; bytes = bytes }
+abbrev pub put_at : Option (List ℕ) → File → List ℕ → Put
+put_at folder file bytes = record { path = path_in folder file.name; name = file.name; was = file.bytes; bytes = bytes }
 
 -- the files whose bytes differ, in order
 abbrev pub puts : Option (List ℕ) → List File → List File → List Put
 puts folder [] after = []
 puts folder (b ∷ before) [] = []
 puts folder (b ∷ before) (a ∷ after) =
-    if bytes_eq b.bytes a.bytes then puts folder before after else (put_in folder b a.bytes ∷ puts folder before after)
+    if bytes_eq b.bytes a.bytes then puts folder before after else (put_at folder b a.bytes ∷ puts folder before after)
 
 -- the content after these files got their bytes
 abbrev pub put_all : List Put → Option Content → Option Content
 put_all [] content = content
-put_all (p ∷ more) content = put_all more (replaced content p.path p.bytes)
+put_all (p ∷ more) content = put_all more (content_with content p.path p.bytes)
 
 abbrev pub names_of : List Put → List (List ℕ)
 names_of files = map (λ p. p.name) files

@@ -9,8 +9,8 @@ abbrev pub Content : Type 0
 Content = FinMap (slice_cmp nat_cmp) (List ℕ)
 
 -- the content after the file of that name got these bytes; a store that tells none tells none afterwards
-abbrev pub replaced : Option Content → List ℕ → List ℕ → Option Content
-replaced content name bytes = option_map (λ files. insert files name bytes) content
+abbrev pub content_with : Option Content → List ℕ → List ℕ → Option Content
+content_with content name bytes = option_map (λ files. insert files name bytes) content
 
 -- a failure of the device was counted, unless the count had come to its end
 abbrev pub Rose : ℕ → ℕ → Type 0

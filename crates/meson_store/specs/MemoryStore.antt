@@ -13,7 +13,7 @@ pub record Calls : Type 0 where
   pub first : ℕ
   pub count : ℕ
 
-pub record Held : Type 0 where
+pub record HeldFiles : Type 0 where
   pub files : Content
   pub failures : ℕ
   pub reads : Calls
@@ -30,7 +30,7 @@ calls_code = code_by (ℕ × (ℕ × ℕ)) (coded× coded_ℕ (coded× coded_ℕ
 abbrev plans_code : Coded (Calls × (Calls × (Bool × Bool)))
 plans_code = coded× calls_code (coded× calls_code (coded× coded_bool coded_bool))
 
-abbrev pub held_code : Coded Held
+abbrev pub held_code : Coded HeldFiles
 held_code = code_by ((Content × ℕ) × (Calls × (Calls × (Bool × Bool))))
     (coded× (coded× (code (coded_list coded_ℕ) (coded_list coded_ℕ)) coded_ℕ) plans_code)
     (λ h. ((h.files, h.failures), (h.reads, (h.replaces, (h.leaves_new, h.is_sure)))))
@@ -48,15 +48,15 @@ is_planned first count call = nat_le first call && nat_lt (call - first) count
 abbrev pub is_due : Calls → Bool
 is_due c = is_planned c.first c.count (one_more c.made)
 
-abbrev pub planned : Calls → ℕ → ℕ → Calls
-planned c first count = record c { first = first; count = count }
+abbrev pub with_failures : Calls → ℕ → ℕ → Calls
+with_failures c first count = record c { first = first; count = count }
 
 -- a failing call was counted as a failure
 abbrev pub failures_after : Calls → ℕ → ℕ
 failures_after c failures = if is_due c then one_more failures else failures
 
 -- a new store
-abbrev pub no_files : Held
+abbrev pub no_files : HeldFiles
 no_files = record {
   files = empty;
   failures = 0;
@@ -67,11 +67,11 @@ no_files = record {
 }
 
 -- after a `read`, whatever it answers
-abbrev pub after_read : Held → Held
+abbrev pub after_read : HeldFiles → HeldFiles
 after_read h = record h { reads = counted h.reads; failures = failures_after h.reads h.failures }
 
 -- after a `replace`, but for the bytes that its file may have got
-abbrev pub after_replace : Held → Held
+abbrev pub after_replace : HeldFiles → HeldFiles
 after_replace h = record h {
   replaces = counted h.replaces;
   failures = failures_after h.replaces h.failures;
@@ -79,20 +79,20 @@ after_replace h = record h {
 }
 
 -- where the file of that name has these bytes
-abbrev pub with_file : Held → List ℕ → List ℕ → Held
+abbrev pub with_file : HeldFiles → List ℕ → List ℕ → HeldFiles
 with_file h name bytes = record h { files = insert h.files name bytes }
 
 -- ---- a call of `replace`
 
 -- what it may answer: it fails as planned, or for want of memory for the new bytes
-abbrev pub MayAnswer : Held → Result (Unit {0}) StoreError → Type 0
+abbrev pub MayAnswer : HeldFiles → Result (Unit {0}) StoreError → Type 0
 MayAnswer h (Ok done) = is_due h.replaces ≡ false
 MayAnswer h (Err error.Device) = (is_due h.replaces ≡ true) × (h.is_sure ≡ false)
 MayAnswer h (Err error.Unchanged) = (is_due h.replaces ≡ true) × (h.is_sure ≡ true)
 MayAnswer h (Err error.OutOfMemory) = (is_due h.replaces ≡ false) ⊎ (h.leaves_new ≡ true)
 
 -- the store after one that answered so
-abbrev pub replaced_so : Held → List ℕ → List ℕ → Result (Unit {0}) StoreError → Held
+abbrev pub replaced_so : HeldFiles → List ℕ → List ℕ → Result (Unit {0}) StoreError → HeldFiles
 replaced_so h name bytes (Ok done) = with_file (after_replace h) name bytes
 replaced_so h name bytes (Err error.Device) = if h.leaves_new then with_file (after_replace h) name bytes else after_replace h
 replaced_so h name bytes (Err error.Unchanged) = after_replace h

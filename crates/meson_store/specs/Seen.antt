@@ -1,7 +1,7 @@
 -- What is known of a store between two calls, and what a call of `replace` did to it.
 use Rattle.std.specs.Prelude.{◌≡◌, ◌≤◌, ℕ, List, Option}
 use Rattle.meson_store.specs.Calls.{FailureCounted, Leaves, one_more}
-use Rattle.meson_store.specs.Content.{Content, replaced}
+use Rattle.meson_store.specs.Content.{Content, content_with}
 use Rattle.meson_store.specs.declared.store.StoreError.{StoreError}
 
 -- what it holds, if it tells it, how many calls failed, and how many calls of `replace` there were
@@ -25,7 +25,7 @@ pub record Untouched (before after : Seen) : Type 0 where
 
 -- the file at that path got these bytes
 pub record IsReplaced (path bytes : List ℕ) (before after : Seen) : Type 0 where
-  pub put : after.content ≡ replaced before.content path bytes
+  pub put : after.content ≡ content_with before.content path bytes
   pub counts : before.failures ≤ after.failures
   pub counted : after.replaces ≡ one_more before.replaces
 

@@ -3,7 +3,7 @@
 ghost use Rattle.std.specs.Prelude.{◌≡◌, ◌≤◌, ◌↔◌, IfOk, IfErr, OnOk, OnErr, Some, true, false, option_map};
 ghost use Rattle.std.specs.FinMap.{get, insert, empty};
 ghost use Rattle.meson_store.specs.Calls.{FailureCounted, one_more};
-ghost use Rattle.meson_store.specs.MemoryStore.{MayAnswer, planned, is_planned, is_due, no_files, after_read, replaced_so, with_file};
+ghost use Rattle.meson_store.specs.MemoryStore.{MayAnswer, with_failures, is_planned, is_due, no_files, after_read, replaced_so, with_file};
 
 use crate::{Store, StoreError};
 use std::alloc::{AllocError, Global};
@@ -58,11 +58,11 @@ pub struct Memory {
 }
 
 impl Model for Memory {
-    ghost use Rattle.meson_store.specs.MemoryStore.{Held, held_code};
+    ghost use Rattle.meson_store.specs.MemoryStore.{HeldFiles, held_code};
     ghost use Rattle.std.specs.FinMap.{from_entries};
     ghost use Rattle.std.specs.Prelude.{map, string_bytes};
 
-    ghost Value = { Held };
+    ghost Value = { HeldFiles };
 
     ghost coded = { held_code };
 
@@ -120,7 +120,7 @@ impl Memory {
 
     /// Has `count` calls of `read` fail, from call `first` on; the store's first call is 1.
     pub fn fail_read(&mut self, first: u64, count: u64)
-        ensures { self.new ≡ record self.old { reads = planned self.old.reads first count } }
+        ensures { self.new ≡ record self.old { reads = with_failures self.old.reads first count } }
     {
         self.reads.first = first;
         self.reads.count = count;
@@ -130,7 +130,7 @@ impl Memory {
     ///
     /// With `leaves_new` the first one that fails leaves its new bytes. Where there is no memory for them, it answers that.
     pub fn fail_replace(&mut self, first: u64, count: u64, leaves_new: bool)
-        ensures { self.new ≡ record self.old { replaces = planned self.old.replaces first count; leaves_new = leaves_new; is_sure = false } }
+        ensures { self.new ≡ record self.old { replaces = with_failures self.old.replaces first count; leaves_new = leaves_new; is_sure = false } }
     {
         self.replaces.first = first;
         self.replaces.count = count;
@@ -140,7 +140,7 @@ impl Memory {
 
     /// Has `count` calls of `replace` answer `Unchanged`, from call `first` on; the store's first call is 1.
     pub fn fail_unchanged(&mut self, first: u64, count: u64)
-        ensures { self.new ≡ record self.old { replaces = planned self.old.replaces first count; leaves_new = false; is_sure = true } }
+        ensures { self.new ≡ record self.old { replaces = with_failures self.old.replaces first count; leaves_new = false; is_sure = true } }
     {
         self.replaces.first = first;
         self.replaces.count = count;

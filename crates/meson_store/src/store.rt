@@ -2,7 +2,7 @@
 
 ghost use Rattle.std.specs.Prelude.{◌≡◌, ◌≤◌, ℕ, Option, None, IfOk, IfSome, IfErr, OnOk, option_map};
 ghost use Rattle.std.specs.FinMap.{get};
-ghost use Rattle.meson_store.specs.Content.{Content, replaced};
+ghost use Rattle.meson_store.specs.Content.{Content, content_with};
 
 use std::alloc::{AllocError, Global};
 use std::io;
@@ -76,7 +76,7 @@ pub trait Store {
     /// `OutOfMemory` where a growth was refused; else the device failed, and `failures` rose. The file is as it was;
     /// after `Device` it may have the new bytes.
     fn replace(&mut self, name: &str, bytes: &[u8]) -> Result<(), StoreError>
-        ensures ok { OnOk result (content self.new ≡ replaced (content self.old) name.now bytes.now) }
+        ensures ok { OnOk result (content self.new ≡ content_with (content self.old) name.now bytes.now) }
         ensures err { IfErr result (λ why. Leaves why name.now bytes.now (content self.old) (content self.new)) }
         ensures counts { failures self.old ≤ failures self.new }
         ensures failed { IfErr result (λ why. FailureCounted why (failures self.old) (failures self.new)) }

@@ -7,14 +7,14 @@ use Rattle.sha2.proofs.Facts256.{length-sha256}
 use Rattle.sha2.specs.Sha256.{sha256}
 use Rattle.meson_splice.specs.declared.file_set.File.{File}
 use Rattle.meson_sums.specs.Laws.{Collision, IsOnALine, SumsTell}
-use Rattle.meson_sums.specs.Sums.{digest, line, sums}
+use Rattle.meson_sums.specs.Sums.{digest, sum_line, sums}
 use Rattle.meson_sums.proofs.Lines.{as-long, one-line}
 
 length-digest : (text : List ℕ) → length (digest text) ≡ 64
 length-digest text = length-encode_with lower_digits (sha256 text) ∙ ap (λ n. 2 * n) (length-sha256 text)
 
 -- a line and what stands behind it
-spread : (f : File) (more : List ℕ) → line f ++ more ≡ digest f.bytes ++ (codes "  " ++ (f.name ++ 10 ∷ more))
+spread : (f : File) (more : List ℕ) → sum_line f ++ more ≡ digest f.bytes ++ (codes "  " ++ (f.name ++ 10 ∷ more))
 spread f more =
     append_assoc (digest f.bytes) (codes "  " ++ (f.name ++ 10 ∷ [])) more
     ∙ ap (λ t. digest f.bytes ++ (codes "  " ++ t)) (append_assoc f.name (10 ∷ []) more)
@@ -25,7 +25,7 @@ pub record AreAlike (f g : File) (more others : List ℕ) : Type 0 where
   pub same_name : f.name ≡ g.name
   pub same_rest : more ≡ others
 
-alike : (f g : File) (more others : List ℕ) → IsOnALine f → IsOnALine g → line f ++ more ≡ line g ++ others → AreAlike f g more others
+alike : (f g : File) (more others : List ℕ) → IsOnALine f → IsOnALine g → sum_line f ++ more ≡ sum_line g ++ others → AreAlike f g more others
 alike f g more others on_f on_g same =
     let spreads = sym (spread f more) ∙ same ∙ spread g others in
     let digests = as-long (digest f.bytes) (digest g.bytes) _ _ (length-digest f.bytes ∙ sym (length-digest g.bytes)) spreads in
@@ -33,7 +33,7 @@ alike f g more others on_f on_g same =
     let parts = one-line f.name g.name more others on_f on_g names in
     record { same_digest = digests.0; same_name = parts.0; same_rest = parts.1 }
 
-no-line : (f : File) (more : List ℕ) → line f ++ more ≡ [] → ⊥
+no-line : (f : File) (more : List ℕ) → sum_line f ++ more ≡ [] → ⊥
 no-line f more none =
     let long = length-digest f.bytes in
     let spreads : digest f.bytes ++ (codes "  " ++ (f.name ++ 10 ∷ more)) ≡ [] = sym (spread f more) ∙ none in

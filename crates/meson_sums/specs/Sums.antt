@@ -10,9 +10,9 @@ abbrev pub digest : List ℕ → List ℕ
 digest bytes = encode_lower (sha256 bytes)
 
 -- the digest, two blanks and the name
-abbrev pub line : File → List ℕ
-line f = digest f.bytes ++ (codes "  " ++ (f.name ++ 10 ∷ []))
+abbrev pub sum_line : File → List ℕ
+sum_line f = digest f.bytes ++ (codes "  " ++ (f.name ++ 10 ∷ []))
 
 -- one for each file, in order
 abbrev pub sums : List File → List ℕ
-sums files = concat (map line files)
+sums files = concat (map sum_line files)

@@ -2,7 +2,7 @@
 
 ghost use Rattle.std.specs.Prelude.{◌≡◌, IfOk, string_bytes};
 ghost use Rattle.std.specs.Str.{bytes_eq};
-ghost use Rattle.meson_sums.specs.Sums.{digest, line, sums};
+ghost use Rattle.meson_sums.specs.Sums.{digest, sum_line, sums};
 
 use hex::encode;
 use meson_splice::FileSet;
@@ -18,7 +18,7 @@ fn digest(alloc: Global, bytes: &[u8]) -> Result<String, AllocError>
 
 /// The line of a file.
 fn line(alloc: Global, name: &str, bytes: &[u8]) -> Result<Vec<u8>, AllocError>
-    ensures { IfOk result (λ text. text.items ≡ line (record { name = name.now; bytes = bytes.now })) }
+    ensures { IfOk result (λ text. text.items ≡ sum_line (record { name = name.now; bytes = bytes.now })) }
 {
     let digest = digest(alloc, bytes)?;
     let line = format!(in alloc; "{digest}  {name}\n")?;

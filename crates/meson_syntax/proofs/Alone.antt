@@ -5,8 +5,8 @@ use Rattle.meson_lex.specs.declared.kinds.Kind.TheVariants as k
 use Rattle.meson_lex.specs.declared.kinds.Span.{Span}
 use Rattle.meson_lex.specs.Located.{Token}
 use Rattle.meson_syntax.specs.declared.operator.StringKind.TheVariants as quotes
-use Rattle.meson_syntax.specs.Input.{Input, Parser, and_then, from, kind, left, name_next, next, sees, span_from, spelling}
-use Rattle.meson_syntax.specs.Reading.{answered, chosen, identified, number, postfixed, primary, quoted, row_at, row_of, tails, tails_from, truth, unaried, unary_by, unary_of, with_tails}
+use Rattle.meson_syntax.specs.Input.{Input, Parser, and_then, from, kind, left, name_next, next, sees, span_from, text_ahead}
+use Rattle.meson_syntax.specs.Reading.{answered, choice, identified, number, postfixed, primary, quoted, row_at, row_of, tails, tails_from, truth, unaried, unary_by, unary_of, with_tails}
 use Rattle.meson_syntax.specs.Rows.{row_with}
 use Rattle.meson_syntax.specs.Alone.{begins_alone, ends_expression, is_alone, is_single, tailed}
 use Rattle.meson_syntax.specs.Tree.{Expression, boolean, identifier, integer, string}
@@ -61,11 +61,11 @@ module _ (room : Bool) (inner : Parser (Expression Span)) where
   -- a token that is an expression, where no bracket follows
   primary-single : (κ : Kind) (i : Input) → is_single κ ≡ true → kind i ≡ Some κ → sees k.OpenRound (next i) ≡ false → (e : Expression Span) × (primary room inner i ≡ Some (e, next i))
   unfolding primary identified truth number quoted name_next
-  primary-single k.Identifier i single is closed = (identifier (span_from (from i) (next i)) (spelling i), simp (is, closed))
+  primary-single k.Identifier i single is closed = (identifier (span_from (from i) (next i)) (text_ahead i), simp (is, closed))
   primary-single k.WordTrue i single is closed = (boolean (span_from (from i) (next i)) true, simp is)
   primary-single k.WordFalse i single is closed = (boolean (span_from (from i) (next i)) false, simp is)
-  primary-single k.Integer i single is closed = (integer (span_from (from i) (next i)) (spelling i), simp is)
-  primary-single k.PlainString i single is closed = (string (span_from (from i) (next i)) quotes.Plain (spelling i), simp is)
+  primary-single k.Integer i single is closed = (integer (span_from (from i) (next i)) (text_ahead i), simp is)
+  primary-single k.PlainString i single is closed = (string (span_from (from i) (next i)) quotes.Plain (text_ahead i), simp is)
   primary-single _ i single is closed = absurd (let bad : ⊥ = cc in bad)
 
   unary-single : (κ : Kind) → is_single κ ≡ true → unary_of (Some κ) ≡ None
@@ -76,8 +76,8 @@ module _ (room : Bool) (inner : Parser (Expression Span)) where
   unary-single k.PlainString single = refl
   unary-single _ single = absurd (let bad : ⊥ = cc in bad)
 
-  chosen-quiet : (i j : Input) (e : Expression Span) → unary_of (kind i) ≡ None → primary room inner i ≡ Some (e, j) → Quiet j → chosen room inner i ≡ Some (e, j)
-  unfolding postfixed unaried chosen tailed
+  chosen-quiet : (i j : Input) (e : Expression Span) → unary_of (kind i) ≡ None → primary room inner i ≡ Some (e, j) → Quiet j → choice room inner i ≡ Some (e, j)
+  unfolding postfixed unaried choice tailed
   chosen-quiet i j e none is stops =
       let p : postfixed room inner i ≡ Some (e, j) = bind-is (primary room inner i) (tailed room inner (from i)) (e, j) (Some (e, j)) is (tailed-none (from i) e j stops.dot stops.square) in
       let u : unaried room inner i ≡ Some (e, j) = ap (λ o. unary_by room inner o i) none ∙ p in
@@ -85,7 +85,7 @@ module _ (room : Bool) (inner : Parser (Expression Span)) where
       row_at-with room inner 6 i ∙ bind-is (unaried room inner i) (λ x. row_with room inner 6 (from i) x) (e, j) (Some (e, j)) u (row_with-none room inner 6 (from i) e j stops.row) in
       bind-is (row_at room inner 6 i) (λ x l. (if sees k.Question l then answered room inner (from i) x else (λ m. Some (x, m))) l) (e, j) (Some (e, j)) r (simp stops.question)
 
-  alone-at : (last : ℕ) (ts : List Token) → begins_alone ts ≡ true → chosen room inner (record { last = last; rest = ts }) ≡ primary room inner (record { last = last; rest = ts })
+  alone-at : (last : ℕ) (ts : List Token) → begins_alone ts ≡ true → choice room inner (record { last = last; rest = ts }) ≡ primary room inner (record { last = last; rest = ts })
   unfolding next kind
   alone-at last [] alone = absurd (let bad : ⊥ = cc in bad)
   alone-at last (t ∷ []) alone = let h = both (is_single t.kind) false alone in absurd (let bad : ⊥ = cc in bad)
@@ -97,6 +97,6 @@ module _ (room : Bool) (inner : Parser (Expression Span)) where
       chosen-quiet i (next i) e.0 (unary-single t.kind h.0) e.1 stops ∙ sym e.1
 
   -- an expression of one token is what its first token tells
-  pub chosen-alone : (i : Input) → is_alone i ≡ true → chosen room inner i ≡ primary room inner i
+  pub chosen-alone : (i : Input) → is_alone i ≡ true → choice room inner i ≡ primary room inner i
   unfolding is_alone
   chosen-alone i alone = alone-at i.last i.rest alone

@@ -10,8 +10,8 @@ use Rattle.meson_syntax.specs.declared.operator.Bracket.{Bracket}
 use Rattle.meson_syntax.specs.declared.operator.Bracket.TheVariants as bracket
 use Rattle.meson_lex.specs.declared.kinds.Kind.TheVariants as k
 use Rattle.meson_syntax.specs.Tree.{Expression, identifier, boolean, integer, string, paren, array, dictionary, call, unary, row, postfix, conditional, Operands, no_operands, operand, Tail, method, index, Tails, no_tails, tail, Listing, listing, Argument, plain, named, pair, Arguments, no_arguments, argument, Statement, evaluate, assign, selection, iteration, breaks, continues, Branches, no_branches, branch, Otherwise, nothing_else, otherwise, Statements, no_statements, statement, Block, block, File}
-use Rattle.meson_syntax.specs.Paths.{Sort, of_expression, of_statement, of_block, Node, Hole, around, all_around, nth, children, child, reach, block_of, argument_children, arguments_children, listing_children, operands_children, tail_children, tails_children, expression_children, branches_children, otherwise_children, statement_children, statements_children, block_children, expression_of, expression_at, ListIn, list_in, ListAt, list_within, list_of_node, list_at}
-use Rattle.meson_syntax.specs.Parts.{Any, an_expression, a_statement, a_block, any_of, argument_parts, arguments_parts, listing_parts, operands_parts, tail_parts, tails_parts, expression_parts, branches_parts, otherwise_parts, statement_parts, statements_parts, block_parts, parts, node_at, expression_any}
+use Rattle.meson_syntax.specs.Paths.{Sort, of_expression, of_statement, of_block, Node, Hole, around, all_around, nth, children, nth_hole, reach, block_of, argument_children, arguments_children, listing_children, operands_children, tail_children, tails_children, expression_children, branches_children, otherwise_children, statement_children, statements_children, block_children, expression_of, expression_on_path, ListIn, list_in, ListAt, list_within, list_of_node, list_at}
+use Rattle.meson_syntax.specs.Parts.{Any, an_expression, a_statement, a_block, any_of, argument_parts, arguments_parts, listing_parts, operands_parts, tail_parts, tails_parts, expression_parts, branches_parts, otherwise_parts, statement_parts, statements_parts, block_parts, child_nodes, node_at, expression_any}
 
 module _ (S : Type 0) where
   pub inside_of : {T : Type 0} → Hole S T → Any S
@@ -118,7 +118,7 @@ module _ (S : Type 0) where
   block-insides : (b : Block S) → insides (block_children b) ≡ block_parts b
   block-insides (block s list) = insides-around [] [] (block s) (statements_children list) ∙ statements-insides list
 
-  children-insides : (sort : Sort) (x : Node sort S) → insides (children S sort x) ≡ parts (any_of S sort x)
+  children-insides : (sort : Sort) (x : Node sort S) → insides (children S sort x) ≡ child_nodes (any_of S sort x)
   children-insides of_expression e = expression-insides e
   children-insides of_statement s = statement-insides s
   children-insides of_block b = block-insides b
@@ -130,7 +130,7 @@ module _ (S : Type 0) where
   nth-map f (x ∷ xs) zero = refl
   nth-map f (x ∷ xs) (suc n) = nth-map f xs n
 
-  child-inside : (sort : Sort) (x : Node sort S) (n : ℕ) → nth (parts (any_of S sort x)) n ≡ option_map inside_of (child S sort x n)
+  child-inside : (sort : Sort) (x : Node sort S) (n : ℕ) → nth (child_nodes (any_of S sort x)) n ≡ option_map inside_of (nth_hole S sort x n)
   unfolding insides
   child-inside sort x n = ap (λ l. nth l n) (sym (children-insides sort x)) ∙ nth-map inside_of (children S sort x) n
 
@@ -147,7 +147,7 @@ module _ (S : Type 0) where
   unfolding inside_of
   reached sort x [] = refl
   reached sort x (n ∷ path) =
-      ap (λ o. option_and_then (λ y. node_at y path) o) (child-inside sort x n) ∙ through (child S sort x n) path (λ h. reached h.sort h.inside path)
+      ap (λ o. option_and_then (λ y. node_at y path) o) (child-inside sort x n) ∙ through (nth_hole S sort x n) path (λ h. reached h.sort h.inside path)
 
   -- ---- expressions and lists
 
@@ -156,7 +156,7 @@ module _ (S : Type 0) where
   of-any of_statement s = refl
   of-any of_block b = refl
 
-  pub expression-reached : (f : File S) (path : List ℕ) → expression_at f path ≡ option_and_then expression_any (node_at (a_block (block_of f)) path)
+  pub expression-reached : (f : File S) (path : List ℕ) → expression_on_path f path ≡ option_and_then expression_any (node_at (a_block (block_of f)) path)
   unfolding inside_of
   expression-reached f path = each (reach S of_block (block_of f) path) ∙ sym (ap (option_and_then expression_any) (reached of_block (block_of f) path)) where
     each : (r : Option (Hole S (Block S))) → option_and_then (λ h. expression_of S h.sort h.inside) r ≡ option_and_then expression_any (option_map inside_of r)
@@ -173,7 +173,7 @@ module _ (S : Type 0) where
   of-node f of_statement s before behind back = refl
   of-node f of_block b before behind back = refl
 
-  pub list-reached : (f : File S) (path : List ℕ) → option_map (λ (p : ListAt S). p.list) (list_at f path) ≡ option_and_then (λ e. option_map (λ (l : ListIn S). l.list) (list_in e)) (expression_at f path)
+  pub list-reached : (f : File S) (path : List ℕ) → option_map (λ (p : ListAt S). p.list) (list_at f path) ≡ option_and_then (λ e. option_map (λ (l : ListIn S). l.list) (list_in e)) (expression_on_path f path)
   list-reached f path = each (reach S of_block (block_of f) path) where
     each : (r : Option (Hole S (Block S))) → option_map (λ (p : ListAt S). p.list) (option_and_then (λ h. list_of_node S h.sort h.inside f h.before h.behind h.back) r)
         ≡ option_and_then (λ e. option_map (λ (l : ListIn S). l.list) (list_in e)) (option_and_then (λ h. expression_of S h.sort h.inside) r)

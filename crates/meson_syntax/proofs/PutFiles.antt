@@ -3,7 +3,7 @@ use Rattle.std.specs.Prelude.{option_map, option_and_then}
 use Rattle.std.proofs.Common.{◌≡◌, ℕ, List, [], ◌∷◌, Option, Some, None, refl, ap, ◌∙◌}
 use Rattle.meson_lex.specs.Significant.{Word}
 use Rattle.meson_syntax.specs.Tree.{Listing, Block, File}
-use Rattle.meson_syntax.specs.Paths.{Sort, of_expression, of_statement, of_block, Node, Hole, around, child, reach, block_of, with_block, ListIn, list_in, ListAt, list_within, list_of_node, list_at}
+use Rattle.meson_syntax.specs.Paths.{Sort, of_expression, of_statement, of_block, Node, Hole, around, nth_hole, reach, block_of, with_block, ListIn, list_in, ListAt, list_within, list_of_node, list_at}
 use Rattle.meson_syntax.specs.Putting.{put_own, put_here, in_hole, put_in}
 use Rattle.meson_syntax.proofs.parsing.Steps.{some-injective}
 use Rattle.meson_syntax.proofs.paths.Reaching.{map-some, and-then-some, reach-fits}
@@ -17,7 +17,7 @@ module _ (S : Type 0) (new : Listing S) where
   reached : (sort : Sort) (x : Node sort S) (path : List ℕ) (h : Hole S (Node sort S)) → reach S sort x path ≡ Some h → put_in S sort x path new ≡ into h
   reached sort x [] h is = ap into (some-injective _ h is)
   reached sort x (n ∷ path) h is =
-      let o = and-then-some (λ g. option_map (around g.before g.behind g.back) (reach S g.sort g.inside path)) (child S sort x n) h is in
+      let o = and-then-some (λ g. option_map (around g.before g.behind g.back) (reach S g.sort g.inside path)) (nth_hole S sort x n) h is in
       let g = o.0 in
       let m = map-some (around g.before g.behind g.back) (reach S g.sort g.inside path) h o.2 in
       ap (in_hole (λ s y. put_in S s y path new) (new, x)) o.1
@@ -46,13 +46,13 @@ module _ (S : Type 0) (new : Listing S) where
 
   nowhere : (sort : Sort) (x : Node sort S) (path : List ℕ) → reach S sort x path ≡ None → put_in S sort x path new ≡ (new, x)
   nowhere sort x [] is = absurd cc
-  nowhere sort x (n ∷ path) is = each (λ g. nowhere g.sort g.inside path) (child S sort x n) refl is where
+  nowhere sort x (n ∷ path) is = each (λ g. nowhere g.sort g.inside path) (nth_hole S sort x n) refl is where
     into_none : (g : Hole S (Node sort S)) (r : Option (Hole S (Node g.sort S))) → option_map (around g.before g.behind g.back) r ≡ None → r ≡ None
     into_none g None e = refl
     into_none g (Some i) e = absurd cc
 
     each : ((g : Hole S (Node sort S)) → reach S g.sort g.inside path ≡ None → put_in S g.sort g.inside path new ≡ (new, g.inside))
-        → (o : Option (Hole S (Node sort S))) → child S sort x n ≡ o
+        → (o : Option (Hole S (Node sort S))) → nth_hole S sort x n ≡ o
         → option_and_then (λ g. option_map (around g.before g.behind g.back) (reach S g.sort g.inside path)) o ≡ None
         → in_hole (λ s y. put_in S s y path new) (new, x) o ≡ (new, x)
     each deeper None same e = refl

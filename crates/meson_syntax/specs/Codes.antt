@@ -16,8 +16,8 @@ use Rattle.meson_syntax.specs.declared.tree.Block as rust_block
 use Rattle.meson_syntax.specs.declared.tree.Parsed.{Parsed}
 use Rattle.meson_syntax.specs.Tree.{Name, Expression, identifier, boolean, integer, string, paren, array, dictionary, call, unary, row, postfix, conditional, Operands, no_operands, operand, Tail, method, index, Tails, no_tails, tail, Listing, listing, Argument, plain, named, pair, Arguments, no_arguments, argument, Statement, evaluate, assign, selection, iteration, breaks, continues, Branches, no_branches, branch, Otherwise, nothing_else, otherwise, Statements, no_statements, statement, Block, block, File, file}
 
-abbrev pub places : List (Name Span) → List Span
-places = map (λ name. name.place)
+abbrev pub places_of_names : List (Name Span) → List Span
+places_of_names = map (λ name. name.place)
 
 abbrev mutual
   pub code_expression : Expression Span → Expr
@@ -63,7 +63,7 @@ abbrev mutual
   code_statement (evaluate e) = roll-Stmt (Stmt-F.Expr (code_expression e))
   code_statement (assign s x a e) = roll-Stmt (Stmt-F.Assign s x.place a (code_expression e))
   code_statement (selection s bs o) = roll-Stmt (Stmt-F.If s (code_branches bs) (code_otherwise o))
-  code_statement (iteration s xs e b) = roll-Stmt (Stmt-F.Foreach s (places xs) (code_expression e) (code_block b))
+  code_statement (iteration s xs e b) = roll-Stmt (Stmt-F.Foreach s (places_of_names xs) (code_expression e) (code_block b))
   code_statement (breaks s) = roll-Stmt (Stmt-F.Break s)
   code_statement (continues s) = roll-Stmt (Stmt-F.Continue s)
 

@@ -8,27 +8,27 @@ use Rattle.meson_lex.specs.Significant.{Role, Gap, Ends, Opens, Closes, Other, r
 use Rattle.meson_lex.specs.Located.{Token, line_end_at, closing_at, located}
 use Rattle.meson_syntax.specs.View.{text_at}
 
-pub record Gathered : Type 0 where
+pub record GatheredTokens : Type 0 where
   pub source : List ℕ
   pub tokens : List Token
   pub state : State
   -- where the last token ended
   pub end : ℕ
 
-abbrev pub nothing : List ℕ → Gathered
-nothing source = record { source = source; tokens = []; state = start; end = 0 }
+abbrev pub no_tokens : List ℕ → GatheredTokens
+no_tokens source = record { source = source; tokens = []; state = start; end = 0 }
 
 abbrev pub token_for : List ℕ → Item → Token
 token_for source x = record { kind = x.kind; text = text_at source x.span; from = x.span.from; to = x.span.to }
 
-abbrev pub spot_for : Role → Gathered → Item → List Token
+abbrev pub spot_for : Role → GatheredTokens → Item → List Token
 spot_for Gap g x = []
 spot_for Ends g x = only_if (ends_line g.state.depth g.state.fresh) (line_end_at g.end)
 spot_for Opens g x = token_for g.source x ∷ []
 spot_for Closes g x = token_for g.source x ∷ []
 spot_for Other g x = token_for g.source x ∷ []
 
-abbrev pub end_for : Role → Gathered → Item → ℕ
+abbrev pub end_for : Role → GatheredTokens → Item → ℕ
 end_for Gap g x = g.end
 end_for Ends g x = g.end
 end_for Opens g x = x.span.to
@@ -36,11 +36,11 @@ end_for Closes g x = x.span.to
 end_for Other g x = x.span.to
 
 -- with an item that is a token by itself
-abbrev pub pushed : Gathered → Item → Gathered
+abbrev pub pushed : GatheredTokens → Item → GatheredTokens
 pushed g x = record { source = g.source; tokens = g.tokens ++ token_for g.source x ∷ []; state = record { depth = g.state.depth; fresh = false }; end = x.span.to }
 
 -- with a line end
-abbrev pub line_ended : Gathered → Gathered
+abbrev pub line_ended : GatheredTokens → GatheredTokens
 line_ended g = record {
   source = g.source;
   tokens = g.tokens ++ only_if (ends_line g.state.depth g.state.fresh) (line_end_at g.end);
@@ -49,8 +49,8 @@ line_ended g = record {
 }
 
 -- with one more item
-unfoldable pub stepped : Gathered → Item → Gathered
-stepped g x = record {
+unfoldable pub gathered_with : GatheredTokens → Item → GatheredTokens
+gathered_with g x = record {
   source = g.source;
   tokens = g.tokens ++ spot_for (role x.kind) g x;
   state = step_by (role x.kind) g.state;
@@ -58,14 +58,14 @@ stepped g x = record {
 }
 
 -- at the end of the source
-abbrev pub closed : Gathered → List Token
+abbrev pub closed : GatheredTokens → List Token
 closed g = g.tokens ++ closing_at g.state.fresh g.end
 
 -- with all that the lexer still gives
-abbrev pub gathered : Gathered → List (Result Item LexFault) → Result (List Token) LexFault
-gathered g [] = Ok (closed g)
-gathered g (Ok x ∷ more) = gathered (stepped g x) more
-gathered g (Err fault ∷ more) = Err fault
+abbrev pub gathered_tokens : GatheredTokens → List (Result Item LexFault) → Result (List Token) LexFault
+gathered_tokens g [] = Ok (closed g)
+gathered_tokens g (Ok x ∷ more) = gathered_tokens (gathered_with g x) more
+gathered_tokens g (Err fault ∷ more) = Err fault
 
 -- the source has this fault
 pub record IsFaulty (source : List ℕ) (fault : LexFault) : Type 0 where

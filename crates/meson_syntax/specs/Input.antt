@@ -46,8 +46,8 @@ unfoldable pub kind : Input → Option Kind
 kind i = kind_of i.rest
 
 -- its text, and where it begins
-unfoldable pub spelling : Input → List ℕ
-spelling i = text_of i.rest
+unfoldable pub text_ahead : Input → List ℕ
+text_ahead i = text_of i.rest
 
 unfoldable pub from : Input → ℕ
 from i = from_of i.last i.rest
@@ -103,7 +103,7 @@ abbrev pub saw_two : Kind → Kind → Parser Bool
 saw_two κ ι = λ i. Some (sees_two κ ι i, i)
 
 abbrev pub take_token : Parser (List ℕ)
-take_token = λ i. Some (spelling i, next i)
+take_token = λ i. Some (text_ahead i, next i)
 
 -- from a place to the end of the last token
 unfoldable pub span_from : ℕ → Input → Span
@@ -111,7 +111,7 @@ span_from start i = record { from = start; to = i.last }
 
 -- the name that the next token is, with its place
 unfoldable pub name_next : Input → Name Span
-name_next i = record { place = span_from (from i) (next i); text = spelling i }
+name_next i = record { place = span_from (from i) (next i); text = text_ahead i }
 
 abbrev pub take_name : Parser (Name Span)
 take_name = λ i. Some (name_next i, next i)
@@ -122,12 +122,12 @@ here = λ i. Some (from i, i)
 abbrev pub since : ℕ → Parser Span
 since start = λ i. Some (span_from start i, i)
 
-unfoldable pub after : Kind → Input → Input
-after κ i = if sees κ i then next i else i
+unfoldable pub after_kind : Kind → Input → Input
+after_kind κ i = if sees κ i then next i else i
 
 -- takes a token of this kind, if it comes next
 abbrev pub eat : Kind → Parser Bool
-eat κ = λ i. Some (sees κ i, after κ i)
+eat κ = λ i. Some (sees κ i, after_kind κ i)
 
 -- whether no token is left
 abbrev pub is_over : List Token → Bool

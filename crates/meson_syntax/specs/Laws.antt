@@ -55,26 +55,26 @@ ListsFit = (f : Plain) (path : List ℕ) (p : ListAt Nowhere) → list_at f path
 -- ---- trees without their spans
 
 -- what a path names, and the words around it
-pub record Front (S : Type 0) : Type 0 where
+pub record WordsAround (S : Type 0) : Type 0 where
   pub sort : Sort
   pub inside : Node sort S
   pub before : List Word
   pub behind : List Word
 
-abbrev pub front : {S T : Type 0} → Hole S T → Front S
-front h = record { sort = h.sort; inside = h.inside; before = h.before; behind = h.behind }
+abbrev pub words_around : {S T : Type 0} → Hole S T → WordsAround S
+words_around h = record { sort = h.sort; inside = h.inside; before = h.before; behind = h.behind }
 
 abbrev pub erase_node : (S : Type 0) (sort : Sort) → Node sort S → Node sort Nowhere
 erase_node S of_expression e = erase_expression e
 erase_node S of_statement s = erase_statement s
 erase_node S of_block b = erase_block b
 
-abbrev pub erase_front : {S : Type 0} → Front S → Front Nowhere
+abbrev pub erase_front : {S : Type 0} → WordsAround S → WordsAround Nowhere
 erase_front {S} h = record { sort = h.sort; inside = erase_node S h.sort h.inside; before = h.before; behind = h.behind }
 
 -- A path names the same in the tree without its spans.
 abbrev pub NodesErase : Type 0
-NodesErase = (f : File Span) (path : List ℕ) → option_map front (reach Nowhere of_block (block_of (erase f)) path) ≡ option_map (λ h. erase_front (front h)) (reach Span of_block (block_of f) path)
+NodesErase = (f : File Span) (path : List ℕ) → option_map words_around (reach Nowhere of_block (block_of (erase f)) path) ≡ option_map (λ h. erase_front (words_around h)) (reach Span of_block (block_of f) path)
 
 -- the list that a path names, and the words around it
 pub record ListFront (S : Type 0) : Type 0 where

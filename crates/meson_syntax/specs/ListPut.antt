@@ -21,5 +21,5 @@ with_list path l t = code_file (put_there (list_at (view [] t) path) (list_view 
 
 -- What `shift` and then `put_list` make of a tree: each border from the end of the list's `was` bytes on moves to behind `now` bytes, and
 -- the list is put in.
-abbrev pub exchanged : List ℕ → (from was now : ℕ) → rust.List → Parsed → Parsed
-exchanged path from was now l t = with_list path l (moved_parsed (moved (from + was) was now) t)
+abbrev pub list_exchanged : List ℕ → (from was now : ℕ) → rust.List → Parsed → Parsed
+list_exchanged path from was now l t = with_list path l (moved_parsed (moved (from + was) was now) t)

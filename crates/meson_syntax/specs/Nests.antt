@@ -24,23 +24,23 @@ IsGrammatical OutOfMemory = ⊤
 IsGrammatical _ = ⊥
 
 -- The function answers as the rule does over this source, and leaves the tokens that it leaves.
-abbrev pub Runs : {X Y : Type 0} → Parser Y → (Bytes → X → Y) → Bytes → Cursor → Result X ParseFault → Cursor → Type 0
-Runs rule view source old result new = Gives (view source) (rule (input source old)) result (input source new) × IfErr result IsGrammatical
+abbrev pub AnswersAs : {X Y : Type 0} → Parser Y → (Bytes → X → Y) → Bytes → Cursor → Result X ParseFault → Cursor → Type 0
+AnswersAs rule view source old result new = Gives (view source) (rule (input source old)) result (input source new) × IfErr result IsGrammatical
 
 -- the same for a rule of expressions, where so many constructs may still stand inside one another
 abbrev pub Follows : {X Y : Type 0} → (Bool → Parser (Expression Span) → Parser Y) → (Bytes → X → Y) → Bytes → ℕ → Cursor → Result X ParseFault → Cursor → Type 0
-Follows rule view source depth old result new = Runs (rule (room depth) (expression depth)) view source old result new
+Follows rule view source depth old result new = AnswersAs (rule (room depth) (expression depth)) view source old result new
 
 -- the same for a rule of statements, whose conditions and bodies stand one level deeper
 abbrev pub Proceeds : {X Y : Type 0} → (Bool → Parser (Expression Span) → Parser (Expression Span) → Parser (Block Span) → Parser Y) → (Bytes → X → Y) → Bytes → ℕ → Cursor → Result X ParseFault → Cursor → Type 0
-Proceeds rule view source depth old result new = Runs (rule (room depth) (expression (suc depth)) (expression depth) (block_at depth)) view source old result new
+Proceeds rule view source depth old result new = AnswersAs (rule (room depth) (expression (suc depth)) (expression depth) (block_at depth)) view source old result new
 
 -- A function with this precondition and postcondition reads expressions in which fewer than so many constructs stand inside one another.
 pub record Nests (depth : ℕ) (pre : Global → Bor Bytes → MutBor Cursor → ℕ → Type 0)
     (post : Global → Bor Bytes → MutBor Cursor → ℕ → Result Expr ParseFault → MutBor Cursor → Type 0) : Type 0 where
   pub callable : (alloc : Global) (source : Bor Bytes) (old : MutBor Cursor) → pre alloc source old depth
   pub reads : (alloc : Global) (source : Bor Bytes) (old new : MutBor Cursor) (r : Result Expr ParseFault) → post alloc source old depth r new
-      → Runs (expression depth) expr_view source.now old.now r new.now
+      → AnswersAs (expression depth) expr_view source.now old.now r new.now
 
 -- A function with this precondition and postcondition reads blocks in which fewer than so many constructs stand inside one another, and one more can be counted.
 pub record NestsBlocks (depth : ℕ) (pre : Global → Bor Bytes → MutBor Cursor → ℕ → Type 0)
@@ -48,7 +48,7 @@ pub record NestsBlocks (depth : ℕ) (pre : Global → Bor Bytes → MutBor Curs
   pub countable : depth + 1 < 2 ^ 64
   pub callable : (alloc : Global) (source : Bor Bytes) (old : MutBor Cursor) → pre alloc source old depth
   pub reads : (alloc : Global) (source : Bor Bytes) (old new : MutBor Cursor) (r : Result rust.Block ParseFault) → post alloc source old depth r new
-      → Runs (block_at depth) block_view source.now old.now r new.now
+      → AnswersAs (block_at depth) block_view source.now old.now r new.now
 
 -- elements, with whether a comma stands behind the last
 abbrev pub elements_view : Bytes → Bool × List Arg → Bool × List (Argument Span)

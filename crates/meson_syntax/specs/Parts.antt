@@ -92,10 +92,10 @@ statements_parts (statement s more) = a_statement s ∷ statements_parts more
 abbrev pub block_parts : {S : Type 0} → Block S → List (Any S)
 block_parts (block s list) = statements_parts list
 
-abbrev pub parts : {S : Type 0} → Any S → List (Any S)
-parts (an_expression e) = expression_parts e
-parts (a_statement s) = statement_parts s
-parts (a_block b) = block_parts b
+abbrev pub child_nodes : {S : Type 0} → Any S → List (Any S)
+child_nodes (an_expression e) = expression_parts e
+child_nodes (a_statement s) = statement_parts s
+child_nodes (a_block b) = block_parts b
 
 abbrev pub expression_any : {S : Type 0} → Any S → Option (Expression S)
 expression_any (an_expression e) = Some e
@@ -106,7 +106,7 @@ expression_any (a_block b) = None
 
 abbrev pub node_at : {S : Type 0} → Any S → List ℕ → Option (Any S)
 node_at x [] = Some x
-node_at x (n ∷ path) = option_and_then (λ y. node_at y path) (nth (parts x) n)
+node_at x (n ∷ path) = option_and_then (λ y. node_at y path) (nth (child_nodes x) n)
 
 -- ---- what the code looks up
 

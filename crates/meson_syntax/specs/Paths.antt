@@ -140,13 +140,13 @@ nth [] n = None
 nth (x ∷ xs) zero = Some x
 nth (x ∷ xs) (suc n) = nth xs n
 
-abbrev pub child : (S : Type 0) (sort : Sort) → Node sort S → ℕ → Option (Hole S (Node sort S))
-child S sort x n = nth (children S sort x) n
+abbrev pub nth_hole : (S : Type 0) (sort : Sort) → Node sort S → ℕ → Option (Hole S (Node sort S))
+nth_hole S sort x n = nth (children S sort x) n
 
 -- the node that a path names
 abbrev pub reach : (S : Type 0) (sort : Sort) → Node sort S → List ℕ → Option (Hole S (Node sort S))
 reach S sort x [] = Some (record { sort = sort; inside = x; before = []; behind = []; back = λ y. y })
-reach S sort x (n ∷ path) = option_and_then (λ h. option_map (around h.before h.behind h.back) (reach S h.sort h.inside path)) (child S sort x n)
+reach S sort x (n ∷ path) = option_and_then (λ h. option_map (around h.before h.behind h.back) (reach S h.sort h.inside path)) (nth_hole S sort x n)
 
 abbrev pub block_of : {S : Type 0} → File S → Block S
 block_of (file s b) = b
@@ -160,8 +160,8 @@ expression_of S of_expression e = Some e
 expression_of S of_statement s = None
 expression_of S of_block b = None
 
-abbrev pub expression_at : {S : Type 0} → File S → List ℕ → Option (Expression S)
-expression_at {S} f path = option_and_then (λ h. expression_of S h.sort h.inside) (reach S of_block (block_of f) path)
+abbrev pub expression_on_path : {S : Type 0} → File S → List ℕ → Option (Expression S)
+expression_on_path {S} f path = option_and_then (λ h. expression_of S h.sort h.inside) (reach S of_block (block_of f) path)
 
 -- ---- lists
 

@@ -41,7 +41,7 @@ statement_span (continues s) = s
 -- ---- nodes among items
 
 -- The node of this span and these words: left of its own items stand those whose tokens come before its words, right of them the others.
-pub record Stands (items : List Lexeme) (s : Span) (before words behind : List Word) : Type 0 where
+pub record StandsAmongItems (items : List Lexeme) (s : Span) (before words behind : List Word) : Type 0 where
   pub left : List Lexeme
   pub own : List Lexeme
   pub right : List Lexeme
@@ -55,8 +55,8 @@ pub record Stands (items : List Lexeme) (s : Span) (before words behind : List W
 
 -- The expression or statement in a hole. (A block ends with a line end, which is no item of its own.)
 abbrev pub NodeStands : List Lexeme → (sort : Sort) → Node sort Span → (before behind : List Word) → Type 0
-NodeStands items of_expression e before behind = Stands items (expression_span e) before (expression_words e) behind
-NodeStands items of_statement s before behind = Stands items (statement_span s) before (statement_words s) behind
+NodeStands items of_expression e before behind = StandsAmongItems items (expression_span e) before (expression_words e) behind
+NodeStands items of_statement s before behind = StandsAmongItems items (statement_span s) before (statement_words s) behind
 NodeStands items of_block b before behind = ⊤
 
 -- A list, from its opening bracket to its closing one.

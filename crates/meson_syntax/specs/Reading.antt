@@ -84,8 +84,8 @@ module _ (room : Bool) (inner : Parser (Expression Span)) where
   -- ---- lists
 
   -- an argument with a name, which comes next with its colon
-  unfoldable pub with_name : Parser (Argument Span)
-  with_name = do
+  unfoldable pub named_argument : Parser (Argument Span)
+  named_argument = do
     start ← here
     name ← take_name
     take_token
@@ -108,26 +108,26 @@ module _ (room : Bool) (inner : Parser (Expression Span)) where
     pure (pair at key value)
 
   -- an element of a list in these brackets
-  unfoldable pub element : Bracket → Bool → Parser (Argument Span)
-  element bracket.Round seen = (do
+  unfoldable pub listed_element : Bracket → Bool → Parser (Argument Span)
+  listed_element bracket.Round seen = (do
     has_name ← saw_two k.Identifier k.Colon
-    if has_name then with_name else without_name seen)
-  element bracket.Square seen = without_name seen
-  element bracket.Curly seen = paired
+    if has_name then named_argument else without_name seen)
+  listed_element bracket.Square seen = without_name seen
+  listed_element bracket.Curly seen = paired
 
   -- the elements up to the closing bracket, with whether a comma stands before it. The number bounds the turns.
   unfoldable pub elements_from : Bracket → ℕ → Bool → List (Argument Span) → Parser (Bool × List (Argument Span))
   elements_from b zero seen found = refuse
   elements_from b (suc n) seen found = do
-    x ← element b seen
+    x ← listed_element b seen
     more ← eat k.Comma
     if more then (do
       done ← eat (closes b)
       if done then pure (true, found ++ x ∷ []) else elements_from b n (is_named x) (found ++ x ∷ []))
         else (do expect (closes b); pure (false, found ++ x ∷ []))
 
-  unfoldable pub elements : Bracket → Parser (Bool × List (Argument Span))
-  elements b = λ i. elements_from b (left i) false [] i
+  unfoldable pub listed_elements : Bracket → Parser (Bool × List (Argument Span))
+  listed_elements b = λ i. elements_from b (left i) false [] i
 
   -- from the opening bracket, which comes next
   unfoldable pub listed : Bracket → Parser (Listing Span)
@@ -137,7 +137,7 @@ module _ (room : Bool) (inner : Parser (Expression Span)) where
       take_token
       empty ← eat (closes b)
       if empty then (do at ← since start; pure (listing at false (arguments_of []))) else (do
-        found ← elements b
+        found ← listed_elements b
         at ← since start
         pure (listing at found.0 (arguments_of found.1)))) else refuse
 
@@ -298,8 +298,8 @@ module _ (room : Bool) (inner : Parser (Expression Span)) where
     at ← since start
     pure (conditional at condition so else_so)) else refuse
 
-  unfoldable pub chosen : Parser (Expression Span)
-  chosen = do
+  unfoldable pub choice : Parser (Expression Span)
+  choice = do
     start ← here
     e ← row_at 6
     asked ← saw k.Question
@@ -308,4 +308,4 @@ module _ (room : Bool) (inner : Parser (Expression Span)) where
 -- an expression in which fewer than so many constructs stand inside one another
 unfoldable pub expression : ℕ → Parser (Expression Span)
 expression zero = refuse
-expression (suc depth) = chosen (room depth) (expression depth)
+expression (suc depth) = choice (room depth) (expression depth)

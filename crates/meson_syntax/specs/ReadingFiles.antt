@@ -162,14 +162,14 @@ module _ (room : Bool) (expr inner : Parser (Expression Span)) (body : Parser (B
     kind ← peek
     if ends_block kind then pure found else (do s ← line; lines_from n (found ++ s ∷ []))
 
-  unfoldable pub lines : Parser (List (Statement Span))
-  lines = λ i. lines_from (left i) [] i
+  unfoldable pub statement_lines : Parser (List (Statement Span))
+  statement_lines = λ i. lines_from (left i) [] i
 
   -- the statements, from the first to the last
   unfoldable pub blocked : Parser (Block Span)
   blocked = do
     start ← here
-    found ← lines
+    found ← statement_lines
     λ i. Some (block (block_span start found i) (statements_of found), i)
 
 -- a block in which fewer than so many constructs stand inside one another
@@ -183,10 +183,10 @@ abbrev pub if_over : {A : Type 0} → A → List Token → Option A
 if_over x [] = Some x
 if_over x (t ∷ ts) = None
 
-abbrev pub file_of : ℕ → Outcome (Block Span) → Option (File Span)
-file_of len None = None
-file_of len (Some p) = if_over (file (record { from = 0; to = len }) p.0) p.1.rest
+abbrev pub file_of_block : ℕ → Outcome (Block Span) → Option (File Span)
+file_of_block len None = None
+file_of_block len (Some p) = if_over (file (record { from = 0; to = len }) p.0) p.1.rest
 
 -- the file of so many bytes whose tokens these are, where at most depth constructs stand inside one another
 unfoldable pub whole : ℕ → ℕ → List Token → Option (File Span)
-whole depth len ts = file_of len (block_at (suc depth) (record { last = 0; rest = ts }))
+whole depth len ts = file_of_block len (block_at (suc depth) (record { last = 0; rest = ts }))

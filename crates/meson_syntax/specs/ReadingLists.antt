@@ -18,10 +18,10 @@ bracketed depth b = do
 abbrev pub covers_all : ℕ → Span → Bool
 covers_all len s = (s.from == 0) && (s.to == len)
 
-abbrev pub list_of : ℕ → Outcome (Listing Span) → Option (Listing Span)
-list_of len None = None
-list_of len (Some p) = if covers_all len (list_span p.0) then Some p.0 else None
+abbrev pub list_read : ℕ → Outcome (Listing Span) → Option (Listing Span)
+list_read len None = None
+list_read len (Some p) = if covers_all len (list_span p.0) then Some p.0 else None
 
 -- the list that is all of a text of so many bytes whose tokens these are
 unfoldable pub whole_list : ℕ → Bracket → ℕ → List Token → Option (Listing Span)
-whole_list depth b len ts = list_of len (bracketed depth b (record { last = 0; rest = ts }))
+whole_list depth b len ts = list_read len (bracketed depth b (record { last = 0; rest = ts }))

@@ -97,8 +97,8 @@ IsSpanned = IsSpannedWithin of_files
 abbrev pub IsUnreadable : List ℕ → ParseFault → Type 0
 IsUnreadable = IsUnreadableWithin of_files
 
-abbrev pub MayRefuse : List ℕ → ParseFault → Type 0
-MayRefuse = MayRefuseWithin of_files
+abbrev pub MayNotRead : List ℕ → ParseFault → Type 0
+MayNotRead = MayRefuseWithin of_files
 
 -- ---- answers
 

@@ -33,7 +33,7 @@ pub record One (kind : Kind) (ts : List Token) : Type 0 where
   pub is : token.kind ≡ kind
 
 -- one token of this kind and text
-pub record Says (kind : Kind) (text : List ℕ) (ts : List Token) : Type 0 where
+pub record IsOneToken (kind : Kind) (text : List ℕ) (ts : List Token) : Type 0 where
   pub token : Token
   pub alone : ts ≡ token ∷ []
   pub is : token.kind ≡ kind
@@ -71,7 +71,7 @@ Each (κ ∷ κs) ts = Then (One κ) (Each κs) ts
 
 -- one token of this name, at its place
 abbrev pub SaysName : Name Span → List Token → Type 0
-SaysName name ts = Covers name.place ts × Says k.Identifier name.text ts
+SaysName name ts = Covers name.place ts × IsOneToken k.Identifier name.text ts
 
 -- names with commas between them
 abbrev pub SaysMoreNames : List (Name Span) → List Token → Type 0
@@ -91,10 +91,10 @@ Comma (argument a more) trailing = One k.Comma
 -- The tokens spell the tree, with its spans, and at most depth constructs stand inside one another.
 abbrev mutual
   pub SpellsExpression : Expression Span → ℕ → List Token → Type 0
-  SpellsExpression (identifier s x) depth ts = Covers s ts × Says k.Identifier x ts
+  SpellsExpression (identifier s x) depth ts = Covers s ts × IsOneToken k.Identifier x ts
   SpellsExpression (boolean s b) depth ts = Covers s ts × One (boolean_kind b) ts
-  SpellsExpression (integer s x) depth ts = Covers s ts × Says k.Integer x ts
-  SpellsExpression (string s q x) depth ts = Covers s ts × Says (string_kind q) x ts
+  SpellsExpression (integer s x) depth ts = Covers s ts × IsOneToken k.Integer x ts
+  SpellsExpression (string s q x) depth ts = Covers s ts × IsOneToken (string_kind q) x ts
   SpellsExpression (paren s e) depth ts = Covers s ts × Then (One k.OpenRound) (Then (Deeper (SpellsExpression e) depth) (One k.CloseRound)) ts
   SpellsExpression (array l) depth ts = SpellsListing l bracket.Square depth ts
   SpellsExpression (dictionary l) depth ts = SpellsListing l bracket.Curly depth ts

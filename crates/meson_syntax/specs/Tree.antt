@@ -145,11 +145,11 @@ abbrev pub Plain : Type 0
 Plain = File Nowhere
 
 -- a name that stands nowhere
-abbrev pub bare : List ℕ → Name Nowhere
-bare text = record { place = tt; text = text }
+abbrev pub bare_name : List ℕ → Name Nowhere
+bare_name text = record { place = tt; text = text }
 
 abbrev pub erase_name : {S : Type 0} → Name S → Name Nowhere
-erase_name name = bare name.text
+erase_name name = bare_name name.text
 
 abbrev pub erase_names : {S : Type 0} → List (Name S) → List (Name Nowhere)
 erase_names = map erase_name

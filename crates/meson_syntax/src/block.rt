@@ -5,7 +5,7 @@
 ghost use Rattle.std.specs.Prelude.{◌≡◌, ◌+◌, ◌<◌, ◌^◌, IfErr, IfOk, length, suc};
 ghost use Rattle.meson_syntax.specs.Cursor.{input};
 ghost use Rattle.meson_syntax.specs.Input.{GivesAll};
-ghost use Rattle.meson_syntax.specs.Nests.{IsGrammatical, NestsBlocks, Proceeds, Runs};
+ghost use Rattle.meson_syntax.specs.Nests.{IsGrammatical, NestsBlocks, Proceeds, AnswersAs};
 ghost use Rattle.meson_syntax.specs.Reading.{expression};
 ghost use Rattle.meson_syntax.specs.ReadingFiles as spec;
 ghost use Rattle.meson_syntax.specs.Tokens.{tokens_of};
@@ -52,7 +52,7 @@ pub(crate) fn read_block(
     tokens: &mut Cursor<'_>,
     depth: usize,
 ) -> Result<Block, ParseFault>
-    ensures { Runs (spec.block_at depth) block_view source.now tokens.old result tokens.new }
+    ensures { AnswersAs (spec.block_at depth) block_view source.now tokens.old result tokens.new }
 {
     if depth == 0 {
         return Err(ParseFault::TooDeep(tokens.place(source)));
@@ -81,14 +81,14 @@ impl<'a, F> Grammar<'a, F> {
     /// An expression that stands here.
     pub(crate) fn value(&self, tokens: &mut Cursor<'_>) -> Result<Expr, ParseFault>
         requires { self.now.depth + 1 < 2 ^ 64 }
-        ensures { Runs (expression (suc self.now.depth)) expr_view self.now.source.now tokens.old result tokens.new }
+        ensures { AnswersAs (expression (suc self.now.depth)) expr_view self.now.source.now tokens.old result tokens.new }
     {
         read_expression(self.alloc, self.source, tokens, self.depth + 1)
     }
 
     /// An expression that belongs to a construct that stands here: a condition, or what a loop runs through.
     pub(crate) fn inner_value(&self, tokens: &mut Cursor<'_>) -> Result<Expr, ParseFault>
-        ensures { Runs (expression self.now.depth) expr_view self.now.source.now tokens.old result tokens.new }
+        ensures { AnswersAs (expression self.now.depth) expr_view self.now.source.now tokens.old result tokens.new }
     {
         read_expression(self.alloc, self.source, tokens, self.depth)
     }
@@ -146,7 +146,7 @@ impl<'a, F: Fn(Global, &[u8], &mut Cursor<'_>, usize) -> Result<Block, ParseFaul
     #[tactic(auto, unfolding(crate::specs::ReadingFiles::lines))]
     fn lines(&self, tokens: &mut Cursor<'_>) -> Result<Many<Stmt>, ParseFault>
         requires { NestsBlocks self.now.depth (F.pre self.now.deeper) (F.post self.now.deeper) }
-        ensures { Proceeds spec.lines stmts_view self.now.source.now self.now.depth tokens.old result tokens.new }
+        ensures { Proceeds spec.statement_lines stmts_view self.now.source.now self.now.depth tokens.old result tokens.new }
     {
         let mut found = Many::new(self.alloc);
         // Each turn takes a token at least.

@@ -2,7 +2,7 @@
 //!
 //! The rules are those of the Syntax page of the Meson manual.
 
-ghost use Rattle.meson_syntax.specs.Nests.{Follows, Nests, Runs};
+ghost use Rattle.meson_syntax.specs.Nests.{Follows, Nests, AnswersAs};
 ghost use Rattle.meson_syntax.specs.Reading as spec;
 ghost use Rattle.meson_syntax.specs.View.{expr_view};
 
@@ -23,7 +23,7 @@ pub(crate) fn read_expression(
     tokens: &mut Cursor<'_>,
     depth: usize,
 ) -> Result<Expr, ParseFault>
-    ensures { Runs (spec.expression depth) expr_view source.now tokens.old result tokens.new }
+    ensures { AnswersAs (spec.expression depth) expr_view source.now tokens.old result tokens.new }
 {
     if depth == 0 {
         return Err(ParseFault::TooDeep(tokens.place(source)));
@@ -41,7 +41,7 @@ impl<'a, F: Fn(Global, &[u8], &mut Cursor<'_>, usize) -> Result<Expr, ParseFault
     /// An expression inside a construct that stands here.
     pub(crate) fn inner(&self, tokens: &mut Cursor<'_>) -> Result<Expr, ParseFault>
         requires { Nests self.now.depth (F.pre self.now.deeper) (F.post self.now.deeper) }
-        ensures { Runs (spec.expression self.now.depth) expr_view self.now.source.now tokens.old result tokens.new }
+        ensures { AnswersAs (spec.expression self.now.depth) expr_view self.now.source.now tokens.old result tokens.new }
     {
         (self.deeper)(self.alloc, self.source, tokens, self.depth)
     }
@@ -49,7 +49,7 @@ impl<'a, F: Fn(Global, &[u8], &mut Cursor<'_>, usize) -> Result<Expr, ParseFault
     /// An expression inside a construct that stands here, in memory of its own.
     pub(crate) fn boxed(&self, tokens: &mut Cursor<'_>) -> Result<Boxed<Expr>, ParseFault>
         requires { Nests self.now.depth (F.pre self.now.deeper) (F.post self.now.deeper) }
-        ensures { Runs (spec.expression self.now.depth) expr_view self.now.source.now tokens.old result tokens.new }
+        ensures { AnswersAs (spec.expression self.now.depth) expr_view self.now.source.now tokens.old result tokens.new }
     {
         let inside = self.inner(tokens)?;
         Ok(Boxed::new(self.alloc, inside)?)
@@ -58,7 +58,7 @@ impl<'a, F: Fn(Global, &[u8], &mut Cursor<'_>, usize) -> Result<Expr, ParseFault
     /// A conditional, or a tighter expression. Most are one token, and read at once.
     fn chosen(&self, tokens: &mut Cursor<'_>) -> Result<Expr, ParseFault>
         requires { Nests self.now.depth (F.pre self.now.deeper) (F.post self.now.deeper) }
-        ensures { Follows spec.chosen expr_view self.now.source.now self.now.depth tokens.old result tokens.new }
+        ensures { Follows spec.choice expr_view self.now.source.now self.now.depth tokens.old result tokens.new }
     {
         if self.is_alone(tokens) {
             return self.primary(tokens);
@@ -71,7 +71,7 @@ impl<'a, F: Fn(Global, &[u8], &mut Cursor<'_>, usize) -> Result<Expr, ParseFault
     #[tactic(auto, unfolding(crate::specs::Reading::chosen))]
     fn joined(&self, tokens: &mut Cursor<'_>) -> Result<Expr, ParseFault>
         requires { Nests self.now.depth (F.pre self.now.deeper) (F.post self.now.deeper) }
-        ensures { Follows spec.chosen expr_view self.now.source.now self.now.depth tokens.old result tokens.new }
+        ensures { Follows spec.choice expr_view self.now.source.now self.now.depth tokens.old result tokens.new }
     {
         let start = self.from(tokens);
         let condition = self.row(tokens, LOOSEST)?;

@@ -1,7 +1,7 @@
 //! A file's tree.
 
 ghost use Rattle.std.specs.Prelude.{◌≡◌, ◌+◌, ◌<◌, ◌^◌, IfOk, IfErr};
-ghost use Rattle.meson_syntax.specs.Reads.{Is, IsSpanned, IsSpannedWithin, IsUnreadable, IsUnreadableWithin, MayRefuse, MayRefuseWithin, Reads, ReadsWithin, Refuses, wide};
+ghost use Rattle.meson_syntax.specs.Reads.{Is, IsSpanned, IsSpannedWithin, IsUnreadable, IsUnreadableWithin, MayNotRead, MayRefuseWithin, Reads, ReadsWithin, Refuses, wide};
 ghost use Rattle.meson_syntax.specs.Tree.{Plain, erase};
 ghost use Rattle.meson_syntax.specs.View.{view};
 ghost use Rattle.meson_syntax.specs.declared.fault.ParseFault.{ParseFault};
@@ -22,7 +22,7 @@ pub fn parse(alloc: Global, source: &[u8]) -> Result<Parsed, ParseFault>
     // What is refused before the grammar is asked is refused with that fault.
     ensures unreadable { (e : ParseFault) → IsUnreadable source.now e → Refuses result e }
     // A refusal says why.
-    ensures refused { IfErr result (MayRefuse source.now) }
+    ensures refused { IfErr result (MayNotRead source.now) }
 {
     let limits = Limits {
         len: Some(MAX_LEN),

@@ -201,7 +201,7 @@ impl<'a, F> Grammar<'a, F> {
     /// Takes the next token, and gives its span.
     #[tactic(auto, unfolding(crate::specs::Input::spelling, crate::specs::Input::next, crate::specs::Input::from, crate::specs::Input::span_from, crate::specs::Input::name_next, crate::specs::Cursor::input))]
     pub(crate) fn take(&self, tokens: &mut Cursor<'_>) -> Span
-        ensures text { text_at self.now.source.now result ≡ spec.spelling (input self.now.source.now tokens.old) }
+        ensures text { text_at self.now.source.now result ≡ spec.text_ahead (input self.now.source.now tokens.old) }
         ensures name { name_at self.now.source.now result ≡ spec.name_next (input self.now.source.now tokens.old) }
         ensures next { input self.now.source.now tokens.new ≡ spec.next (input self.now.source.now tokens.old) }
         ensures span { result ≡ spec.span_from (spec.from (input self.now.source.now tokens.old)) (spec.next (input self.now.source.now tokens.old)) }
@@ -223,7 +223,7 @@ impl<'a, F> Grammar<'a, F> {
     #[tactic(auto, unfolding(crate::specs::Input::after))]
     pub(crate) fn eat(&self, tokens: &mut Cursor<'_>, kind: Kind) -> bool
         ensures found { result ≡ spec.sees kind (input self.now.source.now tokens.old) }
-        ensures after { input self.now.source.now tokens.new ≡ spec.after kind (input self.now.source.now tokens.old) }
+        ensures after { input self.now.source.now tokens.new ≡ spec.after_kind kind (input self.now.source.now tokens.old) }
     {
         let found = self.sees(tokens, kind);
         if found {

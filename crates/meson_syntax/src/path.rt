@@ -2,8 +2,8 @@
 
 ghost use Rattle.std.specs.Prelude.{◌≡◌, ◌∷◌, ◌++◌, [], option_map};
 ghost use Rattle.meson_syntax.specs.Cursor.{Bytes};
-ghost use Rattle.meson_syntax.specs.Parts.{Any, a_block, an_expression, argument_parts, args_parts, block_parts, branch_parts, expression_any, expression_parts, found_view, look, node_at, node_view, operand_parts, parts, option_of, otherwise_parts, rust_branches_parts, rust_operands_parts, rust_statements_parts, rust_tails_parts, statement_parts, tail_parts};
-ghost use Rattle.meson_syntax.specs.Paths.{expression_at, list_at, list_in, nth};
+ghost use Rattle.meson_syntax.specs.Parts.{Any, a_block, an_expression, argument_parts, args_parts, block_parts, branch_parts, expression_any, expression_parts, found_view, look, node_at, node_view, operand_parts, child_nodes, option_of, otherwise_parts, rust_branches_parts, rust_operands_parts, rust_statements_parts, rust_tails_parts, statement_parts, tail_parts};
+ghost use Rattle.meson_syntax.specs.Paths.{expression_on_path, list_at, list_in, nth};
 ghost use Rattle.meson_syntax.specs.View.{arg_view, block_view, branch_view, expr_view, list_view, operand_view, otherwise_view, stmt_view, tail_view, view};
 
 use crate::many::Many;
@@ -306,7 +306,7 @@ fn in_block(block: &Block, n: usize) -> Option<Node<'_>>
 impl<'t> Node<'t> {
     /// The child of this number.
     fn child(self, n: usize) -> Option<Node<'t>>
-        ensures { (source : Bytes) → option_map (node_view source) result ≡ nth (parts (node_view source self.entry)) n }
+        ensures { (source : Bytes) → option_map (node_view source) result ≡ nth (child_nodes (node_view source self.entry)) n }
     {
         match self {
             Node::Expr(expr) => in_expr(expr, n).node(),
@@ -361,7 +361,7 @@ impl Parsed {
 
     /// The expression that the path names.
     pub fn expr_at(&self, path: &Path) -> Option<&Expr>
-        ensures { (source : Bytes) → option_map (λ e. expr_view source e.now) result ≡ expression_at (view source self.now) path.now.steps }
+        ensures { (source : Bytes) → option_map (λ e. expr_view source e.now) result ≡ expression_on_path (view source self.now) path.now.steps }
     {
         match self.node_at(path) {
             Some(node) => node.expr(),

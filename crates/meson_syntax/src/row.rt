@@ -3,7 +3,7 @@
 //! The rules are those of the Syntax page of the Meson manual.
 
 ghost use Rattle.std.specs.Prelude.{◌≡◌, ◌≤◌, Some, IfOk};
-ghost use Rattle.meson_syntax.specs.Nests.{Follows, Nests, Runs, operator_view};
+ghost use Rattle.meson_syntax.specs.Nests.{Follows, Nests, AnswersAs, operator_view};
 ghost use Rattle.meson_syntax.specs.Reading as spec;
 ghost use Rattle.meson_syntax.specs.Rows.{longer, operands, row_with};
 ghost use Rattle.meson_syntax.specs.View.{expr_view, operand_view, operands_view};
@@ -191,7 +191,7 @@ impl<'a, F> Grammar<'a, F> {
     /// The operator between two operands that comes next.
     #[tactic(auto, unfolding(crate::specs::Reading::operator))]
     fn operator(&self, tokens: &mut Cursor<'_>) -> Result<Operator, ParseFault>
-        ensures { Runs spec.operator operator_view self.now.source.now tokens.old result tokens.new }
+        ensures { AnswersAs spec.operator operator_view self.now.source.now tokens.old result tokens.new }
     {
         match self.peek(tokens) {
             Some(Kind::Star) => self.one_token(tokens, Operator::Times),
@@ -215,7 +215,7 @@ impl<'a, F> Grammar<'a, F> {
 
     /// An operator of one token, which comes next.
     fn one_token(&self, tokens: &mut Cursor<'_>, operator: Operator) -> Result<Operator, ParseFault>
-        ensures { Runs (spec.one_token operator) operator_view self.now.source.now tokens.old result tokens.new }
+        ensures { AnswersAs (spec.one_token operator) operator_view self.now.source.now tokens.old result tokens.new }
     {
         self.take(tokens);
         Ok(operator)
@@ -223,7 +223,7 @@ impl<'a, F> Grammar<'a, F> {
 
     /// `not in`, the first word of which comes next.
     fn not_in(&self, tokens: &mut Cursor<'_>) -> Result<Operator, ParseFault>
-        ensures { Runs (spec.operator_by (Some Kind.WordNot)) operator_view self.now.source.now tokens.old result tokens.new }
+        ensures { AnswersAs (spec.operator_by (Some Kind.WordNot)) operator_view self.now.source.now tokens.old result tokens.new }
     {
         self.take(tokens);
         self.expect(tokens, Kind::WordIn)?;

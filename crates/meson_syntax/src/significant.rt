@@ -2,7 +2,7 @@
 
 ghost use Rattle.std.specs.Prelude.{◌≡◌, ◌+◌, ◌≢◌, ◌≤◌, ◌<◌, ◌^◌, IfErr, IfOk, OnOk, List, map, length};
 ghost use Rattle.meson_lex.specs.declared.fault.LexFault.{LexFault};
-ghost use Rattle.meson_syntax.specs.Gathering.{AreTokens, IsFaulty, closed, line_ended, nothing, pushed, stepped};
+ghost use Rattle.meson_syntax.specs.Gathering.{AreTokens, IsFaulty, closed, line_ended, no_tokens, pushed, gathered_with};
 ghost use Rattle.meson_syntax.specs.Tokens.{tokens_of};
 
 use crate::fault::ParseFault;
@@ -29,10 +29,10 @@ struct Gathered<'a> {
 
 impl<'a> Model for Gathered<'a> {
     ghost use Rattle.std.specs.Prelude.{map};
-    ghost use Rattle.meson_syntax.specs.Gathering.{Gathered};
+    ghost use Rattle.meson_syntax.specs.Gathering.{GatheredTokens};
     ghost use Rattle.meson_syntax.specs.Tokens.{token_of};
 
-    ghost Value = { Gathered };
+    ghost Value = { GatheredTokens };
 
     ghost view = { λ g. record {
       source = g.source.now;
@@ -45,7 +45,7 @@ impl<'a> Model for Gathered<'a> {
 impl<'a> Gathered<'a> {
     /// No tokens, with memory for as many as most sources of this length have.
     fn new(alloc: Global, source: &'a [u8]) -> Result<Self, AllocError>
-        ensures { IfOk result (λ g. g ≡ nothing source.now) }
+        ensures { IfOk result (λ g. g ≡ no_tokens source.now) }
     {
         Ok(Gathered {
             source,
@@ -60,7 +60,7 @@ impl<'a> Gathered<'a> {
     #[tactic(auto, unfolding(crate::specs::Gathering::stepped))]
     fn take(&mut self, item: Item) -> Result<(), AllocError>
         requires { self.old.state.depth + 1 < 2 ^ 64 }
-        ensures { OnOk result (self.new ≡ stepped self.old item) }
+        ensures { OnOk result (self.new ≡ gathered_with self.old item) }
     {
         match item.kind {
             Kind::Blank | Kind::Comment | Kind::Continuation => {}

@@ -2,7 +2,7 @@
 //!
 //! The rules are those of the Syntax page of the Meson manual.
 
-ghost use Rattle.meson_syntax.specs.Nests.{NestsBlocks, Proceeds, Runs};
+ghost use Rattle.meson_syntax.specs.Nests.{NestsBlocks, Proceeds, AnswersAs};
 ghost use Rattle.meson_syntax.specs.ReadingFiles as spec;
 ghost use Rattle.meson_syntax.specs.View.{stmt_view, name_at, names_at};
 
@@ -120,7 +120,7 @@ impl<'a, F> Grammar<'a, F> {
     /// Identifiers with commas between them.
     #[tactic(auto, unfolding(crate::specs::ReadingFiles::names))]
     fn names(&self, tokens: &mut Cursor<'_>) -> Result<Many<Span>, ParseFault>
-        ensures { Runs spec.names names_at self.now.source.now tokens.old result tokens.new }
+        ensures { AnswersAs spec.names names_at self.now.source.now tokens.old result tokens.new }
     {
         let first = self.name(tokens)?;
         let mut found = Many::new(self.alloc);
@@ -139,7 +139,7 @@ impl<'a, F> Grammar<'a, F> {
     /// An identifier.
     #[tactic(auto, unfolding(crate::specs::ReadingFiles::name))]
     fn name(&self, tokens: &mut Cursor<'_>) -> Result<Span, ParseFault>
-        ensures { Runs spec.name name_at self.now.source.now tokens.old result tokens.new }
+        ensures { AnswersAs spec.name name_at self.now.source.now tokens.old result tokens.new }
     {
         if !self.sees(tokens, Kind::Identifier) {
             return Err(self.unexpected(tokens));

@@ -30,7 +30,7 @@ use Rattle.meson_steps.specs.Results.{plain_trees}
 use Rattle.meson_steps.specs.Steps.{Step, all_stepped, changed_at}
 use Rattle.meson_steps.specs.WrittenTexts.{string_of}
 use Rattle.meson_targets.specs.Effects.{AddedTargetsAreNamed, call_with_texts}
-use Rattle.meson_targets.specs.TargetEdits.{appended, checked_kind, kind_key, not_taken, number_in, target_statement, targets_named, written_target}
+use Rattle.meson_targets.specs.TargetEdits.{append_steps, checked_kind, kind_key, not_taken, number_in, target_statement, targets_named, written_target}
 use Rattle.meson_targets.proofs.ErasedParts.{named_alike, named_among, parts_erased}
 
 -- ---- lists that are joined
@@ -144,13 +144,13 @@ kind_by false b done = absurd cc
 pub added-targets-are-named : AddedTargetsAreNamed
 added-targets-are-named old name kind folder sources steps after utf8 made done =
     let p = project old in
-    let place_it : ℕ → Result (List Step) Refusal = λ file. Ok (appended kind (name ∷ distinct sources) file) in
+    let place_it : ℕ → Result (List Step) Refusal = λ file. Ok (append_steps kind (name ∷ distinct sources) file) in
     let a = then_was (checked_kind kind) (λ _. then_ok (checked_names (name ∷ sources)) (λ _. then_ok (not_taken (targets_named p name)) (λ _. then_ok (number_in p folder) place_it))) steps made in
     let b = then_was (checked_names (name ∷ sources)) (λ _. then_ok (not_taken (targets_named p name)) (λ _. then_ok (number_in p folder) place_it)) steps a.2 in
     let c = then_was (not_taken (targets_named p name)) (λ _. then_ok (number_in p folder) place_it) steps b.2 in
     let d = then_was (number_in p folder) place_it steps c.2 in
     let new = written_target kind (name ∷ distinct sources) in
-    let stepped : all_stepped (appended kind (name ∷ distinct sources) d.0) (plain_trees old) ≡ Some after = ap (λ s. all_stepped s (plain_trees old)) (ok_is (appended kind (name ∷ distinct sources) d.0) steps d.2) ∙ done in
+    let stepped : all_stepped (append_steps kind (name ∷ distinct sources) d.0) (plain_trees old) ≡ Some after = ap (λ s. all_stepped s (plain_trees old)) (ok_is (append_steps kind (name ∷ distinct sources) d.0) steps d.2) ∙ done in
     let none : named_among name (parts_from 0 (named_trees old.files (plain_trees old))) ≡ [] =
     ap (named_among name) (parts_erased 0 old.files (views old.files old.parsed)) ∙ named_alike name (parts p) ∙ none_mapped _ (targets_named p name) (none_taken (targets_named p name) c.1) in
     let k = comes name new old.files old.parsed 0 d.0 after (changed (changed_at d.0 (edited (Append new)) (plain_trees old)) after stepped) none in

@@ -8,9 +8,9 @@ use Rattle.meson_syntax.specs.Tree.{Nowhere, Expression, identifier, boolean, in
 use Rattle.meson_syntax.specs.Tree as tree
 use Rattle.meson_calls.specs.declared.call.CallRef.{CallRef}
 use Rattle.meson_calls.specs.declared.call.Role.TheVariants as role
-use Rattle.meson_calls.specs.Calls.{Call, Numbered, all_chosen, first, first_argument, first_literal, is, kept_number, literal, numbered, part_call, value_without_name}
+use Rattle.meson_calls.specs.Calls.{Call, Numbered, all_chosen, first_of, first_argument, first_literal, is, kept_number, literal_of, numbered, part_call, value_without_name}
 use Rattle.meson_calls.specs.Loading.{named_trees}
-use Rattle.meson_calls.specs.Parts.{Part, an_expression, a_statement, argument_children, argument_parts, arguments_children, arguments_parts, block_parts, branches_children, branches_parts, expression_parts, file_parts, listing_parts, operands_parts, otherwise_parts, parts_from, statement_parts, statements_parts, tail_children, tail_parts, tails_parts}
+use Rattle.meson_calls.specs.Parts.{Part, an_expression, a_statement, argument_child_count, argument_parts, arguments_child_count, arguments_parts, block_parts, branches_child_count, branches_parts, expression_parts, file_parts, listing_parts, operands_parts, otherwise_parts, parts_from, statement_parts, statements_parts, tail_child_count, tail_parts, tails_parts}
 use Rattle.meson_calls.specs.Project.{Placed, child, place, placed}
 use Rattle.meson_calls.specs.Roles.{has_role, one_of, target_functions, with_name, with_role}
 
@@ -46,20 +46,20 @@ module _ {S : Type 0} where
   both : (xs ys : List (Placed (Part S))) {us vs : List (Placed (Part Nowhere))} → us ≡ map bare_placed xs → vs ≡ map bare_placed ys → us ++ vs ≡ map bare_placed (xs ++ ys)
   both xs ys one other = ap₂ (λ l m. l ++ m) one other ∙ sym (map-append bare_placed xs ys)
 
-  argument_count : (a : Argument S) → argument_children (erase_argument a) ≡ argument_children a
+  argument_count : (a : Argument S) → argument_child_count (erase_argument a) ≡ argument_child_count a
   argument_count (plain e) = refl
   argument_count (named s x e) = refl
   argument_count (pair s e f) = refl
 
-  arguments_count : (list : Arguments S) → arguments_children (erase_arguments list) ≡ arguments_children list
+  arguments_count : (list : Arguments S) → arguments_child_count (erase_arguments list) ≡ arguments_child_count list
   arguments_count no_arguments = refl
   arguments_count (argument a more) = ap₂ (λ m n. m + n) (argument_count a) (arguments_count more)
 
-  tail_count : (t : Tail S) → tail_children (erase_tail t) ≡ tail_children t
+  tail_count : (t : Tail S) → tail_child_count (erase_tail t) ≡ tail_child_count t
   tail_count (method s x (listing z trailing list)) = arguments_count list
   tail_count (index s e) = refl
 
-  branches_count : (bs : Branches S) → branches_children (erase_branches bs) ≡ branches_children bs
+  branches_count : (bs : Branches S) → branches_child_count (erase_branches bs) ≡ branches_child_count bs
   branches_count no_branches = refl
   branches_count (branch e b more) = ap (λ n. 2 + n) (branches_count more)
 
@@ -95,7 +95,7 @@ module _ {S : Type 0} where
     in_tails p n no_tails = refl
     in_tails p n (tail t more) =
         ap (λ m. tail_parts p n (erase_tail t) ++ tails_parts p (n + m) (erase_tails more)) (tail_count t)
-        ∙ both (tail_parts p n t) (tails_parts p (n + tail_children t) more) (in_tail p n t) (in_tails p (n + tail_children t) more)
+        ∙ both (tail_parts p n t) (tails_parts p (n + tail_child_count t) more) (in_tail p n t) (in_tails p (n + tail_child_count t) more)
 
     in_listing : (p : CallRef) (n : ℕ) (l : Listing S) → listing_parts p n (erase_listing l) ≡ map bare_placed (listing_parts p n l)
     in_listing p n (listing s trailing list) = in_arguments p n list
@@ -109,7 +109,7 @@ module _ {S : Type 0} where
     in_arguments p n no_arguments = refl
     in_arguments p n (argument a more) =
         ap (λ m. argument_parts p n (erase_argument a) ++ arguments_parts p (n + m) (erase_arguments more)) (argument_count a)
-        ∙ both (argument_parts p n a) (arguments_parts p (n + argument_children a) more) (in_argument p n a) (in_arguments p (n + argument_children a) more)
+        ∙ both (argument_parts p n a) (arguments_parts p (n + argument_child_count a) more) (in_argument p n a) (in_arguments p (n + argument_child_count a) more)
 
   mutual
     in_statement : (p : CallRef) (s : Statement S) → statement_parts p (erase_statement s) ≡ map bare_placed (statement_parts p s)
@@ -118,7 +118,7 @@ module _ {S : Type 0} where
     in_statement p (selection s bs o) =
         ap (λ l. placed p (a_statement (erase_statement (selection s bs o))) ∷ l)
         (ap (λ n. branches_parts p 0 (erase_branches bs) ++ otherwise_parts p n (erase_otherwise o)) (branches_count bs)
-        ∙ both (branches_parts p 0 bs) (otherwise_parts p (branches_children bs) o) (in_branches p 0 bs) (in_otherwise p (branches_children bs) o))
+        ∙ both (branches_parts p 0 bs) (otherwise_parts p (branches_child_count bs) o) (in_branches p 0 bs) (in_otherwise p (branches_child_count bs) o))
     in_statement p (iteration s xs e b) =
         ap (λ l. placed p (a_statement (erase_statement (iteration s xs e b))) ∷ l)
         (both (expression_parts (child p 0) e) (block_parts (child p 1) b) (in_expression (child p 0) e) (in_block (child p 1) b))
@@ -171,7 +171,7 @@ module _ {S : Type 0} where
   call_alike (a_statement s) = refl
 
   -- the first argument without a name
-  first_in : (n : ℕ) (list : Arguments S) → first (filter_map (kept_number value_without_name) (numbered n (erase_arguments list))) ≡ option_map (λ (v : Numbered (Expression S)). record { number = v.number; value = erase_expression v.value }) (first (filter_map (kept_number value_without_name) (numbered n list)))
+  first_in : (n : ℕ) (list : Arguments S) → first_of (filter_map (kept_number value_without_name) (numbered n (erase_arguments list))) ≡ option_map (λ (v : Numbered (Expression S)). record { number = v.number; value = erase_expression v.value }) (first_of (filter_map (kept_number value_without_name) (numbered n list)))
   first_in n no_arguments = refl
   first_in n (argument (plain e) more) = refl
   first_in n (argument (named s x e) more) = first_in (n + 1) more
@@ -185,7 +185,7 @@ module _ {S : Type 0} where
   argument_alike c = by c.function c.arguments
     where
       by : (f : List ℕ) (l : Listing S) → first_argument (bare_call (record { function = f; arguments = l })) ≡ option_map erase_expression (first_argument (record { function = f; arguments = l }))
-      by f (listing s trailing list) = ap (option_map (λ v. v.value)) (first_in 0 list) ∙ mapped (first (filter_map (kept_number value_without_name) (numbered 0 list)))
+      by f (listing s trailing list) = ap (option_map (λ v. v.value)) (first_in 0 list) ∙ mapped (first_of (filter_map (kept_number value_without_name) (numbered 0 list)))
 
   is_there : (o : Option (Expression S)) → is_some (option_map erase_expression o) ≡ is_some o
   is_there None = refl
@@ -199,7 +199,7 @@ module _ {S : Type 0} where
   role_alike c =
       ap (λ t. if one_of target_functions c.function && t then Some (bare_call c) else None) (ap is_some (argument_alike c) ∙ is_there (first_argument c)) ∙ role_by c (has_role role.Target c)
 
-  literal_alike : (e : Expression S) → literal (erase_expression e) ≡ literal e
+  literal_alike : (e : Expression S) → literal_of (erase_expression e) ≡ literal_of e
   literal_alike (identifier s x) = refl
   literal_alike (boolean s b) = refl
   literal_alike (integer s x) = refl
@@ -213,13 +213,13 @@ module _ {S : Type 0} where
   literal_alike (postfix s e ts) = refl
   literal_alike (conditional s c y n) = refl
 
-  literals : (o : Option (Expression S)) → option_and_then literal (option_map erase_expression o) ≡ option_and_then literal o
+  literals : (o : Option (Expression S)) → option_and_then literal_of (option_map erase_expression o) ≡ option_and_then literal_of o
   literals None = refl
   literals (Some e) = literal_alike e
 
   pub name_alike : (id : List ℕ) (c : Call S) → with_name id (bare_call c) ≡ option_map bare_call (with_name id c)
   name_alike id c =
-      ap (λ t. if is id t then Some (bare_call c) else None) (ap (option_and_then literal) (argument_alike c) ∙ literals (first_argument c)) ∙ role_by c (is id (first_literal c))
+      ap (λ t. if is id t then Some (bare_call c) else None) (ap (option_and_then literal_of) (argument_alike c) ∙ literals (first_argument c)) ∙ role_by c (is id (first_literal c))
 
 -- the calls of targets of a name
 abbrev pub named_among : {S : Type 0} → List ℕ → List (Placed (Part S)) → List (Placed (Call S))

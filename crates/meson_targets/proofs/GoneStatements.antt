@@ -12,7 +12,7 @@ use Rattle.meson_edit.proofs.paths.PutThere.{PutThere, reach-stays}
 use Rattle.meson_steps.specs.Steps.{Step, all_stepped, changed_at}
 use Rattle.meson_steps.proofs.WithOne.{ChangeMade, change_made}
 use Rattle.meson_targets.specs.Effects.{StatementGone, block_statements}
-use Rattle.meson_targets.specs.TargetEdits.{StatementPlace, statement_removed}
+use Rattle.meson_targets.specs.TargetEdits.{StatementPlace, statement_removal}
 
 -- ---- the statements of a block without one
 
@@ -65,7 +65,7 @@ only_step s trees after done = by (changed_at s.file (edited s.edit) trees) done
   by None same = absurd cc
   by (Some us) same = same
 
-module _ (line : StatementPlace) (trees after : List Plain) (done : all_stepped (statement_removed line) trees ≡ Some after) where
+module _ (line : StatementPlace) (trees after : List Plain) (done : all_stepped (statement_removal line) trees ≡ Some after) where
   abbrev path : List ℕ
   path = line.block.path.steps
 

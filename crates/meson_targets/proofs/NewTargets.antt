@@ -8,7 +8,7 @@ use Rattle.std.proofs.lemmas.List.Elements.{All-cons}
 use Rattle.meson_lex.specs.declared.kinds.Span.{Span}
 use Rattle.meson_lex.specs.Literals.{literal}
 use Rattle.meson_splice.specs.declared.file_set.File.{File}
-use Rattle.meson_splice.specs.Files.{found}
+use Rattle.meson_splice.specs.Files.{position_of_file}
 use Rattle.meson_syntax.specs.declared.tree.Parsed.{Parsed}
 use Rattle.meson_calls.specs.declared.call.CallRef.{CallRef}
 use Rattle.meson_calls.specs.declared.refusal.Refusal.TheVariants.{NameTaken, NoFile}
@@ -50,14 +50,14 @@ module _ (name : List ℕ) where
   as_many_named (f ∷ files) [] many = absurd (omega (arith, many))
   as_many_named (f ∷ files) (t ∷ trees) many = let alike : length trees ≡ length files = omega (arith, many) in ap suc (as_many_named files trees alike)
 
-  pub number_is : (files : List File) (trees : List Parsed) → length trees ≡ length files → file_number (named_trees files (views files trees)) name ≡ found name files
+  pub number_is : (files : List File) (trees : List Parsed) → length trees ≡ length files → file_number (named_trees files (views files trees)) name ≡ position_of_file name files
   number_is files trees many = ap₂ (λ n m. cond (nat_lt n m) (Some n) None) (place_alike files trees many) (as_many_named files trees many)
 
 module _ (files : List File) (trees : List Parsed) (many : length trees ≡ length files) where
-  in_root : (o : Option ℕ) → o ≡ found build_file files → some_file o ≡ number_in (named_trees files (views files trees)) []
+  in_root : (o : Option ℕ) → o ≡ position_of_file build_file files → some_file o ≡ number_in (named_trees files (views files trees)) []
   in_root o is = ap some_file (is ∙ sym (number_is build_file files trees many))
 
-  pub root_number : (folder : List ℕ) → length folder ≡ 0 → (o : Option ℕ) → o ≡ found build_file files → number_in (named_trees files (views files trees)) folder ≡ some_file o
+  pub root_number : (folder : List ℕ) → length folder ≡ 0 → (o : Option ℕ) → o ≡ position_of_file build_file files → number_in (named_trees files (views files trees)) folder ≡ some_file o
   root_number [] none o is = sym (in_root o is)
   root_number (c ∷ cs) none o is = absurd (omega (arith, none))
 
@@ -68,7 +68,7 @@ module _ (files : List File) (trees : List Parsed) (many : length trees ≡ leng
   pub no_folder : (folder : List ℕ) → (length folder ≡ 0 → ⊥) → file_in build_file folder ≡ None → number_in (named_trees files (views files trees)) folder ≡ Err NoFile
   no_folder folder some none = ap (λ o. some_file (option_and_then (file_number (named_trees files (views files trees))) o)) (folder_file folder some ∙ none)
 
-  pub folder_number : (folder : List ℕ) → (length folder ≡ 0 → ⊥) → (name : List ℕ) → file_in build_file folder ≡ Some name → (o : Option ℕ) → o ≡ found name files
+  pub folder_number : (folder : List ℕ) → (length folder ≡ 0 → ⊥) → (name : List ℕ) → file_in build_file folder ≡ Some name → (o : Option ℕ) → o ≡ position_of_file name files
       → number_in (named_trees files (views files trees)) folder ≡ some_file o
   folder_number folder some name is o there =
       ap (λ n. some_file (option_and_then (file_number (named_trees files (views files trees))) n)) (folder_file folder some ∙ is)

@@ -30,7 +30,7 @@ use Rattle.meson_steps.specs.Steps.{all_stepped}
 use Rattle.meson_steps.proofs.PlainTrees.{tree_there}
 use Rattle.meson_steps.proofs.WentWell.{then_was}
 use Rattle.meson_targets.specs.Effects.{CallsGone, RemovedTargetsAreGone, StatementGone}
-use Rattle.meson_targets.specs.TargetEdits.{Held, Holder, StatementPlace, held_by, holder, not_in_use, some_holder, statement_of, statement_removed, statement_there, targets_named}
+use Rattle.meson_targets.specs.TargetEdits.{Held, Holder, StatementPlace, held_by, holder, not_in_use, some_holder, statement_of, statement_removal, statement_there, targets_named}
 use Rattle.meson_targets.proofs.ChosenParts.{chosen_its, chosen_told, nothing_left, only_it, unmapped}
 use Rattle.meson_targets.proofs.ErasedParts.{bare_call, name_alike, named_alike, named_among, parts_erased, role_alike}
 use Rattle.meson_targets.proofs.GoneStatements.{gone, made, only_step, removed}
@@ -123,7 +123,7 @@ plain_statement line f s is =
 -- ---- the command
 
 module _ (old : Loaded) (id : List ℕ) (c : Placed (Call Span)) (named : the_call (project old) role.Target id ≡ Ok c) (after : List Plain) (line : StatementPlace) (is_line : statement_of c.place ≡ Some line)
-    (s : Statement Span) (held : Held) (there : statement_there (project old) line ≡ Some s) (held_is : held_by s ≡ Some held) (done : all_stepped (statement_removed line) (plain_trees old) ≡ Some after) where
+    (s : Statement Span) (held : Held) (there : statement_there (project old) line ≡ Some s) (held_is : held_by s ≡ Some held) (done : all_stepped (statement_removal line) (plain_trees old) ≡ Some after) where
   abbrev p : Project Span
   p = project old
 
@@ -163,8 +163,8 @@ module _ (old : Loaded) (id : List ℕ) (c : Placed (Call Span)) (named : the_ca
       let l = line_of c.place line is_line in
       let f = in_file.0 in
       let its_file : nth_file p c.place.file ≡ Some f = ap (nth_file p) l.file ∙ in_file.1 in
-      let at_path : paths.expression_at f.tree (line.block.path.steps ++ line.number ∷ l.last ∷ []) ≡ Some r.at.value =
-      ap (paths.expression_at f.tree) (sym l.path) ∙ sym (ap (option_and_then (λ (g : BuildFile Span). paths.expression_at g.tree c.place.path.steps)) its_file) ∙ r.at.is_at in
+      let at_path : paths.expression_on_path f.tree (line.block.path.steps ++ line.number ∷ l.last ∷ []) ≡ Some r.at.value =
+      ap (paths.expression_on_path f.tree) (sym l.path) ∙ sym (ap (option_and_then (λ (g : BuildFile Span). paths.expression_on_path g.tree c.place.path.steps)) its_file) ∙ r.at.is_at in
       tells_by id r.at.value c.it r.at.is_call (ap (λ b. if b then Some c.it else None) r.is_one) has_name s
       (holds_it f.tree line.block.path.steps line.number s in_file.2 held held_is l.last r.at.value at_path)
 
@@ -218,13 +218,13 @@ module _ (old : Loaded) (id : List ℕ) (c : Placed (Call Span)) (named : the_ca
 pub removed-targets-are-gone : RemovedTargetsAreGone
 removed-targets-are-gone old is id c named steps after made done =
     let p = project old in
-    let a = then_was (some_holder (holder p c.place)) (λ h. then_ok (not_in_use p h.statement h.held) (λ _. Ok (statement_removed h.statement))) steps made in
-    let b = then_was (not_in_use p a.0.statement a.0.held) (λ _. Ok (statement_removed a.0.statement)) steps a.2 in
-    let same : statement_removed a.0.statement ≡ steps = let g = b.2 in cc in
+    let a = then_was (some_holder (holder p c.place)) (λ h. then_ok (not_in_use p h.statement h.held) (λ _. Ok (statement_removal h.statement))) steps made in
+    let b = then_was (not_in_use p a.0.statement a.0.held) (λ _. Ok (statement_removal a.0.statement)) steps a.2 in
+    let same : statement_removal a.0.statement ≡ steps = let g = b.2 in cc in
     let o = and-then-some (λ line. option_map (λ held. record { statement = line; held = held }) (option_and_then held_by (statement_there p line))) (statement_of c.place) a.0 (some_there (holder p c.place) a.0 a.1) in
     let m = map-some (λ held. record { statement = o.0; held = held }) (option_and_then held_by (statement_there p o.0)) a.0 o.2 in
     let s = and-then-some held_by (statement_there p o.0) m.0 m.1 in
-    let stepped : all_stepped (statement_removed o.0) (plain_trees old) ≡ Some after = ap (λ (h : Holder). all_stepped (statement_removed h.statement) (plain_trees old)) m.2 ∙ ap (λ ss. all_stepped ss (plain_trees old)) same ∙ done in
+    let stepped : all_stepped (statement_removal o.0) (plain_trees old) ≡ Some after = ap (λ (h : Holder). all_stepped (statement_removal h.statement) (plain_trees old)) m.2 ∙ ap (λ ss. all_stepped ss (plain_trees old)) same ∙ done in
     record {
       line = o.0;
       is_line = o.1;

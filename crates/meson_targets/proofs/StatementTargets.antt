@@ -4,7 +4,7 @@ use Rattle.std.specs.Prelude.{option_and_then, option_map}
 use Rattle.meson_lex.specs.declared.kinds.Span.{Span}
 use Rattle.meson_syntax.specs.declared.operator.Assignment.TheVariants as assignment
 use Rattle.meson_syntax.specs.ExchangeStatements.{BlockAt, block_at, statement_in}
-use Rattle.meson_syntax.specs.Parts.{Any, an_expression, a_statement, a_block, expression_any, node_at, parts, statement_parts, statements_parts}
+use Rattle.meson_syntax.specs.Parts.{Any, an_expression, a_statement, a_block, expression_any, node_at, child_nodes, statement_parts, statements_parts}
 use Rattle.meson_syntax.specs.Paths.{block_of, nth}
 use Rattle.meson_syntax.specs.Paths as paths
 use Rattle.meson_syntax.specs.Tree.{Name, Expression, Statement, evaluate, assign, Statements, no_statements, statement, statement_list, Block, block, File}
@@ -69,7 +69,7 @@ statement_among no_statements n s is = absurd cc
 statement_among (statement t more) zero s is = ap (λ u. Some (a_statement u)) (some-injective t s is)
 statement_among (statement t more) (suc n) s is = statement_among more n s is
 
-in_block : (b : Block Span) (n : ℕ) (s : Statement Span) → statement_in b n ≡ Some s → nth (parts (a_block b)) n ≡ Some (a_statement s)
+in_block : (b : Block Span) (n : ℕ) (s : Statement Span) → statement_in b n ≡ Some s → nth (child_nodes (a_block b)) n ≡ Some (a_statement s)
 in_block (block t list) n s is = statement_among list n s is
 
 only_block : (x : Any Span) (b : Block Span) → block_any x ≡ Some b → x ≡ a_block b
@@ -86,9 +86,9 @@ module _ (f : File Span) (path : List ℕ) (n : ℕ) (s : Statement Span) (is : 
   statement_node =
       let b = and-then-some (λ (c : BlockAt Span). statement_in c.inside n) (block_at f path) s is in
       let x = and-then-some block_any (node_at root path) b.0.inside (sym (block_reached Span f path) ∙ ap (option_map (λ (c : BlockAt Span). c.inside)) b.1) in
-      node_below Span root path x.0 n x.1 ∙ ap (λ y. nth (parts y) n) (only_block x.0 b.0.inside x.2) ∙ in_block b.0.inside n s b.2
+      node_below Span root path x.0 n x.1 ∙ ap (λ y. nth (child_nodes y) n) (only_block x.0 b.0.inside x.2) ∙ in_block b.0.inside n s b.2
 
-  pub holds_it : (held : Held) → held_by s ≡ Some held → (k : ℕ) (e : Expression Span) → paths.expression_at f (path ++ n ∷ k ∷ []) ≡ Some e → IsOf e s
+  pub holds_it : (held : Held) → held_by s ≡ Some held → (k : ℕ) (e : Expression Span) → paths.expression_on_path f (path ++ n ∷ k ∷ []) ≡ Some e → IsOf e s
   holds_it held held_is k e there =
       let at_end : path ++ n ∷ k ∷ [] ≡ (path ++ n ∷ []) ++ k ∷ [] = sym (append_assoc path (n ∷ []) (k ∷ [])) in
       is_of s held k e held_is

@@ -15,7 +15,7 @@ use Rattle.meson_edit.specs.Edits.{Written, Edit, RemoveStatement, Append, edite
 use Rattle.meson_edit.specs.Places.{Writes}
 use Rattle.meson_edit.proofs.paths.Depths.{node_depth, Grows}
 use Rattle.meson_edit.proofs.paths.DeepLists.{reach-grows}
-use Rattle.meson_steps.specs.ListSteps.{AreDoable, MayStand, one, none}
+use Rattle.meson_steps.specs.ListSteps.{AreDoable, MayStandBetween, one, none}
 use Rattle.meson_steps.proofs.WithOne.{change_there, all_nth}
 
 -- ---- a statement that goes
@@ -82,22 +82,22 @@ come_depth (file s (block b list)) x most old new = last_depth list x most old n
 
 -- ---- the one step
 
-one_doable : (trees : List Plain) (i : ℕ) (e : Edit) (t now : Plain) → nth trees i ≡ Some t → All MayStand trees → Writes e → edited e t ≡ Some now → MayStand now → AreDoable (record { file = i; edit = e } ∷ []) trees
+one_doable : (trees : List Plain) (i : ℕ) (e : Edit) (t now : Plain) → nth trees i ≡ Some t → All MayStandBetween trees → Writes e → edited e t ≡ Some now → MayStandBetween now → AreDoable (record { file = i; edit = e } ∷ []) trees
 one_doable trees i e t now there all writes is stands =
-    one (record { file = i; edit = e }) [] trees _ writes (change_there (edited e) trees i t now there is) (All-set MayStand trees i now stands all) (none _)
+    one (record { file = i; edit = e }) [] trees _ writes (change_there (edited e) trees i t now there is) (All-set MayStandBetween trees i now stands all) (none _)
 
-pub removal_doable : (trees : List Plain) (i : ℕ) (path : List ℕ) (n : ℕ) (t now : Plain) → nth trees i ≡ Some t → All MayStand trees → edited (RemoveStatement path n) t ≡ Some now
+pub removal_doable : (trees : List Plain) (i : ℕ) (path : List ℕ) (n : ℕ) (t now : Plain) → nth trees i ≡ Some t → All MayStandBetween trees → edited (RemoveStatement path n) t ≡ Some now
     → AreDoable (record { file = i; edit = RemoveStatement path n } ∷ []) trees
 removal_doable trees i path n t now there all is =
     let g = gone t now path n is in
-    let was = all_nth MayStand trees i t all there in
+    let was = all_nth MayStandBetween trees i t all there in
     let deep = g.depth in
     let most = was.1 in
     one_doable trees i (RemoveStatement path n) t now there all tt is (g.level was.0, omega (arith, deep, most))
 
-pub append_doable : (trees : List Plain) (i : ℕ) (new : Written (Statement Nowhere)) (t : Plain) → nth trees i ≡ Some t → All MayStand trees → Writes (Append new) → LevelStatement new.node → statement_depth new.node ≤ 1
+pub append_doable : (trees : List Plain) (i : ℕ) (new : Written (Statement Nowhere)) (t : Plain) → nth trees i ≡ Some t → All MayStandBetween trees → Writes (Append new) → LevelStatement new.node → statement_depth new.node ≤ 1
     → AreDoable (record { file = i; edit = Append new } ∷ []) trees
 append_doable trees i new t there all writes level small =
-    let was = all_nth MayStand trees i t all there in
+    let was = all_nth MayStandBetween trees i t all there in
     let most : statement_depth new.node ≤ 65 = omega (arith, small) in
     one_doable trees i (Append new) t (file_and_last t new.node) there all writes refl (file-last-level t was.0 new.node level, come_depth t new.node 65 was.1 most)

@@ -20,7 +20,7 @@ use Rattle.meson_calls.specs.Loading.{named_trees, views}
 use Rattle.meson_calls.specs.Finding.{the_call}
 use Rattle.meson_calls.specs.Project.{Project, BuildFile, Placed, nth_file, place}
 use Rattle.meson_steps.specs.Steps.{Step}
-use Rattle.meson_targets.specs.TargetEdits.{StatementPlace, Held, Holder, statement_path, statement_of, statement_there, held_by, holder, some_holder, not_in_use, statement_removed, target_removed}
+use Rattle.meson_targets.specs.TargetEdits.{StatementPlace, Held, Holder, statement_path, statement_of, statement_there, held_by, holder, some_holder, not_in_use, statement_removal, target_removed}
 use Rattle.meson_steps.specs.Meanings.{AreMeant}
 use Rattle.meson_calls.proofs.Standing.{nth_there}
 use Rattle.meson_calls.proofs.OneCall.{placed_at, call_there}
@@ -73,7 +73,7 @@ statement_is files trees line d many within = ap (option_and_then (in_build_file
 
 module _ (p : Project Span) (call : CallRef) (c : Placed (Call Span)) (same : c.place ≡ call) where
   abbrev from_holder : Option Holder → Result (List Step) Refusal
-  from_holder o = then_ok (some_holder o) (λ h. then_ok (not_in_use p h.statement h.held) (λ _. Ok (statement_removed h.statement)))
+  from_holder o = then_ok (some_holder o) (λ h. then_ok (not_in_use p h.statement h.held) (λ _. Ok (statement_removal h.statement)))
 
   abbrev from_held : StatementPlace → Option Held → Option Holder
   from_held line o = option_map (λ held. record { statement = line; held = held }) o
@@ -92,18 +92,18 @@ module _ (p : Project Span) (call : CallRef) (c : Placed (Call Span)) (same : c.
     not_held none = on_line ∙ ap (λ o. from_holder (from_held line o)) (sym none)
 
     module _ (held : Held) (is_held : Some held ≡ option_and_then held_by (statement_there p line)) where
-      on_held : target_removed p c ≡ then_ok (not_in_use p line held) (λ _. Ok (statement_removed line))
+      on_held : target_removed p c ≡ then_ok (not_in_use p line held) (λ _. Ok (statement_removal line))
       on_held = on_line ∙ ap (λ o. from_holder (from_held line o)) (sym is_held)
 
       pub in_use : (e : Refusal) → not_in_use p line held ≡ Err e → target_removed p c ≡ Err e
-      in_use e is = on_held ∙ ap (λ r. then_ok r (λ _. Ok (statement_removed line))) is
+      in_use e is = on_held ∙ ap (λ r. then_ok r (λ _. Ok (statement_removal line))) is
 
-      removed_is : not_in_use p line held ≡ Ok tt → target_removed p c ≡ Ok (statement_removed line)
-      removed_is is = on_held ∙ ap (λ r. then_ok r (λ _. Ok (statement_removed line))) is
+      removed_is : not_in_use p line held ≡ Ok tt → target_removed p c ≡ Ok (statement_removal line)
+      removed_is is = on_held ∙ ap (λ r. then_ok r (λ _. Ok (statement_removal line))) is
 
       pub removal_meant : {V : Type 0} (list : V → List ListStep) (r : Result V Refusal) → not_in_use p line held ≡ Ok tt
           → IfOk r (λ v. list v ≡ record { list = line.block; edit = code.RemoveStatement line.number } ∷ []) → IfOk r (λ v. AreMeant (target_removed p c) (list v))
-      removal_meant list (Ok v) is done = record { steps = statement_removed line; is = removed_is is; bare = sym (ap (map Some) done) }
+      removal_meant list (Ok v) is done = record { steps = statement_removal line; is = removed_is is; bare = sym (ap (map Some) done) }
       removal_meant list (Err e) is done = tt
 
 -- ---- of the target that is named

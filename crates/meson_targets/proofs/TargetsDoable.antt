@@ -28,7 +28,7 @@ use Rattle.meson_steps.specs.Plans.{ArePlanned}
 use Rattle.meson_calls.specs.Project.{Project, BuildFile, Placed, nth_file}
 use Rattle.meson_steps.specs.Names.{checked_names, distinct}
 use Rattle.meson_steps.specs.Steps.{Step}
-use Rattle.meson_targets.specs.TargetEdits.{StatementPlace, Holder, is_target_kind, kind_key, checked_kind, targets_named, not_taken, file_number, file_of_folder, some_file, number_in, appended, target_added, statement_there, held_by, holder, some_holder, statement_of, not_in_use, statement_removed, target_removed, written_target}
+use Rattle.meson_targets.specs.TargetEdits.{StatementPlace, Holder, is_target_kind, kind_key, checked_kind, targets_named, not_taken, file_number, file_of_folder, some_file, number_in, append_steps, target_added, statement_there, held_by, holder, some_holder, statement_of, not_in_use, statement_removal, target_removed, written_target}
 use Rattle.meson_steps.specs.Meanings.{AreMeant}
 use Rattle.meson_calls.proofs.Loads.{as_many}
 use Rattle.meson_targets.proofs.NewTargets.{as_many_named}
@@ -96,7 +96,7 @@ module _ (old : Loaded) (whole : IsProject old) where
   many : length old.parsed ≡ length old.files
   many = as_many old.files old.parsed whole.parsed
 
-  appended_doable : (kind : List ℕ) → is_target_kind kind ≡ true → (texts : List (List ℕ)) → All IsUtf8 texts → (n : ℕ) → n < length p → AreDoable (appended kind texts n) (plain_trees old)
+  appended_doable : (kind : List ℕ) → is_target_kind kind ≡ true → (texts : List (List ℕ)) → All IsUtf8 texts → (n : ℕ) → n < length p → AreDoable (append_steps kind texts n) (plain_trees old)
   appended_doable kind is texts utf8 n within =
       let named = as_many_named [] old.files old.parsed many in
       let plain = as_many_plain old.files old.parsed many in
@@ -112,7 +112,7 @@ module _ (old : Loaded) (whole : IsProject old) where
       let b = then_was (checked_names (target ∷ sources)) _ steps a.2 in
       let c = then_was (not_taken (targets_named p target)) _ steps b.2 in
       let d = then_was (number_in p folder) _ steps c.2 in
-      let same : appended kind (target ∷ distinct sources) d.0 ≡ steps = let h = d.2 in cc in
+      let same : append_steps kind (target ∷ distinct sources) d.0 ≡ steps = let h = d.2 in cc in
       let texts = All-cons IsUtf8 target (distinct sources) (All-head IsUtf8 target sources utf8) (distinct_texts [] sources (All-tail IsUtf8 target sources utf8)) in
       subst (λ ss. AreDoable ss (plain_trees old)) same
       (appended_doable kind (kind_checked kind a.0 a.1) (target ∷ distinct sources) texts d.0 (numbered p folder d.0 d.1))
@@ -130,7 +130,7 @@ module _ (old : Loaded) (whole : IsProject old) where
             ∙ ap (option_map (λ t. q.0.back (block_without q.0.inside n))) there,
       )
 
-  statement_doable : (line : StatementPlace) (s : Statement Span) → statement_there p line ≡ Some s → AreDoable (statement_removed line) (plain_trees old)
+  statement_doable : (line : StatementPlace) (s : Statement Span) → statement_there p line ≡ Some s → AreDoable (statement_removal line) (plain_trees old)
   statement_doable line s is =
       let o = and-then-some (λ (f : BuildFile Span). option_and_then (λ b. statement_in b.inside line.number) (block_at f.tree line.block.path.steps)) (nth_file p line.block.file) s is in
       let g = gone_there o.0.tree line.block.path.steps line.number s o.2 in
@@ -141,12 +141,12 @@ module _ (old : Loaded) (whole : IsProject old) where
       let a = then_was (some_holder (holder p c.place)) _ steps is in
       let h = a.0 in
       let b = then_was (not_in_use p h.statement h.held) _ steps a.2 in
-      let same : statement_removed h.statement ≡ steps = let g = b.2 in cc in
+      let same : statement_removal h.statement ≡ steps = let g = b.2 in cc in
       let o = and-then-some (λ line. option_map (λ held. record { statement = line; held = held }) (option_and_then held_by (statement_there p line))) (statement_of c.place) h (some_there (holder p c.place) h a.1) in
       let m = map-some (λ held. record { statement = o.0; held = held }) (option_and_then held_by (statement_there p o.0)) h o.2 in
       let s = and-then-some held_by (statement_there p o.0) m.0 m.1 in
       let here = statement_doable o.0 s.0 s.1 in
-      subst (λ ss. AreDoable ss (plain_trees old)) (ap (λ (k : Holder). statement_removed k.statement) m.2 ∙ same) here
+      subst (λ ss. AreDoable ss (plain_trees old)) (ap (λ (k : Holder). statement_removal k.statement) m.2 ∙ same) here
 
   -- ---- what the commands mean
 

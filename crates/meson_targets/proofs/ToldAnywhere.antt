@@ -4,7 +4,7 @@ use Rattle.std.specs.List.{cons_option, filter_map}
 use Rattle.std.proofs.lemmas.List.Elements.{filter_map-append}
 use Rattle.meson_syntax.specs.Tree.{Nowhere, Expression, identifier, boolean, integer, string, paren, array, dictionary, call, unary, row, postfix, conditional, Operands, no_operands, operand, Tail, method, index, Tails, no_tails, tail, Listing, listing, Argument, plain, named, pair, Arguments, no_arguments, argument, Statement, evaluate, assign, selection, iteration, breaks, continues, Branches, no_branches, branch, Otherwise, nothing_else, otherwise, Statements, no_statements, statement, Block, block}
 use Rattle.meson_calls.specs.declared.call.CallRef.{CallRef}
-use Rattle.meson_calls.specs.Parts.{Part, an_expression, a_statement, argument_children, argument_parts, arguments_parts, block_parts, branches_children, branches_parts, expression_parts, listing_parts, operands_parts, otherwise_parts, statement_parts, statements_parts, tail_children, tail_parts, tails_parts}
+use Rattle.meson_calls.specs.Parts.{Part, an_expression, a_statement, argument_child_count, argument_parts, arguments_parts, block_parts, branches_child_count, branches_parts, expression_parts, listing_parts, operands_parts, otherwise_parts, statement_parts, statements_parts, tail_child_count, tail_parts, tails_parts}
 use Rattle.meson_calls.specs.Project.{Placed, child}
 
 module _ {Y : Type 0} (tell : Part Nowhere → Option Y) where
@@ -59,8 +59,8 @@ module _ {Y : Type 0} (tell : Part Nowhere → Option Y) where
     tails_alike : (p q : CallRef) (n m : ℕ) (ts : Tails Nowhere) → told (tails_parts p n ts) ≡ told (tails_parts q m ts)
     tails_alike p q n m no_tails = refl
     tails_alike p q n m (tail t more) =
-        both (tail_parts p n t) (tails_parts p (n + tail_children t) more) (tail_parts q m t) (tails_parts q (m + tail_children t) more)
-        (tail_alike p q n m t) (tails_alike p q (n + tail_children t) (m + tail_children t) more)
+        both (tail_parts p n t) (tails_parts p (n + tail_child_count t) more) (tail_parts q m t) (tails_parts q (m + tail_child_count t) more)
+        (tail_alike p q n m t) (tails_alike p q (n + tail_child_count t) (m + tail_child_count t) more)
 
     lists_alike : (p q : CallRef) (n m : ℕ) (l : Listing Nowhere) → told (listing_parts p n l) ≡ told (listing_parts q m l)
     lists_alike p q n m (listing s trailing list) = arguments_alike p q n m list
@@ -75,8 +75,8 @@ module _ {Y : Type 0} (tell : Part Nowhere → Option Y) where
     arguments_alike : (p q : CallRef) (n m : ℕ) (list : Arguments Nowhere) → told (arguments_parts p n list) ≡ told (arguments_parts q m list)
     arguments_alike p q n m no_arguments = refl
     arguments_alike p q n m (argument a more) =
-        both (argument_parts p n a) (arguments_parts p (n + argument_children a) more) (argument_parts q m a) (arguments_parts q (m + argument_children a) more)
-        (argument_alike p q n m a) (arguments_alike p q (n + argument_children a) (m + argument_children a) more)
+        both (argument_parts p n a) (arguments_parts p (n + argument_child_count a) more) (argument_parts q m a) (arguments_parts q (m + argument_child_count a) more)
+        (argument_alike p q n m a) (arguments_alike p q (n + argument_child_count a) (m + argument_child_count a) more)
 
   mutual
     pub statements_alike : (p q : CallRef) (s : Statement Nowhere) → told (statement_parts p s) ≡ told (statement_parts q s)
@@ -84,8 +84,8 @@ module _ {Y : Type 0} (tell : Part Nowhere → Option Y) where
     statements_alike p q (assign s x a e) = with_part (a_statement (assign s x a e)) (expressions_alike (child p 0) (child q 0) e)
     statements_alike p q (selection s bs o) =
         with_part (a_statement (selection s bs o))
-        (both (branches_parts p 0 bs) (otherwise_parts p (branches_children bs) o) (branches_parts q 0 bs) (otherwise_parts q (branches_children bs) o)
-        (branches_alike p q 0 0 bs) (otherwise_alike p q (branches_children bs) (branches_children bs) o))
+        (both (branches_parts p 0 bs) (otherwise_parts p (branches_child_count bs) o) (branches_parts q 0 bs) (otherwise_parts q (branches_child_count bs) o)
+        (branches_alike p q 0 0 bs) (otherwise_alike p q (branches_child_count bs) (branches_child_count bs) o))
     statements_alike p q (iteration s xs e b) =
         with_part (a_statement (iteration s xs e b))
         (both (expression_parts (child p 0) e) (block_parts (child p 1) b) (expression_parts (child q 0) e) (block_parts (child q 1) b)

@@ -18,7 +18,7 @@ use Rattle.meson_syntax.proofs.paths.Reaching.{and-then-some, map-some, reach-fi
 use Rattle.meson_edit.specs.Edits.{RemoveStatement, edited}
 use Rattle.meson_calls.specs.declared.call.CallRef.{CallRef}
 use Rattle.meson_calls.specs.Loading.{named_trees}
-use Rattle.meson_calls.specs.Parts.{Part, a_statement, block_parts, branches_children, branches_parts, expression_parts, file_parts, otherwise_parts, parts_from, statement_parts, statements_parts}
+use Rattle.meson_calls.specs.Parts.{Part, a_statement, block_parts, branches_child_count, branches_parts, expression_parts, file_parts, otherwise_parts, parts_from, statement_parts, statements_parts}
 use Rattle.meson_calls.specs.Project.{BuildFile, Project, child, nth_file, place}
 use Rattle.meson_steps.specs.Layers.{block_any}
 use Rattle.meson_steps.specs.Steps.{changed_at}
@@ -151,8 +151,8 @@ module _ {Y : Type 0} (tell : Part Nowhere → Option Y) where
       (no_iteration : (s : Nowhere) (xs : List (Name Nowhere)) (e : Expression Nowhere) (b : Block Nowhere) → tell (a_statement (iteration s xs e b)) ≡ None) where
     of_selection : (s : Nowhere) (bs : Branches Nowhere) (o : Otherwise Nowhere) → of_node of_statement (selection s bs o) ≡ of_branches bs ++ of_otherwise o
     of_selection s bs o =
-        ap (λ v. cons_option v (told tell (branches_parts here 0 bs ++ otherwise_parts here (branches_children bs) o))) (no_selection s bs o)
-        ∙ told_both tell (branches_parts here 0 bs) (otherwise_parts here (branches_children bs) o) ∙ ap (λ l. of_branches bs ++ l) (otherwise_alike tell here here (branches_children bs) 0 o)
+        ap (λ v. cons_option v (told tell (branches_parts here 0 bs ++ otherwise_parts here (branches_child_count bs) o))) (no_selection s bs o)
+        ∙ told_both tell (branches_parts here 0 bs) (otherwise_parts here (branches_child_count bs) o) ∙ ap (λ l. of_branches bs ++ l) (otherwise_alike tell here here (branches_child_count bs) 0 o)
 
     around_statement : (s : Statement Nowhere) → Every (Around (of_node of_statement)) (paths.statement_children s)
     around_statement (evaluate e) = (tt, tt)
@@ -230,7 +230,7 @@ module _ {Y : Type 0} (tell : Part Nowhere → Option Y) where
       by of_statement x back j there b l = further (of_node sort) of_statement back b j.sort j.back l
       by of_block x back j there b l = further (of_node sort) of_block back b j.sort j.back l
 
-    around_children : (sort : Sort) (x : Node sort Nowhere) (n : ℕ) (g : Hole Nowhere (Node sort Nowhere)) → paths.child Nowhere sort x n ≡ Some g → (path : List ℕ) (i : Hole Nowhere (Node g.sort Nowhere))
+    around_children : (sort : Sort) (x : Node sort Nowhere) (n : ℕ) (g : Hole Nowhere (Node sort Nowhere)) → paths.nth_hole Nowhere sort x n ≡ Some g → (path : List ℕ) (i : Hole Nowhere (Node g.sort Nowhere))
         → reach Nowhere g.sort g.inside path ≡ Some i → Leads g.sort i → Leads sort (around g.before g.behind g.back i)
     around_children of_expression x n g is path i there l =
         none_in (of_node of_expression) i.sort i.inside (λ y. g.back (i.back y)) (no_block_reached x (n ∷ path) (around g.before g.behind g.back i)
@@ -241,7 +241,7 @@ module _ {Y : Type 0} (tell : Part Nowhere → Option Y) where
     leads : (sort : Sort) (x : Node sort Nowhere) (path : List ℕ) (h : Hole Nowhere (Node sort Nowhere)) → reach Nowhere sort x path ≡ Some h → Leads sort h
     leads sort x [] h is = subst (Leads sort) (some-injective _ _ is) (itself sort)
     leads sort x (n ∷ path) h is =
-        let o = and-then-some (λ g. option_map (around g.before g.behind g.back) (reach Nowhere g.sort g.inside path)) (paths.child Nowhere sort x n) h is in
+        let o = and-then-some (λ g. option_map (around g.before g.behind g.back) (reach Nowhere g.sort g.inside path)) (paths.nth_hole Nowhere sort x n) h is in
         let g = o.0 in
         let m = map-some (around g.before g.behind g.back) (reach Nowhere g.sort g.inside path) h o.2 in
         subst (Leads sort) m.2 (around_children sort x n g o.1 path m.0 m.1 (leads g.sort g.inside path m.0 m.1))

@@ -4,7 +4,7 @@ use Rattle.std.specs.Prelude.{option_map, option_and_then}
 use Rattle.meson_lex.specs.declared.kinds.Span.{Span}
 use Rattle.meson_syntax.specs.declared.operator.Assignment.TheVariants as assignment
 use Rattle.meson_syntax.specs.ExchangeStatements.{BlockAt, block_at, statement_in}
-use Rattle.meson_syntax.specs.Parts.{Any, an_expression, a_statement, a_block, argument_parts, arguments_parts, listing_parts, operands_parts, tail_parts, tails_parts, expression_parts, branches_parts, otherwise_parts, statement_parts, statements_parts, parts, node_at}
+use Rattle.meson_syntax.specs.Parts.{Any, an_expression, a_statement, a_block, argument_parts, arguments_parts, listing_parts, operands_parts, tail_parts, tails_parts, expression_parts, branches_parts, otherwise_parts, statement_parts, statements_parts, child_nodes, node_at}
 use Rattle.meson_syntax.specs.Paths.{block_of, nth}
 use Rattle.meson_syntax.specs.Tree.{Name, Expression, identifier, boolean, integer, string, paren, array, dictionary, call, unary, row, postfix, conditional, Operands, no_operands, operand, Tail, method, index, Tails, no_tails, tail, Listing, listing, Argument, plain, named, pair, Arguments, no_arguments, argument, Statement, evaluate, assign, selection, iteration, breaks, continues, Branches, no_branches, branch, Otherwise, nothing_else, otherwise, Statements, no_statements, statement, statement_list, Block, block}
 use Rattle.meson_syntax.proofs.paths.Reaching.{and-then-some}
@@ -104,7 +104,7 @@ record InBlock (x : Any Span) (n : ℕ) (s : Statement Span) : Type 0 where
   is_block : x ≡ a_block inside
   is_there : statement_in inside n ≡ Some s
 
-in_block : (x : Any Span) (n : ℕ) (s : Statement Span) → nth (parts x) n ≡ Some (a_statement s) → InBlock x n s
+in_block : (x : Any Span) (n : ℕ) (s : Statement Span) → nth (child_nodes x) n ≡ Some (a_statement s) → InBlock x n s
 in_block (an_expression e) n s is = absurd (none_among (expression_parts e) n s (in_expression e) is)
 in_block (a_statement t) n s is = absurd (none_among (statement_parts t) n s (in_statement t) is)
 in_block (a_block (block t list)) n s is = record { inside = block t list; is_block = refl; is_there = among list n s is }
@@ -114,14 +114,14 @@ in_block (a_block (block t list)) n s is = record { inside = block t list; is_bl
 record Above (r : Any Span) (path : List ℕ) (n : ℕ) (z : Any Span) : Type 0 where
   node : Any Span
   is_node : node_at r path ≡ Some node
-  is_child : nth (parts node) n ≡ Some z
+  is_child : nth (child_nodes node) n ≡ Some z
 
 above : (r : Any Span) (path : List ℕ) (n : ℕ) (z : Any Span) → node_at r (path ++ n ∷ []) ≡ Some z → Above r path n z
 above r [] n z is =
-    let o = and-then-some (λ (y : Any Span). Some y) (nth (parts r) n) z is in
+    let o = and-then-some (λ (y : Any Span). Some y) (nth (child_nodes r) n) z is in
     record { node = r; is_node = refl; is_child = o.1 ∙ o.2 }
 above r (m ∷ path) n z is =
-    let o = and-then-some (λ (y : Any Span). node_at y (path ++ n ∷ [])) (nth (parts r) m) z is in
+    let o = and-then-some (λ (y : Any Span). node_at y (path ++ n ∷ [])) (nth (child_nodes r) m) z is in
     let a = above o.0 path n z o.2 in
     record { node = a.node; is_node = ap (option_and_then (λ (y : Any Span). node_at y path)) o.1 ∙ a.is_node; is_child = a.is_child }
 

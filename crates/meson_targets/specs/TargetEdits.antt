@@ -4,7 +4,7 @@ use Rattle.std.specs.List.{list_any}
 use Rattle.meson_lex.specs.Literals.{literal}
 use Rattle.meson_splice.specs.Patch.{then_ok}
 use Rattle.meson_syntax.specs.declared.operator.Assignment.TheVariants as assignment
-use Rattle.meson_syntax.specs.Tree.{bare as bare_name, Nowhere, Expression, identifier, call, listing, plain, arguments_of, Statement, evaluate, assign, iteration}
+use Rattle.meson_syntax.specs.Tree.{bare_name, Nowhere, Expression, identifier, call, listing, plain, arguments_of, Statement, evaluate, assign, iteration}
 use Rattle.meson_syntax.specs.ExchangeStatements.{block_at, statement_in}
 use Rattle.meson_edit.specs.Edits.{Written, RemoveStatement, Append}
 use Rattle.meson_calls.specs.declared.call.CallRef.{CallRef}
@@ -66,14 +66,14 @@ target_statement kind texts = evaluate (call tt (bare_name kind) (listing tt fal
 abbrev pub written_target : List ℕ → List (List ℕ) → Written (Statement Nowhere)
 written_target kind texts = record { bytes = kind ++ (40 ∷ (comma_between (map literal texts) ++ 41 ∷ [])); node = target_statement kind texts }
 
-abbrev pub appended : List ℕ → List (List ℕ) → ℕ → List Step
-appended kind texts file = record { file = file; edit = Append (written_target kind texts) } ∷ []
+abbrev pub append_steps : List ℕ → List (List ℕ) → ℕ → List Step
+append_steps kind texts file = record { file = file; edit = Append (written_target kind texts) } ∷ []
 
 -- the kind is asked first, then the name and the sources, then whether the name is taken, then whether there is such a file
 abbrev pub target_added : {S : Type 0} → Project S → List ℕ → List ℕ → List ℕ → List (List ℕ) → Result (List Step) Refusal
 target_added p target kind folder sources =
     then_ok (checked_kind kind) (λ _. then_ok (checked_names (target ∷ sources)) (λ _. then_ok (not_taken (targets_named p target)) (λ _.
-    then_ok (number_in p folder) (λ file. Ok (appended kind (target ∷ distinct sources) file)))))
+    then_ok (number_in p folder) (λ file. Ok (append_steps kind (target ∷ distinct sources) file)))))
 
 -- ---- the statement of a target
 
@@ -169,8 +169,8 @@ abbrev pub not_in_use : {S : Type 0} → Project S → StatementPlace → Held �
 not_in_use p statement alone = Ok tt
 not_in_use p statement (set_to x) = if is_used_outside p statement x then Err (InUse x) else Ok tt
 
-abbrev pub statement_removed : StatementPlace → List Step
-statement_removed statement = record { file = statement.block.file; edit = RemoveStatement statement.block.path.steps statement.number } ∷ []
+abbrev pub statement_removal : StatementPlace → List Step
+statement_removal statement = record { file = statement.block.file; edit = RemoveStatement statement.block.path.steps statement.number } ∷ []
 
 abbrev pub target_removed : {S : Type 0} → Project S → Placed (Call S) → Result (List Step) Refusal
-target_removed p c = then_ok (some_holder (holder p c.place)) (λ h. then_ok (not_in_use p h.statement h.held) (λ _. Ok (statement_removed h.statement)))
+target_removed p c = then_ok (some_holder (holder p c.place)) (λ h. then_ok (not_in_use p h.statement h.held) (λ _. Ok (statement_removal h.statement)))

@@ -25,7 +25,7 @@ use Rattle.meson_syntax.proofs.exchange.Items.{listed, exchanged-items}
 use Rattle.meson_syntax.proofs.exchange.Lists.{joined-list, lists-exchange}
 use Rattle.meson_edit.specs.Edits.{Edit, edited}
 use Rattle.meson_edit.specs.Places.{primitive_of, Writes}
-use Rattle.meson_edit.specs.Laws.{Makes, Spelled, WritesList}
+use Rattle.meson_edit.specs.Laws.{MakesText, Spelled, WritesList}
 use Rattle.meson_edit.specs.Kept.{Touches, KeepsList}
 use Rattle.meson_edit.proofs.Coding.{coding-law, texts-law}
 use Rattle.meson_edit.proofs.lists.Found.{Found, now_list}
@@ -72,7 +72,7 @@ list-text bytes f items name e path t o =
 
 -- the text reads again
 makes : (limits : Limits) (bytes : List ℕ) (f : File Span) (s : IsSpannedWithin limits bytes f) (name : List ℕ) (e : Edit) (path : List ℕ) (t : Plain)
-    → LaidOut bytes f s.reads.spells.items name e path t → LevelFile t → Makes bytes f s.reads.spells.items name e t
+    → LaidOut bytes f s.reads.spells.items name e path t → LevelFile t → MakesText bytes f s.reads.spells.items name e t
 makes limits bytes f s name e path t o level =
     let items = s.reads.spells.items in
     let are = s.reads.spells.are_items in
@@ -97,7 +97,7 @@ makes limits bytes f s name e path t o level =
 
 pub spelled : (e : Edit) (path : List ℕ) → Lays e path → Spelled e
 spelled e path lays limits bytes f s items are name writes t is level =
-    subst (λ xs. Makes bytes f xs name e t) (one_list bytes s.reads.spells.items items s.reads.spells.are_items are)
+    subst (λ xs. MakesText bytes f xs name e t) (one_list bytes s.reads.spells.items items s.reads.spells.are_items are)
     (makes limits bytes f s name e path t (lays limits bytes f s name writes t is) level)
 
 -- ---- the list that is looked at

@@ -4,7 +4,7 @@ use Rattle.meson_lex.specs.declared.kinds.Span.{Span}
 use Rattle.meson_lex.specs.Items.{Lexeme, joined, IsItemList}
 use Rattle.meson_lex.specs.Significant.{Word, role}
 use Rattle.meson_lex.proofs.Seams.{joined-append}
-use Rattle.meson_layout.specs.Edited.{ListIn, PartIn}
+use Rattle.meson_layout.specs.Edited.{ListOfItems, PartIn}
 use Rattle.meson_layout.specs.Layout.{IsSpanOf, IsBracketOf}
 use Rattle.meson_layout.proofs.Texts.{joined_three}
 use Rattle.meson_syntax.specs.Paths.{ListAt, list_span}
@@ -12,7 +12,7 @@ use Rattle.meson_syntax.specs.Places.{ListStands, PartStands}
 use Rattle.meson_syntax.proofs.exchange.Brackets.{open-bracket, close-bracket}
 
 module _ (items : List Lexeme) (p : ListAt Span) (l : ListStands items p) where
-  abbrev pub list_among : ListIn items
+  abbrev pub list_among : ListOfItems items
   list_among = record {
     front = l.left;
     open_item = l.open_item;
@@ -56,13 +56,13 @@ module _ (items : List Lexeme) (p : ListAt Span) (l : ListStands items p) where
 
 -- ---- borders of items
 
-pub bracket-there : (items : List Lexeme) (l : ListIn items) (at : ℕ) → at ≡ length (joined l.front) → IsBracketOf items at
+pub bracket-there : (items : List Lexeme) (l : ListOfItems items) (at : ℕ) → at ≡ length (joined l.front) → IsBracketOf items at
 bracket-there items l at is = record { left = l.front; bracket = l.open_item; right = l.inner ++ l.close_item ∷ l.rest; joins = l.parts; place = is; opens = l.opens }
 
 span-group : (f a b r : List Lexeme) (o x c : Lexeme) (m : List Lexeme) → f ++ o ∷ ((a ++ ((x ∷ m) ++ b)) ++ c ∷ r) ≡ (f ++ o ∷ a) ++ (x ∷ m ++ (b ++ c ∷ r))
 span-group f a b r o x c m = simp append_assoc
 
-pub span-there : (items : List Lexeme) (l : ListIn items) (s : Span) → PartIn items l s → IsSpanOf items s
+pub span-there : (items : List Lexeme) (l : ListOfItems items) (s : Span) → PartIn items l s → IsSpanOf items s
 span-there items l s p =
     let t = p.tight in
     record {

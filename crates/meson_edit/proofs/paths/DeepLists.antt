@@ -4,7 +4,7 @@ use Rattle.std.proofs.Common.{◌≡◌, ℕ, ◌+◌, ◌≤◌, List, [], ◌�
 use Rattle.meson_lex.specs.Significant.{Word}
 use Rattle.meson_syntax.specs.Tree.{Nowhere, Expression, array, dictionary, call, Listing, Block, File, file}
 use Rattle.meson_syntax.specs.Grammar.{expression_depth, listing_depth, file_depth}
-use Rattle.meson_syntax.specs.Paths.{Sort, of_expression, of_statement, of_block, Node, Hole, around, child, reach, ListIn, list_in, ListAt, list_within, list_of_node}
+use Rattle.meson_syntax.specs.Paths.{Sort, of_expression, of_statement, of_block, Node, Hole, around, nth_hole, reach, ListIn, list_in, ListAt, list_within, list_of_node}
 use Rattle.meson_syntax.proofs.parsing.Steps.{some-injective}
 use Rattle.meson_syntax.proofs.paths.Reaching.{map-some, and-then-some}
 use Rattle.meson_edit.specs.Sequences.{DepthsGrow}
@@ -21,7 +21,7 @@ module _ (S : Type 0) where
   pub reach-grows : (sort : Sort) (x : Node sort S) (path : List ℕ) (h : Hole S (Node sort S)) → reach S sort x path ≡ Some h → NodeGrows sort x h
   reach-grows sort x [] h is = subst (NodeGrows sort x) (some-injective _ _ is) (λ y k l. l)
   reach-grows sort x (n ∷ path) h is =
-      let o = and-then-some (λ g. option_map (into sort g) (reach S g.sort g.inside path)) (child S sort x n) h is in
+      let o = and-then-some (λ g. option_map (into sort g) (reach S g.sort g.inside path)) (nth_hole S sort x n) h is in
       let g = o.0 in
       let m = map-some (into sort g) (reach S g.sort g.inside path) h o.2 in
       let i = m.0 in

@@ -3,7 +3,7 @@ use Rattle.std.specs.Prelude.{option_map, option_and_then}
 use Rattle.std.proofs.Common.{◌≡◌, ℕ, List, [], ◌∷◌, Some, refl, ap, subst, ◌∙◌, arith}
 use Rattle.meson_lex.specs.Significant.{Word}
 use Rattle.meson_syntax.specs.Tree.{Nowhere, Expression, array, dictionary, call, Listing, Block, File, file}
-use Rattle.meson_syntax.specs.Paths.{Sort, of_expression, of_statement, of_block, Node, Hole, around, children, child, reach, ListIn, list_in, ListAt, list_within, list_of_node, list_at}
+use Rattle.meson_syntax.specs.Paths.{Sort, of_expression, of_statement, of_block, Node, Hole, around, children, nth_hole, reach, ListIn, list_in, ListAt, list_within, list_of_node, list_at}
 use Rattle.meson_syntax.proofs.parsing.Steps.{some-injective}
 use Rattle.meson_syntax.proofs.paths.Reaching.{map-some, and-then-some}
 use Rattle.meson_edit.specs.Sequences.{StaysThere, ListsStay}
@@ -19,7 +19,7 @@ module _ (S : Type 0) where
   children-stay of_statement s = statement-stays S s
   children-stay of_block b = block-stays S b
 
-  child-stays : (sort : Sort) (x : Node sort S) (n : ℕ) (h : Hole S (Node sort S)) → child S sort x n ≡ Some h → (y : Node h.sort S) → child S sort (h.back y) n ≡ Some (with_node h y)
+  child-stays : (sort : Sort) (x : Node sort S) (n : ℕ) (h : Hole S (Node sort S)) → nth_hole S sort x n ≡ Some h → (y : Node h.sort S) → nth_hole S sort (h.back y) n ≡ Some (with_node h y)
   child-stays sort x n h is y = (every-at-nth (StaysIn S (Node sort S) (children S sort)) 0 n n (children S sort x) h (omega arith) (children-stay sort x) is).found y
 
   -- a hole of a child, in the whole node
@@ -33,7 +33,7 @@ module _ (S : Type 0) where
   pub reach-stays : (sort : Sort) (x : Node sort S) (path : List ℕ) (h : Hole S (Node sort S)) → reach S sort x path ≡ Some h → PutThere sort path h
   reach-stays sort x [] h is = subst (PutThere sort []) (some-injective _ _ is) (λ y. refl)
   reach-stays sort x (n ∷ path) h is =
-      let o = and-then-some (λ g. option_map (into sort g) (reach S g.sort g.inside path)) (child S sort x n) h is in
+      let o = and-then-some (λ g. option_map (into sort g) (reach S g.sort g.inside path)) (nth_hole S sort x n) h is in
       let g = o.0 in
       let m = map-some (into sort g) (reach S g.sort g.inside path) h o.2 in
       let i = m.0 in

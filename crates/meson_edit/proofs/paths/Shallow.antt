@@ -9,7 +9,7 @@ use Rattle.meson_syntax.specs.declared.operator.Bracket.TheVariants as bracket
 use Rattle.meson_syntax.specs.Operators.{opens, closes}
 use Rattle.meson_syntax.specs.Tree.{Nowhere, Expression, identifier, boolean, integer, string, paren, array, dictionary, call, unary, row, postfix, conditional, Operands, no_operands, operand, Tail, method, index, Tails, no_tails, tail, Listing, listing, Argument, plain, named, pair, Arguments, no_arguments, argument, Statement, evaluate, assign, selection, iteration, breaks, continues, Branches, no_branches, branch, Otherwise, nothing_else, otherwise, Statements, no_statements, statement, Block, block, file}
 use Rattle.meson_syntax.specs.Grammar.{mark, comma_words, operator_words, expression_words, tail_words, tails_words, argument_words, arguments_words, statement_words, branches_words, otherwise_words, block_words, expression_depth, operands_depth, tail_depth, tails_depth, listing_depth, argument_depth, arguments_depth, statement_depth, branches_depth, otherwise_depth, statements_depth, block_depth}
-use Rattle.meson_syntax.specs.Paths.{Sort, of_expression, of_statement, of_block, Node, Hole, all_around, argument_children, arguments_children, listing_children, operands_children, tail_children, tails_children, expression_children, branches_children, otherwise_children, statement_children, statements_children, block_children, children, child, around, reach, ListIn, list_in, ListAt, list_within, list_of_node}
+use Rattle.meson_syntax.specs.Paths.{Sort, of_expression, of_statement, of_block, Node, Hole, all_around, argument_children, arguments_children, listing_children, operands_children, tail_children, tails_children, expression_children, branches_children, otherwise_children, statement_children, statements_children, block_children, children, nth_hole, around, reach, ListIn, list_in, ListAt, list_within, list_of_node}
 use Rattle.meson_syntax.proofs.parsing.Steps.{some-injective}
 use Rattle.meson_syntax.proofs.paths.Every.{Every, every-append, every-around, every-nth}
 use Rattle.meson_syntax.proofs.paths.Reaching.{map-some, and-then-some}
@@ -126,13 +126,13 @@ module _ (S : Type 0) where
   in-children of_statement s = in-statement s
   in-children of_block b = in-block b
 
-  in-child : (sort : Sort) (x : Node sort S) (n : ℕ) (h : Hole S (Node sort S)) → child S sort x n ≡ Some h → Shallow (Node sort S) (node_depth S sort) x h
+  in-child : (sort : Sort) (x : Node sort S) (n : ℕ) (h : Hole S (Node sort S)) → nth_hole S sort x n ≡ Some h → Shallow (Node sort S) (node_depth S sort) x h
   in-child sort x n h is = every-nth (Shallow (Node sort S) (node_depth S sort) x) (children S sort x) n h (in-children sort x) is
 
   along : (sort : Sort) (x : Node sort S) (path : List ℕ) (h : Hole S (Node sort S)) → reach S sort x path ≡ Some h → Shallow (Node sort S) (node_depth S sort) x h
   along sort x [] h is = subst (Shallow (Node sort S) (node_depth S sort) x) (some-injective _ _ is) (omega arith)
   along sort x (n ∷ path) h is =
-      let o = and-then-some (λ g. option_map (around g.before g.behind g.back) (reach S g.sort g.inside path)) (child S sort x n) h is in
+      let o = and-then-some (λ g. option_map (around g.before g.behind g.back) (reach S g.sort g.inside path)) (nth_hole S sort x n) h is in
       let g = o.0 in
       let m = map-some (around g.before g.behind g.back) (reach S g.sort g.inside path) h o.2 in
       let outer = in-child sort x n g o.1 in

@@ -7,7 +7,7 @@ use Rattle.meson_syntax.specs.Tree.{Nowhere, Plain, Statement, Statements, no_st
 use Rattle.meson_syntax.specs.Grammar.{block_words, file_words}
 use Rattle.meson_syntax.specs.Paths.{Sort, of_expression, of_statement, of_block, Node, node_words, Hole, nth, reach, block_of}
 use Rattle.meson_syntax.specs.ExchangeStatements.{BlockAt, block_of_node, block_at, statement_in, all_but, block_without}
-use Rattle.meson_syntax.specs.Laws.{Front, front, erase_front}
+use Rattle.meson_syntax.specs.Laws.{WordsAround, words_around, erase_front}
 use Rattle.meson_syntax.proofs.parsing.Steps.{some-injective}
 use Rattle.meson_syntax.proofs.parsing.FileErased.{block-words-erased}
 use Rattle.meson_syntax.proofs.paths.Reaching.{map-some, and-then-some, reach-fits, with-words}
@@ -43,9 +43,9 @@ same-words : (f : File Span) (path : List ℕ) (b : BlockAt Span) → block_at f
 same-words f path b is q plain-is x y same =
     let h = in-hole Span f path b is in
     let g = in-hole Nowhere (erase f) path q plain-is in
-    let shown : front g.hole ≡ erase_front (front h.hole) =
-    some-injective _ _ (ap (option_map front) (sym g.is_hole) ∙ nodes-erase f path ∙ ap (option_map (λ h. erase_front (front h))) h.is_hole) in
-    h.put x ∙ ap₂ (λ w (p : Front Nowhere). p.before ++ (w ++ p.behind)) same (sym shown) ∙ sym (g.put y)
+    let shown : words_around g.hole ≡ erase_front (words_around h.hole) =
+    some-injective _ _ (ap (option_map words_around) (sym g.is_hole) ∙ nodes-erase f path ∙ ap (option_map (λ h. erase_front (words_around h))) h.is_hole) in
+    h.put x ∙ ap₂ (λ w (p : WordsAround Nowhere). p.before ++ (w ++ p.behind)) same (sym shown) ∙ sym (g.put y)
 
 -- ---- statements
 

@@ -16,21 +16,21 @@ use Rattle.meson_syntax.specs.Reads.{max_depth}
 use Rattle.meson_syntax.specs.ReadsList.{list_items}
 use Rattle.meson_syntax.specs.View.{list_view, view}
 use Rattle.meson_syntax.specs.Borders.{TreesEnd, ListsEnd}
-use Rattle.meson_syntax.specs.Codes.{places, code_expression, code_statement, code_branches, code_statements, code_block, code_file}
+use Rattle.meson_syntax.specs.Codes.{places_of_names, code_expression, code_statement, code_branches, code_statements, code_block, code_file}
 use Rattle.meson_syntax.proofs.kept.Told.{list_told}
 use Rattle.meson_syntax.proofs.kept.ToldFiles.{file_told}
 use Rattle.meson_syntax.proofs.borders.Tokens.{Within, covers-within, parts-within, spots-within, located-within}
 use Rattle.meson_syntax.proofs.borders.Trees.{at_most, expression-ends, listing-ends}
 
 module _ (n : ℕ) where
-  more-names-end : (xs : List (Name Span)) (ts : List Token) → SaysMoreNames xs ts → Within n ts → furthest_spans (places xs) ≤ n
+  more-names-end : (xs : List (Name Span)) (ts : List Token) → SaysMoreNames xs ts → Within n ts → furthest_spans (places_of_names xs) ≤ n
   more-names-end [] ts h w = omega arith
   more-names-end (x ∷ xs) ts h w =
       let q = h.second in
       let v = parts-within n _ _ h.back q (parts-within n _ _ ts h w).1 in
       max-le (covers-within n x.place q.front q.first.0 v.0) (more-names-end xs q.back q.second v.1)
 
-  names-end : (xs : List (Name Span)) (ts : List Token) → SaysNames xs ts → Within n ts → furthest_spans (places xs) ≤ n
+  names-end : (xs : List (Name Span)) (ts : List Token) → SaysNames xs ts → Within n ts → furthest_spans (places_of_names xs) ≤ n
   names-end [] ts h w = absurd h
   names-end (x ∷ xs) ts h w =
       let v = parts-within n _ _ ts h w in
@@ -79,7 +79,7 @@ module _ (n : ℕ) where
         let y = line-within _ u.front u.first (parts-within n _ _ t.back u x.1).0 in
         let value = expression-ends n e r.second.inner t.front t.first x.0 in
         let body = block-ends b r.second.inner u.first.token.to u.first.rest u.first.second y.0 y.1 in
-        at_most (fold-roll-Stmt _ _ _ _ _ _ (Stmt-F.Foreach s (places xs) (code_expression e) (code_block b)))
+        at_most (fold-roll-Stmt _ _ _ _ _ _ (Stmt-F.Foreach s (places_of_names xs) (code_expression e) (code_block b)))
         (max-le (covers-within n s ts h.0 w) (max-le (names-end xs q.front q.first v.0) (max-le value body)))
     statement-ends (breaks s) d ts h w = at_most (fold-roll-Stmt _ _ _ _ _ _ (Stmt-F.Break s)) (covers-within n s ts h.0 w)
     statement-ends (continues s) d ts h w = at_most (fold-roll-Stmt _ _ _ _ _ _ (Stmt-F.Continue s)) (covers-within n s ts h.0 w)

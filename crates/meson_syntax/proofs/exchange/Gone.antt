@@ -11,7 +11,7 @@ use Rattle.meson_lex.specs.Neighbours.{MayStand}
 use Rattle.meson_lex.specs.Significant.{Word, new_line, role, State, start, after, emitted, closing, significant}
 use Rattle.meson_lex.proofs.Seams.{AreItems-append, AreItems-split}
 use Rattle.meson_lex.specs.Words.{speaks}
-use Rattle.meson_syntax.specs.Places.{Stands}
+use Rattle.meson_syntax.specs.Places.{StandsAmongItems}
 use Rattle.meson_syntax.specs.Lines.{in_line}
 use Rattle.meson_syntax.specs.ExchangeStatements.{BeginsInNoBlank, EndsInNoBlank, IsTrimmed, IsLineRest}
 use Rattle.meson_syntax.proofs.places.Spots.{after-append}
@@ -53,7 +53,7 @@ lines-stand front was now state h none =
     let other = none xs x is i in
     (i.0, i.1, silent-stands x.kind x.text now silent other.0 other.1))
 
-module _ (items : List Lexeme) (are : AreItems items []) (span : Span) (a b words : List Word) (st : Stands items span a words (new_line ∷ b)) (lines : Lines a) (flat : Flat words) where
+module _ (items : List Lexeme) (are : AreItems items []) (span : Span) (a b words : List Word) (st : StandsAmongItems items span a words (new_line ∷ b)) (lines : Lines a) (flat : Flat words) where
   -- ---- states
 
   -- before a statement a line begins

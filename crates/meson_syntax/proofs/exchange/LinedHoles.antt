@@ -9,7 +9,7 @@ use Rattle.meson_syntax.specs.declared.operator.Bracket.TheVariants as bracket
 use Rattle.meson_syntax.specs.Operators.{opens, closes}
 use Rattle.meson_syntax.specs.Tree.{Expression, identifier, boolean, integer, string, paren, array, dictionary, call, unary, row, postfix, conditional, Operands, no_operands, operand, Tail, method, index, Tails, no_tails, tail, Listing, listing, Argument, plain, named, pair, Arguments, no_arguments, argument, Statement, evaluate, assign, selection, iteration, breaks, continues, Branches, no_branches, branch, Otherwise, nothing_else, otherwise, Statements, no_statements, statement, Block, block}
 use Rattle.meson_syntax.specs.Grammar.{mark, comma_words, operator_words, expression_words, tail_words, argument_words, arguments_words, statement_words, branches_words, otherwise_words, block_words, tails_words}
-use Rattle.meson_syntax.specs.Paths.{Sort, of_expression, of_statement, of_block, Node, Hole, around, all_around, argument_children, arguments_children, listing_children, operands_children, tail_children, tails_children, expression_children, branches_children, otherwise_children, statement_children, statements_children, block_children, children, child, reach}
+use Rattle.meson_syntax.specs.Paths.{Sort, of_expression, of_statement, of_block, Node, Hole, around, all_around, argument_children, arguments_children, listing_children, operands_children, tail_children, tails_children, expression_children, branches_children, otherwise_children, statement_children, statements_children, block_children, children, nth_hole, reach}
 use Rattle.meson_syntax.proofs.parsing.Steps.{some-injective}
 use Rattle.meson_syntax.proofs.paths.Every.{Every, every-append, every-around, every-nth}
 use Rattle.meson_syntax.proofs.paths.Reaching.{map-some, and-then-some}
@@ -152,7 +152,7 @@ module _ (S : Type 0) where
   leads : (sort : Sort) (x : Node sort S) (path : List ℕ) (h : Hole S (Node sort S)) → reach S sort x path ≡ Some h → Leads sort h.sort h.before
   leads sort x [] h is = subst (λ h. Leads sort h.sort h.before) (some-injective _ _ is) (itself sort)
   leads sort x (n ∷ path) h is =
-      let o = and-then-some (λ g. option_map (around g.before g.behind g.back) (reach S g.sort g.inside path)) (child S sort x n) h is in
+      let o = and-then-some (λ g. option_map (around g.before g.behind g.back) (reach S g.sort g.inside path)) (nth_hole S sort x n) h is in
       let g = o.0 in
       let m = map-some (around g.before g.behind g.back) (reach S g.sort g.inside path) h o.2 in
       let i = m.0 in

@@ -10,7 +10,7 @@ use Rattle.meson_lex.specs.Items.{Lexeme, joined, IsItemList, AreItems}
 use Rattle.meson_lex.specs.Faults.{HasItemsThenFault}
 use Rattle.meson_lex.specs.Faults.{other}
 use Rattle.meson_lex.specs.Kinds.{OfKind}
-use Rattle.meson_lex.specs.Lexed.{placed}
+use Rattle.meson_lex.specs.Lexed.{with_spans}
 use Rattle.meson_lex.specs.Lexed.{whole as all_items, faulty}
 use Rattle.meson_lex.proofs.ScanLexed.{one_lexed}
 use Rattle.meson_lex.proofs.Seams.{joined-append, AreItems-split}
@@ -38,7 +38,7 @@ mark-stray (c ∷ bytes) h =
 
 pub no-mark : (bytes : List ℕ) (items : List Lexeme) → IsItemList bytes items → take 3 bytes ≢ mark_bytes
 no-mark bytes items are h =
-    no-fault 0 items [] (StrayByte 0) (one_lexed 0 bytes (placed 0 items) ([] ++ Err (StrayByte 0) ∷ []) (all_items items are refl) (faulty [] bytes (StrayByte 0) (mark-stray bytes h) refl))
+    no-fault 0 items [] (StrayByte 0) (one_lexed 0 bytes (with_spans 0 items) ([] ++ Err (StrayByte 0) ∷ []) (all_items items are refl) (faulty [] bytes (StrayByte 0) (mark-stray bytes h) refl))
 
 -- ---- UTF-8 on both sides of a stretch whose first and last byte are ASCII characters
 

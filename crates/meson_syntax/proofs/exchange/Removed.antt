@@ -13,7 +13,7 @@ use Rattle.meson_syntax.specs.Tree.{Statement, File, erase}
 use Rattle.meson_syntax.specs.Grammar.{statement_words, LevelFile, file_depth}
 use Rattle.meson_syntax.specs.Reads.{Fits, Spells, ReadsWithin, IsSpannedWithin}
 use Rattle.meson_syntax.specs.Paths.{of_statement}
-use Rattle.meson_syntax.specs.Places.{statement_span, Stands}
+use Rattle.meson_syntax.specs.Places.{statement_span, StandsAmongItems}
 use Rattle.meson_syntax.specs.ExchangeStatements.{BlockAt, block_at, statement_in, block_without, IsTrimmed, IsLineRest}
 use Rattle.meson_syntax.proofs.parsing.FileErased.{file-words-erased, file-level-erased, file-depth-erased}
 use Rattle.meson_syntax.proofs.places.Inside.{inside-part}
@@ -63,7 +63,7 @@ module _ (limits : Limits) (bytes : List ℕ) (f : File Span) (s : IsSpannedWith
   abbrev items : List Lexeme
   items = s.reads.spells.items
 
-  pub stands : Stands items (statement_span x) (fits.before ++ found.earlier) (statement_words x) (new_line ∷ (found.later ++ fits.behind))
+  pub stands : StandsAmongItems items (statement_span x) (fits.before ++ found.earlier) (statement_words x) (new_line ∷ (found.later ++ fits.behind))
   stands =
       let u = fits.spelled (length bytes) limits.depth (located items) s.stands in
       let v = found.spelled u.depth u.last u.own u.spelled in

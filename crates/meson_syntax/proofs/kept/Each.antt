@@ -3,7 +3,7 @@ use Rattle.std.specs.Prelude.{option_map, option_and_then}
 use Rattle.std.proofs.Common.{◌≡◌, ℕ, List, [], ◌∷◌, ◌++◌, Option, Some, refl, ap, ap₂, subst, ◌∙◌}
 use Rattle.meson_lex.specs.Significant.{Word}
 use Rattle.meson_syntax.specs.Tree.{Expression, identifier, boolean, integer, string, paren, array, dictionary, call, unary, row, postfix, conditional, Listing, Block, File, file}
-use Rattle.meson_syntax.specs.Paths.{Sort, of_expression, of_statement, of_block, Node, Hole, around, children, child, reach, block_of, with_block, ListIn, list_in, list_within, list_of_node, list_at}
+use Rattle.meson_syntax.specs.Paths.{Sort, of_expression, of_statement, of_block, Node, Hole, around, children, nth_hole, reach, block_of, with_block, ListIn, list_in, list_within, list_of_node, list_at}
 use Rattle.meson_syntax.specs.Moves.{each_expression, each_listing, each_block, each_file}
 use Rattle.meson_syntax.specs.MappedPaths.{each_node, MapsHole, maps, MapsList, InBoth, neither, both}
 use Rattle.meson_syntax.proofs.parsing.Steps.{some-injective}
@@ -48,7 +48,7 @@ module _ {S T : Type 0} (h : S → T) where
       → InBoth (MapsHole h (each_node h sort)) (reach S sort x path) (reach T sort (each_node h sort x) path)
   reach-maps sort x [] = both _ _ (maps sort x [] [] [] [] (λ y. y) (λ y. y) refl refl (λ y. refl))
   reach-maps sort x (n ∷ path) =
-      then-both _ _ (λ p r m. further sort path p r m (λ of y. reach-maps of y path)) (child S sort x n) (child T sort (each_node h sort x) n)
+      then-both _ _ (λ p r m. further sort path p r m (λ of y. reach-maps of y path)) (nth_hole S sort x n) (nth_hole T sort (each_node h sort x) n)
       (nth-maps h (each_node h sort) (children S sort x) (children T sort (each_node h sort x)) (children-map h sort x) n)
 
   pub nodes-map : (f : File S) (path : List ℕ)

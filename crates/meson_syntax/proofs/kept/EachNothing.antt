@@ -2,7 +2,7 @@
 use Rattle.std.specs.Prelude.{map}
 use Rattle.std.proofs.Common.{◌≡◌, ℕ, List, [], ◌∷◌, refl, sym, ap, ap₂, subst, ◌∙◌}
 use Rattle.meson_lex.specs.declared.kinds.Span.{Span}
-use Rattle.meson_syntax.specs.Tree.{Name, Nowhere, Expression, identifier, boolean, integer, string, paren, array, dictionary, call, unary, row, postfix, conditional, Operands, no_operands, operand, Tail, method, index, Tails, no_tails, tail, Listing, listing, Argument, plain, named, pair, Arguments, no_arguments, argument, Statement, evaluate, assign, selection, iteration, breaks, continues, Branches, no_branches, branch, Otherwise, nothing_else, otherwise, Statements, no_statements, statement, Block, block, File, file, bare, erase, erase_name, erase_names, erase_expression, erase_operands, erase_tail, erase_tails, erase_listing, erase_argument, erase_arguments, erase_statement, erase_branches, erase_otherwise, erase_statements, erase_block}
+use Rattle.meson_syntax.specs.Tree.{Name, Nowhere, Expression, identifier, boolean, integer, string, paren, array, dictionary, call, unary, row, postfix, conditional, Operands, no_operands, operand, Tail, method, index, Tails, no_tails, tail, Listing, listing, Argument, plain, named, pair, Arguments, no_arguments, argument, Statement, evaluate, assign, selection, iteration, breaks, continues, Branches, no_branches, branch, Otherwise, nothing_else, otherwise, Statements, no_statements, statement, Block, block, File, file, bare_name, erase, erase_name, erase_names, erase_expression, erase_operands, erase_tail, erase_tails, erase_listing, erase_argument, erase_arguments, erase_statement, erase_branches, erase_otherwise, erase_statements, erase_block}
 use Rattle.meson_syntax.specs.Paths.{list_at}
 use Rattle.meson_syntax.specs.Moves.{each_name, each_expression, each_operands, each_tail, each_tails, each_listing, each_argument, each_arguments, each_statement, each_branches, each_otherwise, each_statements, each_block, each_file}
 use Rattle.meson_syntax.specs.KeptLists.{ListsPutErase}
@@ -16,7 +16,7 @@ module _ {S : Type 0} where
 
   names-nothing : (xs : List (Name S)) → map (each_name nothing) xs ≡ erase_names xs
   names-nothing [] = refl
-  names-nothing (x ∷ xs) = ap (λ l. bare x.text ∷ l) (names-nothing xs)
+  names-nothing (x ∷ xs) = ap (λ l. bare_name x.text ∷ l) (names-nothing xs)
 
   mutual
     pub expression-nothing : (e : Expression S) → each_expression nothing e ≡ erase_expression e

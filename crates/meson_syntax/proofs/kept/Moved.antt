@@ -10,7 +10,7 @@ use Rattle.meson_syntax.specs.declared.operator.Bracket.TheVariants as bracket
 use Rattle.meson_syntax.specs.Operators.{operator_kind, operator_rest, unary_kind, string_kind, boolean_kind, assignment_kind, opens, closes}
 use Rattle.meson_syntax.specs.Tree.{Name, Expression, identifier, boolean, integer, string, paren, array, dictionary, call, unary, row, postfix, conditional, Operands, no_operands, operand, Tail, method, index, Tails, no_tails, tail, Listing, listing, Argument, plain, named, pair, is_named, Arguments, no_arguments, argument, Statement, evaluate, assign, selection, iteration, breaks, continues, Branches, no_branches, branch, Otherwise, nothing_else, otherwise, Statements, no_statements, statement, Block, block, file}
 use Rattle.meson_syntax.specs.Grammar.{looseness, row_level, HasOperand, HasTail, HasBranch, Flagged}
-use Rattle.meson_syntax.specs.Spelling.{end_of, Covers, CoversBlock, One, Says, Then, Deeper, NewLine, Nothing, Each, SaysName, SaysMoreNames, SaysNames, Comma, SpellsExpression, SpellsOperands, SpellsTail, SpellsTails, SpellsListing, SpellsArguments, SpellsArgument, SpellsStatement, SpellsBranches, SpellsOtherwise, SpellsStatements, SpellsBlock}
+use Rattle.meson_syntax.specs.Spelling.{end_of, Covers, CoversBlock, One, IsOneToken, Then, Deeper, NewLine, Nothing, Each, SaysName, SaysMoreNames, SaysNames, Comma, SpellsExpression, SpellsOperands, SpellsTail, SpellsTails, SpellsListing, SpellsArguments, SpellsArgument, SpellsStatement, SpellsBranches, SpellsOtherwise, SpellsStatements, SpellsBlock}
 use Rattle.meson_syntax.specs.Moves.{each_name, each_expression, each_operands, each_tail, each_tails, each_listing, each_argument, each_arguments, each_statement, each_branches, each_otherwise, each_statements, each_block, span_by, token_by, tokens_by}
 use Rattle.meson_syntax.specs.Kept.{FilesMove, ListsMove}
 
@@ -38,7 +38,7 @@ module _ (g : ℕ → ℕ) where
   one : (κ : Kind) → Moves (One κ) (One κ)
   one κ ts o = record { token = token_by g o.token; alone = ap (tokens_by g) o.alone; is = o.is }
 
-  says : (κ : Kind) (x : List ℕ) → Moves (Says κ x) (Says κ x)
+  says : (κ : Kind) (x : List ℕ) → Moves (IsOneToken κ x) (IsOneToken κ x)
   says κ x ts o = record { token = token_by g o.token; alone = ap (tokens_by g) o.alone; is = o.is; says = o.says }
 
   both : {P Q R S : List Token → Type 0} → Moves P R → Moves Q S → Moves (Then P Q) (Then R S)

@@ -20,7 +20,7 @@ use Rattle.meson_syntax.specs.declared.tree.Block as rust_block
 use Rattle.meson_syntax.specs.Tree.{Name, Expression, identifier, boolean, integer, string, paren, array, dictionary, call, unary, row, postfix, conditional, Operands, no_operands, operand, Tail, method, index, Tails, no_tails, tail, Listing, listing, Argument, plain, named, pair, Arguments, no_arguments, argument, Statement, evaluate, assign, selection, iteration, breaks, continues, Branches, no_branches, branch, nothing_else, otherwise, Statements, no_statements, statement, Block, block, File, file}
 use Rattle.meson_syntax.specs.Moves.{each_name, each_expression, each_operands, each_tail, each_tails, each_listing, each_argument, each_arguments, each_statement, each_branches, each_statements, each_block, each_file, span_by}
 use Rattle.meson_syntax.specs.MovedCode.{moved_expr, moved_operand, moved_tail, moved_list, moved_arg, moved_stmt, moved_branch, moved_block, moved_parsed}
-use Rattle.meson_syntax.specs.Codes.{places, code_expression, code_operands, code_tail, code_tails, code_listing, code_argument, code_arguments, code_statement, code_branches, code_statements, code_block, code_file}
+use Rattle.meson_syntax.specs.Codes.{places_of_names, code_expression, code_operands, code_tail, code_tails, code_listing, code_argument, code_arguments, code_statement, code_branches, code_statements, code_block, code_file}
 
 -- structs by their parts
 abbrev with_operator : Operator → Expr → Operand
@@ -119,7 +119,7 @@ module _ (g : ℕ → ℕ) where
     arguments no_arguments = refl
     arguments (argument a more) = ap₂ (λ x xs. x ∷ xs) (the_argument a) (arguments more)
 
-  names : (xs : List (Name Span)) → map (span_by g) (places xs) ≡ places (map (each_name (span_by g)) xs)
+  names : (xs : List (Name Span)) → map (span_by g) (places_of_names xs) ≡ places_of_names (map (each_name (span_by g)) xs)
   names [] = refl
   names (x ∷ xs) = ap (λ more. at x.place ∷ more) (names xs)
 
@@ -139,9 +139,9 @@ module _ (g : ℕ → ℕ) where
         ∙ ap₂ (λ list c. stmt.If (at s) list (Some c)) (branches bs) (the_block b)
         ∙ sym (stmt.rolls-If _ _ _)
     the_statement (iteration s xs e b) =
-        fold-roll-Stmt _ _ _ _ _ _ (Stmt-F.Foreach s (places xs) (code_expression e) (code_block b))
+        fold-roll-Stmt _ _ _ _ _ _ (Stmt-F.Foreach s (places_of_names xs) (code_expression e) (code_block b))
         ∙ ap₂ (λ list d. stmt.Foreach (at s) list d (moved_block g (code_block b))) (names xs) (expression e)
-        ∙ ap (stmt.Foreach (at s) (places (map (each_name at) xs)) (code_expression (each_expression at e))) (the_block b)
+        ∙ ap (stmt.Foreach (at s) (places_of_names (map (each_name at) xs)) (code_expression (each_expression at e))) (the_block b)
         ∙ sym (stmt.rolls-Foreach _ _ _ _)
     the_statement (breaks s) = fold-roll-Stmt _ _ _ _ _ _ (Stmt-F.Break s) ∙ sym (stmt.rolls-Break _)
     the_statement (continues s) = fold-roll-Stmt _ _ _ _ _ _ (Stmt-F.Continue s) ∙ sym (stmt.rolls-Continue _)

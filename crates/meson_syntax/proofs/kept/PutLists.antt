@@ -9,7 +9,7 @@ use Rattle.meson_syntax.specs.Codes.{code_file}
 use Rattle.meson_syntax.specs.Tree.{Expression, identifier, boolean, integer, string, paren, array, dictionary, call, unary, row, postfix, conditional, Listing, Block, File, file}
 use Rattle.meson_syntax.specs.View.{list_view, view}
 use Rattle.meson_syntax.specs.Texts.{texts_of_expression, texts_of_listing, texts_of_block, texts_of}
-use Rattle.meson_syntax.specs.Paths.{Sort, of_expression, of_statement, of_block, Node, Hole, around, children, child, reach, block_of, with_block, ListIn, list_in, ListAt, list_within, list_of_node, list_at}
+use Rattle.meson_syntax.specs.Paths.{Sort, of_expression, of_statement, of_block, Node, Hole, around, children, nth_hole, reach, block_of, with_block, ListIn, list_in, ListAt, list_within, list_of_node, list_at}
 use Rattle.meson_syntax.specs.ListPut.{put_there}
 use Rattle.meson_syntax.specs.MappedPaths.{InBoth, neither, both}
 use Rattle.meson_syntax.specs.PutLists.{PutListsLook, FoundListsLook}
@@ -34,7 +34,7 @@ module _ (source : List ℕ) where
       → InBoth (TextsHole source (texts_of_node source sort)) (reach Span sort x path) (reach Span sort (texts_of_node source sort x) path)
   reach-texts sort x [] = both _ _ (texts sort x (λ y. y) (λ y. y) (λ y. refl))
   reach-texts sort x (n ∷ path) =
-      then-both _ _ (λ p r m. further sort path p r m (λ of y. reach-texts of y path)) (child Span sort x n) (child Span sort (texts_of_node source sort x) n)
+      then-both _ _ (λ p r m. further sort path p r m (λ of y. reach-texts of y path)) (nth_hole Span sort x n) (nth_hole Span sort (texts_of_node source sort x) n)
       (nth-texts source (texts_of_node source sort) (children Span sort x) (children Span sort (texts_of_node source sort x)) (children-texts source sort x) n)
 
   nodes-texts : (f : File Span) (path : List ℕ)

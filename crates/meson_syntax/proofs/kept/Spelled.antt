@@ -10,7 +10,7 @@ use Rattle.meson_syntax.specs.declared.operator.Bracket.TheVariants as bracket
 use Rattle.meson_syntax.specs.Operators.{string_kind}
 use Rattle.meson_syntax.specs.Tree.{Name, Expression, identifier, boolean, integer, string, paren, array, dictionary, call, unary, row, postfix, conditional, Operands, no_operands, operand, Tail, method, index, Tails, no_tails, tail, Listing, listing, Argument, plain, named, pair, is_named, Arguments, no_arguments, argument, Statement, evaluate, assign, selection, iteration, breaks, continues, Branches, no_branches, branch, Otherwise, nothing_else, otherwise, Statements, no_statements, statement, Block, block, file}
 use Rattle.meson_syntax.specs.Grammar.{row_level}
-use Rattle.meson_syntax.specs.Spelling.{Covers, Says, Then, Deeper, NewLine, SaysName, SaysMoreNames, SaysNames, SpellsExpression, SpellsOperands, SpellsTail, SpellsTails, SpellsListing, SpellsArguments, SpellsArgument, SpellsStatement, SpellsBranches, SpellsOtherwise, SpellsStatements, SpellsBlock}
+use Rattle.meson_syntax.specs.Spelling.{Covers, IsOneToken, Then, Deeper, NewLine, SaysName, SaysMoreNames, SaysNames, SpellsExpression, SpellsOperands, SpellsTail, SpellsTails, SpellsListing, SpellsArguments, SpellsArgument, SpellsStatement, SpellsBranches, SpellsOtherwise, SpellsStatements, SpellsBlock}
 use Rattle.meson_syntax.specs.View.{text_at}
 use Rattle.meson_syntax.specs.Texts.{texts_of_name, texts_of_expression, texts_of_operands, texts_of_tail, texts_of_tails, texts_of_listing, texts_of_argument, texts_of_arguments, texts_of_statement, texts_of_branches, texts_of_otherwise, texts_of_statements, texts_of_block, AreSlices}
 use Rattle.meson_syntax.specs.Kept.{SpelledTexts, ListSpelledTexts}
@@ -40,7 +40,7 @@ module _ (source : List ℕ) where
   new_line : {P : ℕ → List Token → Type 0} {A : Type 0} → ((last : ℕ) → Tells (P last) A) → Tells (NewLine P) A
   new_line p ts w n = p n.token.to n.rest (subst (AreSlices source) n.joined w).1 n.second
 
-  text : (s : Span) (κ : Kind) (x : List ℕ) (ts : List Token) → AreSlices source ts → Covers s ts → Says κ x ts → text_at source s ≡ x
+  text : (s : Span) (κ : Kind) (x : List ℕ) (ts : List Token) → AreSlices source ts → Covers s ts → IsOneToken κ x ts → text_at source s ≡ x
   text s κ x ts w h o =
       let here = subst (Covers s) o.alone h in
       let slice = subst (AreSlices source) o.alone w in

@@ -9,7 +9,7 @@ use Rattle.meson_syntax.specs.declared.tree.Stmt.TheFolds.{fold-roll-Stmt, fold-
 use Rattle.meson_syntax.specs.Tree.{Name, Expression, identifier, boolean, integer, string, paren, array, dictionary, call, unary, row, postfix, conditional, Operands, no_operands, operand, operands_of, Tail, method, index, Tails, no_tails, tail, tails_of, Listing, listing, Argument, plain, named, pair, Arguments, no_arguments, argument, arguments_of, Statement, evaluate, assign, selection, iteration, breaks, continues, Branches, no_branches, branch, branches_of, nothing_else, otherwise, Statements, no_statements, statement, statements_of, Block, block, File, file}
 use Rattle.meson_syntax.specs.View.{expr_view, operand_view, tail_view, list_view, arg_view, stmt_view, branch_view, block_view, view, names_at}
 use Rattle.meson_syntax.specs.Texts.{texts_of_name, texts_of_expression, texts_of_operands, texts_of_tail, texts_of_tails, texts_of_listing, texts_of_argument, texts_of_arguments, texts_of_statement, texts_of_branches, texts_of_statements, texts_of_block, texts_of}
-use Rattle.meson_syntax.specs.Codes.{places, code_expression, code_operands, code_tail, code_tails, code_listing, code_argument, code_arguments, code_statement, code_branches, code_otherwise, code_statements, code_block, code_file}
+use Rattle.meson_syntax.specs.Codes.{places_of_names, code_expression, code_operands, code_tail, code_tails, code_listing, code_argument, code_arguments, code_statement, code_branches, code_otherwise, code_statements, code_block, code_file}
 
 module _ (source : List ℕ) where
   mutual
@@ -63,7 +63,7 @@ module _ (source : List ℕ) where
     arguments no_arguments = refl
     arguments (argument a more) = ap₂ argument (the_argument a) (arguments more)
 
-  names : (xs : List (Name Span)) → names_at source (places xs) ≡ map (texts_of_name source) xs
+  names : (xs : List (Name Span)) → names_at source (places_of_names xs) ≡ map (texts_of_name source) xs
   names [] = refl
   names (x ∷ xs) = ap (λ more. texts_of_name source x ∷ more) (names xs)
 
@@ -78,7 +78,7 @@ module _ (source : List ℕ) where
         fold-roll-Stmt _ _ _ _ _ _ (Stmt-F.If s (code_branches bs) (code_otherwise (otherwise b)))
         ∙ ap₂ (λ list c. selection s list (otherwise c)) (branches bs) (the_block b)
     the_statement (iteration s xs e b) =
-        fold-roll-Stmt _ _ _ _ _ _ (Stmt-F.Foreach s (places xs) (code_expression e) (code_block b))
+        fold-roll-Stmt _ _ _ _ _ _ (Stmt-F.Foreach s (places_of_names xs) (code_expression e) (code_block b))
         ∙ ap₂ (λ list d. iteration s list d (block_view source (code_block b))) (names xs) (expression e)
         ∙ ap (iteration s (map (texts_of_name source) xs) (texts_of_expression source e)) (the_block b)
     the_statement (breaks s) = fold-roll-Stmt _ _ _ _ _ _ (Stmt-F.Break s)

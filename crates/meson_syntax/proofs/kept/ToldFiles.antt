@@ -11,14 +11,14 @@ use Rattle.meson_syntax.specs.declared.tree.Parsed.{Parsed}
 use Rattle.meson_syntax.specs.Tree.{Expression, Block, branches_of, statements_of}
 use Rattle.meson_syntax.specs.View.{stmt_view, block_view, branch_view, names_at, view}
 use Rattle.meson_syntax.specs.Kept.{ViewsTell, ListViewsTell}
-use Rattle.meson_syntax.specs.Codes.{places, code_expression, code_statement, code_statements, code_branches, code_block, code_file, code_listing}
+use Rattle.meson_syntax.specs.Codes.{places_of_names, code_expression, code_statement, code_statements, code_branches, code_block, code_file, code_listing}
 use Rattle.meson_syntax.proofs.kept.Told.{value, values, expr_told, list_told}
 
 abbrev branch_code : Expression Span × Block Span → Branch
 branch_code b = roll-Branch (record { condition = code_expression b.0; block = code_block b.1 })
 
 module _ (source : List ℕ) where
-  names : (spans : List Span) → places (names_at source spans) ≡ spans
+  names : (spans : List Span) → places_of_names (names_at source spans) ≡ spans
   names [] = refl
   names (s ∷ spans) = ap (λ more. s ∷ more) (names spans)
 

@@ -17,7 +17,7 @@ use Rattle.meson_syntax.specs.Paths.{list_span, inner_words}
 use Rattle.meson_lex.specs.Words.{spoken}
 use Rattle.meson_syntax.specs.Exchange.{IsListText}
 use Rattle.meson_syntax.specs.ReadsList.{ReadsListWithin, list_items}
-use Rattle.meson_syntax.specs.ReadingLists.{bracketed, list_of, whole_list}
+use Rattle.meson_syntax.specs.ReadingLists.{bracketed, list_read, whole_list}
 use Rattle.meson_syntax.proofs.parsing.Steps.{Passes, end_of-append}
 use Rattle.meson_syntax.proofs.parsing.Splits.{yes-at, yes-sees}
 use Rattle.meson_syntax.proofs.parsing.Firsts.{first-listing}
@@ -104,6 +104,6 @@ whole_list-complete source items are depth b p r =
     let whole = whole-span source b (inner_words p) t (list_span l) (subst (λ xs. Covers (list_span l) (spots start 0 0 xs)) (sym is) cover) in (
       l,
       placed.1,
-      ap (list_of (length source)) (yes-at (sees (opens b) i) _ _ i _ begins read)
+      ap (list_read (length source)) (yes-at (sees (opens b) i) _ _ i _ begins read)
           ∙ rw (covers-yes (list_span l).from (list_span l).to (length source) whole.0 whole.1) refl,
     )

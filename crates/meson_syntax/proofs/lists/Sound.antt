@@ -17,7 +17,7 @@ use Rattle.meson_syntax.specs.Spelling.{SpellsListing}
 use Rattle.meson_syntax.specs.Paths.{list_span, inner_words}
 use Rattle.meson_lex.specs.Words.{spoken}
 use Rattle.meson_lex.proofs.Seams.{AreItems-split}
-use Rattle.meson_syntax.specs.ReadingLists.{bracketed, covers_all, list_of, whole_list}
+use Rattle.meson_syntax.specs.ReadingLists.{bracketed, covers_all, list_read, whole_list}
 use Rattle.meson_syntax.proofs.parsing.Steps.{Passes, chosen_at, some-injective}
 use Rattle.meson_syntax.proofs.parsing.SoundRows.{listed-sound}
 use Rattle.meson_syntax.proofs.places.Bounds.{opens-own, closes-own, covers-from, covers-to}
@@ -52,7 +52,7 @@ kept_if : (b : Bool) (x y : Listing Span) → cond b (Some x) None ≡ Some y �
 kept_if true x y h = (refl, some-injective x y h)
 kept_if false x y h = absurd cc
 
-list_of-some : (len : ℕ) (r : Outcome (Listing Span)) (l : Listing Span) → list_of len r ≡ Some l
+list_of-some : (len : ℕ) (r : Outcome (Listing Span)) (l : Listing Span) → list_read len r ≡ Some l
     → (q : Listing Span × Input) × (r ≡ Some q) × (q.0 ≡ l) × ((list_span l).from ≡ 0) × ((list_span l).to ≡ len)
 list_of-some len None l h = absurd cc
 list_of-some len (Some q) l h =

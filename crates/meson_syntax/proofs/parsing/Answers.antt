@@ -4,7 +4,7 @@ use Rattle.std.specs.Prelude.{Result, Ok, Err, IfOk}
 use Rattle.meson_lex.specs.declared.kinds.Span.{Span}
 use Rattle.meson_lex.specs.declared.fault.LexFault.{LexFault}
 use Rattle.meson_lex.specs.Items.{Lexeme, IsItemList}
-use Rattle.meson_lex.specs.Lexed.{placed}
+use Rattle.meson_lex.specs.Lexed.{with_spans}
 use Rattle.meson_lex.specs.Lexed.{whole as all_items, faulty}
 use Rattle.meson_lex.specs.declared.kinds.Item.{Item}
 use Rattle.meson_lex.specs.Significant.{significant}
@@ -34,7 +34,7 @@ use Rattle.meson_syntax.proofs.parsing.FileErased.{file-words-erased, file-level
 use Rattle.meson_syntax.proofs.parsing.FilePlacing.{place-file}
 
 -- items have no fault among them
-pub no-fault : (at : ℕ) (xs : List Lexeme) (front : List (Result Item LexFault)) (fault : LexFault) → placed at xs ≡ front ++ Err fault ∷ [] → ⊥
+pub no-fault : (at : ℕ) (xs : List Lexeme) (front : List (Result Item LexFault)) (fault : LexFault) → with_spans at xs ≡ front ++ Err fault ∷ [] → ⊥
 no-fault at [] [] fault e = absurd cc
 no-fault at [] (r ∷ front) fault e = absurd cc
 no-fault at (x ∷ xs) [] fault e = absurd cc
@@ -108,8 +108,8 @@ module _ (limits : Limits) (source : List ℕ) (items : List Lexeme) (is : IsSou
   readable NotUtf8 (not_utf8 fits other) = other is.utf8
   readable ByteOrderMark (marked fits utf8 mark) = is.no_mark mark
   readable (Lex fault) (lexical xs rest other large has) =
-      no-fault 0 items (placed 0 xs) other
-      (one_lexed 0 source (placed 0 items) (placed 0 xs ++ Err other ∷ []) (all_items items are refl) (faulty xs rest other has refl))
+      no-fault 0 items (with_spans 0 xs) other
+      (one_lexed 0 source (with_spans 0 items) (with_spans 0 xs ++ Err other ∷ []) (all_items items are refl) (faulty xs rest other has refl))
   readable (Unexpected at) h = elim h [ ]
   readable (TooDeep at) h = elim h [ ]
   readable OutOfMemory h = elim h [ ]

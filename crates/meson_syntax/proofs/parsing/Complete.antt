@@ -9,8 +9,8 @@ use Rattle.meson_syntax.specs.declared.operator.Bracket.TheVariants as bracket
 use Rattle.meson_syntax.specs.Operators.{string_kind, boolean_kind, opens, closes}
 use Rattle.meson_syntax.specs.Tree.{Expression, identifier, boolean, integer, string, paren, array, dictionary, call, unary, row, postfix, conditional, method, index, Listing, listing, Argument, plain, named, pair, is_named, Arguments, no_arguments, argument, arguments_of, argument_list, Name}
 use Rattle.meson_syntax.specs.Grammar.{looseness}
-use Rattle.meson_syntax.specs.Input.{Input, kind, next, sees, sees_two, after, expect, left}
-use Rattle.meson_syntax.specs.Reading.{room, with_name, without_name, paired, element, elements_from, elements, listed, identified, truth, number, quoted, parenthesized, primary_by, primary, method_call, indexed, expression}
+use Rattle.meson_syntax.specs.Input.{Input, kind, next, sees, sees_two, after_kind, expect, left}
+use Rattle.meson_syntax.specs.Reading.{room, named_argument, without_name, paired, listed_element, elements_from, listed_elements, listed, identified, truth, number, quoted, parenthesized, primary_by, primary, method_call, indexed, expression}
 use Rattle.meson_syntax.specs.Spelling.{One, Then, Deeper, Nothing, SpellsExpression, SpellsTail, SpellsListing, SpellsArguments, SpellsArgument, SaysName}
 use Rattle.meson_syntax.proofs.parsing.Steps.{Passes, part, nothing-same, some-injective}
 use Rattle.meson_syntax.proofs.parsing.Splits.{bind-is, yes-at, no-at, passes-split, says-read, one-read, yes-sees, not-sees, yes-two, not-two, expect-is, after-is, after-not, covered, falls, name-read, name-text}
@@ -44,8 +44,8 @@ module _ (d : ℕ) (deep : (e : Expression Span) (i j : Input) → Passes (Deepe
   without-name-is e seen i j unseen r stop = no-at seen _ _ i _ unseen (bind-is (expression d i) _ (e, j) _ (deep e i j r stop) refl)
 
   with-name-is : (s : Span) (x : Name Span) (e : Expression Span) (seen : Bool) (i j : Input) → Passes (SpellsArgument (named s x e) bracket.Round seen d) i j → Stops (kind j)
-      → element (room d) (expression d) bracket.Round seen i ≡ Some (named s x e, j)
-  unfolding element with_name
+      → listed_element (room d) (expression d) bracket.Round seen i ≡ Some (named s x e, j)
+  unfolding listed_element named_argument
   with-name-is s x e seen i j r stop =
       let P = Deeper (SpellsExpression e) d in
       let a = passes-split (SaysName x) (Then (One k.Colon) P) i j (part _ _ i j r r.fits.2) in
@@ -60,8 +60,8 @@ module _ (d : ℕ) (deep : (e : Expression Span) (i j : Input) → Passes (Deepe
 
   -- behind an element stands a token with which no expression goes on, and no colon
   complete-element : (a : Argument Span) (b : Bracket) (seen : Bool) (i j : Input) → Passes (SpellsArgument a b seen d) i j → Stops (kind j) → (kind j ≡ Some k.Colon → ⊥)
-      → element (room d) (expression d) b seen i ≡ Some (a, j)
-  unfolding element with_name paired
+      → listed_element (room d) (expression d) b seen i ≡ Some (a, j)
+  unfolding listed_element named_argument paired
   complete-element (plain e) bracket.Round seen i j r stop colon =
       let spelled : Passes (SpellsExpression e r.fits.2.inner) i j = part _ _ i j r r.fits.2.spelled in
       let unnamed : kind i ≡ Some k.Identifier → kind (next i) ≡ Some k.Colon → ⊥ = λ n c.
@@ -103,10 +103,10 @@ module _ (d : ℕ) (deep : (e : Expression Span) (i j : Input) → Passes (Deepe
       let end = one-read (closes b) m j closed in
       let stop : Stops (kind p.at) = rw comma.is (omega arith) in
       let first = complete-element a b seen i p.at p.first stop (λ c. let both : Some k.Comma ≡ Some k.Colon = sym comma.is ∙ c in absurd cc) in
-      let there : after k.Comma p.at ≡ m = after-is k.Comma p.at q.at q.first ∙ nothing-same q.at m q.second in
-      bind-is (element (room d) (expression d) b seen i) _ (a, p.at) _ first
-      (yes-at (sees k.Comma p.at) _ _ (after k.Comma p.at) _ (yes-sees k.Comma p.at comma.is)
-      (rw there (yes-at (sees (closes b) m) _ _ (after (closes b) m) _ (yes-sees (closes b) m end.is)
+      let there : after_kind k.Comma p.at ≡ m = after-is k.Comma p.at q.at q.first ∙ nothing-same q.at m q.second in
+      bind-is (listed_element (room d) (expression d) b seen i) _ (a, p.at) _ first
+      (yes-at (sees k.Comma p.at) _ _ (after_kind k.Comma p.at) _ (yes-sees k.Comma p.at comma.is)
+      (rw there (yes-at (sees (closes b) m) _ _ (after_kind (closes b) m) _ (yes-sees (closes b) m end.is)
       (ap (λ x. Some ((true, found ++ a ∷ []), x)) (after-is (closes b) m j closed)))))
   complete-elements_from b (suc n) a no_arguments false seen found i m j fuel r closed =
       let p = passes-split (SpellsArgument a b seen d) (Then Nothing Nothing) i m r in
@@ -117,9 +117,9 @@ module _ (d : ℕ) (deep : (e : Expression Span) (i j : Input) → Passes (Deepe
       let stop : Stops (kind p.at) = rw here (closing-stops b) in
       let first = complete-element a b seen i p.at p.first stop (λ c. closing-colon b (some-injective _ _ (sym here ∙ c))) in
       let not-comma : kind p.at ≡ Some k.Comma → ⊥ = λ c. closing-comma b (some-injective _ _ (sym here ∙ c)) in
-      let there : after k.Comma p.at ≡ m = after-not k.Comma p.at not-comma ∙ same in
-      bind-is (element (room d) (expression d) b seen i) _ (a, p.at) _ first
-      (no-at (sees k.Comma p.at) _ _ (after k.Comma p.at) _ (not-sees k.Comma p.at not-comma)
+      let there : after_kind k.Comma p.at ≡ m = after-not k.Comma p.at not-comma ∙ same in
+      bind-is (listed_element (room d) (expression d) b seen i) _ (a, p.at) _ first
+      (no-at (sees k.Comma p.at) _ _ (after_kind k.Comma p.at) _ (not-sees k.Comma p.at not-comma)
       (rw there (bind-is (expect (closes b) m) _ (tt, j) _ (expect-is (closes b) m j closed) refl)))
   complete-elements_from b (suc n) a (argument c rest) tr seen found i m j fuel r closed =
       let P = SpellsArguments (argument c rest) tr b (is_named a) d in
@@ -128,21 +128,21 @@ module _ (d : ℕ) (deep : (e : Expression Span) (i j : Input) → Passes (Deepe
       let comma = one-read k.Comma p.at q.at q.first in
       let stop : Stops (kind p.at) = rw comma.is (omega arith) in
       let first = complete-element a b seen i p.at p.first stop (λ c. let both : Some k.Comma ≡ Some k.Colon = sym comma.is ∙ c in absurd cc) in
-      let there : after k.Comma p.at ≡ q.at = after-is k.Comma p.at q.at q.first in
+      let there : after_kind k.Comma p.at ≡ q.at = after-is k.Comma p.at q.at q.first in
       let following = passes-split (SpellsArgument c b (is_named a) d) _ q.at m q.second in
       let not-close : kind q.at ≡ Some (closes b) → ⊥ = starts-closing q.at b (first-argument c b (is_named a) d q.at following.at following.first) in
       let less = falls (SpellsArgument a b seen d) i p.at (argument-some a b seen d) p.first in
       let lesser = falls (One k.Comma) p.at q.at (one-some k.Comma) q.first in
       let more = complete-elements_from b n c rest tr (is_named a) (found ++ a ∷ []) q.at m j (omega arith) q.second closed in
-      bind-is (element (room d) (expression d) b seen i) _ (a, p.at) _ first
-      (yes-at (sees k.Comma p.at) _ _ (after k.Comma p.at) _ (yes-sees k.Comma p.at comma.is)
-      (rw there (no-at (sees (closes b) q.at) _ _ (after (closes b) q.at) _ (not-sees (closes b) q.at not-close)
+      bind-is (listed_element (room d) (expression d) b seen i) _ (a, p.at) _ first
+      (yes-at (sees k.Comma p.at) _ _ (after_kind k.Comma p.at) _ (yes-sees k.Comma p.at comma.is)
+      (rw there (no-at (sees (closes b) q.at) _ _ (after_kind (closes b) q.at) _ (not-sees (closes b) q.at not-close)
       (rw (after-not (closes b) q.at not-close)
       (more ∙ ap (λ l. Some ((tr, l), j)) (append_assoc found (a ∷ []) (c ∷ argument_list rest)))))))
 
   listed-some : (b : Bracket) (s : Span) (tr : Bool) (a : Argument Span) (more : Arguments Span) (i j : Input)
       → Passes (SpellsListing (listing s tr (argument a more)) b d) i j → listed (room d) (expression d) b i ≡ Some (listing s tr (argument a more), j)
-  unfolding listed elements
+  unfolding listed listed_elements
   listed-some b s tr a more i j r =
       let P = SpellsArguments (argument a more) tr b false d in
       let p = passes-split (One (opens b)) (Then P (One (closes b))) i j (part _ _ i j r r.fits.3) in
@@ -152,7 +152,7 @@ module _ (d : ℕ) (deep : (e : Expression Span) (i j : Input) → Passes (Deepe
       let not-close : kind p.at ≡ Some (closes b) → ⊥ = starts-closing p.at b (first-argument a b false d p.at first.at first.first) in
       let read = complete-elements_from b (left p.at) a more tr false [] p.at q.at j (omega arith) q.first q.second in
       yes-at (room d) _ _ i _ (room-is d r.fits.1)
-      (rw there (no-at (sees (closes b) p.at) _ _ (after (closes b) p.at) _ (not-sees (closes b) p.at not-close)
+      (rw there (no-at (sees (closes b) p.at) _ _ (after_kind (closes b) p.at) _ (not-sees (closes b) p.at not-close)
       (rw (after-not (closes b) p.at not-close)
       (bind-is (elements_from (room d) (expression d) b (left p.at) false [] p.at) _ ((tr, a ∷ argument_list more), j) _ read
       (ap₂ (λ x l. Some (listing x tr l, j)) (covered s i j r.used r.fits.0 r.took) (ap (argument a) (list-of-arguments more)))))))
@@ -166,7 +166,7 @@ module _ (d : ℕ) (deep : (e : Expression Span) (i j : Input) → Passes (Deepe
       let there : next i ≡ q.at = (one-read (opens b) i p.at p.first).goes ∙ nothing-same p.at q.at q.first in
       let end = one-read (closes b) q.at j q.second in
       yes-at (room d) _ _ i _ (room-is d r.fits.1)
-      (rw there (yes-at (sees (closes b) q.at) _ _ (after (closes b) q.at) _ (yes-sees (closes b) q.at end.is)
+      (rw there (yes-at (sees (closes b) q.at) _ _ (after_kind (closes b) q.at) _ (yes-sees (closes b) q.at end.is)
       (rw (after-is (closes b) q.at j q.second)
       (ap₂ (λ x b. Some (listing x b no_arguments, j)) (covered s i j r.used r.fits.0 r.took) (sym r.fits.2)))))
 

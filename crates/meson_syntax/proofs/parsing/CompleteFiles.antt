@@ -10,9 +10,9 @@ use Rattle.meson_syntax.specs.declared.operator.Assignment.TheVariants as assign
 use Rattle.meson_syntax.specs.Operators.{assignment_kind}
 use Rattle.meson_syntax.specs.Tree.{Expression, Statement, evaluate, assign, selection, iteration, breaks, continues, Branches, no_branches, branch, branches_of, branch_list, Otherwise, nothing_else, otherwise, Statements, no_statements, statement, statements_of, statement_list, Block, block, File, file, Name}
 use Rattle.meson_syntax.specs.Grammar.{HasBranch}
-use Rattle.meson_syntax.specs.Input.{Input, kind, from, next, sees, sees_two, after, expect, span_from, left}
+use Rattle.meson_syntax.specs.Input.{Input, kind, from, next, sees, sees_two, after_kind, expect, span_from, left}
 use Rattle.meson_syntax.specs.Reading.{room, expression}
-use Rattle.meson_syntax.specs.ReadingFiles.{ends_block, block_span, name, names_from, names, assigned, evaluated, simple, bodied, branched, branches_from, branches, otherwised, selected, iterated, broken, continued, stmt_by, stmt, line, lines_from, lines, blocked, block_at, file_of, whole}
+use Rattle.meson_syntax.specs.ReadingFiles.{ends_block, block_span, name, names_from, names, assigned, evaluated, simple, bodied, branched, branches_from, branches, otherwised, selected, iterated, broken, continued, stmt_by, stmt, line, lines_from, statement_lines, blocked, block_at, file_of_block, whole}
 use Rattle.meson_syntax.specs.Spelling.{end_of, Covers, CoversBlock, One, Then, Deeper, NewLine, SaysMoreNames, SaysNames, SpellsExpression, SpellsStatement, SpellsBranches, SpellsOtherwise, SpellsStatements, SpellsBlock, SpellsFile, SaysName}
 use Rattle.meson_syntax.proofs.parsing.Steps.{Passes, part, nothing-same}
 use Rattle.meson_syntax.proofs.parsing.Splits.{bind-is, yes-at, no-at, passes-split, one-read, yes-sees, not-sees, yes-two, not-two, expect-is, after-is, after-not, covered, falls, name-read}
@@ -45,7 +45,7 @@ complete-names_from : (xs : List (Name Span)) (n : ℕ) (found : List (Name Span
 unfolding names_from
 complete-names_from [] zero found i j fuel r stop = ap₂ (λ f x. Some (f, x)) (sym (append-nil found)) (nothing-same i j r)
 complete-names_from [] (suc n) found i j fuel r stop =
-    rw (nothing-same i j r) (no-at (sees k.Comma j) _ _ (after k.Comma j) _ (not-sees k.Comma j stop)
+    rw (nothing-same i j r) (no-at (sees k.Comma j) _ _ (after_kind k.Comma j) _ (not-sees k.Comma j stop)
     (ap₂ (λ f x. Some (f, x)) (sym (append-nil found)) (after-not k.Comma j stop)))
 complete-names_from (x ∷ xs) zero found i j fuel r stop =
     let p = passes-split (One k.Comma) _ i j r in
@@ -57,7 +57,7 @@ complete-names_from (x ∷ xs) (suc n) found i j fuel r stop =
     let less = falls (One k.Comma) i p.at (one-some k.Comma) p.first in
     let lesser = passes-left (SaysName x) p.at q.at q.first in
     let rest = complete-names_from xs n (found ++ x ∷ []) q.at j (omega arith) q.second stop in
-    yes-at (sees k.Comma i) _ _ (after k.Comma i) _ (yes-sees k.Comma i (one-read k.Comma i p.at p.first).is)
+    yes-at (sees k.Comma i) _ _ (after_kind k.Comma i) _ (yes-sees k.Comma i (one-read k.Comma i p.at p.first).is)
     (rw (after-is k.Comma i p.at p.first) (bind-is (name p.at) _ (x, q.at) _ (complete-name x p.at q.at q.first)
     (rest ∙ ap (λ f. Some (f, j)) (append_assoc found (x ∷ []) xs))))
 
@@ -160,10 +160,10 @@ module _ (d : ℕ) (blocks : (b : Block Span) (i j : Input) → Passes (Deeper (
   unfolding otherwised
   complete-otherwised inner less nothing_else i j r end =
       let no : kind j ≡ Some k.WordElse → ⊥ = λ c. let both : Some k.WordElse ≡ Some k.WordEndif = sym c ∙ end in absurd cc in
-      rw (nothing-same i j r) (no-at (sees k.WordElse j) _ _ (after k.WordElse j) _ (not-sees k.WordElse j no) (ap (λ x. Some (nothing_else, x)) (after-not k.WordElse j no)))
+      rw (nothing-same i j r) (no-at (sees k.WordElse j) _ _ (after_kind k.WordElse j) _ (not-sees k.WordElse j no) (ap (λ x. Some (nothing_else, x)) (after-not k.WordElse j no)))
   complete-otherwised inner less (otherwise b) i j r end =
       let p = passes-split (One k.WordElse) (NewLine (SpellsBlock b inner)) i j r in
-      yes-at (sees k.WordElse i) _ _ (after k.WordElse i) _ (yes-sees k.WordElse i (one-read k.WordElse i p.at p.first).is)
+      yes-at (sees k.WordElse i) _ _ (after_kind k.WordElse i) _ (yes-sees k.WordElse i (one-read k.WordElse i p.at p.first).is)
       (rw (after-is k.WordElse i p.at p.first)
       (bind-is (bodied (room d) (expression (suc d)) (expression d) (block_at d) p.at) _ (b, j) _ (complete-bodied inner less b p.at j p.second (ap ends_block end)) refl))
 
@@ -310,7 +310,7 @@ module _ (d : ℕ) (blocks : (b : Block Span) (i j : Input) → Passes (Deeper (
       (rest ∙ ap (λ f. Some (f, j)) (append_assoc found (s ∷ []) (statement_list more))))
 
   complete-blocked : (b : Block Span) (i j : Input) → Passes (SpellsBlock b d i.last) i j → ends_block (kind j) ≡ true → blocked (room d) (expression (suc d)) (expression d) (block_at d) i ≡ Some (b, j)
-  unfolding blocked lines
+  unfolding blocked statement_lines
   complete-blocked (block s list) i j r ends =
       let ss : Passes (SpellsStatements list d) i j = record { used = r.used; fits = r.fits.1; took = r.took } in
       bind-is (lines_from (room d) (expression (suc d)) (expression d) (block_at d) (left i) [] i) _ (statement_list list, j) _ (complete-lines_from list (left i) [] i j (omega arith) ss ends)
@@ -338,4 +338,4 @@ whole-complete depth len ts (file s b) h =
     let i : Input = record { last = 0; rest = ts } in
     let j : Input = record { last = end_of 0 ts; rest = [] } in
     let r : Passes (Deeper (λ inner. SpellsBlock b inner 0) (suc depth)) i j = record { used = ts; fits = record { inner = depth; less = refl; spelled = h.2 }; took = record { rest = sym (append-nil ts); last = refl } } in
-    ap (file_of len) (complete-block (suc depth) b i j r refl) ∙ ap (λ x. Some (file x b)) (span-is s 0 len h.0 h.1)
+    ap (file_of_block len) (complete-block (suc depth) b i j r refl) ∙ ap (λ x. Some (file x b)) (span-is s 0 len h.0 h.1)

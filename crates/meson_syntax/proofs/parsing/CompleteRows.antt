@@ -15,7 +15,7 @@ use Rattle.meson_syntax.specs.Operators.{operator_kind, operator_rest, unary_kin
 use Rattle.meson_syntax.specs.Tree.{Expression, unary, row, postfix, conditional, Operands, no_operands, operand, operands_of, operand_list, Tail, method, index, Tails, no_tails, tail, tails_of, tail_list, Listing}
 use Rattle.meson_syntax.specs.Grammar.{looseness, row_level, HasOperand, HasTail}
 use Rattle.meson_syntax.specs.Input.{Input, kind, from, next, sees, expect, span_from, left}
-use Rattle.meson_syntax.specs.Reading.{room, row_of, operator_by, operator, with_tails, with_operands, listed, primary, method_call, indexed, tails_from, tails, postfixed, unaried, operands_from, row_at, answered, chosen, expression}
+use Rattle.meson_syntax.specs.Reading.{room, row_of, operator_by, operator, with_tails, with_operands, listed, primary, method_call, indexed, tails_from, tails, postfixed, unaried, operands_from, row_at, answered, choice, expression}
 use Rattle.meson_syntax.specs.Spelling.{One, Then, Deeper, Nothing, Each, SpellsExpression, SpellsOperands, SpellsTail, SpellsTails, SpellsListing}
 use Rattle.meson_syntax.proofs.parsing.Steps.{Passes, part, passes-nothing, nothing-same}
 use Rattle.meson_syntax.proofs.parsing.Splits.{bind-is, yes-at, no-at, passes-split, one-read, yes-sees, not-sees, expect-is, covered, falls}
@@ -227,14 +227,14 @@ module _ (d : ℕ) (deep : (e : Expression Span) (i j : Input) → Passes (Deepe
 
   -- ---- conditionals
 
-  unasked-is : (e : Expression Span) (i j : Input) → looseness e ≤ 8 → Passes (SpellsExpression e d) i j → Stops (kind j) → chosen (room d) (expression d) i ≡ Some (e, j)
-  unfolding chosen
+  unasked-is : (e : Expression Span) (i j : Input) → looseness e ≤ 8 → Passes (SpellsExpression e d) i j → Stops (kind j) → choice (room d) (expression d) i ≡ Some (e, j)
+  unfolding choice
   unasked-is e i j h r stop =
       bind-is (row_at (room d) (expression d) 6 i) _ (e, j) _ (complete-row 6 e i j (omega arith) h r (omega arith))
       (no-at (sees k.Question j) _ _ j _ (not-sees k.Question j (stops-at 9 j k.Question stop (omega arith))) refl)
 
-  complete-chosen : (e : Expression Span) (i j : Input) → Passes (SpellsExpression e d) i j → Stops (kind j) → chosen (room d) (expression d) i ≡ Some (e, j)
-  unfolding chosen answered
+  complete-chosen : (e : Expression Span) (i j : Input) → Passes (SpellsExpression e d) i j → Stops (kind j) → choice (room d) (expression d) i ≡ Some (e, j)
+  unfolding choice answered
   complete-chosen (conditional s c y n) i j r stop =
       let P = Deeper (SpellsExpression y) d in
       let Q = Deeper (SpellsExpression n) d in

@@ -6,7 +6,7 @@ use Rattle.meson_lex.specs.declared.kinds.Span.{Span}
 use Rattle.meson_lex.specs.Significant.{Word, kept, new_line}
 use Rattle.meson_lex.specs.Located.{Token, word_of, words}
 use Rattle.meson_syntax.specs.Tree.{Nowhere, Name, erase_name, erase_names, Arguments, no_arguments, argument}
-use Rattle.meson_syntax.specs.Spelling.{Covers, CoversBlock, end_of, One, Says, SaysName, Then, Deeper, NewLine, Nothing, Each, SaysMoreNames, SaysNames, Comma}
+use Rattle.meson_syntax.specs.Spelling.{Covers, CoversBlock, end_of, One, IsOneToken, SaysName, Then, Deeper, NewLine, Nothing, Each, SaysMoreNames, SaysNames, Comma}
 use Rattle.meson_syntax.specs.Grammar.{mark, comma_words, names_words, more_names_words, HasName}
 use Rattle.meson_syntax.proofs.parsing.NonEmpty.{says-some, one-some, then-some}
 
@@ -39,7 +39,7 @@ one-from κ (t ∷ []) e =
     record { token = t; alone = refl; is = ap (λ (w : Word). w.0) head }
 one-from κ (t ∷ u ∷ ts) e = absurd cc
 
-pub says-from : (κ : Kind) (x : List ℕ) (ts : List Token) → ((y : List ℕ) → kept κ y ≡ y) → words ts ≡ (κ, x) ∷ [] → Says κ x ts
+pub says-from : (κ : Kind) (x : List ℕ) (ts : List Token) → ((y : List ℕ) → kept κ y ≡ y) → words ts ≡ (κ, x) ∷ [] → IsOneToken κ x ts
 says-from κ x [] keeps e = absurd cc
 says-from κ x (t ∷ []) keeps e =
     let head : word_of t ≡ (κ, x) = cc in
@@ -70,8 +70,8 @@ cover (t ∷ ts) some = (record { from = t.from; to = end_of t.to ts }, (refl, r
 pub cover-one : (κ : Kind) (ts : List Token) → One κ ts → (s : Span) × Covers s ts
 cover-one κ ts w = cover ts (λ e. one-some κ (subst (One κ) e w))
 
-pub cover-says : (κ : Kind) (x : List ℕ) (ts : List Token) → Says κ x ts → (s : Span) × Covers s ts
-cover-says κ x ts w = cover ts (λ e. says-some κ x (subst (Says κ x) e w))
+pub cover-says : (κ : Kind) (x : List ℕ) (ts : List Token) → IsOneToken κ x ts → (s : Span) × Covers s ts
+cover-says κ x ts w = cover ts (λ e. says-some κ x (subst (IsOneToken κ x) e w))
 
 -- this name, at the place where it stands
 pub name-from : (x : Name Nowhere) (ts : List Token) → words ts ≡ (k.Identifier, x.text) ∷ [] → (y : Name Span) × (erase_name y ≡ x) × SaysName y ts

@@ -6,9 +6,9 @@ use Rattle.meson_lex.specs.Located.{Token}
 use Rattle.meson_syntax.specs.declared.operator.Bracket.{Bracket}
 use Rattle.meson_syntax.specs.declared.operator.Bracket.TheVariants as bracket
 use Rattle.meson_syntax.specs.Tree.{Name, Expression, identifier, boolean, integer, string, paren, array, dictionary, call, unary, row, postfix, conditional, Tail, method, index, Listing, listing, Argument, plain, named, pair, Statement, evaluate, assign, selection, iteration, breaks, continues}
-use Rattle.meson_syntax.specs.Spelling.{One, Says, SaysName, Then, SpellsExpression, SpellsTail, SpellsListing, SpellsArgument, SpellsStatement}
+use Rattle.meson_syntax.specs.Spelling.{One, IsOneToken, SaysName, Then, SpellsExpression, SpellsTail, SpellsListing, SpellsArgument, SpellsStatement}
 
-pub says-some : (κ : Kind) (x : List ℕ) → Says κ x [] → ⊥
+pub says-some : (κ : Kind) (x : List ℕ) → IsOneToken κ x [] → ⊥
 says-some κ x w = let e = w.alone in absurd cc
 
 pub name-some : (x : Name Span) → SaysName x [] → ⊥

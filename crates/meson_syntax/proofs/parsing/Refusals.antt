@@ -3,7 +3,7 @@ use Rattle.std.proofs.Common.{◌≡◌, ◌≢◌, ℕ, ◌+◌, ◌⊎◌, inl
 use Rattle.std.specs.Prelude.{Result, Ok, Err, IfErr}
 use Rattle.meson_lex.specs.declared.fault.LexFault.{LexFault}
 use Rattle.meson_lex.specs.Items.{Lexeme, IsItemList}
-use Rattle.meson_lex.specs.Lexed.{placed, faulty}
+use Rattle.meson_lex.specs.Lexed.{with_spans, faulty}
 use Rattle.meson_lex.specs.Located.{located}
 use Rattle.meson_lex.proofs.ScanLexed.{one_lexed}
 use Rattle.meson_syntax.specs.declared.fault.ParseFault.{ParseFault}
@@ -24,7 +24,7 @@ pub unreadable-none : (limits : Limits) (source : List ℕ) (e : ParseFault) →
 unreadable-none limits source e h t r = readable limits source r.spells.items r.source r.spells.are_items e h
 
 -- two lists of items with a fault at the end have one fault
-last-fault : (at : ℕ) (xs : List Lexeme) (f : LexFault) (pos : ℕ) (ys : List Lexeme) (g : LexFault) → placed at xs ++ Err f ∷ [] ≡ placed pos ys ++ Err g ∷ [] → f ≡ g
+last-fault : (at : ℕ) (xs : List Lexeme) (f : LexFault) (pos : ℕ) (ys : List Lexeme) (g : LexFault) → with_spans at xs ++ Err f ∷ [] ≡ with_spans pos ys ++ Err g ∷ [] → f ≡ g
 last-fault at [] f pos [] g e = cc
 last-fault at [] f pos (y ∷ ys) g e = absurd cc
 last-fault at (x ∷ xs) f pos [] g e = absurd cc
@@ -47,7 +47,7 @@ one-unreadable limits source (Lex f) TooLarge (lexical xs rest g is has) (too_la
 one-unreadable limits source (Lex f) NotUtf8 (lexical xs rest g is has) (not_utf8 fits other) = absurd (other is.utf8)
 one-unreadable limits source (Lex f) ByteOrderMark (lexical xs rest g is has) (marked fits utf8 mark) = absurd (is.no_mark mark)
 one-unreadable limits source (Lex f) (Lex g) (lexical xs rest fault is has) (lexical ys other found read holds) =
-    ap Lex (last-fault 0 xs fault 0 ys found (one_lexed 0 source (placed 0 xs ++ Err fault ∷ []) (placed 0 ys ++ Err found ∷ []) (faulty xs rest fault has refl) (faulty ys other found holds refl)))
+    ap Lex (last-fault 0 xs fault 0 ys found (one_lexed 0 source (with_spans 0 xs ++ Err fault ∷ []) (with_spans 0 ys ++ Err found ∷ []) (faulty xs rest fault has refl) (faulty ys other found holds refl)))
 one-unreadable limits source (Unexpected at) e h k = elim h [ ]
 one-unreadable limits source (TooDeep at) e h k = elim h [ ]
 one-unreadable limits source OutOfMemory e h k = elim h [ ]

@@ -10,10 +10,10 @@ use Rattle.meson_syntax.specs.declared.operator.Bracket.{Bracket}
 use Rattle.meson_syntax.specs.declared.operator.Bracket.TheVariants as bracket
 use Rattle.meson_syntax.specs.Operators.{string_kind, boolean_kind, opens, closes, holds_values}
 use Rattle.meson_syntax.specs.Tree.{Expression, Listing, listing, Argument, is_named, arguments_of}
-use Rattle.meson_syntax.specs.Input.{same_kind, Input, kind, spelling, from, next, sees, sees_two, after, expect, span_from, left, name_next}
-use Rattle.meson_syntax.specs.Reading.{room, with_name, without_name, paired, element, elements_from, elements, listed, identified, truth, number, quoted, parenthesized, primary, primary_by, expression}
+use Rattle.meson_syntax.specs.Input.{same_kind, Input, kind, text_ahead, from, next, sees, sees_two, after_kind, expect, span_from, left, name_next}
+use Rattle.meson_syntax.specs.Reading.{room, named_argument, without_name, paired, listed_element, elements_from, listed_elements, listed, identified, truth, number, quoted, parenthesized, primary, primary_by, expression}
 use Rattle.meson_syntax.specs.Grammar.{looseness}
-use Rattle.meson_syntax.specs.Spelling.{One, Says, Then, Deeper, Nothing, SpellsExpression, SpellsListing, SpellsArguments, SpellsArgument, SaysName}
+use Rattle.meson_syntax.specs.Spelling.{One, IsOneToken, Then, Deeper, Nothing, SpellsExpression, SpellsListing, SpellsArguments, SpellsArgument, SaysName}
 use Rattle.meson_syntax.proofs.parsing.Steps.{Passes, part, passes-then, passes-nothing, and_then_some, chosen_at, some-injective, passes-at, passes-from, node, sees-says, sees-one, expect-one, eat-one, eat-none, two-both, kind-sees, sees-name}
 use Rattle.meson_syntax.proofs.parsing.NonEmpty.{says-some, one-some, then-some, expression-some, name-some}
 
@@ -31,9 +31,9 @@ Within n e d ts = (looseness e ≤ n) × SpellsExpression e d ts
 -- ---- the rules, where expressions one level deeper are read as they are spelled
 
 module _ (d : ℕ) (deep : (i : Input) (q : Expression Span × Input) → expression d i ≡ Some q → Passes (Deeper (SpellsExpression q.0) d) i q.1) where
-  sound-with_name : (seen : Bool) (i : Input) (q : Argument Span × Input) → sees_two k.Identifier k.Colon i ≡ true → with_name (room d) (expression d) i ≡ Some q
+  sound-with_name : (seen : Bool) (i : Input) (q : Argument Span × Input) → sees_two k.Identifier k.Colon i ≡ true → named_argument (room d) (expression d) i ≡ Some q
       → Passes (SpellsArgument q.0 bracket.Round seen d) i q.1
-  unfolding with_name
+  unfolding named_argument
   sound-with_name seen i q two h =
       let both = two-both k.Identifier k.Colon i two in
       let at = next (next i) in
@@ -66,8 +66,8 @@ module _ (d : ℕ) (deep : (i : Input) (q : Expression Span × Input) → expres
       let n = node _ i b.0.1 (then-some _ _ (deeper-some a.0.0 d)) r in
       passes-at (λ x. SpellsArgument x bracket.Curly seen d) i _ q b.2 (part _ _ i b.0.1 n (n.fits.0, refl, n.fits.1))
 
-  sound-element : (b : Bracket) (seen : Bool) (i : Input) (q : Argument Span × Input) → element (room d) (expression d) b seen i ≡ Some q → Passes (SpellsArgument q.0 b seen d) i q.1
-  unfolding element
+  sound-element : (b : Bracket) (seen : Bool) (i : Input) (q : Argument Span × Input) → listed_element (room d) (expression d) b seen i ≡ Some q → Passes (SpellsArgument q.0 b seen d) i q.1
+  unfolding listed_element
   sound-element bracket.Round seen i q h = elim (chosen_at (sees_two k.Identifier k.Colon i) _ _ i _ h) [
     | inl w ↦ sound-with_name seen i q w.0 w.1
     | inr w ↦ sound-without_name bracket.Round seen i q refl w.1
@@ -90,15 +90,15 @@ module _ (d : ℕ) (deep : (i : Input) (q : Expression Span × Input) → expres
   sound-elements_from b zero seen found i q h = absurd cc
   sound-elements_from b (suc n) seen found i q h =
       let close = closes b in
-      let a = and_then_some (element (room d) (expression d) b seen i) _ _ h in
+      let a = and_then_some (listed_element (room d) (expression d) b seen i) _ _ h in
       let x = a.0.0 in
       let m = a.0.1 in
       let first = sound-element b seen i a.0 a.1 in
-      elim (chosen_at (sees k.Comma m) _ _ (after k.Comma m) _ a.2) [
+      elim (chosen_at (sees k.Comma m) _ _ (after_kind k.Comma m) _ a.2) [
         | inl w ↦ (
             let comma = eat-one k.Comma m w.0 in
-            let behind = after k.Comma m in
-            elim (chosen_at (sees close behind) _ _ (after close behind) _ w.1) [
+            let behind = after_kind k.Comma m in
+            elim (chosen_at (sees close behind) _ _ (after_kind close behind) _ w.1) [
               | inl v ↦ subst (ElementsRead b seen found i) (some-injective _ q v.1) (record {
                 head = x;
                 more = [];
@@ -108,10 +108,10 @@ module _ (d : ℕ) (deep : (i : Input) (q : Expression Span × Input) → expres
                 closed = eat-one close behind v.0;
               })
               | inr v ↦ (
-                  let rest = sound-elements_from b n (is_named x) (found ++ x ∷ []) (after close behind) q v.1 in
+                  let rest = sound-elements_from b n (is_named x) (found ++ x ∷ []) (after_kind close behind) q v.1 in
                   let more = rest.head ∷ rest.more in
                   let P = SpellsArguments (arguments_of more) q.0.0 b (is_named x) d in
-                  let rest-listed = passes-from P (after close behind) behind rest.at (eat-none close behind v.0) rest.listed in
+                  let rest-listed = passes-from P (after_kind close behind) behind rest.at (eat-none close behind v.0) rest.listed in
                   record {
                     head = x;
                     more = more;
@@ -122,34 +122,34 @@ module _ (d : ℕ) (deep : (i : Input) (q : Expression Span × Input) → expres
                   })
             ])
         | inr w ↦ (
-            let e = and_then_some (expect close (after k.Comma m)) _ _ w.1 in
+            let e = and_then_some (expect close (after_kind k.Comma m)) _ _ w.1 in
             subst (ElementsRead b seen found i) (some-injective _ q e.2) (record {
               head = x;
               more = [];
               at = m;
               are = refl;
               listed = passes-then (SpellsArgument x b seen d) (Then Nothing Nothing) i m m first (passes-then Nothing Nothing m m m (passes-nothing m) (passes-nothing m));
-              closed = passes-from (One close) (after k.Comma m) m e.0.1 (eat-none k.Comma m w.0) (expect-one close (after k.Comma m) e.0 e.1);
+              closed = passes-from (One close) (after_kind k.Comma m) m e.0.1 (eat-none k.Comma m w.0) (expect-one close (after_kind k.Comma m) e.0 e.1);
             }))
       ]
 
   -- a list in these brackets, which begins here
   pub sound-listed : (b : Bracket) (i : Input) (q : Listing Span × Input) → sees (opens b) i ≡ true → listed (room d) (expression d) b i ≡ Some q → Passes (SpellsListing q.0 b d) i q.1
-  unfolding listed elements
+  unfolding listed listed_elements
   sound-listed b i q begins h =
       let close = closes b in
       let opening = sees-one (opens b) i begins in
       elim (chosen_at (room d) _ _ i _ h) [
         | inl w ↦ (
             let some = room-some d w.0 in
-            elim (chosen_at (sees close (next i)) _ _ (after close (next i)) _ w.1) [
+            elim (chosen_at (sees close (next i)) _ _ (after_kind close (next i)) _ w.1) [
               | inl v ↦ (
-                  let j = after close (next i) in
+                  let j = after_kind close (next i) in
                   let r = passes-then (One (opens b)) (Then Nothing (One close)) i (next i) j opening (passes-then Nothing (One close) (next i) (next i) j (passes-nothing (next i)) (eat-one close (next i) v.0)) in
                   let n = node _ i j (then-some _ _ (one-some (opens b))) r in
                   passes-at (λ l. SpellsListing l b d) i _ q v.1 (part _ _ i j n (n.fits.0, some, refl, n.fits.1)))
               | inr v ↦ (
-                  let m = after close (next i) in
+                  let m = after_kind close (next i) in
                   let a = and_then_some (elements_from (room d) (expression d) b (left m) false [] m) _ _ v.1 in
                   let read = sound-elements_from b (left m) false [] m a.0 a.1 in
                   let j = a.0.1 in
@@ -179,7 +179,7 @@ module _ (d : ℕ) (deep : (i : Input) (q : Expression Span × Input) → expres
             let n = node _ i a.0.1 (then-some _ _ (name-some (name_next i))) r in
             passes-at (λ e. Within 0 e d) i _ q a.2 (part _ _ i a.0.1 n (omega arith, n.fits)))
         | inr w ↦ (
-            let n = node (Says k.Identifier (name_next i).text) i (next i) (says-some k.Identifier (name_next i).text) (part _ _ i (next i) word word.fits.1) in
+            let n = node (IsOneToken k.Identifier (name_next i).text) i (next i) (says-some k.Identifier (name_next i).text) (part _ _ i (next i) word word.fits.1) in
             passes-at (λ e. Within 0 e d) i _ q w.1 (part _ _ i (next i) n (omega arith, n.fits)))
       ]
 
@@ -192,13 +192,13 @@ module _ (d : ℕ) (deep : (i : Input) (q : Expression Span × Input) → expres
   sound-number : (i : Input) (q : Expression Span × Input) → sees k.Integer i ≡ true → number (room d) (expression d) i ≡ Some q → Passes (Within 0 q.0 d) i q.1
   unfolding number
   sound-number i q is h =
-      let n = node _ i (next i) (says-some k.Integer (spelling i)) (sees-says k.Integer i is) in
+      let n = node _ i (next i) (says-some k.Integer (text_ahead i)) (sees-says k.Integer i is) in
       passes-at (λ e. Within 0 e d) i _ q h (part _ _ i (next i) n (omega arith, n.fits))
 
   sound-quoted : (s : StringKind) (i : Input) (q : Expression Span × Input) → sees (string_kind s) i ≡ true → quoted (room d) (expression d) s i ≡ Some q → Passes (Within 0 q.0 d) i q.1
   unfolding quoted
   sound-quoted s i q is h =
-      let n = node _ i (next i) (says-some (string_kind s) (spelling i)) (sees-says (string_kind s) i is) in
+      let n = node _ i (next i) (says-some (string_kind s) (text_ahead i)) (sees-says (string_kind s) i is) in
       passes-at (λ e. Within 0 e d) i _ q h (part _ _ i (next i) n (omega arith, n.fits))
 
   sound-parenthesized : (i : Input) (q : Expression Span × Input) → sees k.OpenRound i ≡ true → parenthesized (room d) (expression d) i ≡ Some q → Passes (Within 0 q.0 d) i q.1

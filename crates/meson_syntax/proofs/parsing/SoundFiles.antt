@@ -9,9 +9,9 @@ use Rattle.meson_syntax.specs.declared.operator.Assignment.{Assignment}
 use Rattle.meson_syntax.specs.declared.operator.Assignment.TheVariants as assigns
 use Rattle.meson_syntax.specs.Operators.{assignment_kind}
 use Rattle.meson_syntax.specs.Tree.{Expression, Statement, branches_of, Otherwise, nothing_else, Block, block, File, file, statements_of, Name}
-use Rattle.meson_syntax.specs.Input.{same_kind, Input, Outcome, Parser, kind, from, next, sees, sees_two, after, expect, span_from, left, name_next}
+use Rattle.meson_syntax.specs.Input.{same_kind, Input, Outcome, Parser, kind, from, next, sees, sees_two, after_kind, expect, span_from, left, name_next}
 use Rattle.meson_syntax.specs.Reading.{room, expression}
-use Rattle.meson_syntax.specs.ReadingFiles.{ends_block, block_span, name, names_from, names, assigned, evaluated, simple, bodied, branched, branches_from, branches, otherwised, selected, iterated, broken, continued, stmt_by, stmt, line, lines_from, lines, blocked, block_at, if_over, file_of, whole}
+use Rattle.meson_syntax.specs.ReadingFiles.{ends_block, block_span, name, names_from, names, assigned, evaluated, simple, bodied, branched, branches_from, branches, otherwised, selected, iterated, broken, continued, stmt_by, stmt, line, lines_from, statement_lines, blocked, block_at, if_over, file_of_block, whole}
 use Rattle.meson_syntax.specs.Grammar.{HasBranch}
 use Rattle.meson_syntax.specs.Spelling.{end_of, Covers, CoversBlock, One, Then, Deeper, NewLine, SaysMoreNames, SaysNames, SpellsExpression, SpellsStatement, SpellsBranches, SpellsOtherwise, SpellsStatements, SpellsBlock, SpellsFile, SaysName}
 use Rattle.meson_syntax.proofs.parsing.Steps.{Passes, part, passes-then, passes-nothing, and_then_some, chosen_at, some-injective, passes-at, node, sees-one, expect-one, eat-one, eat-none, two-both, kind-sees, sees-name}
@@ -55,7 +55,7 @@ sound-names_from : (n : ℕ) (found : List (Name Span)) (i : Input) (q : List (N
 unfolding names_from
 sound-names_from zero found i q h = no-names found i q h
 sound-names_from (suc n) found i q h =
-    let m = after k.Comma i in
+    let m = after_kind k.Comma i in
     elim (chosen_at (sees k.Comma i) _ _ m _ h) [
       | inl w ↦
           (let a = and_then_some (name m) _ _ w.1 in
@@ -164,7 +164,7 @@ module _ (room : Bool) (expr inner : Parser (Expression Span)) (body : Parser (B
   sound-otherwised : (i : Input) (q : Otherwise Span × Input) → otherwised room expr inner body i ≡ Some q → Passes (SpellsOtherwise q.0 n) i q.1
   unfolding otherwised
   sound-otherwised i q h =
-      let m = after k.WordElse i in
+      let m = after_kind k.WordElse i in
       elim (chosen_at (sees k.WordElse i) _ _ m _ h) [
         | inl w ↦
             (let a = and_then_some (bodied room expr inner body m) _ _ w.1 in
@@ -330,7 +330,7 @@ module _ (room : Bool) (expr inner : Parser (Expression Span)) (body : Parser (B
       part _ _ i j n (covers-block i.last (span_from (from i) j) n.used n.fits.0, n.fits.1)
 
   sound-blocked : (i : Input) (q : Block Span × Input) → blocked room expr inner body i ≡ Some q → Passes (SpellsBlock q.0 d i.last) i q.1
-  unfolding blocked lines
+  unfolding blocked statement_lines
   sound-blocked i q h =
       let a = and_then_some (lines_from room expr inner body (left i) [] i) _ _ h in
       let j = a.0.1 in
@@ -369,7 +369,7 @@ over : {A : Type 0} (x y : A) (rest : List Token) → if_over x rest ≡ Some y 
 over x y [] h = (refl, some-injective x y h)
 over x y (t ∷ ts) h = absurd cc
 
-file_of-some : (len : ℕ) (r : Outcome (Block Span)) (f : File Span) → file_of len r ≡ Some f
+file_of-some : (len : ℕ) (r : Outcome (Block Span)) (f : File Span) → file_of_block len r ≡ Some f
     → (q : Block Span × Input) × (r ≡ Some q) × (q.1.rest ≡ []) × (file (record { from = 0; to = len }) q.0 ≡ f)
 file_of-some len None f h = absurd cc
 file_of-some len (Some q) f h = let o = over (file (record { from = 0; to = len }) q.0) f q.1.rest h in (q, refl, o.0, o.1)

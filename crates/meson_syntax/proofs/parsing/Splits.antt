@@ -6,8 +6,8 @@ use Rattle.meson_lex.specs.contracts.kinds.Kind.{the_type}
 use Rattle.meson_lex.specs.declared.kinds.Kind.{Kind}
 use Rattle.meson_lex.specs.declared.kinds.Span.{Span}
 use Rattle.meson_lex.specs.Located.{Token}
-use Rattle.meson_syntax.specs.Input.{same_kind, Input, Outcome, Parser, and_then, kind_of, text_of, from_of, next_of, begins_with, kind, spelling, from, next, sees, sees_two, after, expect, span_from, left, name_next}
-use Rattle.meson_syntax.specs.Spelling.{end_of, Covers, One, Says, Then, SaysName}
+use Rattle.meson_syntax.specs.Input.{same_kind, Input, Outcome, Parser, and_then, kind_of, text_of, from_of, next_of, begins_with, kind, text_ahead, from, next, sees, sees_two, after_kind, expect, span_from, left, name_next}
+use Rattle.meson_syntax.specs.Spelling.{end_of, Covers, One, IsOneToken, Then, SaysName}
 use Rattle.meson_syntax.proofs.parsing.Steps.{Took, Passes, end_of-append, two-by, some-injective, part}
 use Rattle.meson_syntax.specs.Tree.{Name}
 
@@ -49,7 +49,7 @@ passes-split P Q i j r =
 -- the next token is of this kind and text, and j stands behind it
 pub record TokenRead (κ : Kind) (x : List ℕ) (i j : Input) : Type 0 where
   pub is : kind i ≡ Some κ
-  pub says : spelling i ≡ x
+  pub says : text_ahead i ≡ x
   pub goes : next i ≡ j
 
 input : ℕ → List Token → Input
@@ -57,19 +57,19 @@ input last rest = record { last = last; rest = rest }
 
 token_list : (κ : Kind) (x : List ℕ) (last : ℕ) (rest : List Token) (j : Input) (t : Token) → rest ≡ t ∷ j.rest → j.last ≡ t.to → t.kind ≡ κ → t.text ≡ x
     → TokenRead κ x (record { last = last; rest = rest }) j
-unfolding kind spelling next input
+unfolding kind text_ahead next input
 token_list κ x last rest j t e l is says = record {
   is = ap kind_of e ∙ ap Some is;
   says = ap text_of e ∙ says;
   goes = ap (next_of last) e ∙ ap (λ l'. input l' j.rest) (sym l);
 }
 
-pub says-read : (κ : Kind) (x : List ℕ) (i j : Input) → Passes (Says κ x) i j → TokenRead κ x i j
+pub says-read : (κ : Kind) (x : List ℕ) (i j : Input) → Passes (IsOneToken κ x) i j → TokenRead κ x i j
 says-read κ x i j r =
     let t = r.fits.token in
     token_list κ x i.last i.rest j t (r.took.rest ∙ ap (λ u. u ++ j.rest) r.fits.alone) (r.took.last ∙ ap (end_of i.last) r.fits.alone) r.fits.is r.fits.says
 
-pub one-read : (κ : Kind) (i j : Input) → Passes (One κ) i j → TokenRead κ (spelling i) i j
+pub one-read : (κ : Kind) (i j : Input) → Passes (One κ) i j → TokenRead κ (text_ahead i) i j
 one-read κ i j r =
     let t = r.fits.token in
     let w = token_list κ t.text i.last i.rest j t (r.took.rest ∙ ap (λ u. u ++ j.rest) r.fits.alone) (r.took.last ∙ ap (end_of i.last) r.fits.alone) r.fits.is refl in
@@ -107,7 +107,7 @@ name-read x i j r =
     record { is = w.is; says = ap₂ name_of place w.says; goes = w.goes }
 
 -- the text of the next name is the next token's
-pub name-text : (i : Input) → (name_next i).text ≡ spelling i
+pub name-text : (i : Input) → (name_next i).text ≡ text_ahead i
 unfolding name_next
 name-text i = refl
 
@@ -158,14 +158,14 @@ expect-is κ i j r =
     let w = one-read κ i j r in
     rw (yes-sees κ i w.is) (ap (λ n. Some (tt, n)) w.goes)
 
-pub after-is : (κ : Kind) (i j : Input) → Passes (One κ) i j → after κ i ≡ j
-unfolding after
+pub after-is : (κ : Kind) (i j : Input) → Passes (One κ) i j → after_kind κ i ≡ j
+unfolding after_kind
 after-is κ i j r =
     let w = one-read κ i j r in
     rw (yes-sees κ i w.is) w.goes
 
-pub after-not : (κ : Kind) (i : Input) → (kind i ≡ Some κ → ⊥) → after κ i ≡ i
-unfolding after
+pub after-not : (κ : Kind) (i : Input) → (kind i ≡ Some κ → ⊥) → after_kind κ i ≡ i
+unfolding after_kind
 after-not κ i f = rw (not-sees κ i f)
 
 -- ---- lengths

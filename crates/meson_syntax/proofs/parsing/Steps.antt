@@ -5,8 +5,8 @@ use Rattle.meson_lex.specs.declared.kinds.Kind.TheVariants as k
 use Rattle.meson_lex.specs.contracts.kinds.Kind.{the_type}
 use Rattle.meson_lex.specs.declared.kinds.Kind.{Kind}
 use Rattle.meson_lex.specs.Located.{Token}
-use Rattle.meson_syntax.specs.Input.{same_kind, Input, Outcome, Parser, and_then, kind_of, text_of, from_of, next_of, begins_with, begins_with_two, kind, spelling, from, next, sees, sees_two, after, expect, span_from, name_next}
-use Rattle.meson_syntax.specs.Spelling.{end_of, Covers, One, Says, Then, Nothing, SaysName}
+use Rattle.meson_syntax.specs.Input.{same_kind, Input, Outcome, Parser, and_then, kind_of, text_of, from_of, next_of, begins_with, begins_with_two, kind, text_ahead, from, next, sees, sees_two, after_kind, expect, span_from, name_next}
+use Rattle.meson_syntax.specs.Spelling.{end_of, Covers, One, IsOneToken, Then, Nothing, SaysName}
 use Rattle.meson_syntax.proofs.parsing.NonEmpty.{says-some}
 
 -- from i to j the parser took these tokens
@@ -101,7 +101,7 @@ node P i j some r = record {
 
 -- ---- single tokens
 
-says_list : (κ : Kind) (last : ℕ) (rest : List Token) → begins_with κ rest ≡ true → Passes (Says κ (text_of rest)) (record { last = last; rest = rest }) (next_of last rest)
+says_list : (κ : Kind) (last : ℕ) (rest : List Token) → begins_with κ rest ≡ true → Passes (IsOneToken κ (text_of rest)) (record { last = last; rest = rest }) (next_of last rest)
 unfolding same_kind
 says_list κ last [] h = absurd cc
 says_list κ last (t ∷ ts) h = record {
@@ -110,20 +110,20 @@ says_list κ last (t ∷ ts) h = record {
   took = record { rest = refl; last = refl };
 }
 
-pub sees-says : (κ : Kind) (i : Input) → sees κ i ≡ true → Passes (Says κ (spelling i)) i (next i)
-unfolding sees spelling next
+pub sees-says : (κ : Kind) (i : Input) → sees κ i ≡ true → Passes (IsOneToken κ (text_ahead i)) i (next i)
+unfolding sees text_ahead next
 sees-says κ i h = says_list κ i.last i.rest h
 
 -- a name, at its place
 pub sees-name : (i : Input) → sees k.Identifier i ≡ true → Passes (SaysName (name_next i)) i (next i)
 unfolding name_next
-sees-name i h = node (Says k.Identifier (spelling i)) i (next i) (says-some k.Identifier (spelling i)) (sees-says k.Identifier i h)
+sees-name i h = node (IsOneToken k.Identifier (text_ahead i)) i (next i) (says-some k.Identifier (text_ahead i)) (sees-says k.Identifier i h)
 
-one-from-says : (κ : Kind) (x : List ℕ) (i j : Input) → Passes (Says κ x) i j → Passes (One κ) i j
+one-from-says : (κ : Kind) (x : List ℕ) (i j : Input) → Passes (IsOneToken κ x) i j → Passes (One κ) i j
 one-from-says κ x i j r = record { used = r.used; fits = record { token = r.fits.token; alone = r.fits.alone; is = r.fits.is }; took = r.took }
 
 pub sees-one : (κ : Kind) (i : Input) → sees κ i ≡ true → Passes (One κ) i (next i)
-sees-one κ i h = one-from-says κ (spelling i) i (next i) (sees-says κ i h)
+sees-one κ i h = one-from-says κ (text_ahead i) i (next i) (sees-says κ i h)
 
 pub expect-one : (κ : Kind) (i : Input) (p : Unit {0} × Input) → expect κ i ≡ Some p → Passes (One κ) i p.1
 unfolding expect
@@ -132,12 +132,12 @@ expect-one κ i p h = elim (chosen_by (sees κ i) (Some (tt, next i)) None (Some
   | inr w ↦ absurd cc
 ]
 
-pub eat-one : (κ : Kind) (i : Input) → sees κ i ≡ true → Passes (One κ) i (after κ i)
-unfolding after
+pub eat-one : (κ : Kind) (i : Input) → sees κ i ≡ true → Passes (One κ) i (after_kind κ i)
+unfolding after_kind
 eat-one κ i h = rw h (sees-one κ i h)
 
-pub eat-none : (κ : Kind) (i : Input) → sees κ i ≡ false → after κ i ≡ i
-unfolding after
+pub eat-none : (κ : Kind) (i : Input) → sees κ i ≡ false → after_kind κ i ≡ i
+unfolding after_kind
 eat-none κ i h = rw h
 
 two_list : (κ ι : Kind) (last : ℕ) (rest : List Token) → begins_with_two κ ι rest ≡ cond (begins_with κ rest) (begins_with ι (next_of last rest).rest) false

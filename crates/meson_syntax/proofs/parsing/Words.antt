@@ -10,13 +10,13 @@ use Rattle.meson_syntax.specs.declared.operator.Bracket.{Bracket}
 use Rattle.meson_syntax.specs.declared.operator.Bracket.TheVariants as bracket
 use Rattle.meson_syntax.specs.Operators.{operator_kind, operator_rest, unary_kind, string_kind, boolean_kind, opens, closes}
 use Rattle.meson_syntax.specs.Tree.{Expression, identifier, boolean, integer, string, paren, array, dictionary, call, unary, row, postfix, conditional, Operands, no_operands, operand, Tail, method, index, Tails, no_tails, tail, Listing, listing, Argument, plain, named, pair, is_named, Arguments, no_arguments, argument, Name}
-use Rattle.meson_syntax.specs.Spelling.{One, Says, Then, Each, Comma, SpellsExpression, SpellsOperands, SpellsTail, SpellsTails, SpellsListing, SpellsArguments, SpellsArgument, SaysName}
+use Rattle.meson_syntax.specs.Spelling.{One, IsOneToken, Then, Each, Comma, SpellsExpression, SpellsOperands, SpellsTail, SpellsTails, SpellsListing, SpellsArguments, SpellsArgument, SaysName}
 use Rattle.meson_syntax.specs.Grammar.{mark, comma_words, expression_words, operands_words, tail_words, tails_words, listing_words, argument_words, arguments_words}
 use Rattle.meson_syntax.proofs.parsing.Marks.{Drop, string-keeps, boolean-drops, unary-drops, opens-drops, closes-drops, operator-drops, rest-drops}
 
 -- ---- steps
 
-pub says-words : (κ : Kind) (x : List ℕ) (ts : List Token) → kept κ x ≡ x → Says κ x ts → words ts ≡ (κ, x) ∷ []
+pub says-words : (κ : Kind) (x : List ℕ) (ts : List Token) → kept κ x ≡ x → IsOneToken κ x ts → words ts ≡ (κ, x) ∷ []
 says-words κ x ts keeps w =
     let made : word_of w.token ≡ (κ, x) = ap₂ (λ (a : Kind) (b : List ℕ). (a, kept a b)) w.is w.says ∙ ap (λ b. (κ, b)) keeps in
     ap words w.alone ∙ ap (λ y. y ∷ []) made

@@ -7,7 +7,7 @@ use Rattle.meson_syntax.specs.Paths.{Sort, of_expression, of_statement, of_block
 use Rattle.meson_syntax.specs.ExchangeStatements.{BlockAt, block_of_node}
 use Rattle.meson_syntax.specs.Moves.{each_block}
 use Rattle.meson_syntax.specs.MappedPaths.{each_node, MapsHole, maps, MapsList, InBoth, neither, both}
-use Rattle.meson_syntax.specs.Laws.{front, erase_node, erase_front, list_front, erase_list_front, NodesErase, ListsErase, BlocksErase}
+use Rattle.meson_syntax.specs.Laws.{words_around, erase_node, erase_front, list_front, erase_list_front, NodesErase, ListsErase, BlocksErase}
 use Rattle.meson_syntax.proofs.kept.Each.{then-both, nodes-map}
 use Rattle.meson_syntax.proofs.kept.EachNothing.{nothing, expression-nothing, statement-nothing, block-nothing, listing-nothing, file-nothing, lists-without}
 
@@ -31,14 +31,14 @@ holes f path =
     subst (λ t. InBoth (MapsHole nothing (each_block nothing)) (reach Span of_block (block_of f) path) (reach Nowhere of_block (block_of t) path))
     (file-nothing f) (nodes-map nothing f path)
 
-same-front : (x : Hole Span (Block Span)) (y : Hole Nowhere (Block Nowhere)) → MapsHole nothing (each_block nothing) x y → front y ≡ erase_front (front x)
+same-front : (x : Hole Span (Block Span)) (y : Hole Nowhere (Block Nowhere)) → MapsHole nothing (each_block nothing) x y → words_around y ≡ erase_front (words_around x)
 same-front x y (maps sort e before before' behind behind' back back' p q agree) =
     ap₂ (λ b c. record { sort = sort; inside = each_node nothing sort e; before = b; behind = c }) p q
     ∙ ap (λ n. record { sort = sort; inside = n; before = before; behind = behind }) (node-nothing sort e)
 
 pub nodes-erase : NodesErase
 nodes-erase f path =
-    shown (λ h. erase_front (front h)) front same-front (reach Span of_block (block_of f) path) (reach Nowhere of_block (block_of (erase f)) path)
+    shown (λ h. erase_front (words_around h)) words_around same-front (reach Span of_block (block_of f) path) (reach Nowhere of_block (block_of (erase f)) path)
     (holes f path)
 
 -- ---- lists

@@ -5,7 +5,7 @@ use Rattle.std.proofs.lemmas.List.{append-nil}
 use Rattle.meson_lex.specs.Significant.{Word}
 use Rattle.meson_syntax.specs.Tree.{Expression, array, dictionary, call, Listing, Block, File, file}
 use Rattle.meson_syntax.specs.Grammar.{expression_words, listing_words, block_words, file_words, looseness, LevelExpression, LevelListing, LevelBlock, LevelFile}
-use Rattle.meson_syntax.specs.Paths.{Sort, of_expression, of_statement, of_block, Node, node_words, Hole, around, child, reach, block_of, with_block, ListIn, list_in, ListAt, list_within, list_of_node, list_at}
+use Rattle.meson_syntax.specs.Paths.{Sort, of_expression, of_statement, of_block, Node, node_words, Hole, around, nth_hole, reach, block_of, with_block, ListIn, list_in, ListAt, list_within, list_of_node, list_at}
 use Rattle.meson_syntax.proofs.parsing.Steps.{some-injective}
 use Rattle.meson_syntax.proofs.paths.Fits.{LevelNode, AsTight}
 use Rattle.meson_syntax.proofs.paths.StatementChildren.{LikeNode, child-fits}
@@ -45,7 +45,7 @@ module _ (S : Type 0) where
     outside = λ l y t ly. ly;
   })
   reach-fits sort x (n ∷ path) h is =
-      let o = and-then-some (λ g. option_map (around g.before g.behind g.back) (reach S g.sort g.inside path)) (child S sort x n) h is in
+      let o = and-then-some (λ g. option_map (around g.before g.behind g.back) (reach S g.sort g.inside path)) (nth_hole S sort x n) h is in
       let g = o.0 in
       let m = map-some (around g.before g.behind g.back) (reach S g.sort g.inside path) h o.2 in
       let i = m.0 in

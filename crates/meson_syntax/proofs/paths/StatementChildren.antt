@@ -8,7 +8,7 @@ use Rattle.meson_lex.specs.Significant.{new_line}
 use Rattle.meson_syntax.specs.Operators.{assignment_kind}
 use Rattle.meson_syntax.specs.Tree.{Statement, evaluate, assign, selection, iteration, breaks, continues, Branches, no_branches, branch, Otherwise, nothing_else, otherwise, Statements, no_statements, statement, Block, block}
 use Rattle.meson_syntax.specs.Grammar.{mark, names_words, expression_words, statement_words, branches_words, otherwise_words, statements_words, block_words, HasBranch, LevelStatement, LevelBranches, LevelOtherwise, LevelStatements, LevelBlock}
-use Rattle.meson_syntax.specs.Paths.{Sort, of_expression, of_statement, of_block, Node, node_words, Hole, branches_children, otherwise_children, statement_children, statements_children, block_children, children, child}
+use Rattle.meson_syntax.specs.Paths.{Sort, of_expression, of_statement, of_block, Node, node_words, Hole, branches_children, otherwise_children, statement_children, statements_children, block_children, children, nth_hole}
 use Rattle.meson_syntax.proofs.paths.Every.{Every, every-append, every-around, every-nth}
 use Rattle.meson_syntax.proofs.paths.Fits.{Fits, LevelNode, around-fits}
 use Rattle.meson_syntax.proofs.paths.Children.{regroup, LikeExpression, expression-fits}
@@ -179,5 +179,5 @@ module _ (S : Type 0) where
   children-fit of_statement s = statement-fits s
   children-fit of_block b = block-fits b
 
-  pub child-fits : (sort : Sort) (x : Node sort S) (n : ℕ) (h : Hole S (Node sort S)) → child S sort x n ≡ Some h → FitsNode sort x h
+  pub child-fits : (sort : Sort) (x : Node sort S) (n : ℕ) (h : Hole S (Node sort S)) → nth_hole S sort x n ≡ Some h → FitsNode sort x h
   child-fits sort x n h is = every-nth (FitsNode sort x) (children S sort x) n h (children-fit sort x) is

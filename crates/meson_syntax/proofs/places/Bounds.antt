@@ -14,7 +14,7 @@ use Rattle.meson_syntax.specs.declared.operator.UnaryOperator.TheVariants as una
 use Rattle.meson_syntax.specs.Operators.{string_kind, boolean_kind, unary_kind, opens, closes}
 use Rattle.meson_syntax.specs.Tree.{Expression, identifier, boolean, integer, string, paren, array, dictionary, call, unary, row, postfix, conditional, Operands, no_operands, operand, Tail, method, index, Tails, no_tails, tail, Listing, listing, Argument, plain, named, pair, Branches, no_branches, branch, Statement, evaluate, assign, selection, iteration, breaks, continues}
 use Rattle.meson_syntax.specs.Grammar.{HasOperand, HasTail, HasBranch, row_level}
-use Rattle.meson_syntax.specs.Spelling.{end_of, Covers, One, Says, Then, SpellsExpression, SpellsOperands, SpellsTail, SpellsTails, SpellsListing, SpellsArgument, SpellsBranches, SpellsStatement}
+use Rattle.meson_syntax.specs.Spelling.{end_of, Covers, One, IsOneToken, Then, SpellsExpression, SpellsOperands, SpellsTail, SpellsTails, SpellsListing, SpellsArgument, SpellsBranches, SpellsStatement}
 use Rattle.meson_syntax.specs.Places.{expression_span, argument_span, statement_span}
 use Rattle.meson_syntax.specs.Paths.{list_span}
 use Rattle.meson_syntax.proofs.parsing.Steps.{end_of-append}
@@ -45,7 +45,7 @@ one-begins κ ts own w = record { first = w.token; rest = []; begins = w.alone; 
 one-closes : (κ : Kind) (ts : List Token) → IsOwnKind κ → One κ ts → Closes ts
 one-closes κ ts own w = record { front = []; last = w.token; ends = w.alone; last_own = λ e. own (sym w.is ∙ e) }
 
-says-one : (κ : Kind) (x : List ℕ) (ts : List Token) → Says κ x ts → One κ ts
+says-one : (κ : Kind) (x : List ℕ) (ts : List Token) → IsOneToken κ x ts → One κ ts
 says-one κ x ts w = record { token = w.token; alone = w.alone; is = w.is }
 
 then-begins : (P Q : List Token → Type 0) (ts : List Token) (t : Then P Q ts) → Begins t.front → Begins ts

@@ -10,7 +10,7 @@ use Rattle.meson_syntax.specs.Operators.{assignment_kind}
 use Rattle.meson_syntax.specs.Tree.{Statement, evaluate, assign, selection, iteration, breaks, continues, Branches, no_branches, branch, Otherwise, nothing_else, otherwise, Statements, no_statements, statement, Block, block}
 use Rattle.meson_syntax.specs.Grammar.{mark, names_words, expression_words, statement_words, branches_words, otherwise_words, block_words, HasBranch, branches_depth, otherwise_depth, statements_depth}
 use Rattle.meson_syntax.specs.Spelling.{CoversBlock, NewLine, SpellsExpression, SpellsStatement, SpellsBranches, SpellsOtherwise, SpellsStatements, SpellsBlock}
-use Rattle.meson_syntax.specs.Paths.{Sort, of_expression, of_statement, of_block, Node, Hole, around, branches_children, otherwise_children, statement_children, statements_children, block_children, children, child, reach}
+use Rattle.meson_syntax.specs.Paths.{Sort, of_expression, of_statement, of_block, Node, Hole, around, branches_children, otherwise_children, statement_children, statements_children, block_children, children, nth_hole, reach}
 use Rattle.meson_syntax.proofs.parsing.Steps.{some-injective}
 use Rattle.meson_syntax.proofs.parsing.Marks.{assignment-drops}
 use Rattle.meson_syntax.proofs.parsing.Words.{name-words, one-words, then-words, expression-words}
@@ -223,7 +223,7 @@ children-inside of_expression e d last ts h = expression-inside e d ts h
 children-inside of_statement s d last ts h = statement-inside s d ts h
 children-inside of_block b d last ts h = block-inside b d last ts h
 
-child-inside : (sort : Sort) (x : Node sort Span) (n d last : ℕ) (ts : List Token) (h : Hole Span (Node sort Span)) → child Span sort x n ≡ Some h
+child-inside : (sort : Sort) (x : Node sort Span) (n d last : ℕ) (ts : List Token) (h : Hole Span (Node sort Span)) → nth_hole Span sort x n ≡ Some h
     → SpellsNode sort x d last ts
     → HoldsNode sort x d last ts h
 child-inside sort x n d last ts h is sp = every-nth (HoldsNode sort x d last ts) (children Span sort x) n h (children-inside sort x d last ts sp) is
@@ -238,7 +238,7 @@ reach-holds sort x [] d last ts h is sp =
       swap = λ y new ends other. alone (SpellsOther sort x d last y) new other;
     })
 reach-holds sort x (n ∷ path) d last ts h is sp =
-    let o = and-then-some (λ g. option_map (around g.before g.behind g.back) (reach Span g.sort g.inside path)) (child Span sort x n) h is in
+    let o = and-then-some (λ g. option_map (around g.before g.behind g.back) (reach Span g.sort g.inside path)) (nth_hole Span sort x n) h is in
     let g = o.0 in
     let m = map-some (around g.before g.behind g.back) (reach Span g.sort g.inside path) h o.2 in
     let u = child-inside sort x n d last ts g o.1 sp in

@@ -13,7 +13,7 @@ use Rattle.meson_syntax.specs.Tree.{Block, File, file}
 use Rattle.meson_syntax.specs.Spelling.{Covers, One, SpellsFile}
 use Rattle.meson_syntax.specs.Grammar.{expression_words, argument_words, statement_words}
 use Rattle.meson_syntax.specs.Paths.{Sort, of_expression, of_statement, of_block, Node, ElementAt, element_at, words_ahead, list_span, inner_words, Hole, reach, list_in, ListAt, list_within, list_of_node, list_at, block_of}
-use Rattle.meson_syntax.specs.Places.{expression_span, argument_span, statement_span, Stands, NodeStands, ListStands, PartStands, ListPlaces}
+use Rattle.meson_syntax.specs.Places.{expression_span, argument_span, statement_span, StandsAmongItems, NodeStands, ListStands, PartStands, ListPlaces}
 use Rattle.meson_syntax.specs.Reads.{IsSpannedWithin}
 use Rattle.meson_syntax.proofs.parsing.Words.{expression-words, argument-words}
 use Rattle.meson_syntax.proofs.parsing.FileWords.{statement-words}
@@ -137,7 +137,7 @@ module _ (items : List Lexeme) where
   quiet = silent-closing (after start items).fresh (end_after 0 0 items)
 
   own-stands : (s : Span) (front own back : List Token) (before w behind : List Word) → located items ≡ front ++ (own ++ back) → Covers s own → Bounded own
-      → words front ≡ before → words own ≡ w → words back ≡ behind → Stands items s before w behind
+      → words front ≡ before → words own ≡ w → words back ≡ behind → StandsAmongItems items s before w behind
   unfolding ending
   own-stands s front own back before w behind h c b f o k =
       let i = cut-own start 0 0 items ending quiet front own back b h in

@@ -32,7 +32,7 @@ sources_of-requires-clause-good c =
     let trees = c.args.variables.now.trees.now in
     let call = c.args.call.now in
     let bytes = bytes_at call.file files in
-    let is = c.in-Some.ensures bytes ∙ ap (λ t. paths.expression_at (view bytes t) call.path.steps) c.index-trees-call.is in
+    let is = c.in-Some.ensures bytes ∙ ap (λ t. paths.expression_on_path (view bytes t) call.path.steps) c.index-trees-call.is in
     subst (λ source. GoodListing (list_view source c.in-Some-arguments_of.arguments.now)) (sym c.bytes.ensures)
     (listing_good files trees call c.index-trees-call.result (as_many files trees c.requires.parsed) c.if-call-trees.false (expr_view bytes c.in-Some.expr.now)
     (list_view bytes c.in-Some-arguments_of.arguments.now) c.requires.parsed is (c.in-Some-arguments_of.ensures bytes))
@@ -44,7 +44,7 @@ unreachable-requires-in-None-arguments_of c =
     let call = c.args.call.now in
     let bytes = bytes_at call.file files in
     let e = expr_view bytes c.in-Some.expr.now in
-    let is = c.in-Some.ensures bytes ∙ ap (λ t. paths.expression_at (view bytes t) call.path.steps) c.index-trees-call.is in
+    let is = c.in-Some.ensures bytes ∙ ap (λ t. paths.expression_on_path (view bytes t) call.path.steps) c.index-trees-call.is in
     let none = sym (no_call (call_of e) (c.in-None-arguments_of.ensures bytes)) ∙ an_expression files trees call c.index-trees-call.result (as_many files trees c.requires.parsed) c.if-call-trees.false e is in
     let target = c.requires.target in
     cc
@@ -56,7 +56,7 @@ unreachable-requires-in-None c =
     let call = c.args.call.now in
     let bytes = bytes_at call.file files in
     let none = no_expression files trees call c.index-trees-call.result (as_many files trees c.requires.parsed) c.if-call-trees.false
-    (c.in-None.ensures bytes ∙ ap (λ t. paths.expression_at (view bytes t) call.path.steps) c.index-trees-call.is) in
+    (c.in-None.ensures bytes ∙ ap (λ t. paths.expression_on_path (view bytes t) call.path.steps) c.index-trees-call.is) in
     let target = c.requires.target in
     cc
 
@@ -67,7 +67,7 @@ returns-clause-found c =
     let call = c.args.call.now in
     let bytes = bytes_at call.file files in
     let arguments = c.in-Some-arguments_of.arguments.now in
-    let is = c.in-Some.ensures bytes ∙ ap (λ t. paths.expression_at (view bytes t) call.path.steps) c.index-trees-call.is in
+    let is = c.in-Some.ensures bytes ∙ ap (λ t. paths.expression_on_path (view bytes t) call.path.steps) c.index-trees-call.is in
     sources_found files trees call c.index-trees-call.result (as_many files trees c.requires.parsed) c.if-call-trees.false (expr_view bytes c.in-Some.expr.now) (list_view bytes arguments)
     is (c.in-Some-arguments_of.ensures bytes) c.sources_of.result
     (λ function. subst (λ source. IfOk c.sources_of.result (λ s. sources_of_call (project_of c.args.variables.now) (placed call (call_with function (list_view source arguments))) ≡ Ok s)) c.bytes.ensures
@@ -80,7 +80,7 @@ returns-clause-refused c =
     let call = c.args.call.now in
     let bytes = bytes_at call.file files in
     let arguments = c.in-Some-arguments_of.arguments.now in
-    let is = c.in-Some.ensures bytes ∙ ap (λ t. paths.expression_at (view bytes t) call.path.steps) c.index-trees-call.is in
+    let is = c.in-Some.ensures bytes ∙ ap (λ t. paths.expression_on_path (view bytes t) call.path.steps) c.index-trees-call.is in
     sources_refused files trees call c.index-trees-call.result (as_many files trees c.requires.parsed) c.if-call-trees.false (expr_view bytes c.in-Some.expr.now) (list_view bytes arguments)
     is (c.in-Some-arguments_of.ensures bytes) c.sources_of.result
     (λ function. subst (λ source. IfErr c.sources_of.result (λ x. x ≢ OutOfMemory → sources_of_call (project_of c.args.variables.now) (placed call (call_with function (list_view source arguments))) ≡ Err x)) c.bytes.ensures

@@ -2,7 +2,7 @@ use Rattle.std.proofs.Common.{◌+◌, ◌<◌, ◌≤◌, length, take, sym, su
 use Rattle.std.specs.Prelude.{[]}
 use Rattle.std.proofs.lemmas.List.{take_all}
 use Rattle.meson_splice.specs.declared.file_set.File.{File}
-use Rattle.meson_syntax.specs.Reads.{MayRefuse, IsSpanned}
+use Rattle.meson_syntax.specs.Reads.{MayNotRead, IsSpanned}
 use Rattle.meson_syntax.specs.View.{view}
 use Rattle.meson_calls.specs.Loading.{AreParsed}
 use Rattle.meson_calls.proofs.Loads.{parsed_more, have_trees, told_fault}
@@ -14,7 +14,7 @@ nobody = record { name = []; bytes = [] }
 pub returns-in-Err : goal.returns-in-Err
 returns-in-Err c =
     let within : c.loop-index.index < length c.args.files.now = omega arith in
-    let why = subst (λ bytes. MayRefuse bytes c.in-Err.fault) c.bytes.ensures c.in-Err.ensures.refused in
+    let why = subst (λ bytes. MayNotRead bytes c.in-Err.fault) c.bytes.ensures c.in-Err.ensures.refused in
     record { ok = tt; err = told_fault c.args.files.now c.loop-index.index c.in-Err.fault _ c.told.ensures within (have_trees _ _ c.loop-index.invariant) why }
 
 pub loop-index-preserved : goal.loop-index-preserved

@@ -19,11 +19,11 @@ returns-in-Some c =
     c.is_role_call.ensures
     ∙ ap (λ source. is_role_call role.Target (call_of (expr_view source c.in-Some.expr.now))) c.bytes.ensures
     ∙ an_expression c.args.files.now c.args.trees.now at_ tree c.requires c.if-call-trees.false (expr_view bytes c.in-Some.expr.now)
-    (c.in-Some.ensures bytes ∙ ap (λ t. paths.expression_at (view bytes t) at_.path.steps) c.index-trees-call.is)
+    (c.in-Some.ensures bytes ∙ ap (λ t. paths.expression_on_path (view bytes t) at_.path.steps) c.index-trees-call.is)
 
 pub returns-in-None : goal.returns-in-None
 returns-in-None c =
     let at_ = c.args.call.now in
     let bytes = bytes_at at_.file c.args.files.now in
     no_expression c.args.files.now c.args.trees.now at_ c.index-trees-call.result c.requires c.if-call-trees.false
-    (c.in-None.ensures bytes ∙ ap (λ t. paths.expression_at (view bytes t) at_.path.steps) c.index-trees-call.is)
+    (c.in-None.ensures bytes ∙ ap (λ t. paths.expression_on_path (view bytes t) at_.path.steps) c.index-trees-call.is)

@@ -2,7 +2,7 @@ use Rattle.std.proofs.Common.{◌≡◌, ◌∙◌, ap, codes, true}
 use Rattle.std.proofs.lemmas.Result.{IfOk-weaker}
 use Rattle.clap.specs.Simple.{app_of_fields}
 use Rattle.clap.specs.Words.{App, app_of, with_rule}
-use Rattle.meson_command.specs.Program.{bare, flag, help, option, version}
+use Rattle.meson_command.specs.Program.{bare_command, flag, help, option, version}
 use Rattle.meson_command.proofs.program.own_words.Goals as goal
 
 abbrev flags : App → App
@@ -10,7 +10,7 @@ flags a = record a { top = record a.top { subcommand_required = true; disable_he
 
 pub returns : goal.returns
 returns c =
-    let bare_is : app_of c.disable_help_subcommand-program.result ≡ bare (codes "meson_rewrite") =
+    let bare_is : app_of c.disable_help_subcommand-program.result ≡ bare_command (codes "meson_rewrite") =
     ap app_of_fields c.disable_help_subcommand-program.ensures
     ∙ ap (λ f. app_of_fields (record f { disable_help_subcommand = true })) c.disable_help_flag.ensures
     ∙ ap (λ f. app_of_fields (record f { disable_help_flag = true; disable_help_subcommand = true })) c.subcommand_required.ensures

@@ -2,11 +2,11 @@ use Rattle.std.proofs.Common.{◌∙◌, ap, subst}
 use Rattle.std.specs.Prelude.{IfOk}
 use Rattle.std.proofs.lemmas.Result.{IfOk-weaker}
 use Rattle.clap.specs.Words.{App, app_of, with_subcommand}
-use Rattle.meson_command.specs.Program.{IsTold}
+use Rattle.meson_command.specs.Program.{IsToldToClap}
 use Rattle.meson_command.proofs.program.with_subcommand.Goals as goal
 
 pub returns : goal.returns
 returns c = λ a told.
-    let is : IsTold a c.in_ok-subcommand.field-0 = subst (λ r. IfOk r (IsTold a)) c.in_ok-subcommand.was told in
+    let is : IsToldToClap a c.in_ok-subcommand.field-0 = subst (λ r. IfOk r (IsToldToClap a)) c.in_ok-subcommand.was told in
     let top : App → _ = λ (b : App). b.top in
     IfOk-weaker c.subcommand.result _ _ (λ r h. h.shape is.1 ∙ ap (with_subcommand (app_of c.args.command)) (ap top is.0)) c.subcommand.ensures

@@ -1,7 +1,7 @@
 use Rattle.std.proofs.Common.{◌≤◌, ◌+◌, ◌∷◌, [], ◌∙◌, Some, ap, refl, sym, subst, length, map, take, drop, option_map, string_bytes, arith}
 use Rattle.std.proofs.lemmas.List.{take_all}
 use Rattle.std.proofs.lemmas.Result.{err_from_is_err_and}
-use Rattle.meson_gathering.specs.Gathering.{Told, Ending, entered}
+use Rattle.meson_gathering.specs.Gathering.{Told, Ending, files_entered}
 use Rattle.meson_gathering.specs.Gathered.{IsNotEntered}
 use Rattle.meson_gathering.specs.Reading.{EntersEach, EntersOne, next_name, no_name}
 use Rattle.meson_gathering.proofs.EnteredFiles.{name_in, names_cut, names_more, stop_within, entered_then, grows_none, grows_then}
@@ -40,7 +40,7 @@ loop-i-preserved g c =
       kept = c.in_ok-enter.ensures.kept ∙ c.loop-i.invariant.kept;
       counts = omega (arith, c.loop-i.invariant.counts, c.enter.ensures.counts);
       no_replace = c.enter.ensures.no_replace ∙ c.loop-i.invariant.no_replace;
-      so_far = λ content is. ap (λ ns. entered content folder ns c.args.files.now) more
+      so_far = λ content is. ap (λ ns. files_entered content folder ns c.args.files.now) more
           ∙ entered_then content folder before (name ∷ []) c.args.files.now c.loop-i.files (Some c.enter.new.files) (c.loop-i.invariant.so_far content is) (c.in_ok-enter.ensures.entered content (c.loop-i.invariant.kept ∙ is));
       grows = grows_then c.args.files.now c.loop-i.files c.enter.new.files c.loop-i.invariant.grows c.in_ok-enter.ensures.grows;
       asks = subst (λ ns. EntersEach (S.content c.args.store.now) folder c.args.files.now (S.reads c.args.store.now) ns c.enter.new.files m) (sym more)

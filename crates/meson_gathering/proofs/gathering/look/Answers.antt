@@ -1,8 +1,8 @@
 use Rattle.std.proofs.Common.{◌≡◌, ◌≤◌, ◌∙◌, inl, inr, refl, sym, ap, subst, map, option_map, take, drop, string_bytes, arith}
 use Rattle.std.proofs.lemmas.Result.{err_from_is_err_and}
 use Rattle.meson_splice.specs.Files.{bytes_at}
-use Rattle.meson_calls.specs.Loading.{name_at}
-use Rattle.meson_gathering.specs.Gathering.{Told, Ending, Gathers, entered}
+use Rattle.meson_calls.specs.Loading.{name_of_file}
+use Rattle.meson_gathering.specs.Gathering.{Told, Ending, Gathers, files_entered}
 use Rattle.meson_gathering.specs.Gathered.{IsNotEntered}
 use Rattle.meson_gathering.specs.Reading.{EntersEach, StopsEntering}
 use Rattle.meson_gathering.proofs.Places.{not_entered, not_parsed}
@@ -16,7 +16,7 @@ returns-clause-looked g c =
     λ content is. record {
       names = map string_bytes c.in_ok-tree.field-0.names.items;
       enters = c.in_ok-tree.ensures.names;
-      are_entered = ap (λ ns. entered content folder (map string_bytes ns) files) (sym c.as_slice.ensures.value) ∙ c.in_ok-enter_all.ensures.entered content is;
+      are_entered = ap (λ ns. files_entered content folder (map string_bytes ns) files) (sym c.as_slice.ensures.value) ∙ c.in_ok-enter_all.ensures.entered content is;
     }
 
 pub returns-in_err-enter_all-clause-stopped : goal.returns-in_err-enter_all-clause-stopped
@@ -45,7 +45,7 @@ returns-in_err-tree-clause-stopped g c =
     let first = g.S.Store.failures c.args.store.now in
     let Q : Ending → Type 0 = λ end. Told (g.S.Store.content c.args.store.now) (λ content. Gathers content folder (take place files) (drop place files) end) in
     let p = err_from_is_err_and c.from_residual.result c.from_residual.ensures.1 in
-    rw (p.1, p.2) (looking_stops Q first first (name_at place files) (bytes_at place files) (λ fault why told content is. not_parsed content folder files place c.requires.within fault why told) c.in_err-tree.field-0.0 c.in_err-tree.ensures.stopped)
+    rw (p.1, p.2) (looking_stops Q first first (name_of_file place files) (bytes_at place files) (λ fault why told content is. not_parsed content folder files place c.requires.within fault why told) c.in_err-tree.field-0.0 c.in_err-tree.ensures.stopped)
 
 pub returns-clause-asks : goal.returns-clause-asks
 returns-clause-asks g c =

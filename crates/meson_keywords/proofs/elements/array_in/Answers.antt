@@ -3,7 +3,7 @@ use Rattle.meson_syntax.specs.Grammar.{expression_words}
 use Rattle.meson_syntax.specs.View.{args_view, expr_view, list_view}
 use Rattle.meson_syntax.specs.declared.operator.Bracket.TheVariants as bracket
 use Rattle.meson_calls.specs.GoodLists.{GoodArgs}
-use Rattle.meson_keywords.specs.KeywordEdits.{an_array, shape}
+use Rattle.meson_keywords.specs.KeywordEdits.{an_array, value_shape}
 use Rattle.meson_calls.specs.Strings.{AreGood}
 use Rattle.meson_steps.proofs.ArgumentValues.{list_elements}
 use Rattle.meson_calls.proofs.Nested.{array_view, good_args, good_listing}
@@ -11,7 +11,7 @@ use Rattle.meson_keywords.proofs.elements.array_in.Goals as goal
 
 pub returns-in-Array-clause-shape : goal.returns-in-Array-clause-shape
 returns-in-Array-clause-shape c = λ source.
-    ap (λ v. shape (expr_view source v)) c.in-Array.is ∙ ap shape (array_view source c.in-Array.list) ∙ ap an_array (list_elements source c.in-Array.list) ∙ ap (λ xs. an_array (args_view source xs)) (sym c.get.ensures)
+    ap (λ v. value_shape (expr_view source v)) c.in-Array.is ∙ ap value_shape (array_view source c.in-Array.list) ∙ ap an_array (list_elements source c.in-Array.list) ∙ ap (λ xs. an_array (args_view source xs)) (sym c.get.ensures)
 
 pub returns-in-Array-clause-good : goal.returns-in-Array-clause-good
 returns-in-Array-clause-good c = λ source good.

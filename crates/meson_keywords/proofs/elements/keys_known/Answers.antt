@@ -2,7 +2,7 @@ use Rattle.std.proofs.Common.{◌∙◌, sym, ap, subst}
 use Rattle.std.specs.Prelude.{is_some}
 use Rattle.meson_syntax.specs.Grammar.{expression_words}
 use Rattle.meson_syntax.specs.View.{arg_view, expr_view}
-use Rattle.meson_calls.specs.Calls.{literal}
+use Rattle.meson_calls.specs.Calls.{literal_of}
 use Rattle.meson_calls.specs.Strings.{AreGood}
 use Rattle.meson_calls.proofs.ArgumentViews.{plain_view, named_view}
 use Rattle.meson_calls.proofs.Nested.{good_arg}
@@ -20,7 +20,7 @@ pub returns-then-not-branch : goal.returns-then-not-branch
 returns-then-not-branch c =
     let source = c.args.source.now in
     let view = ap (λ a. is_some (key_text (arg_view source a))) (sym c.index-elements-i.is ∙ c.in-Pair.is) ∙ ap (λ a. is_some (key_text a)) (pair_view source c.in-Pair.span c.in-Pair.key c.in-Pair.value)
-    ∙ ap (λ e. is_some (literal (expr_view source e))) (sym c.get.ensures) in
+    ∙ ap (λ e. is_some (literal_of (expr_view source e))) (sym c.get.ensures) in
     sym (sym c.loop-i.invariant ∙ keys_not source c.args.elements.now c.loop-i.i c.index-elements-i.result c.loop-i-test.true (view ∙ sym c.in_ok-is_element-in-Pair.ensures ∙ c.if-not-branch.true))
 
 pub returns-in-Plain : goal.returns-in-Plain
@@ -39,5 +39,5 @@ pub loop-i-preserved : goal.loop-i-preserved
 loop-i-preserved c =
     let source = c.args.source.now in
     let view = ap (λ a. is_some (key_text (arg_view source a))) (sym c.index-elements-i.is ∙ c.in-Pair.is) ∙ ap (λ a. is_some (key_text a)) (pair_view source c.in-Pair.span c.in-Pair.key c.in-Pair.value)
-    ∙ ap (λ e. is_some (literal (expr_view source e))) (sym c.get.ensures) in
+    ∙ ap (λ e. is_some (literal_of (expr_view source e))) (sym c.get.ensures) in
     sym (keys_more source c.args.elements.now c.loop-i.i c.index-elements-i.result c.loop-i-test.true (view ∙ sym c.in_ok-is_element-in-Pair.ensures ∙ c.if-not-branch.false)) ∙ c.loop-i.invariant

@@ -6,7 +6,7 @@ use Rattle.meson_syntax.specs.View.{arg_view, args_view, expr_view}
 use Rattle.meson_edit.specs.Edits.{Written}
 use Rattle.meson_syntax.specs.Tree.{Argument, Nowhere}
 use Rattle.meson_keywords.specs.Keys.{written_list, written_named}
-use Rattle.meson_keywords.specs.KeywordEdits.{add_by_shape, add_there, behind_all, shape, text_in}
+use Rattle.meson_keywords.specs.KeywordEdits.{add_by_shape, add_there, behind_all, value_shape, text_in}
 use Rattle.meson_steps.specs.Meanings.{AreBehind}
 use Rattle.meson_keywords.proofs.StepsBehind.{all_meant, behind_is, by_none, by_some}
 use Rattle.meson_keywords.proofs.keyword_steps.add_steps.Goals as goal
@@ -28,7 +28,7 @@ returns-in_err-add_to_value-in-Some-clause-refused c =
     let key_is = c.as_bytes-key.ensures.value ∙ c.get.ensures in
     by_some (add_there s.call.now (length (args_view s.source.now s.args.now)) c.args.key.now k values) c.args.key.now c.as_bytes-key.result.now s.source.now key_is s.args.now c.in_ok-found.found c.in_ok-found.ensures.found
     c.in-Some.found c.in-Some.is
-    ∙ ap (λ key. add_by_shape s.call.now c.in-Some.found.number key k values (text_in k v) (shape v)) (sym key_is)
+    ∙ ap (λ key. add_by_shape s.call.now c.in-Some.found.number key k values (text_in k v) (value_shape v)) (sym key_is)
     ∙ c.in_err-add_to_value-in-Some.ensures.refused other)
 
 pub returns-clause-meant : goal.returns-clause-meant
@@ -42,10 +42,10 @@ returns-clause-meant c =
     elim c.match-found.branch [
       | in-Some+in_ok-add_to_value-in-Some w ↦
           (let v = expr_view s.source.now w.in-Some.found.value.now in
-          let meant = add_by_shape s.call.now w.in-Some.found.number c.as_bytes-key.result.now k values (text_in k v) (shape v) in
+          let meant = add_by_shape s.call.now w.in-Some.found.number c.as_bytes-key.result.now k values (text_in k v) (value_shape v) in
           all_meant _ meant c.new-steps.result.items c.match-found.steps.items
           (by_some f c.args.key.now c.as_bytes-key.result.now s.source.now key_is s.args.now c.in_ok-found.found c.in_ok-found.ensures.found w.in-Some.found w.in-Some.is
-          ∙ ap (λ key. add_by_shape s.call.now w.in-Some.found.number key k values (text_in k v) (shape v)) (sym key_is))
+          ∙ ap (λ key. add_by_shape s.call.now w.in-Some.found.number key k values (text_in k v) (value_shape v)) (sym key_is))
           c.new-steps.ensures.items
           (subst (λ x. AreBehind meant c.new-steps.result.items x.items) (sym w.steps-is) w.in_ok-add_to_value-in-Some.ensures.done))
       | in-None+in_ok-list-in-None+in_ok-new-in-None+in_ok-put_behind-in-None w ↦

@@ -2,7 +2,7 @@ use Rattle.std.proofs.Common.{[], refl, sym, ap, ◌∙◌, subst, rules}
 use Rattle.std.specs.Prelude.{Ok}
 use Rattle.std.proofs.lemmas.Result.{err_from_is_err_and}
 use Rattle.meson_syntax.specs.View.{expr_view}
-use Rattle.meson_keywords.specs.KeywordEdits.{remove_by_shape, remove_there, shape, text_in}
+use Rattle.meson_keywords.specs.KeywordEdits.{remove_by_shape, remove_there, value_shape, text_in}
 use Rattle.meson_steps.specs.Meanings.{AreBehind}
 use Rattle.meson_keywords.proofs.StepsBehind.{all_meant, behind_is, by_none, by_some, none_more}
 use Rattle.meson_keywords.proofs.keyword_steps.remove_steps.Goals as goal
@@ -22,7 +22,7 @@ returns-in_err-remove_from_value-clause-refused c =
     let k = c.args.kind in
     let key_is = c.as_bytes-key.ensures.value ∙ c.get.ensures in
     by_some (remove_there s.call.now c.args.key.now k c.args.value.now) c.args.key.now c.as_bytes-key.result.now s.source.now key_is s.args.now c.in_ok-found.found c.in_ok-found.ensures.found c.in-Some.found c.in-Some.is
-    ∙ ap (λ key. remove_by_shape s.call.now c.in-Some.found.number key k c.args.value.now (text_in k v) (shape v)) (sym key_is)
+    ∙ ap (λ key. remove_by_shape s.call.now c.in-Some.found.number key k c.args.value.now (text_in k v) (value_shape v)) (sym key_is)
     ∙ c.in_err-remove_from_value.ensures.refused other)
 
 pub returns-clause-meant : goal.returns-clause-meant
@@ -34,10 +34,10 @@ returns-clause-meant c =
     elim c.match-found.branch [
       | in-Some+in_ok-remove_from_value w ↦
           (let v = expr_view s.source.now w.in-Some.found.value.now in
-          let meant = remove_by_shape s.call.now w.in-Some.found.number c.as_bytes-key.result.now k c.args.value.now (text_in k v) (shape v) in
+          let meant = remove_by_shape s.call.now w.in-Some.found.number c.as_bytes-key.result.now k c.args.value.now (text_in k v) (value_shape v) in
           all_meant _ meant c.new-steps.result.items c.match-found.steps.items
           (by_some f c.args.key.now c.as_bytes-key.result.now s.source.now key_is s.args.now c.in_ok-found.found c.in_ok-found.ensures.found w.in-Some.found w.in-Some.is
-          ∙ ap (λ key. remove_by_shape s.call.now w.in-Some.found.number key k c.args.value.now (text_in k v) (shape v)) (sym key_is))
+          ∙ ap (λ key. remove_by_shape s.call.now w.in-Some.found.number key k c.args.value.now (text_in k v) (value_shape v)) (sym key_is))
           c.new-steps.ensures.items
           (subst (λ x. AreBehind meant c.new-steps.result.items x.items) (sym w.steps-is) w.in_ok-remove_from_value.ensures.done))
       | in_default w ↦

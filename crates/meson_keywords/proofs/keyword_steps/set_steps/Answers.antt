@@ -11,7 +11,7 @@ use Rattle.meson_syntax.specs.View.{arg_view, args_view}
 use Rattle.meson_edit.specs.Edits.{Replace, Written}
 use Rattle.meson_keywords.specs.Keys.{written_named}
 use Rattle.meson_keywords.specs.KeywordEdits.{behind_all, set_there}
-use Rattle.meson_steps.specs.WrittenValues.{written}
+use Rattle.meson_steps.specs.WrittenValues.{value_written}
 use Rattle.meson_steps.specs.Steps.{step_in}
 use Rattle.meson_steps.specs.Meanings.{AreBehind}
 use Rattle.meson_keywords.proofs.StepsBehind.{all_meant, behind_is, by_none, by_some, one_more}
@@ -26,7 +26,7 @@ returns-in_err-found-clause-refused c =
 pub returns-clause-meant : goal.returns-clause-meant
 returns-clause-meant c = λ good.
     let s = c.args.subject in
-    let it : Written (Expression Nowhere) = written c.args.new good in
+    let it : Written (Expression Nowhere) = value_written c.args.new good in
     let key_is = c.as_bytes-key.ensures.value ∙ c.get.ensures in
     let xs = args_view s.source.now s.args.now in
     let f : Option (Numbered (Expression Span)) → Result (List Step) Refusal = λ v. Ok (set_there s.call.now (length xs) c.args.key.now it v ∷ []) in

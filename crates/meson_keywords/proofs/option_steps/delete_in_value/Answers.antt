@@ -5,8 +5,8 @@ use Rattle.meson_syntax.specs.View.{args_view, expr_view}
 use Rattle.meson_edit.specs.Edits.{Remove}
 use Rattle.meson_keywords.specs.declared.keys.ElementKind.TheVariants as element
 use Rattle.meson_calls.specs.declared.refusal.Refusal.TheVariants.{NotLiteral}
-use Rattle.meson_calls.specs.Calls.{literal}
-use Rattle.meson_keywords.specs.KeywordEdits.{all_known, passing, removed_from}
+use Rattle.meson_calls.specs.Calls.{literal_of}
+use Rattle.meson_keywords.specs.KeywordEdits.{all_of_kind, passing, removed_from}
 use Rattle.meson_keywords.specs.Options.{delete_by_shape, delete_lone, is_entry, is_entry_element}
 use Rattle.meson_calls.specs.Project.{child}
 use Rattle.meson_steps.specs.Steps.{step_in}
@@ -29,8 +29,8 @@ returns-in_err-only_literals-in-Some-clause-refused c =
     let n = c.args.found.number in
     let xs = args_view source c.in-Some.elements.now in
     let why = c.in_err-only_literals-in-Some.ensures.refused other in
-    ap (delete_by_shape call n c.args.name.now (literal (expr_view source c.args.found.value.now))) (c.in-Some.ensures.shape source)
-    ∙ list_refused (all_known element.Text xs) (removed_from (child call n) 0 (passing (is_entry_element c.args.name.now) 0 xs)) why.1
+    ap (delete_by_shape call n c.args.name.now (literal_of (expr_view source c.args.found.value.now))) (c.in-Some.ensures.shape source)
+    ∙ list_refused (all_of_kind element.Text xs) (removed_from (child call n) 0 (passing (is_entry_element c.args.name.now) 0 xs)) why.1
     ∙ ap Err (sym why.0))
 
 pub returns-then-not-branch-clause-refused : goal.returns-then-not-branch-clause-refused
@@ -38,7 +38,7 @@ returns-then-not-branch-clause-refused c = λ other.
     let source = c.args.subject.source.now in
     let call = c.args.subject.call.now in
     let n = c.args.found.number in
-    let o = literal (expr_view source c.args.found.value.now) in
+    let o = literal_of (expr_view source c.args.found.value.now) in
     ap (delete_by_shape call n c.args.name.now o) (c.in-None.ensures.shape source)
     ∙ lone_refused o (delete_lone call n (is_entry c.args.name.now o)) (sym c.in_ok-is_element-in-None.ensures ∙ c.if-not-branch.true)
     ∙ ap Err (sym (c.in_ok-not_literal-in-None.ensures ∙ ap NotLiteral c.as_bytes.ensures.value))
@@ -49,7 +49,7 @@ returns-clause-done c =
     let call = c.args.subject.call.now in
     let n = c.args.found.number in
     let name = c.args.name.now in
-    let o = literal (expr_view source c.args.found.value.now) in
+    let o = literal_of (expr_view source c.args.found.value.now) in
     let old = c.args.steps.now.items in
     let after = c.match-array_in.steps.items in
     let gone = step_in call (Remove call.path.steps n) in
@@ -58,7 +58,7 @@ returns-clause-done c =
           (let xs = args_view source w.in-Some.elements.now in
           let entries = passing (is_entry_element name) 0 xs in
           behind_is _ (removed_from (child call n) 0 entries) old after
-          (ap (delete_by_shape call n name o) (w.in-Some.ensures.shape source) ∙ list_taken (all_known element.Text xs) (removed_from (child call n) 0 entries) w.in_ok-only_literals-in-Some.ensures.all)
+          (ap (delete_by_shape call n name o) (w.in-Some.ensures.shape source) ∙ list_taken (all_of_kind element.Text xs) (removed_from (child call n) 0 entries) w.in_ok-only_literals-in-Some.ensures.all)
           (ap (λ v. map Some v.items) w.steps-is ∙ w.in_ok-remove_passing-in-Some.ensures))
       | in-None+in_ok-is_element-in-None+else-not-branch+in_ok-is_entry-in-None+then-branch+in_ok-push_edit-in-None w ↦
           behind_is _ (gone ∷ []) old after

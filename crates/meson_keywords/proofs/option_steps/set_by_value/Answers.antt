@@ -4,10 +4,10 @@ use Rattle.std.specs.Prelude.{Err, IfErr, Ok, OnOk, ◌≢◌, ◌≡◌}
 use Rattle.std.proofs.lemmas.List.{length-map}
 use Rattle.meson_syntax.specs.View.{arg_view, args_view, expr_view}
 use Rattle.meson_calls.specs.declared.refusal.Refusal.TheVariants.{OutOfMemory}
-use Rattle.meson_calls.specs.Calls.{literal}
+use Rattle.meson_calls.specs.Calls.{literal_of}
 use Rattle.meson_calls.specs.Project.{child}
 use Rattle.meson_steps.specs.Meanings.{AreBehind}
-use Rattle.meson_keywords.specs.KeywordEdits.{passing, shape}
+use Rattle.meson_keywords.specs.KeywordEdits.{passing, value_shape}
 use Rattle.meson_keywords.specs.Options.{has_key, keys_known, set_by_shape, set_by_value, set_in_dictionary}
 use Rattle.meson_keywords.proofs.StepsBehind.{behind_result, list_refused, list_taken}
 use Rattle.meson_keywords.proofs.option_steps.set_by_value.Goals as goal
@@ -52,7 +52,7 @@ returns-in_ok-entry-in-None-clause-done c =
     let call = c.args.subject.call.now in
     let n = c.args.found.number in
     let v = expr_view source c.args.found.value.now in
-    let is = ap (λ x. set_by_shape call n c.args.name.now x (literal v) (shape v)) c.in_ok-entry-in-None.ensures ∙ ap (set_by_value call n c.args.name.now c.args.value.now v) (sym (c.in-None.ensures.entries source)) in
+    let is = ap (λ x. set_by_shape call n c.args.name.now x (literal_of v) (value_shape v)) c.in_ok-entry-in-None.ensures ∙ ap (set_by_value call n c.args.name.now c.args.value.now v) (sym (c.in-None.ensures.entries source)) in
     subst (λ m. OnOk c.set_in_value.result (AreBehind m c.args.steps.now.items c.set_in_value.new.steps.items)) is c.set_in_value.ensures.done
 
 pub returns-in_ok-entry-in-None-clause-refused : goal.returns-in_ok-entry-in-None-clause-refused
@@ -61,5 +61,5 @@ returns-in_ok-entry-in-None-clause-refused c =
     let call = c.args.subject.call.now in
     let n = c.args.found.number in
     let v = expr_view source c.args.found.value.now in
-    let is = ap (λ x. set_by_shape call n c.args.name.now x (literal v) (shape v)) c.in_ok-entry-in-None.ensures ∙ ap (set_by_value call n c.args.name.now c.args.value.now v) (sym (c.in-None.ensures.entries source)) in
+    let is = ap (λ x. set_by_shape call n c.args.name.now x (literal_of v) (value_shape v)) c.in_ok-entry-in-None.ensures ∙ ap (set_by_value call n c.args.name.now c.args.value.now v) (sym (c.in-None.ensures.entries source)) in
     subst (λ m. IfErr c.set_in_value.result (λ e. e ≢ OutOfMemory → m ≡ Err e)) is c.set_in_value.ensures.refused

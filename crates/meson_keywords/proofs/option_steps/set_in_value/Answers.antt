@@ -5,8 +5,8 @@ use Rattle.meson_syntax.specs.View.{arg_view, args_view, expr_view}
 use Rattle.std.proofs.lemmas.List.{length-map}
 use Rattle.meson_keywords.specs.declared.keys.ElementKind.TheVariants as element
 use Rattle.meson_calls.specs.declared.refusal.Refusal.TheVariants.{NotLiteral}
-use Rattle.meson_calls.specs.Calls.{literal}
-use Rattle.meson_keywords.specs.KeywordEdits.{all_known, passing}
+use Rattle.meson_calls.specs.Calls.{literal_of}
+use Rattle.meson_keywords.specs.KeywordEdits.{all_of_kind, passing}
 use Rattle.meson_keywords.specs.Options.{is_entry, is_entry_element, set_by_shape, set_in_list, set_in_lone}
 use Rattle.meson_calls.specs.Project.{child}
 use Rattle.meson_keywords.proofs.StepsBehind.{behind_result, list_refused, list_taken, lone_refused}
@@ -27,8 +27,8 @@ returns-in_err-only_literals-in-Some-clause-refused c =
     let n = c.args.found.number in
     let xs = args_view source c.in-Some.elements.now in
     let why = c.in_err-only_literals-in-Some.ensures.refused other in
-    ap (set_by_shape call n c.args.name.now c.args.entry.now (literal (expr_view source c.args.found.value.now))) (c.in-Some.ensures.shape source)
-    ∙ list_refused (all_known element.Text xs) (set_in_list (child call n) (length xs) c.args.entry.now (passing (is_entry_element c.args.name.now) 0 xs)) why.1
+    ap (set_by_shape call n c.args.name.now c.args.entry.now (literal_of (expr_view source c.args.found.value.now))) (c.in-Some.ensures.shape source)
+    ∙ list_refused (all_of_kind element.Text xs) (set_in_list (child call n) (length xs) c.args.entry.now (passing (is_entry_element c.args.name.now) 0 xs)) why.1
     ∙ ap Err (sym why.0))
 
 pub returns-then-not-branch-clause-refused : goal.returns-then-not-branch-clause-refused
@@ -36,7 +36,7 @@ returns-then-not-branch-clause-refused c = λ other.
     let source = c.args.subject.source.now in
     let call = c.args.subject.call.now in
     let n = c.args.found.number in
-    let o = literal (expr_view source c.args.found.value.now) in
+    let o = literal_of (expr_view source c.args.found.value.now) in
     ap (set_by_shape call n c.args.name.now c.args.entry.now o) (c.in-None.ensures.shape source)
     ∙ lone_refused o (set_in_lone call n c.args.entry.now (is_entry c.args.name.now o)) (sym c.in_ok-is_element-in-None.ensures ∙ c.if-not-branch.true)
     ∙ ap Err (sym (c.in_ok-not_literal-in-None.ensures ∙ ap NotLiteral c.as_bytes.ensures.value))
@@ -50,7 +50,7 @@ returns-in_ok-list-in-Some-clause-done c =
     let entries = passing (is_entry_element c.args.name.now) 0 xs in
     let entry = c.args.entry.now in
     behind_result c.set_in_list.result _ (set_in_list c.in_ok-list-in-Some.list (length c.in-Some.elements.now) entry entries) c.args.steps.now.items c.set_in_list.new.steps.items
-    (ap (set_by_shape call n c.args.name.now entry (literal (expr_view source c.args.found.value.now))) (c.in-Some.ensures.shape source)
-    ∙ list_taken (all_known element.Text xs) (set_in_list (child call n) (length xs) entry entries) c.in_ok-only_literals-in-Some.ensures.all
+    (ap (set_by_shape call n c.args.name.now entry (literal_of (expr_view source c.args.found.value.now))) (c.in-Some.ensures.shape source)
+    ∙ list_taken (all_of_kind element.Text xs) (set_in_list (child call n) (length xs) entry entries) c.in_ok-only_literals-in-Some.ensures.all
     ∙ ap₂ (λ p m. Ok (set_in_list p m entry entries)) (sym c.in_ok-list-in-Some.ensures) (length-map c.in-Some.elements.now (arg_view source)))
     c.set_in_list.ensures.done

@@ -29,7 +29,7 @@ unreachable-requires-in-None-call_in c =
     let trees = c.args.trees.now in
     let call = c.args.call.now in
     let bytes = bytes_at call.file files in
-    let is = c.in-Some.ensures bytes ∙ ap (λ t. paths.expression_at (view bytes t) call.path.steps) c.index-trees-call.is in
+    let is = c.in-Some.ensures bytes ∙ ap (λ t. paths.expression_on_path (view bytes t) call.path.steps) c.index-trees-call.is in
     let other = ap (λ s. call_of (expr_view s c.in-Some.expr.now)) (sym c.bytes.ensures) ∙ c.in-None-call_in.ensures in
     contrary _ (other_expression files trees call c.index-trees-call.result (as_many files trees c.requires.parsed) c.if-call-trees.false (expr_view bytes c.in-Some.expr.now) is other) c.requires.there
 
@@ -40,7 +40,7 @@ unreachable-requires-in-None c =
     let call = c.args.call.now in
     let bytes = bytes_at call.file files in
     contrary _ (no_expression files trees call c.index-trees-call.result (as_many files trees c.requires.parsed) c.if-call-trees.false
-    (c.in-None.ensures bytes ∙ ap (λ t. paths.expression_at (view bytes t) call.path.steps) c.index-trees-call.is)) c.requires.there
+    (c.in-None.ensures bytes ∙ ap (λ t. paths.expression_on_path (view bytes t) call.path.steps) c.index-trees-call.is)) c.requires.there
 
 pub returns-clause-at : goal.returns-clause-at
 returns-clause-at c =
@@ -48,7 +48,7 @@ returns-clause-at c =
     let trees = c.args.trees.now in
     let call = c.args.call.now in
     let bytes = bytes_at call.file files in
-    let is = c.in-Some.ensures bytes ∙ ap (λ t. paths.expression_at (view bytes t) call.path.steps) c.index-trees-call.is in
+    let is = c.in-Some.ensures bytes ∙ ap (λ t. paths.expression_on_path (view bytes t) call.path.steps) c.index-trees-call.is in
     stands files trees call c.index-trees-call.result (as_many files trees c.requires.parsed) c.if-call-trees.false
     ∙ sym is ∙ ap (λ s. Some (expr_view s c.in-Some.expr.now)) (sym c.bytes.ensures) ∙ ap Some c.in-Some-call_in.ensures.1
 
@@ -59,7 +59,7 @@ returns-clause-good c =
     let call = c.args.call.now in
     let bytes = bytes_at call.file files in
     let called = c.in-Some-call_in.called in
-    let is = c.in-Some.ensures bytes ∙ ap (λ t. paths.expression_at (view bytes t) call.path.steps) c.index-trees-call.is in
+    let is = c.in-Some.ensures bytes ∙ ap (λ t. paths.expression_on_path (view bytes t) call.path.steps) c.index-trees-call.is in
     let same : expr_view bytes c.in-Some.expr.now ≡ called_view called = ap (λ s. expr_view s c.in-Some.expr.now) (sym c.bytes.ensures) ∙ c.in-Some-call_in.ensures.1 in
     let at = ap Some (sym same) ∙ is in
     listing_good files trees call c.index-trees-call.result (as_many files trees c.requires.parsed) c.if-call-trees.false (called_view called) (list_view called.source.now called.arguments.now)
@@ -75,7 +75,7 @@ returns-clause-texts c =
     let called = c.in-Some-call_in.called in
     let source = called.source.now in
     let list = list_view source called.arguments.now in
-    let is = c.in-Some.ensures bytes ∙ ap (λ t. paths.expression_at (view bytes t) call.path.steps) c.index-trees-call.is in
+    let is = c.in-Some.ensures bytes ∙ ap (λ t. paths.expression_on_path (view bytes t) call.path.steps) c.index-trees-call.is in
     let same : expr_view bytes c.in-Some.expr.now ≡ called_view called = ap (λ s. expr_view s c.in-Some.expr.now) (sym c.bytes.ensures) ∙ c.in-Some-call_in.ensures.1 in
     let spanned = spanned_at files trees call.file d c.if-call-trees.false c.requires.parsed in
     let texts = call_texts bytes (view bytes (get_or trees call.file d)) spanned call.path.steps called.span (name_at source called.name) list (sym is ∙ ap Some same) in
@@ -91,6 +91,6 @@ returns-clause-named c =
     let call = c.args.call.now in
     let bytes = bytes_at call.file files in
     let called = c.in-Some-call_in.called in
-    let is = c.in-Some.ensures bytes ∙ ap (λ t. paths.expression_at (view bytes t) call.path.steps) c.index-trees-call.is in
+    let is = c.in-Some.ensures bytes ∙ ap (λ t. paths.expression_on_path (view bytes t) call.path.steps) c.index-trees-call.is in
     let same : expr_view bytes c.in-Some.expr.now ≡ called_view called = ap (λ s. expr_view s c.in-Some.expr.now) (sym c.bytes.ensures) ∙ c.in-Some-call_in.ensures.1 in
     called_named files trees call.file call.path.steps c.index-trees-call.result c.if-call-trees.false c.requires.parsed called.span (name_at called.source.now called.name) (list_view called.source.now called.arguments.now) (ap Some (sym same) ∙ is)

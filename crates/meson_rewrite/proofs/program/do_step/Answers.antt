@@ -3,10 +3,10 @@ use Rattle.std.proofs.lemmas.Result.{err_from_is_err_and}
 use Rattle.std.specs.Prelude.{IfErr, IfOk}
 use Rattle.meson_rewrite.proofs.Endings.{done-ends, dry-ends, failed-ends, stopped-acting, stopped-opening, told-ends}
 use Rattle.meson_rewrite.proofs.Reading.{on_ok, with-log-all, with-log-at-most}
-use Rattle.meson_rewrite.specs.Edited.{IsShown, IsTold}
+use Rattle.meson_rewrite.specs.Edited.{IsShown, OnlyTells}
 use Rattle.meson_rewrite.specs.Opening.{Opens}
 use Rattle.meson_rewrite.specs.Runs.{StepEnds}
-use Rattle.meson_rewrite.specs.Steps.{MayRefuse, only_tells}
+use Rattle.meson_rewrite.specs.Steps.{MayRefuseStep, only_tells}
 use Rattle.meson_rewrite.specs.Stops.{WantsMemory}
 use Rattle.meson_rewrite.specs.declared.request.Step.{Step}
 use Rattle.meson_rewrite.specs.declared.said.Said.{Said}
@@ -17,13 +17,13 @@ use Rattle.meson_rewrite.proofs.program.do_step.Goals as goal
 
 -- what is told, or why it is not, is the end
 ends-by-telling : (dir : Option (List ℕ)) (step : Step) (dry_run : Bool) (b a : Seen) (u : Untouched b a) (old : Session) (log : List ℕ) → Opens b.content dir old log → only_tells step ≡ true
-    → (end : Result Said Stop) → IfOk end (IsTold old step) → IfErr end (λ why. WantsMemory why ⊎ MayRefuse step old why) → StepEnds dir step dry_run b a end
+    → (end : Result Said Stop) → IfOk end (OnlyTells old step) → IfErr end (λ why. WantsMemory why ⊎ MayRefuseStep step old why) → StepEnds dir step dry_run b a end
 ends-by-telling dir step dry_run b a u old log opens only (Ok said) is_told refused = told-ends dir step dry_run b a u old log opens only said is_told
 ends-by-telling dir step dry_run b a u old log opens only (Err stop) is_told refused = stopped-acting dir step dry_run b a u old log opens stop refused
 
 -- the same of what is shown
 ends-by-showing : (dir : Option (List ℕ)) (step : Step) (dry_run : Bool) (b a : Seen) (u : Untouched b a) (old : Session) (log : List ℕ) → Opens b.content dir old log → only_tells step ≡ false → dry_run ≡ true
-    → (end : Result Said Stop) → IfOk end (IsShown old step) → IfErr end (λ why. WantsMemory why ⊎ MayRefuse step old why) → StepEnds dir step dry_run b a end
+    → (end : Result Said Stop) → IfOk end (IsShown old step) → IfErr end (λ why. WantsMemory why ⊎ MayRefuseStep step old why) → StepEnds dir step dry_run b a end
 ends-by-showing dir step dry_run b a u old log opens writes dry (Ok said) is_shown refused = dry-ends dir step dry_run b a u old log opens writes dry said is_shown
 ends-by-showing dir step dry_run b a u old log opens writes dry (Err stop) is_shown refused = stopped-acting dir step dry_run b a u old log opens stop refused
 

@@ -1,5 +1,5 @@
 use Rattle.std.proofs.Common.{◌≡◌, ◌⊎◌, true, Result, Ok, Err, List, ℕ, inl, inr}
-use Rattle.meson_json.specs.Log.{has_text, log_of}
+use Rattle.meson_json.specs.Log.{is_text_history, log_of}
 use Rattle.meson_json.specs.declared.fault.ScriptFault.{ScriptFault}
 use Rattle.meson_splice.specs.declared.history.History.{History}
 use Rattle.meson_rewrite.proofs.Wants.{script-or-memory}
@@ -10,11 +10,11 @@ use Rattle.meson_rewrite.proofs.steps.new_log.Goals as goal
 no-fault : (text : List ℕ) (fault : ScriptFault) → ◌≡◌ {A = Result (List ℕ) ScriptFault} (Ok text) (Err fault) → ⊥
 no-fault text fault e = cc
 
-has-log : (h : History) (fault : ScriptFault) → has_text h ≡ true → log_of h ≡ Err fault → ⊥
+has-log : (h : History) (fault : ScriptFault) → is_text_history h ≡ true → log_of h ≡ Err fault → ⊥
 unfolding log_of
 has-log h fault text is = no-fault _ fault (rw text at is)
 
-memory-alone : (h : History) (fault : ScriptFault) → has_text h ≡ true → WantsMemory (Script fault) ⊎ (log_of h ≡ Err fault) → WantsMemory (Script fault)
+memory-alone : (h : History) (fault : ScriptFault) → is_text_history h ≡ true → WantsMemory (Script fault) ⊎ (log_of h ≡ Err fault) → WantsMemory (Script fault)
 memory-alone h fault text (inl m) = m
 memory-alone h fault text (inr e) = absurd (has-log h fault text e)
 

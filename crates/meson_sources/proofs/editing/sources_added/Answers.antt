@@ -10,7 +10,7 @@ use Rattle.meson_calls.specs.Named.{project_of}
 use Rattle.meson_sources.specs.Naming.{new_among}
 use Rattle.meson_calls.specs.Sources.{or_call, or_option}
 use Rattle.meson_calls.specs.Sourced.{kept_args, all_gathered}
-use Rattle.meson_sources.specs.SourceEdits.{inserted, plain_len}
+use Rattle.meson_sources.specs.SourceEdits.{insertion_steps, plain_len}
 use Rattle.meson_steps.specs.Names.{checked_names}
 use Rattle.meson_calls.specs.Tallies.{gathered}
 use Rattle.meson_sources.proofs.SourcesMeant.{added, added_twice}
@@ -45,6 +45,6 @@ returns-clause-meant c = λ function.
     let places = c.places_of-list.ensures in
     let is_home = c.in_ok-home.ensures ∙ ap (λ o. or_call c.args.call.now (or_option o c.places_of-list.result.1)) places.list ∙ ap (λ o. or_call c.args.call.now (or_option c.in_ok-marks.marks.list o)) places.vacant in
     let new_is = c.in_ok-new.ensures ∙ ap (λ xs. new_among xs names) c.as_slice-2.ensures.value in
-    let are = c.in_ok-steps.ensures.done ∙ ap (λ ns. map bare (inserted home (plain_len p home) (map (λ x. x.now) ns))) c.as_slice-3.ensures.value in
+    let are = c.in_ok-steps.ensures.done ∙ ap (λ ns. map bare (insertion_steps home (plain_len p home) (map (λ x. x.now) ns))) c.as_slice-3.ensures.value in
     added p c.args.call.now source l function names checked few (gathered c.in_ok-marks.marks).tally is home is_home (plain_len p home) refl (map (λ x. x.now) c.in_ok-new.new.items) new_is
     c.in_ok-steps.steps.items are

@@ -6,7 +6,7 @@ use Rattle.meson_calls.specs.Named.{project_of}
 use Rattle.meson_sources.specs.Naming.{new_among}
 use Rattle.meson_calls.specs.Sources.{or_option}
 use Rattle.meson_calls.specs.Sourced.{kept_args}
-use Rattle.meson_sources.specs.SourceEdits.{extra_key, inserted, plain_len}
+use Rattle.meson_sources.specs.SourceEdits.{extra_key, insertion_steps, plain_len}
 use Rattle.meson_calls.specs.Tallies.{gathered}
 use Rattle.meson_sources.specs.Targeted.{lone_or_new}
 use Rattle.meson_steps.specs.Meanings.{AreBehind}
@@ -29,7 +29,7 @@ returns-in-Some-clause-meant c = λ function.
     let is_first = c.first_of.ensures ∙ ap (λ o. or_option o c.places_of-list.result.1) places.list ∙ ap (or_option c.in_ok-marks.marks.list) places.vacant in
     let new_is = c.in_ok-new.ensures ∙ ap (λ xs. new_among xs names) c.as_slice.ensures.value in
     let home = c.in-Some.home in
-    let are = c.in_ok-steps-in-Some.ensures.done ∙ ap (λ ns. map bare (inserted home (plain_len p home) (map (λ x. x.now) ns))) c.as_slice-in-Some.ensures.value in
+    let are = c.in_ok-steps-in-Some.ensures.done ∙ ap (λ ns. map bare (insertion_steps home (plain_len p home) (map (λ x. x.now) ns))) c.as_slice-in-Some.ensures.value in
     home_meant p c.args.call.now c.args.source.now c.args.arguments.now function names (c.in_ok-marks.ensures.checked function) t is (map (λ x. x.now) c.in_ok-new.new.items) new_is c.first_of.result is_first
     home c.in-Some.is (plain_len p home) refl c.in_ok-steps-in-Some.steps.items are
 

@@ -7,7 +7,7 @@ use Rattle.meson_steps.specs.declared.step.ListStep.{ListStep}
 use Rattle.meson_steps.specs.declared.step.ListEdit.TheVariants as code
 use Rattle.meson_steps.specs.ListSteps.{bare}
 use Rattle.meson_steps.specs.Steps.{step_in}
-use Rattle.meson_sources.specs.SourceEdits.{inserted, written_keyword}
+use Rattle.meson_sources.specs.SourceEdits.{insertion_steps, written_keyword}
 use Rattle.meson_sources.specs.Targeted.{new_list_steps}
 use Rattle.meson_sources.proofs.extra.into_new_list.Goals as goal
 
@@ -22,7 +22,7 @@ returns-clause-done c =
     let rest = take (length names - 1) (drop 1 names) in
     let rest_is : rest ≡ drop 1 names = take_all (length names - 1) (drop 1 names) (omega (arith, length-drop 1 names)) in
     let some_step : ListStep → Option ListStep = λ s. Some s in
-    let later = map bare (inserted c.in_ok-list-2.list 1 (map (λ x. x.now) rest)) in
+    let later = map bare (insertion_steps c.in_ok-list-2.list 1 (map (λ x. x.now) rest)) in
     let whole : names ≡ x ∷ drop 1 names = drop-cons names 0 x c.requires ∙ ap (λ y. y ∷ drop 1 names) (sym c.index-names-0.is) in
     let done : OnOk c.insert.result (map Some c.insert.new.steps.items ≡ map Some c.push_step.new.steps.items ++ later) = c.insert.ensures.done in
     let first =
@@ -32,7 +32,7 @@ returns-clause-done c =
     let all =
     ap (λ xs. map Some xs ++ later) c.in_ok-push_step.ensures ∙ ap (λ xs. xs ++ later) (map-append Some old (step ∷ [])) ∙ append_assoc (map Some old) (Some step ∷ []) later
     ∙ ap (λ o. map Some old ++ (o ∷ later)) first
-    ∙ ap (λ l. map Some old ++ (bare (step_in call (After call.path.steps (n - 1) (written_keyword x.now))) ∷ map bare (inserted l 1 (map (λ x. x.now) rest)))) c.in_ok-list-2.ensures
+    ∙ ap (λ l. map Some old ++ (bare (step_in call (After call.path.steps (n - 1) (written_keyword x.now))) ∷ map bare (insertion_steps l 1 (map (λ x. x.now) rest)))) c.in_ok-list-2.ensures
     ∙ ap (λ r. map Some old ++ map bare (new_list_steps call n (x.now ∷ map (λ x. x.now) r))) rest_is
     ∙ ap (λ xs. map Some old ++ map bare (new_list_steps call n (map (λ x. x.now) xs))) (sym whole) in
     subst (λ xs. OnOk c.insert.result (map Some c.insert.new.steps.items ≡ xs)) all done

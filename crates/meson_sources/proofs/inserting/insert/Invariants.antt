@@ -1,10 +1,10 @@
 use Rattle.std.proofs.Common.{◌≡◌, ◌+◌, ◌++◌, drop, map}
 use Rattle.std.specs.Prelude.{Some}
 use Rattle.meson_steps.specs.ListSteps.{bare}
-use Rattle.meson_sources.specs.SourceEdits.{inserted}
+use Rattle.meson_sources.specs.SourceEdits.{insertion_steps}
 use Rattle.meson_sources.proofs.inserting.insert.Given as goal
 
 abbrev pub invariant-loop-i : goal.invariant-loop-i
 invariant-loop-i l =
-    map Some l.steps.items ++ map bare (inserted l.list (l.from + l.i) (map (λ x. x.now) (drop l.i l.names)))
-    ≡ map Some l.initial.steps.items ++ map bare (inserted l.list l.from (map (λ x. x.now) l.names))
+    map Some l.steps.items ++ map bare (insertion_steps l.list (l.from + l.i) (map (λ x. x.now) (drop l.i l.names)))
+    ≡ map Some l.initial.steps.items ++ map bare (insertion_steps l.list l.from (map (λ x. x.now) l.names))

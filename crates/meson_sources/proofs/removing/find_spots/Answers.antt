@@ -3,7 +3,7 @@ use Rattle.std.specs.Prelude.{None, bytes_eq, option_map, ◌||◌}
 use Rattle.std.proofs.lemmas.Grind.{common_steps}
 use Rattle.std.proofs.lemmas.List.{map-append}
 use Rattle.meson_calls.specs.declared.call.SourceItem.{SourceItem}
-use Rattle.meson_sources.specs.Spots.{all_there, before_all, is_some_there, spot_at, spot_view, spots_at}
+use Rattle.meson_sources.specs.Spots.{all_there, before_all, is_some_there, spot_if_there, spot_view, spots_at}
 use Rattle.meson_sources.proofs.SpotsFound.{spot_here, no_spot_here, one_before, some_spot}
 use Rattle.meson_sources.proofs.removing.find_spots.Goals as goal
 use Rattle.meson_sources.proofs.removing.find_spots.Goals.{then-eq+in_ok-spot+in-Some+in_ok-push_spot, else-eq}
@@ -25,7 +25,7 @@ loop-i-preserved c =
           (let e = w.index.result.now in
           let s = w.in-Some.spot in
           let spot_is =
-          ap (λ (x : SourceItem). spot_at x.list (get_or numbers i e)) (sym c.index-item.ensures) ∙ ap (λ n. spot_at d.list n) (sym w.index.ensures) ∙ sym w.in_ok-spot.ensures
+          ap (λ (x : SourceItem). spot_if_there x.list (get_or numbers i e)) (sym c.index-item.ensures) ∙ ap (λ n. spot_if_there d.list n) (sym w.index.ensures) ∙ sym w.in_ok-spot.ensures
           ∙ ap (option_map spot_view) w.in-Some.is in
           let is = spot_here name items numbers i d e within also (test ∙ w.if-eq.true) ∙ ap (λ o. o ∷ later) spot_is in (
             ap (λ v. before_all (map spot_view v.items) (all_there later)) w.spots-is ∙ ap (λ xs. before_all (map spot_view xs) (all_there later)) w.in_ok-push_spot.ensures

@@ -2,7 +2,7 @@ use Rattle.std.proofs.Common.{◌≡◌, ◌+◌, ◌∷◌, length, map, drop, 
 use Rattle.std.proofs.lemmas.Grind.{common_steps}
 use Rattle.std.specs.Prelude.{true}
 use Rattle.std.proofs.Math.Seq.{drop-cons}
-use Rattle.meson_sources.specs.Spots.{behind_all, spot_view, spots_at, spots_of_names}
+use Rattle.meson_sources.specs.Spots.{joined_spots, spot_view, spots_at, spots_of_names}
 use Rattle.meson_sources.proofs.SpotsFound.{next_name}
 use Rattle.meson_sources.proofs.removing.spots_of.Goals as goal
 
@@ -20,7 +20,7 @@ loop-i-preserved c =
     let found : c.in_ok-found.found ≡ true = search rules in
     let is = drop-cons names i x c.loop-i-test.true ∙ ap (λ k. get_or names i x ∷ drop k names) (sym (add-one i)) ∙ ap (λ y. y ∷ drop (i + 1) names) (sym c.index-names-i.is) in
     next_name old (map spot_view c.find_spots.new.spots.items) unknown spots rest (sym c.in_ok-found.ensures.some ∙ found) c.in_ok-found.ensures.found
-    ∙ ap (λ xs. behind_all old (spots_of_names items numbers unknown (map (λ x. x.now) xs))) (sym is)
+    ∙ ap (λ xs. joined_spots old (spots_of_names items numbers unknown (map (λ x. x.now) xs))) (sym is)
     ∙ c.loop-i.invariant
 
 pub returns-clause-found : goal.returns-clause-found

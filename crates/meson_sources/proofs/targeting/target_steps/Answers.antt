@@ -59,7 +59,7 @@ unreachable-requires-in-None c =
     let place = c.in_ok-call.call in
     let found = sym (place_is role.Target id (named_trees files (views files trees))) ∙ ap (the_place role.Target id) (sym c.requires.taken) ∙ c.in_ok-call.ensures.found in
     let bytes = bytes_at place.file files in
-    some_value files trees c.requires.parsed id place found c.index-trees-call.result (c.in-None.ensures bytes ∙ ap (λ t. paths.expression_at (view bytes t) place.path.steps) c.index-trees-call.is)
+    some_value files trees c.requires.parsed id place found c.index-trees-call.result (c.in-None.ensures bytes ∙ ap (λ t. paths.expression_on_path (view bytes t) place.path.steps) c.index-trees-call.is)
 
 pub unreachable-requires-in_default : goal.unreachable-requires-in_default
 unreachable-requires-in_default c =
@@ -69,7 +69,7 @@ unreachable-requires-in_default c =
     let place = c.in_ok-call.call in
     let found = sym (place_is role.Target id (named_trees files (views files trees))) ∙ ap (the_place role.Target id) (sym c.requires.taken) ∙ c.in_ok-call.ensures.found in
     let bytes = bytes_at place.file files in
-    let is = c.in-Some.ensures bytes ∙ ap (λ t. paths.expression_at (view bytes t) place.path.steps) c.index-trees-call.is in
+    let is = c.in-Some.ensures bytes ∙ ap (λ t. paths.expression_on_path (view bytes t) place.path.steps) c.index-trees-call.is in
     some_call files trees c.requires.parsed id place found c.index-trees-call.result (expr_view bytes c.in-Some.expr.now) is (c.in_default.ensures bytes)
 
 pub of-requires-clause-whole : goal.of-requires-clause-whole
@@ -84,7 +84,7 @@ sources_added-requires-clause-good c =
     let trees = c.args.trees.now in
     let place = c.in_ok-call.call in
     let bytes = bytes_at place.file files in
-    let is = c.in-Some.ensures bytes ∙ ap (λ t. paths.expression_at (view bytes t) place.path.steps) c.index-trees-call.is in
+    let is = c.in-Some.ensures bytes ∙ ap (λ t. paths.expression_on_path (view bytes t) place.path.steps) c.index-trees-call.is in
     subst (λ source. GoodListing (list_view source c.in-Some-arguments.arguments.now)) (sym c.bytes-source.ensures)
     (listing_good files trees place c.index-trees-call.result (as_many files trees c.requires.parsed) c.if-call-trees.false (expr_view bytes c.in-Some.expr.now)
     (list_view bytes c.in-Some-arguments.arguments.now) c.requires.parsed is (c.in-Some-arguments.ensures bytes))
@@ -95,7 +95,7 @@ sources_removed-requires-clause-good c =
     let trees = c.args.trees.now in
     let place = c.in_ok-call.call in
     let bytes = bytes_at place.file files in
-    let is = c.in-Some.ensures bytes ∙ ap (λ t. paths.expression_at (view bytes t) place.path.steps) c.index-trees-call.is in
+    let is = c.in-Some.ensures bytes ∙ ap (λ t. paths.expression_on_path (view bytes t) place.path.steps) c.index-trees-call.is in
     subst (λ source. GoodListing (list_view source c.in-Some-arguments.arguments.now)) (sym c.bytes-source.ensures)
     (listing_good files trees place c.index-trees-call.result (as_many files trees c.requires.parsed) c.if-call-trees.false (expr_view bytes c.in-Some.expr.now)
     (list_view bytes c.in-Some-arguments.arguments.now) c.requires.parsed is (c.in-Some-arguments.ensures bytes))
@@ -106,7 +106,7 @@ extra_added-requires-clause-good c =
     let trees = c.args.trees.now in
     let place = c.in_ok-call.call in
     let bytes = bytes_at place.file files in
-    let is = c.in-Some.ensures bytes ∙ ap (λ t. paths.expression_at (view bytes t) place.path.steps) c.index-trees-call.is in
+    let is = c.in-Some.ensures bytes ∙ ap (λ t. paths.expression_on_path (view bytes t) place.path.steps) c.index-trees-call.is in
     subst (λ source. GoodListing (list_view source c.in-Some-arguments.arguments.now)) (sym c.bytes-source.ensures)
     (listing_good files trees place c.index-trees-call.result (as_many files trees c.requires.parsed) c.if-call-trees.false (expr_view bytes c.in-Some.expr.now)
     (list_view bytes c.in-Some-arguments.arguments.now) c.requires.parsed is (c.in-Some-arguments.ensures bytes))
@@ -117,7 +117,7 @@ extra_removed-requires-clause-good c =
     let trees = c.args.trees.now in
     let place = c.in_ok-call.call in
     let bytes = bytes_at place.file files in
-    let is = c.in-Some.ensures bytes ∙ ap (λ t. paths.expression_at (view bytes t) place.path.steps) c.index-trees-call.is in
+    let is = c.in-Some.ensures bytes ∙ ap (λ t. paths.expression_on_path (view bytes t) place.path.steps) c.index-trees-call.is in
     subst (λ source. GoodListing (list_view source c.in-Some-arguments.arguments.now)) (sym c.bytes-source.ensures)
     (listing_good files trees place c.index-trees-call.result (as_many files trees c.requires.parsed) c.if-call-trees.false (expr_view bytes c.in-Some.expr.now)
     (list_view bytes c.in-Some-arguments.arguments.now) c.requires.parsed is (c.in-Some-arguments.ensures bytes))
@@ -132,7 +132,7 @@ extra_added-requires-clause-there c =
     let bytes = bytes_at place.file files in
     let d = c.index-trees-call.result in
     let e = expr_view bytes c.in-Some.expr.now in
-    let is = c.in-Some.ensures bytes ∙ ap (λ t. paths.expression_at (view bytes t) place.path.steps) c.index-trees-call.is in
+    let is = c.in-Some.ensures bytes ∙ ap (λ t. paths.expression_on_path (view bytes t) place.path.steps) c.index-trees-call.is in
     let a = c.in-Some-arguments.arguments.now in
     let is_list = c.in-Some-arguments.ensures bytes in
     let v = c.in_ok-variables.variables in
@@ -149,7 +149,7 @@ returns-in-SourcesAdded-clause-meant c =
     let bytes = bytes_at place.file files in
     let d = c.index-trees-call.result in
     let e = expr_view bytes c.in-Some.expr.now in
-    let is = c.in-Some.ensures bytes ∙ ap (λ t. paths.expression_at (view bytes t) place.path.steps) c.index-trees-call.is in
+    let is = c.in-Some.ensures bytes ∙ ap (λ t. paths.expression_on_path (view bytes t) place.path.steps) c.index-trees-call.is in
     let a = c.in-Some-arguments.arguments.now in
     let is_list = c.in-Some-arguments.ensures bytes in
     let v = c.in_ok-variables.variables in
@@ -169,7 +169,7 @@ returns-in-SourcesAdded-clause-refused c =
     let bytes = bytes_at place.file files in
     let d = c.index-trees-call.result in
     let e = expr_view bytes c.in-Some.expr.now in
-    let is = c.in-Some.ensures bytes ∙ ap (λ t. paths.expression_at (view bytes t) place.path.steps) c.index-trees-call.is in
+    let is = c.in-Some.ensures bytes ∙ ap (λ t. paths.expression_on_path (view bytes t) place.path.steps) c.index-trees-call.is in
     let a = c.in-Some-arguments.arguments.now in
     let is_list = c.in-Some-arguments.ensures bytes in
     let v = c.in_ok-variables.variables in
@@ -189,7 +189,7 @@ returns-in-SourcesRemoved-clause-meant c =
     let bytes = bytes_at place.file files in
     let d = c.index-trees-call.result in
     let e = expr_view bytes c.in-Some.expr.now in
-    let is = c.in-Some.ensures bytes ∙ ap (λ t. paths.expression_at (view bytes t) place.path.steps) c.index-trees-call.is in
+    let is = c.in-Some.ensures bytes ∙ ap (λ t. paths.expression_on_path (view bytes t) place.path.steps) c.index-trees-call.is in
     let a = c.in-Some-arguments.arguments.now in
     let is_list = c.in-Some-arguments.ensures bytes in
     let v = c.in_ok-variables.variables in
@@ -209,7 +209,7 @@ returns-in-SourcesRemoved-clause-refused c =
     let bytes = bytes_at place.file files in
     let d = c.index-trees-call.result in
     let e = expr_view bytes c.in-Some.expr.now in
-    let is = c.in-Some.ensures bytes ∙ ap (λ t. paths.expression_at (view bytes t) place.path.steps) c.index-trees-call.is in
+    let is = c.in-Some.ensures bytes ∙ ap (λ t. paths.expression_on_path (view bytes t) place.path.steps) c.index-trees-call.is in
     let a = c.in-Some-arguments.arguments.now in
     let is_list = c.in-Some-arguments.ensures bytes in
     let v = c.in_ok-variables.variables in
@@ -229,7 +229,7 @@ returns-in-ExtraAdded-clause-meant c =
     let bytes = bytes_at place.file files in
     let d = c.index-trees-call.result in
     let e = expr_view bytes c.in-Some.expr.now in
-    let is = c.in-Some.ensures bytes ∙ ap (λ t. paths.expression_at (view bytes t) place.path.steps) c.index-trees-call.is in
+    let is = c.in-Some.ensures bytes ∙ ap (λ t. paths.expression_on_path (view bytes t) place.path.steps) c.index-trees-call.is in
     let a = c.in-Some-arguments.arguments.now in
     let is_list = c.in-Some-arguments.ensures bytes in
     let v = c.in_ok-variables.variables in
@@ -249,7 +249,7 @@ returns-in-ExtraAdded-clause-refused c =
     let bytes = bytes_at place.file files in
     let d = c.index-trees-call.result in
     let e = expr_view bytes c.in-Some.expr.now in
-    let is = c.in-Some.ensures bytes ∙ ap (λ t. paths.expression_at (view bytes t) place.path.steps) c.index-trees-call.is in
+    let is = c.in-Some.ensures bytes ∙ ap (λ t. paths.expression_on_path (view bytes t) place.path.steps) c.index-trees-call.is in
     let a = c.in-Some-arguments.arguments.now in
     let is_list = c.in-Some-arguments.ensures bytes in
     let v = c.in_ok-variables.variables in
@@ -269,7 +269,7 @@ returns-clause-meant c =
     let bytes = bytes_at place.file files in
     let d = c.index-trees-call.result in
     let e = expr_view bytes c.in-Some.expr.now in
-    let is = c.in-Some.ensures bytes ∙ ap (λ t. paths.expression_at (view bytes t) place.path.steps) c.index-trees-call.is in
+    let is = c.in-Some.ensures bytes ∙ ap (λ t. paths.expression_on_path (view bytes t) place.path.steps) c.index-trees-call.is in
     let a = c.in-Some-arguments.arguments.now in
     let is_list = c.in-Some-arguments.ensures bytes in
     let v = c.in_ok-variables.variables in
@@ -289,7 +289,7 @@ returns-clause-refused c =
     let bytes = bytes_at place.file files in
     let d = c.index-trees-call.result in
     let e = expr_view bytes c.in-Some.expr.now in
-    let is = c.in-Some.ensures bytes ∙ ap (λ t. paths.expression_at (view bytes t) place.path.steps) c.index-trees-call.is in
+    let is = c.in-Some.ensures bytes ∙ ap (λ t. paths.expression_on_path (view bytes t) place.path.steps) c.index-trees-call.is in
     let a = c.in-Some-arguments.arguments.now in
     let is_list = c.in-Some-arguments.ensures bytes in
     let v = c.in_ok-variables.variables in

@@ -1,14 +1,14 @@
 use Rattle.std.proofs.Common.{◌≡◌, ◌-◌, drop, length}
 use Rattle.meson_splice.specs.Ordered.{ordered}
 use Rattle.meson_splice.specs.Patch.{patched_all}
-use Rattle.meson_splice.specs.Saved.{put_back}
+use Rattle.meson_splice.specs.Saved.{bytes_put_back}
 use Rattle.meson_splice.proofs.change.changed.Given as goal
 
 -- what is left leads to the same end, and putting back to the start
 abbrev pub invariant-loop-done : goal.invariant-loop-done
 invariant-loop-done l = record {
   to_come : patched_all l.initial.files (ordered l.way l.splices) ≡ patched_all l.files (drop l.done (ordered l.way l.splices));
-  to_start : put_back l.saved.items l.files ≡ l.initial.files;
+  to_start : bytes_put_back l.saved.items l.files ≡ l.initial.files;
 }
 
 abbrev pub decreases-loop-done : goal.decreases-loop-done

@@ -2,7 +2,7 @@ use Rattle.std.proofs.Common.{◌≡◌, ◌∙◌, ◌+◌, ◌∷◌, ◌++◌
 use Rattle.std.specs.Prelude.{Some, slice_set}
 use Rattle.meson_lex.specs.declared.kinds.Span.{Span}
 use Rattle.meson_syntax.specs.declared.tree.List as rust
-use Rattle.meson_syntax.specs.ListPut.{exchanged}
+use Rattle.meson_syntax.specs.ListPut.{list_exchanged}
 use Rattle.meson_syntax.specs.MovedCode.{moved_parsed}
 use Rattle.meson_syntax.specs.Moves.{moved}
 use Rattle.meson_syntax.specs.Paths.{ListAt, list_at}
@@ -51,8 +51,8 @@ returns-clause-restores c = λ first p.
     let n = c.requires.takes e in
     let u = get_or trees file e in
     subst (MayShift new.from new.now new.was) (sym (changed_there file (settled_tree new) trees e c.requires.there ∙ settled_is u new n)) (may_go_back u (unmoved u new n) n.takes) in
-    let back = changed_back file (settled_tree new) (exchanged path new.from new.now new.was list) trees
-    (λ e within. subst (λ u. exchanged path new.from new.now new.was list (settled_tree new u) ≡ u) (same_read trees file d e within)
-    (ap (exchanged path new.from new.now new.was list) (settled_is t new m) ∙ goes_back t own m.takes old gives)) in
+    let back = changed_back file (settled_tree new) (list_exchanged path new.from new.now new.was list) trees
+    (λ e within. subst (λ u. list_exchanged path new.from new.now new.was list (settled_tree new u) ≡ u) (same_read trees file d e within)
+    (ap (list_exchanged path new.from new.now new.was list) (settled_is t new m) ∙ goes_back t own m.takes old gives)) in
     subst (λ l. PutsBack l (slice_set trees file c.put_in-old.new.tree) first) (sym are)
     (subst (λ ts. PutsBack (more ++ item list ∷ []) ts first) (sym (returns-clause-done c)) (puts_back_more more (item list) trees after first may back p))

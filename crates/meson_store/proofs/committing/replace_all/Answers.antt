@@ -1,5 +1,5 @@
 use Rattle.std.proofs.Common.{◌∙◌, map, take, drop, suc, ap, sym, subst, List, ℕ, arith}
-use Rattle.meson_store.specs.Content.{replaced}
+use Rattle.meson_store.specs.Content.{content_with}
 use Rattle.meson_store.specs.Commit.{put_all}
 use Rattle.meson_store.specs.Planned.{put_of}
 use Rattle.meson_store.specs.Seen.{IsNotReplaced, seen}
@@ -37,8 +37,8 @@ loop-done-preserved g c =
       are = record {
         put =
             c.in-Ok.ensures.ok
-            ∙ ap (λ m. replaced m c.as_str.result.now c.index-plan-done.result.bytes.now) c.loop-done.invariant.are.put
-            ∙ ap (λ p. replaced (put_all (map put_of (take c.loop-done.done plan)) (g.S.Store.content c.args.store.now)) p c.index-plan-done.result.bytes.now) c.as_str.ensures.value
+            ∙ ap (λ m. content_with m c.as_str.result.now c.index-plan-done.result.bytes.now) c.loop-done.invariant.are.put
+            ∙ ap (λ p. content_with (put_all (map put_of (take c.loop-done.done plan)) (g.S.Store.content c.args.store.now)) p c.index-plan-done.result.bytes.now) c.as_str.ensures.value
             ∙ sym (put-more plan c.loop-done.done c.index-plan-done.result c.index-plan-done.is c.loop-done-test.true (g.S.Store.content c.args.store.now));
         counts = omega (arith, c.loop-done.invariant.are.counts, c.replace.ensures.counts);
         counted = count_one plan c.loop-done.done c.loop-done-test.true _ _ _ c.loop-done.invariant.are.counted c.in-Ok.ensures.counted;

@@ -5,7 +5,7 @@ use Rattle.meson_calls.specs.Project.{place}
 use Rattle.meson_calls.specs.Calls.{value_with_name}
 use Rattle.meson_calls.specs.Expansion.{fixed}
 use Rattle.meson_calls.specs.Named.{project_of}
-use Rattle.meson_calls.specs.Sourced.{kept_arg, step_by}
+use Rattle.meson_calls.specs.Sourced.{kept_arg, expansion_step}
 use Rattle.meson_calls.specs.Strings.{AreGood}
 use Rattle.meson_calls.specs.Tallies.{gathered, expanded}
 use Rattle.meson_calls.proofs.Kept.{kept_turn}
@@ -30,7 +30,7 @@ loop-i-preserved c =
       c.in_ok-expand_named.ensures.back ∙ c.loop-i.invariant.0,
       kept_turn p left q (λ n. fixed) source (value_with_name c.args.key.now) c.args.args.now i x before (gathered c.expand_named.new.marks) _ c.loop-i-test.true
           (c.in_ok-expand_named.ensures.all
-          ∙ ap (λ path. expanded before (step_by p left (place file path) (λ n. fixed) (kept_arg source (value_with_name c.args.key.now) i x))) c.loop-i.invariant.0
-          ∙ ap (λ a. expanded before (step_by p left q (λ n. fixed) (kept_arg source (value_with_name c.args.key.now) i a))) c.index-args-i.is)
+          ∙ ap (λ path. expanded before (expansion_step p left (place file path) (λ n. fixed) (kept_arg source (value_with_name c.args.key.now) i x))) c.loop-i.invariant.0
+          ∙ ap (λ a. expanded before (expansion_step p left q (λ n. fixed) (kept_arg source (value_with_name c.args.key.now) i a))) c.index-args-i.is)
           c.loop-i.invariant.1,
     )

@@ -1,5 +1,5 @@
 use Rattle.std.proofs.Common.{rules, ◌≡◌, ◌∙◌, ◌++◌, ◌∷◌, [], None, ap, sym, subst}
-use Rattle.meson_splice.specs.Files.{IsDistinct, found}
+use Rattle.meson_splice.specs.Files.{IsDistinct, position_of_file}
 use Rattle.meson_splice.specs.declared.file_set.File.{File}
 use Rattle.meson_splice.proofs.Sets.{distinct-push}
 use Rattle.meson_splice.proofs.file_set.FileSet.push_new.Goals as goal
@@ -12,5 +12,5 @@ invariant_of-self-2 c =
     let files = c.self.inside.files.items in
     let file : File = record { name = c.of.result; bytes = c.of-2.result } in
     let are : c.push_reserved.new.self.items ≡ files ++ file ∷ [] = c.push_reserved.ensures.items ∙ ap (λ l. l ++ file ∷ []) c.reserve.ensures.items in
-    let none : found file.name files ≡ None = search rules in
+    let none : position_of_file file.name files ≡ None = search rules in
     subst IsDistinct (sym are) (distinct-push files file c.self.invariant none)
