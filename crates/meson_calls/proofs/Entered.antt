@@ -10,7 +10,7 @@ use Rattle.meson_calls.specs.declared.note.Note as code
 use Rattle.meson_calls.specs.Project.{Placed, placed}
 use Rattle.meson_calls.specs.Parts.{Part, an_expression, a_statement, file_parts}
 use Rattle.meson_calls.specs.Calls.{Call, call_of, part_call, all_chosen, first_literal}
-use Rattle.meson_calls.specs.Directories.{parts_after, folder_parts, folder_of, build_file, in_folder, is_plain_folder, file_in, IsFileName}
+use Rattle.meson_calls.specs.Folders.{parts_after, folder_parts, folder_of, build_file, in_folder, is_plain_folder, file_in, IsFileName}
 use Rattle.meson_calls.specs.Notes.{a_call, note_of, noted, note_view, note_views}
 use Rattle.meson_calls.specs.Picking.{note_enters, entered_names}
 use Rattle.meson_calls.specs.Subdirs.{entered, subdirs}

@@ -4,7 +4,7 @@ use Rattle.std.specs.Prelude.{Bool, false, IsTrue, codes, bytes_eq}
 use Rattle.std.proofs.lemmas.Bool.Decides.{not_from_Decides}
 use Rattle.std.proofs.lemmas.Slice.Eq.{bytes_eq-Decides}
 use Rattle.std.proofs.lemmas.List.{append_cancel_right}
-use Rattle.meson_calls.specs.Directories.{build_file, in_folder, is_plain_folder, IsFileName}
+use Rattle.meson_calls.specs.Folders.{build_file, in_folder, is_plain_folder, IsFileName}
 
 -- a name that ends in a slash and `meson.build`
 module _ (name folder : List ℕ) (b : Bool) (is : name ≡ in_folder folder) (plain : b ≡ is_plain_folder folder) where

@@ -3,7 +3,7 @@ use Rattle.std.proofs.Common.{◌≡◌, ℕ, zero, suc, ◌+◌, ◌-◌, ◌*�
 use Rattle.meson_calls.specs.declared.variables.Variables.{Variables}
 use Rattle.meson_calls.specs.Notes.{notes}
 use Rattle.meson_calls.specs.Noted.{notes_rank}
-use Rattle.meson_calls.specs.Named.{project_of}
+use Rattle.meson_calls.specs.CodeVariables.{project_of}
 
 abbrev pub values_rank : Variables → ℕ
 values_rank v = notes_rank (notes (project_of v))

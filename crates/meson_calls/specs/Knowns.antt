@@ -8,7 +8,7 @@ use Rattle.meson_syntax.specs.Paths.{nth}
 use Rattle.meson_calls.specs.declared.call.CallRef.{CallRef}
 use Rattle.meson_calls.specs.Project.{Placed}
 use Rattle.meson_calls.specs.Calls.{Call, first_literal}
-use Rattle.meson_calls.specs.Directories.{file_in}
+use Rattle.meson_calls.specs.Folders.{file_in}
 use Rattle.meson_calls.specs.Variables.{calls_function, sets_unknown}
 use Rattle.meson_calls.specs.Notes.{Note, a_call, an_assignment, a_loop}
 

@@ -1,7 +1,7 @@
 pub mod Project
 pub mod Parts
 pub mod Calls
-pub mod Directories
+pub mod Folders
 pub mod Roles
 pub mod Variables
 pub mod Subdirs
@@ -16,7 +16,7 @@ pub mod Picking
 pub mod Strings
 pub mod Noted
 pub mod Values
-pub mod Named
+pub mod CodeVariables
 pub mod Tallies
 pub mod GoodLists
 pub mod Sourced

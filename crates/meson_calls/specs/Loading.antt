@@ -12,7 +12,7 @@ use Rattle.meson_syntax.specs.Reads.{Reads, IsSpanned, MayNotRead}
 use Rattle.meson_syntax.specs.View.{view}
 use Rattle.meson_calls.specs.declared.load_fault.LoadFault.{LoadFault}
 use Rattle.meson_calls.specs.declared.load_fault.LoadFault.TheVariants.{TooManyFiles, BadFileName, Parse, OutOfMemory}
-use Rattle.meson_calls.specs.Directories.{IsFileName}
+use Rattle.meson_calls.specs.Folders.{IsFileName}
 use Rattle.meson_calls.specs.Project.{Project}
 
 abbrev pub max_files : ℕ

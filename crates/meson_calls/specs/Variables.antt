@@ -8,7 +8,7 @@ use Rattle.meson_syntax.specs.Tree.{Name, Expression, Statement, assign, iterati
 use Rattle.meson_calls.specs.Project.{Project, nth_file, child, Placed, placed}
 use Rattle.meson_calls.specs.Parts.{Part, an_expression, a_statement, parts}
 use Rattle.meson_calls.specs.Calls.{Call, all_chosen, calls, first_literal, is}
-use Rattle.meson_calls.specs.Directories.{file_in}
+use Rattle.meson_calls.specs.Folders.{file_in}
 
 -- ---- assignments
 

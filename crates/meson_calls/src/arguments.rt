@@ -8,7 +8,7 @@ ghost use Rattle.meson_calls.specs.Project.{place};
 ghost use Rattle.meson_calls.specs.Calls.{value_without_name, value_with_name};
 ghost use Rattle.meson_calls.specs.Expansion.{in_list, fixed};
 ghost use Rattle.meson_calls.specs.GoodLists.{GoodArgs};
-ghost use Rattle.meson_calls.specs.Named.{AreVariables, project_of};
+ghost use Rattle.meson_calls.specs.CodeVariables.{AreVariables, project_of};
 ghost use Rattle.meson_calls.specs.Sources.{rest};
 ghost use Rattle.meson_calls.specs.Strings.{AreGood};
 ghost use Rattle.meson_calls.specs.Sourced.{kept_args, kept_arg, expansion_step, arguments_by};

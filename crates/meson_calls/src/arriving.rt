@@ -4,7 +4,7 @@ ghost use Rattle.std.specs.Prelude.{◌≡◌, ◌≢◌, Some, Ok, Err, IfErr, 
 ghost use Rattle.meson_syntax.specs.View.{expr_view, list_view};
 ghost use Rattle.meson_calls.specs.Calls.{call_of};
 ghost use Rattle.meson_calls.specs.Loading.{AreParsed};
-ghost use Rattle.meson_calls.specs.Named.{AreVariables, project_of};
+ghost use Rattle.meson_calls.specs.CodeVariables.{AreVariables, project_of};
 ghost use Rattle.meson_calls.specs.Picking.{Source};
 ghost use Rattle.meson_calls.specs.Roles.{is_target};
 ghost use Rattle.meson_calls.specs.Sources.{sources};

@@ -4,7 +4,7 @@ ghost use Rattle.std.specs.Prelude.{◌≡◌, IfErr, IfOk, map, option_map, str
 ghost use Rattle.meson_syntax.specs.Reads.{IsSpanned, IsUnreadable, MayNotRead, Refuses};
 ghost use Rattle.meson_syntax.specs.View.{view};
 ghost use Rattle.meson_syntax.specs.declared.fault.ParseFault.{ParseFault};
-ghost use Rattle.meson_calls.specs.Directories.{IsFileName, folder_of, file_in};
+ghost use Rattle.meson_calls.specs.Folders.{IsFileName, folder_of, file_in};
 ghost use Rattle.meson_calls.specs.Notes.{note_view, note_views};
 ghost use Rattle.meson_calls.specs.Picking.{note_enters, entered_names};
 ghost use Rattle.meson_calls.specs.Strings.{AreGood, NotesGood, note_words};

@@ -6,7 +6,7 @@ ghost use Rattle.meson_syntax.specs.Grammar.{expression_words, argument_words};
 ghost use Rattle.meson_syntax.specs.Tree.{arguments_of, operands_of};
 ghost use Rattle.meson_syntax.specs.View.{arg_view, args_view, expr_view, list_view, operands_view};
 ghost use Rattle.meson_calls.specs.Expansion.{element, operand_at};
-ghost use Rattle.meson_calls.specs.Named.{AreVariables, project_of};
+ghost use Rattle.meson_calls.specs.CodeVariables.{AreVariables, project_of};
 ghost use Rattle.meson_calls.specs.Strings.{AreGood};
 ghost use Rattle.meson_calls.specs.GoodLists.{GoodArgs, GoodListing, GoodRow};
 ghost use Rattle.meson_calls.specs.Tallies.{Meets, stand_at, variable_left, expand_left, list_left, each_left, argument_left, sum_left, row_left};

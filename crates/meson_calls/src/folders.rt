@@ -2,7 +2,7 @@
 
 ghost use Rattle.std.specs.Prelude.{◌≡◌, ◌↔◌, IsTrue};
 ghost use Rattle.std.specs.List.{list_any};
-ghost use Rattle.meson_calls.specs.Directories.{is_control, goes_nowhere, slash_parts, is_plain_folder, IsFileName};
+ghost use Rattle.meson_calls.specs.Folders.{is_control, goes_nowhere, slash_parts, is_plain_folder, IsFileName};
 
 /// A control character.
 fn is_control(byte: u8) -> bool

@@ -4,7 +4,7 @@ ghost use Rattle.std.specs.Prelude.{◌≡◌, ◌&&◌};
 ghost use Rattle.meson_syntax.specs.Tree.{operands_of};
 ghost use Rattle.meson_syntax.specs.View.{expr_view, operands_view};
 ghost use Rattle.meson_calls.specs.Expansion.{is_plus, are_plus, is_operand_by, is_value_by, is_list_variable, is_list_operand};
-ghost use Rattle.meson_calls.specs.Named.{AreVariables, project_of};
+ghost use Rattle.meson_calls.specs.CodeVariables.{AreVariables, project_of};
 ghost use Rattle.meson_calls.specs.Picking.{Source};
 
 use crate::meeting::is_files;

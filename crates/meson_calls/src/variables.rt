@@ -25,7 +25,7 @@ impl<'t> Variables<'t> {
     ghost use Rattle.meson_calls.specs.Strings.{NotesGood};
     ghost use Rattle.meson_calls.specs.Values.{value_in, value_view};
     ghost use Rattle.meson_calls.specs.Variables.{single};
-    ghost use Rattle.meson_calls.specs.Named.{AreVariables, project_of};
+    ghost use Rattle.meson_calls.specs.CodeVariables.{AreVariables, project_of};
 
     /// The values by the notes of files: none where a call may set any variable.
     fn known_values(

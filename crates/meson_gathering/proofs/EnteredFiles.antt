@@ -6,7 +6,7 @@ use Rattle.std.proofs.Math.Seq.{take-suc}
 use Rattle.std.proofs.lemmas.List.Elements.{All-nil, All-cons, All-append, All-contains, All-same, Contains-append_right}
 use Rattle.meson_splice.specs.declared.file_set.File.{File}
 use Rattle.meson_splice.specs.Files.{position_of_file}
-use Rattle.meson_calls.specs.Directories.{IsFileName}
+use Rattle.meson_calls.specs.Folders.{IsFileName}
 use Rattle.meson_calls.specs.Loading.{max_files, HasFileName}
 use Rattle.meson_store.specs.Content.{Content}
 use Rattle.meson_gathering.specs.Gathering.{file_of, with_more, files_with, held_bytes, files_entered, Ending, IsNextFile}

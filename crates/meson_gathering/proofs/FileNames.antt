@@ -3,7 +3,7 @@ use Rattle.std.proofs.Common.{◌≡◌, ℕ, zero, suc, ◌<◌, List, [], ◌�
 use Rattle.std.specs.Prelude.{All}
 use Rattle.std.proofs.lemmas.List.Elements.{All-head, All-tail}
 use Rattle.meson_splice.specs.declared.file_set.File.{File}
-use Rattle.meson_calls.specs.Directories.{IsFileName}
+use Rattle.meson_calls.specs.Folders.{IsFileName}
 use Rattle.meson_calls.specs.Loading.{HasFileName, name_of_file}
 
 pub named_at : (files : List File) (i : ℕ) → i < length files → All HasFileName files → IsFileName (name_of_file i files)

@@ -7,7 +7,7 @@ use Rattle.meson_splice.specs.Files.{position_of_file}
 use Rattle.meson_syntax.specs.declared.fault.ParseFault.{ParseFault}
 use Rattle.meson_syntax.specs.declared.fault.ParseFault.TheVariants as parse
 use Rattle.meson_syntax.specs.Reads.{MayNotRead}
-use Rattle.meson_calls.specs.Directories.{build_file}
+use Rattle.meson_calls.specs.Folders.{build_file}
 use Rattle.meson_calls.specs.Loading.{max_files}
 use Rattle.meson_calls.specs.Subdirs.{Enters}
 use Rattle.meson_store.specs.Commit.{path_in}

@@ -2,7 +2,7 @@
 use Rattle.std.specs.Prelude.{◌≡◌, ◌<◌, ◌≤◌, ◌⊎◌, true, ℕ, suc, List, [], ◌∷◌, ◌++◌, length, Option, Some, None, is_some}
 use Rattle.meson_splice.specs.declared.file_set.File.{File}
 use Rattle.meson_splice.specs.Files.{bytes_at, position_of_file}
-use Rattle.meson_calls.specs.Directories.{build_file}
+use Rattle.meson_calls.specs.Folders.{build_file}
 use Rattle.meson_calls.specs.Loading.{name_of_file}
 use Rattle.meson_calls.specs.Subdirs.{Enters}
 use Rattle.meson_store.specs.Calls.{one_more}

@@ -4,7 +4,7 @@ ghost use Rattle.std.specs.Prelude.{◌≡◌, ◌≤◌, ◌<◌, ◌∷◌, []
 ghost use Rattle.meson_splice.specs.Files.{bytes_at, position_of_file};
 ghost use Rattle.meson_syntax.specs.Reads.{IsSpanned, MayNotRead};
 ghost use Rattle.meson_syntax.specs.View.{view};
-ghost use Rattle.meson_calls.specs.Directories.{IsFileName, build_file};
+ghost use Rattle.meson_calls.specs.Folders.{IsFileName, build_file};
 ghost use Rattle.meson_calls.specs.Loading.{HasFileName, IsProject, max_files, name_of_file};
 ghost use Rattle.meson_calls.specs.Subdirs.{Enters};
 ghost use Rattle.meson_gathering.specs.Gathering.{Collects, Finds, Gathers, Told, files_entered, file_of, held_bytes, named_folder, whole, with_more};

@@ -1,7 +1,7 @@
 -- What a change is for, in the words of whom made it.
 use Rattle.std.specs.Prelude.{◌&&◌, ℕ, nat_le, List, length, Bool, not}
 use Rattle.std.specs.List.{list_any}
-use Rattle.meson_calls.specs.Directories.{is_control}
+use Rattle.meson_calls.specs.Folders.{is_control}
 
 -- at most 200 bytes, and no control character of ASCII: all bytes of other characters are 128 and more
 abbrev pub is_title : List ℕ → Bool

@@ -11,7 +11,7 @@ use Rattle.meson_calls.specs.declared.call.Role.{Role}
 use Rattle.meson_calls.specs.Calls.{Call}
 use Rattle.meson_keywords.specs.Changing.{CallStands}
 use Rattle.meson_calls.specs.Loading.{Loaded, IsProject, named_trees, project, views}
-use Rattle.meson_steps.specs.Results.{plain_trees}
+use Rattle.meson_steps.specs.ResultLimits.{plain_trees}
 use Rattle.meson_calls.specs.Finding.{the_call}
 use Rattle.meson_calls.specs.Project.{Placed}
 use Rattle.meson_calls.specs.CallPlaces.{CallThere}

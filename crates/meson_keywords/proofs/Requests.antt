@@ -13,7 +13,7 @@ use Rattle.meson_calls.specs.declared.refusal.Refusal.{Refusal}
 use Rattle.meson_calls.specs.Calls.{Call, keyword, value_with_name}
 use Rattle.meson_keywords.specs.Changing.{CallStands, request_steps}
 use Rattle.meson_calls.specs.Loading.{AreParsed, IsProject, Loaded, project}
-use Rattle.meson_steps.specs.Results.{plain_trees}
+use Rattle.meson_steps.specs.ResultLimits.{plain_trees}
 use Rattle.meson_calls.specs.Picking.{call_with}
 use Rattle.meson_calls.specs.Finding.{the_call}
 use Rattle.meson_calls.specs.Project.{Project, Placed}

@@ -9,7 +9,7 @@ use Rattle.meson_calls.specs.Sources.{kwargs_key, not_hidden}
 use Rattle.meson_keywords.specs.Effects.{RequestsLeave}
 use Rattle.meson_keywords.specs.Tasking.{asked_tasks}
 use Rattle.meson_keywords.specs.TaskSteps.{call_changed, tasks_steps, trees_of}
-use Rattle.meson_steps.specs.Results.{plain_trees}
+use Rattle.meson_steps.specs.ResultLimits.{plain_trees}
 use Rattle.meson_keywords.proofs.AskedTasks.{asked_may}
 use Rattle.meson_keywords.proofs.CallKnown.{known_stand}
 use Rattle.meson_keywords.proofs.CallRoom.{call_has_room, trees_are}

@@ -18,7 +18,7 @@ use Rattle.meson_keywords.specs.Changing.{Between, CallStands, LeavesCall, TaskD
 use Rattle.meson_calls.specs.GoodLists.{GoodArgs, GoodListing}
 use Rattle.meson_steps.specs.ListSteps.{AreBare}
 use Rattle.meson_calls.specs.Loading.{Loaded}
-use Rattle.meson_steps.specs.Results.{plain_trees}
+use Rattle.meson_steps.specs.ResultLimits.{plain_trees}
 use Rattle.meson_steps.specs.Steps.{Step, all_stepped}
 use Rattle.meson_keywords.specs.Tasking.{MayBeWritten}
 use Rattle.meson_keywords.specs.Tasks.{Task}

@@ -12,7 +12,7 @@ use Rattle.meson_keywords.specs.Changing.{Between, CallStands, IsNextTask, TaskD
 use Rattle.meson_steps.specs.Done.{MayNotBeDone, unmeant}
 use Rattle.meson_steps.specs.ListSteps as doable
 use Rattle.meson_calls.specs.Loading.{Loaded}
-use Rattle.meson_steps.specs.Results.{plain_trees}
+use Rattle.meson_steps.specs.ResultLimits.{plain_trees}
 use Rattle.meson_steps.specs.Steps.{Step}
 use Rattle.meson_keywords.specs.Tasking.{MayBeWritten, TaskIs, TasksAre, none, one}
 use Rattle.meson_keywords.specs.Tasks.{Task}

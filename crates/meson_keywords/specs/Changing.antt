@@ -10,7 +10,7 @@ use Rattle.meson_keywords.specs.declared.tasks.Task as code
 use Rattle.meson_steps.specs.declared.work.Work.{Work}
 use Rattle.meson_steps.specs.ListSteps.{AreDoable, wide_depth}
 use Rattle.meson_calls.specs.Loading.{Loaded}
-use Rattle.meson_steps.specs.Results.{plain_trees}
+use Rattle.meson_steps.specs.ResultLimits.{plain_trees}
 use Rattle.meson_calls.specs.Finding.{the_call}
 use Rattle.meson_steps.specs.Steps.{Step}
 use Rattle.meson_keywords.specs.Tasking.{Asked, MayBeWritten, TaskIs, asked_tasks}

@@ -10,7 +10,7 @@ ghost use Rattle.meson_calls.specs.Notes.{notes};
 ghost use Rattle.meson_calls.specs.OnePlace.{the_place};
 ghost use Rattle.meson_steps.specs.Journal.{Trees};
 ghost use Rattle.meson_steps.specs.Done.{IsDone, MayNotBeDone};
-ghost use Rattle.meson_steps.specs.Results.{plain_trees};
+ghost use Rattle.meson_steps.specs.ResultLimits.{plain_trees};
 ghost use Rattle.meson_calls.specs.Sources.{not_hidden};
 ghost use Rattle.meson_calls.specs.Sourced.{kept_args};
 ghost use Rattle.meson_calls.specs.Sources.{kwargs_key};

@@ -25,7 +25,7 @@ use Rattle.meson_sources.specs.SourceEdits.{extra_key, extra_marks}
 use Rattle.meson_steps.specs.declared.command.Command.{Command}
 use Rattle.meson_steps.specs.declared.command.Command.TheVariants as command
 use Rattle.meson_steps.specs.declared.command.Done.{Done}
-use Rattle.meson_steps.specs.Results.{AreShallow, AreSmall, plain_trees, saturated}
+use Rattle.meson_steps.specs.ResultLimits.{AreShallow, AreSmall, plain_trees, saturated}
 use Rattle.meson_steps.specs.Steps.{Step, StepsMake, none, step, all_stepped}
 use Rattle.meson_steps.proofs.PlainTrees.{parsed_shallow}
 use Rattle.meson_calls.proofs.CallsFound.{CallAt, role_found}

@@ -15,7 +15,7 @@ use Rattle.meson_steps.specs.declared.step.ListStep.{ListStep}
 use Rattle.meson_calls.specs.Calls.{Call}
 use Rattle.meson_steps.specs.ListSteps as doable
 use Rattle.meson_calls.specs.Loading.{Loaded, AreParsed, named_trees, views}
-use Rattle.meson_steps.specs.Results.{plain_trees}
+use Rattle.meson_steps.specs.ResultLimits.{plain_trees}
 use Rattle.meson_calls.specs.Picking.{call_with}
 use Rattle.meson_calls.specs.Finding.{the_call}
 use Rattle.meson_steps.specs.Plans.{ArePlanned}

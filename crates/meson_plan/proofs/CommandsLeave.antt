@@ -19,7 +19,7 @@ use Rattle.meson_keywords.proofs.RequestsLeave.{requests-leave}
 use Rattle.meson_steps.specs.declared.command.Command.{Command}
 use Rattle.meson_steps.specs.declared.command.Command.TheVariants as command
 use Rattle.meson_steps.specs.declared.command.Done.{Done}
-use Rattle.meson_steps.specs.Results.{plain_trees}
+use Rattle.meson_steps.specs.ResultLimits.{plain_trees}
 use Rattle.meson_steps.specs.Steps.{Step, all_stepped}
 use Rattle.meson_sources.specs.SourceEdits.{extra_added, extra_removed, sources_added, sources_removed}
 use Rattle.meson_sources.proofs.ExtraAdded.{extra-is-added}

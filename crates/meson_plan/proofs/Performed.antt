@@ -7,7 +7,7 @@ use Rattle.meson_calls.specs.declared.refusal.Refusal.{Refusal}
 use Rattle.meson_steps.specs.declared.work.Work.{Work}
 use Rattle.meson_steps.specs.Done.{IsDone, MayNotBeDone, unmeant, deep, large}
 use Rattle.meson_calls.specs.Loading.{Loaded, project}
-use Rattle.meson_steps.specs.Results.{plain_trees}
+use Rattle.meson_steps.specs.ResultLimits.{plain_trees}
 use Rattle.meson_plan.specs.Performing.{Makes, MayRefuse, Performs}
 use Rattle.meson_plan.specs.Performing as performing
 use Rattle.meson_plan.specs.Planning.{planned}

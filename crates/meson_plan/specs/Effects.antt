@@ -18,7 +18,7 @@ use Rattle.meson_steps.specs.declared.command.Done.{Done}
 use Rattle.meson_sources.specs.Effects.{ExtraComes, ListGets, NamesGo, extra_home}
 use Rattle.meson_sources.specs.SourceEdits.{extra_marks, new_names}
 use Rattle.meson_steps.specs.Names.{distinct}
-use Rattle.meson_steps.specs.Results.{plain_trees}
+use Rattle.meson_steps.specs.ResultLimits.{plain_trees}
 use Rattle.meson_targets.specs.Effects.{NamesTarget, TargetRemoved, call_with_texts}
 use Rattle.meson_targets.specs.TargetEdits.{number_in}
 use Rattle.meson_plan.specs.Performing.{Performs}

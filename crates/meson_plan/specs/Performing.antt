@@ -11,7 +11,7 @@ use Rattle.meson_calls.specs.Loading.{Loaded, project}
 use Rattle.meson_steps.specs.Steps.{Step, all_stepped, StepsMake}
 use Rattle.meson_steps.specs.Keeping.{StepsKeep}
 use Rattle.meson_plan.specs.Planning.{planned}
-use Rattle.meson_steps.specs.Results.{AreShallow, AreSmall, plain_trees, saturated}
+use Rattle.meson_steps.specs.ResultLimits.{AreShallow, AreSmall, plain_trees, saturated}
 
 -- What a command makes of a project: the trees by its edits, the splices and files by the layouts of these.
 pub record Makes (old : Loaded) (c : Command) : Type 0 where

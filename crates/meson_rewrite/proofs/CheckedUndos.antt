@@ -12,7 +12,7 @@ use Rattle.meson_splice.specs.declared.file_set.File.{File}
 use Rattle.meson_splice.specs.declared.history.History.{History}
 use Rattle.meson_splice.specs.Past.{undone, undone_times}
 use Rattle.meson_splice.specs.Patch.{then_ok}
-use Rattle.meson_calls.specs.Directories.{IsFileName, goes_nowhere, is_control, slash_parts}
+use Rattle.meson_calls.specs.Folders.{IsFileName, goes_nowhere, is_control, slash_parts}
 use Rattle.meson_calls.specs.Loading.{HasFileName}
 use Rattle.meson_script.proofs.StackFacts.{nothing-is-undone}
 use Rattle.meson_script.proofs.Undos.{undos-are-steps}

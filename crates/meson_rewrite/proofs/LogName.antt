@@ -6,7 +6,7 @@ use Rattle.std.proofs.lemmas.List.Quantifiers.{position-Some}
 use Rattle.std.proofs.lemmas.Slice.Eq.{bytes_eq-Decides}
 use Rattle.meson_splice.specs.Files.{position_of_file}
 use Rattle.meson_splice.specs.declared.file_set.File.{File}
-use Rattle.meson_calls.specs.Directories.{IsFileName, build_file}
+use Rattle.meson_calls.specs.Folders.{IsFileName, build_file}
 use Rattle.meson_calls.specs.Loading.{HasFileName}
 use Rattle.meson_calls.proofs.Entered.{ends_so}
 use Rattle.meson_rewrite.specs.Logs.{log_name}

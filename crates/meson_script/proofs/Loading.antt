@@ -11,7 +11,7 @@ use Rattle.meson_syntax.specs.Tree.{Plain}
 use Rattle.meson_syntax.specs.Reads.{Reads, MayNotRead, of_files}
 use Rattle.meson_syntax.proofs.parsing.Refusals.{unreadable-none}
 use Rattle.meson_calls.specs.declared.load_fault.LoadFault.TheVariants.{TooManyFiles, BadFileName, Parse, OutOfMemory}
-use Rattle.meson_calls.specs.Directories.{IsFileName}
+use Rattle.meson_calls.specs.Folders.{IsFileName}
 use Rattle.meson_calls.specs.Loading.{Loaded, IsProject, AreParsed, HasFileName, HasTree, name_of_file}
 use Rattle.meson_script.specs.Stack.{Loads}
 use Rattle.meson_script.specs.Laws.{LoadsOrWantsMemory}

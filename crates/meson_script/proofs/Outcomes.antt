@@ -6,7 +6,7 @@ use Rattle.meson_calls.specs.declared.refusal.Refusal.{Refusal}
 use Rattle.meson_calls.specs.Loading.{Loaded, project}
 use Rattle.meson_steps.specs.declared.command.Command.{Command}
 use Rattle.meson_steps.specs.declared.command.Done.{Done}
-use Rattle.meson_steps.specs.Results.{AreShallow, AreSmall, plain_trees, saturated}
+use Rattle.meson_steps.specs.ResultLimits.{AreShallow, AreSmall, plain_trees, saturated}
 use Rattle.meson_steps.specs.Steps.{Step, StepsMake, all_stepped}
 use Rattle.meson_steps.proofs.OneMaking.{one-making}
 use Rattle.meson_plan.specs.Planning.{planned}

@@ -14,7 +14,7 @@ use Rattle.meson_calls.specs.Loading.{IsProject, Loaded}
 use Rattle.meson_steps.specs.declared.command.Command.{Command}
 use Rattle.meson_steps.specs.declared.command.Command.TheVariants as command
 use Rattle.meson_steps.specs.declared.command.Done.{Done}
-use Rattle.meson_steps.specs.Results.{saturated}
+use Rattle.meson_steps.specs.ResultLimits.{saturated}
 use Rattle.meson_calls.specs.declared.refusal.Refusal.{Refusal}
 use Rattle.meson_plan.specs.Performing.{MayRefuse, Performs, unplanned}
 use Rattle.meson_plan.proofs.SplicesDone.{joined, performs-patch, performs-text, texts-append}

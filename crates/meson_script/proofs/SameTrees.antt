@@ -13,7 +13,7 @@ use Rattle.meson_listing.proofs.ByTrees.{calls-same, targets-same}
 use Rattle.meson_steps.specs.declared.command.Command.{Command}
 use Rattle.meson_steps.specs.declared.command.Command.TheVariants as command
 use Rattle.meson_steps.specs.declared.command.Done.{Done}
-use Rattle.meson_steps.specs.Results.{plain_trees}
+use Rattle.meson_steps.specs.ResultLimits.{plain_trees}
 use Rattle.meson_steps.specs.Steps.{StepsMake, all_stepped}
 use Rattle.meson_plan.specs.Planning.{planned}
 use Rattle.meson_plan.specs.Performing.{Makes, MayRefuse, Performs, unplanned, deep, large}

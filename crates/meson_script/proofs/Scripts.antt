@@ -6,7 +6,7 @@ use Rattle.meson_calls.specs.declared.refusal.Refusal.{Refusal}
 use Rattle.meson_calls.specs.Loading.{IsProject, Loaded}
 use Rattle.meson_steps.specs.declared.command.Command.{Command}
 use Rattle.meson_steps.specs.declared.command.Done.{Done}
-use Rattle.meson_steps.specs.Results.{plain_trees, saturated}
+use Rattle.meson_steps.specs.ResultLimits.{plain_trees, saturated}
 use Rattle.meson_plan.specs.Performing.{MayRefuse, Performs}
 use Rattle.meson_script.specs.Running.{MayStop, Runs, nothing_ran, ran_more, told}
 use Rattle.meson_script.specs.Outcomes.{NotStopped, OneResult, OneStop}

@@ -14,7 +14,7 @@ use Rattle.meson_splice.specs.Past.{undone, undone_from, undone_times}
 use Rattle.meson_splice.specs.Patch.{inverses_of, patched_all, then_ok}
 use Rattle.meson_splice.proofs.Times.{undone-more, undone-past}
 use Rattle.meson_json.specs.Log.{is_text_history}
-use Rattle.meson_steps.specs.Results.{saturated}
+use Rattle.meson_steps.specs.ResultLimits.{saturated}
 use Rattle.meson_script.specs.declared.fault.UndoFault.{UndoFault}
 use Rattle.meson_script.specs.declared.fault.UndoFault.TheVariants.{Splice}
 use Rattle.meson_script.specs.declared.session.Report.{Report}

@@ -12,7 +12,7 @@ use Rattle.meson_script.specs.Reports.{differing}
 use Rattle.meson_steps.specs.declared.command.Command.{Command}
 use Rattle.meson_steps.specs.declared.command.Command.TheVariants as command
 use Rattle.meson_steps.specs.declared.command.Done.{Done}
-use Rattle.meson_steps.specs.Results.{saturated}
+use Rattle.meson_steps.specs.ResultLimits.{saturated}
 use Rattle.meson_plan.specs.Performing.{MayRefuse, Performs}
 use Rattle.meson_listing.specs.Listing.{kwargs_listing, target_listing}
 

@@ -2,7 +2,7 @@
 
 ghost use Rattle.std.specs.Prelude.{◌≡◌, ◌≢◌, ◌+◌, ◌++◌, Err, IfErr, IfOk, Ok, OnErr, OnOk, map, option_to_list};
 ghost use Rattle.serde_json.specs.View.{view};
-ghost use Rattle.meson_steps.specs.Results.{saturated};
+ghost use Rattle.meson_steps.specs.ResultLimits.{saturated};
 ghost use Rattle.meson_calls.specs.declared.refusal.Refusal.TheVariants.{OutOfMemory};
 ghost use Rattle.meson_calls.specs.Loading.{IsProject};
 ghost use Rattle.meson_plan.specs.Performing.{MayRefuse, Performs};

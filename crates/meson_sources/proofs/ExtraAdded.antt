@@ -18,7 +18,7 @@ use Rattle.meson_calls.specs.Loading.{IsProject, Loaded, project}
 use Rattle.meson_calls.specs.Project.{Placed, child}
 use Rattle.meson_calls.specs.Sources.{first_empty, first_list, or_option}
 use Rattle.meson_steps.specs.ListSteps.{MayStandBetween}
-use Rattle.meson_steps.specs.Results.{plain_trees}
+use Rattle.meson_steps.specs.ResultLimits.{plain_trees}
 use Rattle.meson_steps.specs.Steps.{Step, all_stepped, step_in, stepped}
 use Rattle.meson_steps.specs.WrittenTexts.{string_of}
 use Rattle.meson_steps.proofs.Insertable.{edited_there, elements_with, there_again}

@@ -14,7 +14,7 @@ use Rattle.meson_calls.specs.Calls as calls
 use Rattle.meson_calls.specs.Expansion.{Mark}
 use Rattle.meson_steps.specs.ListSteps.{MayStandBetween, AreDoable, none}
 use Rattle.meson_calls.specs.Loading.{Loaded, AreParsed, project}
-use Rattle.meson_steps.specs.Results.{plain_trees}
+use Rattle.meson_steps.specs.ResultLimits.{plain_trees}
 use Rattle.meson_calls.specs.Project.{Project, Placed, child}
 use Rattle.meson_steps.specs.Steps.{step_in}
 use Rattle.meson_sources.specs.SourceEdits.{checked_extra, extra_key, extra_marks, new_names, insertion_steps, inserted_in, written_keyword, elements_there, into_new_list, behind_value, without_home, extra_inserted}

@@ -11,7 +11,7 @@ use Rattle.meson_sources.specs.declared.targeting.Change.TheVariants.{SourcesAdd
 use Rattle.meson_calls.specs.Calls.{Call}
 use Rattle.meson_steps.specs.ListSteps.{AreDoable}
 use Rattle.meson_calls.specs.Loading.{Loaded, IsProject, project}
-use Rattle.meson_steps.specs.Results.{plain_trees}
+use Rattle.meson_steps.specs.ResultLimits.{plain_trees}
 use Rattle.meson_calls.specs.Finding.{the_call}
 use Rattle.meson_steps.specs.Plans.{ArePlanned}
 use Rattle.meson_calls.specs.Project.{Project, Placed}

@@ -12,7 +12,7 @@ use Rattle.meson_calls.specs.Calls.{Call}
 use Rattle.meson_calls.specs.Expansion.{Slot, in_list, fixed, Item, Mark, known, opaque, empty}
 use Rattle.meson_calls.specs.Loading.{Loaded, AreParsed, project}
 use Rattle.meson_steps.specs.ListSteps.{AreDoable}
-use Rattle.meson_steps.specs.Results.{plain_trees}
+use Rattle.meson_steps.specs.ResultLimits.{plain_trees}
 use Rattle.meson_calls.specs.Project.{Project, Placed}
 use Rattle.meson_calls.specs.Sources.{items, opaque_count, once, source_marks, sources_key, kwargs_key}
 use Rattle.meson_calls.specs.Calls as calls

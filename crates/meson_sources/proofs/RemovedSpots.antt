@@ -13,7 +13,7 @@ use Rattle.meson_edit.proofs.sequences.Deepened.{removals-stay-within}
 use Rattle.meson_edit.proofs.sequences.Levelled.{removals-keep-levels}
 use Rattle.meson_steps.specs.ListSteps.{AreDoable, none, one, MayStandBetween}
 use Rattle.meson_calls.specs.Loading.{Loaded, project}
-use Rattle.meson_steps.specs.Results.{plain_trees}
+use Rattle.meson_steps.specs.ResultLimits.{plain_trees}
 use Rattle.meson_calls.specs.Project.{place}
 use Rattle.meson_sources.specs.Renaming.{IsElementAt}
 use Rattle.meson_steps.specs.Steps.{step_in}

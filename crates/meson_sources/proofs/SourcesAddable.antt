@@ -11,7 +11,7 @@ use Rattle.meson_calls.specs.Calls.{Call, numbered, kept_number, value_without_n
 use Rattle.meson_calls.specs.Expansion.{Mark}
 use Rattle.meson_steps.specs.ListSteps.{AreDoable}
 use Rattle.meson_calls.specs.Loading.{project}
-use Rattle.meson_steps.specs.Results.{plain_trees}
+use Rattle.meson_steps.specs.ResultLimits.{plain_trees}
 use Rattle.meson_calls.specs.Project.{Project, Placed}
 use Rattle.meson_sources.specs.SourceEdits.{is_known, new_names, inserted_in}
 use Rattle.meson_steps.specs.Names.{checked_names, distinct}

@@ -17,7 +17,7 @@ use Rattle.meson_calls.specs.Sources.{home, once, source_marks, sources_key}
 use Rattle.meson_calls.proofs.ListNodes.{values_no_pairs}
 use Rattle.meson_steps.specs.ListSteps.{MayStandBetween}
 use Rattle.meson_steps.specs.Names.{checked_names}
-use Rattle.meson_steps.specs.Results.{plain_trees}
+use Rattle.meson_steps.specs.ResultLimits.{plain_trees}
 use Rattle.meson_steps.specs.Steps.{all_stepped, step_in, stepped}
 use Rattle.meson_steps.proofs.Insertable.{elements_with, there_again}
 use Rattle.meson_steps.proofs.PlainTrees.{plain_place, tree_is}

@@ -15,7 +15,7 @@ use Rattle.meson_calls.specs.Expansion.{Mark, max_followed}
 use Rattle.meson_steps.specs.ListSteps.{bare}
 use Rattle.meson_sources.specs.Naming.{new_among}
 use Rattle.meson_calls.specs.Picking.{call_with}
-use Rattle.meson_sources.specs.Spots.{spots_of_names}
+use Rattle.meson_sources.specs.CodeSpots.{spots_of_names}
 use Rattle.meson_calls.specs.Sources.{sources_key, source_marks, home, once, or_call, or_option, first_list}
 use Rattle.meson_calls.specs.Sourced.{kept_args, all_gathered}
 use Rattle.meson_sources.specs.SourceEdits.{new_names, insertion_steps, plain_len, spots_named, removal_steps, distinct_spots, sources_added, sources_removed}

@@ -4,7 +4,7 @@ use Rattle.meson_syntax.specs.Paths.{nth}
 use Rattle.meson_syntax.specs.Tree.{Nowhere, Plain, Argument, plain, string, erase}
 use Rattle.meson_edit.specs.Edits.{elements}
 use Rattle.meson_calls.specs.Loading.{Loaded, project}
-use Rattle.meson_steps.specs.Results.{plain_trees}
+use Rattle.meson_steps.specs.ResultLimits.{plain_trees}
 use Rattle.meson_sources.specs.Renaming.{IsElementAt, IsStringElement}
 use Rattle.meson_sources.specs.SourceEdits.{Spot}
 use Rattle.meson_sources.specs.Standings.{SpotStands}

@@ -15,7 +15,7 @@ use Rattle.meson_calls.specs.Loading.{IsProject, Loaded, project}
 use Rattle.meson_calls.specs.Project.{Placed, Project}
 use Rattle.meson_calls.specs.Sources.{first_empty, first_list, home, items, or_option, source_marks}
 use Rattle.meson_steps.specs.Names.{distinct}
-use Rattle.meson_steps.specs.Results.{plain_trees}
+use Rattle.meson_steps.specs.ResultLimits.{plain_trees}
 use Rattle.meson_steps.specs.Steps.{Step, all_stepped}
 use Rattle.meson_steps.specs.WrittenTexts.{string_of}
 use Rattle.meson_sources.specs.SourceEdits.{Spot, distinct_spots, extra_added, extra_key, extra_marks, extra_removed, has_text, is_plain, new_names, same_spot, sources_added, sources_removed, spot_after, spots_after, spots_named}

@@ -18,7 +18,7 @@ use Rattle.meson_sources.specs.SourceEdits.{Spot, distinct_spots, removal_steps,
 use Rattle.meson_calls.specs.Finding.{the_call}
 use Rattle.meson_calls.specs.Loading.{Loaded, AreParsed, project}
 use Rattle.meson_calls.specs.CallPlaces.{ListThere}
-use Rattle.meson_steps.specs.Results.{plain_trees}
+use Rattle.meson_steps.specs.ResultLimits.{plain_trees}
 use Rattle.meson_steps.specs.ListSteps.{AreDoable}
 use Rattle.meson_steps.specs.Steps.{Step}
 use Rattle.meson_syntax.specs.Operators.{holds_values}

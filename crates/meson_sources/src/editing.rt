@@ -7,7 +7,7 @@ ghost use Rattle.meson_syntax.specs.View.{args_view, list_view};
 ghost use Rattle.meson_calls.specs.Calls.{value_with_name};
 ghost use Rattle.meson_calls.specs.GoodLists.{GoodListing};
 ghost use Rattle.meson_calls.specs.Loading.{AreParsed};
-ghost use Rattle.meson_calls.specs.Named.{AreVariables, project_of};
+ghost use Rattle.meson_calls.specs.CodeVariables.{AreVariables, project_of};
 ghost use Rattle.meson_calls.specs.Picking.{Source, call_with};
 ghost use Rattle.meson_calls.specs.Project.{placed};
 ghost use Rattle.meson_sources.specs.SourceEdits.{insertion_steps, is_plain, plain_len, sources_added, sources_removed};

@@ -10,7 +10,7 @@ ghost use Rattle.meson_calls.specs.Expansion.{max_followed};
 ghost use Rattle.meson_calls.specs.GoodLists.{GoodArgs, GoodListing};
 ghost use Rattle.meson_steps.specs.ListSteps.{bare};
 ghost use Rattle.meson_calls.specs.Loading.{AreParsed};
-ghost use Rattle.meson_calls.specs.Named.{AreVariables, project_of};
+ghost use Rattle.meson_calls.specs.CodeVariables.{AreVariables, project_of};
 ghost use Rattle.meson_calls.specs.Picking.{Source, call_with};
 ghost use Rattle.meson_calls.specs.Project.{placed};
 ghost use Rattle.meson_sources.specs.SourceEdits.{behind_value, checked_extra, elements_there, extra_added, extra_key, extra_marks, extra_removed};

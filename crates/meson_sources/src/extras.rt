@@ -3,7 +3,7 @@
 ghost use Rattle.std.specs.Prelude.{◌≡◌, ◌≢◌, Err, IfErr, IfOk, Ok};
 ghost use Rattle.meson_syntax.specs.View.{list_view};
 ghost use Rattle.meson_calls.specs.GoodLists.{GoodListing};
-ghost use Rattle.meson_calls.specs.Named.{AreVariables, project_of};
+ghost use Rattle.meson_calls.specs.CodeVariables.{AreVariables, project_of};
 ghost use Rattle.meson_calls.specs.Picking.{Source, call_with};
 ghost use Rattle.meson_calls.specs.Project.{placed};
 ghost use Rattle.meson_sources.specs.Extras.{extra_of_call};

@@ -6,7 +6,7 @@ ghost use Rattle.meson_splice.specs.Patch.{then_ok};
 ghost use Rattle.meson_steps.specs.ListSteps.{bare};
 ghost use Rattle.meson_steps.specs.Meanings.{AreMeant};
 ghost use Rattle.meson_steps.specs.Names.{distinct};
-ghost use Rattle.meson_sources.specs.Spots.{after_each, all_there, before_all, is_some_there, spot_if_there, spot_view, spots_at, spots_of_names};
+ghost use Rattle.meson_sources.specs.CodeSpots.{after_each, all_there, before_all, is_some_there, spot_if_there, spot_view, spots_at, spots_of_names};
 ghost use Rattle.meson_sources.specs.SourceEdits.{distinct_spots, moved_up, path_after, removal_steps, same_spot, spot_after};
 
 use meson_calls::marks::Marks;

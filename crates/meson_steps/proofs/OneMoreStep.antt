@@ -7,7 +7,7 @@ use Rattle.meson_splice.specs.declared.splice.Splice.{Splice}
 use Rattle.meson_splice.specs.Files.{bytes_at}
 use Rattle.meson_splice.specs.Patch.{patched_all}
 use Rattle.meson_syntax.specs.Tree.{Plain}
-use Rattle.meson_steps.specs.Results.{saturated}
+use Rattle.meson_steps.specs.ResultLimits.{saturated}
 use Rattle.meson_steps.specs.Steps.{Step, Laid, StepsMake, none, step, all_stepped, stepped, read_again}
 
 -- ---- trees

@@ -8,7 +8,7 @@ use Rattle.meson_syntax.specs.Reads.{IsSpannedWithin}
 use Rattle.meson_syntax.specs.View.{view}
 use Rattle.meson_calls.specs.Loading.{views}
 use Rattle.meson_steps.specs.OneStanding.{OneStanding}
-use Rattle.meson_steps.specs.Results.{saturated}
+use Rattle.meson_steps.specs.ResultLimits.{saturated}
 use Rattle.meson_steps.specs.Working.{AreKnown, limits_of}
 use Rattle.meson_steps.proofs.OneMaking.{one-making, one_spanned}
 

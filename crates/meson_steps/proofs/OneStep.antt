@@ -37,7 +37,7 @@ use Rattle.meson_steps.specs.declared.step.ListStep.{ListStep}
 use Rattle.meson_steps.specs.Journal.{is_saved}
 use Rattle.meson_steps.specs.ListSteps.{AreDoable, MayStandBetween, bare, wide_depth}
 use Rattle.meson_calls.specs.Loading.{HasFileName, Loaded, max_files, name_of_file}
-use Rattle.meson_steps.specs.Results.{plain_trees, saturated}
+use Rattle.meson_steps.specs.ResultLimits.{plain_trees, saturated}
 use Rattle.meson_steps.specs.Steps.{Step, StepsMake, Laid, bytes_again, effective, list_of, read_again}
 use Rattle.meson_steps.specs.Working.{AreKnown, HasReached, IsChanged, MayChange, MayChangeList, Standing, limits_of, placed_edit, stood}
 use Rattle.meson_steps.proofs.PatchedFiles.{OfFile, all_patched, distinct_with, effective_of_file, effective_patches, effective_texts, of_file}

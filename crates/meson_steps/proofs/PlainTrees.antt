@@ -18,7 +18,7 @@ use Rattle.meson_steps.specs.ListSteps.{MayStandBetween}
 use Rattle.meson_calls.specs.declared.call.CallRef.{CallRef}
 use Rattle.meson_calls.specs.CallPlaces.{ListThere}
 use Rattle.meson_calls.specs.Loading.{Loaded, AreParsed, named_trees, project, views}
-use Rattle.meson_steps.specs.Results.{AreShallow, plain_trees}
+use Rattle.meson_steps.specs.ResultLimits.{AreShallow, plain_trees}
 use Rattle.meson_calls.specs.Project.{BuildFile, nth_file}
 
 -- ---- trees

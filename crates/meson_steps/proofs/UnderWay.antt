@@ -13,7 +13,7 @@ use Rattle.meson_steps.specs.declared.work.Work.{Work}
 use Rattle.meson_steps.specs.Done.{IsDone, MayNotBeDone, Meaning, deep, large}
 use Rattle.meson_steps.specs.ListSteps.{AreBare, AreDoable, bare}
 use Rattle.meson_steps.specs.Plans.{Doable}
-use Rattle.meson_steps.specs.Results.{AreShallow, plain_trees}
+use Rattle.meson_steps.specs.ResultLimits.{AreShallow, plain_trees}
 use Rattle.meson_steps.specs.Steps.{Step, StepsMake, none}
 use Rattle.meson_steps.specs.Working.{AreKnown, AreShallowSoFar, HasDeep, HasLarge, IsFresh, IsNext, IsUnderWay, Reached, Standing, AreUnderWay, HasReached, so_far}
 use Rattle.meson_steps.proofs.WorkKnown.{known_first}

@@ -17,7 +17,7 @@ use Rattle.meson_calls.specs.Loading.{AreParsed, views}
 use Rattle.meson_calls.proofs.Loads.{nth_bytes}
 use Rattle.meson_steps.specs.declared.journal.Saved.{Saved}
 use Rattle.meson_steps.specs.Journal.{is_saved}
-use Rattle.meson_steps.specs.Results.{AreShallow, AreSmall}
+use Rattle.meson_steps.specs.ResultLimits.{AreShallow, AreSmall}
 use Rattle.meson_steps.specs.Working.{AreKnown, AreShallowSoFar, HasDeep, HasLarge}
 use Rattle.meson_steps.proofs.OtherBytes.{as_many_plain, plain_at}
 

@@ -4,7 +4,7 @@ use Rattle.meson_calls.specs.declared.refusal.Refusal.{Refusal}
 use Rattle.meson_calls.specs.declared.refusal.Refusal.TheVariants.{TooDeep, TooLarge}
 use Rattle.meson_calls.specs.Loading.{Loaded, IsProject}
 use Rattle.meson_steps.specs.declared.work.Work.{Work}
-use Rattle.meson_steps.specs.Results.{AreShallow, AreSmall, plain_trees}
+use Rattle.meson_steps.specs.ResultLimits.{AreShallow, AreSmall, plain_trees}
 use Rattle.meson_steps.specs.Steps.{Step}
 use Rattle.meson_steps.specs.Working.{IsMade, so_far}
 

@@ -19,7 +19,7 @@ use Rattle.meson_calls.specs.declared.call.CallRef.{CallRef}
 use Rattle.meson_calls.specs.declared.refusal.Refusal.{Refusal}
 use Rattle.meson_calls.specs.Loading.{Loaded}
 use Rattle.meson_steps.specs.ListSteps.{bare, wide_depth}
-use Rattle.meson_steps.specs.Results.{saturated}
+use Rattle.meson_steps.specs.ResultLimits.{saturated}
 use Rattle.meson_steps.specs.Steps.{Step}
 use Rattle.meson_steps.specs.Working.{HasReached, IsChanged, MayReadList, Standing, list_again, standing}
 

@@ -1,4 +1,4 @@
-pub mod Results
+pub mod ResultLimits
 pub mod Steps
 pub mod Keeping
 pub mod ListSteps

@@ -4,7 +4,7 @@ use Rattle.meson_calls.specs.declared.refusal.Refusal.{Refusal}
 use Rattle.meson_steps.specs.declared.step.ListStep.{ListStep}
 use Rattle.meson_steps.specs.ListSteps.{AreBare, AreDoable}
 use Rattle.meson_calls.specs.Loading.{Loaded}
-use Rattle.meson_steps.specs.Results.{plain_trees}
+use Rattle.meson_steps.specs.ResultLimits.{plain_trees}
 use Rattle.meson_steps.specs.Steps.{Step}
 
 -- Steps of which the code's are the bare ones, and that may be done one after another.

@@ -30,7 +30,7 @@ use Rattle.meson_steps.specs.ListSteps.{AreBare, AreDoable, bare, wide_depth}
 use Rattle.meson_calls.specs.declared.call.CallRef.{CallRef}
 use Rattle.meson_calls.specs.Loading.{Loaded, HasFileName, IsProject, max_files}
 use Rattle.meson_steps.specs.Journal.{IsSavedToo, PutsBack, is_saved}
-use Rattle.meson_steps.specs.Results.{plain_trees, saturated}
+use Rattle.meson_steps.specs.ResultLimits.{plain_trees, saturated}
 use Rattle.meson_steps.specs.Steps.{Step, StepsMake, all_stepped, bytes_again}
 
 -- ---- one step

@@ -26,7 +26,7 @@ use Rattle.meson_calls.specs.Roles.{assigned_values, one_of, or_else, target_fun
 use Rattle.meson_steps.proofs.WentWell.{then_was}
 use Rattle.meson_syntax.proofs.parsing.Steps.{some-injective}
 use Rattle.meson_steps.specs.Names.{checked_names, distinct}
-use Rattle.meson_steps.specs.Results.{plain_trees}
+use Rattle.meson_steps.specs.ResultLimits.{plain_trees}
 use Rattle.meson_steps.specs.Steps.{Step, all_stepped, changed_at}
 use Rattle.meson_steps.specs.WrittenTexts.{string_of}
 use Rattle.meson_targets.specs.Effects.{AddedTargetsAreNamed, call_with_texts}

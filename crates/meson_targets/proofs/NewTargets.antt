@@ -13,7 +13,7 @@ use Rattle.meson_syntax.specs.declared.tree.Parsed.{Parsed}
 use Rattle.meson_calls.specs.declared.call.CallRef.{CallRef}
 use Rattle.meson_calls.specs.declared.refusal.Refusal.TheVariants.{NameTaken, NoFile}
 use Rattle.meson_calls.specs.Calls.{Call}
-use Rattle.meson_calls.specs.Directories.{build_file, file_in}
+use Rattle.meson_calls.specs.Folders.{build_file, file_in}
 use Rattle.meson_calls.specs.Loading.{named_trees, views}
 use Rattle.meson_calls.specs.Project.{BuildFile, Placed}
 use Rattle.meson_calls.specs.Roles.{places}

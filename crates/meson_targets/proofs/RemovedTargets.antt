@@ -25,7 +25,7 @@ use Rattle.meson_calls.specs.Project.{BuildFile, Placed, Project, nth_file, plac
 use Rattle.meson_calls.specs.Roles.{or_else, role_calls, with_name, with_role}
 use Rattle.meson_calls.proofs.CallsFound.{role_found}
 use Rattle.meson_calls.proofs.CallsReached.{every_chosen}
-use Rattle.meson_steps.specs.Results.{plain_trees}
+use Rattle.meson_steps.specs.ResultLimits.{plain_trees}
 use Rattle.meson_steps.specs.Steps.{all_stepped}
 use Rattle.meson_steps.proofs.PlainTrees.{tree_there}
 use Rattle.meson_steps.proofs.WentWell.{then_was}

@@ -14,7 +14,7 @@ use Rattle.meson_calls.specs.Loading.{IsProject, Loaded, named_trees, project}
 use Rattle.meson_calls.specs.Parts.{Part, parts, statement_parts}
 use Rattle.meson_calls.specs.Project.{Project, Placed, place, placed}
 use Rattle.meson_steps.specs.Names.{distinct}
-use Rattle.meson_steps.specs.Results.{plain_trees}
+use Rattle.meson_steps.specs.ResultLimits.{plain_trees}
 use Rattle.meson_steps.specs.Steps.{Step, all_stepped}
 use Rattle.meson_steps.specs.WrittenTexts.{string_of}
 use Rattle.meson_targets.specs.TargetEdits.{StatementPlace, number_in, statement_of, target_added, target_removed, targets_named}

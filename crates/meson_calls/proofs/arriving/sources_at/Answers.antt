@@ -6,7 +6,7 @@ use Rattle.meson_syntax.specs.View.{expr_view, list_view, view}
 use Rattle.meson_calls.specs.declared.refusal.Refusal.TheVariants.{OutOfMemory}
 use Rattle.meson_calls.specs.Calls.{call_of}
 use Rattle.meson_calls.specs.GoodLists.{GoodListing}
-use Rattle.meson_calls.specs.Named.{project_of}
+use Rattle.meson_calls.specs.CodeVariables.{project_of}
 use Rattle.meson_calls.specs.Picking.{call_with}
 use Rattle.meson_calls.specs.Project.{placed}
 use Rattle.meson_calls.specs.Sources.{sources_of_call}

@@ -1,5 +1,5 @@
 use Rattle.std.proofs.Common.{◌++◌, ◌∙◌, sym, ap}
-use Rattle.meson_calls.specs.Directories.{build_file}
+use Rattle.meson_calls.specs.Folders.{build_file}
 use Rattle.meson_calls.proofs.Entered.{folder_before, ends_so}
 use Rattle.meson_calls.proofs.entering.folder_of.Goals as goal
 

@@ -1,7 +1,7 @@
 use Rattle.std.proofs.Common.{◌≡◌, ◌<◌, ◌≤◌, length, ◌∙◌, sym, ap, arith}
 use Rattle.meson_calls.specs.Calls.{value_with_name}
 use Rattle.meson_calls.specs.Expansion.{opaque}
-use Rattle.meson_calls.specs.Named.{project_of}
+use Rattle.meson_calls.specs.CodeVariables.{project_of}
 use Rattle.meson_calls.specs.Sources.{kwargs_key}
 use Rattle.meson_calls.specs.Sourced.{kept_args}
 use Rattle.meson_calls.specs.Tallies.{gathered, with_mark}

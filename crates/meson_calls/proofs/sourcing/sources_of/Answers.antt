@@ -2,7 +2,7 @@ use Rattle.std.proofs.Common.{◌≤◌, length, ◌∙◌, sym, ap, arith}
 use Rattle.std.specs.Prelude.{Ok}
 use Rattle.meson_calls.specs.Calls.{value_with_name}
 use Rattle.meson_calls.specs.Expansion.{max_followed}
-use Rattle.meson_calls.specs.Named.{project_of}
+use Rattle.meson_calls.specs.CodeVariables.{project_of}
 use Rattle.meson_calls.specs.Sources.{sources_key, or_option, or_call}
 use Rattle.meson_calls.specs.Sourced.{kept_args, all_gathered}
 use Rattle.meson_calls.specs.Tallies.{gathered}

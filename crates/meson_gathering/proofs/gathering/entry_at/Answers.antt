@@ -3,7 +3,7 @@ use Rattle.meson_splice.specs.declared.file_set.File.{File}
 use Rattle.meson_splice.specs.Files.{bytes_at}
 use Rattle.meson_syntax.specs.Reads.{IsSpanned, MayNotRead}
 use Rattle.meson_syntax.specs.View.{view}
-use Rattle.meson_calls.specs.Directories.{IsFileName}
+use Rattle.meson_calls.specs.Folders.{IsFileName}
 use Rattle.meson_calls.specs.Subdirs.{Enters}
 use Rattle.meson_gathering.specs.Gathered.{StopsLooking}
 use Rattle.meson_gathering.proofs.EnteredNames.{names_named}

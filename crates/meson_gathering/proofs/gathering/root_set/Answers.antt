@@ -1,5 +1,5 @@
 use Rattle.std.proofs.Common.{◌++◌, ◌∷◌, [], ◌∙◌, sym, ap, option_map}
-use Rattle.meson_calls.specs.Directories.{build_file}
+use Rattle.meson_calls.specs.Folders.{build_file}
 use Rattle.meson_gathering.specs.Gathering.{Finds, file_of, no_root, unread_root}
 use Rattle.meson_gathering.proofs.Stopping.{unread_stops}
 use Rattle.meson_gathering.proofs.gathering.root_set.Goals as goal

@@ -7,7 +7,7 @@ use Rattle.meson_calls.specs.declared.refusal.Refusal.TheVariants.{OutOfMemory}
 use Rattle.meson_calls.specs.Calls.{value_with_name}
 use Rattle.meson_calls.specs.Loading.{IsProject, named_trees, project, views}
 use Rattle.meson_steps.specs.Done.{IsDone, MayNotBeDone, unmeant}
-use Rattle.meson_steps.specs.Results.{plain_trees}
+use Rattle.meson_steps.specs.ResultLimits.{plain_trees}
 use Rattle.meson_steps.specs.Working.{so_far}
 use Rattle.meson_calls.specs.Sources.{not_hidden}
 use Rattle.meson_calls.specs.Sourced.{kept_args}

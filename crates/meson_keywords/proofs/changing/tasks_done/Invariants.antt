@@ -1,7 +1,7 @@
 use Rattle.std.proofs.Common.{List}
 use Rattle.std.specs.Vec.Iter.{into_iter_items}
 use Rattle.meson_steps.specs.Journal.{Trees}
-use Rattle.meson_steps.specs.Results.{plain_trees}
+use Rattle.meson_steps.specs.ResultLimits.{plain_trees}
 use Rattle.meson_steps.specs.Working.{Restores, so_far}
 use Rattle.meson_keywords.specs.Tasking.{TasksAre}
 use Rattle.meson_keywords.specs.Tasks.{Task}

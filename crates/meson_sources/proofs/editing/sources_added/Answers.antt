@@ -6,7 +6,7 @@ use Rattle.meson_calls.specs.declared.refusal.Refusal.TheVariants.{DuplicateKeyw
 use Rattle.meson_calls.specs.Calls.{value_with_name}
 use Rattle.meson_calls.specs.Expansion.{max_followed}
 use Rattle.meson_steps.specs.ListSteps.{bare}
-use Rattle.meson_calls.specs.Named.{project_of}
+use Rattle.meson_calls.specs.CodeVariables.{project_of}
 use Rattle.meson_sources.specs.Naming.{new_among}
 use Rattle.meson_calls.specs.Sources.{or_call, or_option}
 use Rattle.meson_calls.specs.Sourced.{kept_args, all_gathered}

@@ -5,7 +5,7 @@ use Rattle.std.proofs.lemmas.Result.{err_from_is_err_and}
 use Rattle.meson_calls.specs.declared.refusal.Refusal.TheVariants.{DuplicateKeyword}
 use Rattle.meson_calls.specs.Calls.{value_with_name}
 use Rattle.meson_calls.specs.Expansion.{max_followed}
-use Rattle.meson_calls.specs.Named.{project_of}
+use Rattle.meson_calls.specs.CodeVariables.{project_of}
 use Rattle.meson_calls.specs.Sourced.{kept_args, all_gathered}
 use Rattle.meson_steps.specs.Names.{checked_names}
 use Rattle.meson_calls.specs.Tallies.{gathered}

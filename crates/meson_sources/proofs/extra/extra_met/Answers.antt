@@ -2,7 +2,7 @@ use Rattle.std.proofs.Common.{◌∙◌, ap}
 use Rattle.meson_calls.specs.Project.{place}
 use Rattle.meson_calls.specs.Calls.{value_with_name}
 use Rattle.meson_calls.specs.Expansion.{fixed}
-use Rattle.meson_calls.specs.Named.{project_of}
+use Rattle.meson_calls.specs.CodeVariables.{project_of}
 use Rattle.meson_calls.specs.Sourced.{kept_args, arguments_by}
 use Rattle.meson_calls.specs.Tallies.{gathered, expanded}
 use Rattle.meson_sources.specs.SourceEdits.{extra_key}

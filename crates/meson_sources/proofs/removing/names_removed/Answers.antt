@@ -4,7 +4,7 @@ use Rattle.std.specs.Prelude.{Ok}
 use Rattle.meson_splice.specs.Patch.{then_ok}
 use Rattle.meson_steps.specs.ListSteps.{bare}
 use Rattle.meson_sources.specs.SourceEdits.{removal_steps, distinct_spots}
-use Rattle.meson_sources.specs.Spots.{spot_view, spots_of_names}
+use Rattle.meson_sources.specs.CodeSpots.{spot_view, spots_of_names}
 use Rattle.meson_calls.specs.Tallies.{gathered}
 use Rattle.meson_sources.proofs.removing.names_removed.Goals as goal
 

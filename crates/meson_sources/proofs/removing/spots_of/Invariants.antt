@@ -1,5 +1,5 @@
 use Rattle.std.proofs.Common.{◌≡◌, drop, length, map}
-use Rattle.meson_sources.specs.Spots.{joined_spots, spot_view, spots_of_names}
+use Rattle.meson_sources.specs.CodeSpots.{joined_spots, spot_view, spots_of_names}
 use Rattle.meson_sources.proofs.removing.spots_of.Given as goal
 
 abbrev pub invariant-loop-i : goal.invariant-loop-i

@@ -10,7 +10,7 @@ use Rattle.meson_calls.specs.declared.refusal.Refusal.TheVariants.{OutOfMemory}
 use Rattle.meson_sources.specs.declared.targeting.Change.TheVariants as change
 use Rattle.meson_calls.specs.GoodLists.{GoodListing}
 use Rattle.meson_calls.specs.Loading.{named_trees, views}
-use Rattle.meson_calls.specs.Named.{project_of}
+use Rattle.meson_calls.specs.CodeVariables.{project_of}
 use Rattle.meson_calls.specs.Finding.{the_call}
 use Rattle.meson_calls.specs.OnePlace.{the_place}
 use Rattle.meson_calls.specs.Strings.{NotesGood}

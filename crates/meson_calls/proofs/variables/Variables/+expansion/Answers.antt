@@ -11,7 +11,7 @@ use Rattle.meson_calls.specs.Roles.{one_of}
 use Rattle.meson_calls.specs.Strings.{AreGood}
 use Rattle.meson_calls.specs.GoodLists.{GoodArgs}
 use Rattle.meson_calls.specs.Expansion.{Stand, fixed, met, opaque, empty, within, element, operand_at, is_files, are_plus, is_list_operand}
-use Rattle.meson_calls.specs.Named.{project_of}
+use Rattle.meson_calls.specs.CodeVariables.{project_of}
 use Rattle.meson_calls.specs.Noted.{rank, operands_rank, listing_rank, argument_rank, arguments_rank}
 use Rattle.meson_calls.specs.Values.{value_view}
 use Rattle.meson_calls.specs.Tallies.{Gathered, all_marked, gathered, expanded, with_mark, stand_at, follow_of, expand_left, listing_left, argument_left, sum_left, row_left}

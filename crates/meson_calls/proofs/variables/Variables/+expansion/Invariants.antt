@@ -2,7 +2,7 @@ use Rattle.std.proofs.Common.{◌≡◌, suc, ◌+◌, drop}
 use Rattle.std.specs.Prelude.{None, max}
 use Rattle.meson_syntax.specs.Tree.{arguments_of, operands_of}
 use Rattle.meson_syntax.specs.View.{expr_view, list_view, arg_view, args_view, operands_view}
-use Rattle.meson_calls.specs.Named.{project_of}
+use Rattle.meson_calls.specs.CodeVariables.{project_of}
 use Rattle.meson_calls.specs.Noted.{rank, operands_rank, listing_rank, argument_rank, arguments_rank}
 use Rattle.meson_calls.specs.Tallies.{gathered, expanded, stand_at, each_left, operands_left, sum_left}
 use Rattle.meson_calls.proofs.Measures.{measure, values_rank}

@@ -3,7 +3,7 @@ use Rattle.std.specs.Prelude.{◌&&◌, option_map}
 use Rattle.meson_lex.specs.declared.kinds.Span.{Span}
 use Rattle.meson_syntax.specs.View.{expr_view}
 use Rattle.meson_calls.specs.Expansion.{is_operand_by, is_value_by, is_single_by, is_list_variable}
-use Rattle.meson_calls.specs.Named.{project_of}
+use Rattle.meson_calls.specs.CodeVariables.{project_of}
 use Rattle.meson_calls.specs.Project.{Project}
 use Rattle.meson_calls.specs.Values.{value_view}
 use Rattle.meson_calls.specs.Variables.{single}

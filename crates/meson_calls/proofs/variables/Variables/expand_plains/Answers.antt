@@ -4,7 +4,7 @@ use Rattle.meson_syntax.specs.View.{arg_view}
 use Rattle.meson_calls.specs.Project.{place}
 use Rattle.meson_calls.specs.Calls.{value_without_name}
 use Rattle.meson_calls.specs.Expansion.{in_list}
-use Rattle.meson_calls.specs.Named.{project_of}
+use Rattle.meson_calls.specs.CodeVariables.{project_of}
 use Rattle.meson_calls.specs.Sourced.{kept_arg, expansion_step}
 use Rattle.meson_calls.specs.Strings.{AreGood}
 use Rattle.meson_calls.specs.Tallies.{gathered, expanded}

@@ -2,7 +2,7 @@ use Rattle.std.proofs.Common.{◌≡◌, drop}
 use Rattle.meson_calls.specs.Project.{place}
 use Rattle.meson_calls.specs.Calls.{value_without_name}
 use Rattle.meson_calls.specs.Expansion.{in_list}
-use Rattle.meson_calls.specs.Named.{project_of}
+use Rattle.meson_calls.specs.CodeVariables.{project_of}
 use Rattle.meson_calls.specs.Sourced.{kept_args, arguments_by}
 use Rattle.meson_calls.specs.Tallies.{gathered, expanded}
 use Rattle.meson_calls.proofs.variables.Variables.expand_plains.Given as goal

@@ -2,7 +2,7 @@ use Rattle.std.proofs.Common.{◌∙◌, sym, ap}
 use Rattle.std.specs.Prelude.{◌&&◌}
 use Rattle.meson_syntax.specs.View.{expr_view}
 use Rattle.meson_calls.specs.Expansion.{is_list_operand}
-use Rattle.meson_calls.specs.Named.{project_of}
+use Rattle.meson_calls.specs.CodeVariables.{project_of}
 use Rattle.meson_calls.proofs.variables.Variables.is_sum.Goals as goal
 
 pub returns-then-are_plus : goal.returns-then-are_plus

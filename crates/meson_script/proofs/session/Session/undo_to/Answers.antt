@@ -4,7 +4,7 @@ use Rattle.serde_json.specs.Data.{array}
 use Rattle.serde_json.specs.View.{items_view}
 use Rattle.serde_json.proofs.Views.{view-Array}
 use Rattle.meson_splice.specs.declared.fault.SpliceFault.TheVariants.{OutOfMemory}
-use Rattle.meson_steps.specs.Results.{saturated}
+use Rattle.meson_steps.specs.ResultLimits.{saturated}
 use Rattle.meson_script.specs.Undoing.{StopsBack}
 use Rattle.meson_script.specs.declared.fault.UndoFault.TheVariants.{Splice}
 use Rattle.meson_script.proofs.RunFacts.{names}
