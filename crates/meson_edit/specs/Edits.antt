@@ -55,11 +55,11 @@ abbrev pub first_element : Argument Nowhere → List (Argument Nowhere) → Opti
 first_element a [] = Some (a ∷ [])
 first_element a (x ∷ xs) = None
 
-abbrev pub inserted : ℕ → Argument Nowhere → List (Argument Nowhere) → Argument Nowhere → List (Argument Nowhere)
-inserted n a list it = take (suc n) list ++ a ∷ drop (suc n) list
+abbrev pub element_added : ℕ → Argument Nowhere → List (Argument Nowhere) → Argument Nowhere → List (Argument Nowhere)
+element_added n a list it = take (suc n) list ++ a ∷ drop (suc n) list
 
-abbrev pub removed : ℕ → List (Argument Nowhere) → Argument Nowhere → List (Argument Nowhere)
-removed n list it = take n list ++ drop (suc n) list
+abbrev pub element_removed : ℕ → List (Argument Nowhere) → Argument Nowhere → List (Argument Nowhere)
+element_removed n list it = take n list ++ drop (suc n) list
 
 abbrev pub exchanged : ℕ → (Expression Nowhere → Expression Nowhere) → List (Argument Nowhere) → Argument Nowhere → Option (List (Argument Nowhere))
 exchanged n change list it = option_map (λ v. take n list ++ with_value (change v) it ∷ drop (suc n) list) (value_of it)
@@ -67,8 +67,8 @@ exchanged n change list it = option_map (λ v. take n list ++ with_value (change
 -- the elements of the list after an edit of it
 abbrev pub edited_elements : Edit → List (Argument Nowhere) → Option (List (Argument Nowhere))
 edited_elements (First path new) list = first_element new.node list
-edited_elements (After path n new) list = option_map (inserted n new.node list) (nth list n)
-edited_elements (Remove path n) list = option_map (removed n list) (nth list n)
+edited_elements (After path n new) list = option_map (element_added n new.node list) (nth list n)
+edited_elements (Remove path n) list = option_map (element_removed n list) (nth list n)
 edited_elements (Replace path n new) list = option_and_then (exchanged n (λ v. new.node) list) (nth list n)
 edited_elements (Wrap path n) list = option_and_then (exchanged n array_of list) (nth list n)
 edited_elements (RemoveStatement path n) list = None

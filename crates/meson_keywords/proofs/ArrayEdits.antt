@@ -5,7 +5,7 @@ use Rattle.meson_syntax.specs.Tree.{Nowhere, Plain, Expression, array, Listing, 
 use Rattle.meson_syntax.specs.Grammar.{LevelArgument, LevelExpression, LevelFile, argument_depth, argument_words, arguments_depth, expression_words, expression_depth, listing_depth}
 use Rattle.meson_syntax.specs.Paths.{nth, value_of}
 use Rattle.meson_syntax.proofs.parsing.Complete.{list-of-arguments}
-use Rattle.meson_edit.specs.Edits.{Written, Edit, First, After, Remove, Replace, Wrap, elements, with_elements, with_value, inserted, removed, exchanged, edited}
+use Rattle.meson_edit.specs.Edits.{Written, Edit, First, After, Remove, Replace, Wrap, elements, with_elements, with_value, element_added, element_removed, exchanged, edited}
 use Rattle.meson_edit.specs.Places.{IsWritten, Writes}
 use Rattle.meson_edit.specs.Sequences.{MayFollow}
 use Rattle.meson_edit.proofs.sequences.Levelled.{firsts-keep-levels, insertions-keep-levels, removals-keep-levels, replacements-keep-levels}
@@ -82,10 +82,10 @@ module _ (k : Container) (c : CallRef) (trees : List Plain) (all : All MayStandB
   here m it is = ap (λ x. nth (elements x) m) p.list ∙ is
 
   -- an element goes
-  pub gone_step : (m : ℕ) (it : Argument Nowhere) → nth (elements l) m ≡ Some it → CallStep c trees all s (Remove path m) (arrayed (removed m (elements l) it))
+  pub gone_step : (m : ℕ) (it : Argument Nowhere) → nth (elements l) m ≡ Some it → CallStep c trees all s (Remove path m) (arrayed (element_removed m (elements l) it))
   gone_step m it is =
-      let ys = removed m (elements l) it in
-      let made = edited_there s.tree path p.place p.is_place (Remove path m) ys (ap (λ x. option_map (removed m (elements x)) (nth (elements x) m)) p.list ∙ ap (option_map (removed m (elements l))) is) in
+      let ys = element_removed m (elements l) it in
+      let made = edited_there s.tree path p.place p.is_place (Remove path m) ys (ap (λ x. option_map (element_removed m (elements x)) (nth (elements x) m)) p.list ∙ ap (option_map (element_removed m (elements l))) is) in
       array_step (Remove path m) ys tt made (removals-keep-levels path m s.tree (p.place.back (with_elements p.place.list ys)) (tree_level c trees all s) made)
       (omega (arith, depth_append (take m (elements l)) (drop (suc m) (elements l)), depth_take m (elements l), depth_drop (suc m) (elements l)))
 
@@ -128,7 +128,7 @@ module _ (k : Container) (c : CallRef) (trees : List Plain) (all : All MayStandB
         let last = last_there c trees all s (elements l) m many in
         let all_of : take (suc m) (elements l) ≡ elements l = take_all (suc m) (elements l) (omega (arith, many)) in
         let whole = ap₂ (λ front back. front ++ new.node ∷ back) all_of last.2 in
-        let is = ap (λ x. option_map (inserted m new.node (elements x)) (nth (elements x) m)) p.list ∙ ap (option_map (inserted m new.node (elements l))) last.1 ∙ ap Some whole in
+        let is = ap (λ x. option_map (element_added m new.node (elements x)) (nth (elements x) m)) p.list ∙ ap (option_map (element_added m new.node (elements l))) last.1 ∙ ap Some whole in
         let made = edited_there s.tree path p.place p.is_place (After path m new) more is in
         let nothing : [] ≡ drop (suc m) (elements p.place.list) = sym (ap (λ x. drop (suc m) (elements x)) p.list ∙ last.2) in
         let may = subst (λ b. MayFollow b last.0 (drop (suc m) (elements p.place.list)) new.node) (sym p.bracket) (subst (λ ys. MayFollow k.bracket last.0 ys new.node) nothing (follows last.0)) in

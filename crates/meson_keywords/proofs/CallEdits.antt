@@ -9,7 +9,7 @@ use Rattle.meson_syntax.specs.Grammar.{LevelArgument, LevelExpression, LevelFile
 use Rattle.meson_syntax.specs.Paths.{list_at, nth, value_of}
 use Rattle.meson_syntax.proofs.parsing.Complete.{list-of-arguments}
 use Rattle.meson_syntax.proofs.parsing.Steps.{some-injective}
-use Rattle.meson_edit.specs.Edits.{Written, Edit, First, After, Remove, Replace, Wrap, elements, with_elements, with_value, array_of, inserted, removed, exchanged, edited}
+use Rattle.meson_edit.specs.Edits.{Written, Edit, First, After, Remove, Replace, Wrap, elements, with_elements, with_value, array_of, element_added, element_removed, exchanged, edited}
 use Rattle.meson_edit.specs.Places.{IsWritten, Writes}
 use Rattle.meson_edit.specs.Sequences.{MayFollow}
 use Rattle.meson_edit.proofs.sequences.Levelled.{firsts-keep-levels, insertions-keep-levels, removals-keep-levels, replacements-keep-levels, wraps-keep-levels}
@@ -111,10 +111,10 @@ module _ (c : CallRef) (trees : List Plain) (all : All MayStandBetween trees) (s
       }
 
   -- an element goes
-  pub remove_step : (n : ℕ) (it : Argument Nowhere) → nth xs n ≡ Some it → CallStep (Remove path n) (removed n xs it)
+  pub remove_step : (n : ℕ) (it : Argument Nowhere) → nth xs n ≡ Some it → CallStep (Remove path n) (element_removed n xs it)
   remove_step n it is =
-      let ys = removed n xs it in
-      let made = edited_there s.tree path s.place s.is_place (Remove path n) ys (ap (option_map (removed n xs)) is) in
+      let ys = element_removed n xs it in
+      let made = edited_there s.tree path s.place s.is_place (Remove path n) ys (ap (option_map (element_removed n xs)) is) in
       call_step (Remove path n) ys tt made (removals-keep-levels path n s.tree (s.place.back (with_elements s.place.list ys)) tree_level made) (depth_gone n (suc n) xs)
 
   -- the value of an element becomes another one
@@ -171,8 +171,8 @@ module _ (c : CallRef) (trees : List Plain) (all : All MayStandBetween trees) (s
     after_step : (m : ℕ) (many : length xs ≡ suc m) → CallStep (After path m it) more
     after_step m many =
         let last = last_there xs m many in
-        let ys = inserted m it.node xs last.0 in
-        let made = edited_there s.tree path s.place s.is_place (After path m it) ys (ap (option_map (inserted m it.node xs)) last.1) in
+        let ys = element_added m it.node xs last.0 in
+        let made = edited_there s.tree path s.place s.is_place (After path m it) ys (ap (option_map (element_added m it.node xs)) last.1) in
         let follows : MayFollow bracket.Round last.0 (drop (suc m) xs) it.node = (last.2, level) in
         let step = call_step (After path m it) ys writes made
         (insertions-keep-levels path m it s.tree (s.place.back (with_elements s.place.list ys)) s.place s.is_place last.0 last.1 (subst (λ b. MayFollow b last.0 (drop (suc m) xs) it.node) (sym s.is_round) follows) tree_level made)

@@ -7,7 +7,7 @@ use Rattle.std.proofs.Math.Seq.{take-append_seam}
 use Rattle.std.proofs.lemmas.Slice.Eq.{bytes_eq-Decides}
 use Rattle.meson_syntax.specs.Tree.{Name, bare_name, Nowhere, Expression, Argument, plain, named, pair}
 use Rattle.meson_syntax.specs.Paths.{nth}
-use Rattle.meson_edit.specs.Edits.{removed}
+use Rattle.meson_edit.specs.Edits.{element_removed}
 use Rattle.meson_calls.specs.Calls.{Numbered, value_with_name}
 use Rattle.meson_keywords.specs.Effects.{is_other, others, values_of}
 use Rattle.meson_keywords.specs.KeywordEdits.{keyword_in}
@@ -149,7 +149,7 @@ module _ (key : List ℕ) where
     put_is : (w : Expression Nowhere) → exchanged_at n it xs w ≡ put w
     put_is w = ap₂ (λ front back. front ++ named o.place o.name w ∷ back) front_is back_is
 
-    gone_is : removed n xs it ≡ o.front ++ o.back
+    gone_is : element_removed n xs it ≡ o.front ++ o.back
     gone_is = ap₂ (λ front back. front ++ back) front_is back_is
 
     values_put : (w : Expression Nowhere) → values_of key (put w) ≡ w ∷ []
@@ -175,10 +175,10 @@ module _ (key : List ℕ) where
     pub put_others : (w : Expression Nowhere) → others key (exchanged_at n it xs w) ≡ others key xs
     put_others w = ap (others key) (put_is w) ∙ others_put w ∙ sym others_are
 
-    pub gone_value : values_of key (removed n xs it) ≡ []
+    pub gone_value : values_of key (element_removed n xs it) ≡ []
     gone_value = ap (values_of key) gone_is ∙ filter_map-append (value_with_name key) o.front o.back ∙ ap₂ (λ l m. l ++ m) o.before o.behind
 
-    pub gone_others : others key (removed n xs it) ≡ others key xs
+    pub gone_others : others key (element_removed n xs it) ≡ others key xs
     gone_others = ap (others key) gone_is ∙ filter-append (is_other key) o.front o.back ∙ sym others_are
 
   -- ---- it comes behind all others

@@ -5,7 +5,7 @@ use Rattle.std.specs.List.{filter}
 use Rattle.meson_splice.specs.Patch.{then_ok}
 use Rattle.meson_syntax.specs.Tree.{Nowhere, Plain, Expression, array, dictionary, Listing, Argument, plain}
 use Rattle.meson_syntax.specs.Paths.{nth, value_of}
-use Rattle.meson_edit.specs.Edits.{Remove, elements, removed, with_elements, with_value}
+use Rattle.meson_edit.specs.Edits.{Remove, elements, element_removed, with_elements, with_value}
 use Rattle.meson_calls.specs.declared.call.CallRef.{CallRef}
 use Rattle.meson_keywords.specs.declared.keys.ElementKind.{ElementKind}
 use Rattle.meson_keywords.specs.declared.keys.ElementKind.TheVariants as element
@@ -67,7 +67,7 @@ removes_hold k c [] gone trees all s n a l there value left = holds_same k c tre
 removes_hold k c (m ∷ ns) gone trees all s n a l there value left =
     let it = nth_within (elements l) (m - gone) left.0 in
     let st = gone_step k c trees all s n a l there value (m - gone) it.0 it.1 in
-    let ys = removed (m - gone) (elements l) it.0 in
+    let ys = element_removed (m - gone) (elements l) it.0 in
     let now = with_elements l ys in
     let b = with_value (k.make now) a in
     let after = slice_set trees c.file st.now in

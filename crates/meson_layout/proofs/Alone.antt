@@ -11,7 +11,7 @@ use Rattle.meson_lex.specs.Significant.{Closes, role}
 use Rattle.meson_lex.proofs.Seams.{AreItems-split}
 use Rattle.meson_lex.proofs.Standing.{list_returns}
 use Rattle.meson_layout.specs.Edited.{ListOfItems}
-use Rattle.meson_layout.specs.Layout.{Parts, before_len, parts, parts_of_items}
+use Rattle.meson_layout.specs.Layout.{Parts, before_len, split_at_span, parts_of_items}
 use Rattle.meson_layout.specs.Local.{alone, nearer_span}
 use Rattle.meson_layout.proofs.FirstBytes.{some_text}
 use Rattle.meson_layout.proofs.Made.{listed-joined}
@@ -83,8 +83,8 @@ abbrev pub behind_first : Lexeme → Parts → Parts
 behind_first w q = record { left = w ∷ q.left; own = q.own; right = q.right }
 
 -- the parts of what stands behind the first item
-pub parts-behind : (w : Lexeme) (xs : List Lexeme) (s : Span) → length w.text < s.from → parts s (w ∷ xs) ≡ behind_first w (parts (nearer_span (length w.text) s) xs)
-unfolding parts
+pub parts-behind : (w : Lexeme) (xs : List Lexeme) (s : Span) → length w.text < s.from → split_at_span s (w ∷ xs) ≡ behind_first w (split_at_span (nearer_span (length w.text) s) xs)
+unfolding split_at_span
 parts-behind w xs s behind =
     let size : s.to - s.from ≡ s.to - length w.text - (s.from - length w.text) = omega arith in
     ap (λ n. parts_of_items n (s.to - s.from) (w ∷ xs)) (first-behind s.from w xs behind)

@@ -15,7 +15,7 @@ use Rattle.meson_layout.specs.Pieces.{Piece, Keep, Change, old_items, new_items,
 use Rattle.meson_layout.specs.Insertion.{plain_insertion, with_comma, without_comma, before_bracket, no_comma_on_line, stacked, inserted_by, inserted}
 use Rattle.meson_layout.specs.Removal.{grown, one_gone, two_gone, two_ranges, comma_len, comma_behind, comma_before, no_comma_behind, removed}
 use Rattle.meson_layout.specs.Statements.{at_line_start, statement_gone, statement_removed, line_end_of, appended}
-use Rattle.meson_layout.specs.Layout.{before_len, parts, replaced, wrapped, first_in, pieces}
+use Rattle.meson_layout.specs.Layout.{before_len, split_at_span, replaced, wrapped, first_in, pieces}
 use Rattle.meson_layout.specs.Laws.{AreTexts, AreUtf8, WritesUtf8, CodingLaw, TextsLaw}
 use Rattle.meson_layout.proofs.Patched.{patched-pieces}
 
@@ -252,17 +252,17 @@ appended-fine items new a n =
 
 -- ---- any layout
 
-parts-join : (s : Span) (items : List Lexeme) → (parts s items).left ++ ((parts s items).own ++ (parts s items).right) ≡ items
-unfolding parts
+parts-join : (s : Span) (items : List Lexeme) → (split_at_span s items).left ++ ((split_at_span s items).own ++ (split_at_span s items).right) ≡ items
+unfolding split_at_span
 parts-join s items =
     let n = before_len s.from items in
     ap (λ r. take n items ++ r) (take-append-drop (before_len (s.to - s.from) (drop n items)) (drop n items)) ∙ take-append-drop n items
 
 module _ (items : List Lexeme) (coded : AreUtf8 items) where
   at-span : (s : Span) (f : List Lexeme → List Lexeme → List Lexeme → List Piece) → ((left own right : List Lexeme) → AreUtf8 left → AreUtf8 own → Fine (left ++ (own ++ right)) (f left own right))
-      → Fine items (let p = parts s items in f p.left p.own p.right)
+      → Fine items (let p = split_at_span s items in f p.left p.own p.right)
   at-span s f fine =
-      let p = parts s items in
+      let p = split_at_span s items in
       let all = subst AreUtf8 (sym (parts-join s items)) coded in
       fine-of (parts-join s items) (fine p.left p.own p.right (front-coded p.left (p.own ++ p.right) all) (front-coded p.own p.right (rest-coded p.left (p.own ++ p.right) all)))
 

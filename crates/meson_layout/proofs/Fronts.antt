@@ -13,7 +13,7 @@ use Rattle.meson_layout.specs.declared.primitive.Primitive.{Primitive}
 use Rattle.meson_layout.specs.declared.primitive.Primitive.TheVariants.{First, After, Remove, Replace, Wrap, RemoveStatement, Append}
 use Rattle.meson_splice.specs.declared.splice.Splice.{Splice}
 use Rattle.meson_layout.specs.Insertion.{first}
-use Rattle.meson_layout.specs.Layout.{IsPlaced, IsSpanOf, before_len, end_of_look, layout_of, parts, replaced, wrapped}
+use Rattle.meson_layout.specs.Layout.{IsPlaced, IsSpanOf, before_len, end_of_look, layout_of, split_at_span, replaced, wrapped}
 use Rattle.meson_layout.specs.Pieces.{as_one, splices}
 use Rattle.meson_layout.proofs.Near.{AllGood, good-front}
 use Rattle.meson_layout.proofs.Parts.{before-is, parts-are}
@@ -59,7 +59,7 @@ up_to-again (suc n) (x ∷ xs) =
     ∙ sym once
 
 parts-front : (items : List Lexeme) (s : Span) (f : List Lexeme → List Lexeme → List Splice) → IsSpanOf items s → AllGood items
-    → f (parts s (up_to s.to items)).left (parts s (up_to s.to items)).own ≡ f (parts s items).left (parts s items).own
+    → f (split_at_span s (up_to s.to items)).left (split_at_span s (up_to s.to items)).own ≡ f (split_at_span s items).left (split_at_span s items).own
 parts-front items s f at g =
     let own = at.first ∷ at.more in
     let whole : items ≡ (at.left ++ own) ++ at.right = at.joins ∙ sym (append_assoc at.left own at.right) in

@@ -10,7 +10,7 @@ use Rattle.meson_layout.specs.declared.primitive.Primitive.{Primitive}
 use Rattle.meson_layout.specs.declared.primitive.Primitive.TheVariants.{First, After, Remove, Replace, Wrap, RemoveStatement, Append}
 use Rattle.meson_layout.specs.Edited.{ListOfItems, PartIn}
 use Rattle.meson_layout.specs.Insertion.{first, inserted}
-use Rattle.meson_layout.specs.Layout.{Parts, before_len, first_in, layout_of, parts, replaced, wrapped}
+use Rattle.meson_layout.specs.Layout.{Parts, before_len, first_in, layout_of, split_at_span, replaced, wrapped}
 use Rattle.meson_layout.specs.Local.{IsOfList, LocalLaw, alone, farther, nearer, nearer_span}
 use Rattle.meson_layout.specs.Pieces.{Piece, as_one, close_square, open_square, splices}
 use Rattle.meson_layout.specs.Removal.{removed}
@@ -55,7 +55,7 @@ module _ (file source : List ℕ) (items : List Lexeme) (list : IsItemList sourc
     size : (xs : List Lexeme) → length (joined (l.front ++ xs)) ≡ far + length (joined xs)
     size xs = ap length (joined-append l.front xs) ∙ length-append (joined l.front) (joined xs)
 
-    parts-alone : parts (nearer_span far s) (alone items l) ≡ record { left = o ∷ p.left; own = p.own; right = p.right ++ c ∷ [] }
+    parts-alone : split_at_span (nearer_span far s) (alone items l) ≡ record { left = o ∷ p.left; own = p.own; right = p.right ++ c ∷ [] }
     parts-alone =
         let from : s.from - far ≡ length (joined (o ∷ p.left)) = let whole = p.from ∙ size (o ∷ p.left) in omega arith in
         let to : s.to - far ≡ length (joined ((o ∷ p.left) ++ p.own)) = let whole = p.to ∙ size (o ∷ (p.left ++ p.own)) in omega arith in
@@ -68,21 +68,21 @@ module _ (file source : List ℕ) (items : List Lexeme) (list : IsItemList sourc
     laid f q = splices file 0 (f q.left q.own q.right)
 
     module _ (f : List Lexeme → List Lexeme → List Lexeme → List Piece) (same : Anywhere file o c p.left p.own p.right f) where
-      in-file : laid f (parts s items) ≡ splices file far (f (o ∷ p.left) p.own (p.right ++ c ∷ []))
+      in-file : laid f (split_at_span s items) ≡ splices file far (f (o ∷ p.left) p.own (p.right ++ c ∷ []))
       in-file = ap (laid f) (at-parts source items list l s p) ∙ same l.front l.rest
 
-      pub part-near : laid f (parts s items) ≡ map (farther far) (laid f (parts (nearer_span far s) (alone items l)))
+      pub part-near : laid f (split_at_span s items) ≡ map (farther far) (laid f (split_at_span (nearer_span far s) (alone items l)))
       part-near =
           let none : far ≡ far + 0 = omega arith in
           in-file ∙ ap (λ n. splices file n (f (o ∷ p.left) p.own (p.right ++ c ∷ []))) none ∙ farther-splices file far 0 (f (o ∷ p.left) p.own (p.right ++ c ∷ []))
           ∙ sym (ap (λ q. map (farther far) (laid f q)) parts-alone)
 
-      pub part-behind : (w : Lexeme) → w.text ≡ joined l.front → laid f (parts s (w ∷ alone items l)) ≡ laid f (parts s items)
+      pub part-behind : (w : Lexeme) → w.text ≡ joined l.front → laid f (split_at_span s (w ∷ alone items l)) ≡ laid f (split_at_span s items)
       part-behind w is =
           let text : length w.text ≡ far = ap length is in
           let before : length w.text < s.from = let b = behind-front in omega arith in
           let here : length (joined (w ∷ [])) ≡ far = ap length (append-nil w.text ∙ is) in
-          ap (laid f) (parts-behind w (alone items l) s before ∙ ap (λ n. behind_first w (parts (nearer_span n s) (alone items l))) text ∙ ap (behind_first w) parts-alone)
+          ap (laid f) (parts-behind w (alone items l) s before ∙ ap (λ n. behind_first w (split_at_span (nearer_span n s) (alone items l))) text ∙ ap (behind_first w) parts-alone)
           ∙ same (w ∷ []) [] ∙ ap (λ n. splices file n (f (o ∷ p.left) p.own (p.right ++ c ∷ []))) here ∙ sym in-file
 
     inserted-anywhere : (new : List Lexeme) → Anywhere file o c p.left p.own p.right (λ left own right. inserted left own right new)

@@ -7,7 +7,7 @@ use Rattle.std.specs.Prelude.{◌==◌}
 use Rattle.meson_lex.specs.declared.kinds.Span.{Span}
 use Rattle.meson_lex.specs.Items.{Lexeme, joined}
 use Rattle.meson_lex.proofs.Seams.{joined-append}
-use Rattle.meson_layout.specs.Layout.{before_len, parts_by, parts_of_items, parts}
+use Rattle.meson_layout.specs.Layout.{before_len, parts_by, parts_of_items, split_at_span}
 use Rattle.meson_layout.proofs.FirstBytes.{some_text}
 use Rattle.meson_layout.proofs.Near.{IsGood, AllGood, good-front, good-rest}
 
@@ -44,8 +44,8 @@ parts-by a own right size e g =
     ∙ ap₂ (λ o r. record { left = a; own = o; right = r }) (take-append_seam own right) (drop-append_seam own right)
 
 pub parts-are : (items left own right : List Lexeme) (s : Span) → items ≡ left ++ (own ++ right) → s.from ≡ length (joined left) → s.to ≡ length (joined (left ++ own)) → AllGood items
-    → parts s items ≡ record { left = left; own = own; right = right }
-unfolding parts
+    → split_at_span s items ≡ record { left = left; own = own; right = right }
+unfolding split_at_span
 parts-are items left own right s e from to g =
     let good : AllGood (left ++ (own ++ right)) = subst AllGood e g in
     let whole = ap length (joined-append left own) ∙ length-append (joined left) (joined own) in

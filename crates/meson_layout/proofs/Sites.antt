@@ -4,7 +4,7 @@ use Rattle.std.proofs.lemmas.List.{append-nil}
 use Rattle.meson_lex.specs.declared.kinds.Span.{Span}
 use Rattle.meson_lex.specs.Items.{Lexeme, joined, IsItemList}
 use Rattle.meson_layout.specs.Words.{remarks}
-use Rattle.meson_layout.specs.Layout.{parts}
+use Rattle.meson_layout.specs.Layout.{split_at_span}
 use Rattle.meson_layout.specs.Pieces.{as_one, line_feed}
 use Rattle.meson_layout.specs.Edited.{ListOfItems, PartIn, IsNew}
 use Rattle.meson_layout.proofs.Near.{Follow, AllGood, items-good, items-follow, follow-front}
@@ -39,7 +39,7 @@ module _ (source : List ℕ) (items : List Lexeme) (list : IsItemList source ite
         regroup : (f a b d r : List Lexeme) → (f ++ l.open_item ∷ a) ++ (b ++ (d ++ l.close_item ∷ r)) ≡ f ++ l.open_item ∷ ((a ++ (b ++ d)) ++ l.close_item ∷ r)
         regroup f a b d r = simp append_assoc
 
-    pub at-parts : parts s items ≡ record { left = before; own = p.own; right = behind }
+    pub at-parts : split_at_span s items ≡ record { left = before; own = p.own; right = behind }
     at-parts =
         parts-are items before p.own behind s (sym whole-is) p.from (p.to ∙ ap (λ xs. length (joined xs)) (sym (append_assoc l.front (o ∷ p.left) p.own))) (items-good items [] list.each)
 

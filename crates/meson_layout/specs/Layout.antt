@@ -30,8 +30,8 @@ parts_by n left rest = record { left = left; own = take n rest; right = drop n r
 abbrev pub parts_of_items : ℕ → ℕ → List Lexeme → Parts
 parts_of_items n size items = parts_by (before_len size (drop n items)) (take n items) (drop n items)
 
-unfoldable pub parts : Span → List Lexeme → Parts
-parts s items = parts_of_items (before_len s.from items) (s.to - s.from) items
+unfoldable pub split_at_span : Span → List Lexeme → Parts
+split_at_span s items = parts_of_items (before_len s.from items) (s.to - s.from) items
 
 -- ---- pieces
 
@@ -47,11 +47,11 @@ first_in n items new = first (take n items) (drop n items) new
 
 abbrev pub pieces : Primitive → List Lexeme → List Piece
 pieces (First bracket new) items = first_in (before_len (bracket + 1) items) items (as_one new)
-pieces (After element new) items = let p = parts element items in inserted p.left p.own p.right (as_one new)
-pieces (Remove element) items = let p = parts element items in removed p.left p.own p.right
-pieces (Replace value new) items = let p = parts value items in replaced p.left p.own p.right (as_one new)
-pieces (Wrap value) items = let p = parts value items in wrapped p.left p.own p.right
-pieces (RemoveStatement statement) items = let p = parts statement items in statement_removed p.left p.own p.right
+pieces (After element new) items = let p = split_at_span element items in inserted p.left p.own p.right (as_one new)
+pieces (Remove element) items = let p = split_at_span element items in removed p.left p.own p.right
+pieces (Replace value new) items = let p = split_at_span value items in replaced p.left p.own p.right (as_one new)
+pieces (Wrap value) items = let p = split_at_span value items in wrapped p.left p.own p.right
+pieces (RemoveStatement statement) items = let p = split_at_span statement items in statement_removed p.left p.own p.right
 pieces (Append new) items = appended items (as_one new)
 
 -- The layout of an edit of the text of these items.

@@ -3,7 +3,7 @@
 ghost use Rattle.std.specs.Prelude.{◌≡◌, ◌+◌, ◌<◌, ◌≤◌, ◌^◌, ◌++◌, ◌∷◌, [], IfErr, IfOk, List, drop, length, take};
 ghost use Rattle.meson_lex.specs.Items.{IsItemList, joined};
 ghost use Rattle.meson_lex.specs.Items.{Lexeme};
-ghost use Rattle.meson_layout.specs.Layout.{FirstFits, IsReady, before_len, end_of_look, layout_of, parts, replaced, wrapped};
+ghost use Rattle.meson_layout.specs.Layout.{FirstFits, IsReady, before_len, end_of_look, layout_of, split_at_span, replaced, wrapped};
 ghost use Rattle.meson_layout.specs.Insertion.{first};
 ghost use Rattle.meson_layout.specs.Pieces.{as_one, splices};
 ghost use Rattle.meson_layout.specs.Places.{PlaceFits, at_place};
@@ -45,9 +45,9 @@ fn place_of<'i, 'a>(
     requires { length (joined items.now) + 1 < 2 ^ 64 }
     ensures fits { PlaceFits result }
     ensures file { result.file.now ≡ file.entry.now }
-    ensures left { result.left.now ≡ (parts span items.entry.now).left }
-    ensures own { result.own.now ≡ (parts span items.entry.now).own }
-    ensures right { result.right.now ≡ (parts span items.entry.now).right }
+    ensures left { result.left.now ≡ (split_at_span span items.entry.now).left }
+    ensures own { result.own.now ≡ (split_at_span span items.entry.now).own }
+    ensures right { result.right.now ≡ (split_at_span span items.entry.now).right }
 {
     let (left, rest) = items.split_at(before_len(items, span.from));
     let (own, right) = rest.split_at(before_len(rest, span.to.saturating_sub(span.from)));

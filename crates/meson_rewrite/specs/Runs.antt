@@ -30,10 +30,6 @@ use Rattle.meson_rewrite.specs.declared.said.Said.{Said}
 use Rattle.meson_rewrite.specs.declared.stop.Stop.{Stop}
 use Rattle.meson_rewrite.specs.declared.stop.Stop.TheVariants.{Usage, Store}
 
--- what is known of a store, by what tells what it holds, its failures and its replaces
-abbrev pub seen_by : {A : Type 0} → (A → Option Content) → (A → ℕ) → (A → ℕ) → A → Seen
-seen_by content failures replaces store = record { content = content store; failures = failures store; replaces = replaces store }
-
 -- ---- a step on the project of a folder
 
 -- the session that the store has becomes another one, whose log is the last of the files

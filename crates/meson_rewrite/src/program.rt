@@ -8,7 +8,8 @@ ghost use Rattle.meson_rewrite.specs.Lines.{status, store_fault_status, usage_st
 ghost use Rattle.meson_rewrite.specs.StoreReads.{MayRead, ReadsAll, ReadsAtMost, ReadsProject};
 ghost use Rattle.meson_rewrite.specs.Requests.{only_shows};
 ghost use Rattle.meson_rewrite.specs.Steps.{IsTitled, only_tells};
-ghost use Rattle.meson_rewrite.specs.Runs.{CannotSay, Ends, IsUnchanged, KeepsFiles, ListingEnds, NeedsNoStore, OnlyAsks, Run, Says, StepEnds, Tells, seen_by};
+ghost use Rattle.meson_rewrite.specs.Runs.{CannotSay, Ends, IsUnchanged, KeepsFiles, ListingEnds, NeedsNoStore, OnlyAsks, Run, Says, StepEnds, Tells};
+ghost use Rattle.meson_store.specs.Seen.{seen_by};
 
 use crate::lines::tell_stop;
 use crate::listed::listed;

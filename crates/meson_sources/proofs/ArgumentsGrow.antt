@@ -7,7 +7,7 @@ use Rattle.meson_syntax.specs.Paths.{ListAt, list_at, nth, value_of}
 use Rattle.meson_syntax.specs.Tree.{Nowhere, Plain, Expression, Listing, listing, Argument, plain, named, pair, arguments_of}
 use Rattle.meson_syntax.proofs.parsing.Steps.{some-injective}
 use Rattle.meson_syntax.proofs.paths.Reaching.{and-then-some, map-some}
-use Rattle.meson_edit.specs.Edits.{After, edited, edited_elements, elements, inserted, is_empty, with_elements, with_value}
+use Rattle.meson_edit.specs.Edits.{After, edited, edited_elements, elements, element_added, is_empty, with_elements, with_value}
 use Rattle.meson_edit.specs.Sequences.{MayFollow}
 use Rattle.meson_edit.proofs.sequences.Levelled.{insertions-keep-levels}
 use Rattle.meson_calls.specs.declared.call.CallRef.{CallRef}
@@ -49,7 +49,7 @@ all_taken (x ∷ y ∷ xs) zero many = absurd (omega (arith, many))
 all_taken (x ∷ xs) (suc k) many = let fewer : length xs ≡ suc k = omega (arith, many) in let r = all_taken xs k fewer in (ap (λ l. x ∷ l) r.0, r.1)
 
 -- behind the last element
-pub put_last : (xs : List (Argument Nowhere)) (k : ℕ) (new it : Argument Nowhere) → length xs ≡ suc k → inserted k new xs it ≡ xs ++ new ∷ []
+pub put_last : (xs : List (Argument Nowhere)) (k : ℕ) (new it : Argument Nowhere) → length xs ≡ suc k → element_added k new xs it ≡ xs ++ new ∷ []
 put_last xs k new it many = let r = all_taken xs k many in ap₂ (λ l m. l ++ new ∷ m) r.0 r.1
 
 -- ---- values
@@ -113,10 +113,10 @@ module _ (c : CallRef) (n : ℕ) (a : Argument Nowhere) (v : Expression Nowhere)
       let is : edited (After inner k new) h.tree ≡ Some m.new = ap (edited (After inner k new)) (sym same_tree) ∙ m.is in
       let change : ListAt Nowhere → Option Plain = λ q. option_map (λ l. q.back (with_elements q.list l)) (edited_elements (After inner k new) (elements q.list)) in
       let y = map-some (λ l. r.back (with_elements r.list l)) (edited_elements (After inner k new) (elements r.list)) m.new (sym (ap (option_and_then change) p.is_place) ∙ is) in
-      let e = map-some (inserted k new.node (elements r.list)) (nth (elements r.list) k) y.0 y.1 in
+      let e = map-some (element_added k new.node (elements r.list)) (nth (elements r.list) k) y.0 y.1 in
       let held : elements r.list ≡ xs = ap elements p.list ∙ elements_back xs in
       let more = xs ++ new.node ∷ [] in
-      let ys_are : y.0 ≡ more = sym e.2 ∙ ap (λ l. inserted k new.node l e.0) held ∙ put_last xs k new.node e.0 many in
+      let ys_are : y.0 ≡ more = sym e.2 ∙ ap (λ l. element_added k new.node l e.0) held ∙ put_last xs k new.node e.0 many in
       let outer = exchanged_at n old (elements h.place.list) (array_holding more) in
       let lists : with_elements r.list y.0 ≡ list_holding more = ap₂ with_elements p.list ys_are ∙ held_with xs more in
       let now : h.place.back (with_elements h.place.list outer) ≡ m.new =

@@ -8,7 +8,7 @@ use Rattle.meson_syntax.specs.Paths.{ListAt, list_at, nth, value_of}
 use Rattle.meson_syntax.specs.Tree.{Nowhere, Plain, Expression, Argument, plain, erase, erase_argument, erase_expression}
 use Rattle.meson_syntax.proofs.parsing.Steps.{some-injective}
 use Rattle.meson_syntax.proofs.paths.Reaching.{and-then-some}
-use Rattle.meson_edit.specs.Edits.{Edit, After, Wrap, array_of, edited, edited_elements, edited_list, elements, exchanged, inserted, with_elements, with_value}
+use Rattle.meson_edit.specs.Edits.{Edit, After, Wrap, array_of, edited, edited_elements, edited_list, elements, exchanged, element_added, with_elements, with_value}
 use Rattle.meson_calls.specs.declared.call.CallRef.{CallRef}
 use Rattle.meson_calls.specs.Calls.{Call, Numbered, keyword}
 use Rattle.meson_calls.specs.Calls as calls
@@ -121,7 +121,7 @@ module _ (old : Loaded) (is : IsProject old) (c : Placed (Call Span)) (t : Targe
           let g = keyword_grown tree path q.place q.is_place level (q.bracket ∙ t.is_round) m all name in
           let last = last_there xs m all in
           let first = plain (string_of name) ∷ [] in
-          let h = held_after (After path m new) (λ u. refl) (suc m) new.node (array_with name) refl xs [] (sym all) first (inserted m new.node xs last.0) (ap (option_map (inserted m new.node xs)) last.1) (put_last xs m new.node last.0 all)
+          let h = held_after (After path m new) (λ u. refl) (suc m) new.node (array_with name) refl xs [] (sym all) first (element_added m new.node xs last.0) (ap (option_map (element_added m new.node xs)) last.1) (put_last xs m new.node last.0 all)
           g.now g.is g.level s.0 s.1 in
           let held = all_more c.place (suc m) new.node (array_with name) refl xs [] (sym all) trees more first 0 s.0 after refl h s.2 in
           record {

@@ -6,7 +6,7 @@ use Rattle.meson_syntax.specs.declared.operator.Bracket.TheVariants as bracket
 use Rattle.meson_syntax.specs.Tree.{Nowhere, Plain, Expression, listing, Argument, plain, named, pair, arguments_of}
 use Rattle.meson_syntax.specs.Grammar.{LevelFile, file_depth}
 use Rattle.meson_syntax.specs.Paths.{ListAt, list_at, nth, value_of}
-use Rattle.meson_edit.specs.Edits.{Edit, After, Wrap, elements, with_elements, with_value, array_of, inserted, exchanged, edited}
+use Rattle.meson_edit.specs.Edits.{Edit, After, Wrap, elements, with_elements, with_value, array_of, element_added, exchanged, edited}
 use Rattle.meson_edit.specs.Places.{Writes}
 use Rattle.meson_edit.specs.Sequences.{MayFollow}
 use Rattle.meson_edit.proofs.sequences.Deepened.{edits-deepen-by-one}
@@ -68,9 +68,9 @@ module _ (t : Plain) (path : List ℕ) (q : ListAt Nowhere) (is_q : list_at t pa
   keyword_grown round m many name =
       let last = last_there (elements q.list) m many in
       let new = written_keyword name in
-      let xs = inserted m new.node (elements q.list) last.0 in
+      let xs = element_added m new.node (elements q.list) last.0 in
       let now = q.back (with_elements q.list xs) in
-      let is : edited (After path m new) t ≡ Some now = edited_there t path q is_q (After path m new) xs (ap (option_map (inserted m new.node (elements q.list))) last.1) in
+      let is : edited (After path m new) t ≡ Some now = edited_there t path q is_q (After path m new) xs (ap (option_map (element_added m new.node (elements q.list))) last.1) in
       let follows : MayFollow bracket.Round last.0 (drop (suc m) (elements q.list)) new.node = (last.2, (tt, ((refl, refl, tt), tt))) in
       let low = insertions-keep-levels path m new t now q is_q last.0 last.1 (subst (λ b. MayFollow b last.0 (drop (suc m) (elements q.list)) new.node) (sym round) follows) level is in
       record {

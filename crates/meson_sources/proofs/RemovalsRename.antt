@@ -11,7 +11,7 @@ use Rattle.meson_syntax.proofs.parsing.Complete.{list-of-arguments}
 use Rattle.meson_syntax.proofs.parsing.Steps.{some-injective}
 use Rattle.meson_syntax.proofs.paths.Every.{Every}
 use Rattle.meson_syntax.proofs.paths.Reaching.{map-some, list-fits}
-use Rattle.meson_edit.specs.Edits.{Remove, elements, with_elements, removed, edited}
+use Rattle.meson_edit.specs.Edits.{Remove, elements, with_elements, element_removed, edited}
 use Rattle.meson_edit.proofs.sequences.Changed.{changed}
 use Rattle.meson_sources.specs.Renaming.{IsElementAt, IsStringElement, RemovalsRename, number_after}
 use Rattle.meson_sources.specs.SourceEdits.{path_after}
@@ -81,7 +81,7 @@ goes t now level list gone it here is_string is =
     let c = changed (Remove list gone) list t now is in
     let q = c.place in
     let xs = elements q.list in
-    let m = map-some (removed gone xs) (nth xs gone) c.list c.is_list in
+    let m = map-some (element_removed gone xs) (nth xs gone) c.list c.is_list in
     let same : here.place ≡ q = some-injective _ _ (sym here.is_place ∙ c.is_place) in
     let here_too : nth xs gone ≡ Some it = subst (λ (u : ListAt Nowhere). nth (elements u.list) gone ≡ Some it) same here.is_element in
     let p = list_put t list q c.is_place (with_elements q.list c.list) in

@@ -8,7 +8,7 @@ use Rattle.meson_syntax.specs.Paths.{ListAt, nth}
 use Rattle.meson_syntax.specs.Tree.{Nowhere, Plain}
 use Rattle.meson_syntax.proofs.parsing.Steps.{some-injective}
 use Rattle.meson_syntax.proofs.paths.Every.{Every}
-use Rattle.meson_edit.specs.Edits.{Remove, elements, with_elements, removed, edited}
+use Rattle.meson_edit.specs.Edits.{Remove, elements, with_elements, element_removed, edited}
 use Rattle.meson_edit.proofs.sequences.Deepened.{removals-stay-within}
 use Rattle.meson_edit.proofs.sequences.Levelled.{removals-keep-levels}
 use Rattle.meson_steps.specs.ListSteps.{AreDoable, none, one, MayStandBetween}
@@ -40,10 +40,10 @@ goes trees all s there =
     let path = s.list.path.steps in
     let n = s.number in
     let may = all_nth MayStandBetween trees s.list.file there.tree all there.is_tree in
-    let now = q.back (with_elements q.list (removed n (elements q.list) there.it)) in
+    let now = q.back (with_elements q.list (element_removed n (elements q.list) there.it)) in
     let is : edited (Remove path n) there.tree ≡ Some now =
-    ap (option_and_then (λ (p : ListAt Nowhere). option_map (λ list. p.back (with_elements p.list list)) (option_map (removed n (elements p.list)) (nth (elements p.list) n)))) there.stands.is_place
-    ∙ ap (λ o. option_map (λ list. q.back (with_elements q.list list)) (option_map (removed n (elements q.list)) o)) there.stands.is_element in
+    ap (option_and_then (λ (p : ListAt Nowhere). option_map (λ list. p.back (with_elements p.list list)) (option_map (element_removed n (elements p.list)) (nth (elements p.list) n)))) there.stands.is_place
+    ∙ ap (λ o. option_map (λ list. q.back (with_elements q.list list)) (option_map (element_removed n (elements q.list)) o)) there.stands.is_element in
     let deep = removals-stay-within path n there.tree now is in
     let shallow : file_depth now ≤ 65 = omega (arith, deep, may.1) in
     record { now = now; is_now = is; may = (removals-keep-levels path n there.tree now may.0 is, shallow) }

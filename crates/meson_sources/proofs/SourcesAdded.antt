@@ -9,7 +9,7 @@ use Rattle.meson_syntax.specs.Paths.{ListAt, list_at, nth}
 use Rattle.meson_syntax.specs.Tree.{Nowhere, Plain, Argument, plain, named, pair, arguments_of, erase}
 use Rattle.meson_syntax.proofs.parsing.Steps.{some-injective}
 use Rattle.meson_syntax.proofs.paths.Reaching.{and-then-some, list-fits, map-some}
-use Rattle.meson_edit.specs.Edits.{Edit, First, After, edited, edited_elements, edited_list, elements, first_element, inserted, with_elements}
+use Rattle.meson_edit.specs.Edits.{Edit, First, After, edited, edited_elements, edited_list, elements, first_element, element_added, with_elements}
 use Rattle.meson_calls.specs.declared.call.CallRef.{CallRef}
 use Rattle.meson_calls.specs.Calls.{keyword}
 use Rattle.meson_calls.specs.Loading.{IsProject, Loaded, project}
@@ -97,9 +97,9 @@ module _ (list : CallRef) where
       let s = and-then-some (all_stepped (edits.insertion_steps list (suc (suc n)) more)) (stepped (step_in list (After path n new)) trees) after made in
       let e = one_edit list (After path n new) (λ t. refl) trees s.0 s.1 (x ∷ (front ++ back)) had in
       let last = nth_last x front back in
-      let put : inserted n new.node (x ∷ (front ++ back)) last.0 ≡ (x ∷ front ++ new.node ∷ []) ++ back =
+      let put : element_added n new.node (x ∷ (front ++ back)) last.0 ≡ (x ∷ front ++ new.node ∷ []) ++ back =
       ap₂ (λ l m. x ∷ (l ++ new.node ∷ m)) (take_front front back) (drop_front front back) ∙ ap (λ l. x ∷ l) (sym (append_assoc front (new.node ∷ []) back)) in
-      let are : e.ys ≡ (x ∷ front ++ new.node ∷ []) ++ back = some-injective _ _ (sym e.are ∙ ap (option_map (inserted n new.node (x ∷ (front ++ back)))) last.1) ∙ put in
+      let are : e.ys ≡ (x ∷ front ++ new.node ∷ []) ++ back = some-injective _ _ (sym e.are ∙ ap (option_map (element_added n new.node (x ∷ (front ++ back)))) last.1) ∙ put in
       let longer : length (x ∷ front ++ new.node ∷ []) ≡ suc (suc n) = omega (arith, length-append front (new.node ∷ [])) in
       puts more (x ∷ front ++ new.node ∷ []) back s.0 after (e.has ∙ ap Some are) (ap (λ m. all_stepped (edits.insertion_steps list m more) s.0) longer ∙ s.2)
       ∙ ap (λ l. Some (x ∷ l)) (append_assoc front (new.node ∷ []) (strings more ++ back))

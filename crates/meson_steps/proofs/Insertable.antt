@@ -7,7 +7,7 @@ use Rattle.meson_syntax.specs.Operators.{holds_values}
 use Rattle.meson_syntax.specs.Tree.{Nowhere, Plain, Expression, Listing, listing, Argument, plain, is_named, argument_list, arguments_of}
 use Rattle.meson_syntax.specs.Grammar.{LevelExpression, LevelArgument, LevelFile, argument_depth, file_depth}
 use Rattle.meson_syntax.specs.Paths.{ListAt, list_at, nth}
-use Rattle.meson_edit.specs.Edits.{Written, Edit, First, After, elements, with_elements, inserted, first_element, edited, edited_elements}
+use Rattle.meson_edit.specs.Edits.{Written, Edit, First, After, elements, with_elements, element_added, first_element, edited, edited_elements}
 use Rattle.meson_edit.specs.Sequences.{MayFollow, StaysThere}
 use Rattle.meson_edit.proofs.paths.PutThere.{lists-stay}
 use Rattle.meson_edit.proofs.sequences.Deepened.{firsts-stay-within, insertions-stay-within}
@@ -79,9 +79,9 @@ module _ (t : Plain) (path : List ℕ) (level : LevelFile t) (bytes : List ℕ) 
   pub grown_behind : (n : ℕ) → Room t path n → Grown t path (suc n) (After path n new)
   grown_behind n r =
       let q = r.place in
-      let xs = inserted n (plain e) (elements q.list) r.it in
+      let xs = element_added n (plain e) (elements q.list) r.it in
       let is : edited (After path n new) t ≡ Some (q.back (with_elements q.list xs)) =
-      edited_there t path q r.is_place (After path n new) xs (ap (option_map (inserted n (plain e) (elements q.list))) r.is_it) in
+      edited_there t path q r.is_place (After path n new) xs (ap (option_map (element_added n (plain e) (elements q.list))) r.is_it) in
       let again = there_again t path q r.is_place xs in
       let follows = may_follow q.bracket r.it (drop (suc n) (elements q.list)) e r.holds r.no_name low in
       record {

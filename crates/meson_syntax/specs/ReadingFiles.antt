@@ -149,8 +149,8 @@ module _ (room : Bool) (expr inner : Parser (Expression Span)) (body : Parser (B
   stmt = peek >>= stmt_by
 
   -- a statement and its line end
-  unfoldable pub line : Parser (Statement Span)
-  line = do
+  unfoldable pub statement_line : Parser (Statement Span)
+  statement_line = do
     s ← stmt
     expect k.LineEnd
     pure s
@@ -160,7 +160,7 @@ module _ (room : Bool) (expr inner : Parser (Expression Span)) (body : Parser (B
   lines_from zero found = pure found
   lines_from (suc n) found = do
     kind ← peek
-    if ends_block kind then pure found else (do s ← line; lines_from n (found ++ s ∷ []))
+    if ends_block kind then pure found else (do s ← statement_line; lines_from n (found ++ s ∷ []))
 
   unfoldable pub statement_lines : Parser (List (Statement Span))
   statement_lines = λ i. lines_from (left i) [] i

@@ -163,7 +163,7 @@ impl<'a, F: Fn(Global, &[u8], &mut Cursor<'_>, usize) -> Result<Block, ParseFaul
     #[tactic(auto, unfolding(crate::specs::ReadingFiles::line))]
     fn line(&self, tokens: &mut Cursor<'_>) -> Result<Stmt, ParseFault>
         requires { NestsBlocks self.now.depth (F.pre self.now.deeper) (F.post self.now.deeper) }
-        ensures { Proceeds spec.line stmt_view self.now.source.now self.now.depth tokens.old result tokens.new }
+        ensures { Proceeds spec.statement_line stmt_view self.now.source.now self.now.depth tokens.old result tokens.new }
     {
         let statement = self.statement(tokens)?;
         let statement = self.closed(tokens, Kind::LineEnd, statement)?;

@@ -24,7 +24,7 @@ use Rattle.meson_syntax.specs.Places.{argument_span, ElementStands, ListPlaces}
 use Rattle.meson_syntax.proofs.parsing.Steps.{some-injective}
 use Rattle.meson_syntax.proofs.paths.Reaching.{map-some, list-fits}
 use Rattle.meson_syntax.proofs.places.Standing.{lists-stand}
-use Rattle.meson_edit.specs.Edits.{Written, Edit, First, After, Remove, elements, with_elements, first_element, inserted, removed}
+use Rattle.meson_edit.specs.Edits.{Written, Edit, First, After, Remove, elements, with_elements, first_element, element_added, element_removed}
 use Rattle.meson_edit.specs.Places.{element_span, IsWritten}
 use Rattle.meson_edit.proofs.lists.Cuts.{CutAt, cut-at}
 use Rattle.meson_edit.proofs.lists.Found.{Found, now_list, found}
@@ -63,7 +63,7 @@ among f items path n e t o it v = let at = v.cut.at in part_among items o.p v.pl
 -- the words of the list with it
 after-words : (l : Listing Span) (n : ℕ) (it : Argument Nowhere) (c : CutAt l n it) (new : Argument Nowhere) (left own fresh right : List Word)
     → left ≡ c.at.before → own ≡ argument_words c.at.element → fresh ≡ argument_words new → right ≡ c.at.behind
-    → (now : List (Argument Nowhere)) → inserted n new (elements (erase_listing l)) it ≡ now
+    → (now : List (Argument Nowhere)) → element_added n new (elements (erase_listing l)) it ≡ now
     → left ++ (own ++ comma_word ∷ (fresh ++ right)) ≡ inner_words (with_elements (erase_listing l) now)
 after-words l n it c new left own fresh right is_left is_own is_fresh is_right now is_now =
     ap₂ (λ u w. u ++ (own ++ comma_word ∷ (fresh ++ w))) is_left is_right
@@ -73,7 +73,7 @@ after-words l n it c new left own fresh right is_left is_own is_fresh is_right n
 
 after-laid : (bytes : List ℕ) (f : File Span) (items : List Lexeme) → IsItemList bytes items → (name : List ℕ) (path : List ℕ) (n : ℕ) (new : Written (Argument Nowhere))
     → IsWritten new.bytes (argument_words new.node) → (t : Plain) (o : Found f (After path n new) path t) (it : Argument Nowhere) → ElementIn f items path n (After path n new) t o it
-    → inserted n new.node (elements (erase_listing o.p.list)) it ≡ o.list → LaidOut bytes f items name (After path n new) path t
+    → element_added n new.node (elements (erase_listing o.p.list)) it ≡ o.list → LaidOut bytes f items name (After path n new) path t
 after-laid bytes f items are name path n new writes t o it v now =
     let c = v.cut in
     let p = v.part in
@@ -102,14 +102,14 @@ pub after-lays : (path : List ℕ) (n : ℕ) (new : Written (Argument Nowhere)) 
 after-lays path n new limits bytes f s name writes t is =
     let o = found f (After path n new) path t is in
     let list = elements (erase_listing o.p.list) in
-    let there = map-some (inserted n new.node list) (nth list n) o.list o.is_list in
+    let there = map-some (element_added n new.node list) (nth list n) o.list o.is_list in
     let v = element-in limits bytes f s path n (After path n new) t o there.0 there.1 in
     after-laid bytes f s.reads.spells.items s.reads.spells.are_items name path n new writes t o there.0 v there.2
 
 -- ---- an element gone
 
 remove-laid : (bytes : List ℕ) (f : File Span) (items : List Lexeme) → IsItemList bytes items → (name : List ℕ) (path : List ℕ) (n : ℕ) (t : Plain) (o : Found f (Remove path n) path t)
-    → (it : Argument Nowhere) → ElementIn f items path n (Remove path n) t o it → removed n (elements (erase_listing o.p.list)) it ≡ o.list → LaidOut bytes f items name (Remove path n) path t
+    → (it : Argument Nowhere) → ElementIn f items path n (Remove path n) t o it → element_removed n (elements (erase_listing o.p.list)) it ≡ o.list → LaidOut bytes f items name (Remove path n) path t
 remove-laid bytes f items are name path n t o it v now =
     let c = v.cut in
     let p = v.part in
@@ -139,7 +139,7 @@ pub remove-lays : (path : List ℕ) (n : ℕ) → Lays (Remove path n) path
 remove-lays path n limits bytes f s name writes t is =
     let o = found f (Remove path n) path t is in
     let list = elements (erase_listing o.p.list) in
-    let there = map-some (removed n list) (nth list n) o.list o.is_list in
+    let there = map-some (element_removed n list) (nth list n) o.list o.is_list in
     let v = element-in limits bytes f s path n (Remove path n) t o there.0 there.1 in
     remove-laid bytes f s.reads.spells.items s.reads.spells.are_items name path n t o there.0 v there.2
 

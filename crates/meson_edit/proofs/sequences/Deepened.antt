@@ -7,7 +7,7 @@ use Rattle.meson_syntax.specs.Paths.{nth, value_of}
 use Rattle.meson_syntax.proofs.parsing.Steps.{some-injective}
 use Rattle.meson_syntax.proofs.parsing.Complete.{list-of-arguments}
 use Rattle.meson_syntax.proofs.paths.Reaching.{map-some}
-use Rattle.meson_edit.specs.Edits.{Edit, First, After, Remove, Replace, Wrap, RemoveStatement, Append, elements, with_elements, with_value, array_of, first_element, inserted, removed, edited_elements, edited_list}
+use Rattle.meson_edit.specs.Edits.{Edit, First, After, Remove, Replace, Wrap, RemoveStatement, Append, elements, with_elements, with_value, array_of, first_element, element_added, element_removed, edited_elements, edited_list}
 use Rattle.meson_edit.specs.Sequences.{new_depth, EditsDeepen, RemovalsStayWithin, FirstsStayWithin, InsertionsStayWithin, EditsDeepenByOne}
 use Rattle.meson_edit.proofs.lists.Found.{valued}
 use Rattle.meson_edit.proofs.paths.DeepLists.{depths-grow}
@@ -62,10 +62,10 @@ first-depth a (x ∷ xs) now is = absurd cc
 elements-deepen : (e : Edit) (xs now : Elements) → edited_elements e xs ≡ Some now → depth_of now ≤ depth_of xs + new_depth e
 elements-deepen (First path new) xs now is = first-depth new.node xs now is
 elements-deepen (After path n new) xs now is =
-    let m = map-some (inserted n new.node xs) (nth xs n) now is in
+    let m = map-some (element_added n new.node xs) (nth xs n) now is in
     subst (λ ys. depth_of ys ≤ depth_of xs + argument_depth new.node) m.2 (depth-put (suc n) (suc n) (argument_depth new.node) xs new.node (omega arith))
 elements-deepen (Remove path n) xs now is =
-    let m = map-some (removed n xs) (nth xs n) now is in
+    let m = map-some (element_removed n xs) (nth xs n) now is in
     subst (λ ys. depth_of ys ≤ depth_of xs + 0) m.2 (depth-without n (suc n) xs)
 elements-deepen (Replace path n new) xs now is =
     let v = valued (λ w. new.node) n xs now is in

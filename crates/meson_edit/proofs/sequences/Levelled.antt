@@ -10,7 +10,7 @@ use Rattle.meson_syntax.specs.Paths.{ListAt, list_at, nth, value_of}
 use Rattle.meson_syntax.proofs.parsing.Steps.{some-injective}
 use Rattle.meson_syntax.proofs.parsing.Complete.{list-of-arguments}
 use Rattle.meson_syntax.proofs.paths.Reaching.{map-some, list-fits}
-use Rattle.meson_edit.specs.Edits.{Edit, First, After, Remove, Replace, Wrap, elements, with_elements, with_value, array_of, first_element, inserted, removed, is_empty}
+use Rattle.meson_edit.specs.Edits.{Edit, First, After, Remove, Replace, Wrap, elements, with_elements, with_value, array_of, first_element, element_added, element_removed, is_empty}
 use Rattle.meson_edit.specs.Sequences.{MayFollow, RemovalsKeepLevels, WrapsKeepLevels, ReplacementsKeepLevels, FirstsKeepLevels, InsertionsKeepLevels}
 use Rattle.meson_edit.proofs.lists.Found.{valued}
 use Rattle.meson_edit.proofs.sequences.Changed.{Changed, changed}
@@ -123,7 +123,7 @@ pub removals-keep-levels : RemovalsKeepLevels
 removals-keep-levels path n t now level is =
     let c = changed (Remove path n) path t now is in
     let xs = elements c.place.list in
-    let m = map-some (removed n xs) (nth xs n) c.list c.is_list in
+    let m = map-some (element_removed n xs) (nth xs n) c.list c.is_list in
     levelled (Remove path n) path t now c level (λ l. subst (λ ys. Levelled ys c.place.bracket false) m.2 (without-one xs n m.0 c.place.bracket false m.1 l))
 
 pub wraps-keep-levels : WrapsKeepLevels
@@ -160,5 +160,5 @@ insertions-keep-levels path n new t now q is_q it is_it may level is =
     let there : nth (elements p.list) n ≡ Some it = subst (λ (u : ListAt Nowhere). nth (elements u.list) n ≡ Some it) same is_it in
     let follows : MayFollow p.bracket it (drop (suc n) (elements p.list)) new.node =
     subst (λ (u : ListAt Nowhere). MayFollow u.bracket it (drop (suc n) (elements u.list)) new.node) same may in
-    let m = map-some (inserted n new.node (elements p.list)) (nth (elements p.list) n) c.list c.is_list in
+    let m = map-some (element_added n new.node (elements p.list)) (nth (elements p.list) n) c.list c.is_list in
     levelled (After path n new) path t now c level (λ l. subst (λ ys. Levelled ys p.bracket false) m.2 (with-one (elements p.list) n it new.node p.bracket false there follows l))

@@ -12,7 +12,7 @@ use Rattle.meson_syntax.specs.Tree.{Expression, Statement, evaluate, assign, sel
 use Rattle.meson_syntax.specs.Grammar.{HasBranch}
 use Rattle.meson_syntax.specs.Input.{Input, kind, from, next, sees, sees_two, after_kind, expect, span_from, left}
 use Rattle.meson_syntax.specs.Reading.{room, expression}
-use Rattle.meson_syntax.specs.ReadingFiles.{ends_block, block_span, name, names_from, names, assigned, evaluated, simple, bodied, branched, branches_from, branches, otherwised, selected, iterated, broken, continued, stmt_by, stmt, line, lines_from, statement_lines, blocked, block_at, file_of_block, whole}
+use Rattle.meson_syntax.specs.ReadingFiles.{ends_block, block_span, name, names_from, names, assigned, evaluated, simple, bodied, branched, branches_from, branches, otherwised, selected, iterated, broken, continued, stmt_by, stmt, statement_line, lines_from, statement_lines, blocked, block_at, file_of_block, whole}
 use Rattle.meson_syntax.specs.Spelling.{end_of, Covers, CoversBlock, One, Then, Deeper, NewLine, SaysMoreNames, SaysNames, SpellsExpression, SpellsStatement, SpellsBranches, SpellsOtherwise, SpellsStatements, SpellsBlock, SpellsFile, SaysName}
 use Rattle.meson_syntax.proofs.parsing.Steps.{Passes, part, nothing-same}
 use Rattle.meson_syntax.proofs.parsing.Splits.{bind-is, yes-at, no-at, passes-split, one-read, yes-sees, not-sees, yes-two, not-two, expect-is, after-is, after-not, covered, falls, name-read}
@@ -282,8 +282,8 @@ module _ (d : ℕ) (blocks : (b : Block Span) (i j : Input) → Passes (Deeper (
 
   -- ---- blocks
 
-  complete-line : (s : Statement Span) (i m j : Input) → Passes (SpellsStatement s d) i m → Passes (One k.LineEnd) m j → line (room d) (expression (suc d)) (expression d) (block_at d) i ≡ Some (s, j)
-  unfolding line
+  complete-line : (s : Statement Span) (i m j : Input) → Passes (SpellsStatement s d) i m → Passes (One k.LineEnd) m j → statement_line (room d) (expression (suc d)) (expression d) (block_at d) i ≡ Some (s, j)
+  unfolding statement_line
   complete-line s i m j r ends =
       bind-is (stmt (room d) (expression (suc d)) (expression d) (block_at d) i) _ (s, m) _ (complete-stmt s i m r (one-read k.LineEnd m j ends).is)
       (bind-is (expect k.LineEnd m) _ (tt, j) _ (expect-is k.LineEnd m j ends) refl)
@@ -306,7 +306,7 @@ module _ (d : ℕ) (blocks : (b : Block Span) (i j : Input) → Passes (Deeper (
       let lesser = falls (One k.LineEnd) p.at q.at (one-some k.LineEnd) q.first in
       let rest = complete-lines_from more n (found ++ s ∷ []) q.at j (omega arith) q.second ends in
       no-at (ends_block (kind i)) _ _ i _ (first-statement s d i p.at p.first)
-      (bind-is (line (room d) (expression (suc d)) (expression d) (block_at d) i) _ (s, q.at) _ (complete-line s i p.at q.at p.first q.first)
+      (bind-is (statement_line (room d) (expression (suc d)) (expression d) (block_at d) i) _ (s, q.at) _ (complete-line s i p.at q.at p.first q.first)
       (rest ∙ ap (λ f. Some (f, j)) (append_assoc found (s ∷ []) (statement_list more))))
 
   complete-blocked : (b : Block Span) (i j : Input) → Passes (SpellsBlock b d i.last) i j → ends_block (kind j) ≡ true → blocked (room d) (expression (suc d)) (expression d) (block_at d) i ≡ Some (b, j)

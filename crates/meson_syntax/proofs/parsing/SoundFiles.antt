@@ -11,7 +11,7 @@ use Rattle.meson_syntax.specs.Operators.{assignment_kind}
 use Rattle.meson_syntax.specs.Tree.{Expression, Statement, branches_of, Otherwise, nothing_else, Block, block, File, file, statements_of, Name}
 use Rattle.meson_syntax.specs.Input.{same_kind, Input, Outcome, Parser, kind, from, next, sees, sees_two, after_kind, expect, span_from, left, name_next}
 use Rattle.meson_syntax.specs.Reading.{room, expression}
-use Rattle.meson_syntax.specs.ReadingFiles.{ends_block, block_span, name, names_from, names, assigned, evaluated, simple, bodied, branched, branches_from, branches, otherwised, selected, iterated, broken, continued, stmt_by, stmt, line, lines_from, statement_lines, blocked, block_at, if_over, file_of_block, whole}
+use Rattle.meson_syntax.specs.ReadingFiles.{ends_block, block_span, name, names_from, names, assigned, evaluated, simple, bodied, branched, branches_from, branches, otherwised, selected, iterated, broken, continued, stmt_by, stmt, statement_line, lines_from, statement_lines, blocked, block_at, if_over, file_of_block, whole}
 use Rattle.meson_syntax.specs.Grammar.{HasBranch}
 use Rattle.meson_syntax.specs.Spelling.{end_of, Covers, CoversBlock, One, Then, Deeper, NewLine, SaysMoreNames, SaysNames, SpellsExpression, SpellsStatement, SpellsBranches, SpellsOtherwise, SpellsStatements, SpellsBlock, SpellsFile, SaysName}
 use Rattle.meson_syntax.proofs.parsing.Steps.{Passes, part, passes-then, passes-nothing, and_then_some, chosen_at, some-injective, passes-at, node, sees-one, expect-one, eat-one, eat-none, two-both, kind-sees, sees-name}
@@ -279,8 +279,8 @@ module _ (room : Bool) (expr inner : Parser (Expression Span)) (body : Parser (B
     first : Passes (SpellsStatement q.0 d) i at
     ends : Passes (One k.LineEnd) at q.1
 
-  sound-line : (i : Input) (q : Statement Span × Input) → line room expr inner body i ≡ Some q → LineRead i q
-  unfolding line
+  sound-line : (i : Input) (q : Statement Span × Input) → statement_line room expr inner body i ≡ Some q → LineRead i q
+  unfolding statement_line
   sound-line i q h =
       let a = and_then_some (stmt room expr inner body i) _ _ h in
       let b = and_then_some (expect k.LineEnd a.0.1) _ _ a.2 in
@@ -304,7 +304,7 @@ module _ (room : Bool) (expr inner : Parser (Expression Span)) (body : Parser (B
   sound-lines_from (suc n) found i q h = elim (chosen_at (ends_block (kind i)) _ _ i _ h) [
     | inl w ↦ no-lines found i q w.1
     | inr w ↦
-        (let a = and_then_some (line room expr inner body i) _ _ w.1 in
+        (let a = and_then_some (statement_line room expr inner body i) _ _ w.1 in
         let s = a.0.0 in
         let first = sound-line i a.0 a.1 in
         let rest = sound-lines_from n (found ++ s ∷ []) a.0.1 q a.2 in
