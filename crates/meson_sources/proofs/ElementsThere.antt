@@ -7,7 +7,7 @@ use Rattle.meson_syntax.specs.Parts.{Any, an_expression, a_statement, a_block, e
 use Rattle.meson_syntax.proofs.paths.Reaching.{and-then-some}
 use Rattle.meson_syntax.proofs.PathNodes.{expression-reached, list-reached}
 use Rattle.meson_edit.specs.Edits.{elements}
-use Rattle.meson_sources.specs.Renaming.{IsElementAt}
+use Rattle.meson_sources.proofs.Renaming.{IsElementAt}
 use Rattle.meson_sources.proofs.RenamedStrings.{element_at}
 use Rattle.meson_sources.proofs.StringsStay.{list_any}
 

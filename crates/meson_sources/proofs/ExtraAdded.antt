@@ -28,7 +28,7 @@ use Rattle.meson_steps.proofs.WithOne.{all_nth, change_made}
 use Rattle.meson_sources.specs.Effects.{ArgumentComes, ArgumentGrows, ArgumentHolds, ExtraComes, ExtraIsAdded, array_holding, elements_found, extra_argument, strings}
 use Rattle.meson_sources.specs.SourceEdits as edits
 use Rattle.meson_sources.specs.SourceEdits.{array_with, behind_value, checked_extra, elements_there, extra_inserted, extra_key, extra_marks, inserted_in, into_new_list, new_names, without_home, written_keyword}
-use Rattle.meson_sources.specs.Standings.{TargetThere}
+use Rattle.meson_sources.proofs.Standings.{TargetThere}
 use Rattle.meson_sources.proofs.ArgumentsGrow.{Holding, all_more, arguments_are, other_there, put_last}
 use Rattle.meson_sources.proofs.ExtrasAddable.{as_many, checked_marks, not_empty}
 use Rattle.meson_sources.proofs.Homes.{Home, all_stand, marked_home}

@@ -21,7 +21,7 @@ use Rattle.meson_sources.specs.SourceEdits.{checked_extra, extra_key, extra_mark
 use Rattle.meson_steps.specs.Names.{checked_names}
 use Rattle.meson_calls.specs.Sources.{not_hidden}
 use Rattle.meson_calls.specs.Sources.{kwargs_key, first_list, first_empty, or_option, once}
-use Rattle.meson_sources.specs.Standings.{MarkStands, TargetThere, ExtrasMayBeAdded}
+use Rattle.meson_sources.proofs.Standings.{MarkStands, TargetThere, ExtrasMayBeAdded}
 use Rattle.meson_steps.specs.Steps.{Step}
 use Rattle.meson_sources.proofs.Homes.{Home, marked_home, home_doable, all_stand}
 use Rattle.meson_steps.proofs.PlainTrees.{tree_is}

@@ -18,7 +18,7 @@ use Rattle.meson_calls.specs.Project.{Project}
 use Rattle.meson_sources.specs.SourceEdits.{insertion_steps, inserted_in, plain_len, elements_there}
 use Rattle.meson_calls.specs.Sources.{first_list, first_empty, list_of_slot, or_option}
 use Rattle.meson_calls.specs.CallPlaces.{ListThere}
-use Rattle.meson_sources.specs.Standings.{StringThere, NothingThere, SlotStands, MarkStands}
+use Rattle.meson_sources.proofs.Standings.{StringThere, NothingThere, SlotStands, MarkStands}
 use Rattle.meson_steps.proofs.Insertable.{Room}
 use Rattle.meson_calls.proofs.ListNodes.{values_no_pairs}
 use Rattle.meson_sources.proofs.PlainCounts.{plain_count, plain_count_is, count_erased, some_plain, last_plain, elements_are}

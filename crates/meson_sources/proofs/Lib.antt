@@ -1,3 +1,5 @@
+mod Renaming
+mod Standings
 mod ArgumentsGrow
 mod ChildrenLeft
 mod DistinctSpots

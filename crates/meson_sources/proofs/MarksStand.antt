@@ -15,7 +15,7 @@ use Rattle.meson_calls.specs.Expansion.{Slot, in_list, fixed, Mark, opaque, Expa
 use Rattle.meson_calls.specs.Project.{Project, child, expression_at}
 use Rattle.meson_calls.specs.Roles.{one_of}
 use Rattle.meson_calls.specs.CallPlaces.{ListThere}
-use Rattle.meson_sources.specs.Standings.{SlotStands, MarkStands}
+use Rattle.meson_sources.proofs.Standings.{SlotStands, MarkStands}
 use Rattle.meson_calls.proofs.ExpressionsAt.{list_here, child_stands}
 use Rattle.meson_sources.proofs.ElementsAt.{AreLevel, value_stands}
 use Rattle.meson_calls.proofs.ListNodes.{values_no_pairs}

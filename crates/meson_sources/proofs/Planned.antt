@@ -15,7 +15,7 @@ use Rattle.meson_steps.specs.ResultLimits.{plain_trees}
 use Rattle.meson_calls.specs.Finding.{the_call}
 use Rattle.meson_steps.specs.Plans.{ArePlanned}
 use Rattle.meson_calls.specs.Project.{Project, Placed}
-use Rattle.meson_sources.specs.Standings.{TargetThere}
+use Rattle.meson_sources.proofs.Standings.{TargetThere}
 use Rattle.meson_steps.specs.Steps.{Step}
 use Rattle.meson_sources.specs.Targeted.{change_steps, target_steps}
 use Rattle.meson_steps.specs.Meanings.{AreMeant}

@@ -19,7 +19,7 @@ use Rattle.meson_calls.specs.Calls as calls
 use Rattle.meson_sources.specs.SourceEdits.{Spot, spot_of, spots_of, spots_by, spots_named, removable, items_of, has_text, distinct_spots, removal_steps, extra_marks, extra_key, checked_extra}
 use Rattle.meson_steps.specs.Names.{distinct, checked_names}
 use Rattle.meson_calls.specs.Sources.{not_hidden}
-use Rattle.meson_sources.specs.Standings.{SlotStands, MarkStands, SpotStands, SourcesMayBeRemoved, ExtrasMayBeRemoved}
+use Rattle.meson_sources.proofs.Standings.{SlotStands, MarkStands, SpotStands, SourcesMayBeRemoved, ExtrasMayBeRemoved}
 use Rattle.meson_steps.specs.Steps.{Step}
 use Rattle.meson_sources.proofs.RemovedSpots.{removals_doable}
 use Rattle.meson_steps.proofs.WentWell.{then_was, once_was}

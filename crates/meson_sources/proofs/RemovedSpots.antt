@@ -15,10 +15,10 @@ use Rattle.meson_steps.specs.ListSteps.{AreDoable, none, one, MayStandBetween}
 use Rattle.meson_calls.specs.Loading.{Loaded, project}
 use Rattle.meson_steps.specs.ResultLimits.{plain_trees}
 use Rattle.meson_calls.specs.Project.{place}
-use Rattle.meson_sources.specs.Renaming.{IsElementAt}
+use Rattle.meson_sources.proofs.Renaming.{IsElementAt}
 use Rattle.meson_steps.specs.Steps.{step_in}
 use Rattle.meson_sources.specs.SourceEdits.{Spot, moved_up, path_after, is_path, spot_after, spots_after, removed_by, distinct_spots}
-use Rattle.meson_sources.specs.Standings.{SpotStands, RemovalsDoable}
+use Rattle.meson_sources.proofs.Standings.{SpotStands, RemovalsDoable}
 use Rattle.meson_sources.proofs.DistinctSpots.{AreApart, distinct_apart, every_distinct}
 use Rattle.meson_sources.proofs.StringsThere.{StringIn, spot_in}
 use Rattle.meson_steps.proofs.PlainTrees.{trees_stand}

@@ -16,7 +16,7 @@ use Rattle.meson_calls.specs.Project.{Project, Placed}
 use Rattle.meson_sources.specs.SourceEdits.{is_known, new_names, inserted_in}
 use Rattle.meson_steps.specs.Names.{checked_names, distinct}
 use Rattle.meson_calls.specs.Sources.{sources_key, source_marks, first_list, first_empty, or_option, or_call, home, once}
-use Rattle.meson_sources.specs.Standings.{MarkStands, TargetThere, SourcesMayBeAdded}
+use Rattle.meson_sources.proofs.Standings.{MarkStands, TargetThere, SourcesMayBeAdded}
 use Rattle.meson_sources.proofs.Homes.{Home, marked_home, home_doable}
 use Rattle.meson_sources.proofs.PlainCounts.{plain_count}
 use Rattle.meson_steps.proofs.Distincts.{distinct_texts}

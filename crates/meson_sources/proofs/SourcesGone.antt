@@ -16,7 +16,7 @@ use Rattle.meson_steps.proofs.PlainTrees.{trees_stand}
 use Rattle.meson_steps.proofs.WentWell.{once_was, then_was}
 use Rattle.meson_sources.specs.Effects.{ExtraIsRemoved, NamesGo, SourcesAreRemoved}
 use Rattle.meson_sources.specs.SourceEdits.{checked_extra, distinct_spots, extra_marks, removal_steps, spots_named}
-use Rattle.meson_sources.specs.Standings.{MarkStands}
+use Rattle.meson_sources.proofs.Standings.{MarkStands}
 use Rattle.meson_sources.proofs.DistinctSpots.{distinct_apart, every_distinct}
 use Rattle.meson_sources.proofs.ExtrasAddable.{checked_marks}
 use Rattle.meson_sources.proofs.NamedSpots.{named_spots}

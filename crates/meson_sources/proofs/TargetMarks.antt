@@ -17,7 +17,7 @@ use Rattle.meson_calls.specs.Loading.{project}
 use Rattle.meson_calls.specs.Project.{Project, BuildFile, Placed, child, expression_at}
 use Rattle.meson_sources.specs.SourceEdits.{extra_key, extra_marks}
 use Rattle.meson_calls.specs.Sources.{sources_key, kwargs_key, expand_arguments, rest, hidden, source_marks}
-use Rattle.meson_sources.specs.Standings.{TargetThere, MarkStands, SourcesStand, ExtrasStand}
+use Rattle.meson_sources.proofs.Standings.{TargetThere, MarkStands, SourcesStand, ExtrasStand}
 use Rattle.meson_sources.proofs.ElementsAt.{AreLevel, value_stands, parsed_level}
 use Rattle.meson_steps.proofs.ArgumentValues.{named_value}
 use Rattle.meson_sources.proofs.MarksThere.{ArgumentAt, arguments_met}

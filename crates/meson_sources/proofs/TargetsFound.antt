@@ -8,7 +8,7 @@ use Rattle.meson_calls.specs.Calls.{Call, first_argument}
 use Rattle.meson_calls.specs.Project.{Project, Placed}
 use Rattle.meson_calls.specs.Roles.{one_of, target_functions}
 use Rattle.meson_calls.specs.CallPlaces.{CallThere}
-use Rattle.meson_sources.specs.Standings.{TargetThere, TargetsStand}
+use Rattle.meson_sources.proofs.Standings.{TargetThere, TargetsStand}
 use Rattle.meson_calls.proofs.CallsFound.{RoleAt, role_found, calls_stand}
 
 has_first : (a : Bool) (o : Option (Expression Span)) → (a && is_some o) ≡ true → (e : Expression Span) × (o ≡ Some e)
