@@ -1,5 +1,5 @@
 -- Splices of one file in a set of files, without those that change nothing.
-use Rattle.std.proofs.Common.{◌≡◌, ◌≢◌, ℕ, zero, suc, ◌+◌, ◌<◌, List, [], ◌∷◌, length, get_or, refl, sym, ap, ◌∙◌, subst, arith, cond}
+use Rattle.std.proofs.Common.{◌≡◌, ℕ, zero, suc, ◌+◌, ◌<◌, List, [], ◌∷◌, length, get_or, refl, sym, ap, ◌∙◌, subst, arith, cond}
 use Rattle.std.specs.Prelude.{Bool, true, false, not, bytes_eq, Result, Ok, Err}
 use Rattle.std.specs.List.{AllByRecursion}
 use Rattle.std.specs.Str.{IsUtf8}
@@ -9,7 +9,6 @@ use Rattle.meson_layout.specs.Pieces.{Piece, Keep, Change, splices}
 use Rattle.meson_layout.specs.Edited.{patched_by}
 use Rattle.meson_layout.specs.Laws.{AreTexts}
 use Rattle.meson_splice.specs.declared.fault.SpliceFault.{SpliceFault}
-use Rattle.meson_splice.specs.declared.fault.SpliceFault.TheVariants.{NoFile, OutOfRange, Stale, NothingToUndo, NothingToRedo, OutOfMemory}
 use Rattle.meson_splice.specs.declared.file_set.File.{File}
 use Rattle.meson_splice.specs.declared.splice.Splice.{Splice}
 use Rattle.meson_splice.specs.Files.{IsDistinct, bytes_at, with_bytes}
