@@ -67,10 +67,10 @@ fn note_in(stmt: &Stmt) -> Option<What<'_>>
 }
 
 /// Whether the expression is one of which there is no note, and in which none stands.
-fn is_plain(expr: &Expr) -> bool
-    ensures { IsTrue result → (source : Source) (p : CallRef) → noted (expression_parts p (expr_view source expr.now)) ≡ [] }
+fn is_plain(value: &Expr) -> bool
+    ensures { IsTrue result → (source : Source) (p : CallRef) → noted (expression_parts p (expr_view source value.now)) ≡ [] }
 {
-    match expr {
+    match value {
         Expr::Identifier(_) => true,
         Expr::Boolean { .. } => true,
         Expr::Integer(_) => true,
