@@ -41,6 +41,7 @@ pub mod CallsReached
 pub mod ExpressionsAt
 pub mod CallsFound
 pub mod OneCall
+pub mod NotedCalls
 pub mod CallLists
 pub mod FirstValue
 mod PartsContained

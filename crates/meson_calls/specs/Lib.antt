@@ -17,6 +17,7 @@ pub mod Strings
 pub mod Noted
 pub mod Values
 pub mod CodeVariables
+pub mod NotedProjects
 pub mod Tallies
 pub mod GoodLists
 pub mod Sourced

@@ -24,6 +24,9 @@ pub record Loaded : Type 0 where
   pub files : List File
   pub parsed : List Parsed
 
+abbrev pub loaded_from : List File → List Parsed → Loaded
+loaded_from files parsed = record { files = files; parsed = parsed }
+
 -- the trees that these stand for over the files
 abbrev pub views : List File → List Parsed → List (tree.File Span)
 views (f ∷ files) (t ∷ parsed) = view f.bytes t ∷ views files parsed

@@ -22,6 +22,7 @@ pub mod marks;
 pub mod meeting;
 pub mod naming;
 pub mod note;
+pub mod noted;
 pub mod notes;
 pub mod part;
 pub mod picking;

@@ -2,6 +2,7 @@
 
 use crate::known::all_known;
 use crate::note::Note;
+use crate::noted::Noted;
 use crate::values::{Value, Values};
 use meson_splice::FileSet;
 use meson_syntax::Parsed;
@@ -17,15 +18,16 @@ pub struct Variables<'t> {
 }
 
 impl<'t> Variables<'t> {
-    ghost use Rattle.std.specs.Prelude.{◌≡◌, ℕ, List, not, All, IfOk, length, option_map};
+    ghost use Rattle.std.specs.Prelude.{◌≡◌, ℕ, List, not, All, IfOk, option_map};
     ghost use Rattle.meson_calls.specs.Knowns.{has_unknown};
-    ghost use Rattle.meson_calls.specs.Loading.{HasFileName, named_trees, views};
+    ghost use Rattle.meson_calls.specs.Loading.{HasFileName};
     ghost use Rattle.meson_calls.specs.Noted.{by_notes};
-    ghost use Rattle.meson_calls.specs.Notes.{notes, note_views};
+    ghost use Rattle.meson_calls.specs.Notes.{note_views};
     ghost use Rattle.meson_calls.specs.Strings.{NotesGood};
     ghost use Rattle.meson_calls.specs.Values.{value_in, value_view};
     ghost use Rattle.meson_calls.specs.Variables.{single};
     ghost use Rattle.meson_calls.specs.CodeVariables.{AreVariables, project_of};
+    ghost use Rattle.meson_calls.specs.NotedProjects.{IsNoted};
 
     /// The values by the notes of files: none where a call may set any variable.
     fn known_values(
@@ -46,29 +48,21 @@ impl<'t> Variables<'t> {
         }
     }
 
-    /// Those of files with trees and the notes of these.
+    /// Those of a project with its notes.
     ///
     /// # Errors
     /// Memory was refused.
-    pub fn of(
-        alloc: Global,
-        files: &'t FileSet,
-        trees: &'t [Parsed],
-        found: &[Note<'t>],
-    ) -> Result<Variables<'t>, AllocError>
-        requires named { All HasFileName files.now }
-        requires whole { length trees.now ≡ length files.now }
-        requires noted { note_views found.now ≡ notes (named_trees files.now (views files.now trees.now)) }
-        requires good { NotesGood (note_views found.now) }
+    pub fn of(alloc: Global, noted: &Noted<'t>) -> Result<Variables<'t>, AllocError>
+        requires { IsNoted noted.now }
         ensures holds { IfOk result AreVariables }
-        ensures files { IfOk result (λ v. v.files.now ≡ files.entry.now) }
-        ensures trees { IfOk result (λ v. v.trees.now ≡ trees.entry.now) }
+        ensures files { IfOk result (λ v. v.files.now ≡ noted.now.files.now) }
+        ensures trees { IfOk result (λ v. v.trees.now ≡ noted.now.trees.now) }
     {
-        let values = Self::known_values(alloc, files, found)?;
+        let values = Self::known_values(alloc, noted.files, noted.notes)?;
         Ok(Variables {
             alloc,
-            files,
-            trees,
+            files: noted.files,
+            trees: noted.trees,
             values,
         })
     }

@@ -1,5 +1,5 @@
 -- What is told of a call that stands at a place.
-use Rattle.std.proofs.Common.{◌≡◌, ◌≢◌, Option, Some, refl, ap, ◌∙◌}
+use Rattle.std.proofs.Common.{◌≡◌, ◌≢◌, ℕ, List, Option, Some, refl, sym, ap, ◌∙◌}
 use Rattle.std.specs.Prelude.{Result, Ok, Err, IfOk, IfErr, option_map, option_and_then}
 use Rattle.meson_lex.specs.declared.kinds.Span.{Span}
 use Rattle.meson_splice.specs.Files.{bytes_at}
@@ -8,12 +8,18 @@ use Rattle.meson_calls.specs.declared.call.CallRef.{CallRef}
 use Rattle.meson_calls.specs.declared.call.Role.{Role}
 use Rattle.meson_calls.specs.declared.refusal.Refusal.{Refusal}
 use Rattle.meson_calls.specs.declared.refusal.Refusal.TheVariants.{OutOfMemory}
+use Rattle.meson_calls.specs.declared.noted.Noted.{Noted}
 use Rattle.meson_calls.specs.Calls.{Call, call_of}
+use Rattle.meson_calls.specs.Finding.{the_call}
 use Rattle.meson_calls.specs.Loading.{Loaded, project}
+use Rattle.meson_calls.specs.NotedProjects.{IsNoted, loaded_in, project_in}
+use Rattle.meson_calls.specs.Notes.{note_views}
+use Rattle.meson_calls.specs.OnePlace.{the_place}
 use Rattle.meson_calls.specs.Picking.{call_with}
 use Rattle.meson_calls.specs.Project.{Project, Placed, placed, expression_at}
 use Rattle.meson_sources.specs.Extras.{extra_files, extra_of_call}
 use Rattle.meson_plan.specs.Details.{keywords, keywords_of_call, place_found}
+use Rattle.meson_calls.proofs.NotedCalls.{same_place}
 use Rattle.meson_calls.proofs.OneCall.{placed_at}
 
 -- ---- an answer about what stands there
@@ -29,9 +35,13 @@ module _ {X : Type 0} (meant : Option (Result X Refusal)) (here : Result X Refus
 
 -- ---- a call
 
-pub placed_same : (found : Result (Placed (Call Span)) Refusal) → placed_at found ≡ place_found found
+placed_same : (found : Result (Placed (Call Span)) Refusal) → placed_at found ≡ place_found found
 placed_same (Ok c) = refl
 placed_same (Err e) = refl
+
+-- the one that an id names, looked up in notes
+pub place_there : (n : Noted) → IsNoted n → (l : Loaded) → loaded_in n ≡ l → (r : Role) (id : List ℕ) → the_place r id (note_views n.notes.now) ≡ place_found (the_call (project l) r id)
+place_there n is l same r id = sym (same_place n is r id) ∙ placed_same (the_call (project_in n) r id) ∙ ap (λ k. place_found (the_call (project k) r id)) same
 
 module _ (c : CallRef) (s : Span) (f : Name Span) (l : Listing Span) where
   pub extra_there : (p : Project Span) → expression_at p c ≡ Some (call s f l) → extra_files p c ≡ Some (extra_of_call p (placed c (call_with f.text l)))

@@ -30,9 +30,8 @@ pub(crate) struct Called<'t> {
 
 /// The call that an expression is.
 fn call_in<'t>(source: &'t [u8], expr: &'t Expr) -> Option<Called<'t>>
-    ensures { MatchOption result
-        (call_of (expr_view source.entry.now expr.entry.now) ≡ None)
-        (λ called. (called.source.now ≡ source.entry.now) × (expr_view source.entry.now expr.entry.now ≡ called_view called)) }
+    ensures { let stands = expr_view source.entry.now expr.entry.now in
+        MatchOption result (call_of stands ≡ None) (λ called. (called.source.now ≡ source.entry.now) × (stands ≡ called_view called)) }
 {
     match expr {
         Expr::Call {

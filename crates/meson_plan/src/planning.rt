@@ -2,14 +2,15 @@
 
 ghost use Rattle.std.specs.Prelude.{◌≡◌, ◌≢◌, Err, IfErr, IfOk};
 ghost use Rattle.meson_calls.specs.declared.refusal.Refusal.TheVariants.{OutOfMemory};
-ghost use Rattle.meson_calls.specs.Loading.{IsProject, named_trees, project, views};
-ghost use Rattle.meson_calls.specs.Notes.{notes};
+ghost use Rattle.meson_calls.specs.Loading.{IsProject, loaded_from, project};
+ghost use Rattle.meson_calls.specs.NotedProjects.{IsNoted, loaded_in, project_in};
 ghost use Rattle.meson_plan.specs.Orders.{plan_steps};
 ghost use Rattle.meson_steps.specs.Plans.{ArePlanned};
 
 use crate::info::{call_info, target_info};
 use crate::order::Plan;
 use meson_calls::Refusal;
+use meson_calls::noted::Noted;
 use meson_calls::notes::notes_of;
 use meson_sources::targeting::on_target;
 use meson_splice::FileSet;
@@ -29,20 +30,35 @@ pub(crate) fn planned(
     trees: &[Parsed],
     plan: Plan<'_>,
 ) -> Result<Vec<ListStep>, Refusal>
-    requires { IsProject (record { files = files.now; parsed = trees.now }) }
-    ensures plan { IfOk result (λ steps. ArePlanned (record { files = files.now; parsed = trees.now }) (plan_steps (project (record { files = files.now; parsed = trees.now })) plan.entry) steps.items) }
-    ensures refused { IfErr result (λ e. e ≢ OutOfMemory → plan_steps (named_trees files.now (views files.now trees.now)) plan.entry ≡ Err e) }
+    requires { IsProject (loaded_from files.now trees.now) }
+    ensures plan { let old = loaded_from files.now trees.now in
+        IfOk result (λ steps. ArePlanned old (plan_steps (project old) plan.entry) steps.items) }
+    ensures refused { IfErr result (λ e. e ≢ OutOfMemory → plan_steps (project (loaded_from files.now trees.now)) plan.entry ≡ Err e) }
 {
     let taken = notes_of(alloc, files, trees)?;
     let notes = taken.all(alloc)?;
-    let notes = notes.as_slice();
+    let noted = Noted {
+        files,
+        trees,
+        notes: notes.as_slice(),
+    };
+    steps_of(alloc, &noted, plan)
+}
+
+/// The same for a project with its notes.
+///
+/// # Errors
+/// Why it is refused, or want of memory.
+fn steps_of(alloc: Global, noted: &Noted<'_>, plan: Plan<'_>) -> Result<Vec<ListStep>, Refusal>
+    requires { IsNoted noted.now }
+    ensures plan { IfOk result (λ steps. ArePlanned (loaded_in noted.now) (plan_steps (project_in noted.now) plan.entry) steps.items) }
+    ensures refused { IfErr result (λ e. e ≢ OutOfMemory → plan_steps (project_in noted.now) plan.entry ≡ Err e) }
+{
     match plan {
-        Plan::OnTarget(target, change, names) => {
-            on_target(alloc, files, trees, notes, target, change, names)
-        }
-        Plan::AddTarget(new) => target_added(alloc, files, trees, notes, new),
-        Plan::RemoveTarget(target) => target_removed(alloc, files, trees, notes, target),
-        Plan::AskTarget(target) => target_info(alloc, files, trees, notes, target),
-        Plan::AskCall(role, id) => call_info(alloc, files, trees, notes, role, id),
+        Plan::OnTarget(target, change, names) => on_target(alloc, noted, target, change, names),
+        Plan::AddTarget(new) => target_added(alloc, noted, new),
+        Plan::RemoveTarget(target) => target_removed(alloc, noted, target),
+        Plan::AskTarget(target) => target_info(alloc, noted, target),
+        Plan::AskCall(role, id) => call_info(alloc, noted, role, id),
     }
 }

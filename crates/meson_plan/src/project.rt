@@ -4,6 +4,8 @@ ghost use Rattle.std.specs.Prelude.{◌≡◌, ◌≢◌, Some, Ok, Err, IfErr, 
 ghost use Rattle.meson_splice.specs.Patch.{patched_all};
 ghost use Rattle.meson_layout.specs.Laws.{AreTexts};
 ghost use Rattle.meson_calls.specs.Loading.{IsProject, MayNotLoad, project};
+ghost use Rattle.meson_calls.specs.NotedProjects.{IsNoted, loaded_in};
+ghost use Rattle.meson_calls.specs.Notes.{note_views, notes, taken_view};
 ghost use Rattle.meson_steps.specs.Journal.{Trees};
 ghost use Rattle.meson_steps.specs.Done.{IsDone, MayNotBeDone};
 ghost use Rattle.meson_steps.specs.Working.{IsFresh, Restores, so_far};
@@ -25,8 +27,11 @@ use meson_calls::finding::the_call;
 use meson_calls::loading::{copy_trees, loaded};
 use meson_calls::looking::is_target;
 use meson_calls::naming::found;
+use meson_calls::note::Note;
+use meson_calls::noted::Noted;
 use meson_calls::notes::notes_of;
 use meson_calls::picking::with_role;
+use meson_calls::taken::Taken;
 use meson_calls::variables::Variables;
 use meson_calls::{CallRef, Refusal, Role, Sources, Unloaded};
 use meson_keywords::changing::changed;
@@ -124,12 +129,32 @@ impl Project {
         Ok(Project { files, trees })
     }
 
+    /// The notes of its trees.
+    fn taken(&self, alloc: Global) -> Result<Taken<'_>, AllocError>
+        ensures { IfOk result (λ found. taken_view found ≡ notes (project self.now)) }
+    {
+        notes_of(alloc, &self.files, self.trees.as_slice())
+    }
+
+    /// The same project with its notes.
+    fn noted<'p>(&'p self, all: &'p [Note<'p>]) -> Noted<'p>
+        requires { note_views all.now ≡ notes (project self.now) }
+        ensures noted { IsNoted result }
+        ensures same { loaded_in result ≡ self.entry.now }
+    {
+        Noted {
+            files: &self.files,
+            trees: self.trees.as_slice(),
+            notes: all,
+        }
+    }
+
     /// The calls of all targets, in file order and source order.
     pub fn targets(&self, alloc: Global) -> Result<Vec<CallRef>, Refusal>
         ensures all { IfOk result (λ calls. calls.items ≡ targets (project self.now)) }
         ensures refused { IfErr result (λ e. e ≡ Refusal.OutOfMemory) }
     {
-        let taken = notes_of(alloc, &self.files, self.trees.as_slice())?;
+        let taken = self.taken(alloc)?;
         let notes = taken.all(alloc)?;
         let calls = with_role(alloc, Role::Target, notes.as_slice())?;
         Ok(calls)
@@ -140,9 +165,10 @@ impl Project {
         ensures all { IfOk result (λ calls. calls.items ≡ places (found (project self.now) role id.now)) }
         ensures refused { IfErr result (λ e. e ≡ Refusal.OutOfMemory) }
     {
-        let taken = notes_of(alloc, &self.files, self.trees.as_slice())?;
+        let taken = self.taken(alloc)?;
         let notes = taken.all(alloc)?;
-        let calls = found(alloc, role, id, notes.as_slice())?;
+        let noted = self.noted(notes.as_slice());
+        let calls = found(alloc, role, id, noted.notes)?;
         Ok(calls)
     }
 
@@ -154,9 +180,10 @@ impl Project {
         ensures found { IfOk result (λ c. place_found (the_call (project self.now) role id.now) ≡ Ok c) }
         ensures refused { IfErr result (λ e. e ≢ Refusal.OutOfMemory → place_found (the_call (project self.now) role id.now) ≡ Err e) }
     {
-        let taken = notes_of(alloc, &self.files, self.trees.as_slice())?;
+        let taken = self.taken(alloc)?;
         let notes = taken.all(alloc)?;
-        the_call(alloc, role, id, notes.as_slice())
+        let noted = self.noted(notes.as_slice());
+        the_call(alloc, role, id, noted.notes)
     }
 
     /// Whether the place is that of a call of a target. Takes no memory.
@@ -175,10 +202,10 @@ impl Project {
         ensures found { IfOk result (λ s. sources (project self.now) call.now ≡ Some (Ok s)) }
         ensures refused { IfErr result (λ e. e ≢ Refusal.OutOfMemory → sources (project self.now) call.now ≡ Some (Err e)) }
     {
-        let trees = self.trees.as_slice();
-        let taken = notes_of(alloc, &self.files, trees)?;
+        let taken = self.taken(alloc)?;
         let notes = taken.all(alloc)?;
-        let variables = Variables::of(alloc, &self.files, trees, notes.as_slice())?;
+        let noted = self.noted(notes.as_slice());
+        let variables = Variables::of(alloc, &noted)?;
         sources_at(&variables, call)
     }
 
@@ -191,11 +218,11 @@ impl Project {
         ensures found { IfOk result (λ s. extra_files (project self.now) call.now ≡ Some (Ok s)) }
         ensures refused { IfErr result (λ e. e ≢ Refusal.OutOfMemory → extra_files (project self.now) call.now ≡ Some (Err e)) }
     {
-        let trees = self.trees.as_slice();
-        let taken = notes_of(alloc, &self.files, trees)?;
+        let taken = self.taken(alloc)?;
         let notes = taken.all(alloc)?;
-        let variables = Variables::of(alloc, &self.files, trees, notes.as_slice())?;
-        let called = call_at(&self.files, trees, call);
+        let noted = self.noted(notes.as_slice());
+        let variables = Variables::of(alloc, &noted)?;
+        let called = call_at(variables.files, variables.trees, call);
         extra_files_of(&variables, call, called.source, called.arguments)
     }
 
@@ -207,11 +234,11 @@ impl Project {
         ensures told { IfOk result (λ told. (target_place (project self.now) id.now ≡ Ok told.place) × AreDetails (project self.now) told.place told) }
         ensures refused { IfErr result (λ e. e ≢ Refusal.OutOfMemory → NoTarget (project self.now) id.now e) }
     {
-        let trees = self.trees.as_slice();
-        let taken = notes_of(alloc, &self.files, trees)?;
+        let taken = self.taken(alloc)?;
         let notes = taken.all(alloc)?;
-        let place = the_call(alloc, Role::Target, id, notes.as_slice())?;
-        let variables = Variables::of(alloc, &self.files, trees, notes.as_slice())?;
+        let noted = self.noted(notes.as_slice());
+        let place = the_call(alloc, Role::Target, id, noted.notes)?;
+        let variables = Variables::of(alloc, &noted)?;
         details_at(&variables, place)
     }
 
@@ -306,7 +333,8 @@ fn performed(alloc: Global, work: &mut Work, command: &Command) -> Result<(), Re
     requires { IsFresh work.old }
     ensures done { OnOk result (IsDone (so_far work.old) (planned (project (so_far work.old)) command.now) work.new) }
     ensures restores { (first : Trees) → Restores work.old first → Restores work.new first }
-    ensures refused { IfErr result (λ e. e ≢ Refusal.OutOfMemory → MayNotBeDone (so_far work.old) (planned (project (so_far work.old)) command.now) e) }
+    ensures refused { IfErr result (λ e. e ≢ Refusal.OutOfMemory
+        → MayNotBeDone (so_far work.old) (planned (project (so_far work.old)) command.now) e) }
 {
     match order_of(command) {
         Order::Planned(plan) => {

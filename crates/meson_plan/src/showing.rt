@@ -153,7 +153,8 @@ fn shown_array(
 ) -> Result<Shown, AllocError>
     requires good { GoodArgs source.now elements.now }
     requires text { IsUtf8 (source_text source.now (expr_view source.now value.now)) }
-    ensures { IfOk result (λ s. s ≡ shown_list (source_text source.now (expr_view source.now value.now)) (of_each literal_in (args_view source.now elements.now)) (of_each variable_in (args_view source.now elements.now))) }
+    ensures { let inside = args_view source.now elements.now in let text = source_text source.now (expr_view source.now value.now) in
+        IfOk result (λ s. s ≡ shown_list text (of_each literal_in inside) (of_each variable_in inside)) }
 {
     if let Some(texts) = literals_in(alloc, source, elements)? {
         return Ok(Shown::Texts(texts));
@@ -243,8 +244,10 @@ pub(crate) fn keywords_of(
 ) -> Result<Vec<(Text, Shown)>, Refusal>
     requires good { GoodListing (list_view source.now arguments.now) }
     requires texts { ListHasTexts source.now (list_view source.now arguments.now) }
-    ensures shown { (function : Source) → IfOk result (λ pairs. keywords_of_call source.now role (call_with function (list_view source.now arguments.now)) ≡ Ok pairs.items) }
-    ensures refused { (function : Source) → IfErr result (λ e. e ≢ Refusal.OutOfMemory → keywords_of_call source.now role (call_with function (list_view source.now arguments.now)) ≡ Err e) }
+    ensures shown { (function : Source) → let call = call_with function (list_view source.now arguments.now) in
+        IfOk result (λ pairs. keywords_of_call source.now role call ≡ Ok pairs.items) }
+    ensures refused { (function : Source) → let call = call_with function (list_view source.now arguments.now) in
+        IfErr result (λ e. e ≢ Refusal.OutOfMemory → keywords_of_call source.now role call ≡ Err e) }
 {
     call_told(alloc, source, arguments, role)?;
     let pairs = shown_arguments(alloc, source, role, arguments.items.get())?;

@@ -110,7 +110,3 @@ module _ (files : List File) (trees : List Parsed) (are : AreParsed files trees)
         as_many_there q same =
             sym (length-map (rust.out-List a).items (arg_view (bytes_at place.file files))) ∙ sym (ap length (list_elements (bytes_at place.file files) a))
             ∙ sym (ap (λ o. length (elements_there o place)) same ∙ ap (λ o. length (elements_of (option_and_then list_in o))) at_place ∙ ap length (call_elements stands.value the_one.it stands.is_call) ∙ ap (λ m. length (elements m)) same_list)
-
--- the project of the variables that are made of files and trees
-pub same_project : (files now : List File) (trees then_ : List Parsed) → now ≡ files → then_ ≡ trees → named_trees now (views now then_) ≡ named_trees files (views files trees)
-same_project files now trees then_ a b = ap₂ (λ fs ts. named_trees fs (views fs ts)) a b

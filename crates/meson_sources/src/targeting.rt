@@ -2,10 +2,9 @@
 
 ghost use Rattle.std.specs.Prelude.{◌≡◌, ◌≢◌, All, Err, IfErr, IfOk};
 ghost use Rattle.std.specs.Str.{IsUtf8};
-ghost use Rattle.meson_calls.specs.Loading.{AreParsed, HasFileName, IsProject, named_trees, views};
 ghost use Rattle.meson_calls.specs.declared.refusal.Refusal.TheVariants.{OutOfMemory};
+ghost use Rattle.meson_calls.specs.NotedProjects.{IsNoted, loaded_in, project_in};
 ghost use Rattle.meson_steps.specs.Plans.{ArePlanned};
-ghost use Rattle.meson_calls.specs.Notes.{note_views, notes};
 ghost use Rattle.meson_sources.specs.Targeted.{target_steps};
 ghost use Rattle.meson_steps.specs.Meanings.{AreMeant};
 
@@ -13,12 +12,11 @@ use crate::editing::{sources_added, sources_removed};
 use crate::extra::{extra_added, extra_removed};
 use meson_calls::arriving::arguments_of;
 use meson_calls::finding::the_call;
-use meson_calls::note::Note;
+use meson_calls::noted::Noted;
 use meson_calls::variables::Variables;
 use meson_calls::{Refusal, Role};
-use meson_splice::{FileSet, Many, Text};
+use meson_splice::{Many, Text};
 use meson_steps::step::ListStep;
-use meson_syntax::Parsed;
 use std::alloc::Global;
 
 /// What is done to the sources or the extra files of a target.
@@ -36,25 +34,22 @@ pub enum Change {
 /// There is no such target or more than one, or the names can't be put there or taken out, or memory is refused.
 fn target_steps(
     alloc: Global,
-    files: &FileSet,
-    trees: &[Parsed],
-    noted: &[Note<'_>],
+    noted: &Noted<'_>,
     target: &str,
     change: Change,
     names: &[Text],
 ) -> Result<Vec<ListStep>, Refusal>
-    requires named { All HasFileName files.now }
-    requires parsed { AreParsed files.now trees.now }
-    requires taken { note_views noted.now ≡ notes (named_trees files.now (views files.now trees.now)) }
-    ensures meant { IfOk result (λ steps. AreMeant (target_steps (named_trees files.now (views files.now trees.now)) target.now change names.now) steps.items) }
-    ensures refused { IfErr result (λ e. e ≢ Refusal.OutOfMemory → target_steps (named_trees files.now (views files.now trees.now)) target.now change names.now ≡ Err e) }
+    requires { IsNoted noted.now }
+    ensures meant { IfOk result (λ steps. AreMeant (target_steps (project_in noted.now) target.now change names.now) steps.items) }
+    ensures refused { IfErr result (λ e. e ≢ Refusal.OutOfMemory → target_steps (project_in noted.now) target.now change names.now ≡ Err e) }
     ensures utf8 { IfOk result (λ steps. All IsUtf8 names.now) }
 {
-    let call = the_call(alloc, Role::Target, target, noted)?;
+    let trees = noted.trees;
+    let call = the_call(alloc, Role::Target, target, noted.notes)?;
     if call.file >= trees.len() {
         unreachable!();
     }
-    let source = files.bytes(call.file);
+    let source = noted.files.bytes(call.file);
     let arguments = match trees[call.file].expr_at(&call.path) {
         Some(expr) => arguments_of(expr),
         None => unreachable!(),
@@ -62,7 +57,7 @@ fn target_steps(
     let Some(arguments) = arguments else {
         unreachable!();
     };
-    let variables = Variables::of(alloc, files, trees, noted)?;
+    let variables = Variables::of(alloc, noted)?;
     match change {
         Change::SourcesAdded => sources_added(&variables, &call, source, arguments, names),
         Change::SourcesRemoved => sources_removed(&variables, &call, source, arguments, names),
@@ -77,25 +72,15 @@ fn target_steps(
 /// Why it is refused, or want of memory.
 pub fn on_target(
     alloc: Global,
-    files: &FileSet,
-    trees: &[Parsed],
-    noted: &[Note<'_>],
+    noted: &Noted<'_>,
     target: &Text,
     change: Change,
     names: &Many<Text>,
 ) -> Result<Vec<ListStep>, Refusal>
-    requires project { IsProject (record { files = files.now; parsed = trees.now }) }
-    requires taken { note_views noted.now ≡ notes (named_trees files.now (views files.now trees.now)) }
-    ensures plan { IfOk result (λ steps. ArePlanned (record { files = files.now; parsed = trees.now }) (target_steps (named_trees files.now (views files.now trees.now)) target.now change names.now) steps.items) }
-    ensures refused { IfErr result (λ e. e ≢ OutOfMemory → target_steps (named_trees files.now (views files.now trees.now)) target.now change names.now ≡ Err e) }
+    requires { IsNoted noted.now }
+    ensures plan { IfOk result (λ steps.
+        ArePlanned (loaded_in noted.now) (target_steps (project_in noted.now) target.now change names.now) steps.items) }
+    ensures refused { IfErr result (λ e. e ≢ OutOfMemory → target_steps (project_in noted.now) target.now change names.now ≡ Err e) }
 {
-    target_steps(
-        alloc,
-        files,
-        trees,
-        noted,
-        target.get(),
-        change,
-        names.get(),
-    )
+    target_steps(alloc, noted, target.get(), change, names.get())
 }

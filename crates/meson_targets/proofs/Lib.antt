@@ -9,7 +9,7 @@ mod SetTargets
 pub mod RemovedTargets
 mod NewTargets
 mod SetNames
-mod SetVariables
+mod Holders
 pub mod VariableStatements
 mod StatementsDoable
 mod StatementsRemoved

@@ -1,10 +1,9 @@
 -- The variable that a statement of a file sets is an identifier.
-use Rattle.std.proofs.Common.{◌≡◌, ℕ, zero, suc, ◌<◌, List, [], ◌∷◌, ◌++◌, length, get_or, Some, sym, ap, ◌∙◌, subst, arith}
-use Rattle.std.specs.Prelude.{option_and_then}
+use Rattle.std.proofs.Common.{◌≡◌, ℕ, zero, suc, List, [], ◌∷◌, ◌++◌, Some, sym, ap, ◌∙◌, subst}
+use Rattle.std.specs.Prelude.{option_and_then, option_map}
 use Rattle.meson_lex.specs.Kinds.{IsIdentifier}
 use Rattle.meson_lex.specs.Significant.{new_line}
 use Rattle.meson_lex.specs.declared.kinds.Span.{Span}
-use Rattle.meson_splice.specs.Files.{bytes_at}
 use Rattle.meson_splice.specs.declared.file_set.File.{File}
 use Rattle.meson_syntax.specs.declared.operator.Assignment.TheVariants as assignment
 use Rattle.meson_syntax.specs.declared.tree.Parsed.{Parsed}
@@ -13,20 +12,22 @@ use Rattle.meson_syntax.specs.Grammar.{statement_words, statements_words, block_
 use Rattle.meson_syntax.specs.Paths.{Sort, of_expression, of_statement, of_block, Node, node_words, reach, block_of, nth}
 use Rattle.meson_syntax.specs.Tree.{Statement, evaluate, assign, selection, iteration, breaks, continues, Statements, no_statements, statement, statement_list, Block, block, file, erase}
 use Rattle.meson_syntax.specs.Tree as tree
-use Rattle.meson_syntax.specs.View.{text_at, view}
+use Rattle.meson_syntax.specs.View.{view}
 use Rattle.meson_syntax.proofs.parsing.FileErased.{file-words-erased}
 use Rattle.meson_syntax.proofs.parsing.Steps.{some-injective}
-use Rattle.meson_syntax.proofs.paths.Reaching.{and-then-some, reach-fits}
+use Rattle.meson_syntax.proofs.paths.Reaching.{and-then-some, map-some, reach-fits}
+use Rattle.meson_calls.specs.declared.call.CallRef.{CallRef}
 use Rattle.meson_calls.specs.Loading.{AreParsed, named_trees, views}
+use Rattle.meson_calls.specs.Project.{Project, BuildFile, nth_file}
 use Rattle.meson_calls.specs.Strings.{AreGood}
-use Rattle.meson_calls.proofs.CallsAt.{spanned_at}
 use Rattle.meson_calls.proofs.GoodParts.{good_left, good_right}
 use Rattle.meson_calls.proofs.GoodTexts.{text_good}
-use Rattle.meson_targets.specs.declared.target_removing.Held as code_held
-use Rattle.meson_targets.specs.declared.target_removing.Held.TheVariants as code
-use Rattle.meson_targets.specs.TargetEdits.{StatementPlace, set_to, held_by, statement_there}
-use Rattle.meson_targets.specs.TargetViews.{held_view, IsNamed}
-use Rattle.meson_targets.proofs.StatementsRemoved.{statement_is}
+use Rattle.meson_targets.specs.declared.holder.Held as code_held
+use Rattle.meson_targets.specs.declared.holder.Held.TheVariants as code
+use Rattle.meson_targets.specs.declared.holder.Holder as code_holder
+use Rattle.meson_targets.specs.TargetEdits.{StatementPlace, Held, Holder, set_to, held_by, holder, statement_of, statement_there}
+use Rattle.meson_targets.specs.TargetViews.{held_view, holder_view, IsNamed}
+use Rattle.meson_targets.proofs.StatementsRemoved.{in_build_file}
 
 -- ---- words that are of their kinds
 
@@ -64,28 +65,31 @@ set_good (iteration s xs e b) x is good = absurd cc
 set_good (breaks s) x is good = absurd cc
 set_good (continues s) x is good = absurd cc
 
-module _ (files : List File) (trees : List Parsed) (line : StatementPlace) (d : Parsed) (many : length trees ≡ length files) (within : line.block.file < length trees) (are : AreParsed files trees) where
-  abbrev bytes : List ℕ
-  bytes = bytes_at line.block.file files
+words_good : (files : List File) (trees : List Parsed) (i : ℕ) (f : BuildFile Span) → AreParsed files trees → nth_file (named_trees files (views files trees)) i ≡ Some f → AreGood (file_words f.tree)
+words_good [] trees i f are is = absurd cc
+words_good (g ∷ files) [] i f are is = absurd are
+words_good (g ∷ files) (t ∷ trees) zero f are is =
+    let here = view g.bytes t in
+    subst (λ (h : BuildFile Span). AreGood (file_words h.tree)) (some-injective _ _ is) (subst AreGood (file-words-erased here) (text_good g.bytes (erase here) are.0.reads.spells))
+words_good (g ∷ files) (t ∷ trees) (suc i) f are is = words_good files trees i f are.1 is
 
-  abbrev the_tree : tree.File Span
-  the_tree = view bytes (get_or trees line.block.file d)
+module _ (files : List File) (trees : List Parsed) (are : AreParsed files trees) where
+  abbrev p : Project Span
+  p = named_trees files (views files trees)
 
-  set_name : (x : List ℕ) → Some (set_to x) ≡ option_and_then held_by (statement_there (named_trees files (views files trees)) line) → IsIdentifier x
-  set_name x is =
-      let found = sym (ap (option_and_then held_by) (statement_is files trees line d many within)) ∙ sym is in
-      let s = and-then-some held_by (option_and_then (λ (b : BlockAt Span). statement_in b.inside line.number) (block_at the_tree line.block.path.steps)) (set_to x) found in
-      let b = and-then-some (λ (b : BlockAt Span). statement_in b.inside line.number) (block_at the_tree line.block.path.steps) s.0 s.1 in
-      let spanned = spanned_at files trees line.block.file d within are in
-      let good = subst AreGood (file-words-erased the_tree) (text_good bytes (erase the_tree) spanned.reads.spells) in
-      set_good s.0 x s.2 (in_block b.0.inside line.number s.0 b.2 (block_good the_tree line.block.path.steps b.0 b.1 good))
+  set_name : (line : StatementPlace) (x : List ℕ) → option_and_then held_by (statement_there p line) ≡ Some (set_to x) → IsIdentifier x
+  set_name line x is =
+      let s = and-then-some held_by (statement_there p line) (set_to x) is in
+      let f = and-then-some (in_build_file line) (nth_file p line.block.file) s.0 s.1 in
+      let b = and-then-some (λ (b : BlockAt Span). statement_in b.inside line.number) (block_at f.0.tree line.block.path.steps) s.0 f.2 in
+      set_good s.0 x s.2 (in_block b.0.inside line.number s.0 b.2 (block_good f.0.tree line.block.path.steps b.0 b.1 (words_good files trees line.block.file f.0 are f.1)))
 
-  named_by : (held : code_held.Held) → Some (held_view bytes held) ≡ option_and_then held_by (statement_there (named_trees files (views files trees)) line) → IsNamed bytes held
-  named_by code.Alone is = tt
-  named_by (code.SetTo name) is = set_name (text_at bytes name) is
+  named_by : (line : StatementPlace) (held : code_held.Held) → option_and_then held_by (statement_there p line) ≡ Some (held_view held) → IsNamed held
+  named_by line code.Alone is = tt
+  named_by line (code.SetTo name) is = set_name line name.now is
 
-pub held_named : (files : List File) (trees : List Parsed) (line : StatementPlace) → length trees ≡ length files → line.block.file < length trees → AreParsed files trees
-    → (held : code_held.Held) → Some (held_view (bytes_at line.block.file files) held) ≡ option_and_then held_by (statement_there (named_trees files (views files trees)) line)
-    → IsNamed (bytes_at line.block.file files) held
-held_named files [] line many within are held is = absurd (omega (arith, within))
-held_named files (t ∷ trees) line many within are held is = named_by files (t ∷ trees) line t many within are held is
+  pub holder_named : (call : CallRef) (h : code_holder.Holder) → Some (holder_view h) ≡ holder p call → IsNamed h.held
+  holder_named call h is =
+      let l = and-then-some (λ (s : StatementPlace). option_map (λ held. record { statement = s; held = held }) (option_and_then held_by (statement_there p s))) (statement_of call) (holder_view h) (sym is) in
+      let k = map-some (λ (held : Held). record { statement = l.0; held = held }) (option_and_then held_by (statement_there p l.0)) (holder_view h) l.2 in
+      named_by l.0 h.held (k.1 ∙ ap Some (ap (λ (o : Holder). o.held) k.2))

@@ -1,6 +1,6 @@
 -- The statement of a target, and the step that removes it.
 use Rattle.std.proofs.Common.{◌≡◌, ℕ, zero, suc, ◌+◌, ◌<◌, ◌≤◌, List, [], ◌∷◌, take, length, get_or, map, Option, Some, None, refl, sym, ap, ◌∙◌, subst, arith}
-use Rattle.std.specs.Prelude.{option_map, option_and_then, Result, Ok, Err, IfOk, IfErr, ◌≢◌}
+use Rattle.std.specs.Prelude.{option_map, option_and_then, Result, Ok, Err, IfOk}
 use Rattle.meson_lex.specs.declared.kinds.Span.{Span}
 use Rattle.meson_splice.specs.Patch.{then_ok}
 use Rattle.meson_splice.specs.declared.file_set.File.{File}
@@ -12,15 +12,14 @@ use Rattle.meson_syntax.specs.View.{view}
 use Rattle.meson_calls.specs.declared.call.CallRef.{CallRef}
 use Rattle.meson_calls.specs.declared.call.Role.TheVariants as role
 use Rattle.meson_calls.specs.declared.refusal.Refusal.{Refusal}
-use Rattle.meson_calls.specs.declared.refusal.Refusal.TheVariants.{OutOfMemory, NotStatement}
+use Rattle.meson_calls.specs.declared.refusal.Refusal.TheVariants.{NotStatement}
 use Rattle.meson_steps.specs.declared.step.ListEdit.TheVariants as code
 use Rattle.meson_steps.specs.declared.step.ListStep.{ListStep}
-use Rattle.meson_calls.specs.Calls.{Call}
 use Rattle.meson_calls.specs.Loading.{named_trees, views}
 use Rattle.meson_calls.specs.Finding.{the_call}
-use Rattle.meson_calls.specs.Project.{Project, BuildFile, Placed, nth_file, place}
+use Rattle.meson_calls.specs.Project.{Project, BuildFile, nth_file, place}
 use Rattle.meson_steps.specs.Steps.{Step}
-use Rattle.meson_targets.specs.TargetEdits.{StatementPlace, Held, Holder, statement_path, statement_of, statement_there, held_by, holder, some_holder, not_in_use, statement_removal, target_removed}
+use Rattle.meson_targets.specs.TargetEdits.{StatementPlace, Holder, statement_path, statement_of, statement_there, held_by, holder, some_holder, named_removed, not_in_use, removed_at, statement_removal, target_removed}
 use Rattle.meson_steps.specs.Meanings.{AreMeant}
 use Rattle.meson_calls.proofs.Standing.{nth_there}
 use Rattle.meson_calls.proofs.OneCall.{placed_at, call_there}
@@ -58,7 +57,7 @@ nth_past (f ∷ files) [] i past = refl
 nth_past (f ∷ files) (t ∷ trees) zero past = absurd (omega (arith, past))
 nth_past (f ∷ files) (t ∷ trees) (suc i) past = let below : length trees ≤ i = omega (arith, past) in nth_past files trees i below
 
-abbrev in_build_file : StatementPlace → BuildFile Span → Option (Statement Span)
+abbrev pub in_build_file : StatementPlace → BuildFile Span → Option (Statement Span)
 in_build_file line f = option_and_then (λ b. statement_in b.inside line.number) (block_at f.tree line.block.path.steps)
 
 pub no_statement : (files : List File) (trees : List Parsed) (line : StatementPlace) → length trees ≤ line.block.file → None ≡ option_and_then held_by (statement_there (named_trees files (views files trees)) line)
@@ -71,57 +70,32 @@ statement_is files trees line d many within = ap (option_and_then (in_build_file
 
 -- ---- what the removal of a target means
 
-module _ (p : Project Span) (call : CallRef) (c : Placed (Call Span)) (same : c.place ≡ call) where
+module _ (p : Project Span) (call : CallRef) where
   abbrev from_holder : Option Holder → Result (List Step) Refusal
   from_holder o = then_ok (some_holder o) (λ h. then_ok (not_in_use p h.statement h.held) (λ _. Ok (statement_removal h.statement)))
 
-  abbrev from_held : StatementPlace → Option Held → Option Holder
-  from_held line o = option_map (λ held. record { statement = line; held = held }) o
+  pub not_held : None ≡ holder p call → removed_at p call ≡ Err NotStatement
+  not_held none = ap from_holder (sym none)
 
-  abbrev from_line : Option StatementPlace → Option Holder
-  from_line o = option_and_then (λ line. from_held line (option_and_then held_by (statement_there p line))) o
+  module _ (h : Holder) (is_held : Some h ≡ holder p call) where
+    on_held : removed_at p call ≡ then_ok (not_in_use p h.statement h.held) (λ _. Ok (statement_removal h.statement))
+    on_held = ap from_holder (sym is_held)
 
-  means : target_removed p c ≡ from_holder (from_line (statement_of call))
-  means = ap (λ k. from_holder (holder p k)) same
+    pub in_use : (e : Refusal) → not_in_use p h.statement h.held ≡ Err e → removed_at p call ≡ Err e
+    in_use e is = on_held ∙ ap (λ r. then_ok r (λ _. Ok (statement_removal h.statement))) is
 
-  module _ (line : StatementPlace) (is_line : Some line ≡ statement_of call) where
-    on_line : target_removed p c ≡ from_holder (from_held line (option_and_then held_by (statement_there p line)))
-    on_line = means ∙ ap (λ o. from_holder (from_line o)) (sym is_line)
+    removed_is : not_in_use p h.statement h.held ≡ Ok tt → removed_at p call ≡ Ok (statement_removal h.statement)
+    removed_is is = on_held ∙ ap (λ r. then_ok r (λ _. Ok (statement_removal h.statement))) is
 
-    pub not_held : None ≡ option_and_then held_by (statement_there p line) → target_removed p c ≡ Err NotStatement
-    not_held none = on_line ∙ ap (λ o. from_holder (from_held line o)) (sym none)
-
-    module _ (held : Held) (is_held : Some held ≡ option_and_then held_by (statement_there p line)) where
-      on_held : target_removed p c ≡ then_ok (not_in_use p line held) (λ _. Ok (statement_removal line))
-      on_held = on_line ∙ ap (λ o. from_holder (from_held line o)) (sym is_held)
-
-      pub in_use : (e : Refusal) → not_in_use p line held ≡ Err e → target_removed p c ≡ Err e
-      in_use e is = on_held ∙ ap (λ r. then_ok r (λ _. Ok (statement_removal line))) is
-
-      removed_is : not_in_use p line held ≡ Ok tt → target_removed p c ≡ Ok (statement_removal line)
-      removed_is is = on_held ∙ ap (λ r. then_ok r (λ _. Ok (statement_removal line))) is
-
-      pub removal_meant : {V : Type 0} (list : V → List ListStep) (r : Result V Refusal) → not_in_use p line held ≡ Ok tt
-          → IfOk r (λ v. list v ≡ record { list = line.block; edit = code.RemoveStatement line.number } ∷ []) → IfOk r (λ v. AreMeant (target_removed p c) (list v))
-      removal_meant list (Ok v) is done = record { steps = statement_removal line; is = removed_is is; bare = sym (ap (map Some) done) }
-      removal_meant list (Err e) is done = tt
+    pub removal_meant : {V : Type 0} (list : V → List ListStep) (r : Result V Refusal) → not_in_use p h.statement h.held ≡ Ok tt
+        → IfOk r (λ v. list v ≡ record { list = h.statement.block; edit = code.RemoveStatement h.statement.number } ∷ []) → IfOk r (λ v. AreMeant (removed_at p call) (list v))
+    removal_meant list (Ok v) is done = record { steps = statement_removal h.statement; is = removed_is is; bare = sym (ap (map Some) done) }
+    removal_meant list (Err e) is done = tt
 
 -- ---- of the target that is named
 
-module _ (p : Project Span) (id : List ℕ) (call : CallRef) (found : placed_at (the_call p role.Target id) ≡ Ok call) where
-  abbrev meant : Result (List Step) Refusal
-  meant = then_ok (the_call p role.Target id) (λ c. target_removed p c)
-
-  one : (c : Placed (Call Span)) × (the_call p role.Target id ≡ Ok c) × (c.place ≡ call)
-  one = call_there (the_call p role.Target id) call found
-
-  named_is : meant ≡ target_removed p one.0
-  named_is = ap (λ r. then_ok r (λ c. target_removed p c)) one.1
-
-  pub named_meant : {V : Type 0} (list : V → List ListStep) (r : Result V Refusal) → ((c : Placed (Call Span)) → c.place ≡ call → IfOk r (λ v. AreMeant (target_removed p c) (list v)))
-      → IfOk r (λ v. AreMeant meant (list v))
-  named_meant list r each = subst (λ m. IfOk r (λ v. AreMeant m (list v))) (sym named_is) (each one.0 one.2)
-
-  pub named_refused : {V : Type 0} (r : Result V Refusal) → ((c : Placed (Call Span)) → c.place ≡ call → IfErr r (λ e. e ≢ OutOfMemory → target_removed p c ≡ Err e))
-      → IfErr r (λ e. e ≢ OutOfMemory → meant ≡ Err e)
-  named_refused r each = subst (λ m. IfErr r (λ e. e ≢ OutOfMemory → m ≡ Err e)) (sym named_is) (each one.0 one.2)
+-- the call that an id names is removed at its place
+pub named_at : (p : Project Span) (id : List ℕ) (call : CallRef) → placed_at (the_call p role.Target id) ≡ Ok call → removed_at p call ≡ named_removed p id
+named_at p id call found =
+    let one = call_there (the_call p role.Target id) call found in
+    sym (ap (λ r. then_ok r (λ c. target_removed p c)) one.1 ∙ ap (removed_at p) one.2)

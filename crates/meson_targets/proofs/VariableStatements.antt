@@ -15,8 +15,8 @@ use Rattle.meson_calls.proofs.CallsReached.{InProject}
 use Rattle.meson_calls.proofs.Reached.{any}
 use Rattle.meson_steps.specs.Layers.{block_any}
 use Rattle.meson_steps.proofs.BlockNodes.{block_reached}
-use Rattle.meson_targets.specs.TargetEdits.{StatementPlace, held_by, set_to, statement_of, statement_path, statement_there, variable_of}
-use Rattle.meson_targets.proofs.SetVariables.{on_line}
+use Rattle.meson_targets.specs.TargetEdits.{Holder, StatementPlace, held_by, name_set, set_to, statement_of, statement_path, statement_there, variable_of}
+use Rattle.meson_targets.proofs.Holders.{on_line}
 
 -- ---- a statement stands in a block, and in nothing else
 
@@ -187,4 +187,5 @@ module _ (p : Project Span) (q : Placed (Part Span)) (i : InProject 0 p q) (s : 
       ∙ inside_at (block_at i.file.tree place_ended.front) b.inside place_ended.last it reached b.is_there
 
   pub value_has_variable : variable_of p (child q.place 0) ≡ Some x.text
-  value_has_variable = sym (on_line p (child q.place 0) line (Some (set_to x.text)) is_line (sym (ap (option_and_then held_by) statement_is)))
+  value_has_variable =
+      sym (ap (option_and_then (λ (h : Holder). name_set h.held)) (on_line p (child q.place 0) line (Some (set_to x.text)) is_line (sym (ap (option_and_then held_by) statement_is))))

@@ -14,6 +14,7 @@ use Rattle.meson_calls.specs.declared.refusal.Refusal.TheVariants.{WrongKind, Na
 use Rattle.meson_calls.specs.Project.{Project, BuildFile, Placed, place, child, nth_file}
 use Rattle.meson_calls.specs.Parts.{Part, an_expression, a_statement, parts}
 use Rattle.meson_calls.specs.Calls.{Call, all_chosen, first_literal, is}
+use Rattle.meson_calls.specs.Finding.{the_call}
 use Rattle.meson_calls.specs.Roles.{target_functions, one_of, role_calls, with_name}
 use Rattle.meson_calls.specs.Variables.{one_of_names}
 use Rattle.meson_calls.specs.Folders.{build_file, file_in}
@@ -172,5 +173,12 @@ not_in_use p statement (set_to x) = if is_used_outside p statement x then Err (I
 abbrev pub statement_removal : StatementPlace → List Step
 statement_removal statement = record { file = statement.block.file; edit = RemoveStatement statement.block.path.steps statement.number } ∷ []
 
+abbrev pub removed_at : {S : Type 0} → Project S → CallRef → Result (List Step) Refusal
+removed_at p c = then_ok (some_holder (holder p c)) (λ h. then_ok (not_in_use p h.statement h.held) (λ _. Ok (statement_removal h.statement)))
+
 abbrev pub target_removed : {S : Type 0} → Project S → Placed (Call S) → Result (List Step) Refusal
-target_removed p c = then_ok (some_holder (holder p c.place)) (λ h. then_ok (not_in_use p h.statement h.held) (λ _. Ok (statement_removal h.statement)))
+target_removed p c = removed_at p c.place
+
+-- the target that an id names
+abbrev pub named_removed : {S : Type 0} → Project S → List ℕ → Result (List Step) Refusal
+named_removed p id = then_ok (the_call p role.Target id) (λ c. target_removed p c)

@@ -1,24 +1,24 @@
 //! The steps by which a target is put at the end of a build file.
 
-ghost use Rattle.std.specs.Prelude.{◌≡◌, ◌≢◌, ◌∷◌, [], All, Err, IfErr, IfOk, Ok, length, map};
+ghost use Rattle.std.specs.Prelude.{◌≡◌, ◌≢◌, ◌∷◌, [], All, Err, IfErr, IfOk, Ok, map};
 ghost use Rattle.std.specs.Str.{IsUtf8};
-ghost use Rattle.meson_calls.specs.Loading.{AreParsed, named_trees, views};
-ghost use Rattle.meson_calls.specs.Notes.{note_views, notes};
+ghost use Rattle.meson_calls.specs.NotedProjects.{IsNoted, project_in};
 ghost use Rattle.meson_calls.specs.Project.{place};
 ghost use Rattle.meson_steps.specs.Names.{checked_names};
-ghost use Rattle.meson_targets.specs.TargetEdits.{checked_kind, is_target_kind, not_taken, number_in, target_added, targets_named, written_target};
+ghost use Rattle.meson_targets.specs.TargetEdits.{checked_kind, is_target_kind, not_taken, number_in, targets_named, written_target};
+ghost use Rattle.meson_targets.specs.TargetViews.{new_target};
 ghost use Rattle.meson_steps.specs.Meanings.{AreMeant};
 
 use meson_calls::entering::file_in;
 use meson_calls::naming::with_name;
-use meson_calls::note::Note;
+use meson_calls::noted::Noted;
 use meson_calls::roles::makes_target;
 use meson_calls::{CallRef, Refusal, Role};
-use meson_splice::{Bytes, FileSet, Text};
+use meson_splice::{Bytes, Text};
 use meson_steps::literals::push_literal;
 use meson_steps::names::{checked_names, distinct};
 use meson_steps::step::{ListEdit, ListStep, push_step};
-use meson_syntax::{Many, Parsed, Path};
+use meson_syntax::{Many, Path};
 use std::alloc::Global;
 
 /// A target to be: its name, the function that makes it, its folder and its sources.
@@ -56,19 +56,12 @@ fn checked_kind(alloc: Global, kind: &Text) -> Result<(), Refusal>
 ///
 /// # Errors
 /// A target has the name, or memory is refused.
-fn not_taken(
-    alloc: Global,
-    files: &FileSet,
-    trees: &[Parsed],
-    noted: &[Note<'_>],
-    name: &str,
-) -> Result<(), Refusal>
-    requires parsed { AreParsed files.now trees.now }
-    requires taken { note_views noted.now ≡ notes (named_trees files.now (views files.now trees.now)) }
-    ensures checked { IfOk result (λ u. not_taken (targets_named (named_trees files.now (views files.now trees.now)) name.now) ≡ Ok tt) }
-    ensures refused { IfErr result (λ e. e ≢ Refusal.OutOfMemory → not_taken (targets_named (named_trees files.now (views files.now trees.now)) name.now) ≡ Err e) }
+fn not_taken(alloc: Global, noted: &Noted<'_>, name: &str) -> Result<(), Refusal>
+    requires { IsNoted noted.now }
+    ensures checked { IfOk result (λ u. not_taken (targets_named (project_in noted.now) name.now) ≡ Ok tt) }
+    ensures refused { IfErr result (λ e. e ≢ Refusal.OutOfMemory → not_taken (targets_named (project_in noted.now) name.now) ≡ Err e) }
 {
-    let targets = with_name(alloc, Role::Target, name, noted)?;
+    let targets = with_name(alloc, Role::Target, name, noted.notes)?;
     if !targets.as_slice().is_empty() {
         return Err(Refusal::NameTaken);
     }
@@ -79,18 +72,13 @@ fn not_taken(
 ///
 /// # Errors
 /// There is no such file, or memory is refused.
-fn number_in(
-    alloc: Global,
-    files: &FileSet,
-    trees: &[Parsed],
-    folder: &str,
-) -> Result<usize, Refusal>
-    requires { length trees.now ≡ length files.now }
-    ensures found { IfOk result (λ n. number_in (named_trees files.now (views files.now trees.now)) folder.now ≡ Ok n) }
-    ensures refused { IfErr result (λ e. e ≢ Refusal.OutOfMemory → number_in (named_trees files.now (views files.now trees.now)) folder.now ≡ Err e) }
+fn number_in(alloc: Global, noted: &Noted<'_>, folder: &str) -> Result<usize, Refusal>
+    requires { IsNoted noted.now }
+    ensures found { IfOk result (λ n. number_in (project_in noted.now) folder.now ≡ Ok n) }
+    ensures refused { IfErr result (λ e. e ≢ Refusal.OutOfMemory → number_in (project_in noted.now) folder.now ≡ Err e) }
 {
     if folder.is_empty() {
-        return match files.find("meson.build") {
+        return match noted.files.find("meson.build") {
             Some(number) => Ok(number),
             None => Err(Refusal::NoFile),
         };
@@ -98,7 +86,7 @@ fn number_in(
     let Some(name) = file_in(alloc, "meson.build", folder)? else {
         return Err(Refusal::NoFile);
     };
-    match files.find(name.as_str()) {
+    match noted.files.find(name.as_str()) {
         Some(number) => Ok(number),
         None => Err(Refusal::NoFile),
     }
@@ -146,21 +134,18 @@ fn checked_texts(name: &Text, sources: &[Text]) -> Result<(), Refusal>
 /// The kind is none, a name is empty, the name is taken, the folder has no file, or memory is refused.
 pub fn target_added(
     alloc: Global,
-    files: &FileSet,
-    trees: &[Parsed],
-    noted: &[Note<'_>],
+    noted: &Noted<'_>,
     new: NewTarget<'_>,
 ) -> Result<Vec<ListStep>, Refusal>
-    requires parsed { AreParsed files.now trees.now }
-    requires taken { note_views noted.now ≡ notes (named_trees files.now (views files.now trees.now)) }
-    ensures meant { IfOk result (λ steps. AreMeant (target_added (named_trees files.now (views files.now trees.now)) new.entry.name.now new.entry.kind.now new.entry.folder.now new.entry.sources.now) steps.items) }
-    ensures refused { IfErr result (λ e. e ≢ Refusal.OutOfMemory → target_added (named_trees files.now (views files.now trees.now)) new.entry.name.now new.entry.kind.now new.entry.folder.now new.entry.sources.now ≡ Err e) }
+    requires { IsNoted noted.now }
+    ensures meant { IfOk result (λ steps. AreMeant (new_target (project_in noted.now) new.entry) steps.items) }
+    ensures refused { IfErr result (λ e. e ≢ Refusal.OutOfMemory → new_target (project_in noted.now) new.entry ≡ Err e) }
     ensures utf8 { IfOk result (λ steps. All IsUtf8 (new.entry.name.now ∷ new.entry.sources.now)) }
 {
     checked_kind(alloc, new.kind)?;
     checked_texts(new.name, new.sources)?;
-    not_taken(alloc, files, trees, noted, new.name.get())?;
-    let file = number_in(alloc, files, trees, new.folder.get())?;
+    not_taken(alloc, noted, new.name.get())?;
+    let file = number_in(alloc, noted, new.folder.get())?;
     let sources = distinct(alloc, new.sources)?;
     let statement = written_target(alloc, new.kind, new.name, sources.as_slice())?;
     one_step(alloc, file, statement)

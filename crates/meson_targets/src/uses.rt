@@ -4,8 +4,8 @@ ghost use Rattle.std.specs.Prelude.{◌≡◌, ◌++◌, ◌∷◌, [], IfOk};
 ghost use Rattle.meson_syntax.specs.Grammar.{listing_words};
 ghost use Rattle.meson_syntax.specs.View.{list_view, text_at};
 ghost use Rattle.meson_syntax.specs.declared.operator.Bracket.TheVariants as bracket;
-ghost use Rattle.meson_calls.specs.Loading.{AreParsed, named_trees, views};
-ghost use Rattle.meson_calls.specs.Notes.{note_view, note_views, notes};
+ghost use Rattle.meson_calls.specs.NotedProjects.{IsNoted, project_in};
+ghost use Rattle.meson_calls.specs.Notes.{note_view, note_views};
 ghost use Rattle.meson_calls.specs.Parts.{parts};
 ghost use Rattle.meson_calls.specs.Picking.{call_with};
 ghost use Rattle.meson_calls.specs.Project.{place_at};
@@ -19,13 +19,13 @@ ghost use Rattle.meson_targets.specs.Uses.{is_noted_outside, is_outside, is_read
 use meson_calls::keeper::Keeper;
 use meson_calls::literals::first_literal;
 use meson_calls::note::{Note, What};
+use meson_calls::noted::Noted;
 use meson_calls::roles::text_of;
 use meson_calls::setters::one_of;
 use meson_calls::walk_statements::walk_files;
 use meson_calls::{CallRef, Place};
 use meson_lex::Span;
-use meson_splice::FileSet;
-use meson_syntax::{List, Parsed};
+use meson_syntax::List;
 use std::alloc::{AllocError, Global};
 
 /// A statement: the place of its block, and its number there.
@@ -139,18 +139,17 @@ fn is_read_outside(places: &[CallRef], line: &StatementPlace) -> bool
 /// The places of a project where a variable is read, in file order and source order.
 fn reads_of<'t>(
     alloc: Global,
-    files: &'t FileSet,
-    trees: &'t [Parsed],
+    noted: &Noted<'t>,
     name: &'t [u8],
 ) -> Result<Vec<CallRef>, AllocError>
-    requires { AreParsed files.now trees.now }
-    ensures { IfOk result (λ found. found.items ≡ read_in name.entry.now (parts (named_trees files.now (views files.now trees.now)))) }
+    requires { IsNoted noted.now }
+    ensures { IfOk result (λ found. found.items ≡ read_in name.now (parts (project_in noted.now))) }
 {
     let mut keeper = Keeper::Reads {
         name,
         found: Vec::new(alloc),
     };
-    walk_files(alloc, files, trees, &mut keeper)?;
+    walk_files(alloc, noted.files, noted.trees, &mut keeper)?;
     match keeper.reads() {
         Some(found) => Ok(found),
         None => unreachable!(),
@@ -160,19 +159,16 @@ fn reads_of<'t>(
 /// Whether the variable is used outside a statement.
 pub(crate) fn is_used_outside(
     alloc: Global,
-    files: &FileSet,
-    trees: &[Parsed],
-    noted: &[Note<'_>],
+    noted: &Noted<'_>,
     line: &StatementPlace,
     name: &[u8],
 ) -> Result<bool, AllocError>
-    requires parsed { AreParsed files.now trees.now }
-    requires taken { note_views noted.now ≡ notes (named_trees files.now (views files.now trees.now)) }
-    ensures { IfOk result (λ used. used ≡ is_used_outside (named_trees files.now (views files.now trees.now)) (place_view line.now) name.now) }
+    requires { IsNoted noted.now }
+    ensures { IfOk result (λ used. used ≡ is_used_outside (project_in noted.now) (place_view line.now) name.now) }
 {
-    if is_noted_outside(alloc, noted, line, name)? {
+    if is_noted_outside(alloc, noted.notes, line, name)? {
         return Ok(true);
     }
-    let places = reads_of(alloc, files, trees, name)?;
+    let places = reads_of(alloc, noted, name)?;
     Ok(is_read_outside(places.as_slice(), line))
 }

@@ -4,9 +4,9 @@ ghost use Rattle.std.specs.Prelude.{◌≡◌, IfOk};
 ghost use Rattle.meson_calls.specs.Loading.{AreParsed, named_trees, views};
 ghost use Rattle.meson_targets.specs.TargetEdits.{variable_of};
 
-use crate::target_removing::{Held, held_at, statement_of};
+use crate::holder::{Held, holder_of};
 use meson_calls::CallRef;
-use meson_calls::roles::{identifier_text, text_of};
+use meson_calls::roles::identifier_text;
 use meson_splice::{FileSet, Text};
 use meson_syntax::Parsed;
 use std::alloc::{AllocError, Global};
@@ -24,15 +24,14 @@ pub fn variable_of(
     requires { AreParsed files.now trees.now }
     ensures { IfOk result (λ name. name ≡ variable_of (named_trees files.now (views files.now trees.now)) call.now) }
 {
-    let Some(line) = statement_of(alloc, call)? else {
+    let Some(holder) = holder_of(alloc, files, trees, call)? else {
         return Ok(None);
     };
-    match held_at(trees, &line) {
-        Some(Held::SetTo(span)) => {
-            let name = identifier_text(text_of(files.bytes(line.block.file), span));
+    match holder.held {
+        Held::SetTo(name) => {
+            let name = identifier_text(name);
             Ok(Some(Text::of(String::from_str(alloc, name)?)))
         }
-        Some(Held::Alone) => Ok(None),
-        None => Ok(None),
+        Held::Alone => Ok(None),
     }
 }

@@ -20,7 +20,7 @@ returns-in_err-key_told-in-Some-clause-refused c =
     let source = c.args.source.now in
     let l = c.args.arguments.now in
     let d = c.index-args-i.result in
-    let some = ap (λ a. name_in (arg_view source a)) (sym c.index-args-i.is) ∙ c.in-Some.ensures in
+    let some = ap (λ a. name_in (arg_view source a)) (sym c.index-args-i.is) ∙ sym c.in-Some.ensures in
     c.loop-i.invariant function
     ∙ key_stopped source l function c.args.role c.get-args.result.now c.loop-i.i d c.loop-i-test.true c.in-Some.key.now some c.in_err-key_told-in-Some.field-0.0 (c.in_err-key_told-in-Some.ensures.refused function other))
 
@@ -32,10 +32,10 @@ loop-i-preserved c =
     let d = c.index-args-i.result in
     elim c.match-name_of.branch [
       | in-Some+in_ok-key_told-in-Some w ↦ λ function.
-          let some = ap (λ a. name_in (arg_view source a)) (sym c.index-args-i.is) ∙ w.in-Some.ensures in
+          let some = ap (λ a. name_in (arg_view source a)) (sym c.index-args-i.is) ∙ sym w.in-Some.ensures in
           c.loop-i.invariant function ∙ key_passed source l function c.args.role args c.loop-i.i d c.loop-i-test.true w.in-Some.key.now some (w.in_ok-key_told-in-Some.ensures.told function)
       | in-None w ↦ λ function.
-          let none = ap (λ a. name_in (arg_view source a)) (sym c.index-args-i.is) ∙ w.in-None.ensures in
+          let none = ap (λ a. name_in (arg_view source a)) (sym c.index-args-i.is) ∙ sym w.in-None.ensures in
           c.loop-i.invariant function ∙ no_name source l function c.args.role args c.loop-i.i d c.loop-i-test.true none
     ]
 

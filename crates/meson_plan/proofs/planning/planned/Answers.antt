@@ -1,25 +1,6 @@
--- What each plan means.
-use Rattle.std.proofs.Common.{◌≡◌, ◌≢◌, sym, ap, subst}
-use Rattle.std.specs.Prelude.{Err, IfErr}
-use Rattle.meson_calls.specs.declared.refusal.Refusal.TheVariants.{OutOfMemory}
-use Rattle.meson_calls.specs.Loading.{Loaded, project}
-use Rattle.meson_plan.specs.Orders.{plan_steps}
-use Rattle.meson_targets.proofs.TargetsDoable.{addition_means, removal_means}
+use Rattle.std.proofs.Common.{ap, ◌∙◌}
+use Rattle.meson_calls.specs.Notes.{note_views}
 use Rattle.meson_plan.proofs.planning.planned.Goals as goal
 
-pub returns-in-AddTarget-clause-plan : goal.returns-in-AddTarget-clause-plan
-returns-in-AddTarget-clause-plan c =
-    let old : Loaded = record { files = c.args.files.now; parsed = c.args.trees.now } in
-    let new = c.in-AddTarget.new in
-    addition_means old c.requires (λ v. v.items) (plan_steps (project old) c.args.plan) new.name.now new.kind.now new.folder.now new.sources.now
-    (ap (plan_steps (project old)) c.in-AddTarget.is) c.target_added.result c.target_added.ensures.utf8 c.target_added.ensures.meant
-
-pub returns-in-RemoveTarget-clause-plan : goal.returns-in-RemoveTarget-clause-plan
-returns-in-RemoveTarget-clause-plan c =
-    let old : Loaded = record { files = c.args.files.now; parsed = c.args.trees.now } in
-    removal_means old c.requires (λ v. v.items) (plan_steps (project old) c.args.plan) c.in-RemoveTarget.target.now (ap (plan_steps (project old)) c.in-RemoveTarget.is) c.target_removed.result c.target_removed.ensures.meant
-
-pub returns-clause-refused : goal.returns-clause-refused
-returns-clause-refused c =
-    let p = project (record { files = c.args.files.now; parsed = c.args.trees.now }) in
-    subst (λ meant. IfErr c.call_info.result (λ e. e ≢ OutOfMemory → meant ≡ Err e)) (sym (ap (plan_steps p) c.in-AskCall.is)) c.call_info.ensures.refused
+pub steps_of-requires : goal.steps_of-requires
+steps_of-requires c = record { whole = c.requires; taken = ap note_views c.as_slice.ensures.value ∙ c.in_ok-notes.ensures ∙ c.in_ok-taken.ensures }

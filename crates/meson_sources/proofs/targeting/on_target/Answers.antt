@@ -1,7 +1,8 @@
 use Rattle.std.proofs.Common.{◌≡◌, ◌≢◌, subst}
 use Rattle.std.specs.Prelude.{Err, IfErr, IfOk}
 use Rattle.meson_calls.specs.declared.refusal.Refusal.TheVariants.{OutOfMemory}
-use Rattle.meson_calls.specs.Loading.{Loaded, project}
+use Rattle.meson_calls.specs.Loading.{project}
+use Rattle.meson_calls.specs.NotedProjects.{loaded_in}
 use Rattle.meson_steps.specs.Plans.{ArePlanned}
 use Rattle.meson_sources.specs.Targeted.{target_steps}
 use Rattle.meson_sources.proofs.Planned.{all_mean}
@@ -9,17 +10,17 @@ use Rattle.meson_sources.proofs.targeting.on_target.Goals as goal
 
 pub returns-clause-plan : goal.returns-clause-plan
 returns-clause-plan c =
-    let old : Loaded = record { files = c.args.files.now; parsed = c.args.trees.now } in
+    let old = loaded_in c.args.noted.now in
     let r = c.target_steps.result in
     let change = c.args.change in
     let t = c.get.result.now in
     subst (λ t. IfOk r (λ steps. ArePlanned old (target_steps (project old) t change c.args.names.now) steps.items)) c.get.ensures
     (subst (λ ns. IfOk r (λ steps. ArePlanned old (target_steps (project old) t change ns) steps.items)) c.get-2.ensures
-    (all_mean old c.requires.project (λ v. v.items) t change c.get-2.result.now r c.target_steps.ensures.utf8 c.target_steps.ensures.meant))
+    (all_mean old c.requires.whole (λ v. v.items) t change c.get-2.result.now r c.target_steps.ensures.utf8 c.target_steps.ensures.meant))
 
 pub returns-clause-refused : goal.returns-clause-refused
 returns-clause-refused c =
-    let old : Loaded = record { files = c.args.files.now; parsed = c.args.trees.now } in
+    let old = loaded_in c.args.noted.now in
     let r = c.target_steps.result in
     let change = c.args.change in
     let t = c.get.result.now in

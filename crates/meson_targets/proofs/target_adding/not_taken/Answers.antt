@@ -1,28 +1,27 @@
-use Rattle.std.proofs.Common.{sym, ap, ◌∙◌, subst}
+use Rattle.std.proofs.Common.{sym, ap, ◌∙◌}
 use Rattle.std.proofs.lemmas.Bool.{eqb-true, eqb-false}
 use Rattle.meson_calls.specs.declared.call.Role.TheVariants as role
-use Rattle.meson_calls.specs.Loading.{named_trees, views}
+use Rattle.meson_calls.specs.NotedProjects.{project_in}
 use Rattle.meson_calls.specs.Picking.{note_has_name, places_that}
-use Rattle.meson_calls.specs.Strings.{NotesGood}
 use Rattle.meson_targets.specs.TargetEdits.{targets_named}
-use Rattle.meson_calls.proofs.GoodNotes.{project_good}
+use Rattle.meson_calls.proofs.NotedCalls.{noted_good}
 use Rattle.meson_targets.proofs.NewTargets.{is_taken, is_free}
 use Rattle.meson_calls.proofs.Picked.{name_places}
 use Rattle.meson_targets.proofs.target_adding.not_taken.Goals as goal
 
 pub with_name-requires : goal.with_name-requires
-with_name-requires c = subst NotesGood (sym c.requires.taken) (project_good c.args.files.now c.args.trees.now c.requires.parsed)
+with_name-requires c = noted_good c.args.noted.now c.requires
 
 pub returns-then-not-is_empty-clause-refused : goal.returns-then-not-is_empty-clause-refused
 returns-then-not-is_empty-clause-refused c = λ other.
-    let p = named_trees c.args.files.now (views c.args.files.now c.args.trees.now) in
+    let p = project_in c.args.noted.now in
     let name = c.args.name.now in
     let are = c.in_ok-targets.ensures ∙ ap (places_that (note_has_name role.Target name)) c.requires.taken ∙ name_places role.Target name p in
     is_taken (targets_named p name) c.as_slice.result.now (c.as_slice.ensures.value ∙ are) (eqb-false _ _ (sym c.is_empty.ensures ∙ c.if-not-is_empty.true))
 
 pub returns-clause-checked : goal.returns-clause-checked
 returns-clause-checked c =
-    let p = named_trees c.args.files.now (views c.args.files.now c.args.trees.now) in
+    let p = project_in c.args.noted.now in
     let name = c.args.name.now in
     let are = c.in_ok-targets.ensures ∙ ap (places_that (note_has_name role.Target name)) c.requires.taken ∙ name_places role.Target name p in
     is_free (targets_named p name) c.as_slice.result.now (c.as_slice.ensures.value ∙ are) (eqb-true _ _ (sym c.is_empty.ensures ∙ c.if-not-is_empty.false))

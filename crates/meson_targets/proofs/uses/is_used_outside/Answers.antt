@@ -1,20 +1,19 @@
-use Rattle.std.proofs.Common.{◌∙◌, sym, ap, subst}
+use Rattle.std.proofs.Common.{◌∙◌, sym, ap}
 use Rattle.meson_targets.specs.TargetViews.{place_view}
-use Rattle.meson_calls.specs.Loading.{named_trees, views}
-use Rattle.meson_calls.specs.Strings.{NotesGood}
+use Rattle.meson_calls.specs.NotedProjects.{project_in}
 use Rattle.meson_targets.specs.Uses.{is_noted_outside, is_read_outside}
-use Rattle.meson_calls.proofs.GoodNotes.{project_good}
+use Rattle.meson_calls.proofs.NotedCalls.{noted_good}
 use Rattle.meson_targets.proofs.UsesFound.{when_noted, when_not_noted}
 use Rattle.meson_targets.proofs.uses.is_used_outside.Goals as goal
 
 pub is_noted_outside-requires : goal.is_noted_outside-requires
-is_noted_outside-requires c = subst NotesGood (sym c.requires.taken) (project_good c.args.files.now c.args.trees.now c.requires.parsed)
+is_noted_outside-requires c = noted_good c.args.noted.now c.requires
 
 pub returns-then-branch : goal.returns-then-branch
 returns-then-branch c =
     let line = place_view c.args.line.now in
     let name = c.args.name.now in
-    when_noted line name (named_trees c.args.files.now (views c.args.files.now c.args.trees.now))
+    when_noted line name (project_in c.args.noted.now)
     (ap (is_noted_outside line name) (sym c.requires.taken) ∙ sym c.in_ok-is_noted_outside.ensures ∙ c.if-branch.true)
 
 pub returns : goal.returns
@@ -22,5 +21,5 @@ returns c =
     let line = place_view c.args.line.now in
     let name = c.args.name.now in
     c.is_read_outside.ensures ∙ ap (is_read_outside line) (c.as_slice.ensures.value ∙ c.in_ok-places.ensures)
-    ∙ when_not_noted line name (named_trees c.args.files.now (views c.args.files.now c.args.trees.now))
+    ∙ when_not_noted line name (project_in c.args.noted.now)
     (ap (is_noted_outside line name) (sym c.requires.taken) ∙ sym c.in_ok-is_noted_outside.ensures ∙ c.if-branch.false)

@@ -1,6 +1,6 @@
 use Rattle.std.proofs.Common.{◌≡◌, None, Some, ◌∙◌, ap}
 use Rattle.meson_syntax.proofs.parsing.Steps.{some-injective}
-use Rattle.meson_calls.specs.Loading.{named_trees, views}
+use Rattle.meson_calls.specs.NotedProjects.{project_in}
 use Rattle.meson_calls.specs.Parts.{parts}
 use Rattle.meson_calls.specs.Walks.{reads_kept, keeper_view, with_parts, read_in}
 use Rattle.meson_calls.proofs.Visits.{all_read}
@@ -8,14 +8,14 @@ use Rattle.meson_targets.proofs.uses.reads_of.Goals as goal
 
 pub unreachable-requires : goal.unreachable-requires
 unreachable-requires c =
-    let ps = parts (named_trees c.args.files.now (views c.args.files.now c.args.trees.now)) in
+    let ps = parts (project_in c.args.noted.now) in
     let none : None ≡ Some (read_in c.args.name.now ps) =
     all_read c.args.name.now None (keeper_view c.walk_files.new.keeper) ps c.in-None.ensures (c.in_ok-walk_files.ensures ∙ ap (λ cs. with_parts (reads_kept c.args.name.now cs) ps) c.new.ensures.items) in
     absurd cc
 
 pub returns : goal.returns
 returns c =
-    let ps = parts (named_trees c.args.files.now (views c.args.files.now c.args.trees.now)) in
+    let ps = parts (project_in c.args.noted.now) in
     some-injective _ _
     (all_read c.args.name.now (Some c.in-Some.found.items) (keeper_view c.walk_files.new.keeper) ps c.in-Some.ensures
     (c.in_ok-walk_files.ensures ∙ ap (λ cs. with_parts (reads_kept c.args.name.now cs) ps) c.new.ensures.items))

@@ -1,24 +1,33 @@
-use Rattle.std.proofs.Common.{length, ◌∙◌, sym, ap, subst}
-use Rattle.meson_calls.specs.Loading.{AreParsed, named_trees, views}
-use Rattle.meson_calls.specs.Notes.{notes, note_views}
-use Rattle.meson_calls.specs.Strings.{NotesGood}
-use Rattle.meson_calls.proofs.Loads.{as_many}
-use Rattle.meson_calls.proofs.GoodNotes.{project_good}
+use Rattle.std.proofs.Common.{◌≡◌, ◌≢◌, Some, ◌∙◌, sym, ap, subst}
+use Rattle.std.specs.Prelude.{Ok, Err, IfOk, IfErr, IsTrue}
+use Rattle.meson_calls.specs.declared.refusal.Refusal.TheVariants.{OutOfMemory}
+use Rattle.meson_calls.specs.Loading.{project}
+use Rattle.meson_calls.specs.Roles.{is_target}
+use Rattle.meson_calls.specs.Sources.{sources}
+use Rattle.meson_calls.proofs.NotedCalls.{same_parsed, same_project}
 use Rattle.meson_plan.proofs.project.Project.sources.Goals as goal
-
-pub notes_of-requires : goal.notes_of-requires
-notes_of-requires c = subst (AreParsed c.self.inside.files) (sym c.as_slice-trees.ensures.value) c.self.invariant.parsed
-
-pub of-requires-clause-whole : goal.of-requires-clause-whole
-of-requires-clause-whole c = ap length c.as_slice-trees.ensures.value ∙ as_many _ _ c.self.invariant.parsed
-
-pub of-requires-clause-good : goal.of-requires-clause-good
-of-requires-clause-good c =
-    let files = c.self.inside.files in
-    let noted = ap note_views c.as_slice.ensures.value ∙ c.in_ok-notes.ensures ∙ c.in_ok-taken.ensures ∙ ap (λ ts. notes (named_trees files (views files ts))) c.as_slice-trees.ensures.value in
-    subst NotesGood (sym noted) (project_good files c.self.inside.trees.items c.self.invariant.parsed)
 
 pub sources_at-requires-clause-parsed : goal.sources_at-requires-clause-parsed
 sources_at-requires-clause-parsed c =
-    subst (λ files. AreParsed files c.in_ok-variables.variables.trees.now) (sym c.in_ok-variables.ensures.files)
-    (subst (AreParsed c.self.inside.files) (sym (c.in_ok-variables.ensures.trees ∙ c.as_slice-trees.ensures.value)) c.self.invariant.parsed)
+    same_parsed c.in_ok-variables.variables c.noted-noted.result c.in_ok-variables.ensures.files c.in_ok-variables.ensures.trees c.noted-noted.ensures.noted.whole.parsed
+
+pub sources_at-requires-clause-target : goal.sources_at-requires-clause-target
+sources_at-requires-clause-target c =
+    let v = c.in_ok-variables.variables in
+    let n = c.noted-noted.result in
+    let is = same_project v n c.in_ok-variables.ensures.files c.in_ok-variables.ensures.trees ∙ ap project c.noted-noted.ensures.same in
+    subst (λ q. IsTrue (is_target q c.args.call.now)) (sym is) c.requires
+
+pub returns-clause-found : goal.returns-clause-found
+returns-clause-found c =
+    let v = c.in_ok-variables.variables in
+    let n = c.noted-noted.result in
+    let is = same_project v n c.in_ok-variables.ensures.files c.in_ok-variables.ensures.trees ∙ ap project c.noted-noted.ensures.same in
+    subst (λ q. IfOk c.sources_at.result (λ s. sources q c.args.call.now ≡ Some (Ok s))) is c.sources_at.ensures.found
+
+pub returns-clause-refused : goal.returns-clause-refused
+returns-clause-refused c =
+    let v = c.in_ok-variables.variables in
+    let n = c.noted-noted.result in
+    let is = same_project v n c.in_ok-variables.ensures.files c.in_ok-variables.ensures.trees ∙ ap project c.noted-noted.ensures.same in
+    subst (λ q. IfErr c.sources_at.result (λ e. e ≢ OutOfMemory → sources q c.args.call.now ≡ Some (Err e))) is c.sources_at.ensures.refused

@@ -2,7 +2,7 @@ use Rattle.std.proofs.Common.{◌≡◌, ◌+◌, ◌-◌, ◌<◌, length, take
 use Rattle.std.specs.Prelude.{option_map}
 use Rattle.meson_calls.specs.Project.{place}
 use Rattle.meson_targets.proofs.StatementsRemoved.{short_path, place_there}
-use Rattle.meson_targets.proofs.target_removing.statement_of.Goals as goal
+use Rattle.meson_targets.proofs.holder.statement_of.Goals as goal
 
 pub returns-then-steps-lt2 : goal.returns-then-steps-lt2
 returns-then-steps-lt2 c =

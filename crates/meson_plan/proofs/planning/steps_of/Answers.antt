@@ -1,0 +1,25 @@
+-- What each plan means.
+use Rattle.std.proofs.Common.{◌≡◌, ◌≢◌, sym, ap, subst}
+use Rattle.std.specs.Prelude.{Err, IfErr}
+use Rattle.meson_calls.specs.declared.refusal.Refusal.TheVariants.{OutOfMemory}
+use Rattle.meson_calls.specs.NotedProjects.{loaded_in, project_in}
+use Rattle.meson_plan.specs.Orders.{plan_steps}
+use Rattle.meson_targets.proofs.TargetsDoable.{addition_means, removal_means}
+use Rattle.meson_plan.proofs.planning.steps_of.Goals as goal
+
+pub returns-in-AddTarget-clause-plan : goal.returns-in-AddTarget-clause-plan
+returns-in-AddTarget-clause-plan c =
+    let n = c.args.noted.now in
+    let new = c.in-AddTarget.new in
+    addition_means (loaded_in n) c.requires.whole (λ v. v.items) (plan_steps (project_in n) c.args.plan) new.name.now new.kind.now new.folder.now new.sources.now
+    (ap (plan_steps (project_in n)) c.in-AddTarget.is) c.target_added.result c.target_added.ensures.utf8 c.target_added.ensures.meant
+
+pub returns-in-RemoveTarget-clause-plan : goal.returns-in-RemoveTarget-clause-plan
+returns-in-RemoveTarget-clause-plan c =
+    let n = c.args.noted.now in
+    removal_means (loaded_in n) c.requires.whole (λ v. v.items) (plan_steps (project_in n) c.args.plan) c.in-RemoveTarget.target.now
+    (ap (plan_steps (project_in n)) c.in-RemoveTarget.is) c.target_removed.result c.target_removed.ensures.meant
+
+pub returns-clause-refused : goal.returns-clause-refused
+returns-clause-refused c =
+    subst (λ meant. IfErr c.call_info.result (λ e. e ≢ OutOfMemory → meant ≡ Err e)) (sym (ap (plan_steps (project_in c.args.noted.now)) c.in-AskCall.is)) c.call_info.ensures.refused

@@ -1,0 +1,24 @@
+use Rattle.std.proofs.Common.{None, Some, sym, ap, ◌∙◌}
+use Rattle.std.specs.Prelude.{option_map}
+use Rattle.meson_calls.specs.Loading.{named_trees, views}
+use Rattle.meson_targets.specs.TargetEdits.{holder}
+use Rattle.meson_targets.specs.TargetViews.{held_view, place_view}
+use Rattle.meson_targets.proofs.Holders.{no_line, on_line}
+use Rattle.meson_targets.proofs.holder.holder_of.Goals as goal
+
+pub returns-in_default : goal.returns-in_default
+returns-in_default c =
+    let p = named_trees c.args.files.now (views c.args.files.now c.args.trees.now) in
+    no_line p c.args.call.now (ap (option_map place_view) (sym c.in_default.is) ∙ c.in_ok-statement.ensures)
+
+pub returns-in-Some-held_at : goal.returns-in-Some-held_at
+returns-in-Some-held_at c =
+    let p = named_trees c.args.files.now (views c.args.files.now c.args.trees.now) in
+    let is_line = ap (option_map place_view) (sym c.in-Some.is) ∙ c.in_ok-statement.ensures in
+    on_line p c.args.call.now (place_view c.in-Some.statement) (Some (held_view c.in-Some-held_at.held)) is_line c.in-Some-held_at.ensures
+
+pub returns-in-None : goal.returns-in-None
+returns-in-None c =
+    let p = named_trees c.args.files.now (views c.args.files.now c.args.trees.now) in
+    let is_line = ap (option_map place_view) (sym c.in-Some.is) ∙ c.in_ok-statement.ensures in
+    on_line p c.args.call.now (place_view c.in-Some.statement) None is_line c.in-None.ensures
