@@ -1,5 +1,5 @@
 -- The call of the target that a command names, and its arguments in the code.
-use Rattle.std.proofs.Common.{◌≡◌, ℕ, ◌<◌, List, length, get_or, Some, None, sym, ap, ap₂, ◌∙◌, subst}
+use Rattle.std.proofs.Common.{◌≡◌, ℕ, ◌<◌, List, [], ◌∷◌, length, get_or, Some, sym, ap, ap₂, ◌∙◌, subst, arith}
 use Rattle.std.proofs.lemmas.List.{length-map}
 use Rattle.std.specs.Prelude.{option_map, option_and_then, Ok}
 use Rattle.meson_lex.specs.declared.kinds.Span.{Span}
@@ -11,102 +11,89 @@ use Rattle.meson_syntax.specs.declared.tree.Parsed.{Parsed}
 use Rattle.meson_syntax.specs.Paths.{list_in}
 use Rattle.meson_syntax.specs.Paths as paths
 use Rattle.meson_syntax.specs.Tree.{Expression, call}
-use Rattle.meson_syntax.specs.Tree as tree
 use Rattle.meson_syntax.specs.View.{list_view, arg_view, view}
 use Rattle.meson_syntax.proofs.parsing.Steps.{some-injective}
-use Rattle.meson_syntax.proofs.paths.Reaching.{and-then-some}
 use Rattle.meson_edit.specs.Edits.{elements}
 use Rattle.meson_calls.specs.declared.call.CallRef.{CallRef}
 use Rattle.meson_calls.specs.declared.call.Role.TheVariants as role
+use Rattle.meson_calls.specs.declared.noted.Noted.{Noted}
+use Rattle.meson_calls.specs.declared.variables.Variables.{Variables}
 use Rattle.meson_sources.specs.declared.targeting.Change.{Change}
+use Rattle.meson_calls.specs.CallPlaces.{CallIn}
 use Rattle.meson_calls.specs.Calls.{Call, call_of}
-use Rattle.meson_calls.specs.Loading.{AreParsed, named_trees, views}
+use Rattle.meson_calls.specs.GoodLists.{GoodListing}
+use Rattle.meson_calls.specs.CodeVariables.{project_of}
+use Rattle.meson_calls.specs.NotedProjects.{IsNoted, project_in}
+use Rattle.meson_calls.specs.Notes.{note_views}
+use Rattle.meson_calls.specs.OnePlace.{the_place}
 use Rattle.meson_calls.specs.Picking.{call_with}
-use Rattle.meson_calls.specs.Finding.{the_call}
-use Rattle.meson_calls.specs.Project.{Project, BuildFile, Placed, placed, nth_file, expression_at}
+use Rattle.meson_calls.specs.Project.{BuildFile, placed, nth_file, expression_at}
 use Rattle.meson_sources.specs.SourceEdits.{elements_of, elements_there}
 use Rattle.meson_sources.specs.Targeted.{change_steps, target_steps}
 use Rattle.meson_steps.proofs.ArgumentValues.{list_elements}
-use Rattle.meson_calls.proofs.CallsAt.{some_within}
-use Rattle.meson_calls.proofs.Standing.{nth_there}
-use Rattle.meson_calls.proofs.Loads.{as_many}
-use Rattle.meson_calls.proofs.OneCall.{placed_at, call_there}
+use Rattle.meson_calls.proofs.CallsAt.{listing_good}
 use Rattle.meson_calls.proofs.CallsFound.{CallAt, role_found}
+use Rattle.meson_calls.proofs.NotedCalls.{call_in, call_within, one_at, one_is, same_project, the_one, trees_as_many}
+use Rattle.meson_calls.proofs.Standing.{nth_there}
 
 call_elements : (e : Expression Span) (k : Call Span) → call_of e ≡ Some k → elements_of (list_in e) ≡ elements k.arguments
 call_elements (call s x l) k is = ap (λ (j : Call Span). elements j.arguments) (some-injective _ _ is)
 call_elements _ k is = absurd cc
 
-module _ (files : List File) (trees : List Parsed) (are : AreParsed files trees) (id : List ℕ) (place : CallRef) (found : placed_at (the_call (named_trees files (views files trees)) role.Target id) ≡ Ok place) where
-  abbrev p : Project Span
-  p = named_trees files (views files trees)
+some_tree : (trees : List Parsed) (i : ℕ) → i < length trees → Parsed
+some_tree [] i within = absurd (omega (arith, within))
+some_tree (t ∷ trees) i within = t
 
-  one : (c : Placed (Call Span)) × (the_call p role.Target id ≡ Ok c) × (c.place ≡ place)
-  one = call_there (the_call p role.Target id) place found
+module _ (n : Noted) (is : IsNoted n) (id : List ℕ) (place : CallRef) (found : the_place role.Target id (note_views n.notes.now) ≡ Ok place) where
+  abbrev files : List File
+  files = n.files.now
 
-  pub the_one : Placed (Call Span)
-  the_one = one.0
+  abbrev trees : List Parsed
+  trees = n.trees.now
 
-  stands : CallAt p the_one
-  unfolding the_one
-  stands = (role_found p role.Target id one.0 one.1).at
+  abbrev bytes : List ℕ
+  bytes = bytes_at place.file files
 
-  place_is : the_one.place ≡ place
-  unfolding the_one
-  place_is = one.2
+  stands : CallAt (project_in n) (the_one n is role.Target id place found)
+  stands = (role_found (project_in n) role.Target id (the_one n is role.Target id place found) (one_is n is role.Target id place found)).at
 
-  call_is : the_call p role.Target id ≡ Ok the_one
-  unfolding the_one
-  call_is = one.1
+  at_place : expression_at (project_in n) place ≡ Some stands.value
+  at_place = subst (λ k. expression_at (project_in n) k ≡ Some stands.value) (one_at n is role.Target id place found) stands.is_at
 
-  at_place : expression_at p place ≡ Some stands.value
-  at_place = subst (λ k. expression_at p k ≡ Some stands.value) place_is stands.is_at
+  pub function : List ℕ
+  function = (the_one n is role.Target id place found).it.function
 
-  in_file : (g : BuildFile Span) × (nth_file p place.file ≡ Some g) × (paths.expression_on_path g.tree place.path.steps ≡ Some stands.value)
-  in_file = and-then-some (λ (g : BuildFile Span). paths.expression_on_path g.tree place.path.steps) (nth_file p place.file) stands.value at_place
+  module _ (a : rust.List) (lists : (c : CallIn trees place) → list_view (bytes_at place.file c.files) a ≡ c.call.it.arguments) where
+    same_list : (the_one n is role.Target id place found).it.arguments ≡ list_view bytes a
+    same_list = sym (lists (call_in n is role.Target id place found))
 
-  pub inside_trees : place.file < length trees
-  inside_trees = some_within files trees place.file in_file.0 in_file.1
+    is_list : Some (list_view bytes a) ≡ option_map (λ (k : Call Span). k.arguments) (call_of stands.value)
+    is_list = sym (ap (option_map (λ (k : Call Span). k.arguments)) stands.is_call ∙ ap Some same_list)
 
-  module _ (d : Parsed) where
-    abbrev f : tree.File Span
-    f = view (bytes_at place.file files) (get_or trees place.file d)
+    good_list : (d : Parsed) → GoodListing (list_view bytes a)
+    good_list d =
+        let many = trees_as_many n is in
+        let within = call_within n is role.Target id place found in
+        let there = sym (ap (option_and_then (λ (g : BuildFile Span). paths.expression_on_path g.tree place.path.steps)) (nth_there files trees place.file d many within)) ∙ at_place in
+        listing_good files trees place d many within stands.value (list_view bytes a) is.whole.parsed (sym there) is_list
 
-    value_is : paths.expression_on_path f place.path.steps ≡ Some stands.value
-    value_is =
-        sym (ap (option_and_then (λ (g : BuildFile Span). paths.expression_on_path g.tree place.path.steps)) (nth_there files trees place.file d (as_many files trees are) inside_trees)) ∙ at_place
+    -- its arguments are good
+    pub arguments_good : (source : List ℕ) → source ≡ bytes → GoodListing (list_view source a)
+    arguments_good source same = subst (λ s. GoodListing (list_view s a)) (sym same) (good_list (some_tree trees place.file (call_within n is role.Target id place found)))
 
-    pub some_value : None ≡ paths.expression_on_path f place.path.steps → ⊥
-    some_value none = let h = none ∙ value_is in cc
+    -- the steps that are meant are those of the code's call
+    pub steps_are : (v : Variables) → v.files.now ≡ files → v.trees.now ≡ trees → (change : Change) (names : List (List ℕ)) (source : List ℕ) → source ≡ bytes
+        → change_steps (project_of v) change names (placed place (call_with function (list_view source a))) ≡ target_steps (project_in n) id change names
+    unfolding function
+    steps_are v fs ts change names source is_source =
+        let p = project_in n in
+        let same = ap₂ (λ k m. placed k (call_with function m)) (one_at n is role.Target id place found) same_list in
+        ap₂ (λ o b. change_steps o change names (placed place (call_with function (list_view b a)))) (same_project v n fs ts) is_source
+        ∙ sym (ap (λ r. then_ok r (change_steps p change names)) (one_is n is role.Target id place found) ∙ ap (change_steps p change names) same)
 
-    module _ (e : Expression Span) (is : Some e ≡ paths.expression_on_path f place.path.steps) where
-      same_value : stands.value ≡ e
-      same_value = some-injective _ _ (sym (is ∙ value_is))
-
-      is_call : call_of e ≡ Some the_one.it
-      is_call = ap call_of (sym same_value) ∙ stands.is_call
-
-      pub some_call : None ≡ option_map (λ (k : Call Span). k.arguments) (call_of e) → ⊥
-      some_call none = let h = none ∙ ap (option_map (λ (k : Call Span). k.arguments)) is_call in cc
-
-      module _ (a : rust.List) (is_list : Some (list_view (bytes_at place.file files) a) ≡ option_map (λ (k : Call Span). k.arguments) (call_of e)) where
-        same_list : the_one.it.arguments ≡ list_view (bytes_at place.file files) a
-        same_list = some-injective _ _ (sym (is_list ∙ ap (option_map (λ (k : Call Span). k.arguments)) is_call))
-
-        abbrev pub function : List ℕ
-        function = the_one.it.function
-
-        same_call : the_one ≡ placed place (call_with function (list_view (bytes_at place.file files) a))
-        same_call = ap₂ (λ k m. placed k (call_with function m)) place_is same_list
-
-        -- the steps that are meant are those of the code's call
-        pub steps_are : (change : Change) (names : List (List ℕ)) (q : Project Span) → q ≡ p → (source : List ℕ) → source ≡ bytes_at place.file files
-            → change_steps q change names (placed place (call_with function (list_view source a))) ≡ target_steps p id change names
-        steps_are change names q same source is_source =
-            ap₂ (λ o b. change_steps o change names (placed place (call_with function (list_view b a)))) same is_source
-            ∙ sym (ap (λ r. then_ok r (change_steps p change names)) call_is ∙ ap (change_steps p change names) same_call)
-
-        pub as_many_there : (q : Project Span) → q ≡ p → length (rust.out-List a).items ≡ length (elements_there q place)
-        as_many_there q same =
-            sym (length-map (rust.out-List a).items (arg_view (bytes_at place.file files))) ∙ sym (ap length (list_elements (bytes_at place.file files) a))
-            ∙ sym (ap (λ o. length (elements_there o place)) same ∙ ap (λ o. length (elements_of (option_and_then list_in o))) at_place ∙ ap length (call_elements stands.value the_one.it stands.is_call) ∙ ap (λ m. length (elements m)) same_list)
+    pub as_many_there : (v : Variables) → v.files.now ≡ files → v.trees.now ≡ trees → length (rust.out-List a).items ≡ length (elements_there (project_of v) place)
+    as_many_there v fs ts =
+        let arguments = (the_one n is role.Target id place found).it in
+        sym (length-map (rust.out-List a).items (arg_view bytes)) ∙ sym (ap length (list_elements bytes a))
+        ∙ sym (ap (λ o. length (elements_there o place)) (same_project v n fs ts) ∙ ap (λ o. length (elements_of (option_and_then list_in o))) at_place
+        ∙ ap length (call_elements stands.value arguments stands.is_call) ∙ ap (λ m. length (elements m)) same_list)

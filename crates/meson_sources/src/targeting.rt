@@ -10,8 +10,7 @@ ghost use Rattle.meson_steps.specs.Meanings.{AreMeant};
 
 use crate::editing::{sources_added, sources_removed};
 use crate::extra::{extra_added, extra_removed};
-use meson_calls::arriving::arguments_of;
-use meson_calls::finding::the_call;
+use meson_calls::finding::{list_of_call, the_call};
 use meson_calls::noted::Noted;
 use meson_calls::variables::Variables;
 use meson_calls::{Refusal, Role};
@@ -44,19 +43,9 @@ fn target_steps(
     ensures refused { IfErr result (λ e. e ≢ Refusal.OutOfMemory → target_steps (project_in noted.now) target.now change names.now ≡ Err e) }
     ensures utf8 { IfOk result (λ steps. All IsUtf8 names.now) }
 {
-    let trees = noted.trees;
     let call = the_call(alloc, Role::Target, target, noted.notes)?;
-    if call.file >= trees.len() {
-        unreachable!();
-    }
+    let arguments = list_of_call(noted.trees, &call);
     let source = noted.files.bytes(call.file);
-    let arguments = match trees[call.file].expr_at(&call.path) {
-        Some(expr) => arguments_of(expr),
-        None => unreachable!(),
-    };
-    let Some(arguments) = arguments else {
-        unreachable!();
-    };
     let variables = Variables::of(alloc, noted)?;
     match change {
         Change::SourcesAdded => sources_added(&variables, &call, source, arguments, names),

@@ -1,11 +1,11 @@
 -- What is asked of the keyword arguments of a call is told of the call that stands in the trees, and is no steps.
-use Rattle.std.proofs.Common.{ap, ◌∙◌, arith}
+use Rattle.std.proofs.Common.{ap, ◌∙◌}
 use Rattle.std.proofs.lemmas.Result.{err_from_is_err_and}
 use Rattle.meson_splice.specs.Patch.{then_ok}
 use Rattle.meson_calls.specs.NotedProjects.{loaded_in, project_in}
 use Rattle.meson_plan.specs.Planning.{call_info, call_told}
-use Rattle.meson_calls.proofs.NotedCalls.{none_noted, noted_good, place_noted, trees_as_many}
-use Rattle.meson_plan.proofs.CallsIn.{call_in, within_trees, function, told_is, nothing_planned}
+use Rattle.meson_calls.proofs.NotedCalls.{call_file, call_in, none_noted, noted_good}
+use Rattle.meson_plan.proofs.CallsIn.{function, told_is, nothing_planned}
 use Rattle.meson_plan.proofs.info.call_info.Goals as goal
 
 pub the_call-requires : goal.the_call-requires
@@ -19,38 +19,21 @@ returns-in_err-call-clause-refused c =
     ap (λ r. then_ok r (λ k. call_told c.args.role k.it)) why)
 
 pub bytes-source-requires : goal.bytes-source-requires
-bytes-source-requires c =
-    let n = c.args.noted.now in
-    let found = place_noted n c.requires c.args.role c.args.id.now c.in_ok-call.call c.in_ok-call.ensures.found in
-    let within = within_trees n.files.now n.trees.now c.requires.whole.parsed c.args.role c.args.id.now c.in_ok-call.call found in
-    let many = trees_as_many n c.requires in
-    omega (arith, within, many)
+bytes-source-requires c = call_file c.args.noted.now c.requires c.args.role c.args.id.now c.in_ok-call.call c.in_ok-call.ensures.found
 
 pub list_of_call-requires : goal.list_of_call-requires
-list_of_call-requires c =
-    let n = c.args.noted.now in
-    let found = place_noted n c.requires c.args.role c.args.id.now c.in_ok-call.call c.in_ok-call.ensures.found in
-    call_in n.files.now n.trees.now c.requires.whole.parsed c.args.role c.args.id.now c.in_ok-call.call found
+list_of_call-requires c = call_in c.args.noted.now c.requires c.args.role c.args.id.now c.in_ok-call.call c.in_ok-call.ensures.found
 
 pub returns-clause-plan : goal.returns-clause-plan
 returns-clause-plan c =
     let n = c.args.noted.now in
-    let files = n.files.now in
-    let trees = n.trees.now in
-    let are = c.requires.whole.parsed in
-    let found = place_noted n c.requires c.args.role c.args.id.now c.in_ok-call.call c.in_ok-call.ensures.found in
-    let is = told_is files trees are c.args.role c.args.id.now c.in_ok-call.call found (call_told c.args.role) c.bytes-source.result.now c.list_of_call.result.now c.bytes-source.ensures c.list_of_call.ensures in
-    nothing_planned (loaded_in n) (call_info (project_in n) c.args.role c.args.id.now) c.new.result.items
-    (is ∙ c.in_ok-call_told.ensures.told (function files trees are c.args.role c.args.id.now c.in_ok-call.call found)) c.new.ensures.items
+    let is = told_is n c.requires c.args.role c.args.id.now c.in_ok-call.call c.in_ok-call.ensures.found (call_told c.args.role) c.bytes-source.result.now c.list_of_call.result.now c.bytes-source.ensures c.list_of_call.ensures in
+    nothing_planned (loaded_in n) (call_info (project_in n) c.args.role c.args.id.now) c.new.result.items (is ∙ c.in_ok-call_told.ensures.told (function n c.requires c.args.role c.args.id.now c.in_ok-call.call c.in_ok-call.ensures.found)) c.new.ensures.items
 
 pub returns-in_err-call_told-clause-refused : goal.returns-in_err-call_told-clause-refused
 returns-in_err-call_told-clause-refused c =
     let error = err_from_is_err_and c.from_residual-in_err-call_told.result c.from_residual-in_err-call_told.ensures.1 in
     rw (error.1, error.2) (λ other.
     let n = c.args.noted.now in
-    let files = n.files.now in
-    let trees = n.trees.now in
-    let are = c.requires.whole.parsed in
-    let found = place_noted n c.requires c.args.role c.args.id.now c.in_ok-call.call c.in_ok-call.ensures.found in
-    let is = told_is files trees are c.args.role c.args.id.now c.in_ok-call.call found (call_told c.args.role) c.bytes-source.result.now c.list_of_call.result.now c.bytes-source.ensures c.list_of_call.ensures in
-    is ∙ c.in_err-call_told.ensures.refused (function files trees are c.args.role c.args.id.now c.in_ok-call.call found) other)
+    let is = told_is n c.requires c.args.role c.args.id.now c.in_ok-call.call c.in_ok-call.ensures.found (call_told c.args.role) c.bytes-source.result.now c.list_of_call.result.now c.bytes-source.ensures c.list_of_call.ensures in
+    is ∙ c.in_err-call_told.ensures.refused (function n c.requires c.args.role c.args.id.now c.in_ok-call.call c.in_ok-call.ensures.found) other)

@@ -17,8 +17,8 @@ returns-in-Some-held_at c =
     let is_line = ap (option_map place_view) (sym c.in-Some.is) ∙ c.in_ok-statement.ensures in
     on_line p c.args.call.now (place_view c.in-Some.statement) (Some (held_view c.in-Some-held_at.held)) is_line c.in-Some-held_at.ensures
 
-pub returns-in-None : goal.returns-in-None
-returns-in-None c =
+pub returns : goal.returns
+returns c =
     let p = named_trees c.args.files.now (views c.args.files.now c.args.trees.now) in
     let is_line = ap (option_map place_view) (sym c.in-Some.is) ∙ c.in_ok-statement.ensures in
     on_line p c.args.call.now (place_view c.in-Some.statement) None is_line c.in-None.ensures

@@ -1,4 +1,4 @@
-use Rattle.std.proofs.Common.{ap, subst}
+use Rattle.std.proofs.Common.{ap, ◌∙◌, subst}
 use Rattle.std.specs.Prelude.{◌≡◌, ◌≢◌, Err, IfErr, IfOk}
 use Rattle.std.proofs.lemmas.Result.{err_from_is_err_and}
 use Rattle.meson_splice.specs.Patch.{then_ok}
@@ -7,7 +7,7 @@ use Rattle.meson_calls.specs.declared.refusal.Refusal.TheVariants.{OutOfMemory}
 use Rattle.meson_calls.specs.NotedProjects.{project_in}
 use Rattle.meson_steps.specs.Meanings.{AreMeant}
 use Rattle.meson_targets.specs.TargetEdits.{target_removed}
-use Rattle.meson_calls.proofs.NotedCalls.{none_noted, noted_good, place_noted}
+use Rattle.meson_calls.proofs.NotedCalls.{none_noted, noted_good, same_place}
 use Rattle.meson_targets.proofs.StatementsRemoved.{named_at}
 use Rattle.meson_targets.proofs.target_removing.target_removed.Goals as goal
 
@@ -18,14 +18,14 @@ pub returns-clause-meant : goal.returns-clause-meant
 returns-clause-meant c =
     let n = c.args.noted.now in
     let id = c.args.target.now in
-    let same = named_at (project_in n) id c.in_ok-call.call (place_noted n c.requires role.Target id c.in_ok-call.call c.in_ok-call.ensures.found) in
+    let same = named_at (project_in n) id c.in_ok-call.call (same_place n c.requires role.Target id ∙ c.in_ok-call.ensures.found) in
     subst (λ m. IfOk c.call_removed.result (λ steps. AreMeant m steps.items)) same c.call_removed.ensures.meant
 
 pub returns-clause-refused : goal.returns-clause-refused
 returns-clause-refused c =
     let n = c.args.noted.now in
     let id = c.args.target.now in
-    let same = named_at (project_in n) id c.in_ok-call.call (place_noted n c.requires role.Target id c.in_ok-call.call c.in_ok-call.ensures.found) in
+    let same = named_at (project_in n) id c.in_ok-call.call (same_place n c.requires role.Target id ∙ c.in_ok-call.ensures.found) in
     subst (λ m. IfErr c.call_removed.result (λ e. e ≢ OutOfMemory → m ≡ Err e)) same c.call_removed.ensures.refused
 
 pub returns-in_err-call-clause-refused : goal.returns-in_err-call-clause-refused

@@ -16,11 +16,11 @@ identifier_text-name-requires c =
 pub returns-in-SetTo : goal.returns-in-SetTo
 returns-in-SetTo c =
     let is_held = ap (option_map holder_view) (sym c.in-Some.is) ∙ c.in_ok-holder.ensures in
-    ap Some (c.of.ensures ∙ c.in_ok-from_str.ensures.ok ∙ c.identifier_text-name.ensures)
+    ap Some (c.of.ensures ∙ c.in_ok-from_str-in-SetTo.ensures.ok ∙ c.identifier_text-name.ensures)
     ∙ ap (λ h. name_set (held_view h)) (sym c.in-SetTo.is)
     ∙ ap (option_and_then (λ (h : Holder). name_set h.held)) is_held
 
-pub returns-in-Alone : goal.returns-in-Alone
-returns-in-Alone c =
+pub returns : goal.returns
+returns c =
     let is_held = ap (option_map holder_view) (sym c.in-Some.is) ∙ c.in_ok-holder.ensures in
     ap (λ h. name_set (held_view h)) (sym c.in-Alone.is) ∙ ap (option_and_then (λ (h : Holder). name_set h.held)) is_held
