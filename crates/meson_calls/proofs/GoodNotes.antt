@@ -1,5 +1,5 @@
 -- Notes of trees whose strings are of their kinds.
-use Rattle.std.proofs.Common.{rules, ◌≡◌, ℕ, zero, suc, ◌+◌, ◌<◌, List, [], ◌∷◌, ◌++◌, length, get_or, arith, subst}
+use Rattle.std.proofs.Common.{rules, ◌≡◌, ℕ, zero, suc, ◌+◌, ◌<◌, List, [], ◌∷◌, ◌++◌, length, get_or, arith, sym, subst}
 use Rattle.std.specs.Prelude.{option_map}
 use Rattle.std.specs.List.{cons_option}
 use Rattle.meson_lex.specs.declared.kinds.Span.{Span}
@@ -56,6 +56,9 @@ parts_good n (f ∷ files) (t ∷ parsed) are =
 -- the notes of a project
 pub project_good : (files : List File) (parsed : List Parsed) → AreParsed files parsed → NotesGood (notes (named_trees files (views files parsed)))
 project_good files parsed are = noted_good (parts_from 0 (named_trees files (views files parsed))) (parts_good 0 files parsed are)
+
+pub taken_good : (files : List File) (parsed : List Parsed) → AreParsed files parsed → (taken : List (Placed (Note Span))) → taken ≡ notes (named_trees files (views files parsed)) → NotesGood taken
+taken_good files parsed are taken is = subst NotesGood (sym is) (project_good files parsed are)
 
 -- those of one file
 pub tree_good : (bytes : List ℕ) (t : Parsed) → IsSpanned bytes (view bytes t) → NotesGood (noted (file_parts 0 (view bytes t)))
