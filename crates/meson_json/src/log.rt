@@ -163,7 +163,7 @@ fn bytes_of(alloc: Global, text: &str) -> Result<Bytes, AllocError>
     Ok(Bytes::of(Vec::from_slice(alloc, text.as_bytes())?))
 }
 
-#[tactic(auto, unfolding(crate::specs::Log::splice_of))]
+#[tactic(auto, unfolding(crate::specs::Log::splice_of_data))]
 fn splice_from(alloc: Global, value: &Value) -> Result<Splice, ScriptFault>
     ensures ok { IfOk result (λ s. splice_of_data (view value.now) ≡ Some s) }
     ensures text { IfOk result (λ s. is_text s ≡ true) }

@@ -35,7 +35,7 @@ fn before_len(items: &[Lexeme<'_>], offset: usize) -> usize
 }
 
 /// The place of a span.
-#[tactic(auto, using(crate::proofs::Texts::joined_split), unfolding(crate::specs::Layout::parts))]
+#[tactic(auto, using(crate::proofs::Texts::joined_split), unfolding(crate::specs::Layout::split_at_span))]
 fn place_of<'i, 'a>(
     alloc: Global,
     file: &'i str,

@@ -143,7 +143,7 @@ impl<'a, F: Fn(Global, &[u8], &mut Cursor<'_>, usize) -> Result<Block, ParseFaul
     }
 
     /// The statements up to the end of their block, each with its line end.
-    #[tactic(auto, unfolding(crate::specs::ReadingFiles::lines))]
+    #[tactic(auto, unfolding(crate::specs::ReadingFiles::statement_lines))]
     fn lines(&self, tokens: &mut Cursor<'_>) -> Result<Many<Stmt>, ParseFault>
         requires { NestsBlocks self.now.depth (F.pre self.now.deeper) (F.post self.now.deeper) }
         ensures { Proceeds spec.statement_lines stmts_view self.now.source.now self.now.depth tokens.old result tokens.new }
@@ -160,7 +160,7 @@ impl<'a, F: Fn(Global, &[u8], &mut Cursor<'_>, usize) -> Result<Block, ParseFaul
     }
 
     /// A statement and its line end.
-    #[tactic(auto, unfolding(crate::specs::ReadingFiles::line))]
+    #[tactic(auto, unfolding(crate::specs::ReadingFiles::statement_line))]
     fn line(&self, tokens: &mut Cursor<'_>) -> Result<Stmt, ParseFault>
         requires { NestsBlocks self.now.depth (F.pre self.now.deeper) (F.post self.now.deeper) }
         ensures { Proceeds spec.statement_line stmt_view self.now.source.now self.now.depth tokens.old result tokens.new }

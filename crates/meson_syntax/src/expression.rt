@@ -68,7 +68,7 @@ impl<'a, F: Fn(Global, &[u8], &mut Cursor<'_>, usize) -> Result<Expr, ParseFault
 
     /// A conditional, or a tighter expression, of any length.
     #[inline(never)]
-    #[tactic(auto, unfolding(crate::specs::Reading::chosen))]
+    #[tactic(auto, unfolding(crate::specs::Reading::choice))]
     fn joined(&self, tokens: &mut Cursor<'_>) -> Result<Expr, ParseFault>
         requires { Nests self.now.depth (F.pre self.now.deeper) (F.post self.now.deeper) }
         ensures { Follows spec.choice expr_view self.now.source.now self.now.depth tokens.old result tokens.new }

@@ -199,7 +199,7 @@ impl<'a, F> Grammar<'a, F> {
     }
 
     /// Takes the next token, and gives its span.
-    #[tactic(auto, unfolding(crate::specs::Input::spelling, crate::specs::Input::next, crate::specs::Input::from, crate::specs::Input::span_from, crate::specs::Input::name_next, crate::specs::Cursor::input))]
+    #[tactic(auto, unfolding(crate::specs::Input::text_ahead, crate::specs::Input::next, crate::specs::Input::from, crate::specs::Input::span_from, crate::specs::Input::name_next, crate::specs::Cursor::input))]
     pub(crate) fn take(&self, tokens: &mut Cursor<'_>) -> Span
         ensures text { text_at self.now.source.now result ≡ spec.text_ahead (input self.now.source.now tokens.old) }
         ensures name { name_at self.now.source.now result ≡ spec.name_next (input self.now.source.now tokens.old) }
@@ -220,7 +220,7 @@ impl<'a, F> Grammar<'a, F> {
     }
 
     /// Takes the next token if it is of this kind, and says whether it was.
-    #[tactic(auto, unfolding(crate::specs::Input::after))]
+    #[tactic(auto, unfolding(crate::specs::Input::after_kind))]
     pub(crate) fn eat(&self, tokens: &mut Cursor<'_>, kind: Kind) -> bool
         ensures found { result ≡ spec.sees kind (input self.now.source.now tokens.old) }
         ensures after { input self.now.source.now tokens.new ≡ spec.after_kind kind (input self.now.source.now tokens.old) }

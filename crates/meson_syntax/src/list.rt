@@ -83,7 +83,7 @@ impl<'a, F: Fn(Global, &[u8], &mut Cursor<'_>, usize) -> Result<Expr, ParseFault
     }
 
     /// The elements up to the closing bracket and that, with whether a comma stands before it.
-    #[tactic(auto, unfolding(crate::specs::Reading::elements))]
+    #[tactic(auto, unfolding(crate::specs::Reading::listed_elements))]
     fn elements(
         &self,
         tokens: &mut Cursor<'_>,
@@ -111,7 +111,7 @@ impl<'a, F: Fn(Global, &[u8], &mut Cursor<'_>, usize) -> Result<Expr, ParseFault
     }
 
     /// An element; `seen` says whether one with a name came before.
-    #[tactic(auto, unfolding(crate::specs::Reading::element))]
+    #[tactic(auto, unfolding(crate::specs::Reading::listed_element))]
     fn element(
         &self,
         tokens: &mut Cursor<'_>,
@@ -135,7 +135,7 @@ impl<'a, F: Fn(Global, &[u8], &mut Cursor<'_>, usize) -> Result<Expr, ParseFault
     }
 
     /// An argument with a name, which comes next with its colon.
-    #[tactic(auto, unfolding(crate::specs::Reading::with_name))]
+    #[tactic(auto, unfolding(crate::specs::Reading::named_argument))]
     fn with_name(&self, tokens: &mut Cursor<'_>) -> Result<Arg, ParseFault>
         requires { Nests self.now.depth (F.pre self.now.deeper) (F.post self.now.deeper) }
         ensures { Follows spec.named_argument arg_view self.now.source.now self.now.depth tokens.old result tokens.new }

@@ -57,7 +57,7 @@ impl<'a> Gathered<'a> {
     }
 
     /// Takes the item that comes next.
-    #[tactic(auto, unfolding(crate::specs::Gathering::stepped))]
+    #[tactic(auto, unfolding(crate::specs::Gathering::gathered_with))]
     fn take(&mut self, item: Item) -> Result<(), AllocError>
         requires { self.old.state.depth + 1 < 2 ^ 64 }
         ensures { OnOk result (self.new ≡ gathered_with self.old item) }
