@@ -6,7 +6,7 @@ use Rattle.meson_lex.specs.Located.{located}
 use Rattle.meson_splice.specs.declared.file_set.File as splice
 use Rattle.meson_syntax.specs.declared.tree.Parsed.{Parsed}
 use Rattle.meson_syntax.specs.Grammar.{LevelListing, LevelFile}
-use Rattle.meson_syntax.specs.Paths.{ListIn, list_in, nth, block_of, value_of}
+use Rattle.meson_syntax.specs.Paths.{ListIn, list_in, nth, value_of}
 use Rattle.meson_syntax.specs.Paths as paths
 use Rattle.meson_syntax.specs.Reads.{of_files}
 use Rattle.meson_syntax.specs.View.{view}

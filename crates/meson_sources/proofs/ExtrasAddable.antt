@@ -9,7 +9,7 @@ use Rattle.meson_syntax.specs.Grammar.{LevelFile, file_depth}
 use Rattle.meson_syntax.specs.Paths.{nth}
 use Rattle.meson_edit.specs.Edits.{After, Wrap, elements}
 use Rattle.meson_calls.specs.declared.call.CallRef.{CallRef}
-use Rattle.meson_calls.specs.Calls.{Call, Numbered, numbered, kept_number, value_with_name, keyword}
+use Rattle.meson_calls.specs.Calls.{Call, Numbered, keyword}
 use Rattle.meson_calls.specs.Calls as calls
 use Rattle.meson_calls.specs.Expansion.{Mark}
 use Rattle.meson_steps.specs.ListSteps.{MayStandBetween, AreDoable, none}

@@ -17,7 +17,7 @@ use Rattle.meson_calls.specs.Project.{child}
 use Rattle.meson_steps.specs.WrittenTexts.{string_of}
 use Rattle.meson_sources.specs.SourceEdits as plan
 use Rattle.meson_steps.specs.Steps.{step_in}
-use Rattle.meson_sources.specs.SourceEdits.{extra_key, array_with, written_keyword}
+use Rattle.meson_sources.specs.SourceEdits.{written_keyword}
 use Rattle.meson_steps.proofs.Insertable.{Room, elements_with, nth_inserted, edited_there, there_again}
 use Rattle.meson_steps.proofs.ListParts.{array_below}
 use Rattle.meson_steps.proofs.StepsDoable.{step_doable}

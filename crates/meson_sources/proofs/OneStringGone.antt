@@ -14,7 +14,7 @@ use Rattle.meson_calls.specs.declared.call.CallRef.{CallRef}
 use Rattle.meson_calls.specs.Project.{place}
 use Rattle.meson_steps.specs.ListSteps.{MayStandBetween}
 use Rattle.meson_steps.proofs.WithOne.{changed_there, others_there}
-use Rattle.meson_sources.specs.Effects.{ListsLose, NoneIn, NoneUnder, AllElseStays, StringsGo, but, elements_found, place_after, spot_of_child, string_child}
+use Rattle.meson_sources.specs.Effects.{but, spot_of_child, string_child}
 use Rattle.meson_sources.specs.Effects as effects
 use Rattle.meson_sources.specs.SourceEdits.{Spot, is_path, moved_up, path_after, same_spot, spot_after, spots_after}
 use Rattle.meson_sources.proofs.ChildrenLeft.{at_list, clear_path, elements_left, kept, path_stays, seen, seen_left}
@@ -22,7 +22,7 @@ use Rattle.meson_sources.proofs.ElementsThere.{root}
 use Rattle.meson_sources.proofs.OneGone.{without}
 use Rattle.meson_sources.proofs.PathsAfter.{length_after, is_same_path, same_paths}
 use Rattle.meson_sources.proofs.RemovalsRename as renaming
-use Rattle.meson_sources.proofs.RemovedSpots.{Without, all_apart, all_between, between, between_stand, clear, level}
+use Rattle.meson_sources.proofs.RemovedSpots.{Without, between, clear, level}
 use Rattle.meson_sources.proofs.RemovedSpots as removing
 use Rattle.meson_sources.proofs.SpotsApart.{Apart, Clear, leads_back}
 use Rattle.meson_sources.proofs.RenamedStrings.{Node}

@@ -53,12 +53,6 @@ pointwise_is (m ∷ list) (n ∷ path) = ap (λ b. nat_eq m n && b) (pointwise_i
 pub is_same_path : (list path : List ℕ) → list ≡ path → is_path list path ≡ true
 is_same_path list path same = ap (is_path list) (sym same) ∙ path_itself list
 
-pub is_other_path : (list path : List ℕ) → (list ≡ path → ⊥) → is_path list path ≡ false
-is_other_path list path other = by_test (is_path list path) refl where
-  by_test : (b : Bool) → is_path list path ≡ b → b ≡ false
-  by_test true is = absurd (other (same_paths list path is))
-  by_test false is = refl
-
 pub length_after : (list path : List ℕ) (gone : ℕ) → length (path_after list gone path) ≡ length path
 length_after [] [] gone = refl
 length_after [] (n ∷ path) gone = refl

@@ -7,7 +7,7 @@ use Rattle.meson_syntax.specs.declared.operator.Bracket.{Bracket}
 use Rattle.meson_syntax.specs.Operators.{holds_pairs}
 use Rattle.meson_syntax.specs.Tree.{Nowhere, Expression, Listing, listing, Argument, plain, named, pair, is_named, Arguments, no_arguments, argument, argument_list, arguments_of, erase_listing, erase_arguments}
 use Rattle.meson_syntax.specs.Grammar.{LevelArguments}
-use Rattle.meson_syntax.specs.Paths.{ListIn, list_in, ListAt, list_at, nth}
+use Rattle.meson_syntax.specs.Paths.{list_in, nth}
 use Rattle.meson_syntax.specs.Paths as paths
 use Rattle.meson_edit.specs.Edits.{elements}
 use Rattle.meson_calls.specs.declared.call.CallRef.{CallRef}

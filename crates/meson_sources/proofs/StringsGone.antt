@@ -12,13 +12,13 @@ use Rattle.meson_calls.specs.declared.call.CallRef.{CallRef}
 use Rattle.meson_steps.specs.ListSteps.{MayStandBetween}
 use Rattle.meson_steps.specs.Steps.{all_stepped, step_in, stepped}
 use Rattle.meson_steps.proofs.WithOne.{change_there}
-use Rattle.meson_sources.specs.Effects.{ListsLose, NoneIn, NoneUnder, AllElseStays, StringsGo, but, elements_found, place_after, spot_of_child, string_child}
+use Rattle.meson_sources.specs.Effects.{ListsLose, NoneIn, NoneUnder, AllElseStays, StringsGo, but, place_after, spot_of_child, string_child}
 use Rattle.meson_sources.specs.Effects as effects
 use Rattle.meson_sources.specs.SourceEdits.{Spot, removed_by, spot_after, spots_after}
 use Rattle.meson_sources.proofs.ChildrenLeft.{seen, with_child}
 use Rattle.meson_sources.proofs.DistinctSpots.{AreApart}
 use Rattle.meson_sources.proofs.ElementsThere.{lists_there, root}
-use Rattle.meson_sources.proofs.RemovedSpots.{Without, all_apart, all_between, between, between_stand, clear, level}
+use Rattle.meson_sources.proofs.RemovedSpots.{all_apart, all_between, between, between_stand}
 use Rattle.meson_sources.proofs.RemovedSpots as removing
 use Rattle.meson_sources.proofs.RenamedStrings.{Node}
 use Rattle.meson_sources.proofs.StringsStay as lists

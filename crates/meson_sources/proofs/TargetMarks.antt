@@ -1,14 +1,12 @@
 -- What a target of files that are read holds stands where its slot says.
-use Rattle.std.proofs.Common.{◌≡◌, ℕ, suc, ◌+◌, List, [], ◌∷◌, ◌++◌, Option, Some, None, refl, sym, ap, ◌∙◌, subst, arith, false}
+use Rattle.std.proofs.Common.{◌≡◌, ℕ, suc, ◌+◌, List, [], ◌∷◌, ◌++◌, Option, Some, None, refl, ap, ◌∙◌, subst, arith, false}
 use Rattle.std.specs.Prelude.{All, option_map, option_and_then}
 use Rattle.std.specs.List.{filter_map, cons_option}
 use Rattle.std.proofs.lemmas.List.Elements.{All-cons, All-nil}
 use Rattle.meson_lex.specs.declared.kinds.Span.{Span}
-use Rattle.meson_syntax.specs.Paths.{ListIn, list_in, ListAt, nth, value_of}
+use Rattle.meson_syntax.specs.Paths.{ListIn, list_in, nth, value_of}
 use Rattle.meson_syntax.specs.Paths as paths
 use Rattle.meson_syntax.specs.Tree.{Expression, Listing, listing, Argument, plain, named, pair, Arguments, no_arguments, argument, argument_list}
-use Rattle.meson_syntax.proofs.PathNodes.{list-reached}
-use Rattle.meson_syntax.proofs.paths.Reaching.{and-then-some, map-some}
 use Rattle.meson_syntax.proofs.paths.Every.{Every, every-append}
 use Rattle.meson_edit.specs.Edits.{elements}
 use Rattle.meson_calls.specs.Calls.{Call, Numbered, numbered, numbered_arguments, value_without_name, value_with_name, kept_number, positional, keyword}
