@@ -8,7 +8,7 @@ use Rattle.meson_syntax.specs.declared.tree.Arg.TheVariants as arg
 use Rattle.meson_syntax.specs.declared.tree.Expr.{Expr}
 use Rattle.meson_syntax.specs.declared.tree.List as rust
 use Rattle.meson_syntax.specs.Tree.{Expression}
-use Rattle.meson_syntax.specs.View.{expr_view, list_view}
+use Rattle.meson_syntax.specs.View.{expr_view}
 use Rattle.meson_calls.specs.declared.call.CallRef.{CallRef}
 use Rattle.meson_calls.specs.declared.refusal.Refusal.{Refusal}
 use Rattle.meson_steps.specs.declared.step.ListStep.{ListStep}
@@ -17,8 +17,8 @@ use Rattle.meson_calls.specs.Expansion.{max_followed}
 use Rattle.meson_calls.specs.Keywords.{IsFirstNamed}
 use Rattle.meson_steps.specs.ListSteps.{bare}
 use Rattle.meson_sources.specs.Naming.{new_among}
-use Rattle.meson_calls.specs.Picking.{call_with}
-use Rattle.meson_calls.specs.Project.{Project, Placed, placed}
+use Rattle.meson_calls.specs.Picking.{placed_call}
+use Rattle.meson_calls.specs.Project.{Project, Placed}
 use Rattle.meson_calls.specs.Sourced.{kept_args}
 use Rattle.meson_calls.specs.Sources.{or_option, first_list, first_empty}
 use Rattle.meson_sources.specs.SourceEdits.{extra_key, checked_extra, extra_added, extra_inserted, without_home, into_new_list, behind_value, insertion_steps, inserted_in, plain_len, elements_there, new_names}
@@ -43,7 +43,7 @@ module _ (source key : List ℕ) (args : List Arg) (n : ℕ) (d : Arg) (within :
 
 module _ (p : Project Span) (c : CallRef) (source : List ℕ) (l : rust.List) (function : List ℕ) (names : List (List ℕ)) where
   abbrev it : Placed (Call Span)
-  it = placed c (call_with function (list_view source l))
+  it = placed_call c function source l
 
   at_home : (h : CallRef) (new : List (List ℕ)) → extra_inserted p it (Some h) new ≡ Ok (inserted_in p h new)
   at_home h [] = refl

@@ -4,19 +4,18 @@ use Rattle.std.specs.Prelude.{Result, Ok, Err}
 use Rattle.meson_lex.specs.declared.kinds.Span.{Span}
 use Rattle.meson_splice.specs.Patch.{then_ok}
 use Rattle.meson_syntax.specs.declared.tree.List as rust
-use Rattle.meson_syntax.specs.View.{list_view}
 use Rattle.meson_calls.specs.declared.call.CallRef.{CallRef}
 use Rattle.meson_calls.specs.declared.refusal.Refusal.{Refusal}
-use Rattle.meson_calls.specs.declared.refusal.Refusal.TheVariants.{DuplicateKeyword, HiddenKeywords}
+use Rattle.meson_calls.specs.declared.refusal.Refusal.TheVariants.{DuplicateKeyword}
 use Rattle.meson_steps.specs.declared.step.ListStep.{ListStep}
-use Rattle.meson_calls.specs.Project.{Project, Placed, placed}
+use Rattle.meson_calls.specs.Project.{Project, Placed}
 use Rattle.meson_calls.specs.Calls.{Call, keyword, value_with_name}
 use Rattle.meson_calls.specs.Expansion.{Mark, fixed, max_followed}
-use Rattle.meson_calls.specs.Picking.{call_with}
+use Rattle.meson_calls.specs.Picking.{placed_call}
 use Rattle.meson_sources.specs.CodeSpots.{spots_of_names}
 use Rattle.meson_calls.specs.Sources.{kwargs_key, once, expand_arguments}
 use Rattle.meson_calls.specs.Sourced.{kept_args}
-use Rattle.meson_sources.specs.SourceEdits.{extra_key, extra_marks, checked_extra, spots_named, removal_steps, distinct_spots, extra_removed}
+use Rattle.meson_sources.specs.SourceEdits.{extra_key, extra_marks, checked_extra, spots_named, removed_at, extra_removed}
 use Rattle.meson_steps.specs.Names.{checked_names, distinct}
 use Rattle.meson_calls.specs.Sources.{not_hidden}
 use Rattle.meson_steps.specs.Steps.{Step}
@@ -31,13 +30,9 @@ none_hidden : {X : Type 0} (xs : List X) → length xs ≤ 0 → not_hidden xs �
 none_hidden [] none = refl
 none_hidden (x ∷ xs) none = absurd (omega arith)
 
-some_hidden : {X : Type 0} (xs : List X) → 0 < length xs → not_hidden xs ≡ Err HiddenKeywords
-some_hidden [] some = absurd (omega arith)
-some_hidden (x ∷ xs) some = refl
-
 module _ (p : Project Span) (c : CallRef) (source : List ℕ) (l : rust.List) (function : List ℕ) (names : List (List ℕ)) where
   abbrev it : Placed (Call Span)
-  it = placed c (call_with function (list_view source l))
+  it = placed_call c function source l
 
   abbrev pub extras : List (Mark Span)
   extras = extra_marks p it
@@ -60,11 +55,6 @@ module _ (p : Project Span) (c : CallRef) (source : List ℕ) (l : rust.List) (f
     by_names : checked_extra p it names ≡ after_hidden (not_hidden (keyword kwargs_key it.it))
     by_names = ap (λ r. then_ok r (λ _. after_hidden (not_hidden (keyword kwargs_key it.it)))) checked
 
-    pub extra_hidden : 0 < count kwargs_key → checked_extra p it names ≡ Err HiddenKeywords
-    extra_hidden some =
-        by_names ∙ ap (λ xs. after_hidden (not_hidden xs)) (keyword_is p c source l function kwargs_key)
-        ∙ ap after_hidden (some_hidden (kept_args source (value_with_name kwargs_key) 0 (rust.out-List l).items) some)
-
     module _ (none : count kwargs_key ≤ 0) where
       by_hidden : checked_extra p it names ≡ once extra_key (kept_args source (value_with_name extra_key) 0 (rust.out-List l).items) extras
       by_hidden =
@@ -81,17 +71,17 @@ module _ (p : Project Span) (c : CallRef) (source : List ℕ) (l : rust.List) (f
   -- ---- removal
 
   abbrev after_marks : Result (List (Mark Span)) Refusal → Result (List Step) Refusal
-  after_marks r = then_ok r (λ marks. then_ok (spots_named marks (distinct names)) (λ spots. Ok (removal_steps (distinct_spots spots))))
+  after_marks r = then_ok r (λ marks. removed_at (spots_named marks (distinct names)))
 
   pub extra_unchecked : (e : Refusal) → checked_extra p it names ≡ Err e → extra_removed p it names ≡ Err e
   extra_unchecked e is = ap after_marks is
 
   module _ (checked : checked_extra p it names ≡ Ok extras) (t : Tally) (is : t ≡ (extra_gathered p max_followed c source (rust.out-List l).items).tally) where
-    after_checks : extra_removed p it names ≡ then_ok (spots_of_names t.items t.numbers t.unknown (distinct names)) (λ spots. Ok (removal_steps (distinct_spots spots)))
-    after_checks = ap after_marks checked ∙ ap (λ r. then_ok r (λ spots. Ok (removal_steps (distinct_spots spots)))) (sym (told_spots t extras (extra_fields t is) (distinct names)))
+    after_checks : extra_removed p it names ≡ removed_at (spots_of_names t.items t.numbers t.unknown (distinct names))
+    after_checks = ap after_marks checked ∙ ap removed_at (sym (told_spots t extras (extra_fields t is) (distinct names)))
 
-    pub extra_gone : (steps : List ListStep) → AreMeant (then_ok (spots_of_names t.items t.numbers t.unknown (distinct names)) (λ spots. Ok (removal_steps (distinct_spots spots)))) steps → AreMeant (extra_removed p it names) steps
+    pub extra_gone : (steps : List ListStep) → AreMeant (removed_at (spots_of_names t.items t.numbers t.unknown (distinct names))) steps → AreMeant (extra_removed p it names) steps
     extra_gone steps meant = record { steps = meant.steps; is = after_checks ∙ meant.is; bare = meant.bare }
 
-    pub extra_not_gone : (e : Refusal) → then_ok (spots_of_names t.items t.numbers t.unknown (distinct names)) (λ spots. Ok (removal_steps (distinct_spots spots))) ≡ Err e → extra_removed p it names ≡ Err e
+    pub extra_not_gone : (e : Refusal) → removed_at (spots_of_names t.items t.numbers t.unknown (distinct names)) ≡ Err e → extra_removed p it names ≡ Err e
     extra_not_gone e refused = after_checks ∙ refused

@@ -16,7 +16,7 @@ use Rattle.meson_steps.specs.ResultLimits.{plain_trees}
 use Rattle.meson_calls.specs.Project.{Project, Placed}
 use Rattle.meson_calls.specs.Sources.{items, opaque_count, once, source_marks, sources_key, kwargs_key}
 use Rattle.meson_calls.specs.Calls as calls
-use Rattle.meson_sources.specs.SourceEdits.{Spot, spot_of, spots_of, spots_by, spots_named, removable, items_of, has_text, distinct_spots, removal_steps, extra_marks, extra_key, checked_extra}
+use Rattle.meson_sources.specs.SourceEdits.{Spot, spot_of, spots_of, spots_by, spots_named, removable, items_of, has_text, distinct_spots, removal_steps, removed_at, extra_marks, extra_key, checked_extra}
 use Rattle.meson_steps.specs.Names.{distinct, checked_names}
 use Rattle.meson_calls.specs.Sources.{not_hidden}
 use Rattle.meson_sources.proofs.Standings.{SlotStands, MarkStands, SpotStands, SourcesMayBeRemoved, ExtrasMayBeRemoved}
@@ -89,7 +89,7 @@ module _ (p : Project Span) where
 
 module _ (old : Loaded) (parsed : AreParsed old.files old.parsed) where
   abbrev spots_steps : List (Mark Span) → List (List ℕ) → Result (List Step) Refusal
-  spots_steps marks names = then_ok (spots_named marks (distinct names)) (λ spots. Ok (removal_steps (distinct_spots spots)))
+  spots_steps marks names = removed_at (spots_named marks (distinct names))
 
   steps_doable : (marks : List (Mark Span)) → All (MarkStands (project old)) marks → (names : List (List ℕ)) (steps : List Step) → spots_steps marks names ≡ Ok steps → AreDoable steps (plain_trees old)
   steps_doable marks all names steps is =

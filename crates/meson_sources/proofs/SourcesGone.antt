@@ -15,7 +15,7 @@ use Rattle.meson_steps.specs.Steps.{Step, all_stepped}
 use Rattle.meson_steps.proofs.PlainTrees.{trees_stand}
 use Rattle.meson_steps.proofs.WentWell.{once_was, then_was}
 use Rattle.meson_sources.specs.Effects.{ExtraIsRemoved, NamesGo, SourcesAreRemoved}
-use Rattle.meson_sources.specs.SourceEdits.{checked_extra, distinct_spots, extra_marks, removal_steps, spots_named}
+use Rattle.meson_sources.specs.SourceEdits.{checked_extra, distinct_spots, extra_marks, removal_steps, removed_at, spots_named}
 use Rattle.meson_sources.proofs.Standings.{MarkStands}
 use Rattle.meson_sources.proofs.DistinctSpots.{distinct_apart, every_distinct}
 use Rattle.meson_sources.proofs.ExtrasAddable.{checked_marks}
@@ -29,7 +29,7 @@ use Rattle.meson_sources.proofs.TargetsFound.{targets_stand}
 
 module _ (old : Loaded) (is : IsProject old) (marks : List (Mark Span)) (stand : All (MarkStands (project old)) marks) where
   abbrev spots_steps : List (List ℕ) → List (Mark Span) → Result (List Step) Refusal
-  spots_steps names ms = then_ok (spots_named ms (distinct names)) (λ spots. Ok (removal_steps (distinct_spots spots)))
+  spots_steps names ms = removed_at (spots_named ms (distinct names))
 
   names_go : (names : List (List ℕ)) (steps : List Step) (after : List Plain) → spots_steps names marks ≡ Ok steps → all_stepped steps (plain_trees old) ≡ Some after → NamesGo marks names (plain_trees old) after
   names_go names steps after made done =

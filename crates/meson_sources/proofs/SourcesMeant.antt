@@ -4,21 +4,20 @@ use Rattle.std.specs.Prelude.{Some, Ok, Err}
 use Rattle.meson_lex.specs.declared.kinds.Span.{Span}
 use Rattle.meson_splice.specs.Patch.{then_ok}
 use Rattle.meson_syntax.specs.declared.tree.List as rust
-use Rattle.meson_syntax.specs.View.{list_view}
 use Rattle.meson_calls.specs.declared.call.CallRef.{CallRef}
 use Rattle.meson_calls.specs.declared.refusal.Refusal.{Refusal}
 use Rattle.meson_calls.specs.declared.refusal.Refusal.TheVariants.{DuplicateKeyword}
 use Rattle.meson_steps.specs.declared.step.ListStep.{ListStep}
-use Rattle.meson_calls.specs.Project.{Project, Placed, placed}
+use Rattle.meson_calls.specs.Project.{Project, Placed}
 use Rattle.meson_calls.specs.Calls.{Call, keyword, value_with_name}
 use Rattle.meson_calls.specs.Expansion.{Mark, max_followed}
 use Rattle.meson_steps.specs.ListSteps.{bare}
 use Rattle.meson_sources.specs.Naming.{new_among}
-use Rattle.meson_calls.specs.Picking.{call_with}
+use Rattle.meson_calls.specs.Picking.{placed_call}
 use Rattle.meson_sources.specs.CodeSpots.{spots_of_names}
 use Rattle.meson_calls.specs.Sources.{sources_key, source_marks, home, once, or_call, or_option, first_list}
 use Rattle.meson_calls.specs.Sourced.{kept_args, all_gathered}
-use Rattle.meson_sources.specs.SourceEdits.{new_names, insertion_steps, plain_len, spots_named, removal_steps, distinct_spots, sources_added, sources_removed}
+use Rattle.meson_sources.specs.SourceEdits.{new_names, insertion_steps, plain_len, spots_named, removed_at, sources_added, sources_removed}
 use Rattle.meson_steps.specs.Names.{checked_names, distinct}
 use Rattle.meson_calls.specs.Tallies.{Tally}
 use Rattle.meson_steps.specs.Meanings.{AreMeant}
@@ -37,7 +36,7 @@ once_twice key (x ∷ z ∷ more) y many = refl
 
 module _ (p : Project Span) (c : CallRef) (source : List ℕ) (l : rust.List) (function : List ℕ) (names : List (List ℕ)) where
   abbrev it : Placed (Call Span)
-  it = placed c (call_with function (list_view source l))
+  it = placed_call c function source l
 
   abbrev pub ms : List (Mark Span)
   ms = source_marks p it
@@ -62,7 +61,7 @@ module _ (p : Project Span) (c : CallRef) (source : List ℕ) (l : rust.List) (f
 
     pub removed_twice : 1 < args → sources_removed p it names ≡ Err (DuplicateKeyword sources_key)
     removed_twice many =
-        let rest = λ (marks : List (Mark Span)). then_ok (spots_named marks (distinct names)) (λ spots. Ok (removal_steps (distinct_spots spots))) in
+        let rest = λ (marks : List (Mark Span)). removed_at (spots_named marks (distinct names)) in
         ap (λ r. then_ok r (λ _. then_ok (once sources_key (keyword sources_key it.it) ms) rest)) checked ∙ ap (λ r. then_ok r rest) (many_are ms many)
 
     module _ (few : args ≤ 1) (t : Tally) (is : t ≡ (all_gathered p max_followed c source (rust.out-List l).items).tally) where
@@ -79,14 +78,14 @@ module _ (p : Project Span) (c : CallRef) (source : List ℕ) (l : rust.List) (f
             bare = sym (are ∙ ap (λ k. map bare (insertion_steps place k new)) is_n ∙ ap (λ h. map bare (insertion_steps h (plain_len p h) new)) place_is ∙ ap (λ ns. map bare (insertion_steps (home c ms) (plain_len p (home c ms)) ns)) new_is);
           }
 
-      after_checks : sources_removed p it names ≡ then_ok (spots_of_names t.items t.numbers t.unknown (distinct names)) (λ spots. Ok (removal_steps (distinct_spots spots)))
+      after_checks : sources_removed p it names ≡ removed_at (spots_of_names t.items t.numbers t.unknown (distinct names))
       after_checks =
-          let rest = λ (marks : List (Mark Span)). then_ok (spots_named marks (distinct names)) (λ spots. Ok (removal_steps (distinct_spots spots))) in
+          let rest = λ (marks : List (Mark Span)). removed_at (spots_named marks (distinct names)) in
           ap (λ r. then_ok r (λ _. then_ok (once sources_key (keyword sources_key it.it) ms) rest)) checked ∙ ap (λ r. then_ok r rest) (few_are ms few)
-          ∙ ap (λ r. then_ok r (λ spots. Ok (removal_steps (distinct_spots spots)))) (sym (told_spots t ms (fields t is) (distinct names)))
+          ∙ ap removed_at (sym (told_spots t ms (fields t is) (distinct names)))
 
-      pub gone : (steps : List ListStep) → AreMeant (then_ok (spots_of_names t.items t.numbers t.unknown (distinct names)) (λ spots. Ok (removal_steps (distinct_spots spots)))) steps → AreMeant (sources_removed p it names) steps
+      pub gone : (steps : List ListStep) → AreMeant (removed_at (spots_of_names t.items t.numbers t.unknown (distinct names))) steps → AreMeant (sources_removed p it names) steps
       gone steps meant = record { steps = meant.steps; is = after_checks ∙ meant.is; bare = meant.bare }
 
-      pub not_gone : (e : Refusal) → then_ok (spots_of_names t.items t.numbers t.unknown (distinct names)) (λ spots. Ok (removal_steps (distinct_spots spots))) ≡ Err e → sources_removed p it names ≡ Err e
+      pub not_gone : (e : Refusal) → removed_at (spots_of_names t.items t.numbers t.unknown (distinct names)) ≡ Err e → sources_removed p it names ≡ Err e
       not_gone e refused = after_checks ∙ refused

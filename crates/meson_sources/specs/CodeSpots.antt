@@ -1,8 +1,9 @@
 -- Spots of the code, and those of the items that it keeps.
-use Rattle.std.specs.Prelude.{ℕ, Bool, true, false, List, [], ◌∷◌, ◌++◌, if◌then◌else◌, Option, Some, None, option_map, option_and_then, Result, Ok, Err}
+use Rattle.std.specs.Prelude.{ℕ, Bool, true, false, List, [], ◌∷◌, ◌++◌, length, if◌then◌else◌, Option, Some, None, option_map, option_and_then, Result, Ok, Err}
 use Rattle.meson_splice.specs.Patch.{then_ok}
 use Rattle.meson_calls.specs.declared.call.CallRef.{CallRef}
 use Rattle.meson_calls.specs.declared.call.SourceItem.{SourceItem}
+use Rattle.meson_calls.specs.declared.marks.Marks.{Marks}
 use Rattle.meson_calls.specs.declared.refusal.Refusal.{Refusal}
 use Rattle.meson_sources.specs.SourceEdits.{Spot, none_found, removable}
 use Rattle.meson_sources.specs.declared.removing.Spot as code
@@ -39,6 +40,16 @@ abbrev pub spots_of_names : List SourceItem → List (Option ℕ) → ℕ → Li
 spots_of_names items numbers unknown [] = Ok []
 spots_of_names items numbers unknown (name ∷ more) =
     then_ok (spots_from unknown (spots_at name items numbers)) (λ here. then_ok (spots_of_names items numbers unknown more) (λ later. Ok (here ++ later)))
+
+-- ---- spots among what the code has met
+
+-- those of a name
+abbrev pub spots_in : Marks → List ℕ → List (Option Spot)
+spots_in m name = spots_at name m.items.items m.numbers.items
+
+-- those of names, each of which has one, and all of which stand in lists
+abbrev pub all_spots_in : Marks → List (List ℕ) → Result (List Spot) Refusal
+all_spots_in m names = spots_of_names m.items.items m.numbers.items (length m.unknown.items) names
 
 -- ---- spots after others
 

@@ -150,6 +150,10 @@ distinct_spots_by seen (s ∷ more) = if list_any (same_spot s) seen then distin
 abbrev pub distinct_spots : List Spot → List Spot
 distinct_spots spots = distinct_spots_by [] spots
 
+-- the steps by which what stands at spots goes
+abbrev pub removed_at : Result (List Spot) Refusal → Result (List Step) Refusal
+removed_at found = then_ok found (λ spots. Ok (removal_steps (distinct_spots spots)))
+
 -- ---- sources
 
 abbrev pub sources_added : {S : Type 0} → Project S → Placed (Call S) → List (List ℕ) → Result (List Step) Refusal
@@ -158,7 +162,7 @@ sources_added p c names =
 
 abbrev pub sources_removed : {S : Type 0} → Project S → Placed (Call S) → List (List ℕ) → Result (List Step) Refusal
 sources_removed p c names =
-    then_ok (checked_names names) (λ _. then_ok (once sources_key (keyword sources_key c.it) (source_marks p c)) (λ marks. then_ok (spots_named marks (distinct names)) (λ spots. Ok (removal_steps (distinct_spots spots)))))
+    then_ok (checked_names names) (λ _. then_ok (once sources_key (keyword sources_key c.it) (source_marks p c)) (λ marks. removed_at (spots_named marks (distinct names))))
 
 -- ---- extra files
 
@@ -202,4 +206,4 @@ abbrev pub extra_added : {S : Type 0} → Project S → Placed (Call S) → List
 extra_added p c names = then_ok (checked_extra p c names) (λ marks. extra_inserted p c (or_option (first_list marks) (first_empty marks)) (new_names marks names))
 
 abbrev pub extra_removed : {S : Type 0} → Project S → Placed (Call S) → List (List ℕ) → Result (List Step) Refusal
-extra_removed p c names = then_ok (checked_extra p c names) (λ marks. then_ok (spots_named marks (distinct names)) (λ spots. Ok (removal_steps (distinct_spots spots))))
+extra_removed p c names = then_ok (checked_extra p c names) (λ marks. removed_at (spots_named marks (distinct names)))

@@ -1,6 +1,6 @@
 //! The steps of commands on the sources of a target.
 
-ghost use Rattle.std.specs.Prelude.{◌≡◌, ◌≢◌, ◌<◌, ◌≤◌, ◌^◌, All, Err, IfErr, IfOk, OnOk, Some, length, map};
+ghost use Rattle.std.specs.Prelude.{◌≡◌, ◌≢◌, ◌<◌, ◌≤◌, ◌^◌, All, IfErr, IfOk, OnOk, Some, length, map};
 ghost use Rattle.std.specs.Str.{IsUtf8};
 ghost use Rattle.std.specs.List.{filter};
 ghost use Rattle.meson_syntax.specs.View.{args_view, list_view};
@@ -8,8 +8,8 @@ ghost use Rattle.meson_calls.specs.Calls.{value_with_name};
 ghost use Rattle.meson_calls.specs.GoodLists.{GoodListing};
 ghost use Rattle.meson_calls.specs.Loading.{AreParsed};
 ghost use Rattle.meson_calls.specs.CodeVariables.{AreVariables, project_of};
-ghost use Rattle.meson_calls.specs.Picking.{Source, call_with};
-ghost use Rattle.meson_calls.specs.Project.{placed};
+ghost use Rattle.meson_calls.specs.Picking.{Source, placed_call};
+ghost use Rattle.meson_calls.specs.Refusals.{RefusedAs};
 ghost use Rattle.meson_sources.specs.SourceEdits.{insertion_steps, is_plain, plain_len, sources_added, sources_removed};
 ghost use Rattle.meson_calls.specs.Sourced.{kept_args};
 ghost use Rattle.meson_steps.specs.ListSteps.{bare};
@@ -68,7 +68,8 @@ pub(crate) fn insertions(
     names: &[&Text],
 ) -> Result<Vec<ListStep>, Refusal>
     requires { AreParsed variables.now.files.now variables.now.trees.now }
-    ensures done { IfOk result (λ steps. map Some steps.items ≡ map bare (insertion_steps list.now (plain_len (project_of variables.now) list.now) (map (λ x. x.now) names.now))) }
+    ensures done { IfOk result (λ steps. map Some steps.items
+        ≡ map bare (insertion_steps list.now (plain_len (project_of variables.now) list.now) (map (λ x. x.now) names.now))) }
     ensures refused { IfErr result (λ e. e ≡ Refusal.OutOfMemory) }
 {
     let mut steps = Vec::new(variables.alloc);
@@ -89,7 +90,8 @@ pub fn at_most_once(
 ) -> Result<(), Refusal>
     requires { IsUtf8 key.now }
     ensures few { OnOk result (length (kept_args source.now (value_with_name key.now) 0 arguments.now.items) ≤ 1) }
-    ensures twice { IfErr result (λ e. e ≢ Refusal.OutOfMemory → (e ≡ Refusal.DuplicateKeyword key.now) × (1 < length (kept_args source.now (value_with_name key.now) 0 arguments.now.items))) }
+    ensures twice { IfErr result (λ e. e ≢ Refusal.OutOfMemory → (e ≡ Refusal.DuplicateKeyword key.now)
+        × (1 < length (kept_args source.now (value_with_name key.now) 0 arguments.now.items))) }
 {
     if count_named(source, arguments.items.get(), key) > 1 {
         let key = text_of_name(alloc, key)?;
@@ -112,8 +114,10 @@ pub(crate) fn sources_added<'t>(
     requires holds { AreVariables variables.now }
     requires parsed { AreParsed variables.now.files.now variables.now.trees.now }
     requires good { GoodListing (list_view source.now arguments.now) }
-    ensures meant { (function : Source) → IfOk result (λ steps. AreMeant (sources_added (project_of variables.now) (placed call.now (call_with function (list_view source.entry.now arguments.entry.now))) names.now) steps.items) }
-    ensures refused { (function : Source) → IfErr result (λ e. e ≢ Refusal.OutOfMemory → sources_added (project_of variables.now) (placed call.now (call_with function (list_view source.entry.now arguments.entry.now))) names.now ≡ Err e) }
+    ensures meant { (function : Source) → IfOk result (λ steps.
+        AreMeant (sources_added (project_of variables.now) (placed_call call.now function source.entry.now arguments.entry.now) names.now) steps.items) }
+    ensures refused { (function : Source) →
+        RefusedAs result (sources_added (project_of variables.now) (placed_call call.now function source.entry.now arguments.entry.now) names.now) }
     ensures utf8 { IfOk result (λ steps. All IsUtf8 names.now) }
 {
     let alloc = variables.alloc;
@@ -140,8 +144,10 @@ pub(crate) fn sources_removed<'t>(
 ) -> Result<Vec<ListStep>, Refusal>
     requires holds { AreVariables variables.now }
     requires good { GoodListing (list_view source.now arguments.now) }
-    ensures meant { (function : Source) → IfOk result (λ steps. AreMeant (sources_removed (project_of variables.now) (placed call.now (call_with function (list_view source.entry.now arguments.entry.now))) names.now) steps.items) }
-    ensures refused { (function : Source) → IfErr result (λ e. e ≢ Refusal.OutOfMemory → sources_removed (project_of variables.now) (placed call.now (call_with function (list_view source.entry.now arguments.entry.now))) names.now ≡ Err e) }
+    ensures meant { (function : Source) → IfOk result (λ steps.
+        AreMeant (sources_removed (project_of variables.now) (placed_call call.now function source.entry.now arguments.entry.now) names.now) steps.items) }
+    ensures refused { (function : Source) →
+        RefusedAs result (sources_removed (project_of variables.now) (placed_call call.now function source.entry.now arguments.entry.now) names.now) }
     ensures utf8 { IfOk result (λ steps. All IsUtf8 names.now) }
 {
     let alloc = variables.alloc;

@@ -1,6 +1,6 @@
 //! The steps of commands on the extra files of a target.
 
-ghost use Rattle.std.specs.Prelude.{◌≡◌, ◌≢◌, ◌<◌, ◌++◌, ◌∷◌, [], All, Err, IfErr, IfOk, Ok, OnOk, Some, codes, length, map};
+ghost use Rattle.std.specs.Prelude.{◌≡◌, ◌<◌, ◌++◌, ◌∷◌, [], All, IfErr, IfOk, Ok, OnOk, Some, codes, length, map};
 ghost use Rattle.std.specs.Str.{IsUtf8};
 ghost use Rattle.meson_lex.specs.Literals as lex;
 ghost use Rattle.meson_syntax.specs.Grammar.{expression_words};
@@ -11,8 +11,8 @@ ghost use Rattle.meson_calls.specs.GoodLists.{GoodArgs, GoodListing};
 ghost use Rattle.meson_steps.specs.ListSteps.{bare};
 ghost use Rattle.meson_calls.specs.Loading.{AreParsed};
 ghost use Rattle.meson_calls.specs.CodeVariables.{AreVariables, project_of};
-ghost use Rattle.meson_calls.specs.Picking.{Source, call_with};
-ghost use Rattle.meson_calls.specs.Project.{placed};
+ghost use Rattle.meson_calls.specs.Picking.{Source, placed_call};
+ghost use Rattle.meson_calls.specs.Refusals.{RefusedAs};
 ghost use Rattle.meson_sources.specs.SourceEdits.{behind_value, checked_extra, elements_there, extra_added, extra_key, extra_marks, extra_removed};
 ghost use Rattle.meson_calls.specs.Sourced.{kept_args};
 ghost use Rattle.meson_calls.specs.Sources.{or_option};
@@ -81,9 +81,12 @@ fn checked_extra<'t>(
 ) -> Result<Marks<'t>, Refusal>
     requires holds { AreVariables variables.now }
     requires good { GoodListing (list_view source.now arguments.now) }
-    ensures met { IfOk result (λ marks. gathered marks ≡ extra_gathered (project_of variables.now) max_followed call.now source.entry.now arguments.entry.now.items) }
-    ensures checked { (function : Source) → IfOk result (λ marks. checked_extra (project_of variables.now) (placed call.now (call_with function (list_view source.entry.now arguments.entry.now))) names.now ≡ Ok (extra_marks (project_of variables.now) (placed call.now (call_with function (list_view source.entry.now arguments.entry.now))))) }
-    ensures refused { (function : Source) → IfErr result (λ e. e ≢ Refusal.OutOfMemory → checked_extra (project_of variables.now) (placed call.now (call_with function (list_view source.entry.now arguments.entry.now))) names.now ≡ Err e) }
+    ensures met { IfOk result (λ marks.
+        gathered marks ≡ extra_gathered (project_of variables.now) max_followed call.now source.entry.now arguments.entry.now.items) }
+    ensures checked { (function : Source) → let c = placed_call call.now function source.entry.now arguments.entry.now in
+        IfOk result (λ marks. checked_extra (project_of variables.now) c names.now ≡ Ok (extra_marks (project_of variables.now) c)) }
+    ensures refused { (function : Source) →
+        RefusedAs result (checked_extra (project_of variables.now) (placed_call call.now function source.entry.now arguments.entry.now) names.now) }
     ensures utf8 { IfOk result (λ marks. All IsUtf8 names.now) }
 {
     checked_names(names)?;
@@ -123,7 +126,8 @@ fn into_new_list(
     steps: &mut Vec<ListStep>,
 ) -> Result<(), Refusal>
     requires { 0 < length names.now }
-    ensures done { OnOk result (map Some steps.new.items ≡ map Some steps.old.items ++ map bare (new_list_steps call.now arguments (map (λ x. x.now) names.now))) }
+    ensures done { OnOk result (map Some steps.new.items
+        ≡ map Some steps.old.items ++ map bare (new_list_steps call.now arguments (map (λ x. x.now) names.now))) }
     ensures refused { IfErr result (λ e. e ≡ Refusal.OutOfMemory) }
 {
     let new = written_keyword(alloc, names[0])?;
@@ -148,8 +152,9 @@ fn behind_value(
     steps: &mut Vec<ListStep>,
 ) -> Result<(), Refusal>
     requires { AreGood (expression_words (expr_view source.now value.now)) }
-    ensures done { OnOk result (AreBehind (behind_value call.now number (literal_of (expr_view source.now value.now)) (map (λ x. x.now) names.now)) steps.old.items steps.new.items) }
-    ensures refused { IfErr result (λ e. e ≢ Refusal.OutOfMemory → behind_value call.now number (literal_of (expr_view source.now value.now)) (map (λ x. x.now) names.now) ≡ Err e) }
+    ensures done { OnOk result (AreBehind
+        (behind_value call.now number (literal_of (expr_view source.now value.now)) (map (λ x. x.now) names.now)) steps.old.items steps.new.items) }
+    ensures refused { RefusedAs result (behind_value call.now number (literal_of (expr_view source.now value.now)) (map (λ x. x.now) names.now)) }
 {
     match literal(alloc, source, value)? {
         Some(_) => {}
@@ -177,8 +182,10 @@ fn without_home(
     steps: &mut Vec<ListStep>,
 ) -> Result<(), Refusal>
     requires { GoodArgs source.now args.now }
-    ensures done { OnOk result (AreBehind (lone_or_new call.now (length args.now) (kept_args source.now (value_with_name extra_key) 0 args.now) (map (λ x. x.now) names.now)) steps.old.items steps.new.items) }
-    ensures refused { IfErr result (λ e. e ≢ Refusal.OutOfMemory → lone_or_new call.now (length args.now) (kept_args source.now (value_with_name extra_key) 0 args.now) (map (λ x. x.now) names.now) ≡ Err e) }
+    ensures done { OnOk result (AreBehind (lone_or_new call.now (length args.now) (kept_args source.now (value_with_name extra_key) 0 args.now)
+        (map (λ x. x.now) names.now)) steps.old.items steps.new.items) }
+    ensures refused { RefusedAs result (lone_or_new call.now (length args.now)
+        (kept_args source.now (value_with_name extra_key) 0 args.now) (map (λ x. x.now) names.now)) }
 {
     if names.len() == 0 {
         return Ok(());
@@ -225,8 +232,10 @@ pub(crate) fn extra_added<'t>(
     requires parsed { AreParsed variables.now.files.now variables.now.trees.now }
     requires good { GoodListing (list_view source.now arguments.now) }
     requires there { length arguments.now.items ≡ length (elements_there (project_of variables.now) call.now) }
-    ensures meant { (function : Source) → IfOk result (λ steps. AreMeant (extra_added (project_of variables.now) (placed call.now (call_with function (list_view source.entry.now arguments.entry.now))) names.now) steps.items) }
-    ensures refused { (function : Source) → IfErr result (λ e. e ≢ Refusal.OutOfMemory → extra_added (project_of variables.now) (placed call.now (call_with function (list_view source.entry.now arguments.entry.now))) names.now ≡ Err e) }
+    ensures meant { (function : Source) → IfOk result (λ steps.
+        AreMeant (extra_added (project_of variables.now) (placed_call call.now function source.entry.now arguments.entry.now) names.now) steps.items) }
+    ensures refused { (function : Source) →
+        RefusedAs result (extra_added (project_of variables.now) (placed_call call.now function source.entry.now arguments.entry.now) names.now) }
     ensures utf8 { IfOk result (λ steps. All IsUtf8 names.now) }
 {
     let alloc = variables.alloc;
@@ -261,8 +270,10 @@ pub(crate) fn extra_removed<'t>(
 ) -> Result<Vec<ListStep>, Refusal>
     requires holds { AreVariables variables.now }
     requires good { GoodListing (list_view source.now arguments.now) }
-    ensures meant { (function : Source) → IfOk result (λ steps. AreMeant (extra_removed (project_of variables.now) (placed call.now (call_with function (list_view source.entry.now arguments.entry.now))) names.now) steps.items) }
-    ensures refused { (function : Source) → IfErr result (λ e. e ≢ Refusal.OutOfMemory → extra_removed (project_of variables.now) (placed call.now (call_with function (list_view source.entry.now arguments.entry.now))) names.now ≡ Err e) }
+    ensures meant { (function : Source) → IfOk result (λ steps.
+        AreMeant (extra_removed (project_of variables.now) (placed_call call.now function source.entry.now arguments.entry.now) names.now) steps.items) }
+    ensures refused { (function : Source) →
+        RefusedAs result (extra_removed (project_of variables.now) (placed_call call.now function source.entry.now arguments.entry.now) names.now) }
     ensures utf8 { IfOk result (λ steps. All IsUtf8 names.now) }
 {
     let marks = checked_extra(variables, call, source, arguments, names)?;

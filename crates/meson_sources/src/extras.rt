@@ -1,11 +1,11 @@
 //! The extra files of a target.
 
-ghost use Rattle.std.specs.Prelude.{◌≡◌, ◌≢◌, Err, IfErr, IfOk, Ok};
+ghost use Rattle.std.specs.Prelude.{◌≡◌, IfOk, Ok};
 ghost use Rattle.meson_syntax.specs.View.{list_view};
 ghost use Rattle.meson_calls.specs.GoodLists.{GoodListing};
 ghost use Rattle.meson_calls.specs.CodeVariables.{AreVariables, project_of};
-ghost use Rattle.meson_calls.specs.Picking.{Source, call_with};
-ghost use Rattle.meson_calls.specs.Project.{placed};
+ghost use Rattle.meson_calls.specs.Picking.{Source, placed_call};
+ghost use Rattle.meson_calls.specs.Refusals.{RefusedAs};
 ghost use Rattle.meson_sources.specs.Extras.{extra_of_call};
 
 use crate::editing::at_most_once;
@@ -29,8 +29,10 @@ pub fn extra_files_of<'t>(
 ) -> Result<Sources, Refusal>
     requires holds { AreVariables variables.now }
     requires good { GoodListing (list_view source.now arguments.now) }
-    ensures found { (function : Source) → IfOk result (λ s. extra_of_call (project_of variables.now) (placed call.now (call_with function (list_view source.entry.now arguments.entry.now))) ≡ Ok s) }
-    ensures refused { (function : Source) → IfErr result (λ e. e ≢ Refusal.OutOfMemory → extra_of_call (project_of variables.now) (placed call.now (call_with function (list_view source.entry.now arguments.entry.now))) ≡ Err e) }
+    ensures found { (function : Source) → IfOk result (λ s.
+        extra_of_call (project_of variables.now) (placed_call call.now function source.entry.now arguments.entry.now) ≡ Ok s) }
+    ensures refused { (function : Source) →
+        RefusedAs result (extra_of_call (project_of variables.now) (placed_call call.now function source.entry.now arguments.entry.now)) }
 {
     let alloc = variables.alloc;
     at_most_once(alloc, source, arguments, b"extra_files".as_slice())?;

@@ -2,12 +2,12 @@
 
 ghost use Rattle.std.specs.Prelude.{◌≡◌, ◌≢◌, ◌++◌, ◌∷◌, [], Err, IfErr, IfOk, None, Ok, OnOk, Some, true, length, map, option_map};
 ghost use Rattle.std.specs.List.{list_any};
-ghost use Rattle.meson_splice.specs.Patch.{then_ok};
+ghost use Rattle.meson_calls.specs.Refusals.{RefusedAs};
 ghost use Rattle.meson_steps.specs.ListSteps.{bare};
 ghost use Rattle.meson_steps.specs.Meanings.{AreMeant};
 ghost use Rattle.meson_steps.specs.Names.{distinct};
-ghost use Rattle.meson_sources.specs.CodeSpots.{after_each, all_there, before_all, is_some_there, spot_if_there, spot_view, spots_at, spots_of_names};
-ghost use Rattle.meson_sources.specs.SourceEdits.{distinct_spots, moved_up, path_after, removal_steps, same_spot, spot_after};
+ghost use Rattle.meson_sources.specs.CodeSpots.{after_each, all_spots_in, all_there, before_all, is_some_there, spot_if_there, spot_view, spots_in};
+ghost use Rattle.meson_sources.specs.SourceEdits.{distinct_spots, moved_up, path_after, removal_steps, removed_at, same_spot, spot_after};
 
 use meson_calls::marks::Marks;
 use meson_calls::place::place_of;
@@ -171,10 +171,11 @@ fn find_spots(
     spots: &mut Vec<Spot>,
 ) -> Result<bool, Refusal>
     requires { length marks.now.numbers.items ≡ length marks.now.items.items }
-    ensures found { OnOk result (before_all (map spot_view spots.old.items) (all_there (spots_at name.now marks.now.items.items marks.now.numbers.items)) ≡ Some (map spot_view spots.new.items)) }
-    ensures some { IfOk result (λ b. b ≡ is_some_there (spots_at name.now marks.now.items.items marks.now.numbers.items)) }
-    ensures refused { IfErr result (λ e. e ≢ Refusal.OutOfMemory → (e ≡ Refusal.NotRemovable) × (all_there (spots_at name.now marks.now.items.items marks.now.numbers.items) ≡ None)) }
-    ensures there { IfErr result (λ e. e ≢ Refusal.OutOfMemory → is_some_there (spots_at name.now marks.now.items.items marks.now.numbers.items) ≡ true) }
+    ensures found { OnOk result (before_all (map spot_view spots.old.items)
+        (all_there (spots_in marks.now name.now)) ≡ Some (map spot_view spots.new.items)) }
+    ensures some { IfOk result (λ b. b ≡ is_some_there (spots_in marks.now name.now)) }
+    ensures refused { IfErr result (λ e. e ≢ Refusal.OutOfMemory → (e ≡ Refusal.NotRemovable) × (all_there (spots_in marks.now name.now) ≡ None)) }
+    ensures there { IfErr result (λ e. e ≢ Refusal.OutOfMemory → is_some_there (spots_in marks.now name.now) ≡ true) }
 {
     let mut found = false;
     for i in 0..marks.items.len() {
@@ -200,8 +201,8 @@ pub(crate) fn spots_of(
     names: &[&Text],
 ) -> Result<Vec<Spot>, Refusal>
     requires { length marks.now.numbers.items ≡ length marks.now.items.items }
-    ensures found { IfOk result (λ spots. spots_of_names marks.now.items.items marks.now.numbers.items (length marks.now.unknown.items) (map (λ x. x.now) names.now) ≡ Ok (map spot_view spots.items)) }
-    ensures refused { IfErr result (λ e. e ≢ Refusal.OutOfMemory → spots_of_names marks.now.items.items marks.now.numbers.items (length marks.now.unknown.items) (map (λ x. x.now) names.now) ≡ Err e) }
+    ensures found { IfOk result (λ spots. all_spots_in marks.now (map (λ x. x.now) names.now) ≡ Ok (map spot_view spots.items)) }
+    ensures refused { RefusedAs result (all_spots_in marks.now (map (λ x. x.now) names.now)) }
 {
     let mut spots = Vec::new(alloc);
     for i in 0..names.len() {
@@ -226,8 +227,8 @@ pub(crate) fn names_removed(
     names: &[Text],
 ) -> Result<Vec<ListStep>, Refusal>
     requires { length marks.now.numbers.items ≡ length marks.now.items.items }
-    ensures meant { IfOk result (λ steps. AreMeant (then_ok (spots_of_names marks.now.items.items marks.now.numbers.items (length marks.now.unknown.items) (distinct names.now)) (λ spots. Ok (removal_steps (distinct_spots spots)))) steps.items) }
-    ensures refused { IfErr result (λ e. e ≢ Refusal.OutOfMemory → then_ok (spots_of_names marks.now.items.items marks.now.numbers.items (length marks.now.unknown.items) (distinct names.now)) (λ spots. Ok (removal_steps (distinct_spots spots))) ≡ Err e) }
+    ensures meant { IfOk result (λ steps. AreMeant (removed_at (all_spots_in marks.now (distinct names.now))) steps.items) }
+    ensures refused { RefusedAs result (removed_at (all_spots_in marks.now (distinct names.now))) }
 {
     let names = distinct(alloc, names)?;
     let spots = spots_of(alloc, marks, names.as_slice())?;

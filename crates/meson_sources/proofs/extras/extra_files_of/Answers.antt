@@ -1,5 +1,5 @@
 -- The extra files of a call are those that its marks tell of, where the keyword is there once.
-use Rattle.std.proofs.Common.{◌<◌, ◌≤◌, length, sym, ap, ◌∙◌, subst}
+use Rattle.std.proofs.Common.{rules, ◌<◌, ◌≤◌, length, sym, ap, ◌∙◌, subst}
 use Rattle.std.specs.Str.{IsUtf8}
 use Rattle.std.specs.Prelude.{Ok, Err}
 use Rattle.std.proofs.lemmas.Result.{err_from_is_err_and}
@@ -41,3 +41,9 @@ returns-clause-found c = λ function.
     ∙ ap (λ is. Ok (record { items = is; opaque = length marks.unknown.items; home = or_call call (or_option marks.list marks.vacant) })) (sym c.of.ensures)
     ∙ ap (λ n. Ok (record { items = c.of.result; opaque = n; home = or_call call (or_option marks.list marks.vacant) })) (sym (c.len.ensures ∙ marks.unknown.ok.0))
     ∙ ap (λ h. Ok (record { items = c.of.result; opaque = c.len.result; home = h })) (sym c.in_ok-home.ensures)
+
+pub returns-in_err-marks-clause-refused : goal.returns-in_err-marks-clause-refused
+returns-in_err-marks-clause-refused c = λ function. search rules
+
+pub returns-in_err-home-clause-refused : goal.returns-in_err-home-clause-refused
+returns-in_err-home-clause-refused c = λ function. search rules

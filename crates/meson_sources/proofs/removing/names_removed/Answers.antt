@@ -1,24 +1,21 @@
 use Rattle.std.proofs.Common.{map, sym, ap, ◌∙◌}
 use Rattle.std.proofs.lemmas.Result.{err_from_is_err_and}
-use Rattle.std.specs.Prelude.{Ok}
-use Rattle.meson_splice.specs.Patch.{then_ok}
 use Rattle.meson_steps.specs.ListSteps.{bare}
-use Rattle.meson_sources.specs.SourceEdits.{removal_steps, distinct_spots}
-use Rattle.meson_sources.specs.CodeSpots.{spot_view, spots_of_names}
-use Rattle.meson_calls.specs.Tallies.{gathered}
+use Rattle.meson_sources.specs.SourceEdits.{removal_steps, removed_at, distinct_spots}
+use Rattle.meson_sources.specs.CodeSpots.{all_spots_in, spot_view}
 use Rattle.meson_sources.proofs.removing.names_removed.Goals as goal
 
 pub returns-in_err-spots-clause-refused : goal.returns-in_err-spots-clause-refused
 returns-in_err-spots-clause-refused c =
     let error = err_from_is_err_and c.from_residual-in_err-spots.result c.from_residual-in_err-spots.ensures.1 in
     rw (error.1, error.2) (λ other.
-    let t = (gathered c.args.marks.now).tally in
-    let found = ap (λ ns. spots_of_names t.items t.numbers t.unknown ns) (sym c.in_ok-names.ensures) ∙ ap (λ ns. spots_of_names t.items t.numbers t.unknown (map (λ x. x.now) ns)) (sym c.as_slice.ensures.value) ∙ c.in_err-spots.ensures.refused other in
-    ap (λ r. then_ok r (λ spots. Ok (removal_steps (distinct_spots spots)))) found)
+    let m = c.args.marks.now in
+    let found = ap (all_spots_in m) (sym c.in_ok-names.ensures) ∙ ap (λ ns. all_spots_in m (map (λ x. x.now) ns)) (sym c.as_slice.ensures.value) ∙ c.in_err-spots.ensures.refused other in
+    ap removed_at found)
 
 pub returns-clause-meant : goal.returns-clause-meant
 returns-clause-meant c =
-    let t = (gathered c.args.marks.now).tally in
-    let found = ap (λ ns. spots_of_names t.items t.numbers t.unknown ns) (sym c.in_ok-names.ensures) ∙ ap (λ ns. spots_of_names t.items t.numbers t.unknown (map (λ x. x.now) ns)) (sym c.as_slice.ensures.value) ∙ c.in_ok-spots.ensures.found in
+    let m = c.args.marks.now in
+    let found = ap (all_spots_in m) (sym c.in_ok-names.ensures) ∙ ap (λ ns. all_spots_in m (map (λ x. x.now) ns)) (sym c.as_slice.ensures.value) ∙ c.in_ok-spots.ensures.found in
     let are = c.in_ok-steps.ensures ∙ ap (λ ss. map bare (removal_steps (distinct_spots (map spot_view ss)))) c.as_slice-2.ensures.value in
-    record { steps = removal_steps (distinct_spots (map spot_view c.in_ok-spots.spots.items)); is = ap (λ r. then_ok r (λ spots. Ok (removal_steps (distinct_spots spots)))) found; bare = sym are }
+    record { steps = removal_steps (distinct_spots (map spot_view c.in_ok-spots.spots.items)); is = ap removed_at found; bare = sym are }
