@@ -4,12 +4,12 @@
 mod counting;
 mod fault;
 pub mod laws;
-mod log_text;
+mod log;
 mod performing;
 mod session;
 mod stepping;
 
 pub use fault::{RunFault, UndoFault, Unstarted};
-pub use log_text::log_text;
+pub use log::log_text;
 pub use meson_json::{Script, ScriptFault, empty_log, is_title, read_log};
 pub use session::{Report, Session};
