@@ -104,8 +104,8 @@ returns-in-ExtraAdded-clause-refused c =
     ∙ ap (λ k. target_steps (project_in n) id k names) (sym c.in-ExtraAdded.is) in
     subst (λ m. IfErr c.extra_added.result (λ x. x ≢ OutOfMemory → m ≡ Err x)) steps (c.extra_added.ensures.refused (function n c.requires id c.in_ok-call.call found))
 
-pub returns-in-ExtraRemoved-clause-meant : goal.returns-in-ExtraRemoved-clause-meant
-returns-in-ExtraRemoved-clause-meant c =
+pub returns-clause-meant : goal.returns-clause-meant
+returns-clause-meant c =
     let n = c.args.noted.now in
     let id = c.args.target.now in
     let names = c.args.names.now in
@@ -114,8 +114,8 @@ returns-in-ExtraRemoved-clause-meant c =
     ∙ ap (λ k. target_steps (project_in n) id k names) (sym c.in-ExtraRemoved.is) in
     subst (λ m. IfOk c.extra_removed.result (λ steps. AreMeant m steps.items)) steps (c.extra_removed.ensures.meant (function n c.requires id c.in_ok-call.call found))
 
-pub returns-in-ExtraRemoved-clause-refused : goal.returns-in-ExtraRemoved-clause-refused
-returns-in-ExtraRemoved-clause-refused c =
+pub returns-clause-refused : goal.returns-clause-refused
+returns-clause-refused c =
     let n = c.args.noted.now in
     let id = c.args.target.now in
     let names = c.args.names.now in
