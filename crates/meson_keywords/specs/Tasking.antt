@@ -6,12 +6,13 @@ use Rattle.meson_lex.specs.Kinds.{IsIdentifier}
 use Rattle.meson_splice.specs.Patch.{then_ok}
 use Rattle.meson_syntax.specs.Grammar.{LevelExpression, expression_depth, expression_words}
 use Rattle.meson_syntax.specs.Tree.{Nowhere, Expression, Argument}
-use Rattle.meson_syntax.specs.View.{expr_view}
+use Rattle.meson_syntax.specs.View.{args_view, expr_view}
 use Rattle.meson_edit.specs.Edits.{Written}
 use Rattle.meson_edit.specs.Places.{IsWritten}
 use Rattle.meson_calls.specs.declared.call.Role.{Role}
 use Rattle.meson_steps.specs.declared.command.Setting.{Setting}
 use Rattle.meson_keywords.specs.declared.elements.Found.{Found}
+use Rattle.meson_keywords.specs.declared.elements.Subject.{Subject}
 use Rattle.meson_keywords.specs.declared.elements.Test.{Test}
 use Rattle.meson_keywords.specs.declared.elements.Test.TheVariants as test
 use Rattle.meson_keywords.specs.declared.keys.ElementKind.{ElementKind}
@@ -125,6 +126,13 @@ pub record TasksSoFar (whole rest : Result (List Task) Refusal) (cs : List code.
 
 abbrev pub found_argument : List ℕ → Found → Numbered (Expression Span)
 found_argument source f = record { number = f.number; value = expr_view source f.value.now }
+
+-- the arguments of the call in hand, and the value of one of them
+abbrev pub args_of : Subject → List (Argument Span)
+args_of s = args_view s.source.now s.args.now
+
+abbrev pub held_value : Subject → Found → Expression Span
+held_value s f = expr_view s.source.now f.value.now
 
 abbrev pub test_of : {S : Type 0} → Test → Argument S → Bool
 test_of (test.Says kind text) x = says kind text.now x

@@ -1,7 +1,6 @@
 //! Changes of one call, each made after the one before it.
 
-ghost use Rattle.std.specs.Prelude.{◌≡◌, ◌≢◌, Err, IfErr, IfOk, List, Ok, OnOk};
-ghost use Rattle.meson_syntax.specs.View.{args_view};
+ghost use Rattle.std.specs.Prelude.{◌≡◌, Err, IfOk, List, Ok, OnOk};
 ghost use Rattle.meson_calls.specs.Calls.{value_with_name};
 ghost use Rattle.meson_keywords.specs.Changing.{Between, CallStands, IsNextTask, TaskDone, request_steps, steps_of_task};
 ghost use Rattle.meson_calls.specs.GoodLists.{GoodArgs};
@@ -15,9 +14,9 @@ ghost use Rattle.meson_calls.specs.Sources.{not_hidden};
 ghost use Rattle.meson_calls.specs.Sourced.{kept_args};
 ghost use Rattle.meson_calls.specs.Sources.{kwargs_key};
 ghost use Rattle.meson_steps.specs.Steps as meant;
-ghost use Rattle.meson_steps.specs.Meanings.{AreMeant};
+ghost use Rattle.meson_steps.specs.Meanings.{AreMeant, IfRefused};
 ghost use Rattle.meson_steps.specs.Working.{IsFresh, Restores, so_far};
-ghost use Rattle.meson_keywords.specs.Tasking.{MayBeWritten, TaskIs, TasksAre, request_view};
+ghost use Rattle.meson_keywords.specs.Tasking.{MayBeWritten, TaskIs, TasksAre, args_of, request_view};
 ghost use Rattle.meson_keywords.specs.Tasks as changes;
 ghost use Rattle.meson_keywords.specs.TaskSteps.{task_steps, tasks_steps};
 
@@ -42,8 +41,10 @@ use std::alloc::Global;
 /// The call can't be changed so, or memory is refused.
 fn task_steps(alloc: Global, subject: Subject<'_>, task: Task<'_>) -> Result<Vec<ListStep>, Refusal>
     requires { GoodArgs subject.source.now subject.args.now }
-    ensures meant { (t : changes.Task) → TaskIs task.entry t → IfOk result (λ steps. AreMeant (task_steps t subject.entry.call.now (args_view subject.entry.source.now subject.entry.args.now)) steps.items) }
-    ensures refused { (t : changes.Task) → TaskIs task.entry t → IfErr result (λ e. e ≢ Refusal.OutOfMemory → task_steps t subject.entry.call.now (args_view subject.entry.source.now subject.entry.args.now) ≡ Err e) }
+    ensures meant { (t : changes.Task) → TaskIs task.entry t
+        → IfOk result (λ steps. AreMeant (task_steps t subject.entry.call.now (args_of subject.entry)) steps.items) }
+    ensures refused { (t : changes.Task) → TaskIs task.entry t
+        → IfRefused result (λ e. task_steps t subject.entry.call.now (args_of subject.entry) ≡ Err e) }
 {
     match task {
         Task::Set(key, new) => set_steps(alloc, subject, key, new),
@@ -62,9 +63,11 @@ fn task_steps(alloc: Global, subject: Subject<'_>, task: Task<'_>) -> Result<Vec
 /// The call can't be changed so, or memory is refused.
 fn do_task(alloc: Global, work: &mut Work, call: &CallRef, task: Task<'_>) -> Result<(), Refusal>
     requires { (old : Loaded) × IsNextTask old call.now task work.old }
-    ensures done { (old : Loaded) (before : List meant.Step) (t : changes.Task) → Between old call.now before work.old → TaskIs task.entry t → MayBeWritten t → OnOk result (TaskDone old call.now before t work.old work.new) }
+    ensures done { (old : Loaded) (before : List meant.Step) (t : changes.Task) → Between old call.now before work.old → TaskIs task.entry t
+        → MayBeWritten t → OnOk result (TaskDone old call.now before t work.old work.new) }
     ensures restores { (first : Trees) → Restores work.old first → Restores work.new first }
-    ensures refused { (old : Loaded) (before : List meant.Step) (t : changes.Task) → Between old call.now before work.old → TaskIs task.entry t → MayBeWritten t → IfErr result (λ e. e ≢ Refusal.OutOfMemory → steps_of_task call.now t work.old ≡ Err e) }
+    ensures refused { (old : Loaded) (before : List meant.Step) (t : changes.Task) → Between old call.now before work.old → TaskIs task.entry t
+        → MayBeWritten t → IfRefused result (λ e. steps_of_task call.now t work.old ≡ Err e) }
 {
     let file = call.file;
     if file >= work.trees.len() {
@@ -108,9 +111,11 @@ fn tasks_done(
     requires fresh { IsFresh work.old }
     requires stands { CallStands call.now (plain_trees (so_far work.old)) }
     requires tasks { (ts : List changes.Task) × TasksAre tasks.items ts }
-    ensures done { (ts : List changes.Task) → TasksAre tasks.entry.items ts → OnOk result (IsDone (so_far work.old) (tasks_steps call.now ts (plain_trees (so_far work.old))) work.new) }
+    ensures done { (ts : List changes.Task) → TasksAre tasks.entry.items ts
+        → OnOk result (IsDone (so_far work.old) (tasks_steps call.now ts (plain_trees (so_far work.old))) work.new) }
     ensures restores { (first : Trees) → Restores work.old first → Restores work.new first }
-    ensures refused { (ts : List changes.Task) → TasksAre tasks.entry.items ts → IfErr result (λ e. e ≢ Refusal.OutOfMemory → MayNotBeDone (so_far work.old) (tasks_steps call.now ts (plain_trees (so_far work.old))) e) }
+    ensures refused { (ts : List changes.Task) → TasksAre tasks.entry.items ts
+        → IfRefused result (MayNotBeDone (so_far work.old) (tasks_steps call.now ts (plain_trees (so_far work.old)))) }
 {
     for task in tasks {
         do_task(alloc, work, call, task)?;
@@ -131,7 +136,7 @@ fn place_named(
 ) -> Result<CallRef, Refusal>
     requires { AreParsed files.now trees.now }
     ensures found { IfOk result (λ c. the_place role id.now (notes (named_trees files.now (views files.now trees.now))) ≡ Ok c) }
-    ensures refused { IfErr result (λ e. e ≢ Refusal.OutOfMemory → the_place role id.now (notes (named_trees files.now (views files.now trees.now))) ≡ Err e) }
+    ensures refused { IfRefused result (λ e. the_place role id.now (notes (named_trees files.now (views files.now trees.now))) ≡ Err e) }
 {
     let taken = notes_of(alloc, files, trees)?;
     let notes = taken.all(alloc)?;
@@ -147,7 +152,7 @@ pub fn changed(alloc: Global, work: &mut Work, request: Request<'_>) -> Result<(
     requires { IsFresh work.old }
     ensures done { OnOk result (IsDone (so_far work.old) (request_steps (project (so_far work.old)) (request_view request.entry)) work.new) }
     ensures restores { (first : Trees) → Restores work.old first → Restores work.new first }
-    ensures refused { IfErr result (λ e. e ≢ Refusal.OutOfMemory → MayNotBeDone (so_far work.old) (request_steps (project (so_far work.old)) (request_view request.entry)) e) }
+    ensures refused { IfRefused result (MayNotBeDone (so_far work.old) (request_steps (project (so_far work.old)) (request_view request.entry))) }
 {
     let trees = work.trees.as_slice();
     let call = place_named(alloc, &work.files, trees, request.role, request.id)?;

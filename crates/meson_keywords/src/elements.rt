@@ -1,6 +1,6 @@
 //! The keyword argument in hand, and what the elements of its value say.
 
-ghost use Rattle.std.specs.Prelude.{◌≡◌, ◌≢◌, ◌∷◌, [], ◌||◌, Err, IfErr, IfOk, MatchOption, None, Ok, Some, bytes_eq, is_some, map, option_map};
+ghost use Rattle.std.specs.Prelude.{◌≡◌, ◌∷◌, [], ◌||◌, Err, IfOk, MatchOption, None, Ok, Some, bytes_eq, is_some, map, option_map};
 ghost use Rattle.std.specs.List.{filter_map, list_any};
 ghost use Rattle.std.specs.Str.{IsUtf8};
 ghost use Rattle.meson_syntax.specs.Grammar.{argument_words, expression_words};
@@ -12,7 +12,8 @@ ghost use Rattle.meson_keywords.specs.Options.{entries, is_entry, keys_known};
 ghost use Rattle.meson_calls.specs.Picking.{Source};
 ghost use Rattle.meson_steps.specs.Names.{distinct_by};
 ghost use Rattle.meson_calls.specs.Strings.{AreGood};
-ghost use Rattle.meson_keywords.specs.Tasking.{found_argument, test_of};
+ghost use Rattle.meson_keywords.specs.Tasking.{args_of, found_argument, test_of};
+ghost use Rattle.meson_steps.specs.Meanings.{IfRefused};
 
 use crate::keys::{ElementKind, key_text};
 use crate::tasks::before_equals;
@@ -52,8 +53,8 @@ pub(crate) fn the_value<'t>(
     requires good { GoodArgs subject.source.now subject.args.now }
     requires utf8 { IsUtf8 key.now }
     ensures good { IfOk result (λ o. MatchOption o (Unit {0}) (λ f. AreGood (expression_words (expr_view subject.entry.source.now f.value.now)))) }
-    ensures found { IfOk result (λ o. the_value key.now (args_view subject.entry.source.now subject.entry.args.now) ≡ Ok (option_map (found_argument subject.entry.source.now) o)) }
-    ensures refused { IfErr result (λ e. e ≢ Refusal.OutOfMemory → the_value key.now (args_view subject.entry.source.now subject.entry.args.now) ≡ Err e) }
+    ensures found { IfOk result (λ o. the_value key.now (args_of subject.entry) ≡ Ok (option_map (found_argument subject.entry.source.now) o)) }
+    ensures refused { IfRefused result (λ e. the_value key.now (args_of subject.entry) ≡ Err e) }
 {
     let args = subject.args;
     if count_named(subject.source, args, key) > 1 {
@@ -77,10 +78,10 @@ pub(crate) fn the_value<'t>(
 
 /// The elements of a value that is an array.
 pub(crate) fn array_in(value: &Expr) -> Option<&[Arg]>
-    ensures shape { (source : Source) → MatchOption result
-        (value_shape (expr_view source value.now) ≡ no_array)
+    ensures shape { (source : Source) → MatchOption result (value_shape (expr_view source value.now) ≡ no_array)
         (λ args. value_shape (expr_view source value.now) ≡ an_array (args_view source args.now)) }
-    ensures good { (source : Source) → AreGood (expression_words (expr_view source value.now)) → MatchOption result (Unit {0}) (λ args. GoodArgs source args.now) }
+    ensures good { (source : Source) → AreGood (expression_words (expr_view source value.now))
+        → MatchOption result (Unit {0}) (λ args. GoodArgs source args.now) }
 {
     match value {
         Expr::Array(list) => Some(list.items.get()),
@@ -90,10 +91,10 @@ pub(crate) fn array_in(value: &Expr) -> Option<&[Arg]>
 
 /// The entries of a value that is a dictionary.
 pub(crate) fn entries_in(value: &Expr) -> Option<&[Arg]>
-    ensures entries { (source : Source) → MatchOption result
-        (entries (expr_view source value.now) ≡ None)
+    ensures entries { (source : Source) → MatchOption result (entries (expr_view source value.now) ≡ None)
         (λ args. entries (expr_view source value.now) ≡ Some (args_view source args.now)) }
-    ensures good { (source : Source) → AreGood (expression_words (expr_view source value.now)) → MatchOption result (Unit {0}) (λ args. GoodArgs source args.now) }
+    ensures good { (source : Source) → AreGood (expression_words (expr_view source value.now))
+        → MatchOption result (Unit {0}) (λ args. GoodArgs source args.now) }
 {
     match value {
         Expr::Dictionary(list) => Some(list.items.get()),
@@ -103,8 +104,7 @@ pub(crate) fn entries_in(value: &Expr) -> Option<&[Arg]>
 
 /// The name of a variable.
 fn name_of<'t>(source: &'t [u8], value: &Expr) -> Option<&'t [u8]>
-    ensures { MatchOption result
-        (name_of (expr_view source.entry.now value.now) ≡ None)
+    ensures { MatchOption result (name_of (expr_view source.entry.now value.now) ≡ None)
         (λ name. name_of (expr_view source.entry.now value.now) ≡ Some name.now) }
 {
     match value {
@@ -303,7 +303,8 @@ pub(crate) fn new_values<'c>(
     values: &[&'c Text],
 ) -> Result<Vec<&'c Text>, AllocError>
     requires { GoodArgs source.now elements.now }
-    ensures { IfOk result (λ v. map (λ x. x.now) v.items ≡ distinct_by (filter_map (element_text kind) (args_view source.now elements.now)) (map (λ x. x.now) values.now)) }
+    ensures { let there = filter_map (element_text kind) (args_view source.now elements.now) in
+        IfOk result (λ v. map (λ x. x.now) v.items ≡ distinct_by there (map (λ x. x.now) values.now)) }
 {
     let mut all = Vec::new(alloc);
     for i in 0..values.len() {
@@ -325,7 +326,8 @@ pub(crate) fn other_values<'c>(
     values: &[&'c Text],
 ) -> Result<Vec<&'c Text>, AllocError>
     requires { AreGood (expression_words (expr_view source.now element.now)) }
-    ensures { (text : Source) → text_in kind (expr_view source.now element.now) ≡ Some text → IfOk result (λ v. map (λ x. x.now) v.items ≡ distinct_by (text ∷ []) (map (λ x. x.now) values.now)) }
+    ensures { (text : Source) → text_in kind (expr_view source.now element.now) ≡ Some text
+        → IfOk result (λ v. map (λ x. x.now) v.items ≡ distinct_by (text ∷ []) (map (λ x. x.now) values.now)) }
 {
     let mut all = Vec::new(alloc);
     for i in 0..values.len() {

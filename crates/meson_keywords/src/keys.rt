@@ -1,10 +1,11 @@
 //! The keyword arguments that may be changed, and the kinds of their values.
 
-ghost use Rattle.std.specs.Prelude.{◌≡◌, ◌≢◌, ◌∷◌, [], Err, IfErr, IfOk, Ok, map, true};
+ghost use Rattle.std.specs.Prelude.{◌≡◌, ◌∷◌, [], Err, IfOk, Ok, map, true};
 ghost use Rattle.std.specs.Str.{IsUtf8};
 ghost use Rattle.meson_keywords.specs.Keys.{are_elements, identifier_list_keys, is_key, key_kind, list_kind, switch_keys, text_keys, text_list_keys};
 ghost use Rattle.meson_calls.specs.Roles.{one_of};
 ghost use Rattle.meson_keywords.specs.Tasking.{AreElements, IsKey};
+ghost use Rattle.meson_steps.specs.Meanings.{IfRefused};
 
 use meson_calls::{Refusal, Role};
 use meson_splice::Text;
@@ -115,7 +116,7 @@ pub fn is_key(role: Role, key: &[u8]) -> bool
 pub(crate) fn kind_of(role: Role, key: &Text) -> Result<ValueKind, Refusal>
     ensures found { IfOk result (λ k. key_kind role key.now ≡ Ok k) }
     ensures key { IfOk result (λ k. IsKey key.now) }
-    ensures refused { IfErr result (λ e. e ≢ Refusal.OutOfMemory → key_kind role key.now ≡ Err e) }
+    ensures refused { IfRefused result (λ e. key_kind role key.now ≡ Err e) }
 {
     let name = key.get().as_bytes();
     if is_text_key(role, name) {
@@ -139,7 +140,7 @@ pub(crate) fn kind_of(role: Role, key: &Text) -> Result<ValueKind, Refusal>
 /// It is none, or memory is refused.
 pub(crate) fn list_kind(key: &Text, kind: ValueKind) -> Result<ElementKind, Refusal>
     ensures found { IfOk result (λ e. list_kind key.now kind ≡ Ok e) }
-    ensures refused { IfErr result (λ e. e ≢ Refusal.OutOfMemory → list_kind key.now kind ≡ Err e) }
+    ensures refused { IfRefused result (λ e. list_kind key.now kind ≡ Err e) }
 {
     match kind {
         ValueKind::Text => Err(Refusal::WrongKind(key_of(key)?)),

@@ -1,6 +1,6 @@
 //! The steps by which the keyword arguments of a call are changed.
 
-ghost use Rattle.std.specs.Prelude.{◌≡◌, ◌≢◌, ◌<◌, ◌^◌, ◌++◌, ◌∷◌, [], Err, IfErr, IfOk, OnOk, Some, map};
+ghost use Rattle.std.specs.Prelude.{◌≡◌, ◌<◌, ◌^◌, ◌++◌, ◌∷◌, [], Err, IfErr, IfOk, OnOk, Some, map};
 ghost use Rattle.std.specs.Str.{IsUtf8};
 ghost use Rattle.meson_edit.specs.Edits.{Written};
 ghost use Rattle.meson_syntax.specs.Tree.{Argument, Nowhere};
@@ -13,7 +13,8 @@ ghost use Rattle.meson_keywords.specs.Keys.{written_element};
 ghost use Rattle.meson_steps.specs.ListSteps.{bare};
 ghost use Rattle.meson_steps.specs.WrittenValues.{WrittenFor, value_written};
 ghost use Rattle.meson_calls.specs.Strings.{AreGood};
-ghost use Rattle.meson_steps.specs.Meanings.{AreBehind, AreMeant};
+ghost use Rattle.meson_steps.specs.Meanings.{AreBehind, AreMeant, IfRefused};
+ghost use Rattle.meson_keywords.specs.Tasking.{args_of, held_value};
 
 use crate::elements::{
     Found, Subject, Test, all_known, array_in, is_element, new_values, other_values, passing, says,
@@ -116,10 +117,10 @@ pub(crate) fn set_steps(
     new: Bytes,
 ) -> Result<Vec<ListStep>, Refusal>
     requires { GoodArgs subject.source.now subject.args.now }
-    ensures meant { let args = args_view subject.entry.source.now subject.entry.args.now in (w : WrittenFor new) →
+    ensures meant { let args = args_of subject.entry in (w : WrittenFor new) →
         IfOk result (λ steps. AreMeant (set_steps subject.entry.call.now args key.now (value_written new w)) steps.items) }
-    ensures refused { let args = args_view subject.entry.source.now subject.entry.args.now in (w : WrittenFor new) →
-        IfErr result (λ e. e ≢ Refusal.OutOfMemory → set_steps subject.entry.call.now args key.now (value_written new w) ≡ Err e) }
+    ensures refused { let args = args_of subject.entry in (w : WrittenFor new) →
+        IfRefused result (λ e. set_steps subject.entry.call.now args key.now (value_written new w) ≡ Err e) }
 {
     let key = key.get().as_bytes();
     let found = the_value(alloc, subject, key)?;
@@ -147,10 +148,8 @@ pub(crate) fn delete_steps(
     key: &Text,
 ) -> Result<Vec<ListStep>, Refusal>
     requires { GoodArgs subject.source.now subject.args.now }
-    ensures meant { let args = args_view subject.entry.source.now subject.entry.args.now in
-        IfOk result (λ steps. AreMeant (delete_steps subject.entry.call.now args key.now) steps.items) }
-    ensures refused { let args = args_view subject.entry.source.now subject.entry.args.now in
-        IfErr result (λ e. e ≢ Refusal.OutOfMemory → delete_steps subject.entry.call.now args key.now ≡ Err e) }
+    ensures meant { IfOk result (λ steps. AreMeant (delete_steps subject.entry.call.now (args_of subject.entry) key.now) steps.items) }
+    ensures refused { IfRefused result (λ e. delete_steps subject.entry.call.now (args_of subject.entry) key.now ≡ Err e) }
 {
     let found = the_value(alloc, subject, key.get().as_bytes())?;
     let mut steps = Vec::new(alloc);
@@ -171,8 +170,8 @@ pub(crate) fn once_steps(
     key: &Text,
 ) -> Result<Vec<ListStep>, Refusal>
     requires { GoodArgs subject.source.now subject.args.now }
-    ensures meant { IfOk result (λ steps. AreMeant (once_steps (args_view subject.entry.source.now subject.entry.args.now) key.now) steps.items) }
-    ensures refused { IfErr result (λ e. e ≢ Refusal.OutOfMemory → once_steps (args_view subject.entry.source.now subject.entry.args.now) key.now ≡ Err e) }
+    ensures meant { IfOk result (λ steps. AreMeant (once_steps (args_of subject.entry) key.now) steps.items) }
+    ensures refused { IfRefused result (λ e. once_steps (args_of subject.entry) key.now ≡ Err e) }
 {
     the_value(alloc, subject, key.get().as_bytes())?;
     Ok(Vec::new(alloc))
@@ -193,10 +192,10 @@ fn add_to_lone(
 ) -> Result<(), Refusal>
     requires good { AreGood (expression_words (expr_view subject.source.now found.value.now)) }
     requires utf8 { IsUtf8 key.now }
-    ensures done { let held = expr_view subject.entry.source.now found.entry.value.now in let texts = map (λ x. x.now) values.now in OnOk result (AreBehind
+    ensures done { let held = held_value subject.entry found.entry in let texts = map (λ x. x.now) values.now in OnOk result (AreBehind
         (add_to_lone subject.entry.call.now found.entry.number key.now kind texts (text_in kind held)) steps.old.items steps.new.items) }
-    ensures refused { let held = expr_view subject.entry.source.now found.entry.value.now in let texts = map (λ x. x.now) values.now in
-        IfErr result (λ e. e ≢ Refusal.OutOfMemory → add_to_lone subject.entry.call.now found.entry.number key.now kind texts (text_in kind held) ≡ Err e) }
+    ensures refused { let held = held_value subject.entry found.entry in let texts = map (λ x. x.now) values.now in
+        IfRefused result (λ e. add_to_lone subject.entry.call.now found.entry.number key.now kind texts (text_in kind held) ≡ Err e) }
 {
     let Found { number, value } = found;
     if !is_element(alloc, subject.source, kind, value)? {
@@ -223,10 +222,10 @@ fn add_to_value(
 ) -> Result<(), Refusal>
     requires good { AreGood (expression_words (expr_view subject.source.now found.value.now)) }
     requires utf8 { IsUtf8 key.now }
-    ensures done { let held = expr_view subject.entry.source.now found.entry.value.now in let texts = map (λ x. x.now) values.now in OnOk result (AreBehind
+    ensures done { let held = held_value subject.entry found.entry in let texts = map (λ x. x.now) values.now in OnOk result (AreBehind
         (add_by_shape subject.entry.call.now found.entry.number key.now kind texts (text_in kind held) (value_shape held)) steps.old.items steps.new.items) }
-    ensures refused { let held = expr_view subject.entry.source.now found.entry.value.now in let texts = map (λ x. x.now) values.now in IfErr result (λ e.
-        e ≢ Refusal.OutOfMemory → add_by_shape subject.entry.call.now found.entry.number key.now kind texts (text_in kind held) (value_shape held) ≡ Err e) }
+    ensures refused { let held = held_value subject.entry found.entry in let texts = map (λ x. x.now) values.now in
+        IfRefused result (λ e. add_by_shape subject.entry.call.now found.entry.number key.now kind texts (text_in kind held) (value_shape held) ≡ Err e) }
 {
     match array_in(found.value) {
         Some(elements) => {
@@ -250,10 +249,10 @@ pub(crate) fn add_steps(
     values: &[&Text],
 ) -> Result<Vec<ListStep>, Refusal>
     requires { GoodArgs subject.source.now subject.args.now }
-    ensures meant { let args = args_view subject.entry.source.now subject.entry.args.now in let texts = map (λ x. x.now) values.now in
+    ensures meant { let args = args_of subject.entry in let texts = map (λ x. x.now) values.now in
         IfOk result (λ steps. AreMeant (add_steps subject.entry.call.now args key.now kind texts) steps.items) }
-    ensures refused { let args = args_view subject.entry.source.now subject.entry.args.now in let texts = map (λ x. x.now) values.now in
-        IfErr result (λ e. e ≢ Refusal.OutOfMemory → add_steps subject.entry.call.now args key.now kind texts ≡ Err e) }
+    ensures refused { let args = args_of subject.entry in let texts = map (λ x. x.now) values.now in
+        IfRefused result (λ e. add_steps subject.entry.call.now args key.now kind texts ≡ Err e) }
 {
     let key = key.get().as_bytes();
     let found = the_value(alloc, subject, key)?;
@@ -285,10 +284,10 @@ fn remove_from_array(
 ) -> Result<(), Refusal>
     requires good { GoodArgs source.now elements.now }
     requires utf8 { IsUtf8 key.now }
-    ensures done { let args = args_view source.now elements.now in
-        OnOk result (AreBehind (remove_equal list.now key.now (all_of_kind kind args) (passing (says kind value.now) 0 args)) steps.old.items steps.new.items) }
-    ensures refused { let args = args_view source.now elements.now in
-        IfErr result (λ e. e ≢ Refusal.OutOfMemory → remove_equal list.now key.now (all_of_kind kind args) (passing (says kind value.now) 0 args) ≡ Err e) }
+    ensures done { let args = args_view source.now elements.now in let equal = passing (says kind value.now) 0 args in
+        OnOk result (AreBehind (remove_equal list.now key.now (all_of_kind kind args) equal) steps.old.items steps.new.items) }
+    ensures refused { let args = args_view source.now elements.now in let equal = passing (says kind value.now) 0 args in
+        IfRefused result (λ e. remove_equal list.now key.now (all_of_kind kind args) equal ≡ Err e) }
 {
     let equal = passing(alloc, source, Test::Says(kind, value), elements)?;
     if equal.as_slice().is_empty() && !all_known(alloc, source, kind, elements)? {
@@ -313,10 +312,10 @@ fn remove_from_value(
 ) -> Result<(), Refusal>
     requires good { AreGood (expression_words (expr_view subject.source.now found.value.now)) }
     requires utf8 { IsUtf8 key.now }
-    ensures done { let held = expr_view subject.entry.source.now found.entry.value.now in let call = subject.entry.call.now in OnOk result (AreBehind
+    ensures done { let held = held_value subject.entry found.entry in let call = subject.entry.call.now in OnOk result (AreBehind
         (remove_by_shape call found.entry.number key.now kind text.now (text_in kind held) (value_shape held)) steps.old.items steps.new.items) }
-    ensures refused { let held = expr_view subject.entry.source.now found.entry.value.now in let call = subject.entry.call.now in
-        IfErr result (λ e. e ≢ Refusal.OutOfMemory → remove_by_shape call found.entry.number key.now kind text.now (text_in kind held) (value_shape held) ≡ Err e) }
+    ensures refused { let held = held_value subject.entry found.entry in let call = subject.entry.call.now in
+        IfRefused result (λ e. remove_by_shape call found.entry.number key.now kind text.now (text_in kind held) (value_shape held) ≡ Err e) }
 {
     let Found { number, value } = found;
     let source = subject.source;
@@ -349,10 +348,8 @@ pub(crate) fn remove_steps(
     value: &Text,
 ) -> Result<Vec<ListStep>, Refusal>
     requires { GoodArgs subject.source.now subject.args.now }
-    ensures meant { let args = args_view subject.entry.source.now subject.entry.args.now in
-        IfOk result (λ steps. AreMeant (remove_steps subject.entry.call.now args key.now kind value.now) steps.items) }
-    ensures refused { let args = args_view subject.entry.source.now subject.entry.args.now in
-        IfErr result (λ e. e ≢ Refusal.OutOfMemory → remove_steps subject.entry.call.now args key.now kind value.now ≡ Err e) }
+    ensures meant { IfOk result (λ steps. AreMeant (remove_steps subject.entry.call.now (args_of subject.entry) key.now kind value.now) steps.items) }
+    ensures refused { IfRefused result (λ e. remove_steps subject.entry.call.now (args_of subject.entry) key.now kind value.now ≡ Err e) }
 {
     let key = key.get().as_bytes();
     let found = the_value(alloc, subject, key)?;

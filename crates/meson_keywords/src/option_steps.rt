@@ -1,6 +1,6 @@
 //! The steps by which default options are set and deleted.
 
-ghost use Rattle.std.specs.Prelude.{◌≡◌, ◌≢◌, ◌++◌, ◌∷◌, [], Err, IfErr, IfOk, OnOk, Some, false, length, map, true};
+ghost use Rattle.std.specs.Prelude.{◌≡◌, ◌++◌, ◌∷◌, [], Err, IfErr, IfOk, OnOk, Some, false, length, map, true};
 ghost use Rattle.meson_syntax.specs.Grammar.{expression_words};
 ghost use Rattle.meson_syntax.specs.View.{args_view, expr_view};
 ghost use Rattle.meson_calls.specs.Calls.{literal_of};
@@ -13,8 +13,8 @@ ghost use Rattle.meson_keywords.specs.Options.{delete_by_shape, delete_by_value,
 ghost use Rattle.meson_keywords.specs.Options.{is_entry, is_entry_element, option_text, options_key};
 ghost use Rattle.meson_keywords.specs.Options.{set_by_shape, set_by_value, set_in_dictionary, set_in_list, set_in_lone, set_option_steps};
 ghost use Rattle.meson_calls.specs.Strings.{AreGood};
-ghost use Rattle.meson_steps.specs.Meanings.{AreBehind, AreMeant};
-ghost use Rattle.meson_keywords.specs.Tasking.{test_of};
+ghost use Rattle.meson_steps.specs.Meanings.{AreBehind, AreMeant, IfRefused};
+ghost use Rattle.meson_keywords.specs.Tasking.{args_of, held_value, test_of};
 
 use crate::elements::{
     Found, Subject, Test, all_known, array_in, entries_in, is_element, is_entry, keys_known,
@@ -92,8 +92,8 @@ fn set_in_lone(
     steps: &mut Vec<ListStep>,
 ) -> Result<(), Refusal>
     requires { AreGood (expression_words (expr_view subject.source.now found.value.now)) }
-    ensures done { let same = is_entry name.now (literal_of (expr_view subject.entry.source.now found.entry.value.now)) in
-        OnOk result (map Some steps.new.items ≡ map Some steps.old.items ++ map bare (set_in_lone subject.entry.call.now found.entry.number entry.now same)) }
+    ensures done { let same = is_entry name.now (literal_of (held_value subject.entry found.entry)) in let call = subject.entry.call.now in
+        OnOk result (map Some steps.new.items ≡ map Some steps.old.items ++ map bare (set_in_lone call found.entry.number entry.now same)) }
     ensures refused { IfErr result (λ e. e ≡ Refusal.OutOfMemory) }
 {
     let Found { number, value } = found;
@@ -116,7 +116,7 @@ fn only_literals(alloc: Global, source: &[u8], elements: &[Arg]) -> Result<(), R
     requires { GoodArgs source.now elements.now }
     ensures all { OnOk result (all_of_kind ElementKind.Text (args_view source.now elements.now) ≡ true) }
     ensures refused { let args = args_view source.now elements.now in
-        IfErr result (λ e. e ≢ Refusal.OutOfMemory → (e ≡ Refusal.NotLiteral options_key) × (all_of_kind ElementKind.Text args ≡ false)) }
+        IfRefused result (λ e. (e ≡ Refusal.NotLiteral options_key) × (all_of_kind ElementKind.Text args ≡ false)) }
 {
     if !all_known(alloc, source, ElementKind::Text, elements)? {
         return Err(not_literal(alloc, OPTIONS.as_bytes())?);
@@ -135,8 +135,8 @@ fn set_in_dictionary(
     steps: &mut Vec<ListStep>,
 ) -> Result<(), Refusal>
     requires { GoodArgs source.now pairs.now }
-    ensures done { let same = passing (has_key name.now) 0 (args_view source.now pairs.now) in
-        OnOk result (map Some steps.new.items ≡ map Some steps.old.items ++ map bare (set_in_dictionary list.now (length pairs.now) name.now value.now same)) }
+    ensures done { let same = passing (has_key name.now) 0 (args_view source.now pairs.now) in OnOk result
+        (map Some steps.new.items ≡ map Some steps.old.items ++ map bare (set_in_dictionary list.now (length pairs.now) name.now value.now same)) }
     ensures refused { IfErr result (λ e. e ≡ Refusal.OutOfMemory) }
 {
     let same = passing(alloc, source, Test::HasKey(name), pairs)?;
@@ -160,7 +160,7 @@ fn only_literal_keys(alloc: Global, source: &[u8], pairs: &[Arg]) -> Result<(), 
     requires { GoodArgs source.now pairs.now }
     ensures all { OnOk result (keys_known (args_view source.now pairs.now) ≡ true) }
     ensures refused { let args = args_view source.now pairs.now in
-        IfErr result (λ e. e ≢ Refusal.OutOfMemory → (e ≡ Refusal.NotLiteral options_key) × (keys_known args ≡ false)) }
+        IfRefused result (λ e. (e ≡ Refusal.NotLiteral options_key) × (keys_known args ≡ false)) }
 {
     if !keys_known(alloc, source, pairs)? {
         return Err(not_literal(alloc, OPTIONS.as_bytes())?);
@@ -181,10 +181,10 @@ fn set_in_value(
     steps: &mut Vec<ListStep>,
 ) -> Result<(), Refusal>
     requires { AreGood (expression_words (expr_view subject.source.now found.value.now)) }
-    ensures done { let held = expr_view subject.entry.source.now found.entry.value.now in let call = subject.entry.call.now in
+    ensures done { let held = held_value subject.entry found.entry in let call = subject.entry.call.now in
         OnOk result (AreBehind (set_by_shape call found.entry.number name.now entry.now (literal_of held) (value_shape held)) steps.old.items steps.new.items) }
-    ensures refused { let held = expr_view subject.entry.source.now found.entry.value.now in let call = subject.entry.call.now in
-        IfErr result (λ e. e ≢ Refusal.OutOfMemory → set_by_shape call found.entry.number name.now entry.now (literal_of held) (value_shape held) ≡ Err e) }
+    ensures refused { let held = held_value subject.entry found.entry in let call = subject.entry.call.now in
+        IfRefused result (λ e. set_by_shape call found.entry.number name.now entry.now (literal_of held) (value_shape held) ≡ Err e) }
 {
     let source = subject.source;
     match array_in(found.value) {
@@ -215,10 +215,10 @@ fn set_by_value(
     steps: &mut Vec<ListStep>,
 ) -> Result<(), Refusal>
     requires { AreGood (expression_words (expr_view subject.source.now found.value.now)) }
-    ensures done { let held = expr_view subject.entry.source.now found.entry.value.now in let call = subject.entry.call.now in
+    ensures done { let held = held_value subject.entry found.entry in let call = subject.entry.call.now in
         OnOk result (AreBehind (set_by_value call found.entry.number name.now value.now held (entries held)) steps.old.items steps.new.items) }
-    ensures refused { let held = expr_view subject.entry.source.now found.entry.value.now in
-        IfErr result (λ e. e ≢ Refusal.OutOfMemory → set_by_value subject.entry.call.now found.entry.number name.now value.now held (entries held) ≡ Err e) }
+    ensures refused { let held = held_value subject.entry found.entry in
+        IfRefused result (λ e. set_by_value subject.entry.call.now found.entry.number name.now value.now held (entries held) ≡ Err e) }
 {
     match entries_in(found.value) {
         Some(pairs) => {
@@ -244,10 +244,8 @@ pub(crate) fn set_option_steps(
     value: &str,
 ) -> Result<Vec<ListStep>, Refusal>
     requires { GoodArgs subject.source.now subject.args.now }
-    ensures meant { let args = args_view subject.entry.source.now subject.entry.args.now in
-        IfOk result (λ steps. AreMeant (set_option_steps subject.entry.call.now args name.now value.now) steps.items) }
-    ensures refused { let args = args_view subject.entry.source.now subject.entry.args.now in
-        IfErr result (λ e. e ≢ Refusal.OutOfMemory → set_option_steps subject.entry.call.now args name.now value.now ≡ Err e) }
+    ensures meant { IfOk result (λ steps. AreMeant (set_option_steps subject.entry.call.now (args_of subject.entry) name.now value.now) steps.items) }
+    ensures refused { IfRefused result (λ e. set_option_steps subject.entry.call.now (args_of subject.entry) name.now value.now ≡ Err e) }
 {
     let found = the_value(alloc, subject, OPTIONS.as_bytes())?;
     let mut steps = Vec::new(alloc);
@@ -292,10 +290,10 @@ fn delete_in_value(
     steps: &mut Vec<ListStep>,
 ) -> Result<(), Refusal>
     requires { AreGood (expression_words (expr_view subject.source.now found.value.now)) }
-    ensures done { let held = expr_view subject.entry.source.now found.entry.value.now in let call = subject.entry.call.now in
+    ensures done { let held = held_value subject.entry found.entry in let call = subject.entry.call.now in
         OnOk result (AreBehind (delete_by_shape call found.entry.number name.now (literal_of held) (value_shape held)) steps.old.items steps.new.items) }
-    ensures refused { let held = expr_view subject.entry.source.now found.entry.value.now in
-        IfErr result (λ e. e ≢ Refusal.OutOfMemory → delete_by_shape subject.entry.call.now found.entry.number name.now (literal_of held) (value_shape held) ≡ Err e) }
+    ensures refused { let held = held_value subject.entry found.entry in
+        IfRefused result (λ e. delete_by_shape subject.entry.call.now found.entry.number name.now (literal_of held) (value_shape held) ≡ Err e) }
 {
     let Found { number, value } = found;
     let source = subject.source;
@@ -328,10 +326,10 @@ fn delete_by_value(
     steps: &mut Vec<ListStep>,
 ) -> Result<(), Refusal>
     requires { AreGood (expression_words (expr_view subject.source.now found.value.now)) }
-    ensures done { let held = expr_view subject.entry.source.now found.entry.value.now in
+    ensures done { let held = held_value subject.entry found.entry in
         OnOk result (AreBehind (delete_by_value subject.entry.call.now found.entry.number name.now held (entries held)) steps.old.items steps.new.items) }
-    ensures refused { let held = expr_view subject.entry.source.now found.entry.value.now in
-        IfErr result (λ e. e ≢ Refusal.OutOfMemory → delete_by_value subject.entry.call.now found.entry.number name.now held (entries held) ≡ Err e) }
+    ensures refused { let held = held_value subject.entry found.entry in
+        IfRefused result (λ e. delete_by_value subject.entry.call.now found.entry.number name.now held (entries held) ≡ Err e) }
 {
     match entries_in(found.value) {
         Some(pairs) => {
@@ -354,10 +352,8 @@ pub(crate) fn delete_option_steps(
     name: &Text,
 ) -> Result<Vec<ListStep>, Refusal>
     requires { GoodArgs subject.source.now subject.args.now }
-    ensures meant { let args = args_view subject.entry.source.now subject.entry.args.now in
-        IfOk result (λ steps. AreMeant (delete_option_steps subject.entry.call.now args name.now) steps.items) }
-    ensures refused { let args = args_view subject.entry.source.now subject.entry.args.now in
-        IfErr result (λ e. e ≢ Refusal.OutOfMemory → delete_option_steps subject.entry.call.now args name.now ≡ Err e) }
+    ensures meant { IfOk result (λ steps. AreMeant (delete_option_steps subject.entry.call.now (args_of subject.entry) name.now) steps.items) }
+    ensures refused { IfRefused result (λ e. delete_option_steps subject.entry.call.now (args_of subject.entry) name.now ≡ Err e) }
 {
     let found = the_value(alloc, subject, OPTIONS.as_bytes())?;
     let mut steps = Vec::new(alloc);
