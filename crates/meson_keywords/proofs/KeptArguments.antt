@@ -1,18 +1,17 @@
 -- The arguments of a call, by their names, where the one of a name comes, goes or gets another value.
 use Rattle.std.proofs.Common.{◌≡◌, ℕ, suc, ◌+◌, true, false, List, [], ◌∷◌, ◌++◌, length, map, take, drop, append-nil, Some, None, refl, sym, ap, ap₂, ◌∙◌, arith}
 use Rattle.std.specs.Prelude.{Bool, if◌then◌else◌, bytes_eq, cond, is_none, option_map}
-use Rattle.std.specs.List.{cons_option}
+use Rattle.std.specs.List.{cons_option, filter_map}
 use Rattle.std.proofs.lemmas.List.Elements.{filter-append, filter_map-append}
 use Rattle.std.proofs.Math.Seq.{take-append_seam}
 use Rattle.std.proofs.lemmas.Slice.Eq.{bytes_eq-Decides}
-use Rattle.meson_syntax.specs.Tree.{Name, bare_name, Nowhere, Expression, Argument, plain, named, pair}
+use Rattle.meson_syntax.specs.Tree.{Name, bare_name, Nowhere, Expression, Argument, plain, named, pair, arguments_of}
 use Rattle.meson_syntax.specs.Paths.{nth}
 use Rattle.meson_edit.specs.Edits.{element_removed}
-use Rattle.meson_calls.specs.Calls.{Numbered, value_with_name}
+use Rattle.meson_calls.specs.Calls.{Numbered, numbered, kept_number, value_with_name}
 use Rattle.meson_keywords.specs.Effects.{is_other, others, values_of}
 use Rattle.meson_keywords.specs.KeywordEdits.{keyword_in}
 use Rattle.meson_steps.proofs.InnerPlaces.{exchanged_at}
-use Rattle.meson_keywords.proofs.KeywordPlaces.{named_from}
 
 -- ---- lists that are cut at an element
 
@@ -27,16 +26,19 @@ drop_seam (y ∷ front) x back = drop_seam front x back
 -- ---- the argument of a name
 
 module _ (key : List ℕ) where
+  abbrev named_from : List (Argument Nowhere) → ℕ → List (Numbered (Expression Nowhere))
+  named_from xs n = filter_map (kept_number (value_with_name key)) (numbered n (arguments_of xs))
+
   by_name : (n : ℕ) (e : Expression Nowhere) (vs : List (Expression Nowhere)) (ws : List (Numbered (Expression Nowhere))) (b : Bool) → vs ≡ map (λ (w : Numbered (Expression Nowhere)). w.value) ws
       → cons_option (if b then Some e else None) vs ≡ map (λ (w : Numbered (Expression Nowhere)). w.value) (cons_option (option_map (λ y. record { number = n; value = y }) (if b then Some e else None)) ws)
   by_name n e vs ws true same = ap (λ l. e ∷ l) same
   by_name n e vs ws false same = same
 
   -- its values without their numbers
-  values_from : (xs : List (Argument Nowhere)) (n : ℕ) → values_of key xs ≡ map (λ (w : Numbered (Expression Nowhere)). w.value) (named_from key xs n)
+  values_from : (xs : List (Argument Nowhere)) (n : ℕ) → values_of key xs ≡ map (λ (w : Numbered (Expression Nowhere)). w.value) (named_from xs n)
   values_from [] n = refl
   values_from (plain e ∷ xs) n = values_from xs (n + 1)
-  values_from (named s x e ∷ xs) n = by_name n e (values_of key xs) (named_from key xs (n + 1)) (bytes_eq x.text key) (values_from xs (n + 1))
+  values_from (named s x e ∷ xs) n = by_name n e (values_of key xs) (named_from xs (n + 1)) (bytes_eq x.text key) (values_from xs (n + 1))
   values_from (pair s k e ∷ xs) n = values_from xs (n + 1)
 
   with_name : (s : Nowhere) (x : Name Nowhere) (e : Expression Nowhere) (b : Bool) → bytes_eq x.text key ≡ b → value_with_name key (named s x e) ≡ (if b then Some e else None)
@@ -81,11 +83,11 @@ module _ (key : List ℕ) where
       record { number = suc o.number; is_number = omega (arith, number); one = one_later x xs (suc o.number) o.number v.value other o.one refl }
 
   one_by : (s : Nowhere) (x : Name Nowhere) (e : Expression Nowhere) (xs : List (Argument Nowhere)) (n : ℕ) (v : Numbered (Expression Nowhere)) (b : Bool) → bytes_eq x.text key ≡ b
-      → cons_option (option_map (λ y. record { number = n; value = y }) (if b then Some e else None)) (named_from key xs (n + 1)) ≡ v ∷ []
-      → (named_from key xs (n + 1) ≡ v ∷ [] → OneFrom xs (n + 1) v) → OneFrom (named s x e ∷ xs) n v
+      → cons_option (option_map (λ y. record { number = n; value = y }) (if b then Some e else None)) (named_from xs (n + 1)) ≡ v ∷ []
+      → (named_from xs (n + 1) ≡ v ∷ [] → OneFrom xs (n + 1) v) → OneFrom (named s x e ∷ xs) n v
   one_by s x e xs n v true is there later =
       let same : v ≡ record { number = n; value = e } = cc in
-      let none : named_from key xs (n + 1) ≡ [] = cc in
+      let none : named_from xs (n + 1) ≡ [] = cc in
       let number : v.number ≡ n = ap (λ (u : Numbered (Expression Nowhere)). u.number) same in
       let value : v.value ≡ e = ap (λ (u : Numbered (Expression Nowhere)). u.value) same in
       record {
@@ -105,7 +107,7 @@ module _ (key : List ℕ) where
       }
   one_by s x e xs n v false is there later = from_later (named s x e) xs n v (with_name s x e false is) (later there)
 
-  one_from : (xs : List (Argument Nowhere)) (n : ℕ) (v : Numbered (Expression Nowhere)) → named_from key xs n ≡ v ∷ [] → OneFrom xs n v
+  one_from : (xs : List (Argument Nowhere)) (n : ℕ) (v : Numbered (Expression Nowhere)) → named_from xs n ≡ v ∷ [] → OneFrom xs n v
   one_from [] n v is = absurd cc
   one_from (plain e ∷ xs) n v is = from_later (plain e) xs n v refl (one_from xs (n + 1) v is)
   one_from (named s x e ∷ xs) n v is = one_by s x e xs n v (bytes_eq x.text key) refl is (λ h. one_from xs (n + 1) v h)

@@ -10,7 +10,6 @@ mod ErasedSteps
 mod IdentifierTexts
 mod KeptArguments
 mod KeyNames
-mod KeywordPlaces
 mod NamedWritten
 mod OptionEntries
 mod OptionsDoable

@@ -58,27 +58,11 @@ module _ {X : Type 0} (make : X → Result (List Task) Refusal) (xs : List X) (w
       joined = whole_is ∙ ap (λ r. joined_with (then_ok r (λ ts. then_ok (each_made make (drop (i + 1) xs)) (λ later. Ok (ts ++ later))))) is ∙ regroup here (each_made make (drop (i + 1) xs));
     }
 
-  none_left : (n : ℕ) (ys : List X) → length ys ≤ n → drop n ys ≡ []
-  none_left zero [] past = refl
-  none_left (suc n) [] past = refl
-  none_left zero (y ∷ ys) past = absurd (omega (arith, past))
-  none_left (suc n) (y ∷ ys) past = let fewer : length ys ≤ n = omega (arith, past) in none_left n ys fewer
-
-  pub all_so_far : length xs ≤ i → AreTasks whole cs
-  all_so_far past = record {
-    tasks = t.so_far;
-    is = t.joined ∙ ap (λ ys. then_ok (each_made make ys) (λ later. Ok (t.so_far ++ later))) (none_left i xs past) ∙ ap Ok (append-nil t.so_far);
-    are = t.are;
-  }
-
 -- ---- entries
 
 module _ (r : Role) (pair : List ℕ × Setting) where
   pub add_no_list : (e : Refusal) → then_ok (key_kind r pair.0) (list_kind pair.0) ≡ Err e → add_entry r pair ≡ Err e
   add_no_list e is = ap (λ k. then_ok k (λ x. then_ok (list_values x pair.0 pair.1) (λ values. Ok (add pair.0 x values ∷ [])))) is
-
-  pub remove_no_list : (e : Refusal) → then_ok (key_kind r pair.0) (list_kind pair.0) ≡ Err e → remove_entry r pair ≡ Err e
-  remove_no_list e is = ap (λ k. then_ok k (λ x. then_ok (list_values x pair.0 pair.1) (λ values. Ok (once pair.0 ∷ map (remove pair.0 x) values)))) is
 
   module _ (k : ElementKind) (is_list : then_ok (key_kind r pair.0) (list_kind pair.0) ≡ Ok k) where
     pub add_by_kind : add_entry r pair ≡ then_ok (list_values k pair.0 pair.1) (λ values. Ok (add pair.0 k values ∷ []))
@@ -92,9 +76,6 @@ module _ (r : Role) (pair : List ℕ × Setting) where
 
     pub remove_by_kind : remove_entry r pair ≡ then_ok (list_values k pair.0 pair.1) (λ values. Ok (once pair.0 ∷ map (remove pair.0 k) values))
     remove_by_kind = ap (λ o. then_ok o (λ x. then_ok (list_values x pair.0 pair.1) (λ values. Ok (once pair.0 ∷ map (remove pair.0 x) values)))) is_list
-
-    pub remove_no_values : (e : Refusal) → list_values k pair.0 pair.1 ≡ Err e → remove_entry r pair ≡ Err e
-    remove_no_values e is = remove_by_kind ∙ ap (λ o. then_ok o (λ values. Ok (once pair.0 ∷ map (remove pair.0 k) values))) is
 
     pub remove_made : (vs : List (List ℕ)) → list_values k pair.0 pair.1 ≡ Ok vs → remove_entry r pair ≡ Ok (once pair.0 ∷ map (remove pair.0 k) vs)
     remove_made vs is = remove_by_kind ∙ ap (λ o. then_ok o (λ values. Ok (once pair.0 ∷ map (remove pair.0 k) values))) is

@@ -280,10 +280,6 @@ pub list_set : (e : ElementKind) (ts : List (List ℕ)) → AreElements e ts →
 list_set e ts are (Ok bytes) is = list_is e ts bytes is are
 list_set e ts are (Err x) is = tt
 
-pub switch_set : (b : Bool) (r : Result (List ℕ) Refusal) → IfOk r (λ x. x ≡ truth_text b) → IfOk r (IsSet (Ok (written_switch b)))
-switch_set b (Ok bytes) is = switch_is b bytes is
-switch_set b (Err x) is = tt
-
 -- ---- one element after another
 
 between_last : (x : List ℕ) (xs : List (List ℕ)) (y : List ℕ) → comma_between (x ∷ (xs ++ y ∷ [])) ≡ comma_between (x ∷ xs) ++ (codes ", " ++ y)
