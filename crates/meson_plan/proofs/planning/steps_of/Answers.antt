@@ -20,6 +20,6 @@ returns-in-RemoveTarget-clause-plan c =
     removal_means (loaded_in n) c.requires.whole (λ v. v.items) (plan_steps (project_in n) c.args.plan) c.in-RemoveTarget.target.now
     (ap (plan_steps (project_in n)) c.in-RemoveTarget.is) c.target_removed.result c.target_removed.ensures.meant
 
-pub returns-clause-refused : goal.returns-clause-refused
-returns-clause-refused c =
+pub returns-in-AskCall-clause-refused : goal.returns-in-AskCall-clause-refused
+returns-in-AskCall-clause-refused c =
     subst (λ meant. IfErr c.call_info.result (λ e. e ≢ OutOfMemory → meant ≡ Err e)) (sym (ap (plan_steps (project_in c.args.noted.now)) c.in-AskCall.is)) c.call_info.ensures.refused
