@@ -1,44 +1,21 @@
 -- The calls that are listed as not entered are the `subdir` calls by which any variable may be set.
-use Rattle.std.proofs.Common.{◌≡◌, ◌≢◌, ℕ, zero, suc, List, [], ◌∷◌, length, Option, Some, None, refl, sym, ap, ap₂, ◌∙◌, arith}
-use Rattle.std.specs.Prelude.{Bool, true, false, not, cond, ◌&&◌, ◌||◌, if◌then◌else◌, bytes_eq, codes, filter, option_map, option_and_then}
+use Rattle.std.proofs.Common.{◌≡◌, ◌≢◌, List, [], ◌∷◌, length, Some, None, refl, sym, ap, ap₂, ◌∙◌}
+use Rattle.std.specs.Prelude.{Bool, true, false, not, cond, ◌&&◌, ◌||◌, if◌then◌else◌, codes, filter, option_map, option_and_then}
 use Rattle.std.specs.List.{cons_option, list_any}
 use Rattle.meson_lex.specs.declared.kinds.Span.{Span}
-use Rattle.meson_splice.specs.declared.file_set.File.{File}
-use Rattle.meson_syntax.specs.declared.tree.Parsed.{Parsed}
 use Rattle.meson_syntax.proofs.paths.Every.{Every}
-use Rattle.meson_calls.specs.Calls.{Call, all_chosen, calls, first_literal}
-use Rattle.meson_calls.specs.Knowns.{is_file, is_entered, meant_in}
-use Rattle.meson_calls.specs.Loading.{Loaded, named_trees, project, views}
+use Rattle.meson_calls.specs.Calls.{Call, all_chosen, calls}
+use Rattle.meson_calls.specs.Knowns.{is_entered, meant_in}
+use Rattle.meson_calls.specs.Loading.{Loaded, project}
 use Rattle.meson_calls.specs.Project.{Project, Placed, placed, nth_file}
 use Rattle.meson_calls.specs.Roles.{places}
-use Rattle.meson_calls.specs.Variables.{calls_function, enters_unknown, has_name, is_there, meant_file, sets_unknown}
+use Rattle.meson_calls.specs.Variables.{calls_function, enters_unknown, is_there, meant_file, sets_unknown}
+use Rattle.meson_calls.proofs.KnownCalls.{enters_alike}
 use Rattle.meson_calls.proofs.Loads.{as_many}
 use Rattle.meson_listing.specs.Holdings.{enters_one, held_calls, not_entered, with_function}
 use Rattle.meson_listing.specs.Laws.{NotEnteredMeansUnknown, TellsWhyUnknown}
 use Rattle.meson_listing.specs.declared.holdings.HeldCall.{HeldCall}
 use Rattle.meson_listing.proofs.FoundListed.{HeldAs, Standing, every_call_stands, held_as}
-
--- ---- the files of a project have the names of its trees
-
-abbrev named : List File → List Parsed → Project Span
-named files parsed = named_trees files (views files parsed)
-
-same_names : (files : List File) (parsed : List Parsed) (x : List ℕ) → length parsed ≡ length files → is_file files x ≡ has_name (named files parsed) x
-same_names [] parsed x whole = refl
-same_names (f ∷ files) [] x whole = absurd (omega (arith, whole))
-same_names (f ∷ files) (t ∷ parsed) x whole =
-    let more : length parsed ≡ length files = omega (arith, whole) in ap (λ b. bytes_eq f.name x || b) (same_names files parsed x more)
-
-same_there : (files : List File) (parsed : List Parsed) (o : Option (List ℕ)) → length parsed ≡ length files → is_entered files o ≡ is_there (named files parsed) o
-same_there files parsed None whole = refl
-same_there files parsed (Some x) whole = same_names files parsed x whole
-
-same_meant : (files : List File) (parsed : List Parsed) (n : ℕ) (c : Call Span) → length parsed ≡ length files
-    → meant_in files n (first_literal c) ≡ option_and_then (λ f. meant_file f.name c) (nth_file (named files parsed) n)
-same_meant [] parsed n c whole = refl
-same_meant (f ∷ files) [] n c whole = absurd (omega (arith, whole))
-same_meant (f ∷ files) (t ∷ parsed) zero c whole = refl
-same_meant (f ∷ files) (t ∷ parsed) (suc n) c whole = let more : length parsed ≡ length files = omega (arith, whole) in same_meant files parsed n c more
 
 -- ---- lists and tests
 
@@ -76,10 +53,7 @@ module _ (l : Loaded) (whole : length l.parsed ≡ length l.files) where
   there c = is_there p (option_and_then (λ f. meant_file f.name c.it) (nth_file p c.place.file))
 
   enters_there : (c : Placed (Call Span)) (h : HeldAs l c) → enters_one l.files h.held ≡ there c
-  enters_there c h =
-      ap₂ (λ n o. is_entered l.files (meant_in l.files n o)) h.file h.name
-      ∙ ap (is_entered l.files) (same_meant l.files l.parsed c.place.file c.it whole)
-      ∙ same_there l.files l.parsed _ whole
+  enters_there c h = ap₂ (λ n o. is_entered l.files (meant_in l.files n o)) h.file h.name ∙ enters_alike l.files l.parsed whole c.it c.place.file
 
   abbrev unknown_calls : List (Placed (Call Span)) → List HeldCall
   unknown_calls cs = held_calls l (places (filter (enters_unknown p) cs))

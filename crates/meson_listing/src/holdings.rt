@@ -7,8 +7,7 @@ ghost use Rattle.meson_calls.specs.Notes.{note_view, note_views};
 ghost use Rattle.meson_calls.specs.Picking.{places_that};
 ghost use Rattle.meson_listing.specs.Holdings.{IsCall, enters_one, held_call, held_calls, holdings, not_entered, note_calls};
 
-use meson_calls::entering::file_in;
-use meson_calls::file_names::names_of;
+use meson_calls::file_names::{enters, names_of};
 use meson_calls::note::{Note, What};
 use meson_calls::notes::notes_of;
 use meson_calls::picking::with_role;
@@ -106,16 +105,10 @@ fn enters_one(
     requires names { AreFileNames names.now files.now }
     ensures { IfOk result (λ one. one ≡ enters_one files.now call.now) }
 {
-    if call.file >= files.len() {
-        return Ok(false);
+    match &call.head.name {
+        Some(folder) => enters(alloc, files, names, call.file, folder.get()),
+        None => Ok(false),
     }
-    let Some(folder) = &call.head.name else {
-        return Ok(false);
-    };
-    let Some(name) = file_in(alloc, files.name(call.file), folder.get())? else {
-        return Ok(false);
-    };
-    Ok(names.contains(name.as_str()))
 }
 
 /// Those of some `subdir` calls that enter none of the files.
