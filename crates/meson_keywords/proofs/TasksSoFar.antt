@@ -1,10 +1,10 @@
 -- Tasks made from the entries of a command, one entry after another.
-use Rattle.std.proofs.Common.{◌≡◌, ℕ, zero, suc, ◌+◌, ◌<◌, ◌≤◌, List, [], ◌∷◌, ◌++◌, length, get_or, drop, take, map, refl, sym, ap, ◌∙◌, arith, add-one, append_assoc, codes}
+use Rattle.std.proofs.Common.{◌≡◌, ℕ, ◌+◌, ◌<◌, List, [], ◌∷◌, ◌++◌, length, get_or, drop, take, map, refl, sym, ap, ◌∙◌, add-one, append_assoc, codes}
 use Rattle.std.specs.Prelude.{Result, Ok, Err}
 use Rattle.std.specs.Char.{encode_utf8}
 use Rattle.std.specs.Str.{IsUtf8}
 use Rattle.std.proofs.Math.Seq.{drop-cons}
-use Rattle.std.proofs.lemmas.List.{append-nil, map-append}
+use Rattle.std.proofs.lemmas.List.{map-append}
 use Rattle.std.proofs.lemmas.Str.{IsUtf8-append}
 use Rattle.meson_splice.specs.Patch.{then_ok}
 use Rattle.meson_syntax.specs.Tree.{Nowhere, Expression}
@@ -19,7 +19,7 @@ use Rattle.meson_keywords.specs.Keys.{key_kind, list_kind, list_values, written_
 use Rattle.meson_steps.specs.WrittenValues.{WrittenFor, value_written}
 use Rattle.meson_keywords.specs.Options.{option_text}
 use Rattle.meson_keywords.specs.Tasks.{Task, set, delete, add, remove, once, set_option, delete_option, checked_option, each_made, set_entry, delete_entry, add_entry, remove_entry, set_option_entry, delete_option_entry}
-use Rattle.meson_keywords.specs.Tasking.{TaskIs, MayBeWritten, IsValue, TasksAre, none, one, AreTasks, AreTasksBehind, TasksSoFar}
+use Rattle.meson_keywords.specs.Tasking.{TaskIs, MayBeWritten, IsValue, TasksAre, none, one, AreTasksBehind, TasksSoFar}
 use Rattle.meson_calls.proofs.Loads.{take_more}
 
 pub are_append : (cs ds : List code.Task) (ts us : List Task) → TasksAre cs ts → TasksAre ds us → TasksAre (cs ++ ds) (ts ++ us)

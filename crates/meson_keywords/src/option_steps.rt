@@ -181,8 +181,8 @@ fn set_in_value(
     steps: &mut Vec<ListStep>,
 ) -> Result<(), Refusal>
     requires { AreGood (expression_words (expr_view subject.source.now found.value.now)) }
-    ensures done { let held = held_value subject.entry found.entry in let call = subject.entry.call.now in
-        OnOk result (AreBehind (set_by_shape call found.entry.number name.now entry.now (literal_of held) (value_shape held)) steps.old.items steps.new.items) }
+    ensures done { let held = held_value subject.entry found.entry in let call = subject.entry.call.now in OnOk result (AreBehind
+        (set_by_shape call found.entry.number name.now entry.now (literal_of held) (value_shape held)) steps.old.items steps.new.items) }
     ensures refused { let held = held_value subject.entry found.entry in let call = subject.entry.call.now in
         IfRefused result (λ e. set_by_shape call found.entry.number name.now entry.now (literal_of held) (value_shape held) ≡ Err e) }
 {

@@ -1,5 +1,5 @@
 -- The call of the target that a command names, and its arguments in the code.
-use Rattle.std.proofs.Common.{◌≡◌, ℕ, ◌<◌, List, [], ◌∷◌, length, get_or, Some, sym, ap, ap₂, ◌∙◌, subst, arith}
+use Rattle.std.proofs.Common.{◌≡◌, ℕ, ◌<◌, List, [], ◌∷◌, length, Some, sym, ap, ap₂, ◌∙◌, subst, arith}
 use Rattle.std.proofs.lemmas.List.{length-map}
 use Rattle.std.specs.Prelude.{option_map, option_and_then, Ok}
 use Rattle.meson_lex.specs.declared.kinds.Span.{Span}
@@ -11,7 +11,7 @@ use Rattle.meson_syntax.specs.declared.tree.Parsed.{Parsed}
 use Rattle.meson_syntax.specs.Paths.{list_in}
 use Rattle.meson_syntax.specs.Paths as paths
 use Rattle.meson_syntax.specs.Tree.{Expression, call}
-use Rattle.meson_syntax.specs.View.{list_view, arg_view, view}
+use Rattle.meson_syntax.specs.View.{list_view, arg_view}
 use Rattle.meson_syntax.proofs.parsing.Steps.{some-injective}
 use Rattle.meson_edit.specs.Edits.{elements}
 use Rattle.meson_calls.specs.declared.call.CallRef.{CallRef}
@@ -27,7 +27,7 @@ use Rattle.meson_calls.specs.NotedProjects.{IsNoted, project_in}
 use Rattle.meson_calls.specs.Notes.{note_views}
 use Rattle.meson_calls.specs.OnePlace.{the_place}
 use Rattle.meson_calls.specs.Picking.{call_with}
-use Rattle.meson_calls.specs.Project.{BuildFile, placed, nth_file, expression_at}
+use Rattle.meson_calls.specs.Project.{BuildFile, placed, expression_at}
 use Rattle.meson_sources.specs.SourceEdits.{elements_of, elements_there}
 use Rattle.meson_sources.specs.Targeted.{change_steps, target_steps}
 use Rattle.meson_steps.proofs.ArgumentValues.{list_elements}

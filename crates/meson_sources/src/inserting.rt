@@ -69,7 +69,8 @@ pub(crate) fn insert(
     steps: &mut Vec<ListStep>,
 ) -> Result<(), Refusal>
     requires { from < 2 ^ 63 }
-    ensures done { OnOk result (map Some steps.new.items ≡ map Some steps.old.items ++ map bare (insertion_steps list.now from (map (λ x. x.now) names.now))) }
+    ensures done { OnOk result (map Some steps.new.items
+        ≡ map Some steps.old.items ++ map bare (insertion_steps list.now from (map (λ x. x.now) names.now))) }
     ensures refused { IfErr result (λ e. e ≡ Refusal.OutOfMemory) }
 {
     for i in 0..names.len() {

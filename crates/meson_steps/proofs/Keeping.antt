@@ -5,7 +5,7 @@ use Rattle.meson_splice.specs.declared.splice.Splice.{Splice}
 use Rattle.meson_splice.specs.Files.{with_bytes}
 use Rattle.meson_edit.proofs.Keeping.{edits-keep}
 use Rattle.meson_calls.specs.Loading.{name_of_file}
-use Rattle.meson_steps.specs.Steps.{Step, StepsMake, Laid}
+use Rattle.meson_steps.specs.Steps.{Step, Laid}
 use Rattle.meson_steps.specs.Steps as making
 use Rattle.meson_steps.specs.Keeping.{StepKeeps, StepsKeep, MakingKeeps}
 use Rattle.meson_steps.specs.Keeping as keeping

@@ -90,7 +90,8 @@ impl<'a, F: Fn(Global, &[u8], &mut Cursor<'_>, usize) -> Result<Expr, ParseFault
         bracket: Bracket,
     ) -> Result<(bool, Many<Arg>), ParseFault>
         requires { Nests self.now.depth (F.pre self.now.deeper) (F.post self.now.deeper) }
-        ensures { Follows (λ room inner. spec.listed_elements room inner bracket) elements_view self.now.source.now self.now.depth tokens.old result tokens.new }
+        ensures { Follows (λ room inner. spec.listed_elements room inner bracket)
+            elements_view self.now.source.now self.now.depth tokens.old result tokens.new }
     {
         let mut found = Many::new(self.alloc);
         let mut seen = false;
@@ -119,7 +120,8 @@ impl<'a, F: Fn(Global, &[u8], &mut Cursor<'_>, usize) -> Result<Expr, ParseFault
         seen: bool,
     ) -> Result<Arg, ParseFault>
         requires { Nests self.now.depth (F.pre self.now.deeper) (F.post self.now.deeper) }
-        ensures { Follows (λ room inner. spec.listed_element room inner bracket seen) arg_view self.now.source.now self.now.depth tokens.old result tokens.new }
+        ensures { Follows (λ room inner. spec.listed_element room inner bracket seen)
+            arg_view self.now.source.now self.now.depth tokens.old result tokens.new }
     {
         match bracket {
             Bracket::Round => {

@@ -1,4 +1,4 @@
-use Rattle.std.proofs.Common.{◌≡◌, Some, sym, ap, ◌∙◌, subst}
+use Rattle.std.proofs.Common.{Some, sym, ap, ◌∙◌, subst}
 use Rattle.std.specs.Prelude.{option_and_then, option_map}
 use Rattle.meson_targets.specs.TargetEdits.{Holder, name_set}
 use Rattle.meson_targets.specs.TargetViews.{IsNamed, held_view, holder_view}
