@@ -46,3 +46,4 @@ pub mod CallLists
 pub mod FirstValue
 mod PartsContained
 mod PartsOrdered
+mod NoSubdirs

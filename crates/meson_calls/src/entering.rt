@@ -1,6 +1,6 @@
 //! The files that a file enters.
 
-ghost use Rattle.std.specs.Prelude.{◌≡◌, IfErr, IfOk, map, option_map, string_bytes};
+ghost use Rattle.std.specs.Prelude.{◌≡◌, IfErr, IfOk, false, map, option_map, string_bytes};
 ghost use Rattle.meson_syntax.specs.Reads.{IsSpanned, IsUnreadable, MayNotRead, Refuses};
 ghost use Rattle.meson_syntax.specs.View.{view};
 ghost use Rattle.meson_syntax.specs.declared.fault.ParseFault.{ParseFault};
@@ -8,13 +8,14 @@ ghost use Rattle.meson_calls.specs.Folders.{IsFileName, folder_of, file_in};
 ghost use Rattle.meson_calls.specs.Notes.{note_view, note_views};
 ghost use Rattle.meson_calls.specs.Picking.{note_enters, entered_names};
 ghost use Rattle.meson_calls.specs.Strings.{AreGood, NotesGood, note_words};
-ghost use Rattle.meson_calls.specs.Subdirs.{Enters, subdirs};
+ghost use Rattle.meson_calls.specs.Subdirs.{Enters, HasNoSubdir, subdirs};
 
 use crate::folders::is_plain_folder;
 use crate::literals::first_literal;
 use crate::note::{Note, What};
 use crate::notes::notes_in;
 use crate::roles::text_of;
+use memchr::memmem;
 use meson_syntax::{ParseFault, Parsed, parse};
 use std::alloc::{AllocError, Global};
 
@@ -86,6 +87,13 @@ fn all_entered(alloc: Global, name: &str, notes: &[Note<'_>]) -> Result<Vec<Stri
     Ok(names)
 }
 
+/// Whether the name of that function stands anywhere in the bytes. Where it does not, no call is one of it, and a walk can tell nothing.
+fn may_enter(bytes: &[u8]) -> bool
+    ensures { result ≡ false → HasNoSubdir bytes.now }
+{
+    memmem::find(bytes, b"subdir".as_slice()).is_some()
+}
+
 /// The names of the files that the `subdir` calls of a tree with a plain literal mean, in order.
 ///
 /// # Errors
@@ -100,6 +108,9 @@ pub fn entered_by(
     requires reads { IsSpanned bytes.now (view bytes.now tree.now) }
     ensures { IfOk result (λ names. map string_bytes names.items ≡ subdirs name.now (view bytes.now tree.now)) }
 {
+    if !may_enter(bytes) {
+        return Ok(Vec::new(alloc));
+    }
     let taken = notes_in(alloc, 0, bytes, tree)?;
     let notes = taken.all(alloc)?;
     let names = all_entered(alloc, name, notes.as_slice())?;
