@@ -87,7 +87,7 @@ fn all_entered(alloc: Global, name: &str, notes: &[Note<'_>]) -> Result<Vec<Stri
     Ok(names)
 }
 
-/// Whether the name of that function stands anywhere in the bytes. Where it does not, no call is one of it, and a walk can tell nothing.
+/// Whether `subdir` stands anywhere in the bytes. Where it does not, the file has no call of that function, and need not be walked.
 fn may_enter(bytes: &[u8]) -> bool
     ensures { result ≡ false → HasNoSubdir bytes.now }
 {
