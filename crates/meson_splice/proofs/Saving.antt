@@ -5,7 +5,7 @@ use Rattle.std.proofs.lemmas.Bool.{eqb-true}
 use Rattle.std.specs.Prelude.{◌||◌}
 use Rattle.meson_splice.specs.Files.{bytes_at, with_bytes}
 use Rattle.meson_splice.specs.Saved.{bytes_saved, bytes_put_back}
-use Rattle.meson_splice.specs.declared.change.Saved.{Saved}
+use Rattle.meson_splice.specs.declared.change.SavedBytes.{SavedBytes}
 use Rattle.meson_splice.specs.declared.file_set.File.{File}
 
 pub with_bytes-beyond : (files : List File) (i : ℕ) (b : List ℕ) → length files ≤ i → with_bytes i b files ≡ files
@@ -33,12 +33,12 @@ with_bytes-apart (f ∷ files) zero (suc j) b c apart = refl
 with_bytes-apart (f ∷ files) (suc i) zero b c apart = refl
 with_bytes-apart (f ∷ files) (suc i) (suc j) b c apart = ap (λ more. f ∷ more) (with_bytes-apart files i j b c (λ same. apart (ap suc same)))
 
-pub put_back-push : (saved : List Saved) (s : Saved) (files : List File) → bytes_put_back (saved ++ s ∷ []) files ≡ bytes_put_back saved (with_bytes s.place s.bytes files)
+pub put_back-push : (saved : List SavedBytes) (s : SavedBytes) (files : List File) → bytes_put_back (saved ++ s ∷ []) files ≡ bytes_put_back saved (with_bytes s.place s.bytes files)
 put_back-push [] s files = refl
 put_back-push (t ∷ saved) s files = ap (with_bytes t.place t.bytes) (put_back-push saved s files)
 
 -- a file's bytes are saved before it is written first
-pub put_back-first : (saved : List Saved) (files : List File) (i : ℕ) (b : List ℕ) → bytes_put_back (saved ++ record { place = i; bytes = bytes_at i files } ∷ []) (with_bytes i b files) ≡ bytes_put_back saved files
+pub put_back-first : (saved : List SavedBytes) (files : List File) (i : ℕ) (b : List ℕ) → bytes_put_back (saved ++ record { place = i; bytes = bytes_at i files } ∷ []) (with_bytes i b files) ≡ bytes_put_back saved files
 put_back-first saved files i b =
     put_back-push saved (record { place = i; bytes = bytes_at i files }) (with_bytes i b files)
     ∙ ap (bytes_put_back saved) (with_bytes-twice files i b (bytes_at i files) ∙ with_bytes-same files i)
@@ -50,13 +50,13 @@ equal-or-apart (suc i) zero = inr (λ e. omega arith)
 equal-or-apart (suc i) (suc j) = elim (equal-or-apart i j) [ inl e ↦ inl (ap suc e) | inr d ↦ inr (λ e. d (omega arith)) ]
 
 -- What is written is lost where the file is saved, and else it stays.
-abbrev Lost : List Saved → List File → ℕ → List ℕ → Type 0
+abbrev Lost : List SavedBytes → List File → ℕ → List ℕ → Type 0
 Lost saved files i b = bytes_put_back saved (with_bytes i b files) ≡ bytes_put_back saved files
 
-abbrev Stays : List Saved → List File → ℕ → List ℕ → Type 0
+abbrev Stays : List SavedBytes → List File → ℕ → List ℕ → Type 0
 Stays saved files i b = bytes_put_back saved (with_bytes i b files) ≡ with_bytes i b (bytes_put_back saved files)
 
-lost-or-stays : (saved : List Saved) (files : List File) (i : ℕ) (b : List ℕ) → Lost saved files i b ⊎ Stays saved files i b
+lost-or-stays : (saved : List SavedBytes) (files : List File) (i : ℕ) (b : List ℕ) → Lost saved files i b ⊎ Stays saved files i b
 lost-or-stays [] files i b = inr refl
 lost-or-stays (s ∷ saved) files i b = elim (lost-or-stays saved files i b) [
   | inl lost ↦ inl (ap (with_bytes s.place s.bytes) lost)
@@ -67,7 +67,7 @@ lost-or-stays (s ∷ saved) files i b = elim (lost-or-stays saved files i b) [
 ]
 
 -- a file that is saved may be written again
-again_by : (t : Bool) (s : Saved) (saved : List Saved) (files : List File) (i : ℕ) (b : List ℕ) → eqb s.place i ≡ t → (t || bytes_saved i saved) ≡ true
+again_by : (t : Bool) (s : SavedBytes) (saved : List SavedBytes) (files : List File) (i : ℕ) (b : List ℕ) → eqb s.place i ≡ t → (t || bytes_saved i saved) ≡ true
     → (bytes_saved i saved ≡ true → Lost saved files i b) → Lost (s ∷ saved) files i b
 again_by false s saved files i b first there later = ap (with_bytes s.place s.bytes) (later there)
 again_by true s saved files i b first there later = elim (lost-or-stays saved files i b) [
@@ -75,6 +75,6 @@ again_by true s saved files i b first there later = elim (lost-or-stays saved fi
   | inr stays ↦ ap (with_bytes s.place s.bytes) (stays ∙ ap (λ j. with_bytes j b (bytes_put_back saved files)) (sym (eqb-true s.place i first))) ∙ with_bytes-twice (bytes_put_back saved files) s.place b s.bytes
 ]
 
-pub put_back-again : (saved : List Saved) (files : List File) (i : ℕ) (b : List ℕ) → bytes_saved i saved ≡ true → bytes_put_back saved (with_bytes i b files) ≡ bytes_put_back saved files
+pub put_back-again : (saved : List SavedBytes) (files : List File) (i : ℕ) (b : List ℕ) → bytes_saved i saved ≡ true → bytes_put_back saved (with_bytes i b files) ≡ bytes_put_back saved files
 put_back-again [] files i b there = absurd (let no : ⊥ = cc in no)
 put_back-again (s ∷ saved) files i b there = again_by (eqb s.place i) s saved files i b refl there (λ h. put_back-again saved files i b h)

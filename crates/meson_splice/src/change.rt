@@ -38,13 +38,13 @@ impl Change {
 
 /// The bytes that a file had before the first splice at it.
 #[derive(Drop)]
-pub(crate) struct Saved {
+pub struct SavedBytes {
     place: usize,
     bytes: Bytes,
 }
 
 /// Whether bytes of the file at that place are saved.
-fn is_saved(saved: &[Saved], place: usize) -> bool
+fn is_saved(saved: &[SavedBytes], place: usize) -> bool
     ensures { result ≡ bytes_saved place saved.now }
 {
     saved.iter().any(|s| s.place == place)
@@ -53,7 +53,7 @@ fn is_saved(saved: &[Saved], place: usize) -> bool
 /// Puts other bytes into the file at that place. Those that it had are saved, unless bytes of it are saved already.
 fn exchange(
     files: &mut FileSet,
-    saved: &mut Vec<Saved>,
+    saved: &mut Vec<SavedBytes>,
     place: usize,
     bytes: Bytes,
 ) -> Result<(), AllocError>
@@ -67,7 +67,7 @@ fn exchange(
     }
     saved.reserve(1)?;
     let bytes = files.exchange(place, bytes);
-    saved.push_reserved(Saved { place, bytes });
+    saved.push_reserved(SavedBytes { place, bytes });
     Ok(())
 }
 
@@ -103,7 +103,7 @@ fn patched_on(
 fn step(
     alloc: Global,
     files: &mut FileSet,
-    saved: &mut Vec<Saved>,
+    saved: &mut Vec<SavedBytes>,
     way: Way,
     splices: &[Splice],
     done: usize,
@@ -122,15 +122,34 @@ fn step(
     Ok(next)
 }
 
-/// Puts saved bytes back.
-pub(crate) fn put_back(files: &mut FileSet, saved: Vec<Saved>)
+/// Puts saved bytes back, the newest first. Takes no memory.
+pub fn put_bytes_back(files: &mut FileSet, saved: Vec<SavedBytes>)
     ensures { files.new ≡ bytes_put_back saved.items files.old }
 {
     let mut left = saved;
     while let Some(last) = left.pop() {
-        let Saved { place, bytes } = last;
+        let SavedBytes { place, bytes } = last;
         files.restore(place, bytes);
     }
+}
+
+/// Does all splices that way, or those in front of the first that is refused.
+fn all_done(
+    alloc: Global,
+    files: &mut FileSet,
+    saved: &mut Vec<SavedBytes>,
+    way: Way,
+    splices: &[Splice],
+) -> Result<(), SpliceFault>
+    ensures done { OnOk result (patched_all files.old (ordered way splices.now) ≡ Ok files.new) }
+    ensures refused { IfErr result (λ e. e ≢ OutOfMemory → patched_all files.old (ordered way splices.now) ≡ Err e) }
+    ensures saved { bytes_put_back saved.new.items files.new ≡ bytes_put_back saved.old.items files.old }
+{
+    let mut done = 0;
+    while done < splices.len() {
+        done = step(alloc, files, saved, way, splices, done)?;
+    }
+    Ok(())
 }
 
 /// Does all splices that way, or none, and gives what to put back.
@@ -139,24 +158,20 @@ fn changed(
     files: &mut FileSet,
     way: Way,
     splices: &[Splice],
-) -> Result<Vec<Saved>, SpliceFault>
+) -> Result<Vec<SavedBytes>, SpliceFault>
     ensures done { OnOk result (patched_all files.old (ordered way splices.now) ≡ Ok files.new) }
     ensures saved { IfOk result (λ saved. bytes_put_back saved.items files.new ≡ files.old) }
     ensures refused { IfErr result (λ e. e ≢ OutOfMemory → patched_all files.old (ordered way splices.now) ≡ Err e) }
     ensures kept { OnErr result (files.new ≡ files.old) }
 {
     let mut saved = Vec::new(alloc);
-    let mut done = 0;
-    while done < splices.len() {
-        match step(alloc, files, &mut saved, way, splices, done) {
-            Ok(next) => done = next,
-            Err(fault) => {
-                put_back(files, saved);
-                return Err(fault);
-            }
+    match all_done(alloc, files, &mut saved, way, splices) {
+        Ok(()) => Ok(saved),
+        Err(fault) => {
+            put_bytes_back(files, saved);
+            Err(fault)
         }
     }
-    Ok(saved)
 }
 
 /// Does all splices of a change, first to last, or none, and gives what to put back.
@@ -164,7 +179,7 @@ pub(crate) fn applied(
     alloc: Global,
     files: &mut FileSet,
     change: &Change,
-) -> Result<Vec<Saved>, SpliceFault>
+) -> Result<Vec<SavedBytes>, SpliceFault>
     ensures done { OnOk result (patched_all files.old change.now.splices ≡ Ok files.new) }
     ensures saved { IfOk result (λ saved. bytes_put_back saved.items files.new ≡ files.old) }
     ensures refused { IfErr result (λ e. e ≢ OutOfMemory → patched_all files.old change.now.splices ≡ Err e) }
@@ -178,7 +193,7 @@ pub(crate) fn reverted(
     alloc: Global,
     files: &mut FileSet,
     change: &Change,
-) -> Result<Vec<Saved>, SpliceFault>
+) -> Result<Vec<SavedBytes>, SpliceFault>
     ensures done { OnOk result (patched_all files.old (inverses_of change.now.splices) ≡ Ok files.new) }
     ensures saved { IfOk result (λ saved. bytes_put_back saved.items files.new ≡ files.old) }
     ensures refused { IfErr result (λ e. e ≢ OutOfMemory → patched_all files.old (inverses_of change.now.splices) ≡ Err e) }
@@ -196,6 +211,24 @@ pub fn apply_all(alloc: Global, files: &mut FileSet, change: &Change) -> Result<
 {
     applied(alloc, files, change)?;
     Ok(())
+}
+
+/// Does all splices of a change, first to last, and saves the bytes of each file of which none are saved. Splices at one file
+/// that follow one another copy it once.
+///
+/// # Errors
+/// A splice can't be done, or memory is refused. Splices in front of it may be done then. What is saved takes them back.
+pub fn apply_saving(
+    alloc: Global,
+    files: &mut FileSet,
+    saved: &mut Vec<SavedBytes>,
+    change: &Change,
+) -> Result<(), SpliceFault>
+    ensures done { OnOk result (patched_all files.old change.now.splices ≡ Ok files.new) }
+    ensures refused { IfErr result (λ e. e ≢ OutOfMemory → patched_all files.old change.now.splices ≡ Err e) }
+    ensures saved { bytes_put_back saved.new.items files.new ≡ bytes_put_back saved.old.items files.old }
+{
+    all_done(alloc, files, saved, Way::Forward, change.splices.get())
 }
 
 /// Takes all splices of a change back, last to first, or none. Splices at one file that follow one another copy it once, and

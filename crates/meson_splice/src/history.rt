@@ -4,7 +4,7 @@ ghost use Rattle.std.specs.Prelude.{◌≡◌, ◌≢◌, ◌<◌, ◌++◌, ◌
 ghost use Rattle.meson_splice.specs.Past.{Forgets, redone, undone};
 ghost use Rattle.meson_splice.specs.declared.fault.SpliceFault.TheVariants.{NothingToUndo, OutOfMemory};
 
-use crate::change::{Change, applied, put_back, reverted};
+use crate::change::{Change, applied, put_bytes_back, reverted};
 use crate::fault::SpliceFault;
 use crate::file_set::FileSet;
 use meson_values::Many;
@@ -78,7 +78,7 @@ impl History {
         match self.past.move_last(&mut self.future) {
             Ok(()) => Ok(()),
             Err(refused) => {
-                put_back(files, saved);
+                put_bytes_back(files, saved);
                 Err(SpliceFault::from(refused))
             }
         }
@@ -97,7 +97,7 @@ impl History {
         match self.future.move_last(&mut self.past) {
             Ok(()) => Ok(()),
             Err(refused) => {
-                put_back(files, saved);
+                put_bytes_back(files, saved);
                 Err(SpliceFault::from(refused))
             }
         }

@@ -10,7 +10,7 @@ pub mod laws;
 mod splice;
 mod way;
 
-pub use change::{Change, apply_all, revert};
+pub use change::{Change, SavedBytes, apply_all, apply_saving, put_bytes_back, revert};
 pub use fault::SpliceFault;
 pub use file_set::{File, FileSet, PushFault, Unpushed};
 pub use history::{History, Unkept};

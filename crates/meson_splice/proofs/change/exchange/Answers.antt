@@ -1,7 +1,7 @@
 use Rattle.std.proofs.Common.{◌≡◌, ◌∙◌, ◌∷◌, ◌++◌, [], List, ℕ, ap, sym, true}
 use Rattle.meson_splice.specs.Files.{bytes_at}
 use Rattle.meson_splice.specs.Saved.{bytes_put_back, bytes_saved}
-use Rattle.meson_splice.specs.declared.change.Saved.{Saved}
+use Rattle.meson_splice.specs.declared.change.SavedBytes.{SavedBytes}
 use Rattle.meson_splice.proofs.Saving.{put_back-first, put_back-again}
 use Rattle.meson_splice.proofs.change.exchange.Goals as goal
 
@@ -16,7 +16,7 @@ returns-clause-saved c =
     let files = c.args.files.now in
     let saved = c.args.saved.now.items in
     let place = c.args.place in
-    let item : List ℕ → Saved = λ b. record { place = place; bytes = b } in
+    let item : List ℕ → SavedBytes = λ b. record { place = place; bytes = b } in
     ap (λ l. bytes_put_back l c.exchange-bytes.new.self) (c.push_reserved.ensures.items ∙ ap (λ l. l ++ item c.exchange-bytes.result ∷ []) c.in_ok-reserve.ensures.items)
     ∙ ap (λ b. bytes_put_back (saved ++ item b ∷ []) c.exchange-bytes.new.self) c.exchange-bytes.ensures.old
     ∙ ap (bytes_put_back (saved ++ item (bytes_at place files) ∷ [])) c.exchange-bytes.ensures.files

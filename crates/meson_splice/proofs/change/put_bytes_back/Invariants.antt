@@ -1,6 +1,6 @@
 use Rattle.std.proofs.Common.{◌≡◌, length}
 use Rattle.meson_splice.specs.Saved.{bytes_put_back}
-use Rattle.meson_splice.proofs.change.put_back.Given as goal
+use Rattle.meson_splice.proofs.change.put_bytes_back.Given as goal
 
 abbrev pub invariant-loop-last : goal.invariant-loop-last
 invariant-loop-last l = bytes_put_back l.left.items l.files ≡ bytes_put_back l.initial.left.items l.initial.files

@@ -1,7 +1,7 @@
 use Rattle.std.proofs.Common.{◌∙◌, ap, sym}
 use Rattle.meson_splice.specs.Saved.{bytes_put_back}
 use Rattle.meson_splice.proofs.Saving.{put_back-push}
-use Rattle.meson_splice.proofs.change.put_back.Goals as goal
+use Rattle.meson_splice.proofs.change.put_bytes_back.Goals as goal
 
 pub loop-last-preserved : goal.loop-last-preserved
 loop-last-preserved c =
