@@ -9,6 +9,7 @@ use Rattle.meson_splice.specs.declared.file_set.File.{File}
 use Rattle.meson_splice.specs.declared.splice.Splice.{Splice}
 use Rattle.meson_splice.specs.Files.{IsDistinct, bytes_at}
 use Rattle.meson_splice.specs.Patch.{patched_all}
+use Rattle.meson_splice.specs.Saved.{bytes_put_back}
 use Rattle.meson_syntax.specs.declared.source.Limits.{Limits}
 use Rattle.meson_syntax.specs.declared.tree.Parsed.{Parsed}
 use Rattle.meson_syntax.specs.Grammar.{file_depth}
@@ -141,9 +142,10 @@ tree_of trees place d = slice_index_or trees place.file d
 abbrev pub list_again : (before after : List File) → CallRef → Parsed → ℕ
 list_again before after place t = bytes_again (list_at (view (bytes_at place.file before) t) place.path.steps) (bytes_at place.file before) (bytes_at place.file after)
 
--- What is saved may be put back, and that gives these trees.
-abbrev pub Restores : Work → List Parsed → Type 0
-Restores w first = PutsBack w.saved.items w.trees.items first
+-- What is saved may be put back, and that gives these files and trees.
+pub record Restores (w : Work) (first : Loaded) : Type 0 where
+  pub trees : PutsBack w.saved.items w.trees.items first.parsed
+  pub files : bytes_put_back w.saved_bytes.items w.files ≡ first.files
 
 -- Nothing is done so far, on the files and trees of a project.
 pub record IsFresh (w : Work) : Type 0 where

@@ -1,6 +1,7 @@
 //! A list of a tree that steps change, one after another.
 
 ghost use Rattle.std.specs.Prelude.{◌<◌, ◌≡◌, IfErr, IfOk, List, OnOk, Some, length, true};
+ghost use Rattle.meson_splice.specs.Saved.{bytes_put_back};
 ghost use Rattle.meson_syntax.specs.declared.tree.Parsed.{Parsed};
 ghost use Rattle.meson_calls.specs.Loading.{Loaded};
 ghost use Rattle.meson_steps.specs.Held.{DoesStep, IsHeld, IsHeldThen, IsReadAgain, IsSettled, MayHold, settled};
@@ -49,7 +50,7 @@ impl Work {
     pub(crate) fn settle(&mut self, held: HeldList) -> Result<(), AllocError>
         requires { IsHeld self.old held }
         ensures done { OnOk result (IsSettled self.old held self.new) }
-        ensures restores { (first : List Parsed) → Restores self.old first → Restores self.new first }
+        ensures restores { (first : Loaded) → Restores self.old first → Restores self.new first }
     {
         let HeldList { bracket: _, list } = held;
         exchange_list(&mut self.trees, &mut self.saved, list)
@@ -70,7 +71,7 @@ impl Work {
         requires of_list { edits_list edit ≡ true }
         ensures done { DoesStep (record { list = held.list.place; edit = edit }) (settled (Some held) self.old) result self.new }
         ensures holds { IfOk result (MayHold self.new) }
-        ensures restores { (first : List Parsed) → Restores self.old first → Restores self.new first }
+        ensures restores { (first : Loaded) → Restores self.old first → Restores self.new first }
         ensures refused { IfErr result (λ e. e ≡ Refusal.OutOfMemory) }
     {
         let splices = self.laid_again(alloc, &held, edit)?;
@@ -128,11 +129,12 @@ impl Work {
         ensures done { (m : MayReadList self.old.files file splices.items spot)
             → IfOk result (λ r. IsReadAgain self.old self.new file splices.items spot m r.0 r.1) }
         ensures kept { (self.new.trees.items ≡ self.old.trees.items) × (self.new.saved.items ≡ self.old.saved.items) }
+        ensures restored { bytes_put_back self.new.saved_bytes.items self.new.files ≡ bytes_put_back self.old.saved_bytes.items self.old.files }
         ensures refused { IfErr result (λ e. e ≡ Refusal.OutOfMemory) }
     {
         let ListSpot { bracket, span } = spot;
         let around = self.files.bytes(file).len() - (span.to - span.from);
-        let splices = applied(alloc, &mut self.files, splices)?;
+        let splices = applied(alloc, &mut self.files, &mut self.saved_bytes, splices)?;
         push_all(&mut self.splices, splices)?;
         let bytes = self.files.bytes(file);
         let now = bytes.len() - around;
@@ -158,6 +160,7 @@ impl Work {
         ensures done { (d : Parsed) → IfOk result (IsHeldThen (standing self.old) self.new place splices.items (tree_of self.old.trees.items place d)) }
         ensures holds { IfOk result (IsHeld self.new) }
         ensures kept { (self.new.trees.items ≡ self.old.trees.items) × (self.new.saved.items ≡ self.old.saved.items) }
+        ensures restored { bytes_put_back self.new.saved_bytes.items self.new.files ≡ bytes_put_back self.old.saved_bytes.items self.old.files }
         ensures refused { IfErr result (λ e. e ≡ Refusal.OutOfMemory) }
     {
         let Some(spot) = list_spot(&self.trees[place.file], &place.path) else {
@@ -196,6 +199,7 @@ impl Work {
             IfOk result (IsHeldThen (settled (Some held) self.old) self.new held.list.place splices.items tree) }
         ensures holds { IfOk result (IsHeld self.new) }
         ensures kept { (self.new.trees.items ≡ self.old.trees.items) × (self.new.saved.items ≡ self.old.saved.items) }
+        ensures restored { bytes_put_back self.new.saved_bytes.items self.new.files ≡ bytes_put_back self.old.saved_bytes.items self.old.files }
         ensures refused { IfErr result (λ e. e ≡ Refusal.OutOfMemory) }
     {
         let HeldList {

@@ -4,6 +4,7 @@ ghost use Rattle.std.specs.Prelude.{[], ◌++◌, ◌<◌, ◌≡◌, ◌≤◌,
 ghost use Rattle.meson_splice.specs.declared.file_set.File.{File};
 ghost use Rattle.meson_splice.specs.Files.{bytes_at};
 ghost use Rattle.meson_splice.specs.Patch.{patched_all};
+ghost use Rattle.meson_splice.specs.Saved.{bytes_put_back};
 ghost use Rattle.meson_steps.specs.Done.{IsDone, MayNotBeDone, Meaning};
 ghost use Rattle.meson_calls.specs.Loading.{IsProject, Loaded};
 ghost use Rattle.meson_steps.specs.Laying.{AreLaid};
@@ -20,33 +21,38 @@ use crate::reading::unread;
 use crate::step::{ListEdit, ListStep};
 use meson_calls::{CallRef, Refusal};
 use meson_edit::nests_within;
-use meson_splice::{Change, FileSet, Many, Splice, apply_all};
+use meson_splice::{Change, FileSet, Many, SavedBytes, Splice, apply_saving};
 use meson_syntax::{MAX_DEPTH, MAX_LEN, Parsed, parse_wide};
 use std::alloc::{AllocError, Global};
 
-/// Files and trees that steps change, the splices so far, the trees and lists that were exchanged, and how many bytes were read again.
+/// Files and trees that steps change, the splices so far, what was there before, and how many bytes were read again.
 #[derive(Drop)]
 pub struct Work {
     pub splices: Vec<Splice>,
     pub files: FileSet,
     pub trees: Vec<Parsed>,
+    /// The trees and lists that were exchanged.
     pub saved: Vec<Saved>,
+    /// The first bytes of the files that were changed.
+    pub saved_bytes: Vec<SavedBytes>,
     pub relexed: u64,
 }
 
-/// Makes splices in the files, and gives them back.
+/// Makes splices in the files, whose first bytes are saved, and gives the splices back.
 pub(crate) fn applied(
     alloc: Global,
     files: &mut FileSet,
+    saved: &mut Vec<SavedBytes>,
     splices: Vec<Splice>,
 ) -> Result<Vec<Splice>, Refusal>
     requires { (new : List File) × (patched_all files.old splices.items ≡ Ok new) }
     ensures made { OnOk result (patched_all files.old splices.items ≡ Ok files.new) }
     ensures same { IfOk result (λ made. made.items ≡ splices.items) }
+    ensures restored { bytes_put_back saved.new.items files.new ≡ bytes_put_back saved.old.items files.old }
     ensures refused { IfErr result (λ e. e ≡ Refusal.OutOfMemory) }
 {
     let change = Change::untitled(alloc, Many::of(splices));
-    match apply_all(alloc, files, &change) {
+    match apply_saving(alloc, files, saved, &change) {
         Ok(()) => {}
         Err(fault) => return Err(unmade(fault)),
     }
@@ -60,13 +66,14 @@ impl Work {
         requires { IsProject (record { files = files; parsed = trees.items }) }
         ensures is { so_far result ≡ record { files = files; parsed = trees.items } }
         ensures fresh { IsFresh result }
-        ensures restores { Restores result trees.items }
+        ensures restores { Restores result (record { files = files; parsed = trees.items }) }
     {
         Work {
             splices: Vec::new(alloc),
             files,
             trees,
             saved: Vec::new(alloc),
+            saved_bytes: Vec::new(alloc),
             relexed: 0,
         }
     }
@@ -85,7 +92,7 @@ impl Work {
         requires held { MayHold self.old held }
         ensures done { DoesStep step (settled held self.old) result self.new }
         ensures holds { IfOk result (MayHold self.new) }
-        ensures restores { (first : List Parsed) → Restores self.old first → Restores self.new first }
+        ensures restores { (first : Loaded) → Restores self.old first → Restores self.new first }
         ensures refused { IfErr result (λ e. e ≡ Refusal.OutOfMemory) }
     {
         let Some(held) = held else {
@@ -106,7 +113,7 @@ impl Work {
         requires { (old : Loaded) × IsNext old (standing self.old) step }
         ensures done { DoesStep step (standing self.old) result self.new }
         ensures holds { IfOk result (MayHold self.new) }
-        ensures restores { (first : List Parsed) → Restores self.old first → Restores self.new first }
+        ensures restores { (first : Loaded) → Restores self.old first → Restores self.new first }
         ensures refused { IfErr result (λ e. e ≡ Refusal.OutOfMemory) }
     {
         let ListStep { list: place, edit } = step;
@@ -164,10 +171,10 @@ impl Work {
         requires files { file < length self.old.files }
         requires read { MayChange self.old.files file splices.items }
         ensures done { OnOk result (IsChanged (standing self.old) (standing self.new) file splices.items (length (bytes_at file self.new.files))) }
-        ensures restores { (first : List Parsed) → Restores self.old first → Restores self.new first }
+        ensures restores { (first : Loaded) → Restores self.old first → Restores self.new first }
         ensures refused { IfErr result (λ e. e ≡ Refusal.OutOfMemory) }
     {
-        let splices = applied(alloc, &mut self.files, splices)?;
+        let splices = applied(alloc, &mut self.files, &mut self.saved_bytes, splices)?;
         push_all(&mut self.splices, splices)?;
         let bytes = self.files.bytes(file);
         self.relexed = self.relexed.saturating_add(bytes.len() as u64);
@@ -185,7 +192,7 @@ impl Work {
     pub fn do_steps(&mut self, alloc: Global, steps: Vec<ListStep>) -> Result<(), Refusal>
         requires { (old : Loaded) × (ss : List meant.Step) × IsUnderWay old ss steps.items self.old }
         ensures done { (old : Loaded) (ss : List meant.Step) → IsUnderWay old ss steps.items self.old → OnOk result (Reached old ss [] self.new) }
-        ensures restores { (first : List Parsed) → Restores self.old first → Restores self.new first }
+        ensures restores { (first : Loaded) → Restores self.old first → Restores self.new first }
         ensures refused { IfErr result (λ e. e ≡ Refusal.OutOfMemory) }
     {
         let mut held = None;
@@ -264,7 +271,7 @@ pub fn done(alloc: Global, work: &mut Work, steps: Vec<ListStep>) -> Result<(), 
     requires fresh { IsFresh work.old }
     requires planned { (whole : Meaning) × ArePlanned (so_far work.old) whole steps.items }
     ensures done { (whole : Meaning) → ArePlanned (so_far work.old) whole steps.items → OnOk result (IsDone (so_far work.old) whole work.new) }
-    ensures restores { (first : List Parsed) → Restores work.old first → Restores work.new first }
+    ensures restores { (first : Loaded) → Restores work.old first → Restores work.new first }
     ensures refused { (whole : Meaning) → ArePlanned (so_far work.old) whole steps.items → IfRefused result (MayNotBeDone (so_far work.old) whole) }
 {
     work.do_steps(alloc, steps)?;

@@ -47,3 +47,12 @@ returns-clause-done c = λ old steps u.
     (subst (λ o. HasReached old steps [] (settled o c.loop-step.self)) c.in-Some-held.is
     (all_reached old (settled c.loop-step.held c.loop-step.self) steps (c.loop-step.invariant.under_way old steps [] (subst (λ xs. IsUnderWay old steps xs c.args.self.now) all u))))
     c.in_ok-settle.ensures.done
+
+pub returns-in_err-held-clause-restores : goal.returns-in_err-held-clause-restores
+returns-in_err-held-clause-restores c = λ first r. c.in_err-held.ensures.restores first (c.loop-step.invariant.restores first r)
+
+pub returns-in_err-settle-clause-restores : goal.returns-in_err-settle-clause-restores
+returns-in_err-settle-clause-restores c = λ first r. c.in_err-settle.ensures.restores first (c.loop-step.invariant.restores first r)
+
+pub returns-clause-restores : goal.returns-clause-restores
+returns-clause-restores c = λ first r. c.in_ok-settle.ensures.restores first (c.loop-step.invariant.restores first r)

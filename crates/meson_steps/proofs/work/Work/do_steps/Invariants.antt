@@ -1,6 +1,5 @@
 use Rattle.std.proofs.Common.{◌≡◌, ◌++◌, List}
 use Rattle.std.specs.Vec.Iter.{into_iter_items}
-use Rattle.meson_syntax.specs.declared.tree.Parsed.{Parsed}
 use Rattle.meson_calls.specs.Loading.{Loaded}
 use Rattle.meson_steps.specs.declared.step.ListStep.{ListStep}
 use Rattle.meson_steps.specs.Held.{MayHold, settled}
@@ -13,5 +12,5 @@ invariant-loop-step l = record {
   joined : l.fn.steps.items ≡ l.yielded ++ into_iter_items l.step-iterator;
   under_way : (old : Loaded) (steps : List Step) (left : List ListStep) → IsUnderWay old steps (l.yielded ++ left) l.fn.self → AreUnderWay old steps left (settled l.held l.self);
   holds : MayHold l.self l.held;
-  restores : (first : List Parsed) → Restores l.fn.self first → Restores l.self first;
+  restores : (first : Loaded) → Restores l.fn.self first → Restores l.self first;
 }

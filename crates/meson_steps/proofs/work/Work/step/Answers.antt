@@ -17,3 +17,6 @@ returns-clause-done c = λ old before rest s is r.
     let w = c.args.self.now in
     let reached = subst (λ o. HasReached old before (s ∷ rest) (settled o w)) c.in-Some.is r in
     c.first_step-2.ensures.done old before rest s is (settled_reached old before (s ∷ rest) w c.settle.new.self c.in-Some.held reached c.in_ok-settle.ensures.done)
+
+pub returns-clause-restores : goal.returns-clause-restores
+returns-clause-restores c = λ first r. c.first_step-2.ensures.restores first (c.in_ok-settle.ensures.restores first r)
