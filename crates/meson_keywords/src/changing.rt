@@ -7,7 +7,6 @@ ghost use Rattle.meson_calls.specs.GoodLists.{GoodArgs};
 ghost use Rattle.meson_calls.specs.Loading.{AreParsed, Loaded, named_trees, project, views};
 ghost use Rattle.meson_calls.specs.Notes.{notes};
 ghost use Rattle.meson_calls.specs.OnePlace.{the_place};
-ghost use Rattle.meson_steps.specs.Journal.{Trees};
 ghost use Rattle.meson_steps.specs.Done.{IsDone, MayNotBeDone};
 ghost use Rattle.meson_steps.specs.ResultLimits.{plain_trees};
 ghost use Rattle.meson_calls.specs.Sources.{not_hidden};
@@ -65,7 +64,7 @@ fn do_task(alloc: Global, work: &mut Work, call: &CallRef, task: Task<'_>) -> Re
     requires { (old : Loaded) × IsNextTask old call.now task work.old }
     ensures done { (old : Loaded) (before : List meant.Step) (t : changes.Task) → Between old call.now before work.old → TaskIs task.entry t
         → MayBeWritten t → OnOk result (TaskDone old call.now before t work.old work.new) }
-    ensures restores { (first : Trees) → Restores work.old first → Restores work.new first }
+    ensures restores { (first : Loaded) → Restores work.old first → Restores work.new first }
     ensures refused { (old : Loaded) (before : List meant.Step) (t : changes.Task) → Between old call.now before work.old → TaskIs task.entry t
         → MayBeWritten t → IfRefused result (λ e. steps_of_task call.now t work.old ≡ Err e) }
 {
@@ -113,7 +112,7 @@ fn tasks_done(
     requires tasks { (ts : List changes.Task) × TasksAre tasks.items ts }
     ensures done { (ts : List changes.Task) → TasksAre tasks.entry.items ts
         → OnOk result (IsDone (so_far work.old) (tasks_steps call.now ts (plain_trees (so_far work.old))) work.new) }
-    ensures restores { (first : Trees) → Restores work.old first → Restores work.new first }
+    ensures restores { (first : Loaded) → Restores work.old first → Restores work.new first }
     ensures refused { (ts : List changes.Task) → TasksAre tasks.entry.items ts
         → IfRefused result (MayNotBeDone (so_far work.old) (tasks_steps call.now ts (plain_trees (so_far work.old)))) }
 {
@@ -151,7 +150,7 @@ fn place_named(
 pub fn changed(alloc: Global, work: &mut Work, request: Request<'_>) -> Result<(), Refusal>
     requires { IsFresh work.old }
     ensures done { OnOk result (IsDone (so_far work.old) (request_steps (project (so_far work.old)) (request_view request.entry)) work.new) }
-    ensures restores { (first : Trees) → Restores work.old first → Restores work.new first }
+    ensures restores { (first : Loaded) → Restores work.old first → Restores work.new first }
     ensures refused { IfRefused result (MayNotBeDone (so_far work.old) (request_steps (project (so_far work.old)) (request_view request.entry))) }
 {
     let trees = work.trees.as_slice();

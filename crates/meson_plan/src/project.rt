@@ -3,10 +3,9 @@
 ghost use Rattle.std.specs.Prelude.{◌≡◌, ◌≢◌, Some, Ok, Err, IfErr, IfOk, IsTrue, OnErr, OnOk};
 ghost use Rattle.meson_splice.specs.Patch.{patched_all};
 ghost use Rattle.meson_layout.specs.Laws.{AreTexts};
-ghost use Rattle.meson_calls.specs.Loading.{IsProject, MayNotLoad, project};
+ghost use Rattle.meson_calls.specs.Loading.{IsProject, Loaded, MayNotLoad, project};
 ghost use Rattle.meson_calls.specs.NotedProjects.{IsNoted, loaded_in};
 ghost use Rattle.meson_calls.specs.Notes.{note_views, notes, taken_view};
-ghost use Rattle.meson_steps.specs.Journal.{Trees};
 ghost use Rattle.meson_steps.specs.Done.{IsDone, MayNotBeDone};
 ghost use Rattle.meson_steps.specs.Working.{IsFresh, Restores, so_far};
 ghost use Rattle.meson_plan.specs.Performing.{KeepsUntouched, MayRefuse, Performs};
@@ -36,7 +35,7 @@ use meson_calls::variables::Variables;
 use meson_calls::{CallRef, Refusal, Role, Sources, Unloaded};
 use meson_keywords::changing::changed;
 use meson_sources::extras::extra_files_of;
-use meson_splice::{Change, FileSet, Many, Text};
+use meson_splice::{Change, FileSet, Many, Text, put_bytes_back};
 use meson_steps::command::{Command, Done};
 use meson_steps::journal::put_back;
 use meson_steps::work::{Work, done};
@@ -296,15 +295,16 @@ impl Project {
         // Each tree is that of its file, whatever came of the command.
         ensures project { IsProject self.new }
     {
-        let files = self.files.clone()?;
+        let files = mem::replace(&mut self.files, FileSet::new(alloc));
         let trees = mem::replace(&mut self.trees, Vec::new(alloc));
         let mut work = Work::start(alloc, files, trees);
         let ended = performed(alloc, &mut work, command);
         let Work {
             splices,
-            files,
+            mut files,
             mut trees,
             saved,
+            saved_bytes,
             relexed,
         } = work;
         match ended {
@@ -317,7 +317,9 @@ impl Project {
                 })
             }
             Err(refusal) => {
+                put_bytes_back(&mut files, saved_bytes);
                 put_back(&mut trees, saved);
+                self.files = files;
                 self.trees = trees;
                 Err(refusal)
             }
@@ -332,7 +334,7 @@ impl Project {
 fn performed(alloc: Global, work: &mut Work, command: &Command) -> Result<(), Refusal>
     requires { IsFresh work.old }
     ensures done { OnOk result (IsDone (so_far work.old) (planned (project (so_far work.old)) command.now) work.new) }
-    ensures restores { (first : Trees) → Restores work.old first → Restores work.new first }
+    ensures restores { (first : Loaded) → Restores work.old first → Restores work.new first }
     ensures refused { IfErr result (λ e. e ≢ Refusal.OutOfMemory
         → MayNotBeDone (so_far work.old) (planned (project (so_far work.old)) command.now) e) }
 {

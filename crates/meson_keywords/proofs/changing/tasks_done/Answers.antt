@@ -45,6 +45,9 @@ loop-task-preserved c = record {
   restores = λ first r. c.in_ok-do_task.ensures.restores first (c.loop-task.invariant.restores first r);
 }
 
+pub returns-in_err-do_task-clause-restores : goal.returns-in_err-do_task-clause-restores
+returns-in_err-do_task-clause-restores c = λ first r. c.in_err-do_task.ensures.restores first (c.loop-task.invariant.restores first r)
+
 pub returns-in_err-do_task-clause-refused : goal.returns-in_err-do_task-clause-refused
 returns-in_err-do_task-clause-refused c = λ ts are.
     let error = err_from_is_err_and c.from_residual.result c.from_residual.ensures.1 in

@@ -11,7 +11,7 @@ use Rattle.meson_plan.proofs.project.Project.perform.Goals as goal
 pub returns-in-Err-clause-refused : goal.returns-in-Err-clause-refused
 returns-in-Err-clause-refused c = λ other.
     let loaded : _ → _ → Loaded = λ files trees. record { files = files; parsed = trees } in
-    let is = c.start-work.ensures.is ∙ ap₂ loaded c.in_ok-files.ensures.cases (ap (λ v. v.items) c.replace-trees.ensures.value) ∙ c.self.view_is in
+    let is = c.start-work.ensures.is ∙ ap₂ loaded c.replace-files.ensures.value (ap (λ v. v.items) c.replace-trees.ensures.value) ∙ c.self.view_is in
     let k = c.args.command.now in
     let e = c.in-Err.refusal in
     subst (λ l. MayRefuse l k e) is (may_refuse (so_far c.start-work.result) k e (c.in-Err.ensures.refused other))
@@ -19,7 +19,7 @@ returns-in-Err-clause-refused c = λ other.
 pub returns-in-Ok-clause-done : goal.returns-in-Ok-clause-done
 returns-in-Ok-clause-done c =
     let loaded : _ → _ → Loaded = λ files trees. record { files = files; parsed = trees } in
-    let is = c.start-work.ensures.is ∙ ap₂ loaded c.in_ok-files.ensures.cases (ap (λ v. v.items) c.replace-trees.ensures.value) ∙ c.self.view_is in
+    let is = c.start-work.ensures.is ∙ ap₂ loaded c.replace-files.ensures.value (ap (λ v. v.items) c.replace-trees.ensures.value) ∙ c.self.view_is in
     let k = c.args.command.now in
     let work = c.performed-ended.new.work in
     let done : Done = record { change = c.untitled.result; relexed = work.relexed } in
@@ -36,4 +36,4 @@ pub returns-in-Ok-clause-texts : goal.returns-in-Ok-clause-texts
 returns-in-Ok-clause-texts c = performs-text _ _ _ _ (returns-in-Ok-clause-done c)
 
 pub put_back-requires : goal.put_back-requires
-put_back-requires c = (c.performed-ended.ensures.restores c.replace-trees.result.items c.start-work.ensures.restores).may
+put_back-requires c = (c.performed-ended.ensures.restores _ c.start-work.ensures.restores).trees.may
