@@ -1,6 +1,6 @@
 //! A list of a tree that steps change, one after another.
 
-ghost use Rattle.std.specs.Prelude.{◌<◌, ◌≡◌, IfErr, IfOk, List, OnOk, Some, length, true};
+ghost use Rattle.std.specs.Prelude.{◌<◌, ◌≡◌, IfErr, IfOk, OnOk, Some, length, true};
 ghost use Rattle.meson_splice.specs.Saved.{bytes_put_back};
 ghost use Rattle.meson_syntax.specs.declared.tree.Parsed.{Parsed};
 ghost use Rattle.meson_calls.specs.Loading.{Loaded};
