@@ -46,4 +46,13 @@ pub mod CallLists
 pub mod FirstValue
 mod PartsContained
 mod PartsOrdered
+pub mod Spelled
+pub mod ExpressionNotes
+pub mod NoteTurns
+mod SpelledLiterals
+mod StandingParts
+mod StandingNotes
+mod NothingRead
+mod NoteReadings
+pub mod NotesWith
 mod NoSubdirs

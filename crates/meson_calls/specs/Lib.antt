@@ -29,3 +29,4 @@ pub mod OnePlace
 pub mod CallPlaces
 pub mod Messages
 pub mod AllParts
+pub mod Spelling

@@ -31,6 +31,7 @@ pub mod refusal;
 pub mod roles;
 pub mod setters;
 pub mod sourcing;
+pub mod spelling;
 pub mod sums;
 pub mod taken;
 pub mod values;

@@ -1,10 +1,10 @@
-//! A project with the notes of its trees.
+//! A project with notes of its trees.
 
 use crate::note::Note;
 use meson_splice::FileSet;
 use meson_syntax::Parsed;
 
-/// The files of a project, the tree of each, and the notes of all of them.
+/// The files of a project, the tree of each, and notes of them: those that a command looks at.
 #[derive(Clone, Copy)]
 pub struct Noted<'p> {
     pub files: &'p FileSet,

@@ -27,7 +27,7 @@ impl<'t> Variables<'t> {
     ghost use Rattle.meson_calls.specs.Values.{value_in, value_view};
     ghost use Rattle.meson_calls.specs.Variables.{single};
     ghost use Rattle.meson_calls.specs.CodeVariables.{AreVariables, project_of};
-    ghost use Rattle.meson_calls.specs.NotedProjects.{IsNoted};
+    ghost use Rattle.meson_calls.specs.NotedProjects.{IsNotedForVariables};
 
     /// The values by the notes of files: none where a call may set any variable.
     fn known_values(
@@ -53,7 +53,7 @@ impl<'t> Variables<'t> {
     /// # Errors
     /// Memory was refused.
     pub fn of(alloc: Global, noted: &Noted<'t>) -> Result<Variables<'t>, AllocError>
-        requires { IsNoted noted.now }
+        requires { IsNotedForVariables noted.now }
         ensures holds { IfOk result AreVariables }
         ensures files { IfOk result (λ v. v.files.now ≡ noted.now.files.now) }
         ensures trees { IfOk result (λ v. v.trees.now ≡ noted.now.trees.now) }

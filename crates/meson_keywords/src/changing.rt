@@ -26,7 +26,7 @@ use crate::request::Request;
 use crate::tasks::{Task, tasks_of};
 use meson_calls::arguments::count_named;
 use meson_calls::finding::{list_of_call, the_call};
-use meson_calls::notes::notes_of;
+use meson_calls::notes::notes_for;
 use meson_calls::{CallRef, Refusal, Role};
 use meson_splice::FileSet;
 use meson_steps::step::ListStep;
@@ -137,7 +137,7 @@ fn place_named(
     ensures found { IfOk result (λ c. the_place role id.now (notes (named_trees files.now (views files.now trees.now))) ≡ Ok c) }
     ensures refused { IfRefused result (λ e. the_place role id.now (notes (named_trees files.now (views files.now trees.now))) ≡ Err e) }
 {
-    let taken = notes_of(alloc, files, trees)?;
+    let taken = notes_for(alloc, role, id, files, trees)?;
     let notes = taken.all(alloc)?;
     the_call(alloc, role, id, notes.as_slice())
 }

@@ -14,7 +14,7 @@ use Rattle.meson_steps.specs.declared.step.ListStep.{ListStep}
 use Rattle.meson_calls.specs.Calls.{Call}
 use Rattle.meson_steps.specs.ListSteps as doable
 use Rattle.meson_calls.specs.Loading.{Loaded}
-use Rattle.meson_calls.specs.NotedProjects.{IsNoted, project_in}
+use Rattle.meson_calls.specs.NotedProjects.{IsNotedFor, project_in}
 use Rattle.meson_calls.specs.Notes.{note_views}
 use Rattle.meson_calls.specs.OnePlace.{the_place}
 use Rattle.meson_steps.specs.ResultLimits.{plain_trees}
@@ -25,9 +25,9 @@ use Rattle.meson_calls.specs.CallPlaces.{CallIn}
 use Rattle.meson_steps.specs.Steps.{Step}
 use Rattle.meson_calls.proofs.NotedCalls.{call_in, one_is, the_one}
 
-module _ (n : Noted) (is : IsNoted n) (r : Role) (id : List ℕ) (place : CallRef) (found : the_place r id (note_views n.notes.now) ≡ Ok place) where
+module _ (n : Noted) (r : Role) (id : List ℕ) (is : IsNotedFor r id n) (place : CallRef) (found : the_place r id (note_views n.notes.now) ≡ Ok place) where
   pub function : List ℕ
-  function = (the_one n is r id place found).it.function
+  function = (the_one n r id is place found).it.function
 
   -- what is told of its arguments in the code is told of it
   pub told_is : {Y : Type 0} (told : Call Span → Result Y Refusal) (source : List ℕ) (l : rust.List) → source ≡ bytes_at place.file n.files.now
@@ -35,7 +35,7 @@ module _ (n : Noted) (is : IsNoted n) (r : Role) (id : List ℕ) (place : CallRe
       → then_ok (the_call (project_in n) r id) (λ c. told c.it) ≡ told (call_with function (list_view source l))
   unfolding function
   told_is told source l same lists =
-      ap (λ o. then_ok o (λ c. told c.it)) (one_is n is r id place found) ∙ ap (λ m. told (call_with function m)) (sym (lists (call_in n is r id place found)))
+      ap (λ o. then_ok o (λ c. told c.it)) (one_is n r id is place found) ∙ ap (λ m. told (call_with function m)) (sym (lists (call_in n r id is place found)))
       ∙ ap (λ s. told (call_with function (list_view s l))) (sym same)
 
 -- no steps

@@ -12,7 +12,7 @@ use Rattle.meson_calls.specs.declared.noted.Noted.{Noted}
 use Rattle.meson_calls.specs.Calls.{Call, call_of}
 use Rattle.meson_calls.specs.Finding.{the_call}
 use Rattle.meson_calls.specs.Loading.{Loaded, project}
-use Rattle.meson_calls.specs.NotedProjects.{IsNoted, loaded_in, project_in}
+use Rattle.meson_calls.specs.NotedProjects.{IsNotedFor, loaded_in, project_in}
 use Rattle.meson_calls.specs.Notes.{note_views}
 use Rattle.meson_calls.specs.OnePlace.{the_place}
 use Rattle.meson_calls.specs.Picking.{call_with}
@@ -40,8 +40,8 @@ placed_same (Ok c) = refl
 placed_same (Err e) = refl
 
 -- the one that an id names, looked up in notes
-pub place_there : (n : Noted) → IsNoted n → (l : Loaded) → loaded_in n ≡ l → (r : Role) (id : List ℕ) → the_place r id (note_views n.notes.now) ≡ place_found (the_call (project l) r id)
-place_there n is l same r id = sym (same_place n is r id) ∙ placed_same (the_call (project_in n) r id) ∙ ap (λ k. place_found (the_call (project k) r id)) same
+pub place_there : (n : Noted) (r : Role) (id : List ℕ) → IsNotedFor r id n → (l : Loaded) → loaded_in n ≡ l → the_place r id (note_views n.notes.now) ≡ place_found (the_call (project l) r id)
+place_there n r id is l same = sym (same_place n r id is) ∙ placed_same (the_call (project_in n) r id) ∙ ap (λ k. place_found (the_call (project k) r id)) same
 
 module _ (c : CallRef) (s : Span) (f : Name Span) (l : Listing Span) where
   pub extra_there : (p : Project Span) → expression_at p c ≡ Some (call s f l) → extra_files p c ≡ Some (extra_of_call p (placed c (call_with f.text l)))

@@ -1,4 +1,7 @@
 -- What an order means: its steps, or why it is refused.
+use Rattle.std.specs.Prelude.{ℕ, List}
+use Rattle.meson_calls.specs.declared.call.Role.{Role}
+use Rattle.meson_calls.specs.declared.call.Role.TheVariants as role
 use Rattle.meson_calls.specs.Project.{Project}
 use Rattle.meson_lex.specs.declared.kinds.Span.{Span}
 use Rattle.meson_steps.specs.Done.{Meaning}
@@ -12,6 +15,14 @@ use Rattle.meson_plan.specs.declared.order.Order.TheVariants as order
 use Rattle.meson_plan.specs.declared.order.Plan.{Plan}
 use Rattle.meson_plan.specs.declared.order.Plan.TheVariants as plan
 use Rattle.meson_plan.specs.Planning.{call_info, target_info}
+
+-- the role and the name or variable of the call that is looked for
+abbrev pub sought : Plan → Role × List ℕ
+sought (plan.OnTarget target change names) = (role.Target, target.now)
+sought (plan.AddTarget new) = (role.Target, new.name.now)
+sought (plan.RemoveTarget target) = (role.Target, target.now)
+sought (plan.AskTarget target) = (role.Target, target.now)
+sought (plan.AskCall r id) = (r, id.now)
 
 abbrev pub plan_steps : Project Span → Plan → Meaning
 plan_steps p (plan.OnTarget target change names) = target_steps p target.now change names.now

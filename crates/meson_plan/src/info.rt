@@ -2,7 +2,7 @@
 
 ghost use Rattle.std.specs.Prelude.{◌≡◌, ◌≢◌, [], Err, IfErr, IfOk, Ok, option_map};
 ghost use Rattle.meson_syntax.specs.View.{arg_view, list_view};
-ghost use Rattle.meson_calls.specs.NotedProjects.{IsNoted, loaded_in, project_in};
+ghost use Rattle.meson_calls.specs.NotedProjects.{IsNotedFor, loaded_in, project_in};
 ghost use Rattle.meson_calls.specs.Picking.{Source, call_with};
 ghost use Rattle.meson_plan.specs.Planning.{call_info, call_told, key_told, name_in, target_info, target_told};
 ghost use Rattle.meson_steps.specs.Plans.{ArePlanned};
@@ -106,7 +106,7 @@ pub(crate) fn target_info(
     noted: &Noted<'_>,
     target: &str,
 ) -> Result<Vec<ListStep>, Refusal>
-    requires { IsNoted noted.now }
+    requires { IsNotedFor Role.Target target.now noted.now }
     ensures plan { IfOk result (λ steps. ArePlanned (loaded_in noted.now) (target_info (project_in noted.now) target.now) steps.items) }
     ensures refused { IfErr result (λ e. e ≢ Refusal.OutOfMemory → target_info (project_in noted.now) target.now ≡ Err e) }
 {
@@ -126,7 +126,7 @@ pub(crate) fn call_info(
     role: Role,
     id: &str,
 ) -> Result<Vec<ListStep>, Refusal>
-    requires { IsNoted noted.now }
+    requires { IsNotedFor role id.now noted.now }
     ensures plan { IfOk result (λ steps. ArePlanned (loaded_in noted.now) (call_info (project_in noted.now) role id.now) steps.items) }
     ensures refused { IfErr result (λ e. e ≢ Refusal.OutOfMemory → call_info (project_in noted.now) role id.now ≡ Err e) }
 {

@@ -5,7 +5,7 @@ ghost use Rattle.meson_lex.specs.declared.kinds.Span as lex;
 ghost use Rattle.meson_calls.specs.Project.{Project};
 ghost use Rattle.meson_keywords.specs.Changing.{request_steps};
 ghost use Rattle.meson_keywords.specs.Tasking.{asked};
-ghost use Rattle.meson_plan.specs.Orders.{order_steps};
+ghost use Rattle.meson_plan.specs.Orders.{order_steps, sought};
 ghost use Rattle.meson_plan.specs.Planning.{planned};
 ghost use Rattle.meson_sources.specs.Targeted.{target_steps};
 
@@ -30,6 +30,21 @@ pub(crate) enum Plan<'c> {
     AskTarget(&'c str),
     /// Nothing: a call is asked for.
     AskCall(Role, &'c str),
+}
+
+impl<'c> Plan<'c> {
+    /// The call that is looked for: its role, and what names it.
+    pub(crate) fn sought(self) -> (Role, &'c str)
+        ensures { (result.0 ≡ (sought self.entry).0) × (result.1.now ≡ (sought self.entry).1) }
+    {
+        match self {
+            Plan::OnTarget(target, _, _) => (Role::Target, target.get()),
+            Plan::AddTarget(new) => (Role::Target, new.name.get()),
+            Plan::RemoveTarget(target) => (Role::Target, target),
+            Plan::AskTarget(target) => (Role::Target, target),
+            Plan::AskCall(role, id) => (role, id),
+        }
+    }
 }
 
 /// What a command orders.

@@ -3,15 +3,15 @@
 ghost use Rattle.std.specs.Prelude.{◌≡◌, ◌≢◌, Err, IfErr, IfOk};
 ghost use Rattle.meson_calls.specs.declared.refusal.Refusal.TheVariants.{OutOfMemory};
 ghost use Rattle.meson_calls.specs.Loading.{IsProject, loaded_from, project};
-ghost use Rattle.meson_calls.specs.NotedProjects.{IsNoted, loaded_in, project_in};
-ghost use Rattle.meson_plan.specs.Orders.{plan_steps};
+ghost use Rattle.meson_calls.specs.NotedProjects.{IsNotedFor, loaded_in, project_in};
+ghost use Rattle.meson_plan.specs.Orders.{plan_steps, sought};
 ghost use Rattle.meson_steps.specs.Plans.{ArePlanned};
 
 use crate::info::{call_info, target_info};
 use crate::order::Plan;
 use meson_calls::Refusal;
 use meson_calls::noted::Noted;
-use meson_calls::notes::notes_of;
+use meson_calls::notes::notes_for;
 use meson_sources::targeting::on_target;
 use meson_splice::FileSet;
 use meson_steps::step::ListStep;
@@ -35,7 +35,8 @@ pub(crate) fn planned(
         IfOk result (λ steps. ArePlanned old (plan_steps (project old) plan.entry) steps.items) }
     ensures refused { IfErr result (λ e. e ≢ OutOfMemory → plan_steps (project (loaded_from files.now trees.now)) plan.entry ≡ Err e) }
 {
-    let taken = notes_of(alloc, files, trees)?;
+    let (role, id) = plan.sought();
+    let taken = notes_for(alloc, role, id, files, trees)?;
     let notes = taken.all(alloc)?;
     let noted = Noted {
         files,
@@ -45,12 +46,12 @@ pub(crate) fn planned(
     steps_of(alloc, &noted, plan)
 }
 
-/// The same for a project with its notes.
+/// The same for a project with the notes by which the call is found.
 ///
 /// # Errors
 /// Why it is refused, or want of memory.
 fn steps_of(alloc: Global, noted: &Noted<'_>, plan: Plan<'_>) -> Result<Vec<ListStep>, Refusal>
-    requires { IsNoted noted.now }
+    requires { IsNotedFor (sought plan).0 (sought plan).1 noted.now }
     ensures plan { IfOk result (λ steps. ArePlanned (loaded_in noted.now) (plan_steps (project_in noted.now) plan.entry) steps.items) }
     ensures refused { IfErr result (λ e. e ≢ OutOfMemory → plan_steps (project_in noted.now) plan.entry ≡ Err e) }
 {

@@ -1,11 +1,12 @@
 //! A project: its files, and the tree of each.
 
-ghost use Rattle.std.specs.Prelude.{◌≡◌, ◌≢◌, Some, Ok, Err, IfErr, IfOk, IsTrue, OnErr, OnOk};
+ghost use Rattle.std.specs.Prelude.{◌≡◌, ◌≢◌, ◌++◌, List, ℕ, Some, Ok, Err, IfErr, IfOk, IsTrue, OnErr, OnOk};
 ghost use Rattle.meson_splice.specs.Patch.{patched_all};
 ghost use Rattle.meson_layout.specs.Laws.{AreTexts};
 ghost use Rattle.meson_calls.specs.Loading.{IsProject, Loaded, MayNotLoad, project};
 ghost use Rattle.meson_calls.specs.NotedProjects.{IsNoted, loaded_in};
-ghost use Rattle.meson_calls.specs.Notes.{note_views, notes, taken_view};
+ghost use Rattle.meson_calls.specs.Notes.{note_views, taken_view};
+ghost use Rattle.meson_calls.specs.Spelling.{AreNotesWith, setter_words, words_of};
 ghost use Rattle.meson_steps.specs.Done.{IsDone, MayNotBeDone};
 ghost use Rattle.meson_steps.specs.Working.{IsFresh, Restores, so_far};
 ghost use Rattle.meson_plan.specs.Performing.{KeepsUntouched, MayRefuse, Performs};
@@ -28,7 +29,7 @@ use meson_calls::looking::is_target;
 use meson_calls::naming::found;
 use meson_calls::note::Note;
 use meson_calls::noted::Noted;
-use meson_calls::notes::notes_of;
+use meson_calls::notes::{notes_for, notes_of, setter_notes};
 use meson_calls::picking::with_role;
 use meson_calls::taken::Taken;
 use meson_calls::variables::Variables;
@@ -128,17 +129,25 @@ impl Project {
         Ok(Project { files, trees })
     }
 
-    /// The notes of its trees.
-    fn taken(&self, alloc: Global) -> Result<Taken<'_>, AllocError>
-        ensures { IfOk result (λ found. taken_view found ≡ notes (project self.now)) }
+    /// The notes by which variables stand for something.
+    fn setter_notes(&self, alloc: Global) -> Result<Taken<'_>, AllocError>
+        ensures { IfOk result (λ found. AreNotesWith setter_words 0 self.now.files self.now.parsed (taken_view found)) }
     {
-        notes_of(alloc, &self.files, self.trees.as_slice())
+        setter_notes(alloc, &self.files, self.trees.as_slice())
     }
 
-    /// The same project with its notes.
+    /// Those, and the notes by which an id is found.
+    fn notes_for(&self, alloc: Global, role: Role, id: &str) -> Result<Taken<'_>, AllocError>
+        ensures { let words = words_of role id.now ++ setter_words in
+            IfOk result (λ found. AreNotesWith words 0 self.now.files self.now.parsed (taken_view found)) }
+    {
+        notes_for(alloc, role, id, &self.files, self.trees.as_slice())
+    }
+
+    /// The same project with notes of it.
     fn noted<'p>(&'p self, all: &'p [Note<'p>]) -> Noted<'p>
-        requires { note_views all.now ≡ notes (project self.now) }
-        ensures noted { IsNoted result }
+        ensures noted { (words : List (List ℕ)) → AreNotesWith (words ++ setter_words) 0 self.entry.now.files self.entry.now.parsed (note_views all.entry.now)
+            → IsNoted words result }
         ensures same { loaded_in result ≡ self.entry.now }
     {
         Noted {
@@ -153,7 +162,7 @@ impl Project {
         ensures all { IfOk result (λ calls. calls.items ≡ targets (project self.now)) }
         ensures refused { IfErr result (λ e. e ≡ Refusal.OutOfMemory) }
     {
-        let taken = self.taken(alloc)?;
+        let taken = notes_of(alloc, &self.files, self.trees.as_slice())?;
         let notes = taken.all(alloc)?;
         let calls = with_role(alloc, Role::Target, notes.as_slice())?;
         Ok(calls)
@@ -164,7 +173,7 @@ impl Project {
         ensures all { IfOk result (λ calls. calls.items ≡ places (found (project self.now) role id.now)) }
         ensures refused { IfErr result (λ e. e ≡ Refusal.OutOfMemory) }
     {
-        let taken = self.taken(alloc)?;
+        let taken = self.notes_for(alloc, role, id)?;
         let notes = taken.all(alloc)?;
         let noted = self.noted(notes.as_slice());
         let calls = found(alloc, role, id, noted.notes)?;
@@ -179,7 +188,7 @@ impl Project {
         ensures found { IfOk result (λ c. place_found (the_call (project self.now) role id.now) ≡ Ok c) }
         ensures refused { IfErr result (λ e. e ≢ Refusal.OutOfMemory → place_found (the_call (project self.now) role id.now) ≡ Err e) }
     {
-        let taken = self.taken(alloc)?;
+        let taken = self.notes_for(alloc, role, id)?;
         let notes = taken.all(alloc)?;
         let noted = self.noted(notes.as_slice());
         the_call(alloc, role, id, noted.notes)
@@ -201,7 +210,7 @@ impl Project {
         ensures found { IfOk result (λ s. sources (project self.now) call.now ≡ Some (Ok s)) }
         ensures refused { IfErr result (λ e. e ≢ Refusal.OutOfMemory → sources (project self.now) call.now ≡ Some (Err e)) }
     {
-        let taken = self.taken(alloc)?;
+        let taken = self.setter_notes(alloc)?;
         let notes = taken.all(alloc)?;
         let noted = self.noted(notes.as_slice());
         let variables = Variables::of(alloc, &noted)?;
@@ -217,7 +226,7 @@ impl Project {
         ensures found { IfOk result (λ s. extra_files (project self.now) call.now ≡ Some (Ok s)) }
         ensures refused { IfErr result (λ e. e ≢ Refusal.OutOfMemory → extra_files (project self.now) call.now ≡ Some (Err e)) }
     {
-        let taken = self.taken(alloc)?;
+        let taken = self.setter_notes(alloc)?;
         let notes = taken.all(alloc)?;
         let noted = self.noted(notes.as_slice());
         let variables = Variables::of(alloc, &noted)?;
@@ -233,7 +242,7 @@ impl Project {
         ensures told { IfOk result (λ told. (target_place (project self.now) id.now ≡ Ok told.place) × AreDetails (project self.now) told.place told) }
         ensures refused { IfErr result (λ e. e ≢ Refusal.OutOfMemory → NoTarget (project self.now) id.now e) }
     {
-        let taken = self.taken(alloc)?;
+        let taken = self.notes_for(alloc, Role::Target, id)?;
         let notes = taken.all(alloc)?;
         let noted = self.noted(notes.as_slice());
         let place = the_call(alloc, Role::Target, id, noted.notes)?;

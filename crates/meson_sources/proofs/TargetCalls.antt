@@ -23,7 +23,7 @@ use Rattle.meson_calls.specs.CallPlaces.{CallIn}
 use Rattle.meson_calls.specs.Calls.{Call, call_of}
 use Rattle.meson_calls.specs.GoodLists.{GoodListing}
 use Rattle.meson_calls.specs.CodeVariables.{project_of}
-use Rattle.meson_calls.specs.NotedProjects.{IsNoted, project_in}
+use Rattle.meson_calls.specs.NotedProjects.{IsNotedFor, project_in}
 use Rattle.meson_calls.specs.Notes.{note_views}
 use Rattle.meson_calls.specs.OnePlace.{the_place}
 use Rattle.meson_calls.specs.Picking.{call_with}
@@ -44,7 +44,7 @@ some_tree : (trees : List Parsed) (i : ℕ) → i < length trees → Parsed
 some_tree [] i within = absurd (omega (arith, within))
 some_tree (t ∷ trees) i within = t
 
-module _ (n : Noted) (is : IsNoted n) (id : List ℕ) (place : CallRef) (found : the_place role.Target id (note_views n.notes.now) ≡ Ok place) where
+module _ (n : Noted) (id : List ℕ) (is : IsNotedFor role.Target id n) (place : CallRef) (found : the_place role.Target id (note_views n.notes.now) ≡ Ok place) where
   abbrev files : List File
   files = n.files.now
 
@@ -54,18 +54,18 @@ module _ (n : Noted) (is : IsNoted n) (id : List ℕ) (place : CallRef) (found :
   abbrev bytes : List ℕ
   bytes = bytes_at place.file files
 
-  stands : CallAt (project_in n) (the_one n is role.Target id place found)
-  stands = (role_found (project_in n) role.Target id (the_one n is role.Target id place found) (one_is n is role.Target id place found)).at
+  stands : CallAt (project_in n) (the_one n role.Target id is place found)
+  stands = (role_found (project_in n) role.Target id (the_one n role.Target id is place found) (one_is n role.Target id is place found)).at
 
   at_place : expression_at (project_in n) place ≡ Some stands.value
-  at_place = subst (λ k. expression_at (project_in n) k ≡ Some stands.value) (one_at n is role.Target id place found) stands.is_at
+  at_place = subst (λ k. expression_at (project_in n) k ≡ Some stands.value) (one_at n role.Target id is place found) stands.is_at
 
   pub function : List ℕ
-  function = (the_one n is role.Target id place found).it.function
+  function = (the_one n role.Target id is place found).it.function
 
   module _ (a : rust.List) (lists : (c : CallIn trees place) → list_view (bytes_at place.file c.files) a ≡ c.call.it.arguments) where
-    same_list : (the_one n is role.Target id place found).it.arguments ≡ list_view bytes a
-    same_list = sym (lists (call_in n is role.Target id place found))
+    same_list : (the_one n role.Target id is place found).it.arguments ≡ list_view bytes a
+    same_list = sym (lists (call_in n role.Target id is place found))
 
     is_list : Some (list_view bytes a) ≡ option_map (λ (k : Call Span). k.arguments) (call_of stands.value)
     is_list = sym (ap (option_map (λ (k : Call Span). k.arguments)) stands.is_call ∙ ap Some same_list)
@@ -73,13 +73,13 @@ module _ (n : Noted) (is : IsNoted n) (id : List ℕ) (place : CallRef) (found :
     good_list : (d : Parsed) → GoodListing (list_view bytes a)
     good_list d =
         let many = trees_as_many n is in
-        let within = call_within n is role.Target id place found in
+        let within = call_within n role.Target id is place found in
         let there = sym (ap (option_and_then (λ (g : BuildFile Span). paths.expression_on_path g.tree place.path.steps)) (nth_there files trees place.file d many within)) ∙ at_place in
         listing_good files trees place d many within stands.value (list_view bytes a) is.whole.parsed (sym there) is_list
 
     -- its arguments are good
     pub arguments_good : (source : List ℕ) → source ≡ bytes → GoodListing (list_view source a)
-    arguments_good source same = subst (λ s. GoodListing (list_view s a)) (sym same) (good_list (some_tree trees place.file (call_within n is role.Target id place found)))
+    arguments_good source same = subst (λ s. GoodListing (list_view s a)) (sym same) (good_list (some_tree trees place.file (call_within n role.Target id is place found)))
 
     -- the steps that are meant are those of the code's call
     pub steps_are : (v : Variables) → v.files.now ≡ files → v.trees.now ≡ trees → (change : Change) (names : List (List ℕ)) (source : List ℕ) → source ≡ bytes
@@ -87,13 +87,13 @@ module _ (n : Noted) (is : IsNoted n) (id : List ℕ) (place : CallRef) (found :
     unfolding function
     steps_are v fs ts change names source is_source =
         let p = project_in n in
-        let same = ap₂ (λ k m. placed k (call_with function m)) (one_at n is role.Target id place found) same_list in
+        let same = ap₂ (λ k m. placed k (call_with function m)) (one_at n role.Target id is place found) same_list in
         ap₂ (λ o b. change_steps o change names (placed place (call_with function (list_view b a)))) (same_project v n fs ts) is_source
-        ∙ sym (ap (λ r. then_ok r (change_steps p change names)) (one_is n is role.Target id place found) ∙ ap (change_steps p change names) same)
+        ∙ sym (ap (λ r. then_ok r (change_steps p change names)) (one_is n role.Target id is place found) ∙ ap (change_steps p change names) same)
 
     pub as_many_there : (v : Variables) → v.files.now ≡ files → v.trees.now ≡ trees → length (rust.out-List a).items ≡ length (elements_there (project_of v) place)
     as_many_there v fs ts =
-        let arguments = (the_one n is role.Target id place found).it in
+        let arguments = (the_one n role.Target id is place found).it in
         sym (length-map (rust.out-List a).items (arg_view bytes)) ∙ sym (ap length (list_elements bytes a))
         ∙ sym (ap (λ o. length (elements_there o place)) (same_project v n fs ts) ∙ ap (λ o. length (elements_of (option_and_then list_in o))) at_place
         ∙ ap length (call_elements stands.value arguments stands.is_call) ∙ ap (λ m. length (elements m)) same_list)

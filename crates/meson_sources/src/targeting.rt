@@ -3,7 +3,7 @@
 ghost use Rattle.std.specs.Prelude.{◌≡◌, ◌≢◌, All, Err, IfErr, IfOk};
 ghost use Rattle.std.specs.Str.{IsUtf8};
 ghost use Rattle.meson_calls.specs.declared.refusal.Refusal.TheVariants.{OutOfMemory};
-ghost use Rattle.meson_calls.specs.NotedProjects.{IsNoted, loaded_in, project_in};
+ghost use Rattle.meson_calls.specs.NotedProjects.{IsNotedFor, loaded_in, project_in};
 ghost use Rattle.meson_steps.specs.Plans.{ArePlanned};
 ghost use Rattle.meson_sources.specs.Targeted.{target_steps};
 ghost use Rattle.meson_steps.specs.Meanings.{AreMeant};
@@ -38,7 +38,7 @@ fn target_steps(
     change: Change,
     names: &[Text],
 ) -> Result<Vec<ListStep>, Refusal>
-    requires { IsNoted noted.now }
+    requires { IsNotedFor Role.Target target.now noted.now }
     ensures meant { IfOk result (λ steps. AreMeant (target_steps (project_in noted.now) target.now change names.now) steps.items) }
     ensures refused { IfErr result (λ e. e ≢ Refusal.OutOfMemory → target_steps (project_in noted.now) target.now change names.now ≡ Err e) }
     ensures utf8 { IfOk result (λ steps. All IsUtf8 names.now) }
@@ -66,7 +66,7 @@ pub fn on_target(
     change: Change,
     names: &Many<Text>,
 ) -> Result<Vec<ListStep>, Refusal>
-    requires { IsNoted noted.now }
+    requires { IsNotedFor Role.Target target.now noted.now }
     ensures plan { IfOk result (λ steps.
         ArePlanned (loaded_in noted.now) (target_steps (project_in noted.now) target.now change names.now) steps.items) }
     ensures refused { IfErr result (λ e. e ≢ OutOfMemory → target_steps (project_in noted.now) target.now change names.now ≡ Err e) }

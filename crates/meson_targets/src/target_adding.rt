@@ -2,7 +2,8 @@
 
 ghost use Rattle.std.specs.Prelude.{◌≡◌, ◌≢◌, ◌∷◌, [], All, Err, IfErr, IfOk, Ok, map};
 ghost use Rattle.std.specs.Str.{IsUtf8};
-ghost use Rattle.meson_calls.specs.NotedProjects.{IsNoted, project_in};
+ghost use Rattle.meson_calls.specs.Loading.{IsProject};
+ghost use Rattle.meson_calls.specs.NotedProjects.{IsNotedFor, loaded_in, project_in};
 ghost use Rattle.meson_calls.specs.Project.{place};
 ghost use Rattle.meson_steps.specs.Names.{checked_names};
 ghost use Rattle.meson_targets.specs.TargetEdits.{checked_kind, is_target_kind, not_taken, number_in, targets_named, written_target};
@@ -57,7 +58,7 @@ fn checked_kind(alloc: Global, kind: &Text) -> Result<(), Refusal>
 /// # Errors
 /// A target has the name, or memory is refused.
 fn not_taken(alloc: Global, noted: &Noted<'_>, name: &str) -> Result<(), Refusal>
-    requires { IsNoted noted.now }
+    requires { IsNotedFor Role.Target name.now noted.now }
     ensures checked { IfOk result (λ u. not_taken (targets_named (project_in noted.now) name.now) ≡ Ok tt) }
     ensures refused { IfErr result (λ e. e ≢ Refusal.OutOfMemory → not_taken (targets_named (project_in noted.now) name.now) ≡ Err e) }
 {
@@ -73,7 +74,7 @@ fn not_taken(alloc: Global, noted: &Noted<'_>, name: &str) -> Result<(), Refusal
 /// # Errors
 /// There is no such file, or memory is refused.
 fn number_in(alloc: Global, noted: &Noted<'_>, folder: &str) -> Result<usize, Refusal>
-    requires { IsNoted noted.now }
+    requires { IsProject (loaded_in noted.now) }
     ensures found { IfOk result (λ n. number_in (project_in noted.now) folder.now ≡ Ok n) }
     ensures refused { IfErr result (λ e. e ≢ Refusal.OutOfMemory → number_in (project_in noted.now) folder.now ≡ Err e) }
 {
@@ -137,7 +138,7 @@ pub fn target_added(
     noted: &Noted<'_>,
     new: NewTarget<'_>,
 ) -> Result<Vec<ListStep>, Refusal>
-    requires { IsNoted noted.now }
+    requires { IsNotedFor Role.Target new.name.now noted.now }
     ensures meant { IfOk result (λ steps. AreMeant (new_target (project_in noted.now) new.entry) steps.items) }
     ensures refused { IfErr result (λ e. e ≢ Refusal.OutOfMemory → new_target (project_in noted.now) new.entry ≡ Err e) }
     ensures utf8 { IfOk result (λ steps. All IsUtf8 (new.entry.name.now ∷ new.entry.sources.now)) }

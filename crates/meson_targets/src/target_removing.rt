@@ -1,7 +1,8 @@
 //! The steps by which a target is taken out, with its whole statement.
 
 ghost use Rattle.std.specs.Prelude.{◌≡◌, ◌≢◌, ◌∷◌, [], Err, IfErr, IfOk, Ok};
-ghost use Rattle.meson_calls.specs.NotedProjects.{IsNoted, project_in};
+ghost use Rattle.meson_calls.specs.Loading.{IsProject};
+ghost use Rattle.meson_calls.specs.NotedProjects.{IsNotedFor, loaded_in, project_in};
 ghost use Rattle.meson_steps.specs.Meanings.{AreMeant};
 ghost use Rattle.meson_targets.specs.TargetEdits.{named_removed, not_in_use, removed_at};
 ghost use Rattle.meson_targets.specs.TargetViews.{IsNamed, held_view, place_view};
@@ -26,7 +27,7 @@ fn not_in_use(
     line: &StatementPlace,
     held: Held<'_>,
 ) -> Result<(), Refusal>
-    requires project { IsNoted noted.now }
+    requires project { IsProject (loaded_in noted.now) }
     requires named { IsNamed held }
     ensures checked { IfOk result (λ u. not_in_use (project_in noted.now) (place_view line.now) (held_view held.entry) ≡ Ok tt) }
     ensures refused { IfErr result (λ e. e ≢ Refusal.OutOfMemory
@@ -60,7 +61,7 @@ fn statement_removed(alloc: Global, line: StatementPlace) -> Result<Vec<ListStep
 /// # Errors
 /// The call is no statement and no assigned value, its variable is used elsewhere, or memory is refused.
 fn call_removed(alloc: Global, noted: &Noted<'_>, call: &CallRef) -> Result<Vec<ListStep>, Refusal>
-    requires { IsNoted noted.now }
+    requires { IsProject (loaded_in noted.now) }
     ensures meant { IfOk result (λ steps. AreMeant (removed_at (project_in noted.now) call.now) steps.items) }
     ensures refused { IfErr result (λ e. e ≢ Refusal.OutOfMemory → removed_at (project_in noted.now) call.now ≡ Err e) }
 {
@@ -81,7 +82,7 @@ pub fn target_removed(
     noted: &Noted<'_>,
     target: &str,
 ) -> Result<Vec<ListStep>, Refusal>
-    requires { IsNoted noted.now }
+    requires { IsNotedFor Role.Target target.now noted.now }
     ensures meant { IfOk result (λ steps. AreMeant (named_removed (project_in noted.now) target.now) steps.items) }
     ensures refused { IfErr result (λ e. e ≢ Refusal.OutOfMemory → named_removed (project_in noted.now) target.now ≡ Err e) }
 {

@@ -4,7 +4,8 @@ ghost use Rattle.std.specs.Prelude.{◌≡◌, ◌++◌, ◌∷◌, [], IfOk};
 ghost use Rattle.meson_syntax.specs.Grammar.{listing_words};
 ghost use Rattle.meson_syntax.specs.View.{list_view, text_at};
 ghost use Rattle.meson_syntax.specs.declared.operator.Bracket.TheVariants as bracket;
-ghost use Rattle.meson_calls.specs.NotedProjects.{IsNoted, project_in};
+ghost use Rattle.meson_calls.specs.Loading.{IsProject};
+ghost use Rattle.meson_calls.specs.NotedProjects.{loaded_in, project_in};
 ghost use Rattle.meson_calls.specs.Notes.{note_view, note_views};
 ghost use Rattle.meson_calls.specs.Parts.{parts};
 ghost use Rattle.meson_calls.specs.Picking.{call_with};
@@ -20,6 +21,7 @@ use meson_calls::keeper::Keeper;
 use meson_calls::literals::first_literal;
 use meson_calls::note::{Note, What};
 use meson_calls::noted::Noted;
+use meson_calls::notes::notes_of;
 use meson_calls::roles::text_of;
 use meson_calls::setters::one_of;
 use meson_calls::walk_statements::walk_files;
@@ -142,7 +144,7 @@ fn reads_of<'t>(
     noted: &Noted<'t>,
     name: &'t [u8],
 ) -> Result<Vec<CallRef>, AllocError>
-    requires { IsNoted noted.now }
+    requires { IsProject (loaded_in noted.now) }
     ensures { IfOk result (λ found. found.items ≡ read_in name.now (parts (project_in noted.now))) }
 {
     let mut keeper = Keeper::Reads {
@@ -163,10 +165,12 @@ pub(crate) fn is_used_outside(
     line: &StatementPlace,
     name: &[u8],
 ) -> Result<bool, AllocError>
-    requires { IsNoted noted.now }
+    requires { IsProject (loaded_in noted.now) }
     ensures { IfOk result (λ used. used ≡ is_used_outside (project_in noted.now) (place_view line.now) name.now) }
 {
-    if is_noted_outside(alloc, noted.notes, line, name)? {
+    let taken = notes_of(alloc, noted.files, noted.trees)?;
+    let notes = taken.all(alloc)?;
+    if is_noted_outside(alloc, notes.as_slice(), line, name)? {
         return Ok(true);
     }
     let places = reads_of(alloc, noted, name)?;

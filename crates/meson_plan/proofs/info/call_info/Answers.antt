@@ -15,25 +15,25 @@ pub returns-in_err-call-clause-refused : goal.returns-in_err-call-clause-refused
 returns-in_err-call-clause-refused c =
     let error = err_from_is_err_and c.from_residual.result c.from_residual.ensures.1 in
     rw (error.1, error.2) (λ other.
-    let why = none_noted c.args.noted.now c.requires c.args.role c.args.id.now c.in_err-call.field-0.0 (c.in_err-call.ensures.refused other) in
+    let why = none_noted c.args.noted.now c.args.role c.args.id.now c.requires c.in_err-call.field-0.0 (c.in_err-call.ensures.refused other) in
     ap (λ r. then_ok r (λ k. call_told c.args.role k.it)) why)
 
 pub bytes-source-requires : goal.bytes-source-requires
-bytes-source-requires c = call_file c.args.noted.now c.requires c.args.role c.args.id.now c.in_ok-call.call c.in_ok-call.ensures.found
+bytes-source-requires c = call_file c.args.noted.now c.args.role c.args.id.now c.requires c.in_ok-call.call c.in_ok-call.ensures.found
 
 pub list_of_call-requires : goal.list_of_call-requires
-list_of_call-requires c = call_in c.args.noted.now c.requires c.args.role c.args.id.now c.in_ok-call.call c.in_ok-call.ensures.found
+list_of_call-requires c = call_in c.args.noted.now c.args.role c.args.id.now c.requires c.in_ok-call.call c.in_ok-call.ensures.found
 
 pub returns-clause-plan : goal.returns-clause-plan
 returns-clause-plan c =
     let n = c.args.noted.now in
-    let is = told_is n c.requires c.args.role c.args.id.now c.in_ok-call.call c.in_ok-call.ensures.found (call_told c.args.role) c.bytes-source.result.now c.list_of_call.result.now c.bytes-source.ensures c.list_of_call.ensures in
-    nothing_planned (loaded_in n) (call_info (project_in n) c.args.role c.args.id.now) c.new.result.items (is ∙ c.in_ok-call_told.ensures.told (function n c.requires c.args.role c.args.id.now c.in_ok-call.call c.in_ok-call.ensures.found)) c.new.ensures.items
+    let is = told_is n c.args.role c.args.id.now c.requires c.in_ok-call.call c.in_ok-call.ensures.found (call_told c.args.role) c.bytes-source.result.now c.list_of_call.result.now c.bytes-source.ensures c.list_of_call.ensures in
+    nothing_planned (loaded_in n) (call_info (project_in n) c.args.role c.args.id.now) c.new.result.items (is ∙ c.in_ok-call_told.ensures.told (function n c.args.role c.args.id.now c.requires c.in_ok-call.call c.in_ok-call.ensures.found)) c.new.ensures.items
 
 pub returns-in_err-call_told-clause-refused : goal.returns-in_err-call_told-clause-refused
 returns-in_err-call_told-clause-refused c =
     let error = err_from_is_err_and c.from_residual-in_err-call_told.result c.from_residual-in_err-call_told.ensures.1 in
     rw (error.1, error.2) (λ other.
     let n = c.args.noted.now in
-    let is = told_is n c.requires c.args.role c.args.id.now c.in_ok-call.call c.in_ok-call.ensures.found (call_told c.args.role) c.bytes-source.result.now c.list_of_call.result.now c.bytes-source.ensures c.list_of_call.ensures in
-    is ∙ c.in_err-call_told.ensures.refused (function n c.requires c.args.role c.args.id.now c.in_ok-call.call c.in_ok-call.ensures.found) other)
+    let is = told_is n c.args.role c.args.id.now c.requires c.in_ok-call.call c.in_ok-call.ensures.found (call_told c.args.role) c.bytes-source.result.now c.list_of_call.result.now c.bytes-source.ensures c.list_of_call.ensures in
+    is ∙ c.in_err-call_told.ensures.refused (function n c.args.role c.args.id.now c.requires c.in_ok-call.call c.in_ok-call.ensures.found) other)

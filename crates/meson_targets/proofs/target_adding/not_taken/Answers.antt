@@ -2,9 +2,11 @@ use Rattle.std.proofs.Common.{sym, ap, ◌∙◌}
 use Rattle.std.proofs.lemmas.Bool.{eqb-true, eqb-false}
 use Rattle.meson_calls.specs.declared.call.Role.TheVariants as role
 use Rattle.meson_calls.specs.NotedProjects.{project_in}
-use Rattle.meson_calls.specs.Picking.{note_has_name, places_that}
+use Rattle.meson_calls.specs.Notes.{note_views}
+use Rattle.meson_calls.specs.Spelling.{setter_words}
 use Rattle.meson_targets.specs.TargetEdits.{targets_named}
 use Rattle.meson_calls.proofs.NotedCalls.{noted_good}
+use Rattle.meson_calls.proofs.NotesWith.{same_named}
 use Rattle.meson_targets.proofs.NewTargets.{is_taken, is_free}
 use Rattle.meson_calls.proofs.Picked.{name_places}
 use Rattle.meson_targets.proofs.target_adding.not_taken.Goals as goal
@@ -14,14 +16,16 @@ with_name-requires c = noted_good c.args.noted.now c.requires
 
 pub returns-then-not-is_empty-clause-refused : goal.returns-then-not-is_empty-clause-refused
 returns-then-not-is_empty-clause-refused c = λ other.
-    let p = project_in c.args.noted.now in
+    let n = c.args.noted.now in
+    let p = project_in n in
     let name = c.args.name.now in
-    let are = c.in_ok-targets.ensures ∙ ap (places_that (note_has_name role.Target name)) c.requires.taken ∙ name_places role.Target name p in
+    let are = c.in_ok-targets.ensures ∙ same_named role.Target name setter_words n.files.now n.trees.now (note_views n.notes.now) c.requires.whole.parsed c.requires.taken ∙ name_places role.Target name p in
     is_taken (targets_named p name) c.as_slice.result.now (c.as_slice.ensures.value ∙ are) (eqb-false _ _ (sym c.is_empty.ensures ∙ c.if-not-is_empty.true))
 
 pub returns-clause-checked : goal.returns-clause-checked
 returns-clause-checked c =
-    let p = project_in c.args.noted.now in
+    let n = c.args.noted.now in
+    let p = project_in n in
     let name = c.args.name.now in
-    let are = c.in_ok-targets.ensures ∙ ap (places_that (note_has_name role.Target name)) c.requires.taken ∙ name_places role.Target name p in
+    let are = c.in_ok-targets.ensures ∙ same_named role.Target name setter_words n.files.now n.trees.now (note_views n.notes.now) c.requires.whole.parsed c.requires.taken ∙ name_places role.Target name p in
     is_free (targets_named p name) c.as_slice.result.now (c.as_slice.ensures.value ∙ are) (eqb-true _ _ (sym c.is_empty.ensures ∙ c.if-not-is_empty.false))

@@ -2,28 +2,28 @@ use Rattle.std.proofs.Common.{Some, None, sym, ap, ◌∙◌}
 use Rattle.std.specs.Prelude.{option_map, string_bytes}
 use Rattle.std.proofs.lemmas.Bool.{eqb-true, eqb-false}
 use Rattle.meson_splice.specs.Files.{position_of_file}
-use Rattle.meson_calls.proofs.NotedCalls.{trees_as_many}
+use Rattle.meson_calls.proofs.Loads.{as_many}
 use Rattle.meson_targets.proofs.NewTargets.{root_number, folder_number}
 use Rattle.meson_targets.proofs.target_adding.number_in.Goals as goal
 
 pub returns-in-Some-clause-found : goal.returns-in-Some-clause-found
 returns-in-Some-clause-found c =
     let n = c.args.noted.now in
-    root_number n.files.now n.trees.now (trees_as_many n c.requires) c.args.folder.now (eqb-true _ _ (sym c.is_empty.ensures ∙ c.if-is_empty.true)) (Some c.in-Some.number) c.in-Some.ensures
+    root_number n.files.now n.trees.now (as_many n.files.now n.trees.now c.requires.parsed) c.args.folder.now (eqb-true _ _ (sym c.is_empty.ensures ∙ c.if-is_empty.true)) (Some c.in-Some.number) c.in-Some.ensures
 
 pub returns-in-None-clause-refused : goal.returns-in-None-clause-refused
 returns-in-None-clause-refused c = λ other.
     let n = c.args.noted.now in
-    root_number n.files.now n.trees.now (trees_as_many n c.requires) c.args.folder.now (eqb-true _ _ (sym c.is_empty.ensures ∙ c.if-is_empty.true)) None c.in-None.ensures
+    root_number n.files.now n.trees.now (as_many n.files.now n.trees.now c.requires.parsed) c.args.folder.now (eqb-true _ _ (sym c.is_empty.ensures ∙ c.if-is_empty.true)) None c.in-None.ensures
 
 pub returns-in-Some-find-clause-found : goal.returns-in-Some-find-clause-found
 returns-in-Some-find-clause-found c =
     let n = c.args.noted.now in
-    folder_number n.files.now n.trees.now (trees_as_many n c.requires) c.args.folder.now (eqb-false _ _ (sym c.is_empty.ensures ∙ c.if-is_empty.false)) (string_bytes c.in-Some-2.name)
+    folder_number n.files.now n.trees.now (as_many n.files.now n.trees.now c.requires.parsed) c.args.folder.now (eqb-false _ _ (sym c.is_empty.ensures ∙ c.if-is_empty.false)) (string_bytes c.in-Some-2.name)
     (sym c.in_ok-name.ensures ∙ ap (option_map string_bytes) c.in-Some-2.is) (Some c.in-Some-find.number) (c.in-Some-find.ensures ∙ ap (λ x. position_of_file x n.files.now) c.as_str.ensures.value)
 
 pub returns-clause-refused : goal.returns-clause-refused
 returns-clause-refused c = λ other.
     let n = c.args.noted.now in
-    folder_number n.files.now n.trees.now (trees_as_many n c.requires) c.args.folder.now (eqb-false _ _ (sym c.is_empty.ensures ∙ c.if-is_empty.false)) (string_bytes c.in-Some-2.name)
+    folder_number n.files.now n.trees.now (as_many n.files.now n.trees.now c.requires.parsed) c.args.folder.now (eqb-false _ _ (sym c.is_empty.ensures ∙ c.if-is_empty.false)) (string_bytes c.in-Some-2.name)
     (sym c.in_ok-name.ensures ∙ ap (option_map string_bytes) c.in-Some-2.is) None (c.in-None-find.ensures ∙ ap (λ x. position_of_file x n.files.now) c.as_str.ensures.value)

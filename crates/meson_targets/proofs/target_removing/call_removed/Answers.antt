@@ -15,7 +15,7 @@ pub not_in_use-requires-clause-named : goal.not_in_use-requires-clause-named
 not_in_use-requires-clause-named c =
     let n = c.args.noted.now in
     let is_held = ap (option_map holder_view) (sym c.in-Some.is) ∙ c.in_ok-holder.ensures in
-    holder_named n.files.now n.trees.now c.requires.whole.parsed c.args.call.now c.in-Some.holder is_held
+    holder_named n.files.now n.trees.now c.requires.parsed c.args.call.now c.in-Some.holder is_held
 
 pub returns-clause-meant : goal.returns-clause-meant
 returns-clause-meant c =

@@ -18,14 +18,14 @@ pub returns-clause-meant : goal.returns-clause-meant
 returns-clause-meant c =
     let n = c.args.noted.now in
     let id = c.args.target.now in
-    let same = named_at (project_in n) id c.in_ok-call.call (same_place n c.requires role.Target id ∙ c.in_ok-call.ensures.found) in
+    let same = named_at (project_in n) id c.in_ok-call.call (same_place n role.Target id c.requires ∙ c.in_ok-call.ensures.found) in
     subst (λ m. IfOk c.call_removed.result (λ steps. AreMeant m steps.items)) same c.call_removed.ensures.meant
 
 pub returns-clause-refused : goal.returns-clause-refused
 returns-clause-refused c =
     let n = c.args.noted.now in
     let id = c.args.target.now in
-    let same = named_at (project_in n) id c.in_ok-call.call (same_place n c.requires role.Target id ∙ c.in_ok-call.ensures.found) in
+    let same = named_at (project_in n) id c.in_ok-call.call (same_place n role.Target id c.requires ∙ c.in_ok-call.ensures.found) in
     subst (λ m. IfErr c.call_removed.result (λ e. e ≢ OutOfMemory → m ≡ Err e)) same c.call_removed.ensures.refused
 
 pub returns-in_err-call-clause-refused : goal.returns-in_err-call-clause-refused
@@ -33,5 +33,5 @@ returns-in_err-call-clause-refused c =
     let error = err_from_is_err_and c.from_residual.result c.from_residual.ensures.1 in
     rw (error.1, error.2) (λ other.
     let n = c.args.noted.now in
-    let why = none_noted n c.requires role.Target c.args.target.now c.in_err-call.field-0.0 (c.in_err-call.ensures.refused other) in
+    let why = none_noted n role.Target c.args.target.now c.requires c.in_err-call.field-0.0 (c.in_err-call.ensures.refused other) in
     ap (λ r. then_ok r (λ k. target_removed (project_in n) k)) why)

@@ -1,25 +1,28 @@
 use Rattle.std.proofs.Common.{◌∙◌, sym, ap}
 use Rattle.meson_targets.specs.TargetViews.{place_view}
 use Rattle.meson_calls.specs.NotedProjects.{project_in}
+use Rattle.meson_calls.specs.Notes.{note_views}
 use Rattle.meson_targets.specs.Uses.{is_noted_outside, is_read_outside}
-use Rattle.meson_calls.proofs.NotedCalls.{noted_good}
+use Rattle.meson_calls.proofs.GoodNotes.{taken_good}
 use Rattle.meson_targets.proofs.UsesFound.{when_noted, when_not_noted}
 use Rattle.meson_targets.proofs.uses.is_used_outside.Goals as goal
 
 pub is_noted_outside-requires : goal.is_noted_outside-requires
-is_noted_outside-requires c = noted_good c.args.noted.now c.requires
+is_noted_outside-requires c = 
+    let n = c.args.noted.now in
+    taken_good n.files.now n.trees.now c.requires.parsed _ (ap note_views c.as_slice.ensures.value ∙ c.in_ok-notes.ensures ∙ c.in_ok-taken.ensures)
 
 pub returns-then-branch : goal.returns-then-branch
 returns-then-branch c =
     let line = place_view c.args.line.now in
     let name = c.args.name.now in
     when_noted line name (project_in c.args.noted.now)
-    (ap (is_noted_outside line name) (sym c.requires.taken) ∙ sym c.in_ok-is_noted_outside.ensures ∙ c.if-branch.true)
+    (ap (is_noted_outside line name) (sym (ap note_views c.as_slice.ensures.value ∙ c.in_ok-notes.ensures ∙ c.in_ok-taken.ensures)) ∙ sym c.in_ok-is_noted_outside.ensures ∙ c.if-branch.true)
 
 pub returns : goal.returns
 returns c =
     let line = place_view c.args.line.now in
     let name = c.args.name.now in
-    c.is_read_outside.ensures ∙ ap (is_read_outside line) (c.as_slice.ensures.value ∙ c.in_ok-places.ensures)
+    c.is_read_outside.ensures ∙ ap (is_read_outside line) (c.as_slice-2.ensures.value ∙ c.in_ok-places.ensures)
     ∙ when_not_noted line name (project_in c.args.noted.now)
-    (ap (is_noted_outside line name) (sym c.requires.taken) ∙ sym c.in_ok-is_noted_outside.ensures ∙ c.if-branch.false)
+    (ap (is_noted_outside line name) (sym (ap note_views c.as_slice.ensures.value ∙ c.in_ok-notes.ensures ∙ c.in_ok-taken.ensures)) ∙ sym c.in_ok-is_noted_outside.ensures ∙ c.if-branch.false)

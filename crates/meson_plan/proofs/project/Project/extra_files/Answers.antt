@@ -1,4 +1,4 @@
-use Rattle.std.proofs.Common.{◌≡◌, ◌≢◌, Some, ◌∙◌, ap, subst}
+use Rattle.std.proofs.Common.{◌≡◌, ◌≢◌, Some, ◌∙◌, ap, subst, [], ◌++◌, sym}
 use Rattle.std.specs.Prelude.{Ok, Err, IfOk, IfErr}
 use Rattle.meson_syntax.specs.View.{list_view, name_at, text_at}
 use Rattle.meson_calls.specs.declared.refusal.Refusal.TheVariants.{OutOfMemory}
@@ -9,11 +9,19 @@ use Rattle.meson_calls.specs.Project.{placed}
 use Rattle.meson_sources.specs.Extras.{extra_files, extra_of_call}
 use Rattle.meson_calls.proofs.NotedCalls.{same_parsed, same_project}
 use Rattle.meson_plan.proofs.DetailsThere.{extra_there, found_there, refused_there}
+use Rattle.meson_calls.specs.Notes.{note_views}
+use Rattle.meson_calls.specs.Spelling.{AreNotesWith, setter_words}
 use Rattle.meson_plan.proofs.project.Project.extra_files.Goals as goal
+
+pub of-requires : goal.of-requires
+of-requires c = ([],
+    c.noted-noted.ensures.noted ([])
+    (subst (AreNotesWith ([] ++ setter_words) 0 c.args.self.now.files c.args.self.now.parsed) (sym (ap note_views c.as_slice.ensures.value ∙ c.in_ok-notes.ensures)) c.in_ok-taken.ensures))
 
 pub call_at-called-requires-clause-parsed : goal.call_at-called-requires-clause-parsed
 call_at-called-requires-clause-parsed c =
-    same_parsed c.in_ok-variables.variables c.noted-noted.result c.in_ok-variables.ensures.files c.in_ok-variables.ensures.trees c.noted-noted.ensures.noted.whole.parsed
+    same_parsed c.in_ok-variables.variables c.noted-noted.result c.in_ok-variables.ensures.files c.in_ok-variables.ensures.trees (c.noted-noted.ensures.noted ([])
+    (subst (AreNotesWith ([] ++ setter_words) 0 c.args.self.now.files c.args.self.now.parsed) (sym (ap note_views c.as_slice.ensures.value ∙ c.in_ok-notes.ensures)) c.in_ok-taken.ensures)).whole.parsed
 
 pub returns-clause-found : goal.returns-clause-found
 returns-clause-found c =

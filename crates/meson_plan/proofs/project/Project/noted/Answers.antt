@@ -1,15 +1,17 @@
-use Rattle.std.proofs.Common.{◌∙◌, sym, ap, subst}
-use Rattle.meson_calls.specs.Loading.{IsProject, loaded_from, project}
-use Rattle.meson_calls.specs.Notes.{notes}
+use Rattle.std.proofs.Common.{◌++◌, ◌∙◌, sym, ap, subst}
+use Rattle.meson_calls.specs.Loading.{IsProject, Loaded, loaded_from}
+use Rattle.meson_calls.specs.Notes.{note_views}
+use Rattle.meson_calls.specs.Spelling.{AreNotesWith, setter_words}
 use Rattle.meson_plan.proofs.project.Project.noted.Goals as goal
 
 pub returns-clause-noted : goal.returns-clause-noted
-returns-clause-noted c =
+returns-clause-noted c = λ words are.
     let files = c.self.inside.files in
     let here = sym c.as_slice.ensures.value in
     record {
       whole = subst (λ ts. IsProject (loaded_from files ts)) here c.self.invariant;
-      taken = c.requires ∙ sym (ap (λ l. notes (project l)) c.self.view_is) ∙ ap (λ ts. notes (project (loaded_from files ts))) here;
+      taken = subst (λ (l : Loaded). AreNotesWith (words ++ setter_words) 0 l.files l.parsed (note_views c.args.all.now))
+          (sym c.self.view_is ∙ ap (loaded_from files) here) are;
     }
 
 pub returns-clause-same : goal.returns-clause-same

@@ -1,0 +1,104 @@
+-- Readings of notes: the calls of files in which none of some words stands may be missing, where these tell nothing.
+use Rattle.std.proofs.Common.{◌≡◌, ℕ, ◌+◌, List, [], ◌∷◌, ◌++◌, Bool, false, Option, None, refl, sym, ap, ◌∙◌}
+use Rattle.std.specs.Prelude.{◌||◌, map, filter, if◌then◌else◌}
+use Rattle.std.specs.List.{cons_option, filter_map, list_any}
+use Rattle.std.proofs.lemmas.List.{map-append}
+use Rattle.std.proofs.lemmas.List.Elements.{filter-append, filter_map-append}
+use Rattle.std.proofs.lemmas.List.Folds.{list_any-append}
+use Rattle.meson_lex.specs.declared.kinds.Span.{Span}
+use Rattle.meson_splice.specs.declared.file_set.File.{File}
+use Rattle.meson_syntax.specs.declared.tree.Parsed.{Parsed}
+use Rattle.meson_syntax.specs.Reads.{IsSpanned}
+use Rattle.meson_syntax.specs.View.{view}
+use Rattle.meson_calls.specs.declared.call.CallRef.{CallRef}
+use Rattle.meson_calls.specs.Calls.{Call, chosen}
+use Rattle.meson_calls.specs.Loading.{AreParsed, named_trees, views}
+use Rattle.meson_calls.specs.Notes.{Note, a_call, an_assignment, a_loop, note_of, noted, without_calls}
+use Rattle.meson_calls.specs.Parts.{Part, file_parts, parts_from}
+use Rattle.meson_calls.specs.Project.{Placed, placed}
+use Rattle.meson_calls.specs.Spelling.{HasNoneOf, AreNotesOf, whole, less, AreNotesWith}
+use Rattle.meson_calls.proofs.StandingNotes.{CallStands, NoteStands, NotesStand, notes_stand}
+
+abbrev pub Notes : Type 0
+Notes = List (Placed (Note Span))
+
+-- the notes of files, of which the first has the number n
+abbrev pub notes_from : ℕ → List File → List Parsed → Notes
+notes_from n files parsed = noted (parts_from n (named_trees files (views files parsed)))
+
+noted_append : (xs ys : List (Placed (Part Span))) → noted (xs ++ ys) ≡ noted xs ++ noted ys
+noted_append xs ys = filter_map-append (chosen note_of) xs ys
+
+pub notes_after : (n : ℕ) (f : File) (t : Parsed) (files : List File) (parsed : List Parsed) → notes_from n (f ∷ files) (t ∷ parsed) ≡ noted (file_parts n (view f.bytes t)) ++ notes_from (n + 1) files parsed
+notes_after n f t files parsed = noted_append (file_parts n (view f.bytes t)) (parts_from (n + 1) (named_trees files (views files parsed)))
+
+-- ---- readings
+
+-- a reading of notes that goes through them one by one
+pub record Gathers {X : Type 0} (read : Notes → X) (join : X → X → X) (nothing : X) : Type 0 where
+  pub none : read [] ≡ nothing
+  pub joins : (xs ys : Notes) → read (xs ++ ys) ≡ join (read xs) (read ys)
+  pub unit : (x : X) → join nothing x ≡ x
+
+-- it reads nothing off a call whose words stand in bytes that have none of some words
+abbrev pub ReadsNothing : {X : Type 0} → List (List ℕ) → (Notes → X) → X → Type 0
+ReadsNothing words read nothing = (bytes : List ℕ) → HasNoneOf words bytes → (p : CallRef) (c : Call Span) → CallStands bytes c → read (placed p (a_call c) ∷ []) ≡ nothing
+
+module _ {X : Type 0} (words : List (List ℕ)) (read : Notes → X) (join : X → X → X) (nothing : X) (gathers : Gathers read join nothing) (alone : ReadsNothing words read nothing) where
+  one_less : (bytes : List ℕ) → HasNoneOf words bytes → (p : CallRef) (m : Note Span) (ns : Notes) → NoteStands bytes m → read (without_calls ns) ≡ read ns → read (without_calls (placed p m ∷ ns)) ≡ read (placed p m ∷ ns)
+  one_less bytes none p (a_call c) ns stands rest =
+      rest ∙ sym (gathers.joins (placed p (a_call c) ∷ []) ns ∙ ap (λ x. join x (read ns)) (alone bytes none p c stands) ∙ gathers.unit (read ns))
+  one_less bytes none p (an_assignment y sets e) ns stands rest =
+      let here = placed p (an_assignment y sets e) ∷ [] in
+      gathers.joins here (without_calls ns) ∙ ap (join (read here)) rest ∙ sym (gathers.joins here ns)
+  one_less bytes none p (a_loop xs) ns stands rest =
+      let here = placed p (a_loop xs) ∷ [] in
+      gathers.joins here (without_calls ns) ∙ ap (join (read here)) rest ∙ sym (gathers.joins here ns)
+
+  all_less : (bytes : List ℕ) → HasNoneOf words bytes → (ns : Notes) → NotesStand bytes ns → read (without_calls ns) ≡ read ns
+  all_less bytes none [] stand = refl
+  all_less bytes none (n ∷ ns) stand = one_less bytes none n.place n.it ns stand.0 (all_less bytes none ns stand.1)
+
+  read_step : (n : ℕ) (f : File) (t : Parsed) (Further : Notes → Type 0) (ns rest : Notes) → IsSpanned f.bytes (view f.bytes t)
+      → ((more : Notes) → Further more → read more ≡ read rest) → AreNotesOf words n f t Further ns → read ns ≡ join (read (noted (file_parts n (view f.bytes t)))) (read rest)
+  read_step n f t Further ns rest spanned same (whole more further is) =
+      let here = noted (file_parts n (view f.bytes t)) in
+      ap read is ∙ gathers.joins here more ∙ ap (join (read here)) (same more further)
+  read_step n f t Further ns rest spanned same (less more none further is) =
+      let here = noted (file_parts n (view f.bytes t)) in
+      ap read is ∙ gathers.joins (without_calls here) more
+      ∙ ap (λ x. join x (read more)) (all_less f.bytes none here (notes_stand n f.bytes (view f.bytes t) spanned)) ∙ ap (join (read here)) (same more further)
+
+  pub same_read : (n : ℕ) (files : List File) (parsed : List Parsed) (ns : Notes) → AreParsed files parsed → AreNotesWith words n files parsed ns → read ns ≡ read (notes_from n files parsed)
+  same_read n [] [] ns parses are = ap read are
+  same_read n [] (t ∷ parsed) ns parses are = absurd parses
+  same_read n (f ∷ files) [] ns parses are = absurd parses
+  same_read n (f ∷ files) (t ∷ parsed) ns parses are =
+      let here = noted (file_parts n (view f.bytes t)) in
+      let rest = notes_from (n + 1) files parsed in
+      read_step n f t (AreNotesWith words (n + 1) files parsed) ns rest parses.0 (λ more further. same_read (n + 1) files parsed more parses.1 further) are
+      ∙ sym (ap read (notes_after n f t files parsed) ∙ gathers.joins here rest)
+
+-- ---- three ways to read
+
+-- whether a note passes a test
+pub any_gathers : (test : Placed (Note Span) → Bool) → Gathers (list_any test) (λ a b. a || b) false
+any_gathers test = record { none = refl; joins = list_any-append test; unit = λ b. refl }
+
+pub none_passes : (test : Placed (Note Span) → Bool) (n : Placed (Note Span)) → test n ≡ false → list_any test (n ∷ []) ≡ false
+none_passes test n is = ap (λ b. b || false) is
+
+-- what is chosen of each note
+pub chosen_gathers : {Y : Type 0} (choose : Placed (Note Span) → Option Y) → Gathers (filter_map choose) (λ a b. a ++ b) []
+chosen_gathers choose = record { none = refl; joins = filter_map-append choose; unit = λ b. refl }
+
+pub none_chosen : {Y : Type 0} (choose : Placed (Note Span) → Option Y) (n : Placed (Note Span)) → choose n ≡ None → filter_map choose (n ∷ []) ≡ []
+none_chosen choose n is = ap (λ o. cons_option o []) is
+
+-- what those are mapped to that pass a test
+module _ {Y : Type 0} (to : Placed (Note Span) → Y) (test : Placed (Note Span) → Bool) where
+  pub picked_gathers : Gathers (λ ns. map to (filter test ns)) (λ a b. a ++ b) []
+  picked_gathers = record { none = refl; joins = λ xs ys. ap (map to) (filter-append test xs ys) ∙ map-append to (filter test xs) (filter test ys); unit = λ b. refl }
+
+  pub none_picked : (n : Placed (Note Span)) → test n ≡ false → map to (filter test (n ∷ [])) ≡ []
+  none_picked n is = ap (λ b. map to (if b then n ∷ [] else [])) is

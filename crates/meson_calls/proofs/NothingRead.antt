@@ -1,0 +1,54 @@
+-- A note whose words stand in bytes tells nothing of a word that stands nowhere in them.
+use Rattle.std.proofs.Common.{◌≡◌, ℕ, List, [], ◌∷◌, Bool, true, false, codes, Option, Some, None, refl, ap, ◌∙◌}
+use Rattle.std.specs.Prelude.{◌&&◌, ◌||◌, not, is_none}
+use Rattle.meson_lex.specs.declared.kinds.Span.{Span}
+use Rattle.meson_splice.specs.declared.file_set.File.{File}
+use Rattle.meson_syntax.specs.Operators.{string_kind}
+use Rattle.meson_calls.specs.declared.call.CallRef.{CallRef}
+use Rattle.meson_calls.specs.declared.call.Role.{Role}
+use Rattle.meson_calls.specs.declared.call.Role.TheVariants as role
+use Rattle.meson_calls.specs.Calls.{Call, first_literal, is}
+use Rattle.meson_calls.specs.Knowns.{enters_none, is_entered, is_unknown_in, meant_in}
+use Rattle.meson_calls.specs.Noted.{note_sets}
+use Rattle.meson_calls.specs.Notes.{Note, a_call, an_assignment, a_loop}
+use Rattle.meson_calls.specs.Picking.{note_has_name, note_has_role}
+use Rattle.meson_calls.specs.Roles.{has_role}
+use Rattle.meson_calls.specs.Spelling.{HasNone}
+use Rattle.meson_calls.proofs.Spelled.{IsPart, differs, differs_back}
+use Rattle.meson_calls.proofs.SpelledLiterals.{literal_part}
+use Rattle.meson_calls.proofs.StandingNotes.{CallStands, NoteStands}
+
+and_false : (b : Bool) → (b && false) ≡ false
+and_false true = refl
+and_false false = refl
+
+module _ (bytes : List ℕ) where
+  -- ---- what sets a variable
+
+  pub calls_set_none : (x : List ℕ) → HasNone (codes "set_variable") bytes → (c : Call Span) → CallStands bytes c → note_sets x (a_call c) ≡ false
+  calls_set_none x setter c stands = ap (λ b. b && is x (first_literal c)) (differs (codes "set_variable") bytes c.function setter stands.function)
+
+  pub unknown_none : (those : List File) → HasNone (codes "subdir") bytes → HasNone (codes "set_variable") bytes → (place : CallRef) (n : Note Span) → NoteStands bytes n → is_unknown_in those place n ≡ false
+  unknown_none those subdir setter place (a_call c) stands =
+      ap (λ b. (b && is_none (first_literal c)) || enters_none those place.file c) (differs (codes "set_variable") bytes c.function setter stands.function)
+      ∙ ap (λ b. b && not (is_entered those (meant_in those place.file (first_literal c)))) (differs (codes "subdir") bytes c.function subdir stands.function)
+  unknown_none those subdir setter place (an_assignment y sets e) stands = refl
+  unknown_none those subdir setter place (a_loop xs) stands = refl
+
+  -- ---- what an id names
+
+  is_another : (id : List ℕ) → HasNone id bytes → (o : Option (List ℕ)) → ((y : List ℕ) → o ≡ Some y → IsPart bytes y) → is id o ≡ false
+  is_another id none None part = refl
+  is_another id none (Some y) part = differs_back id bytes y none (part y refl)
+
+  pub names_nothing : (r : Role) (id : List ℕ) → HasNone id bytes → HasNone (92 ∷ []) bytes → (n : Note Span) → NoteStands bytes n → note_has_name r id n ≡ false
+  names_nothing r id none plain (a_call c) stands =
+      let part : (y : List ℕ) → first_literal c ≡ Some y → IsPart bytes y = λ y is. let v = stands.first y is in literal_part bytes plain v.place (string_kind v.kind) y v.is in
+      ap (λ b. has_role r c && b) (is_another id none (first_literal c) part) ∙ and_false (has_role r c)
+  names_nothing r id none plain (an_assignment y sets e) stands = refl
+  names_nothing r id none plain (a_loop xs) stands = refl
+
+  pub no_project : HasNone (codes "project") bytes → (n : Note Span) → NoteStands bytes n → note_has_role role.Project n ≡ false
+  no_project none (a_call c) stands = differs (codes "project") bytes c.function none stands.function
+  no_project none (an_assignment y sets e) stands = refl
+  no_project none (a_loop xs) stands = refl

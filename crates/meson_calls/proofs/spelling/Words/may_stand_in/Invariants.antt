@@ -1,0 +1,6 @@
+use Rattle.std.proofs.Common.{take}
+use Rattle.meson_calls.specs.Spelling.{HasNoneOf}
+use Rattle.meson_calls.proofs.spelling.Words.may_stand_in.Given as goal
+
+abbrev pub invariant-loop-i : goal.invariant-loop-i
+invariant-loop-i l = HasNoneOf (take l.i l.self.words.items) l.bytes
