@@ -7,7 +7,7 @@ use Rattle.meson_syntax.specs.Parts.{a_block, node_at}
 use Rattle.meson_syntax.specs.Paths.{block_of}
 use Rattle.meson_syntax.proofs.paths.Every.{Every, every-append}
 use Rattle.meson_calls.specs.Calls.{all_chosen}
-use Rattle.meson_calls.specs.Parts.{Part, parts_from, file_parts}
+use Rattle.meson_calls.specs.Parts.{Part, parts_from, parts_of_file}
 use Rattle.meson_calls.specs.Project.{Project, BuildFile, Placed, placed, nth_file}
 use Rattle.meson_calls.proofs.Reached.{any, Each, file_each}
 
@@ -43,4 +43,4 @@ other_files n f files (q ∷ qs) all =
 
 pub every_part : (n : ℕ) (p : Project Span) → Every (InProject n p) (parts_from n p)
 every_part n [] = tt
-every_part n (f ∷ files) = every-append (InProject n (f ∷ files)) (file_parts n f.tree) (parts_from (n + 1) files) (first_file n f files _ (file_each n f.tree)) (other_files n f files _ (every_part (n + 1) files))
+every_part n (f ∷ files) = every-append (InProject n (f ∷ files)) (parts_of_file n f.tree) (parts_from (n + 1) files) (first_file n f files _ (file_each n f.tree)) (other_files n f files _ (every_part (n + 1) files))

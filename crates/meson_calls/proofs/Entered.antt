@@ -8,7 +8,7 @@ use Rattle.meson_lex.specs.declared.kinds.Span.{Span}
 use Rattle.meson_syntax.specs.Tree.{File, evaluate, assign, selection, iteration, breaks, continues}
 use Rattle.meson_calls.specs.declared.note.Note as code
 use Rattle.meson_calls.specs.Project.{Placed, placed}
-use Rattle.meson_calls.specs.Parts.{Part, an_expression, a_statement, file_parts}
+use Rattle.meson_calls.specs.Parts.{Part, an_expression, a_statement, parts_of_file}
 use Rattle.meson_calls.specs.Calls.{Call, call_of, part_call, all_chosen, first_literal}
 use Rattle.meson_calls.specs.Folders.{parts_after, folder_parts, folder_of, build_file, in_folder, is_plain_folder, file_in, IsFileName}
 use Rattle.meson_calls.specs.Notes.{a_call, note_of, noted, note_view, note_views}
@@ -118,6 +118,6 @@ module _ (name : List ℕ) where
   entered_notes [] = refl
   entered_notes (q ∷ ps) = part_step q.it q.place ps (entered_notes ps)
 
-  pub entered_subdirs : (t : File Span) → entered_names name (noted (file_parts 0 t)) ≡ subdirs name t
+  pub entered_subdirs : (t : File Span) → entered_names name (noted (parts_of_file 0 t)) ≡ subdirs name t
   unfolding names_of
-  entered_subdirs t = ap (λ ps. entered_names name (noted ps)) (sym (append-nil (file_parts 0 t))) ∙ entered_notes (file_parts 0 t ++ [])
+  entered_subdirs t = ap (λ ps. entered_names name (noted ps)) (sym (append-nil (parts_of_file 0 t))) ∙ entered_notes (parts_of_file 0 t ++ [])

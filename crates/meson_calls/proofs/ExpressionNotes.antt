@@ -8,7 +8,7 @@ use Rattle.meson_syntax.proofs.paths.Every.{Every, every-append}
 use Rattle.meson_calls.specs.declared.call.CallRef.{CallRef}
 use Rattle.meson_calls.specs.Calls.{Call, call_of}
 use Rattle.meson_calls.specs.Notes.{Note, a_call, note_of, noted, without_calls}
-use Rattle.meson_calls.specs.Parts.{Part, an_expression, a_statement, expression_parts, operands_parts, tail_parts, tails_parts, listing_parts, argument_parts, arguments_parts, argument_child_count, tail_child_count}
+use Rattle.meson_calls.specs.Parts.{Part, an_expression, a_statement, parts_of_expression, parts_of_operands, parts_of_tail, parts_of_tails, parts_of_listing, parts_of_argument, parts_of_arguments, argument_child_count, tail_child_count}
 use Rattle.meson_calls.specs.Project.{Placed, child, placed}
 
 abbrev IsExpression : Part Span → Type 0
@@ -19,7 +19,7 @@ abbrev All : List (Placed (Part Span)) → Type 0
 All = Every (λ x. IsExpression x.it)
 
 mutual
-  in_expression : (c : CallRef) (e : Expression Span) → All (expression_parts c e)
+  in_expression : (c : CallRef) (e : Expression Span) → All (parts_of_expression c e)
   in_expression c (identifier s x) = (tt, tt)
   in_expression c (boolean s b) = (tt, tt)
   in_expression c (integer s x) = (tt, tt)
@@ -34,27 +34,27 @@ mutual
   in_expression c (conditional s e y n) =
       (tt, every-append _ _ _ (in_expression (child c 0) e) (every-append _ _ _ (in_expression (child c 1) y) (in_expression (child c 2) n)))
 
-  in_operands : (c : CallRef) (n : ℕ) (os : Operands Span) → All (operands_parts c n os)
+  in_operands : (c : CallRef) (n : ℕ) (os : Operands Span) → All (parts_of_operands c n os)
   in_operands c n no_operands = tt
   in_operands c n (operand o e more) = every-append _ _ _ (in_expression (child c n) e) (in_operands c (n + 1) more)
 
-  in_tail : (c : CallRef) (n : ℕ) (t : Tail Span) → All (tail_parts c n t)
+  in_tail : (c : CallRef) (n : ℕ) (t : Tail Span) → All (parts_of_tail c n t)
   in_tail c n (method s x l) = in_listing c n l
   in_tail c n (index s e) = in_expression (child c n) e
 
-  in_tails : (c : CallRef) (n : ℕ) (ts : Tails Span) → All (tails_parts c n ts)
+  in_tails : (c : CallRef) (n : ℕ) (ts : Tails Span) → All (parts_of_tails c n ts)
   in_tails c n no_tails = tt
   in_tails c n (tail t more) = every-append _ _ _ (in_tail c n t) (in_tails c (n + tail_child_count t) more)
 
-  in_listing : (c : CallRef) (n : ℕ) (l : Listing Span) → All (listing_parts c n l)
+  in_listing : (c : CallRef) (n : ℕ) (l : Listing Span) → All (parts_of_listing c n l)
   in_listing c n (listing s trailing list) = in_arguments c n list
 
-  in_argument : (c : CallRef) (n : ℕ) (a : Argument Span) → All (argument_parts c n a)
+  in_argument : (c : CallRef) (n : ℕ) (a : Argument Span) → All (parts_of_argument c n a)
   in_argument c n (plain e) = in_expression (child c n) e
   in_argument c n (named s x e) = in_expression (child c n) e
   in_argument c n (pair s e f) = every-append _ _ _ (in_expression (child c n) e) (in_expression (child c (n + 1)) f)
 
-  in_arguments : (c : CallRef) (n : ℕ) (list : Arguments Span) → All (arguments_parts c n list)
+  in_arguments : (c : CallRef) (n : ℕ) (list : Arguments Span) → All (parts_of_arguments c n list)
   in_arguments c n no_arguments = tt
   in_arguments c n (argument a more) = every-append _ _ _ (in_argument c n a) (in_arguments c (n + argument_child_count a) more)
 
@@ -70,5 +70,5 @@ without (q ∷ ps) all = by q.it all.0 ∙ without ps all.1
     by (an_expression e) is = calls_alone q.place (call_of e) (noted ps)
     by (a_statement s) is = absurd is
 
-pub no_statements : (p : CallRef) (e : Expression Span) → without_calls (noted (expression_parts p e)) ≡ []
-no_statements p e = without (expression_parts p e) (in_expression p e)
+pub no_statements : (p : CallRef) (e : Expression Span) → without_calls (noted (parts_of_expression p e)) ≡ []
+no_statements p e = without (parts_of_expression p e) (in_expression p e)

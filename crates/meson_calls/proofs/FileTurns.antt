@@ -8,7 +8,7 @@ use Rattle.meson_splice.specs.Files.{bytes_at}
 use Rattle.meson_syntax.specs.declared.tree.Parsed.{Parsed}
 use Rattle.meson_syntax.specs.View.{view}
 use Rattle.meson_calls.specs.Project.{Placed}
-use Rattle.meson_calls.specs.Parts.{Part, parts_from, file_parts}
+use Rattle.meson_calls.specs.Parts.{Part, parts_from, parts_of_file}
 use Rattle.meson_calls.specs.Loading.{named_trees, views}
 use Rattle.meson_calls.specs.Walks.{KeptParts, with_part, with_parts}
 use Rattle.meson_calls.proofs.Loads.{nth_bytes}
@@ -18,17 +18,17 @@ abbrev pub left : ℕ → List File → List Parsed → List (Placed (Part Span)
 left n files trees = parts_from n (named_trees files (views files trees))
 
 pub one_file : (files : List File) (trees : List Parsed) (i : ℕ) (d : File) (e : Parsed) → i < length files → i < length trees →
-    left i (drop i files) (drop i trees) ≡ file_parts i (view (bytes_at i files) (get_or trees i e)) ++ left (i + 1) (drop (i + 1) files) (drop (i + 1) trees)
+    left i (drop i files) (drop i trees) ≡ parts_of_file i (view (bytes_at i files) (get_or trees i e)) ++ left (i + 1) (drop (i + 1) files) (drop (i + 1) trees)
 one_file files trees i d e within inside =
     at_drop_more (λ fs. left i fs (drop i trees)) files i d within
     ∙ at_drop_more (λ ts. left i (get_or files i d ∷ drop (i + 1) files) ts) trees i e inside
-    ∙ ap (λ bytes. file_parts i (view bytes (get_or trees i e)) ++ left (i + 1) (drop (i + 1) files) (drop (i + 1) trees)) (sym (nth_bytes files i d within))
+    ∙ ap (λ bytes. parts_of_file i (view bytes (get_or trees i e)) ++ left (i + 1) (drop (i + 1) files) (drop (i + 1) trees)) (sym (nth_bytes files i d within))
 
 pub file_turn : (files : List File) (trees : List Parsed) (i : ℕ) (e : Parsed) (before after whole : KeptParts) → i < length files → i < length trees →
-    after ≡ with_parts before (file_parts i (view (bytes_at i files) (get_or trees i e))) →
+    after ≡ with_parts before (parts_of_file i (view (bytes_at i files) (get_or trees i e))) →
     with_parts before (left i (drop i files) (drop i trees)) ≡ whole → with_parts after (left (i + 1) (drop (i + 1) files) (drop (i + 1) trees)) ≡ whole
 file_turn files trees i e before after whole within inside joins so_far =
-    let here = file_parts i (view (bytes_at i files) (get_or trees i e)) in
+    let here = parts_of_file i (view (bytes_at i files) (get_or trees i e)) in
     let more = left (i + 1) (drop (i + 1) files) (drop (i + 1) trees) in
     ap (λ a. with_parts a more) joins
     ∙ sym (fold-append with_part before here more)

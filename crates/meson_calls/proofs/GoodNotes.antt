@@ -15,7 +15,7 @@ use Rattle.meson_syntax.proofs.parsing.FileErased.{file-words-erased}
 use Rattle.meson_calls.specs.declared.note.Note as code
 use Rattle.meson_calls.specs.declared.call.CallRef.{CallRef}
 use Rattle.meson_calls.specs.Project.{Placed, placed}
-use Rattle.meson_calls.specs.Parts.{Part, an_expression, a_statement, parts_from, file_parts}
+use Rattle.meson_calls.specs.Parts.{Part, an_expression, a_statement, parts_from, parts_of_file}
 use Rattle.meson_calls.specs.Loading.{AreParsed, named_trees, views}
 use Rattle.meson_calls.specs.Notes.{Note, note_of, noted, notes, note_view, note_views}
 use Rattle.meson_calls.specs.Strings.{AreGood, PartsGood, NotesGood, note_words, part_words}
@@ -49,7 +49,7 @@ parts_good : (n : ℕ) (files : List File) (parsed : List Parsed) → AreParsed 
 parts_good n [] parsed are = tt
 parts_good n (f ∷ files) [] are = absurd are
 parts_good n (f ∷ files) (t ∷ parsed) are =
-    both (file_parts n (view f.bytes t)) (parts_from (n + 1) (named_trees files (views files parsed)))
+    both (parts_of_file n (view f.bytes t)) (parts_from (n + 1) (named_trees files (views files parsed)))
     (file_good n (view f.bytes t) (subst AreGood (file-words-erased (view f.bytes t)) (text_good f.bytes (erase (view f.bytes t)) are.0.reads.spells)))
     (parts_good (n + 1) files parsed are.1)
 
@@ -61,6 +61,6 @@ pub taken_good : (files : List File) (parsed : List Parsed) → AreParsed files 
 taken_good files parsed are taken is = subst NotesGood (sym is) (project_good files parsed are)
 
 -- those of one file
-pub tree_good : (bytes : List ℕ) (t : Parsed) → IsSpanned bytes (view bytes t) → NotesGood (noted (file_parts 0 (view bytes t)))
+pub tree_good : (bytes : List ℕ) (t : Parsed) → IsSpanned bytes (view bytes t) → NotesGood (noted (parts_of_file 0 (view bytes t)))
 tree_good bytes t spanned =
-    noted_good (file_parts 0 (view bytes t)) (file_good 0 (view bytes t) (subst AreGood (file-words-erased (view bytes t)) (text_good bytes (erase (view bytes t)) spanned.reads.spells)))
+    noted_good (parts_of_file 0 (view bytes t)) (file_good 0 (view bytes t) (subst AreGood (file-words-erased (view bytes t)) (text_good bytes (erase (view bytes t)) spanned.reads.spells)))

@@ -10,7 +10,7 @@ use Rattle.meson_syntax.specs.Tree.{Expression, identifier, boolean, integer, st
 use Rattle.meson_syntax.specs.Grammar.{mark, names_words, comma_words, operator_words, expression_words, operands_words, tail_words, tails_words, listing_words, argument_words, arguments_words, statement_words, branches_words, otherwise_words, statements_words, block_words, file_words}
 use Rattle.meson_calls.specs.declared.call.CallRef.{CallRef}
 use Rattle.meson_calls.specs.Project.{Placed, child, place}
-use Rattle.meson_calls.specs.Parts.{Part, expression_parts, operands_parts, tail_parts, tails_parts, listing_parts, argument_parts, arguments_parts, statement_parts, branches_parts, otherwise_parts, statements_parts, block_parts, file_parts, argument_child_count, tail_child_count, branches_child_count}
+use Rattle.meson_calls.specs.Parts.{Part, parts_of_expression, parts_of_operands, parts_of_tail, parts_of_tails, parts_of_listing, parts_of_argument, parts_of_arguments, parts_of_statement, parts_of_branches, parts_of_otherwise, parts_of_statements, parts_of_block, parts_of_file, argument_child_count, tail_child_count, branches_child_count}
 use Rattle.meson_calls.specs.Strings.{AreGood, PartsGood}
 
 pub good_left : (xs ys : List Word) → AreGood (xs ++ ys) → AreGood xs
@@ -26,7 +26,7 @@ both [] ys a b = b
 both (x ∷ xs) ys a b = (a.0, both xs ys a.1 b)
 
 mutual
-  pub expression_good : {S : Type 0} (p : CallRef) (e : Expression S) → AreGood (expression_words e) → PartsGood (expression_parts p e)
+  pub expression_good : {S : Type 0} (p : CallRef) (e : Expression S) → AreGood (expression_words e) → PartsGood (parts_of_expression p e)
   expression_good p (identifier s x) good = (good, tt)
   expression_good p (boolean s b) good = (good, tt)
   expression_good p (integer s x) good = (good, tt)
@@ -48,32 +48,32 @@ mutual
             (expression_good (child p 2) n (good_right (expression_words y) (mark k.Colon ++ expression_words n) more).1)),
       )
 
-  operands_good : {S : Type 0} (p : CallRef) (n : ℕ) (os : Operands S) → AreGood (operands_words os) → PartsGood (operands_parts p n os)
+  operands_good : {S : Type 0} (p : CallRef) (n : ℕ) (os : Operands S) → AreGood (operands_words os) → PartsGood (parts_of_operands p n os)
   operands_good p n no_operands good = tt
   operands_good p n (operand o e more) good =
       let rest = good_right (operator_words o) (expression_words e ++ operands_words more) good in
       both _ _ (expression_good (child p n) e (good_left (expression_words e) (operands_words more) rest)) (operands_good p (n + 1) more (good_right (expression_words e) (operands_words more) rest))
 
-  tail_good : {S : Type 0} (p : CallRef) (n : ℕ) (t : Tail S) → AreGood (tail_words t) → PartsGood (tail_parts p n t)
+  tail_good : {S : Type 0} (p : CallRef) (n : ℕ) (t : Tail S) → AreGood (tail_words t) → PartsGood (parts_of_tail p n t)
   tail_good p n (method s x l) good = listing_good p n l bracket.Round good.1.1
   tail_good p n (index s e) good = expression_good (child p n) e (good_left (expression_words e) (mark k.CloseSquare) good.1)
 
-  tails_good : {S : Type 0} (p : CallRef) (n : ℕ) (ts : Tails S) → AreGood (tails_words ts) → PartsGood (tails_parts p n ts)
+  tails_good : {S : Type 0} (p : CallRef) (n : ℕ) (ts : Tails S) → AreGood (tails_words ts) → PartsGood (parts_of_tails p n ts)
   tails_good p n no_tails good = tt
   tails_good p n (tail t more) good =
       both _ _ (tail_good p n t (good_left (tail_words t) (tails_words more) good)) (tails_good p (n + tail_child_count t) more (good_right (tail_words t) (tails_words more) good))
 
-  listing_good : {S : Type 0} (p : CallRef) (n : ℕ) (l : Listing S) (b : Bracket) → AreGood (listing_words l b) → PartsGood (listing_parts p n l)
+  listing_good : {S : Type 0} (p : CallRef) (n : ℕ) (l : Listing S) (b : Bracket) → AreGood (listing_words l b) → PartsGood (parts_of_listing p n l)
   listing_good p n (listing s trailing list) b good = arguments_good p n list trailing (good_left (arguments_words list trailing) _ good.1)
 
-  argument_good : {S : Type 0} (p : CallRef) (n : ℕ) (a : Argument S) → AreGood (argument_words a) → PartsGood (argument_parts p n a)
+  argument_good : {S : Type 0} (p : CallRef) (n : ℕ) (a : Argument S) → AreGood (argument_words a) → PartsGood (parts_of_argument p n a)
   argument_good p n (plain e) good = expression_good (child p n) e good
   argument_good p n (named s x e) good = expression_good (child p n) e good.1.1
   argument_good p n (pair s e f) good =
       both _ _ (expression_good (child p n) e (good_left (expression_words e) (mark k.Colon ++ expression_words f) good))
       (expression_good (child p (n + 1)) f (good_right (expression_words e) (mark k.Colon ++ expression_words f) good).1)
 
-  arguments_good : {S : Type 0} (p : CallRef) (n : ℕ) (list : Arguments S) (trailing : Bool) → AreGood (arguments_words list trailing) → PartsGood (arguments_parts p n list)
+  arguments_good : {S : Type 0} (p : CallRef) (n : ℕ) (list : Arguments S) (trailing : Bool) → AreGood (arguments_words list trailing) → PartsGood (parts_of_arguments p n list)
   arguments_good p n no_arguments trailing good = tt
   arguments_good p n (argument a more) trailing good =
       both _ _ (argument_good p n a (good_left (argument_words a) (comma_words more trailing ++ arguments_words more trailing) good))
@@ -81,7 +81,7 @@ mutual
       (good_right (comma_words more trailing) (arguments_words more trailing) (good_right (argument_words a) (comma_words more trailing ++ arguments_words more trailing) good)))
 
 mutual
-  statement_good : {S : Type 0} (p : CallRef) (s : Statement S) → AreGood (statement_words s) → PartsGood (statement_parts p s)
+  statement_good : {S : Type 0} (p : CallRef) (s : Statement S) → AreGood (statement_words s) → PartsGood (parts_of_statement p s)
   statement_good p (evaluate e) good = (good, expression_good (child p 0) e good)
   statement_good p (assign s x a e) good = (good, expression_good (child p 0) e good.1.1)
   statement_good p (selection s bs o) good = (
@@ -98,7 +98,7 @@ mutual
   statement_good p (breaks s) good = (good, tt)
   statement_good p (continues s) good = (good, tt)
 
-  branches_good : {S : Type 0} (p : CallRef) (n : ℕ) (bs : Branches S) (word : Kind) → AreGood (branches_words bs word) → PartsGood (branches_parts p n bs)
+  branches_good : {S : Type 0} (p : CallRef) (n : ℕ) (bs : Branches S) (word : Kind) → AreGood (branches_words bs word) → PartsGood (parts_of_branches p n bs)
   branches_good p n no_branches word good = tt
   branches_good p n (branch e b more) word good =
       let rest = good_right (expression_words e) ((new_line ∷ block_words b) ++ branches_words more k.WordElif) good.1 in
@@ -106,18 +106,18 @@ mutual
       (both _ _ (block_good (child p (n + 1)) b (good_left (block_words b) (branches_words more k.WordElif) rest.1))
       (branches_good p (n + 2) more k.WordElif (good_right (block_words b) (branches_words more k.WordElif) rest.1)))
 
-  otherwise_good : {S : Type 0} (p : CallRef) (n : ℕ) (o : Otherwise S) → AreGood (otherwise_words o) → PartsGood (otherwise_parts p n o)
+  otherwise_good : {S : Type 0} (p : CallRef) (n : ℕ) (o : Otherwise S) → AreGood (otherwise_words o) → PartsGood (parts_of_otherwise p n o)
   otherwise_good p n nothing_else good = tt
   otherwise_good p n (otherwise b) good = block_good (child p n) b good.1.1
 
-  statements_good : {S : Type 0} (p : CallRef) (n : ℕ) (list : Statements S) → AreGood (statements_words list) → PartsGood (statements_parts p n list)
+  statements_good : {S : Type 0} (p : CallRef) (n : ℕ) (list : Statements S) → AreGood (statements_words list) → PartsGood (parts_of_statements p n list)
   statements_good p n no_statements good = tt
   statements_good p n (statement s more) good =
       both _ _ (statement_good (child p n) s (good_left (statement_words s) (new_line ∷ statements_words more) good))
       (statements_good p (n + 1) more (good_right (statement_words s) (new_line ∷ statements_words more) good).1)
 
-  pub block_good : {S : Type 0} (p : CallRef) (b : Block S) → AreGood (block_words b) → PartsGood (block_parts p b)
+  pub block_good : {S : Type 0} (p : CallRef) (b : Block S) → AreGood (block_words b) → PartsGood (parts_of_block p b)
   block_good p (block s list) good = statements_good p 0 list good
 
-pub file_good : {S : Type 0} (n : ℕ) (f : File S) → AreGood (file_words f) → PartsGood (file_parts n f)
+pub file_good : {S : Type 0} (n : ℕ) (f : File S) → AreGood (file_words f) → PartsGood (parts_of_file n f)
 file_good n (file s b) good = block_good (place n []) b good

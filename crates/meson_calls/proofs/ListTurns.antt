@@ -8,7 +8,7 @@ use Rattle.meson_syntax.specs.Tree.{arguments_of, operands_of, tails_of}
 use Rattle.meson_syntax.specs.View.{arg_view, args_view, operand_view, operands_view, tail_view, tails_view}
 use Rattle.meson_calls.specs.declared.call.CallRef.{CallRef}
 use Rattle.meson_calls.specs.Project.{Placed, child}
-use Rattle.meson_calls.specs.Parts.{Part, expression_parts, argument_parts, arguments_parts, operands_parts, tail_parts, tails_parts, argument_child_count, arguments_child_count, tail_child_count}
+use Rattle.meson_calls.specs.Parts.{Part, parts_of_expression, parts_of_argument, parts_of_arguments, parts_of_operands, parts_of_tail, parts_of_tails, argument_child_count, arguments_child_count, tail_child_count}
 
 module _ (source : List ℕ) where
   abbrev pub args_size : Arg → ℕ
@@ -22,19 +22,19 @@ module _ (source : List ℕ) where
 
 module _ (source : List ℕ) (p : CallRef) where
   abbrev pub args_parts : ℕ → List Arg → List (Placed (Part Span))
-  args_parts n xs = arguments_parts p n (arguments_of (args_view source xs))
+  args_parts n xs = parts_of_arguments p n (arguments_of (args_view source xs))
 
   abbrev pub args_part : ℕ → Arg → List (Placed (Part Span))
-  args_part n x = argument_parts p n (arg_view source x)
+  args_part n x = parts_of_argument p n (arg_view source x)
 
   abbrev pub row_parts : ℕ → List Operand → List (Placed (Part Span))
-  row_parts n xs = operands_parts p n (operands_of (operands_view source xs))
+  row_parts n xs = parts_of_operands p n (operands_of (operands_view source xs))
 
   abbrev pub row_part : ℕ → Operand → List (Placed (Part Span))
-  row_part n x = expression_parts (child p n) (operand_view source x).1
+  row_part n x = parts_of_expression (child p n) (operand_view source x).1
 
   abbrev pub tail_list_parts : ℕ → List rust_tail.Tail → List (Placed (Part Span))
-  tail_list_parts n xs = tails_parts p n (tails_of (tails_view source xs))
+  tail_list_parts n xs = parts_of_tails p n (tails_of (tails_view source xs))
 
   abbrev pub tail_part : ℕ → rust_tail.Tail → List (Placed (Part Span))
-  tail_part n x = tail_parts p n (tail_view source x)
+  tail_part n x = parts_of_tail p n (tail_view source x)

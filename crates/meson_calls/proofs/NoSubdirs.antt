@@ -11,7 +11,7 @@ use Rattle.meson_syntax.specs.View.{text_at}
 use Rattle.meson_syntax.proofs.parsing.Steps.{some-injective}
 use Rattle.meson_syntax.proofs.paths.Every.{every-append}
 use Rattle.meson_calls.specs.Calls.{Call, all_chosen, part_call}
-use Rattle.meson_calls.specs.Parts.{Part, an_expression, file_parts}
+use Rattle.meson_calls.specs.Parts.{Part, an_expression, parts_of_file}
 use Rattle.meson_calls.specs.Project.{Placed, placed}
 use Rattle.meson_calls.specs.Spelling.{HasNone}
 use Rattle.meson_calls.specs.Subdirs.{HasNoSubdir, entered, subdirs}
@@ -40,4 +40,4 @@ module _ (name bytes : List ℕ) (nowhere : HasNoSubdir bytes) where
       go (Some c) none more = ap (λ o. cons_option o (filter_map (λ c. entered name c.it) (all_chosen part_call ps))) (none c refl) ∙ more
 
 pub no_subdirs : (name bytes : List ℕ) (f : File Span) → IsSpanned bytes f → HasNoSubdir bytes → subdirs name f ≡ []
-no_subdirs name bytes f spanned nowhere = enters_none name bytes nowhere (file_parts 0 f ++ []) (every-append _ _ _ (parts_stand 0 bytes f spanned) tt)
+no_subdirs name bytes f spanned nowhere = enters_none name bytes nowhere (parts_of_file 0 f ++ []) (every-append _ _ _ (parts_stand 0 bytes f spanned) tt)

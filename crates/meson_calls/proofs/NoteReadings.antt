@@ -14,7 +14,7 @@ use Rattle.meson_calls.specs.declared.call.CallRef.{CallRef}
 use Rattle.meson_calls.specs.Calls.{Call, chosen}
 use Rattle.meson_calls.specs.Loading.{AreParsed, named_trees, views}
 use Rattle.meson_calls.specs.Notes.{Note, a_call, an_assignment, a_loop, note_of, noted, without_calls}
-use Rattle.meson_calls.specs.Parts.{Part, file_parts, parts_from}
+use Rattle.meson_calls.specs.Parts.{Part, parts_of_file, parts_from}
 use Rattle.meson_calls.specs.Project.{Placed, placed}
 use Rattle.meson_calls.specs.Spelling.{HasNoneOf, AreNotesOf, whole, less, AreNotesWith}
 use Rattle.meson_calls.proofs.StandingNotes.{CallStands, NoteStands, NotesStand, notes_stand}
@@ -29,8 +29,8 @@ notes_from n files parsed = noted (parts_from n (named_trees files (views files 
 noted_append : (xs ys : List (Placed (Part Span))) → noted (xs ++ ys) ≡ noted xs ++ noted ys
 noted_append xs ys = filter_map-append (chosen note_of) xs ys
 
-pub notes_after : (n : ℕ) (f : File) (t : Parsed) (files : List File) (parsed : List Parsed) → notes_from n (f ∷ files) (t ∷ parsed) ≡ noted (file_parts n (view f.bytes t)) ++ notes_from (n + 1) files parsed
-notes_after n f t files parsed = noted_append (file_parts n (view f.bytes t)) (parts_from (n + 1) (named_trees files (views files parsed)))
+pub notes_after : (n : ℕ) (f : File) (t : Parsed) (files : List File) (parsed : List Parsed) → notes_from n (f ∷ files) (t ∷ parsed) ≡ noted (parts_of_file n (view f.bytes t)) ++ notes_from (n + 1) files parsed
+notes_after n f t files parsed = noted_append (parts_of_file n (view f.bytes t)) (parts_from (n + 1) (named_trees files (views files parsed)))
 
 -- ---- readings
 
@@ -60,12 +60,12 @@ module _ {X : Type 0} (words : List (List ℕ)) (read : Notes → X) (join : X �
   all_less bytes none (n ∷ ns) stand = one_less bytes none n.place n.it ns stand.0 (all_less bytes none ns stand.1)
 
   read_step : (n : ℕ) (f : File) (t : Parsed) (Further : Notes → Type 0) (ns rest : Notes) → IsSpanned f.bytes (view f.bytes t)
-      → ((more : Notes) → Further more → read more ≡ read rest) → AreNotesOf words n f t Further ns → read ns ≡ join (read (noted (file_parts n (view f.bytes t)))) (read rest)
+      → ((more : Notes) → Further more → read more ≡ read rest) → AreNotesOf words n f t Further ns → read ns ≡ join (read (noted (parts_of_file n (view f.bytes t)))) (read rest)
   read_step n f t Further ns rest spanned same (whole more further is) =
-      let here = noted (file_parts n (view f.bytes t)) in
+      let here = noted (parts_of_file n (view f.bytes t)) in
       ap read is ∙ gathers.joins here more ∙ ap (join (read here)) (same more further)
   read_step n f t Further ns rest spanned same (less more none further is) =
-      let here = noted (file_parts n (view f.bytes t)) in
+      let here = noted (parts_of_file n (view f.bytes t)) in
       ap read is ∙ gathers.joins (without_calls here) more
       ∙ ap (λ x. join x (read more)) (all_less f.bytes none here (notes_stand n f.bytes (view f.bytes t) spanned)) ∙ ap (join (read here)) (same more further)
 
@@ -74,7 +74,7 @@ module _ {X : Type 0} (words : List (List ℕ)) (read : Notes → X) (join : X �
   same_read n [] (t ∷ parsed) ns parses are = absurd parses
   same_read n (f ∷ files) [] ns parses are = absurd parses
   same_read n (f ∷ files) (t ∷ parsed) ns parses are =
-      let here = noted (file_parts n (view f.bytes t)) in
+      let here = noted (parts_of_file n (view f.bytes t)) in
       let rest = notes_from (n + 1) files parsed in
       read_step n f t (AreNotesWith words (n + 1) files parsed) ns rest parses.0 (λ more further. same_read (n + 1) files parsed more parses.1 further) are
       ∙ sym (ap read (notes_after n f t files parsed) ∙ gathers.joins here rest)

@@ -17,11 +17,11 @@ use Rattle.meson_calls.specs.Loading.{AreParsed, named_trees, views}
 use Rattle.meson_calls.specs.Noted.{assigned_notes, is_set_by, note_assigned, note_sets}
 use Rattle.meson_calls.specs.Notes.{Note, a_call, is_statement, noted, notes, without_calls}
 use Rattle.meson_calls.specs.OnePlace.{any_place, the_place}
-use Rattle.meson_calls.specs.Parts.{file_parts}
+use Rattle.meson_calls.specs.Parts.{parts_of_file}
 use Rattle.meson_calls.specs.Picking.{assigned_places, found_places, note_has_name, note_has_role, note_sets_call, places_that, places_with_role}
 use Rattle.meson_calls.specs.Project.{Placed, child, placed}
 use Rattle.meson_calls.specs.Roles.{one_of, or_else, project_ids}
-use Rattle.meson_calls.specs.Spelling.{HasNone, HasNoneOf, AreNotesOf, whole, less, AreNotesWith, setter_words, words_of}
+use Rattle.meson_calls.specs.Spelling.{HasNone, HasNoneOf, AreNotesOf, whole, less, AreNotesWith, setter_words, sought_words}
 use Rattle.meson_calls.specs.Strings.{AreGood, NotesGood, note_words}
 use Rattle.meson_calls.proofs.NoteReadings.{Notes, notes_from, notes_after, same_read, any_gathers, none_passes, chosen_gathers, none_chosen, picked_gathers, none_picked}
 use Rattle.meson_calls.proofs.NothingRead.{calls_set_none, unknown_none, names_nothing, no_project}
@@ -49,18 +49,18 @@ good_less [] good = tt
 good_less (n ∷ ns) good = less_good n (without_calls ns) (is_statement n.it) good.0 (good_less ns good.1)
 
 module _ (words : List (List ℕ)) where
-  good_step : (n : ℕ) (f : File) (t : Parsed) (Further : Notes → Type 0) (ns : Notes) → NotesGood (noted (file_parts n (view f.bytes t))) → ((more : Notes) → Further more → NotesGood more)
+  good_step : (n : ℕ) (f : File) (t : Parsed) (Further : Notes → Type 0) (ns : Notes) → NotesGood (noted (parts_of_file n (view f.bytes t))) → ((more : Notes) → Further more → NotesGood more)
       → AreNotesOf words n f t Further ns → NotesGood ns
-  good_step n f t Further ns good rest (whole more further is) = subst NotesGood (sym is) (good_join (noted (file_parts n (view f.bytes t))) more good (rest more further))
+  good_step n f t Further ns good rest (whole more further is) = subst NotesGood (sym is) (good_join (noted (parts_of_file n (view f.bytes t))) more good (rest more further))
   good_step n f t Further ns good rest (less more none further is) =
-      let here = noted (file_parts n (view f.bytes t)) in
+      let here = noted (parts_of_file n (view f.bytes t)) in
       subst NotesGood (sym is) (good_join (without_calls here) more (good_less here good) (rest more further))
 
   good_from : (n : ℕ) (files : List File) (parsed : List Parsed) (ns : Notes) → NotesGood (notes_from n files parsed) → AreNotesWith words n files parsed ns → NotesGood ns
   good_from n [] parsed ns good are = subst NotesGood (sym are) tt
   good_from n (f ∷ files) [] ns good are = subst NotesGood (sym are) tt
   good_from n (f ∷ files) (t ∷ parsed) ns good are =
-      let here = noted (file_parts n (view f.bytes t)) in
+      let here = noted (parts_of_file n (view f.bytes t)) in
       let rest = notes_from (n + 1) files parsed in
       let all : NotesGood (here ++ rest) = subst NotesGood (notes_after n f t files parsed) good in
       good_step n f t (AreNotesWith words (n + 1) files parsed) ns (good_left here rest all) (λ more further. good_from (n + 1) files parsed more (good_right here rest all) further) are
@@ -129,15 +129,15 @@ same_projects ws files parsed ns parses are =
     (λ bytes none p c stands. none_picked (λ k. k.place) (λ k. note_has_role role.Project k.it) (placed p (a_call c)) (no_project bytes (first_word bytes (codes "project") ws none) (a_call c) stands))
     0 files parsed ns parses are
 
-pub same_found : (r : Role) (id : List ℕ) (ws : List (List ℕ)) (files : List File) (parsed : List Parsed) (ns : Notes) → AreParsed files parsed → AreNotesWith (words_of r id ++ ws) 0 files parsed ns
+pub same_found : (r : Role) (id : List ℕ) (ws : List (List ℕ)) (files : List File) (parsed : List Parsed) (ns : Notes) → AreParsed files parsed → AreNotesWith (sought_words r id ++ ws) 0 files parsed ns
     → found_places r id ns ≡ found_places r id (notes (named_trees files (views files parsed)))
 same_found role.Target id ws files parsed ns parses are =
-    ap₂ or_else (same_named role.Target id ws files parsed ns parses are) (same_values role.Target id ws files parsed ns parses (words_of role.Target id ++ ws) are)
+    ap₂ or_else (same_named role.Target id ws files parsed ns parses are) (same_values role.Target id ws files parsed ns parses (sought_words role.Target id ++ ws) are)
 same_found role.Dependency id ws files parsed ns parses are =
-    ap₂ or_else (same_named role.Dependency id ws files parsed ns parses are) (same_values role.Dependency id ws files parsed ns parses (words_of role.Dependency id ++ ws) are)
+    ap₂ or_else (same_named role.Dependency id ws files parsed ns parses are) (same_values role.Dependency id ws files parsed ns parses (sought_words role.Dependency id ++ ws) are)
 same_found role.Project id ws files parsed ns parses are = ap (λ ps. if one_of project_ids id then ps else []) (same_projects ws files parsed ns parses are)
 
-pub same_place : (r : Role) (id : List ℕ) (ws : List (List ℕ)) (files : List File) (parsed : List Parsed) (ns : Notes) → AreParsed files parsed → AreNotesWith (words_of r id ++ ws) 0 files parsed ns
+pub same_place : (r : Role) (id : List ℕ) (ws : List (List ℕ)) (files : List File) (parsed : List Parsed) (ns : Notes) → AreParsed files parsed → AreNotesWith (sought_words r id ++ ws) 0 files parsed ns
     → the_place r id ns ≡ the_place r id (notes (named_trees files (views files parsed)))
 same_place role.Target id ws files parsed ns parses are = ap only_one (same_found role.Target id ws files parsed ns parses are)
 same_place role.Dependency id ws files parsed ns parses are = ap only_one (same_found role.Dependency id ws files parsed ns parses are)

@@ -10,7 +10,7 @@ use Rattle.meson_syntax.specs.Parts as syntax
 use Rattle.meson_syntax.specs.Paths.{nth, block_of}
 use Rattle.meson_calls.specs.declared.call.CallRef.{CallRef}
 use Rattle.meson_calls.specs.Project.{BuildFile, Placed, Project, child, expression_at, nth_file, place, placed}
-use Rattle.meson_calls.specs.Parts.{Part, expression_parts, operands_parts, tail_parts, tails_parts, listing_parts, argument_parts, arguments_parts, statement_parts, branches_parts, otherwise_parts, statements_parts, block_parts, file_parts, parts_from, argument_child_count, tail_child_count, branches_child_count}
+use Rattle.meson_calls.specs.Parts.{Part, parts_of_expression, parts_of_operands, parts_of_tail, parts_of_tails, parts_of_listing, parts_of_argument, parts_of_arguments, parts_of_statement, parts_of_branches, parts_of_otherwise, parts_of_statements, parts_of_block, parts_of_file, parts_from, argument_child_count, tail_child_count, branches_child_count}
 use Rattle.meson_calls.specs.Parts as part
 use Rattle.meson_syntax.specs.Paths as paths
 use Rattle.meson_syntax.proofs.PathNodes.{expression-reached}
@@ -113,7 +113,7 @@ then_all p n m xs ys here later many first others j z path y is is_named =
 -- ---- node by node
 
 mutual
-  expression_has : (p : CallRef) (e : Expression Span) → Has p (an_expression e) (expression_parts p e)
+  expression_has : (p : CallRef) (e : Expression Span) → Has p (an_expression e) (parts_of_expression p e)
   expression_has p (identifier s x) = with_children p (part.an_expression (identifier s x)) [] (no_more p 0 [])
   expression_has p (boolean s b) = with_children p (part.an_expression (boolean s b)) [] (no_more p 0 [])
   expression_has p (integer s x) = with_children p (part.an_expression (integer s x)) [] (no_more p 0 [])
@@ -132,66 +132,66 @@ mutual
       (one_more p 0 (an_expression c) (an_expression y ∷ an_expression n ∷ []) _ _ (expression_has (child p 0) c)
       (one_more p 1 (an_expression y) (an_expression n ∷ []) _ _ (expression_has (child p 1) y) (last_one p 2 (an_expression n) _ (expression_has (child p 2) n))))
 
-  operands_has : (p : CallRef) (n : ℕ) (os : Operands Span) → HasAll p n (syntax.operands_parts os) (operands_parts p n os)
+  operands_has : (p : CallRef) (n : ℕ) (os : Operands Span) → HasAll p n (syntax.operands_parts os) (parts_of_operands p n os)
   operands_has p n no_operands = no_more p n []
   operands_has p n (operand o e more) = one_more p n (an_expression e) (syntax.operands_parts more) _ _ (expression_has (child p n) e) (operands_has p (n + 1) more)
 
-  tail_has : (p : CallRef) (n : ℕ) (t : Tail Span) → HasAll p n (syntax.tail_parts t) (tail_parts p n t)
+  tail_has : (p : CallRef) (n : ℕ) (t : Tail Span) → HasAll p n (syntax.tail_parts t) (parts_of_tail p n t)
   tail_has p n (method s x l) = listing_has p n l
   tail_has p n (index s e) = last_one p n (an_expression e) _ (expression_has (child p n) e)
 
-  tails_has : (p : CallRef) (n : ℕ) (ts : Tails Span) → HasAll p n (syntax.tails_parts ts) (tails_parts p n ts)
+  tails_has : (p : CallRef) (n : ℕ) (ts : Tails Span) → HasAll p n (syntax.tails_parts ts) (parts_of_tails p n ts)
   tails_has p n no_tails = no_more p n []
   tails_has p n (tail t more) = then_all p n (tail_child_count t) (syntax.tail_parts t) (syntax.tails_parts more) _ _ (tail_count t) (tail_has p n t) (tails_has p (n + tail_child_count t) more)
 
-  listing_has : (p : CallRef) (n : ℕ) (l : Listing Span) → HasAll p n (syntax.listing_parts l) (listing_parts p n l)
+  listing_has : (p : CallRef) (n : ℕ) (l : Listing Span) → HasAll p n (syntax.listing_parts l) (parts_of_listing p n l)
   listing_has p n (listing s trailing list) = arguments_has p n list
 
-  argument_has : (p : CallRef) (n : ℕ) (a : Argument Span) → HasAll p n (syntax.argument_parts a) (argument_parts p n a)
+  argument_has : (p : CallRef) (n : ℕ) (a : Argument Span) → HasAll p n (syntax.argument_parts a) (parts_of_argument p n a)
   argument_has p n (plain e) = last_one p n (an_expression e) _ (expression_has (child p n) e)
   argument_has p n (named s x e) = last_one p n (an_expression e) _ (expression_has (child p n) e)
   argument_has p n (pair s e f) = one_more p n (an_expression e) (an_expression f ∷ []) _ _ (expression_has (child p n) e) (last_one p (n + 1) (an_expression f) _ (expression_has (child p (n + 1)) f))
 
-  arguments_has : (p : CallRef) (n : ℕ) (list : Arguments Span) → HasAll p n (syntax.arguments_parts list) (arguments_parts p n list)
+  arguments_has : (p : CallRef) (n : ℕ) (list : Arguments Span) → HasAll p n (syntax.arguments_parts list) (parts_of_arguments p n list)
   arguments_has p n no_arguments = no_more p n []
   arguments_has p n (argument a more) =
       then_all p n (argument_child_count a) (syntax.argument_parts a) (syntax.arguments_parts more) _ _ (argument_count a) (argument_has p n a) (arguments_has p (n + argument_child_count a) more)
 
 mutual
-  statement_has : (p : CallRef) (s : Statement Span) → Has p (a_statement s) (statement_parts p s)
+  statement_has : (p : CallRef) (s : Statement Span) → Has p (a_statement s) (parts_of_statement p s)
   statement_has p (evaluate e) = with_children p (part.a_statement (evaluate e)) _ (last_one p 0 (an_expression e) _ (expression_has (child p 0) e))
   statement_has p (assign s x a e) = with_children p (part.a_statement (assign s x a e)) _ (last_one p 0 (an_expression e) _ (expression_has (child p 0) e))
   statement_has p (selection s bs o) =
       let m = branches_child_count bs in
       let e : m ≡ 0 + m = omega arith in
       with_children p (part.a_statement (selection s bs o)) _
-      (then_all p 0 m (syntax.branches_parts bs) (syntax.otherwise_parts o) _ _ (branches_count bs) (branches_has p 0 bs) (subst (λ i. HasAll p i (syntax.otherwise_parts o) (otherwise_parts p m o)) e (otherwise_has p m o)))
+      (then_all p 0 m (syntax.branches_parts bs) (syntax.otherwise_parts o) _ _ (branches_count bs) (branches_has p 0 bs) (subst (λ i. HasAll p i (syntax.otherwise_parts o) (parts_of_otherwise p m o)) e (otherwise_has p m o)))
   statement_has p (iteration s xs e b) =
       with_children p (part.a_statement (iteration s xs e b)) _ (one_more p 0 (an_expression e) (a_block b ∷ []) _ _ (expression_has (child p 0) e) (last_one p 1 (a_block b) _ (block_has (child p 1) b)))
   statement_has p (breaks s) = with_children p (part.a_statement (breaks s)) [] (no_more p 0 [])
   statement_has p (continues s) = with_children p (part.a_statement (continues s)) [] (no_more p 0 [])
 
-  branches_has : (p : CallRef) (n : ℕ) (bs : Branches Span) → HasAll p n (syntax.branches_parts bs) (branches_parts p n bs)
+  branches_has : (p : CallRef) (n : ℕ) (bs : Branches Span) → HasAll p n (syntax.branches_parts bs) (parts_of_branches p n bs)
   branches_has p n no_branches = no_more p n []
   branches_has p n (branch e b more) =
       let q : n + 2 ≡ n + 1 + 1 = omega arith in
       one_more p n (an_expression e) (a_block b ∷ syntax.branches_parts more) _ _ (expression_has (child p n) e)
-      (one_more p (n + 1) (a_block b) (syntax.branches_parts more) _ _ (block_has (child p (n + 1)) b) (subst (λ i. HasAll p i (syntax.branches_parts more) (branches_parts p (n + 2) more)) q (branches_has p (n + 2) more)))
+      (one_more p (n + 1) (a_block b) (syntax.branches_parts more) _ _ (block_has (child p (n + 1)) b) (subst (λ i. HasAll p i (syntax.branches_parts more) (parts_of_branches p (n + 2) more)) q (branches_has p (n + 2) more)))
 
-  otherwise_has : (p : CallRef) (n : ℕ) (o : Otherwise Span) → HasAll p n (syntax.otherwise_parts o) (otherwise_parts p n o)
+  otherwise_has : (p : CallRef) (n : ℕ) (o : Otherwise Span) → HasAll p n (syntax.otherwise_parts o) (parts_of_otherwise p n o)
   otherwise_has p n nothing_else = no_more p n []
   otherwise_has p n (otherwise b) = last_one p n (a_block b) _ (block_has (child p n) b)
 
-  statements_has : (p : CallRef) (n : ℕ) (list : Statements Span) → HasAll p n (syntax.statements_parts list) (statements_parts p n list)
+  statements_has : (p : CallRef) (n : ℕ) (list : Statements Span) → HasAll p n (syntax.statements_parts list) (parts_of_statements p n list)
   statements_has p n no_statements = no_more p n []
   statements_has p n (statement s more) = one_more p n (a_statement s) (syntax.statements_parts more) _ _ (statement_has (child p n) s) (statements_has p (n + 1) more)
 
-  block_has : (p : CallRef) (b : Block Span) → Has p (a_block b) (block_parts p b)
+  block_has : (p : CallRef) (b : Block Span) → Has p (a_block b) (parts_of_block p b)
   block_has p (block s list) = of_block p (block s list) _ (statements_has p 0 list)
 
 -- ---- files
 
-file_has : (n : ℕ) (f : File Span) → Has (place n []) (a_block (block_of f)) (file_parts n f)
+file_has : (n : ℕ) (f : File Span) → Has (place n []) (a_block (block_of f)) (parts_of_file n f)
 file_has n (file s b) = block_has (place n []) b
 
 all_has : (n i : ℕ) (p : Project Span) (g : BuildFile Span) (path : List ℕ) (y : Part Span) → nth_file p i ≡ Some g → Names (a_block (block_of g.tree)) path y → Contains (parts_from n p) (placed (place (n + i) path) y)
@@ -199,10 +199,10 @@ all_has n i [] g path y is is_named = absurd cc
 all_has n zero (f ∷ files) g path y is is_named =
     let e : n ≡ n + 0 = omega arith in
     let found = file_has n f.tree path y (subst (λ (h : BuildFile Span). Names (a_block (block_of h.tree)) path y) (sym (some-injective f g is)) is_named) in
-    Contains-append_left (file_parts n f.tree) (parts_from (n + 1) files) (placed (place (n + 0) path) y) (subst (λ m. Contains (file_parts n f.tree) (placed (place m path) y)) e found)
+    Contains-append_left (parts_of_file n f.tree) (parts_from (n + 1) files) (placed (place (n + 0) path) y) (subst (λ m. Contains (parts_of_file n f.tree) (placed (place m path) y)) e found)
 all_has n (suc i) (f ∷ files) g path y is is_named =
     let e : (n + 1) + i ≡ n + suc i = omega arith in
-    Contains-append_right (file_parts n f.tree) (parts_from (n + 1) files) (placed (place (n + suc i) path) y)
+    Contains-append_right (parts_of_file n f.tree) (parts_from (n + 1) files) (placed (place (n + suc i) path) y)
     (subst (λ m. Contains (parts_from (n + 1) files) (placed (place m path) y)) e (all_has (n + 1) i files g path y is is_named))
 
 -- an expression that stands at a place is among the parts

@@ -13,7 +13,7 @@ use Rattle.meson_calls.specs.declared.call.Role.{Role}
 use Rattle.meson_calls.specs.declared.call.Role.TheVariants as role
 use Rattle.meson_calls.specs.AllParts.{PlacesRise, PartsInOrder, address}
 use Rattle.meson_calls.specs.Calls.{all_chosen, call_of, calls, part_call}
-use Rattle.meson_calls.specs.Parts.{Part, an_expression, a_statement, expression_parts, operands_parts, tail_parts, tails_parts, listing_parts, argument_parts, arguments_parts, statement_parts, branches_parts, otherwise_parts, statements_parts, block_parts, file_parts, parts_from, parts, argument_child_count, arguments_child_count, listing_child_count, tail_child_count, branches_child_count}
+use Rattle.meson_calls.specs.Parts.{Part, an_expression, a_statement, parts_of_expression, parts_of_operands, parts_of_tail, parts_of_tails, parts_of_listing, parts_of_argument, parts_of_arguments, parts_of_statement, parts_of_branches, parts_of_otherwise, parts_of_statements, parts_of_block, parts_of_file, parts_from, parts, argument_child_count, arguments_child_count, listing_child_count, tail_child_count, branches_child_count}
 use Rattle.meson_calls.specs.Project.{Placed, Project, child, place, placed}
 use Rattle.meson_calls.specs.Roles.{assigned_values, found, named_or_assigned, one_of, or_else, part_set_to, places, project_ids, role_calls, value_of_assignment, with_name, with_role}
 
@@ -163,7 +163,7 @@ child_then c n m t here later first last whole others =
     joined (address c) n (n + 1) (n + 1) m t here later (omega arith) (omega arith) first last (as_child c n here whole) others
 
 mutual
-  expression_ordered : (c : CallRef) (e : Expression Span) → Whole c (expression_parts c e)
+  expression_ordered : (c : CallRef) (e : Expression Span) → Whole c (parts_of_expression c e)
   expression_ordered c (identifier s x) = node c (an_expression (identifier s x)) 0 [] (nothing (address c) 0 0)
   expression_ordered c (boolean s b) = node c (an_expression (boolean s b)) 0 [] (nothing (address c) 0 0)
   expression_ordered c (integer s x) = node c (an_expression (integer s x)) 0 [] (nothing (address c) 0 0)
@@ -184,31 +184,31 @@ mutual
       (child_then c 0 3 3 _ _ (omega arith) (omega arith) (expression_ordered (child c 0) e)
       (child_then c 1 3 3 _ _ (omega arith) (omega arith) (expression_ordered (child c 1) y) (as_child c 2 _ (expression_ordered (child c 2) n))))
 
-  operands_ordered : (c : CallRef) (n : ℕ) (os : Operands Span) → Ordered (address c) n (n + operands_count os) (operands_parts c n os)
+  operands_ordered : (c : CallRef) (n : ℕ) (os : Operands Span) → Ordered (address c) n (n + operands_count os) (parts_of_operands c n os)
   operands_ordered c n no_operands = nothing (address c) n (n + 0)
   operands_ordered c n (operand o e more) =
       child_then c n ((n + 1) + operands_count more) (n + (1 + operands_count more)) _ _ (omega arith) (omega arith) (expression_ordered (child c n) e) (operands_ordered c (n + 1) more)
 
-  tail_ordered : (c : CallRef) (n : ℕ) (t : Tail Span) → Ordered (address c) n (n + tail_child_count t) (tail_parts c n t)
+  tail_ordered : (c : CallRef) (n : ℕ) (t : Tail Span) → Ordered (address c) n (n + tail_child_count t) (parts_of_tail c n t)
   tail_ordered c n (method s x l) = listing_ordered c n l
   tail_ordered c n (index s e) = as_child c n _ (expression_ordered (child c n) e)
 
-  tails_ordered : (c : CallRef) (n : ℕ) (ts : Tails Span) → Ordered (address c) n (n + tails_count ts) (tails_parts c n ts)
+  tails_ordered : (c : CallRef) (n : ℕ) (ts : Tails Span) → Ordered (address c) n (n + tails_count ts) (parts_of_tails c n ts)
   tails_ordered c n no_tails = nothing (address c) n (n + 0)
   tails_ordered c n (tail t more) =
       let k = n + tail_child_count t in
       joined (address c) n k k (k + tails_count more) (n + (tail_child_count t + tails_count more)) _ _ (omega arith) (omega arith) (omega arith) (omega arith) (tail_ordered c n t) (tails_ordered c k more)
 
-  listing_ordered : (c : CallRef) (n : ℕ) (l : Listing Span) → Ordered (address c) n (n + listing_child_count l) (listing_parts c n l)
+  listing_ordered : (c : CallRef) (n : ℕ) (l : Listing Span) → Ordered (address c) n (n + listing_child_count l) (parts_of_listing c n l)
   listing_ordered c n (listing s trailing list) = arguments_ordered c n list
 
-  argument_ordered : (c : CallRef) (n : ℕ) (a : Argument Span) → Ordered (address c) n (n + argument_child_count a) (argument_parts c n a)
+  argument_ordered : (c : CallRef) (n : ℕ) (a : Argument Span) → Ordered (address c) n (n + argument_child_count a) (parts_of_argument c n a)
   argument_ordered c n (plain e) = as_child c n _ (expression_ordered (child c n) e)
   argument_ordered c n (named s x e) = as_child c n _ (expression_ordered (child c n) e)
   argument_ordered c n (pair s e f) =
       child_then c n ((n + 1) + 1) (n + 2) _ _ (omega arith) (omega arith) (expression_ordered (child c n) e) (as_child c (n + 1) _ (expression_ordered (child c (n + 1)) f))
 
-  arguments_ordered : (c : CallRef) (n : ℕ) (list : Arguments Span) → Ordered (address c) n (n + arguments_child_count list) (arguments_parts c n list)
+  arguments_ordered : (c : CallRef) (n : ℕ) (list : Arguments Span) → Ordered (address c) n (n + arguments_child_count list) (parts_of_arguments c n list)
   arguments_ordered c n no_arguments = nothing (address c) n (n + 0)
   arguments_ordered c n (argument a more) =
       let k = n + argument_child_count a in
@@ -216,7 +216,7 @@ mutual
       (argument_ordered c n a) (arguments_ordered c k more)
 
 mutual
-  statement_ordered : (c : CallRef) (s : Statement Span) → Whole c (statement_parts c s)
+  statement_ordered : (c : CallRef) (s : Statement Span) → Whole c (parts_of_statement c s)
   statement_ordered c (evaluate e) = node c (a_statement (evaluate e)) _ _ (as_child c 0 _ (expression_ordered (child c 0) e))
   statement_ordered c (assign s x a e) = node c (a_statement (assign s x a e)) _ _ (as_child c 0 _ (expression_ordered (child c 0) e))
   statement_ordered c (selection s bs o) =
@@ -228,7 +228,7 @@ mutual
   statement_ordered c (breaks s) = node c (a_statement (breaks s)) 0 [] (nothing (address c) 0 0)
   statement_ordered c (continues s) = node c (a_statement (continues s)) 0 [] (nothing (address c) 0 0)
 
-  branches_ordered : (c : CallRef) (n : ℕ) (bs : Branches Span) → Ordered (address c) n (n + branches_child_count bs) (branches_parts c n bs)
+  branches_ordered : (c : CallRef) (n : ℕ) (bs : Branches Span) → Ordered (address c) n (n + branches_child_count bs) (parts_of_branches c n bs)
   branches_ordered c n no_branches = nothing (address c) n (n + 0)
   branches_ordered c n (branch e b more) =
       let t = n + (2 + branches_child_count more) in
@@ -236,25 +236,25 @@ mutual
       (joined (address c) (n + 1) ((n + 1) + 1) (n + 2) ((n + 2) + branches_child_count more) t _ _ (omega arith) (omega arith) (omega arith) (omega arith)
       (as_child c (n + 1) _ (block_ordered (child c (n + 1)) b)) (branches_ordered c (n + 2) more))
 
-  otherwise_ordered : (c : CallRef) (n : ℕ) (o : Otherwise Span) → Ordered (address c) n (n + otherwise_count o) (otherwise_parts c n o)
+  otherwise_ordered : (c : CallRef) (n : ℕ) (o : Otherwise Span) → Ordered (address c) n (n + otherwise_count o) (parts_of_otherwise c n o)
   otherwise_ordered c n nothing_else = nothing (address c) n (n + 0)
   otherwise_ordered c n (otherwise b) = as_child c n _ (block_ordered (child c n) b)
 
-  statements_ordered : (c : CallRef) (n : ℕ) (list : Statements Span) → Ordered (address c) n (n + statements_count list) (statements_parts c n list)
+  statements_ordered : (c : CallRef) (n : ℕ) (list : Statements Span) → Ordered (address c) n (n + statements_count list) (parts_of_statements c n list)
   statements_ordered c n no_statements = nothing (address c) n (n + 0)
   statements_ordered c n (statement s more) =
       child_then c n ((n + 1) + statements_count more) (n + (1 + statements_count more)) _ _ (omega arith) (omega arith) (statement_ordered (child c n) s) (statements_ordered c (n + 1) more)
 
-  block_ordered : (c : CallRef) (b : Block Span) → Whole c (block_parts c b)
+  block_ordered : (c : CallRef) (b : Block Span) → Whole c (parts_of_block c b)
   block_ordered c (block s list) = of_block c _ _ (statements_ordered c 0 list)
 
 -- ---- files
 
-file_ordered : (n : ℕ) (f : File Span) → Ordered [] n (n + 1) (file_parts n f)
+file_ordered : (n : ℕ) (f : File Span) → Ordered [] n (n + 1) (parts_of_file n f)
 file_ordered n (file s b) =
     let whole = block_ordered (place n []) b in
     record {
-      inside = each_also (λ x. (rest : List ℕ) × x ≡ (n ∷ []) ++ rest) (Within [] n (n + 1)) (block_parts (place n []) b) (λ x w. record { number = n; rest = w.0; from = omega arith; to = omega arith; is = w.1 }) whole.inside;
+      inside = each_also (λ x. (rest : List ℕ) × x ≡ (n ∷ []) ++ rest) (Within [] n (n + 1)) (parts_of_block (place n []) b) (λ x w. record { number = n; rest = w.0; from = omega arith; to = omega arith; is = w.1 }) whole.inside;
       rise = whole.rise;
     }
 

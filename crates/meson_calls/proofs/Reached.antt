@@ -7,7 +7,7 @@ use Rattle.meson_syntax.specs.Parts as syntax
 use Rattle.meson_syntax.specs.Paths.{nth, block_of}
 use Rattle.meson_calls.specs.declared.call.CallRef.{CallRef}
 use Rattle.meson_calls.specs.Project.{Placed, child, place}
-use Rattle.meson_calls.specs.Parts.{Part, expression_parts, operands_parts, tail_parts, tails_parts, listing_parts, argument_parts, arguments_parts, statement_parts, branches_parts, otherwise_parts, statements_parts, block_parts, file_parts, argument_child_count, arguments_child_count, listing_child_count, tail_child_count, branches_child_count}
+use Rattle.meson_calls.specs.Parts.{Part, parts_of_expression, parts_of_operands, parts_of_tail, parts_of_tails, parts_of_listing, parts_of_argument, parts_of_arguments, parts_of_statement, parts_of_branches, parts_of_otherwise, parts_of_statements, parts_of_block, parts_of_file, argument_child_count, arguments_child_count, listing_child_count, tail_child_count, branches_child_count}
 use Rattle.meson_calls.specs.Parts as part
 use Rattle.meson_calls.proofs.ListNodes.{node_below}
 
@@ -88,7 +88,7 @@ module _ (k : ℕ) (r : Any Span) where
   both (x ∷ xs) ys a b = (a.0, both xs ys a.1 b)
 
   mutual
-    expression_each : (p : CallRef) (e : Expression Span) → At p (an_expression e) → Each (expression_parts p e)
+    expression_each : (p : CallRef) (e : Expression Span) → At p (an_expression e) → Each (parts_of_expression p e)
     expression_each p (identifier s x) at = (at, tt)
     expression_each p (boolean s b) at = (at, tt)
     expression_each p (integer s x) at = (at, tt)
@@ -113,39 +113,39 @@ module _ (k : ℕ) (r : Any Span) where
               (both _ _ (expression_each (child p 1) y (first p 1 (an_expression y) (an_expression n ∷ []) second)) (expression_each (child p 2) n (first p 2 (an_expression n) [] third))),
         )
 
-    operands_each : (p : CallRef) (n : ℕ) (os : Operands Span) → AllAt p n (syntax.operands_parts os) → Each (operands_parts p n os)
+    operands_each : (p : CallRef) (n : ℕ) (os : Operands Span) → AllAt p n (syntax.operands_parts os) → Each (parts_of_operands p n os)
     operands_each p n no_operands all = tt
     operands_each p n (operand o e more) all =
         both _ _ (expression_each (child p n) e (first p n (an_expression e) (syntax.operands_parts more) all)) (operands_each p (n + 1) more (rest p n (an_expression e) (syntax.operands_parts more) all))
 
-    tail_each : (p : CallRef) (n : ℕ) (t : Tail Span) → AllAt p n (syntax.tail_parts t) → Each (tail_parts p n t)
+    tail_each : (p : CallRef) (n : ℕ) (t : Tail Span) → AllAt p n (syntax.tail_parts t) → Each (parts_of_tail p n t)
     tail_each p n (method s x l) all = listing_each p n l all
     tail_each p n (index s e) all = expression_each (child p n) e (first p n (an_expression e) [] all)
 
-    tails_each : (p : CallRef) (n : ℕ) (ts : Tails Span) → AllAt p n (syntax.tails_parts ts) → Each (tails_parts p n ts)
+    tails_each : (p : CallRef) (n : ℕ) (ts : Tails Span) → AllAt p n (syntax.tails_parts ts) → Each (parts_of_tails p n ts)
     tails_each p n no_tails all = tt
     tails_each p n (tail t more) all =
         both _ _ (tail_each p n t (left p n (syntax.tail_parts t) (syntax.tails_parts more) all))
         (tails_each p (n + tail_child_count t) more (right p n (syntax.tail_parts t) (syntax.tails_parts more) (tail_child_count t) (tail_count t) all))
 
-    listing_each : (p : CallRef) (n : ℕ) (l : Listing Span) → AllAt p n (syntax.listing_parts l) → Each (listing_parts p n l)
+    listing_each : (p : CallRef) (n : ℕ) (l : Listing Span) → AllAt p n (syntax.listing_parts l) → Each (parts_of_listing p n l)
     listing_each p n (listing s trailing list) all = arguments_each p n list all
 
-    argument_each : (p : CallRef) (n : ℕ) (a : Argument Span) → AllAt p n (syntax.argument_parts a) → Each (argument_parts p n a)
+    argument_each : (p : CallRef) (n : ℕ) (a : Argument Span) → AllAt p n (syntax.argument_parts a) → Each (parts_of_argument p n a)
     argument_each p n (plain e) all = expression_each (child p n) e (first p n (an_expression e) [] all)
     argument_each p n (named s x e) all = expression_each (child p n) e (first p n (an_expression e) [] all)
     argument_each p n (pair s e f) all =
         both _ _ (expression_each (child p n) e (first p n (an_expression e) (an_expression f ∷ []) all))
         (expression_each (child p (n + 1)) f (first p (n + 1) (an_expression f) [] (rest p n (an_expression e) (an_expression f ∷ []) all)))
 
-    arguments_each : (p : CallRef) (n : ℕ) (list : Arguments Span) → AllAt p n (syntax.arguments_parts list) → Each (arguments_parts p n list)
+    arguments_each : (p : CallRef) (n : ℕ) (list : Arguments Span) → AllAt p n (syntax.arguments_parts list) → Each (parts_of_arguments p n list)
     arguments_each p n no_arguments all = tt
     arguments_each p n (argument a more) all =
         both _ _ (argument_each p n a (left p n (syntax.argument_parts a) (syntax.arguments_parts more) all))
         (arguments_each p (n + argument_child_count a) more (right p n (syntax.argument_parts a) (syntax.arguments_parts more) (argument_child_count a) (argument_count a) all))
 
   mutual
-    statement_each : (p : CallRef) (s : Statement Span) → At p (a_statement s) → Each (statement_parts p s)
+    statement_each : (p : CallRef) (s : Statement Span) → At p (a_statement s) → Each (parts_of_statement p s)
     statement_each p (evaluate e) at = (at, expression_each (child p 0) e (first p 0 (an_expression e) [] (kids p (a_statement (evaluate e)) at)))
     statement_each p (assign s x a e) at = (at, expression_each (child p 0) e (first p 0 (an_expression e) [] (kids p (a_statement (assign s x a e)) at)))
     statement_each p (selection s bs o) at =
@@ -160,7 +160,7 @@ module _ (k : ℕ) (r : Any Span) where
     statement_each p (breaks s) at = (at, tt)
     statement_each p (continues s) at = (at, tt)
 
-    branches_each : (p : CallRef) (n : ℕ) (bs : Branches Span) → AllAt p n (syntax.branches_parts bs) → Each (branches_parts p n bs)
+    branches_each : (p : CallRef) (n : ℕ) (bs : Branches Span) → AllAt p n (syntax.branches_parts bs) → Each (parts_of_branches p n bs)
     branches_each p n no_branches all = tt
     branches_each p n (branch e b more) all =
         let second = rest p n (an_expression e) (a_block b ∷ syntax.branches_parts more) all in
@@ -170,17 +170,17 @@ module _ (k : ℕ) (r : Any Span) where
         (both _ _ (block_each (child p (n + 1)) b (first p (n + 1) (a_block b) (syntax.branches_parts more) second))
         (branches_each p (n + 2) more (subst (λ i. AllAt p i (syntax.branches_parts more)) q third)))
 
-    otherwise_each : (p : CallRef) (n : ℕ) (o : Otherwise Span) → AllAt p n (syntax.otherwise_parts o) → Each (otherwise_parts p n o)
+    otherwise_each : (p : CallRef) (n : ℕ) (o : Otherwise Span) → AllAt p n (syntax.otherwise_parts o) → Each (parts_of_otherwise p n o)
     otherwise_each p n nothing_else all = tt
     otherwise_each p n (otherwise b) all = block_each (child p n) b (first p n (a_block b) [] all)
 
-    statements_each : (p : CallRef) (n : ℕ) (list : Statements Span) → AllAt p n (syntax.statements_parts list) → Each (statements_parts p n list)
+    statements_each : (p : CallRef) (n : ℕ) (list : Statements Span) → AllAt p n (syntax.statements_parts list) → Each (parts_of_statements p n list)
     statements_each p n no_statements all = tt
     statements_each p n (statement s more) all =
         both _ _ (statement_each (child p n) s (first p n (a_statement s) (syntax.statements_parts more) all)) (statements_each p (n + 1) more (rest p n (a_statement s) (syntax.statements_parts more) all))
 
-    block_each : (p : CallRef) (b : Block Span) → At p (a_block b) → Each (block_parts p b)
+    block_each : (p : CallRef) (b : Block Span) → At p (a_block b) → Each (parts_of_block p b)
     block_each p (block s list) at = statements_each p 0 list (kids p (a_block (block s list)) at)
 
-pub file_each : (n : ℕ) (f : File Span) → Each n (a_block (block_of f)) (file_parts n f)
+pub file_each : (n : ℕ) (f : File Span) → Each n (a_block (block_of f)) (parts_of_file n f)
 file_each n (file s b) = block_each n (a_block b) (place n []) b (refl, refl)

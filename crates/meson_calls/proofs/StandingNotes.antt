@@ -14,7 +14,7 @@ use Rattle.meson_syntax.proofs.paths.Every.{Every}
 use Rattle.meson_calls.specs.declared.call.CallRef.{CallRef}
 use Rattle.meson_calls.specs.Calls.{Call, literal_of, first_literal}
 use Rattle.meson_calls.specs.Notes.{Note, a_call, an_assignment, a_loop, note_of, noted}
-use Rattle.meson_calls.specs.Parts.{Part, an_expression, a_statement, file_parts}
+use Rattle.meson_calls.specs.Parts.{Part, an_expression, a_statement, parts_of_file}
 use Rattle.meson_calls.specs.Picking.{call_with}
 use Rattle.meson_calls.specs.Project.{Placed, placed}
 use Rattle.meson_calls.proofs.GoodLiterals.{first_from}
@@ -80,5 +80,5 @@ module _ (bytes : List ℕ) where
   all_noted (q ∷ ps) all =
       subst (λ y. NotesStand (cons_option (option_map (placed q.place) (note_of y)) (noted ps))) (sym all.0.is) (one_more all.0.part q.place (noted ps) (all_noted ps all.1))
 
-pub notes_stand : (n : ℕ) (bytes : List ℕ) (f : File Span) → IsSpanned bytes f → NotesStand bytes (noted (file_parts n f))
-notes_stand n bytes f spanned = all_noted bytes (file_parts n f) (parts_stand n bytes f spanned)
+pub notes_stand : (n : ℕ) (bytes : List ℕ) (f : File Span) → IsSpanned bytes f → NotesStand bytes (noted (parts_of_file n f))
+notes_stand n bytes f spanned = all_noted bytes (parts_of_file n f) (parts_stand n bytes f spanned)

@@ -7,7 +7,7 @@ use Rattle.meson_syntax.specs.Tree.{Expression, identifier, boolean, integer, st
 use Rattle.meson_syntax.proofs.kept.Spanned.{spanned-texts}
 use Rattle.meson_syntax.proofs.paths.Every.{Every, every-append}
 use Rattle.meson_calls.specs.declared.call.CallRef.{CallRef}
-use Rattle.meson_calls.specs.Parts.{Part, an_expression, a_statement, expression_parts, operands_parts, tail_parts, tails_parts, listing_parts, argument_parts, arguments_parts, statement_parts, branches_parts, otherwise_parts, statements_parts, block_parts, file_parts, argument_child_count, tail_child_count, branches_child_count}
+use Rattle.meson_calls.specs.Parts.{Part, an_expression, a_statement, parts_of_expression, parts_of_operands, parts_of_tail, parts_of_tails, parts_of_listing, parts_of_argument, parts_of_arguments, parts_of_statement, parts_of_branches, parts_of_otherwise, parts_of_statements, parts_of_block, parts_of_file, argument_child_count, tail_child_count, branches_child_count}
 use Rattle.meson_calls.specs.Project.{Placed, child, place}
 
 module _ (bytes : List ℕ) where
@@ -27,7 +27,7 @@ module _ (bytes : List ℕ) where
   whole x = record { part = x; is = refl }
 
   mutual
-    in_expression : (c : CallRef) (e : Expression Span) → PartsStand (expression_parts c (texts_of_expression bytes e))
+    in_expression : (c : CallRef) (e : Expression Span) → PartsStand (parts_of_expression c (texts_of_expression bytes e))
     in_expression c (identifier s x) = (whole (an_expression (identifier s x)), tt)
     in_expression c (boolean s b) = (whole (an_expression (boolean s b)), tt)
     in_expression c (integer s x) = (whole (an_expression (integer s x)), tt)
@@ -42,32 +42,32 @@ module _ (bytes : List ℕ) where
     in_expression c (conditional s e y n) =
         (whole (an_expression (conditional s e y n)), every-append _ _ _ (in_expression (child c 0) e) (every-append _ _ _ (in_expression (child c 1) y) (in_expression (child c 2) n)))
 
-    in_operands : (c : CallRef) (n : ℕ) (os : Operands Span) → PartsStand (operands_parts c n (texts_of_operands bytes os))
+    in_operands : (c : CallRef) (n : ℕ) (os : Operands Span) → PartsStand (parts_of_operands c n (texts_of_operands bytes os))
     in_operands c n no_operands = tt
     in_operands c n (operand o e more) = every-append _ _ _ (in_expression (child c n) e) (in_operands c (n + 1) more)
 
-    in_tail : (c : CallRef) (n : ℕ) (t : Tail Span) → PartsStand (tail_parts c n (texts_of_tail bytes t))
+    in_tail : (c : CallRef) (n : ℕ) (t : Tail Span) → PartsStand (parts_of_tail c n (texts_of_tail bytes t))
     in_tail c n (method s x l) = in_listing c n l
     in_tail c n (index s e) = in_expression (child c n) e
 
-    in_tails : (c : CallRef) (n : ℕ) (ts : Tails Span) → PartsStand (tails_parts c n (texts_of_tails bytes ts))
+    in_tails : (c : CallRef) (n : ℕ) (ts : Tails Span) → PartsStand (parts_of_tails c n (texts_of_tails bytes ts))
     in_tails c n no_tails = tt
     in_tails c n (tail t more) = every-append _ _ _ (in_tail c n t) (in_tails c (n + tail_child_count (texts_of_tail bytes t)) more)
 
-    in_listing : (c : CallRef) (n : ℕ) (l : Listing Span) → PartsStand (listing_parts c n (texts_of_listing bytes l))
+    in_listing : (c : CallRef) (n : ℕ) (l : Listing Span) → PartsStand (parts_of_listing c n (texts_of_listing bytes l))
     in_listing c n (listing s trailing list) = in_arguments c n list
 
-    in_argument : (c : CallRef) (n : ℕ) (a : Argument Span) → PartsStand (argument_parts c n (texts_of_argument bytes a))
+    in_argument : (c : CallRef) (n : ℕ) (a : Argument Span) → PartsStand (parts_of_argument c n (texts_of_argument bytes a))
     in_argument c n (plain e) = in_expression (child c n) e
     in_argument c n (named s x e) = in_expression (child c n) e
     in_argument c n (pair s e f) = every-append _ _ _ (in_expression (child c n) e) (in_expression (child c (n + 1)) f)
 
-    in_arguments : (c : CallRef) (n : ℕ) (list : Arguments Span) → PartsStand (arguments_parts c n (texts_of_arguments bytes list))
+    in_arguments : (c : CallRef) (n : ℕ) (list : Arguments Span) → PartsStand (parts_of_arguments c n (texts_of_arguments bytes list))
     in_arguments c n no_arguments = tt
     in_arguments c n (argument a more) = every-append _ _ _ (in_argument c n a) (in_arguments c (n + argument_child_count (texts_of_argument bytes a)) more)
 
   mutual
-    in_statement : (c : CallRef) (s : Statement Span) → PartsStand (statement_parts c (texts_of_statement bytes s))
+    in_statement : (c : CallRef) (s : Statement Span) → PartsStand (parts_of_statement c (texts_of_statement bytes s))
     in_statement c (evaluate e) = (whole (a_statement (evaluate e)), in_expression (child c 0) e)
     in_statement c (assign s x a e) = (whole (a_statement (assign s x a e)), in_expression (child c 0) e)
     in_statement c (selection s bs o) = (whole (a_statement (selection s bs o)), every-append _ _ _ (in_branches c 0 bs) (in_otherwise c (branches_child_count (texts_of_branches bytes bs)) o))
@@ -75,23 +75,23 @@ module _ (bytes : List ℕ) where
     in_statement c (breaks s) = (whole (a_statement (breaks s)), tt)
     in_statement c (continues s) = (whole (a_statement (continues s)), tt)
 
-    in_branches : (c : CallRef) (n : ℕ) (bs : Branches Span) → PartsStand (branches_parts c n (texts_of_branches bytes bs))
+    in_branches : (c : CallRef) (n : ℕ) (bs : Branches Span) → PartsStand (parts_of_branches c n (texts_of_branches bytes bs))
     in_branches c n no_branches = tt
     in_branches c n (branch e b more) = every-append _ _ _ (in_expression (child c n) e) (every-append _ _ _ (in_block (child c (n + 1)) b) (in_branches c (n + 2) more))
 
-    in_otherwise : (c : CallRef) (n : ℕ) (o : Otherwise Span) → PartsStand (otherwise_parts c n (texts_of_otherwise bytes o))
+    in_otherwise : (c : CallRef) (n : ℕ) (o : Otherwise Span) → PartsStand (parts_of_otherwise c n (texts_of_otherwise bytes o))
     in_otherwise c n nothing_else = tt
     in_otherwise c n (otherwise b) = in_block (child c n) b
 
-    in_statements : (c : CallRef) (n : ℕ) (list : Statements Span) → PartsStand (statements_parts c n (texts_of_statements bytes list))
+    in_statements : (c : CallRef) (n : ℕ) (list : Statements Span) → PartsStand (parts_of_statements c n (texts_of_statements bytes list))
     in_statements c n no_statements = tt
     in_statements c n (statement s more) = every-append _ _ _ (in_statement (child c n) s) (in_statements c (n + 1) more)
 
-    in_block : (c : CallRef) (b : Block Span) → PartsStand (block_parts c (texts_of_block bytes b))
+    in_block : (c : CallRef) (b : Block Span) → PartsStand (parts_of_block c (texts_of_block bytes b))
     in_block c (block s list) = in_statements c 0 list
 
-  in_file : (n : ℕ) (f : File Span) → PartsStand (file_parts n (texts_of bytes f))
+  in_file : (n : ℕ) (f : File Span) → PartsStand (parts_of_file n (texts_of bytes f))
   in_file n (file s b) = in_block (place n []) b
 
-pub parts_stand : (n : ℕ) (bytes : List ℕ) (f : File Span) → IsSpanned bytes f → PartsStand bytes (file_parts n f)
-parts_stand n bytes f spanned = subst (λ g. PartsStand bytes (file_parts n g)) (spanned-texts of_files bytes f spanned) (in_file bytes n f)
+pub parts_stand : (n : ℕ) (bytes : List ℕ) (f : File Span) → IsSpanned bytes f → PartsStand bytes (parts_of_file n f)
+parts_stand n bytes f spanned = subst (λ g. PartsStand bytes (parts_of_file n g)) (spanned-texts of_files bytes f spanned) (in_file bytes n f)

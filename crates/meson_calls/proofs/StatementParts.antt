@@ -12,7 +12,7 @@ use Rattle.meson_syntax.specs.Tree.{selection, iteration, branches_of, statement
 use Rattle.meson_syntax.specs.View.{names_at, expr_view, stmt_view, stmts_view, block_view, branch_view, branches_view}
 use Rattle.meson_calls.specs.declared.call.CallRef.{CallRef}
 use Rattle.meson_calls.specs.Project.{Placed, child}
-use Rattle.meson_calls.specs.Parts.{Part, statement_parts, statements_parts, branches_parts, branches_child_count}
+use Rattle.meson_calls.specs.Parts.{Part, parts_of_statement, parts_of_statements, parts_of_branches, branches_child_count}
 use Rattle.meson_calls.specs.Walks.{else_view, parts_of_branch}
 
 module _ (source : List ℕ) where
@@ -41,13 +41,13 @@ module _ (source : List ℕ) where
 
   module _ (p : CallRef) where
     abbrev pub list_parts : ℕ → List Stmt → List (Placed (Part Span))
-    list_parts n ss = statements_parts p n (statements_of (stmts_view source ss))
+    list_parts n ss = parts_of_statements p n (statements_of (stmts_view source ss))
 
     abbrev pub list_part : ℕ → Stmt → List (Placed (Part Span))
-    list_part n s = statement_parts (child p n) (stmt_view source s)
+    list_part n s = parts_of_statement (child p n) (stmt_view source s)
 
     abbrev pub conditions_parts : ℕ → List Branch → List (Placed (Part Span))
-    conditions_parts n bs = branches_parts p n (branches_of (branches_view source bs))
+    conditions_parts n bs = parts_of_branches p n (branches_of (branches_view source bs))
 
     abbrev pub conditions_part : ℕ → Branch → List (Placed (Part Span))
     conditions_part n b = parts_of_branch p n (branch_view source b)

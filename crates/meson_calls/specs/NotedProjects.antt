@@ -6,7 +6,7 @@ use Rattle.meson_calls.specs.declared.noted.Noted.{Noted}
 use Rattle.meson_calls.specs.Loading.{IsProject, Loaded, loaded_from, project}
 use Rattle.meson_calls.specs.Notes.{note_views}
 use Rattle.meson_calls.specs.Project.{Project}
-use Rattle.meson_calls.specs.Spelling.{AreNotesWith, setter_words, words_of}
+use Rattle.meson_calls.specs.Spelling.{AreNotesWith, setter_words, sought_words}
 
 abbrev pub loaded_in : Noted → Loaded
 loaded_in n = loaded_from n.files.now n.trees.now
@@ -22,7 +22,7 @@ pub record IsNoted (words : List (List ℕ)) (n : Noted) : Type 0 where
 
 -- the notes by which an id is found
 abbrev pub IsNotedFor : Role → List ℕ → Noted → Type 0
-IsNotedFor role id n = IsNoted (words_of role id) n
+IsNotedFor role id n = IsNoted (sought_words role id) n
 
 -- those by which variables stand for something
 abbrev pub IsNotedForVariables : Noted → Type 0

@@ -33,79 +33,79 @@ branches_child_count (branch e b more) = 2 + branches_child_count more
 -- ---- parts of an expression at a place; of lists within it, from its n-th child on
 
 abbrev mutual
-  pub expression_parts : {S : Type 0} → CallRef → Expression S → List (Placed (Part S))
-  expression_parts p (identifier s x) = placed p (an_expression (identifier s x)) ∷ []
-  expression_parts p (boolean s b) = placed p (an_expression (boolean s b)) ∷ []
-  expression_parts p (integer s x) = placed p (an_expression (integer s x)) ∷ []
-  expression_parts p (string s q x) = placed p (an_expression (string s q x)) ∷ []
-  expression_parts p (paren s e) = placed p (an_expression (paren s e)) ∷ expression_parts (child p 0) e
-  expression_parts p (array l) = placed p (an_expression (array l)) ∷ listing_parts p 0 l
-  expression_parts p (dictionary l) = placed p (an_expression (dictionary l)) ∷ listing_parts p 0 l
-  expression_parts p (call s x l) = placed p (an_expression (call s x l)) ∷ listing_parts p 0 l
-  expression_parts p (unary s o e) = placed p (an_expression (unary s o e)) ∷ expression_parts (child p 0) e
-  expression_parts p (row s e os) = placed p (an_expression (row s e os)) ∷ (expression_parts (child p 0) e ++ operands_parts p 1 os)
-  expression_parts p (postfix s e ts) = placed p (an_expression (postfix s e ts)) ∷ (expression_parts (child p 0) e ++ tails_parts p 1 ts)
-  expression_parts p (conditional s c y n) =
-      placed p (an_expression (conditional s c y n)) ∷ (expression_parts (child p 0) c ++ (expression_parts (child p 1) y ++ expression_parts (child p 2) n))
+  pub parts_of_expression : {S : Type 0} → CallRef → Expression S → List (Placed (Part S))
+  parts_of_expression p (identifier s x) = placed p (an_expression (identifier s x)) ∷ []
+  parts_of_expression p (boolean s b) = placed p (an_expression (boolean s b)) ∷ []
+  parts_of_expression p (integer s x) = placed p (an_expression (integer s x)) ∷ []
+  parts_of_expression p (string s q x) = placed p (an_expression (string s q x)) ∷ []
+  parts_of_expression p (paren s e) = placed p (an_expression (paren s e)) ∷ parts_of_expression (child p 0) e
+  parts_of_expression p (array l) = placed p (an_expression (array l)) ∷ parts_of_listing p 0 l
+  parts_of_expression p (dictionary l) = placed p (an_expression (dictionary l)) ∷ parts_of_listing p 0 l
+  parts_of_expression p (call s x l) = placed p (an_expression (call s x l)) ∷ parts_of_listing p 0 l
+  parts_of_expression p (unary s o e) = placed p (an_expression (unary s o e)) ∷ parts_of_expression (child p 0) e
+  parts_of_expression p (row s e os) = placed p (an_expression (row s e os)) ∷ (parts_of_expression (child p 0) e ++ parts_of_operands p 1 os)
+  parts_of_expression p (postfix s e ts) = placed p (an_expression (postfix s e ts)) ∷ (parts_of_expression (child p 0) e ++ parts_of_tails p 1 ts)
+  parts_of_expression p (conditional s c y n) =
+      placed p (an_expression (conditional s c y n)) ∷ (parts_of_expression (child p 0) c ++ (parts_of_expression (child p 1) y ++ parts_of_expression (child p 2) n))
 
-  pub operands_parts : {S : Type 0} → CallRef → ℕ → Operands S → List (Placed (Part S))
-  operands_parts p n no_operands = []
-  operands_parts p n (operand o e more) = expression_parts (child p n) e ++ operands_parts p (n + 1) more
+  pub parts_of_operands : {S : Type 0} → CallRef → ℕ → Operands S → List (Placed (Part S))
+  parts_of_operands p n no_operands = []
+  parts_of_operands p n (operand o e more) = parts_of_expression (child p n) e ++ parts_of_operands p (n + 1) more
 
-  pub tail_parts : {S : Type 0} → CallRef → ℕ → Tail S → List (Placed (Part S))
-  tail_parts p n (method s x l) = listing_parts p n l
-  tail_parts p n (index s e) = expression_parts (child p n) e
+  pub parts_of_tail : {S : Type 0} → CallRef → ℕ → Tail S → List (Placed (Part S))
+  parts_of_tail p n (method s x l) = parts_of_listing p n l
+  parts_of_tail p n (index s e) = parts_of_expression (child p n) e
 
-  pub tails_parts : {S : Type 0} → CallRef → ℕ → Tails S → List (Placed (Part S))
-  tails_parts p n no_tails = []
-  tails_parts p n (tail t more) = tail_parts p n t ++ tails_parts p (n + tail_child_count t) more
+  pub parts_of_tails : {S : Type 0} → CallRef → ℕ → Tails S → List (Placed (Part S))
+  parts_of_tails p n no_tails = []
+  parts_of_tails p n (tail t more) = parts_of_tail p n t ++ parts_of_tails p (n + tail_child_count t) more
 
-  pub listing_parts : {S : Type 0} → CallRef → ℕ → Listing S → List (Placed (Part S))
-  listing_parts p n (listing s trailing list) = arguments_parts p n list
+  pub parts_of_listing : {S : Type 0} → CallRef → ℕ → Listing S → List (Placed (Part S))
+  parts_of_listing p n (listing s trailing list) = parts_of_arguments p n list
 
-  pub argument_parts : {S : Type 0} → CallRef → ℕ → Argument S → List (Placed (Part S))
-  argument_parts p n (plain e) = expression_parts (child p n) e
-  argument_parts p n (named s x e) = expression_parts (child p n) e
-  argument_parts p n (pair s e f) = expression_parts (child p n) e ++ expression_parts (child p (n + 1)) f
+  pub parts_of_argument : {S : Type 0} → CallRef → ℕ → Argument S → List (Placed (Part S))
+  parts_of_argument p n (plain e) = parts_of_expression (child p n) e
+  parts_of_argument p n (named s x e) = parts_of_expression (child p n) e
+  parts_of_argument p n (pair s e f) = parts_of_expression (child p n) e ++ parts_of_expression (child p (n + 1)) f
 
-  pub arguments_parts : {S : Type 0} → CallRef → ℕ → Arguments S → List (Placed (Part S))
-  arguments_parts p n no_arguments = []
-  arguments_parts p n (argument a more) = argument_parts p n a ++ arguments_parts p (n + argument_child_count a) more
+  pub parts_of_arguments : {S : Type 0} → CallRef → ℕ → Arguments S → List (Placed (Part S))
+  parts_of_arguments p n no_arguments = []
+  parts_of_arguments p n (argument a more) = parts_of_argument p n a ++ parts_of_arguments p (n + argument_child_count a) more
 
 -- ---- parts of statements
 
 abbrev mutual
-  pub statement_parts : {S : Type 0} → CallRef → Statement S → List (Placed (Part S))
-  statement_parts p (evaluate e) = placed p (a_statement (evaluate e)) ∷ expression_parts (child p 0) e
-  statement_parts p (assign s x a e) = placed p (a_statement (assign s x a e)) ∷ expression_parts (child p 0) e
-  statement_parts p (selection s bs o) = placed p (a_statement (selection s bs o)) ∷ (branches_parts p 0 bs ++ otherwise_parts p (branches_child_count bs) o)
-  statement_parts p (iteration s xs e b) = placed p (a_statement (iteration s xs e b)) ∷ (expression_parts (child p 0) e ++ block_parts (child p 1) b)
-  statement_parts p (breaks s) = placed p (a_statement (breaks s)) ∷ []
-  statement_parts p (continues s) = placed p (a_statement (continues s)) ∷ []
+  pub parts_of_statement : {S : Type 0} → CallRef → Statement S → List (Placed (Part S))
+  parts_of_statement p (evaluate e) = placed p (a_statement (evaluate e)) ∷ parts_of_expression (child p 0) e
+  parts_of_statement p (assign s x a e) = placed p (a_statement (assign s x a e)) ∷ parts_of_expression (child p 0) e
+  parts_of_statement p (selection s bs o) = placed p (a_statement (selection s bs o)) ∷ (parts_of_branches p 0 bs ++ parts_of_otherwise p (branches_child_count bs) o)
+  parts_of_statement p (iteration s xs e b) = placed p (a_statement (iteration s xs e b)) ∷ (parts_of_expression (child p 0) e ++ parts_of_block (child p 1) b)
+  parts_of_statement p (breaks s) = placed p (a_statement (breaks s)) ∷ []
+  parts_of_statement p (continues s) = placed p (a_statement (continues s)) ∷ []
 
-  pub branches_parts : {S : Type 0} → CallRef → ℕ → Branches S → List (Placed (Part S))
-  branches_parts p n no_branches = []
-  branches_parts p n (branch e b more) = expression_parts (child p n) e ++ (block_parts (child p (n + 1)) b ++ branches_parts p (n + 2) more)
+  pub parts_of_branches : {S : Type 0} → CallRef → ℕ → Branches S → List (Placed (Part S))
+  parts_of_branches p n no_branches = []
+  parts_of_branches p n (branch e b more) = parts_of_expression (child p n) e ++ (parts_of_block (child p (n + 1)) b ++ parts_of_branches p (n + 2) more)
 
-  pub otherwise_parts : {S : Type 0} → CallRef → ℕ → Otherwise S → List (Placed (Part S))
-  otherwise_parts p n nothing_else = []
-  otherwise_parts p n (otherwise b) = block_parts (child p n) b
+  pub parts_of_otherwise : {S : Type 0} → CallRef → ℕ → Otherwise S → List (Placed (Part S))
+  parts_of_otherwise p n nothing_else = []
+  parts_of_otherwise p n (otherwise b) = parts_of_block (child p n) b
 
-  pub statements_parts : {S : Type 0} → CallRef → ℕ → Statements S → List (Placed (Part S))
-  statements_parts p n no_statements = []
-  statements_parts p n (statement s more) = statement_parts (child p n) s ++ statements_parts p (n + 1) more
+  pub parts_of_statements : {S : Type 0} → CallRef → ℕ → Statements S → List (Placed (Part S))
+  parts_of_statements p n no_statements = []
+  parts_of_statements p n (statement s more) = parts_of_statement (child p n) s ++ parts_of_statements p (n + 1) more
 
-  pub block_parts : {S : Type 0} → CallRef → Block S → List (Placed (Part S))
-  block_parts p (block s list) = statements_parts p 0 list
+  pub parts_of_block : {S : Type 0} → CallRef → Block S → List (Placed (Part S))
+  parts_of_block p (block s list) = parts_of_statements p 0 list
 
 -- ---- of files, of which the first has the number n
 
-abbrev pub file_parts : {S : Type 0} → ℕ → File S → List (Placed (Part S))
-file_parts n (file s b) = block_parts (place n []) b
+abbrev pub parts_of_file : {S : Type 0} → ℕ → File S → List (Placed (Part S))
+parts_of_file n (file s b) = parts_of_block (place n []) b
 
 abbrev pub parts_from : {S : Type 0} → ℕ → Project S → List (Placed (Part S))
 parts_from n [] = []
-parts_from n (f ∷ files) = file_parts n f.tree ++ parts_from (n + 1) files
+parts_from n (f ∷ files) = parts_of_file n f.tree ++ parts_from (n + 1) files
 
 abbrev pub parts : {S : Type 0} → Project S → List (Placed (Part S))
 parts p = parts_from 0 p

@@ -7,7 +7,7 @@ use Rattle.meson_syntax.specs.View.{text_at, view}
 use Rattle.meson_calls.specs.declared.call.Role.{Role}
 use Rattle.meson_calls.specs.declared.call.Role.TheVariants as role
 use Rattle.meson_calls.specs.Project.{Placed}
-use Rattle.meson_calls.specs.Parts.{file_parts}
+use Rattle.meson_calls.specs.Parts.{parts_of_file}
 use Rattle.meson_calls.specs.Notes.{Note, noted, without_calls}
 
 -- no part of the bytes is the word
@@ -22,8 +22,8 @@ HasNoneOf words bytes = All (λ word. HasNone word bytes) words
 
 -- Notes begin with all those of a file; or it has none of the words, and they begin with its assignments and loops.
 pub data AreNotesOf (words : List (List ℕ)) (n : ℕ) (f : File) (t : Parsed) (Further : List (Placed (Note Span)) → Type 0) (ns : List (Placed (Note Span))) : Type 0 where
-  whole : (more : List (Placed (Note Span))) → Further more → ns ≡ noted (file_parts n (view f.bytes t)) ++ more → AreNotesOf words n f t Further ns
-  less : (more : List (Placed (Note Span))) → HasNoneOf words f.bytes → Further more → ns ≡ without_calls (noted (file_parts n (view f.bytes t))) ++ more
+  whole : (more : List (Placed (Note Span))) → Further more → ns ≡ noted (parts_of_file n (view f.bytes t)) ++ more → AreNotesOf words n f t Further ns
+  less : (more : List (Placed (Note Span))) → HasNoneOf words f.bytes → Further more → ns ≡ without_calls (noted (parts_of_file n (view f.bytes t))) ++ more
       → AreNotesOf words n f t Further ns
 
 -- Notes of files, of which the first has the number n; the calls of files that have none of the words may be missing.
@@ -35,9 +35,9 @@ AreNotesWith words n _ _ ns = ns ≡ []
 
 -- One of them stands in each file where the id names a call: the id itself, or the backslash with which an escape in a name begins; for a
 -- project the function.
-abbrev pub words_of : Role → List ℕ → List (List ℕ)
-words_of role.Project id = codes "project" ∷ []
-words_of _ id = id ∷ (92 ∷ []) ∷ []
+abbrev pub sought_words : Role → List ℕ → List (List ℕ)
+sought_words role.Project id = codes "project" ∷ []
+sought_words _ id = id ∷ (92 ∷ []) ∷ []
 
 -- one of them stands in each file in which a call sets a variable, or may set any
 abbrev pub setter_words : List (List ℕ)

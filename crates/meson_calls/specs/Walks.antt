@@ -12,7 +12,7 @@ use Rattle.meson_calls.specs.declared.part.Part as rust_part
 use Rattle.meson_calls.specs.declared.part.Part.TheVariants as rust
 use Rattle.meson_calls.specs.declared.part.Walk.{Walk}
 use Rattle.meson_calls.specs.Project.{Placed, placed, place, child}
-use Rattle.meson_calls.specs.Parts.{Part, an_expression, a_statement, expression_parts, statement_parts, block_parts}
+use Rattle.meson_calls.specs.Parts.{Part, an_expression, a_statement, parts_of_expression, parts_of_statement, parts_of_block}
 use Rattle.meson_calls.specs.Notes.{Note, noted, taken_view, without_calls}
 
 -- ---- where a variable is read
@@ -82,10 +82,10 @@ behind_first [] = []
 behind_first (x ∷ xs) = xs
 
 abbrev pub parts_within : {S : Type 0} → CallRef → Expression S → List (Placed (Part S))
-parts_within p e = behind_first (expression_parts p e)
+parts_within p e = behind_first (parts_of_expression p e)
 
 abbrev pub parts_inside : {S : Type 0} → CallRef → Statement S → List (Placed (Part S))
-parts_inside p s = behind_first (statement_parts p s)
+parts_inside p s = behind_first (parts_of_statement p s)
 
 -- the block behind `else`, if there is one
 abbrev pub else_view : List ℕ → Option rust_block.Block → Otherwise Span
@@ -94,4 +94,4 @@ else_view source (Some b) = otherwise (block_view source b)
 
 -- a condition and the block behind it, from the n-th child on
 abbrev pub parts_of_branch : {S : Type 0} → CallRef → ℕ → Expression S × Block S → List (Placed (Part S))
-parts_of_branch p n b = expression_parts (child p n) b.0 ++ block_parts (child p (n + 1)) b.1
+parts_of_branch p n b = parts_of_expression (child p n) b.0 ++ parts_of_block (child p (n + 1)) b.1

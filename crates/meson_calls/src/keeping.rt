@@ -4,7 +4,7 @@ ghost use Rattle.std.specs.Prelude.{◌≡◌, ◌∷◌, [], ◌++◌, IsTrue, 
 ghost use Rattle.meson_syntax.specs.View.{expr_view};
 ghost use Rattle.meson_calls.specs.declared.call.CallRef.{CallRef};
 ghost use Rattle.meson_calls.specs.Notes.{note_of, noted, taken_view, what_view, without_calls};
-ghost use Rattle.meson_calls.specs.Parts.{expression_parts};
+ghost use Rattle.meson_calls.specs.Parts.{parts_of_expression};
 ghost use Rattle.meson_calls.specs.Picking.{Source};
 ghost use Rattle.meson_calls.specs.Variables.{is_set};
 ghost use Rattle.meson_calls.specs.Walks.{KeepsParts, keeper_view, notes_of_kept, part_at, part_reads, part_view, read_in, reads_of_kept};
@@ -68,7 +68,7 @@ fn note_in(stmt: &Stmt) -> Option<What<'_>>
 
 /// Whether the expression is one of which there is no note, and in which none stands.
 fn is_plain(value: &Expr) -> bool
-    ensures { IsTrue result → (source : Source) (p : CallRef) → noted (expression_parts p (expr_view source value.now)) ≡ [] }
+    ensures { IsTrue result → (source : Source) (p : CallRef) → noted (parts_of_expression p (expr_view source value.now)) ≡ [] }
 {
     match value {
         Expr::Identifier(_) => true,
@@ -82,7 +82,7 @@ fn is_plain(value: &Expr) -> bool
 impl<'t> Keeper<'t> {
     /// Whether nothing is kept of the expression, whatever place it has, and nothing in it. So a walk may pass it by.
     pub fn passes(&self, expr: &Expr) -> bool
-        ensures { IsTrue result → (source : Source) (p : CallRef) → KeepsParts self.now (expression_parts p (expr_view source expr.now)) self.now }
+        ensures { IsTrue result → (source : Source) (p : CallRef) → KeepsParts self.now (parts_of_expression p (expr_view source expr.now)) self.now }
     {
         match self {
             Keeper::Notes(_) => is_plain(expr),

@@ -3,10 +3,10 @@
 ghost use Rattle.std.specs.Prelude.{◌≡◌, ◌++◌, if◌then◌else◌, IfOk};
 ghost use Rattle.meson_syntax.specs.Reads.{IsSpanned};
 ghost use Rattle.meson_syntax.specs.View.{view};
-ghost use Rattle.meson_calls.specs.Parts.{file_parts};
+ghost use Rattle.meson_calls.specs.Parts.{parts_of_file};
 ghost use Rattle.meson_calls.specs.Loading.{AreParsed, named_trees, views};
 ghost use Rattle.meson_calls.specs.Notes.{noted, notes, taken_view, without_calls};
-ghost use Rattle.meson_calls.specs.Spelling.{AreNotesWith, setter_words, words_of};
+ghost use Rattle.meson_calls.specs.Spelling.{AreNotesWith, setter_words, sought_words};
 ghost use Rattle.meson_calls.specs.Walks.{keeper_view, notes_kept, statements_kept};
 
 use crate::call::Role;
@@ -29,7 +29,7 @@ pub fn notes_in<'t>(
     parsed: &'t Parsed,
 ) -> Result<Taken<'t>, AllocError>
     requires { IsSpanned source.now (view source.now parsed.now) }
-    ensures { IfOk result (λ found. taken_view found ≡ noted (file_parts file (view source.entry.now parsed.entry.now))) }
+    ensures { IfOk result (λ found. taken_view found ≡ noted (parts_of_file file (view source.entry.now parsed.entry.now))) }
 {
     let mut keeper = Keeper::Notes(Taken::new(alloc));
     walk_file(alloc, file, source, parsed, &mut keeper)?;
@@ -80,7 +80,7 @@ fn with_file<'t>(
     taken: Taken<'t>,
 ) -> Result<Taken<'t>, AllocError>
     requires { IsSpanned source.now (view source.now parsed.now) }
-    ensures { let here = noted (file_parts file (view source.entry.now parsed.entry.now)) in
+    ensures { let here = noted (parts_of_file file (view source.entry.now parsed.entry.now)) in
         IfOk result (λ found. taken_view found ≡ taken_view taken.entry ++ (if calls then here else without_calls here)) }
 {
     let mut keeper = keeper_of(calls, taken);
@@ -104,7 +104,14 @@ fn notes_with<'t>(
     let mut taken = Taken::new(alloc);
     for i in 0..trees.len() {
         let source = files.bytes(i);
-        taken = with_file(alloc, i, source, &trees[i], words.may_stand_in(source), taken)?;
+        taken = with_file(
+            alloc,
+            i,
+            source,
+            &trees[i],
+            words.may_stand_in(source),
+            taken,
+        )?;
     }
     Ok(taken)
 }
@@ -121,7 +128,7 @@ pub fn notes_for<'t>(
     trees: &'t [Parsed],
 ) -> Result<Taken<'t>, AllocError>
     requires { AreParsed files.now trees.now }
-    ensures { IfOk result (λ found. AreNotesWith (words_of role id.now ++ setter_words) 0 files.now trees.now (taken_view found)) }
+    ensures { IfOk result (λ found. AreNotesWith (sought_words role id.now ++ setter_words) 0 files.now trees.now (taken_view found)) }
 {
     let words = Words::of_id(alloc, role, id)?;
     notes_with(alloc, &words, files, trees)

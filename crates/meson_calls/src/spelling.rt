@@ -1,7 +1,7 @@
 //! Words of which one stands in each file that matters.
 
 ghost use Rattle.std.specs.Prelude.{◌≡◌, ◌++◌, [], IfOk, false};
-ghost use Rattle.meson_calls.specs.Spelling.{HasNoneOf, setter_words, words_of};
+ghost use Rattle.meson_calls.specs.Spelling.{HasNoneOf, setter_words, sought_words};
 
 use crate::call::Role;
 use memchr::memmem::Finder;
@@ -32,7 +32,7 @@ impl<'w> Words<'w> {
     /// # Errors
     /// Memory was refused.
     pub(crate) fn of_id(alloc: Global, role: Role, id: &'w str) -> Result<Words<'w>, AllocError>
-        ensures { IfOk result (λ w. w.words.items ≡ words_of role id.now ++ setter_words) }
+        ensures { IfOk result (λ w. w.words.items ≡ sought_words role id.now ++ setter_words) }
     {
         let mut words = Vec::new(alloc);
         match role {

@@ -7,7 +7,7 @@ ghost use Rattle.meson_syntax.specs.Grammar.{expression_words, operands_words, t
 ghost use Rattle.meson_syntax.specs.Tree.{arguments_of, operands_of, tails_of};
 ghost use Rattle.meson_syntax.specs.View.{expr_view, arg_view, args_view, tail_view, tails_view, operands_view, list_view};
 ghost use Rattle.meson_calls.specs.Project.{place, child};
-ghost use Rattle.meson_calls.specs.Parts.{expression_parts, argument_parts, arguments_parts, operands_parts, tail_parts, tails_parts, listing_parts, argument_child_count, arguments_child_count, tail_child_count};
+ghost use Rattle.meson_calls.specs.Parts.{parts_of_expression, parts_of_argument, parts_of_arguments, parts_of_operands, parts_of_tail, parts_of_tails, parts_of_listing, argument_child_count, arguments_child_count, tail_child_count};
 ghost use Rattle.meson_calls.specs.Walks.{KeepsParts, parts_within};
 
 use crate::keeper::Keeper;
@@ -28,7 +28,7 @@ impl<'t> Walk<'t> {
         requires fits { length (expression_words (expr_view self.now.source.now expr.now)) < 2 ^ 64 }
         ensures back { OnOk result (path.new.items ≡ path.old.items) }
         ensures all { OnOk result (KeepsParts keeper.old
-            (expression_parts (child (place self.now.file path.old.items) number) (expr_view self.now.source.now expr.now)) keeper.new) }
+            (parts_of_expression (child (place self.now.file path.old.items) number) (expr_view self.now.source.now expr.now)) keeper.new) }
     {
         if keeper.passes(expr) {
             return Ok(());
@@ -97,7 +97,7 @@ impl<'t> Walk<'t> {
         requires fits { length (arguments_words (arguments_of (args_view self.now.source.now list.now.items)) false) < 2 ^ 64 }
         ensures back { OnOk result (path.new.items ≡ path.old.items) }
         ensures all { OnOk result (KeepsParts keeper.old
-            (listing_parts (place self.now.file path.old.items) 0 (list_view self.now.source.now list.now)) keeper.new) }
+            (parts_of_listing (place self.now.file path.old.items) 0 (list_view self.now.source.now list.now)) keeper.new) }
     {
         self.in_args(0, list.items.get(), path, keeper)?;
         Ok(())
@@ -115,7 +115,7 @@ impl<'t> Walk<'t> {
         requires fits { first + length (arguments_words (arguments_of (args_view self.now.source.now args.now)) false) < 2 ^ 64 }
         ensures back { OnOk result (path.new.items ≡ path.old.items) }
         ensures all { OnOk result (KeepsParts keeper.old
-            (arguments_parts (place self.now.file path.old.items) first (arguments_of (args_view self.now.source.now args.now))) keeper.new) }
+            (parts_of_arguments (place self.now.file path.old.items) first (arguments_of (args_view self.now.source.now args.now))) keeper.new) }
         ensures after { IfOk result (λ n. n ≡ first + arguments_child_count (arguments_of (args_view self.now.source.now args.now))) }
     {
         let mut number = first;
@@ -137,7 +137,7 @@ impl<'t> Walk<'t> {
         requires fits { number + length (argument_words (arg_view self.now.source.now arg.now)) < 2 ^ 64 }
         ensures back { OnOk result (path.new.items ≡ path.old.items) }
         ensures all { OnOk result (KeepsParts keeper.old
-            (argument_parts (place self.now.file path.old.items) number (arg_view self.now.source.now arg.now)) keeper.new) }
+            (parts_of_argument (place self.now.file path.old.items) number (arg_view self.now.source.now arg.now)) keeper.new) }
         ensures after { IfOk result (λ n. n ≡ number + argument_child_count (arg_view self.now.source.now arg.now)) }
     {
         match arg {
@@ -167,7 +167,7 @@ impl<'t> Walk<'t> {
         requires fits { length (operands_words (operands_of (operands_view self.now.source.now operands.now))) < 2 ^ 64 }
         ensures back { OnOk result (path.new.items ≡ path.old.items) }
         ensures all { OnOk result (KeepsParts keeper.old
-            (operands_parts (place self.now.file path.old.items) 1 (operands_of (operands_view self.now.source.now operands.now))) keeper.new) }
+            (parts_of_operands (place self.now.file path.old.items) 1 (operands_of (operands_view self.now.source.now operands.now))) keeper.new) }
     {
         for i in 0..operands.len() {
             self.in_child(i + 1, &operands[i].value, path, keeper)?;
@@ -185,7 +185,7 @@ impl<'t> Walk<'t> {
         requires fits { 1 + length (tails_words (tails_of (tails_view self.now.source.now tails.now))) < 2 ^ 64 }
         ensures back { OnOk result (path.new.items ≡ path.old.items) }
         ensures all { OnOk result (KeepsParts keeper.old
-            (tails_parts (place self.now.file path.old.items) 1 (tails_of (tails_view self.now.source.now tails.now))) keeper.new) }
+            (parts_of_tails (place self.now.file path.old.items) 1 (tails_of (tails_view self.now.source.now tails.now))) keeper.new) }
     {
         let mut number = 1;
         for i in 0..tails.len() {
@@ -205,7 +205,7 @@ impl<'t> Walk<'t> {
         requires fits { number + length (tail_words (tail_view self.now.source.now tail.now)) < 2 ^ 64 }
         ensures back { OnOk result (path.new.items ≡ path.old.items) }
         ensures all { OnOk result (KeepsParts keeper.old
-            (tail_parts (place self.now.file path.old.items) number (tail_view self.now.source.now tail.now)) keeper.new) }
+            (parts_of_tail (place self.now.file path.old.items) number (tail_view self.now.source.now tail.now)) keeper.new) }
         ensures after { IfOk result (λ n. n ≡ number + tail_child_count (tail_view self.now.source.now tail.now)) }
     {
         match tail {

@@ -8,7 +8,7 @@ ghost use Rattle.meson_syntax.specs.Tree.{branches_of, statements_of};
 ghost use Rattle.meson_syntax.specs.View.{stmt_view, stmts_view, block_view, branch_view, branches_view, view};
 ghost use Rattle.meson_calls.specs.Loading.{AreParsed, named_trees, views};
 ghost use Rattle.meson_calls.specs.Project.{place, child};
-ghost use Rattle.meson_calls.specs.Parts.{statement_parts, statements_parts, block_parts, branches_parts, otherwise_parts, file_parts, parts};
+ghost use Rattle.meson_calls.specs.Parts.{parts_of_statement, parts_of_statements, parts_of_block, parts_of_branches, parts_of_otherwise, parts_of_file, parts};
 ghost use Rattle.meson_calls.specs.Walks.{KeepsParts, else_view, parts_of_branch, parts_inside};
 
 use crate::keeper::Keeper;
@@ -30,7 +30,7 @@ impl<'t> Walk<'t> {
         requires fits { length (statement_words (stmt_view self.now.source.now stmt.now)) < 2 ^ 64 }
         ensures back { OnOk result (path.new.items ≡ path.old.items) }
         ensures all { OnOk result (KeepsParts keeper.old
-            (statement_parts (child (place self.now.file path.old.items) number) (stmt_view self.now.source.now stmt.now)) keeper.new) }
+            (parts_of_statement (child (place self.now.file path.old.items) number) (stmt_view self.now.source.now stmt.now)) keeper.new) }
     {
         path.push(number)?;
         self.visit(path.as_slice(), Part::Statement(stmt), keeper)?;
@@ -87,7 +87,7 @@ impl<'t> Walk<'t> {
         requires fits { length (block_words (block_view self.now.source.now block.now)) < 2 ^ 64 }
         ensures back { OnOk result (path.new.items ≡ path.old.items) }
         ensures all { OnOk result (KeepsParts keeper.old
-            (block_parts (child (place self.now.file path.old.items) number) (block_view self.now.source.now block.now)) keeper.new) }
+            (parts_of_block (child (place self.now.file path.old.items) number) (block_view self.now.source.now block.now)) keeper.new) }
     {
         path.push(number)?;
         self.in_stmts(block.statements.get(), path, keeper)?;
@@ -105,7 +105,7 @@ impl<'t> Walk<'t> {
         requires fits { length (statements_words (statements_of (stmts_view self.now.source.now stmts.now))) < 2 ^ 64 }
         ensures back { OnOk result (path.new.items ≡ path.old.items) }
         ensures all { OnOk result (KeepsParts keeper.old
-            (statements_parts (place self.now.file path.old.items) 0 (statements_of (stmts_view self.now.source.now stmts.now))) keeper.new) }
+            (parts_of_statements (place self.now.file path.old.items) 0 (statements_of (stmts_view self.now.source.now stmts.now))) keeper.new) }
     {
         for i in 0..stmts.len() {
             self.in_stmt_at(i, &stmts[i], path, keeper)?;
@@ -124,7 +124,7 @@ impl<'t> Walk<'t> {
         requires fits { length (branches_words (branches_of (branches_view self.now.source.now branches.now)) WordIf) < 2 ^ 64 }
         ensures back { OnOk result (path.new.items ≡ path.old.items) }
         ensures all { OnOk result (KeepsParts keeper.old
-            (branches_parts (place self.now.file path.old.items) 0 (branches_of (branches_view self.now.source.now branches.now))) keeper.new) }
+            (parts_of_branches (place self.now.file path.old.items) 0 (branches_of (branches_view self.now.source.now branches.now))) keeper.new) }
     {
         for i in 0..branches.len() {
             self.in_branch(i, &branches[i], path, keeper)?;
@@ -165,7 +165,7 @@ impl<'t> Walk<'t> {
         requires fits { length (otherwise_words (else_view self.now.source.now otherwise.now)) < 2 ^ 64 }
         ensures back { OnOk result (path.new.items ≡ path.old.items) }
         ensures all { OnOk result (KeepsParts keeper.old
-            (otherwise_parts (place self.now.file path.old.items) number (else_view self.now.source.now otherwise.now)) keeper.new) }
+            (parts_of_otherwise (place self.now.file path.old.items) number (else_view self.now.source.now otherwise.now)) keeper.new) }
     {
         match otherwise {
             Some(block) => self.in_block(number, block, path, keeper),
@@ -187,7 +187,7 @@ pub fn walk_file<'t>(
 ) -> Result<(), AllocError>
     requires { IsSpanned source.now (view source.now parsed.now) }
     ensures { OnOk result (KeepsParts keeper.old
-        (file_parts file (view source.now parsed.now)) keeper.new) }
+        (parts_of_file file (view source.now parsed.now)) keeper.new) }
 {
     let walk = Walk {
         alloc,

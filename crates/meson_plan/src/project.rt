@@ -6,7 +6,7 @@ ghost use Rattle.meson_layout.specs.Laws.{AreTexts};
 ghost use Rattle.meson_calls.specs.Loading.{IsProject, Loaded, MayNotLoad, project};
 ghost use Rattle.meson_calls.specs.NotedProjects.{IsNoted, loaded_in};
 ghost use Rattle.meson_calls.specs.Notes.{note_views, taken_view};
-ghost use Rattle.meson_calls.specs.Spelling.{AreNotesWith, setter_words, words_of};
+ghost use Rattle.meson_calls.specs.Spelling.{AreNotesWith, setter_words, sought_words};
 ghost use Rattle.meson_steps.specs.Done.{IsDone, MayNotBeDone};
 ghost use Rattle.meson_steps.specs.Working.{IsFresh, Restores, so_far};
 ghost use Rattle.meson_plan.specs.Performing.{KeepsUntouched, MayRefuse, Performs};
@@ -138,7 +138,7 @@ impl Project {
 
     /// Those, and the notes by which an id is found.
     fn notes_for(&self, alloc: Global, role: Role, id: &str) -> Result<Taken<'_>, AllocError>
-        ensures { let words = words_of role id.now ++ setter_words in
+        ensures { let words = sought_words role id.now ++ setter_words in
             IfOk result (λ found. AreNotesWith words 0 self.now.files self.now.parsed (taken_view found)) }
     {
         notes_for(alloc, role, id, &self.files, self.trees.as_slice())

@@ -20,7 +20,7 @@ use Rattle.meson_calls.specs.declared.refusal.Refusal.TheVariants.{WrongKind}
 use Rattle.meson_calls.specs.Calls.{Call, call_of, all_chosen, chosen, is, part_call}
 use Rattle.meson_calls.specs.Finding.{only_one}
 use Rattle.meson_calls.specs.Loading.{named_trees, project, views}
-use Rattle.meson_calls.specs.Parts.{Part, arguments_parts, file_parts, parts, parts_from, statement_parts, statements_parts}
+use Rattle.meson_calls.specs.Parts.{Part, parts_of_arguments, parts_of_file, parts, parts_from, parts_of_statement, parts_of_statements}
 use Rattle.meson_calls.specs.Project.{Placed, Project, child, place, placed}
 use Rattle.meson_calls.specs.Roles.{assigned_values, one_of, or_else, target_functions, with_name, with_role}
 use Rattle.meson_steps.proofs.WentWell.{then_was}
@@ -50,20 +50,20 @@ none_mapped f xs none = ap (map f) none
 
 -- ---- a statement at the end of a file
 
-statements_and_last : (p : CallRef) (n : ℕ) (list : Statements Nowhere) (x : Statement Nowhere) → (k : ℕ) × (statements_parts p n (and_last list x) ≡ statements_parts p n list ++ statement_parts (child p k) x)
-statements_and_last p n no_statements x = (n, append-nil (statement_parts (child p n) x))
+statements_and_last : (p : CallRef) (n : ℕ) (list : Statements Nowhere) (x : Statement Nowhere) → (k : ℕ) × (parts_of_statements p n (and_last list x) ≡ parts_of_statements p n list ++ parts_of_statement (child p k) x)
+statements_and_last p n no_statements x = (n, append-nil (parts_of_statement (child p n) x))
 statements_and_last p n (statement s more) x =
     let r = statements_and_last p (n + 1) more x in
-    (r.0, ap (λ l. statement_parts (child p n) s ++ l) r.1 ∙ sym (append_assoc (statement_parts (child p n) s) (statements_parts p (n + 1) more) (statement_parts (child p r.0) x)))
+    (r.0, ap (λ l. parts_of_statement (child p n) s ++ l) r.1 ∙ sym (append_assoc (parts_of_statement (child p n) s) (parts_of_statements p (n + 1) more) (parts_of_statement (child p r.0) x)))
 
-last_in : (n : ℕ) (t : Plain) (x : Statement Nowhere) → (k : ℕ) × (file_parts n (file_and_last t x) ≡ file_parts n t ++ statement_parts (child (place n []) k) x)
+last_in : (n : ℕ) (t : Plain) (x : Statement Nowhere) → (k : ℕ) × (parts_of_file n (file_and_last t x) ≡ parts_of_file n t ++ parts_of_statement (child (place n []) k) x)
 last_in n (file s (block b list)) x = statements_and_last (place n []) 0 list x
 
 -- where no call has the name, the calls that have it then are those of the new statement
 record Comes (id : List ℕ) (n : ℕ) (p : Project Nowhere) (x : Statement Nowhere) (i : ℕ) : Type 0 where
   at : CallRef
   in_file : at.file ≡ n + i
-  are : named_among id (parts_from n p) ≡ named_among id (statement_parts at x)
+  are : named_among id (parts_from n p) ≡ named_among id (parts_of_statement at x)
 
 module _ (id : List ℕ) (new : Written (Statement Nowhere)) where
   comes : (files : List File) (parsed : List Parsed) (n i : ℕ) (after : List Plain) → changed_at i (edited (Append new)) (map erase (views files parsed)) ≡ Some after
@@ -75,15 +75,15 @@ module _ (id : List ℕ) (new : Written (Statement Nowhere)) where
       let rest = map erase (views files parsed) in
       let same : file_and_last t new.node ∷ rest ≡ after = some-injective _ _ is in
       let l = last_in n t new.node in
-      let here = statement_parts (child (place n []) l.0) new.node in
+      let here = parts_of_statement (child (place n []) l.0) new.node in
       let behind = parts_from (n + 1) (named_trees files rest) in
-      let empty = both_empty (named_among id (file_parts n t)) (named_among id behind) (sym (joined id (file_parts n t) behind) ∙ none) in
+      let empty = both_empty (named_among id (parts_of_file n t)) (named_among id behind) (sym (joined id (parts_of_file n t) behind) ∙ none) in
       record {
         at = child (place n []) l.0;
         in_file = omega arith;
         are = ap (λ ts. named_among id (parts_from n (named_trees (f ∷ files) ts))) (sym same)
-            ∙ ap (λ m. named_among id (m ++ behind)) l.1 ∙ joined id (file_parts n t ++ here) behind
-            ∙ ap₂ (λ l m. l ++ m) (joined id (file_parts n t) here ∙ ap (λ m. m ++ named_among id here) empty.0) empty.1 ∙ append-nil (named_among id here);
+            ∙ ap (λ m. named_among id (m ++ behind)) l.1 ∙ joined id (parts_of_file n t ++ here) behind
+            ∙ ap₂ (λ l m. l ++ m) (joined id (parts_of_file n t) here ∙ ap (λ m. m ++ named_among id here) empty.0) empty.1 ∙ append-nil (named_among id here);
       }
   comes (f ∷ files) (d ∷ parsed) n (suc i) after is none =
       later (λ ts changed empty. comes files parsed (n + 1) i ts changed empty) (changed_at i (edited (Append new)) (map erase (views files parsed))) refl is
@@ -95,19 +95,19 @@ module _ (id : List ℕ) (new : Written (Statement Nowhere)) where
           let t = erase (view f.bytes d) in
           let behind = parts_from (n + 1) (named_trees files (map erase (views files parsed))) in
           let same : t ∷ ts ≡ after = some-injective _ _ made in
-          let empty = both_empty (named_among id (file_parts n t)) (named_among id behind) (sym (joined id (file_parts n t) behind) ∙ none) in
+          let empty = both_empty (named_among id (parts_of_file n t)) (named_among id behind) (sym (joined id (parts_of_file n t) behind) ∙ none) in
           let c = on ts changed empty.1 in
           let counted = c.in_file in
           record {
             at = c.at;
             in_file = omega (arith, counted);
             are = ap (λ us. named_among id (parts_from n (named_trees (f ∷ files) us))) (sym same)
-                ∙ joined id (file_parts n t) (parts_from (n + 1) (named_trees files ts)) ∙ ap (λ l. l ++ named_among id (parts_from (n + 1) (named_trees files ts))) empty.0 ∙ c.are;
+                ∙ joined id (parts_of_file n t) (parts_from (n + 1) (named_trees files ts)) ∙ ap (λ l. l ++ named_among id (parts_from (n + 1) (named_trees files ts))) empty.0 ∙ c.are;
           }
 
 -- ---- the calls of the new statement
 
-no_calls : (p : CallRef) (n : ℕ) (texts : List (List ℕ)) → all_chosen part_call (arguments_parts p n (arguments_of (map plain (map string_of texts)))) ≡ []
+no_calls : (p : CallRef) (n : ℕ) (texts : List (List ℕ)) → all_chosen part_call (parts_of_arguments p n (arguments_of (map plain (map string_of texts)))) ≡ []
 no_calls p n [] = refl
 no_calls p n (t ∷ texts) = no_calls p (n + 1) texts
 
@@ -115,7 +115,7 @@ module _ (kind name : List ℕ) (more : List (List ℕ)) (utf8 : IsUtf8 name) (k
   abbrev it : Call Nowhere
   it = call_with_texts kind (name ∷ more)
 
-  one_call : (q : CallRef) → named_among name (statement_parts q (target_statement kind (name ∷ more))) ≡ placed (child q 0) it ∷ []
+  one_call : (q : CallRef) → named_among name (parts_of_statement q (target_statement kind (name ∷ more))) ≡ placed (child q 0) it ∷ []
   one_call q =
       ap (λ l. all_chosen (with_name name) (all_chosen (with_role role.Target) (placed (child q 0) it ∷ l))) (no_calls (child q 0) 0 (name ∷ more))
       ∙ ap (λ b. all_chosen (with_name name) (cons_option (option_map (placed (child q 0)) (if b && true then Some it else None)) [])) known

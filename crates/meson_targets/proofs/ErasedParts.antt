@@ -10,7 +10,7 @@ use Rattle.meson_calls.specs.declared.call.CallRef.{CallRef}
 use Rattle.meson_calls.specs.declared.call.Role.TheVariants as role
 use Rattle.meson_calls.specs.Calls.{Call, Numbered, all_chosen, first_of, first_argument, first_literal, is, kept_number, literal_of, numbered, part_call, value_without_name}
 use Rattle.meson_calls.specs.Loading.{named_trees}
-use Rattle.meson_calls.specs.Parts.{Part, an_expression, a_statement, argument_child_count, argument_parts, arguments_child_count, arguments_parts, block_parts, branches_child_count, branches_parts, expression_parts, file_parts, listing_parts, operands_parts, otherwise_parts, parts_from, statement_parts, statements_parts, tail_child_count, tail_parts, tails_parts}
+use Rattle.meson_calls.specs.Parts.{Part, an_expression, a_statement, argument_child_count, parts_of_argument, arguments_child_count, parts_of_arguments, parts_of_block, branches_child_count, parts_of_branches, parts_of_expression, parts_of_file, parts_of_listing, parts_of_operands, parts_of_otherwise, parts_from, parts_of_statement, parts_of_statements, tail_child_count, parts_of_tail, parts_of_tails}
 use Rattle.meson_calls.specs.Project.{Placed, child, place, placed}
 use Rattle.meson_calls.specs.Roles.{has_role, one_of, target_functions, with_name, with_role}
 
@@ -64,7 +64,7 @@ module _ {S : Type 0} where
   branches_count (branch e b more) = ap (λ n. 2 + n) (branches_count more)
 
   mutual
-    in_expression : (p : CallRef) (e : Expression S) → expression_parts p (erase_expression e) ≡ map bare_placed (expression_parts p e)
+    in_expression : (p : CallRef) (e : Expression S) → parts_of_expression p (erase_expression e) ≡ map bare_placed (parts_of_expression p e)
     in_expression p (identifier s x) = refl
     in_expression p (boolean s b) = refl
     in_expression p (integer s x) = refl
@@ -75,80 +75,80 @@ module _ {S : Type 0} where
     in_expression p (call s x l) = ap (λ m. placed p (an_expression (erase_expression (call s x l))) ∷ m) (in_listing p 0 l)
     in_expression p (unary s o e) = ap (λ l. placed p (an_expression (erase_expression (unary s o e))) ∷ l) (in_expression (child p 0) e)
     in_expression p (row s e os) =
-        ap (λ l. placed p (an_expression (erase_expression (row s e os))) ∷ l) (both (expression_parts (child p 0) e) (operands_parts p 1 os) (in_expression (child p 0) e) (in_operands p 1 os))
+        ap (λ l. placed p (an_expression (erase_expression (row s e os))) ∷ l) (both (parts_of_expression (child p 0) e) (parts_of_operands p 1 os) (in_expression (child p 0) e) (in_operands p 1 os))
     in_expression p (postfix s e ts) =
-        ap (λ l. placed p (an_expression (erase_expression (postfix s e ts))) ∷ l) (both (expression_parts (child p 0) e) (tails_parts p 1 ts) (in_expression (child p 0) e) (in_tails p 1 ts))
+        ap (λ l. placed p (an_expression (erase_expression (postfix s e ts))) ∷ l) (both (parts_of_expression (child p 0) e) (parts_of_tails p 1 ts) (in_expression (child p 0) e) (in_tails p 1 ts))
     in_expression p (conditional s c y n) =
         ap (λ l. placed p (an_expression (erase_expression (conditional s c y n))) ∷ l)
-        (both (expression_parts (child p 0) c) (expression_parts (child p 1) y ++ expression_parts (child p 2) n) (in_expression (child p 0) c)
-        (both (expression_parts (child p 1) y) (expression_parts (child p 2) n) (in_expression (child p 1) y) (in_expression (child p 2) n)))
+        (both (parts_of_expression (child p 0) c) (parts_of_expression (child p 1) y ++ parts_of_expression (child p 2) n) (in_expression (child p 0) c)
+        (both (parts_of_expression (child p 1) y) (parts_of_expression (child p 2) n) (in_expression (child p 1) y) (in_expression (child p 2) n)))
 
-    in_operands : (p : CallRef) (n : ℕ) (os : Operands S) → operands_parts p n (erase_operands os) ≡ map bare_placed (operands_parts p n os)
+    in_operands : (p : CallRef) (n : ℕ) (os : Operands S) → parts_of_operands p n (erase_operands os) ≡ map bare_placed (parts_of_operands p n os)
     in_operands p n no_operands = refl
-    in_operands p n (operand o e more) = both (expression_parts (child p n) e) (operands_parts p (n + 1) more) (in_expression (child p n) e) (in_operands p (n + 1) more)
+    in_operands p n (operand o e more) = both (parts_of_expression (child p n) e) (parts_of_operands p (n + 1) more) (in_expression (child p n) e) (in_operands p (n + 1) more)
 
-    in_tail : (p : CallRef) (n : ℕ) (t : Tail S) → tail_parts p n (erase_tail t) ≡ map bare_placed (tail_parts p n t)
+    in_tail : (p : CallRef) (n : ℕ) (t : Tail S) → parts_of_tail p n (erase_tail t) ≡ map bare_placed (parts_of_tail p n t)
     in_tail p n (method s x l) = in_listing p n l
     in_tail p n (index s e) = in_expression (child p n) e
 
-    in_tails : (p : CallRef) (n : ℕ) (ts : Tails S) → tails_parts p n (erase_tails ts) ≡ map bare_placed (tails_parts p n ts)
+    in_tails : (p : CallRef) (n : ℕ) (ts : Tails S) → parts_of_tails p n (erase_tails ts) ≡ map bare_placed (parts_of_tails p n ts)
     in_tails p n no_tails = refl
     in_tails p n (tail t more) =
-        ap (λ m. tail_parts p n (erase_tail t) ++ tails_parts p (n + m) (erase_tails more)) (tail_count t)
-        ∙ both (tail_parts p n t) (tails_parts p (n + tail_child_count t) more) (in_tail p n t) (in_tails p (n + tail_child_count t) more)
+        ap (λ m. parts_of_tail p n (erase_tail t) ++ parts_of_tails p (n + m) (erase_tails more)) (tail_count t)
+        ∙ both (parts_of_tail p n t) (parts_of_tails p (n + tail_child_count t) more) (in_tail p n t) (in_tails p (n + tail_child_count t) more)
 
-    in_listing : (p : CallRef) (n : ℕ) (l : Listing S) → listing_parts p n (erase_listing l) ≡ map bare_placed (listing_parts p n l)
+    in_listing : (p : CallRef) (n : ℕ) (l : Listing S) → parts_of_listing p n (erase_listing l) ≡ map bare_placed (parts_of_listing p n l)
     in_listing p n (listing s trailing list) = in_arguments p n list
 
-    in_argument : (p : CallRef) (n : ℕ) (a : Argument S) → argument_parts p n (erase_argument a) ≡ map bare_placed (argument_parts p n a)
+    in_argument : (p : CallRef) (n : ℕ) (a : Argument S) → parts_of_argument p n (erase_argument a) ≡ map bare_placed (parts_of_argument p n a)
     in_argument p n (plain e) = in_expression (child p n) e
     in_argument p n (named s x e) = in_expression (child p n) e
-    in_argument p n (pair s e f) = both (expression_parts (child p n) e) (expression_parts (child p (n + 1)) f) (in_expression (child p n) e) (in_expression (child p (n + 1)) f)
+    in_argument p n (pair s e f) = both (parts_of_expression (child p n) e) (parts_of_expression (child p (n + 1)) f) (in_expression (child p n) e) (in_expression (child p (n + 1)) f)
 
-    in_arguments : (p : CallRef) (n : ℕ) (list : Arguments S) → arguments_parts p n (erase_arguments list) ≡ map bare_placed (arguments_parts p n list)
+    in_arguments : (p : CallRef) (n : ℕ) (list : Arguments S) → parts_of_arguments p n (erase_arguments list) ≡ map bare_placed (parts_of_arguments p n list)
     in_arguments p n no_arguments = refl
     in_arguments p n (argument a more) =
-        ap (λ m. argument_parts p n (erase_argument a) ++ arguments_parts p (n + m) (erase_arguments more)) (argument_count a)
-        ∙ both (argument_parts p n a) (arguments_parts p (n + argument_child_count a) more) (in_argument p n a) (in_arguments p (n + argument_child_count a) more)
+        ap (λ m. parts_of_argument p n (erase_argument a) ++ parts_of_arguments p (n + m) (erase_arguments more)) (argument_count a)
+        ∙ both (parts_of_argument p n a) (parts_of_arguments p (n + argument_child_count a) more) (in_argument p n a) (in_arguments p (n + argument_child_count a) more)
 
   mutual
-    in_statement : (p : CallRef) (s : Statement S) → statement_parts p (erase_statement s) ≡ map bare_placed (statement_parts p s)
+    in_statement : (p : CallRef) (s : Statement S) → parts_of_statement p (erase_statement s) ≡ map bare_placed (parts_of_statement p s)
     in_statement p (evaluate e) = ap (λ l. placed p (a_statement (erase_statement (evaluate e))) ∷ l) (in_expression (child p 0) e)
     in_statement p (assign s x a e) = ap (λ l. placed p (a_statement (erase_statement (assign s x a e))) ∷ l) (in_expression (child p 0) e)
     in_statement p (selection s bs o) =
         ap (λ l. placed p (a_statement (erase_statement (selection s bs o))) ∷ l)
-        (ap (λ n. branches_parts p 0 (erase_branches bs) ++ otherwise_parts p n (erase_otherwise o)) (branches_count bs)
-        ∙ both (branches_parts p 0 bs) (otherwise_parts p (branches_child_count bs) o) (in_branches p 0 bs) (in_otherwise p (branches_child_count bs) o))
+        (ap (λ n. parts_of_branches p 0 (erase_branches bs) ++ parts_of_otherwise p n (erase_otherwise o)) (branches_count bs)
+        ∙ both (parts_of_branches p 0 bs) (parts_of_otherwise p (branches_child_count bs) o) (in_branches p 0 bs) (in_otherwise p (branches_child_count bs) o))
     in_statement p (iteration s xs e b) =
         ap (λ l. placed p (a_statement (erase_statement (iteration s xs e b))) ∷ l)
-        (both (expression_parts (child p 0) e) (block_parts (child p 1) b) (in_expression (child p 0) e) (in_block (child p 1) b))
+        (both (parts_of_expression (child p 0) e) (parts_of_block (child p 1) b) (in_expression (child p 0) e) (in_block (child p 1) b))
     in_statement p (breaks s) = refl
     in_statement p (continues s) = refl
 
-    in_branches : (p : CallRef) (n : ℕ) (bs : Branches S) → branches_parts p n (erase_branches bs) ≡ map bare_placed (branches_parts p n bs)
+    in_branches : (p : CallRef) (n : ℕ) (bs : Branches S) → parts_of_branches p n (erase_branches bs) ≡ map bare_placed (parts_of_branches p n bs)
     in_branches p n no_branches = refl
     in_branches p n (branch e b more) =
-        both (expression_parts (child p n) e) (block_parts (child p (n + 1)) b ++ branches_parts p (n + 2) more) (in_expression (child p n) e)
-        (both (block_parts (child p (n + 1)) b) (branches_parts p (n + 2) more) (in_block (child p (n + 1)) b) (in_branches p (n + 2) more))
+        both (parts_of_expression (child p n) e) (parts_of_block (child p (n + 1)) b ++ parts_of_branches p (n + 2) more) (in_expression (child p n) e)
+        (both (parts_of_block (child p (n + 1)) b) (parts_of_branches p (n + 2) more) (in_block (child p (n + 1)) b) (in_branches p (n + 2) more))
 
-    in_otherwise : (p : CallRef) (n : ℕ) (o : Otherwise S) → otherwise_parts p n (erase_otherwise o) ≡ map bare_placed (otherwise_parts p n o)
+    in_otherwise : (p : CallRef) (n : ℕ) (o : Otherwise S) → parts_of_otherwise p n (erase_otherwise o) ≡ map bare_placed (parts_of_otherwise p n o)
     in_otherwise p n nothing_else = refl
     in_otherwise p n (otherwise b) = in_block (child p n) b
 
-    in_statements : (p : CallRef) (n : ℕ) (list : Statements S) → statements_parts p n (erase_statements list) ≡ map bare_placed (statements_parts p n list)
+    in_statements : (p : CallRef) (n : ℕ) (list : Statements S) → parts_of_statements p n (erase_statements list) ≡ map bare_placed (parts_of_statements p n list)
     in_statements p n no_statements = refl
-    in_statements p n (statement s more) = both (statement_parts (child p n) s) (statements_parts p (n + 1) more) (in_statement (child p n) s) (in_statements p (n + 1) more)
+    in_statements p n (statement s more) = both (parts_of_statement (child p n) s) (parts_of_statements p (n + 1) more) (in_statement (child p n) s) (in_statements p (n + 1) more)
 
-    in_block : (p : CallRef) (b : Block S) → block_parts p (erase_block b) ≡ map bare_placed (block_parts p b)
+    in_block : (p : CallRef) (b : Block S) → parts_of_block p (erase_block b) ≡ map bare_placed (parts_of_block p b)
     in_block p (block s list) = in_statements p 0 list
 
-  in_file : (n : ℕ) (f : tree.File S) → file_parts n (erase f) ≡ map bare_placed (file_parts n f)
+  in_file : (n : ℕ) (f : tree.File S) → parts_of_file n (erase f) ≡ map bare_placed (parts_of_file n f)
   in_file n (file s b) = in_block (place n []) b
 
   pub parts_erased : (n : ℕ) (files : List File) (trees : List (tree.File S)) → parts_from n (named_trees files (map erase trees)) ≡ map bare_placed (parts_from n (named_trees files trees))
   parts_erased n [] trees = refl
   parts_erased n (f ∷ files) [] = refl
-  parts_erased n (f ∷ files) (t ∷ trees) = both (file_parts n t) (parts_from (n + 1) (named_trees files trees)) (in_file n t) (parts_erased (n + 1) files trees)
+  parts_erased n (f ∷ files) (t ∷ trees) = both (parts_of_file n t) (parts_from (n + 1) (named_trees files trees)) (in_file n t) (parts_erased (n + 1) files trees)
 
   -- ---- calls
 

@@ -20,7 +20,7 @@ use Rattle.meson_calls.specs.Calls.{Call, all_chosen, call_of, first_literal, pa
 use Rattle.meson_calls.specs.Calls as calls
 use Rattle.meson_calls.specs.Finding.{only_one, the_call}
 use Rattle.meson_calls.specs.Loading.{Loaded, named_trees, project, views}
-use Rattle.meson_calls.specs.Parts.{Part, a_statement, expression_parts, listing_parts, parts, statement_parts}
+use Rattle.meson_calls.specs.Parts.{Part, a_statement, parts_of_expression, parts_of_listing, parts, parts_of_statement}
 use Rattle.meson_calls.specs.Project.{BuildFile, Placed, Project, nth_file, place, placed}
 use Rattle.meson_calls.specs.Roles.{or_else, role_calls, with_name, with_role}
 use Rattle.meson_calls.proofs.CallsFound.{role_found}
@@ -58,13 +58,13 @@ module _ (id : List ℕ) where
   record Tells (s : Statement Nowhere) : Type 0 where
     first : Call Nowhere
     more : List (Call Nowhere)
-    is : told tell_named (statement_parts (place 0 []) s) ≡ first ∷ more
+    is : told tell_named (parts_of_statement (place 0 []) s) ≡ first ∷ more
 
   tells_call : (q : CallRef) (e : Expression Span) (c : Call Span) → call_of e ≡ Some c → with_role role.Target c ≡ Some c → with_name id c ≡ Some c
-      → (more : List (Call Nowhere)) × (told tell_named (expression_parts q (erase_expression e)) ≡ bare_call c ∷ more)
+      → (more : List (Call Nowhere)) × (told tell_named (parts_of_expression q (erase_expression e)) ≡ bare_call c ∷ more)
   tells_call q (call s f l) c is has named =
       let k : Call Span = record { function = f.text; arguments = l } in
-      let more = told tell_named (listing_parts q 0 (erase_listing l)) in
+      let more = told tell_named (parts_of_listing q 0 (erase_listing l)) in
       let first : named_target (bare_call k) ≡ Some (bare_call c) =
       ap (λ (d : Call Span). named_target (bare_call d)) (some-injective k c is) ∙ ap (option_and_then (with_name id)) (role_alike c ∙ ap (option_map bare_call) has) ∙ name_alike id c ∙ ap (option_map bare_call) named in
       (more, ap (λ o. cons_option o more) first)
@@ -149,7 +149,7 @@ module _ (old : Loaded) (id : List ℕ) (c : Placed (Call Span)) (named : the_ca
       subst (λ x. StatementGone line x (plain_trees old) after) same (gone line (plain_trees old) after done)
 
   cut : {Y : Type 0} (tell : Part Nowhere → Option Y) → ((t : Nowhere) (bs : Branches Nowhere) (o : Otherwise Nowhere) → tell (a_statement (selection t bs o)) ≡ None)
-      → ((t : Nowhere) (xs : List (tree.Name Nowhere)) (e : Expression Nowhere) (b : Block Nowhere) → tell (a_statement (iteration t xs e b)) ≡ None) → Cut tell (told tell (parts before)) (told tell (statement_parts (place 0 []) it)) (told tell (parts now))
+      → ((t : Nowhere) (xs : List (tree.Name Nowhere)) (e : Expression Nowhere) (b : Block Nowhere) → tell (a_statement (iteration t xs e b)) ≡ None) → Cut tell (told tell (parts before)) (told tell (parts_of_statement (place 0 []) it)) (told tell (parts now))
   cut tell no_selection no_iteration =
       project_cut tell no_selection no_iteration line it old.files (plain_trees old) after 0 line.block.file (record { name = in_file.0.name; tree = erase in_file.0.tree })
       (plain_file old.files (views old.files old.parsed) line.block.file in_file.0 in_file.1) (plain_statement line in_file.0.tree s in_file.2)
@@ -180,13 +180,13 @@ module _ (old : Loaded) (id : List ℕ) (c : Placed (Call Span)) (named : the_ca
       its : List (Placed (Call Span)) → List (Call Nowhere)
       its xs = map (λ (q : Placed (Call Nowhere)). q.it) (map (λ (q : Placed (Call Span)). placed q.place (bare_call q.it)) xs)
 
-      by : (k : Cut (tell_named id) (told (tell_named id) (parts before)) (told (tell_named id) (statement_parts (place 0 []) it)) (told (tell_named id) (parts now)))
+      by : (k : Cut (tell_named id) (told (tell_named id) (parts before)) (told (tell_named id) (parts_of_statement (place 0 []) it)) (told (tell_named id) (parts now)))
           → (targets_named p id ≡ []) ⊎ (targets_named p id ≡ c ∷ []) → k.front ++ k.behind ≡ []
-      by k (inl none) = nothing_left k.front (told (tell_named id) (statement_parts (place 0 []) it)) k.behind (sym k.had ∙ of_before ∙ ap its none)
+      by k (inl none) = nothing_left k.front (told (tell_named id) (parts_of_statement (place 0 []) it)) k.behind (sym k.had ∙ of_before ∙ ap its none)
       by k (inr one) =
           let has_name = subst (Every (IsNamed id)) one (all_named id (role_calls p role.Target)) in
           let t = of_call has_name.0 in
-          only_it k.front (told (tell_named id) (statement_parts (place 0 []) it)) k.behind (bare_call c.it) t.first t.more t.is (sym k.had ∙ of_before ∙ ap its one)
+          only_it k.front (told (tell_named id) (parts_of_statement (place 0 []) it)) k.behind (bare_call c.it) t.first t.more t.is (sym k.had ∙ of_before ∙ ap its one)
 
   -- ---- its variable
 
@@ -201,7 +201,7 @@ module _ (old : Loaded) (id : List ℕ) (c : Placed (Call Span)) (named : the_ca
       let set_at = subst (Every (SetAt id p)) one (all_set id p) in
       let t = set_tells id p c set_at.0 (ap (λ b. if b then Some c.it else None) r.is_one) line (line_of c.place line is_line) in_file.0 in_file.1 s in_file.2 in
       unmapped (λ (q : Placed (Call Nowhere)). q.it) (set_targets id now)
-      (set_told id now ∙ k.has ∙ only_it k.front (told (tell_set id) (statement_parts (place 0 []) it)) k.behind (bare_call c.it) t.first t.more t.is (sym k.had ∙ had))
+      (set_told id now ∙ k.has ∙ only_it k.front (told (tell_set id) (parts_of_statement (place 0 []) it)) k.behind (bare_call c.it) t.first t.more t.is (sym k.had ∙ had))
 
   calls_gone : CallsGone it id before now
   calls_gone =
@@ -209,7 +209,7 @@ module _ (old : Loaded) (id : List ℕ) (c : Placed (Call Span)) (named : the_ca
       record {
         front = k.front;
         back = k.behind;
-        had = chosen_its part_call (parts before) ∙ k.had ∙ ap (λ l. k.front ++ (l ++ k.behind)) (sym (chosen_its part_call (statement_parts (place 0 []) it)));
+        had = chosen_its part_call (parts before) ∙ k.had ∙ ap (λ l. k.front ++ (l ++ k.behind)) (sym (chosen_its part_call (parts_of_statement (place 0 []) it)));
         has = chosen_its part_call (parts now) ∙ k.has;
         named = none_named;
         by_variable = λ none. ap (λ xs. only_one (or_else xs (set_targets id now))) none_named ∙ ap only_one (none_set none);

@@ -13,7 +13,7 @@ use Rattle.meson_syntax.proofs.paths.Every.{Every}
 use Rattle.meson_calls.specs.declared.call.CallRef.{CallRef}
 use Rattle.meson_calls.specs.declared.call.Role.TheVariants as role
 use Rattle.meson_calls.specs.Calls.{Call, all_chosen, call_of}
-use Rattle.meson_calls.specs.Parts.{Part, a_statement, expression_parts, parts, statement_parts}
+use Rattle.meson_calls.specs.Parts.{Part, a_statement, parts_of_expression, parts, parts_of_statement}
 use Rattle.meson_calls.specs.Project.{BuildFile, Placed, Project, child, nth_file, place, placed}
 use Rattle.meson_calls.specs.Roles.{assigned_values, has_role, part_set_to, value_of_assignment, with_role}
 use Rattle.meson_calls.proofs.CallsReached.{InProject, every_chosen, every_part}
@@ -149,13 +149,13 @@ module _ (id : List ℕ) where
   pub record SetTells (s : Statement Nowhere) : Type 0 where
     pub first : Call Nowhere
     pub more : List (Call Nowhere)
-    pub is : told tell_set (statement_parts (place 0 []) s) ≡ first ∷ more
+    pub is : told tell_set (parts_of_statement (place 0 []) s) ≡ first ∷ more
 
   of_sets : (e : Expression Span) (c : Call Span) → call_of e ≡ Some c → with_role role.Target c ≡ Some c → (x : Part Span) → Sets e x → (s : Statement Span) → any x ≡ syntax.a_statement s → SetTells (erase_statement s)
   of_sets e c is has x (sets t y named) s same =
       let same_statement : assign t y assignment.Set e ≡ s = cc in
       let value : set_target (erase_expression e) ≡ Some (bare_call c) = value_alike e ∙ ap (λ o. option_map bare_call (option_and_then (with_role role.Target) o)) is ∙ ap (option_map bare_call) has in
-      let more = told tell_set (expression_parts (place 0 (0 ∷ [])) (erase_expression e)) in
+      let more = told tell_set (parts_of_expression (place 0 (0 ∷ [])) (erase_expression e)) in
       let one : tell_set (a_statement (erase_statement (assign t y assignment.Set e))) ≡ Some (bare_call c) = ap (λ b. option_and_then set_target (if b then Some (erase_expression e) else None)) named ∙ value in
       subst (λ u. SetTells (erase_statement u)) same_statement (record { first = bare_call c; more = more; is = ap (λ o. cons_option o more) one })
 

@@ -19,7 +19,7 @@ use Rattle.meson_calls.specs.Loading.{named_trees, views}
 use Rattle.meson_calls.specs.Finding.{the_call}
 use Rattle.meson_calls.specs.Project.{Project, BuildFile, nth_file, place}
 use Rattle.meson_steps.specs.Steps.{Step}
-use Rattle.meson_targets.specs.TargetEdits.{StatementPlace, Holder, statement_path, statement_of, statement_there, held_by, holder, some_holder, named_removed, not_in_use, removed_at, statement_removal, target_removed}
+use Rattle.meson_targets.specs.TargetEdits.{StatementPlace, Holder, statement_path, statement_of, statement_there, held_by, holder, some_holder, named_removed, not_in_use, call_removed, statement_removal, target_removed}
 use Rattle.meson_steps.specs.Meanings.{AreMeant}
 use Rattle.meson_calls.proofs.Standing.{nth_there}
 use Rattle.meson_calls.proofs.OneCall.{placed_at, call_there}
@@ -74,28 +74,28 @@ module _ (p : Project Span) (call : CallRef) where
   abbrev from_holder : Option Holder → Result (List Step) Refusal
   from_holder o = then_ok (some_holder o) (λ h. then_ok (not_in_use p h.statement h.held) (λ _. Ok (statement_removal h.statement)))
 
-  pub not_held : None ≡ holder p call → removed_at p call ≡ Err NotStatement
+  pub not_held : None ≡ holder p call → call_removed p call ≡ Err NotStatement
   not_held none = ap from_holder (sym none)
 
   module _ (h : Holder) (is_held : Some h ≡ holder p call) where
-    on_held : removed_at p call ≡ then_ok (not_in_use p h.statement h.held) (λ _. Ok (statement_removal h.statement))
+    on_held : call_removed p call ≡ then_ok (not_in_use p h.statement h.held) (λ _. Ok (statement_removal h.statement))
     on_held = ap from_holder (sym is_held)
 
-    pub in_use : (e : Refusal) → not_in_use p h.statement h.held ≡ Err e → removed_at p call ≡ Err e
+    pub in_use : (e : Refusal) → not_in_use p h.statement h.held ≡ Err e → call_removed p call ≡ Err e
     in_use e is = on_held ∙ ap (λ r. then_ok r (λ _. Ok (statement_removal h.statement))) is
 
-    removed_is : not_in_use p h.statement h.held ≡ Ok tt → removed_at p call ≡ Ok (statement_removal h.statement)
+    removed_is : not_in_use p h.statement h.held ≡ Ok tt → call_removed p call ≡ Ok (statement_removal h.statement)
     removed_is is = on_held ∙ ap (λ r. then_ok r (λ _. Ok (statement_removal h.statement))) is
 
     pub removal_meant : {V : Type 0} (list : V → List ListStep) (r : Result V Refusal) → not_in_use p h.statement h.held ≡ Ok tt
-        → IfOk r (λ v. list v ≡ record { list = h.statement.block; edit = code.RemoveStatement h.statement.number } ∷ []) → IfOk r (λ v. AreMeant (removed_at p call) (list v))
+        → IfOk r (λ v. list v ≡ record { list = h.statement.block; edit = code.RemoveStatement h.statement.number } ∷ []) → IfOk r (λ v. AreMeant (call_removed p call) (list v))
     removal_meant list (Ok v) is done = record { steps = statement_removal h.statement; is = removed_is is; bare = sym (ap (map Some) done) }
     removal_meant list (Err e) is done = tt
 
 -- ---- of the target that is named
 
 -- the call that an id names is removed at its place
-pub named_at : (p : Project Span) (id : List ℕ) (call : CallRef) → placed_at (the_call p role.Target id) ≡ Ok call → removed_at p call ≡ named_removed p id
+pub named_at : (p : Project Span) (id : List ℕ) (call : CallRef) → placed_at (the_call p role.Target id) ≡ Ok call → call_removed p call ≡ named_removed p id
 named_at p id call found =
     let one = call_there (the_call p role.Target id) call found in
-    sym (ap (λ r. then_ok r (λ c. target_removed p c)) one.1 ∙ ap (removed_at p) one.2)
+    sym (ap (λ r. then_ok r (λ c. target_removed p c)) one.1 ∙ ap (call_removed p) one.2)

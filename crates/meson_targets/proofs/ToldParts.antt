@@ -18,7 +18,7 @@ use Rattle.meson_syntax.proofs.paths.Reaching.{and-then-some, map-some, reach-fi
 use Rattle.meson_edit.specs.Edits.{RemoveStatement, edited}
 use Rattle.meson_calls.specs.declared.call.CallRef.{CallRef}
 use Rattle.meson_calls.specs.Loading.{named_trees}
-use Rattle.meson_calls.specs.Parts.{Part, a_statement, block_parts, branches_child_count, branches_parts, expression_parts, file_parts, otherwise_parts, parts_from, statement_parts, statements_parts}
+use Rattle.meson_calls.specs.Parts.{Part, a_statement, parts_of_block, branches_child_count, parts_of_branches, parts_of_expression, parts_of_file, parts_of_otherwise, parts_from, parts_of_statement, parts_of_statements}
 use Rattle.meson_calls.specs.Project.{BuildFile, Project, child, nth_file, place}
 use Rattle.meson_steps.specs.Layers.{block_any}
 use Rattle.meson_steps.specs.Steps.{changed_at}
@@ -34,18 +34,18 @@ module _ {Y : Type 0} (tell : Part Nowhere → Option Y) where
   here = place 0 []
 
   abbrev of_node : (sort : Sort) → Node sort Nowhere → List Y
-  of_node of_expression e = told tell (expression_parts here e)
-  of_node of_statement s = told tell (statement_parts here s)
-  of_node of_block b = told tell (block_parts here b)
+  of_node of_expression e = told tell (parts_of_expression here e)
+  of_node of_statement s = told tell (parts_of_statement here s)
+  of_node of_block b = told tell (parts_of_block here b)
 
   abbrev of_branches : Branches Nowhere → List Y
-  of_branches bs = told tell (branches_parts here 0 bs)
+  of_branches bs = told tell (parts_of_branches here 0 bs)
 
   abbrev of_otherwise : Otherwise Nowhere → List Y
-  of_otherwise o = told tell (otherwise_parts here 0 o)
+  of_otherwise o = told tell (parts_of_otherwise here 0 o)
 
   abbrev of_rows : Statements Nowhere → List Y
-  of_rows list = told tell (statements_parts here 0 list)
+  of_rows list = told tell (parts_of_statements here 0 list)
 
   -- what is told before and behind a node that stands in something
   pub record Between {T : Type 0} (whole : T → List Y) (sort : Sort) (back : Node sort Nowhere → T) : Type 0 where
@@ -86,11 +86,11 @@ module _ {Y : Type 0} (tell : Part Nowhere → Option Y) where
   around_branches : (bs : Branches Nowhere) (word : Kind) → Every (Around of_branches) (paths.branches_children bs word)
   around_branches no_branches word = tt
   around_branches (branch e b more) word =
-      let asked = told tell (expression_parts (child here 0) e) in
-      let later : (x : Branches Nowhere) → told tell (branches_parts here 2 x) ≡ of_branches x = λ x. branches_alike tell here here 2 0 x in
+      let asked = told tell (parts_of_expression (child here 0) e) in
+      let later : (x : Branches Nowhere) → told tell (parts_of_branches here 2 x) ≡ of_branches x = λ x. branches_alike tell here here 2 0 x in
       let split : (y : Block Nowhere) (x : Branches Nowhere) → of_branches (branch e y x) ≡ asked ++ (of_node of_block y ++ of_branches x) = λ y x.
-      told_both tell (expression_parts (child here 0) e) (block_parts (child here 1) y ++ branches_parts here 2 x)
-      ∙ ap (λ l. asked ++ l) (told_both tell (block_parts (child here 1) y) (branches_parts here 2 x) ∙ ap₂ (λ l m. l ++ m) (blocks_alike tell (child here 1) here y) (later x)) in (
+      told_both tell (parts_of_expression (child here 0) e) (parts_of_block (child here 1) y ++ parts_of_branches here 2 x)
+      ∙ ap (λ l. asked ++ l) (told_both tell (parts_of_block (child here 1) y) (parts_of_branches here 2 x) ∙ ap₂ (λ l m. l ++ m) (blocks_alike tell (child here 1) here y) (later x)) in (
         tt,
         (
           record { front = asked; behind = of_branches more; are = λ y. split y more },
@@ -106,7 +106,7 @@ module _ {Y : Type 0} (tell : Part Nowhere → Option Y) where
 
   row_split : (s : Statement Nowhere) (more : Statements Nowhere) → of_rows (statement s more) ≡ of_node of_statement s ++ of_rows more
   row_split s more =
-      told_both tell (statement_parts (child here 0) s) (statements_parts here 1 more) ∙ ap₂ (λ l m. l ++ m) (statements_alike tell (child here 0) here s) (rows_alike tell here here 1 0 more)
+      told_both tell (parts_of_statement (child here 0) s) (parts_of_statements here 1 more) ∙ ap₂ (λ l m. l ++ m) (statements_alike tell (child here 0) here s) (rows_alike tell here here 1 0 more)
 
   -- ---- a block without one of its statements
 
@@ -151,8 +151,8 @@ module _ {Y : Type 0} (tell : Part Nowhere → Option Y) where
       (no_iteration : (s : Nowhere) (xs : List (Name Nowhere)) (e : Expression Nowhere) (b : Block Nowhere) → tell (a_statement (iteration s xs e b)) ≡ None) where
     of_selection : (s : Nowhere) (bs : Branches Nowhere) (o : Otherwise Nowhere) → of_node of_statement (selection s bs o) ≡ of_branches bs ++ of_otherwise o
     of_selection s bs o =
-        ap (λ v. cons_option v (told tell (branches_parts here 0 bs ++ otherwise_parts here (branches_child_count bs) o))) (no_selection s bs o)
-        ∙ told_both tell (branches_parts here 0 bs) (otherwise_parts here (branches_child_count bs) o) ∙ ap (λ l. of_branches bs ++ l) (otherwise_alike tell here here (branches_child_count bs) 0 o)
+        ap (λ v. cons_option v (told tell (parts_of_branches here 0 bs ++ parts_of_otherwise here (branches_child_count bs) o))) (no_selection s bs o)
+        ∙ told_both tell (parts_of_branches here 0 bs) (parts_of_otherwise here (branches_child_count bs) o) ∙ ap (λ l. of_branches bs ++ l) (otherwise_alike tell here here (branches_child_count bs) 0 o)
 
     around_statement : (s : Statement Nowhere) → Every (Around (of_node of_statement)) (paths.statement_children s)
     around_statement (evaluate e) = (tt, tt)
@@ -164,15 +164,15 @@ module _ {Y : Type 0} (tell : Part Nowhere → Option Y) where
         (all_wider of_otherwise (of_node of_statement) (selection s bs) (of_branches bs) [] (λ x. of_selection s bs x ∙ ap (λ l. of_branches bs ++ l) (sym (append-nil (of_otherwise x))))
         (branches_words bs k.WordIf) (mark k.WordEndif) (paths.otherwise_children o) (around_otherwise o))
     around_statement (iteration s xs e b) =
-        let asked = told tell (expression_parts (child here 0) e) in (
+        let asked = told tell (parts_of_expression (child here 0) e) in (
           tt,
           (
             record {
               front = asked;
               behind = [];
               are = λ y.
-                  ap (λ v. cons_option v (told tell (expression_parts (child here 0) e ++ block_parts (child here 1) y))) (no_iteration s xs e y)
-                  ∙ told_both tell (expression_parts (child here 0) e) (block_parts (child here 1) y)
+                  ap (λ v. cons_option v (told tell (parts_of_expression (child here 0) e ++ parts_of_block (child here 1) y))) (no_iteration s xs e y)
+                  ∙ told_both tell (parts_of_expression (child here 0) e) (parts_of_block (child here 1) y)
                   ∙ ap (λ l. asked ++ l) (blocks_alike tell (child here 1) here y ∙ sym (append-nil (of_node of_block y)));
             },
             tt,
@@ -249,7 +249,7 @@ module _ {Y : Type 0} (tell : Part Nowhere → Option Y) where
     -- ---- a file without a statement
 
     abbrev of_file : ℕ → Plain → List Y
-    of_file n t = told tell (file_parts n t)
+    of_file n t = told tell (parts_of_file n t)
 
     file_is : (n : ℕ) (s : Nowhere) (b : Block Nowhere) → of_file n (file s b) ≡ of_node of_block b
     file_is n s b = blocks_alike tell (place n []) here b
@@ -302,9 +302,9 @@ module _ {Y : Type 0} (tell : Part Nowhere → Option Y) where
         record {
           front = w.front;
           behind = w.behind;
-          had = told_both tell (file_parts n t) (parts_from (n + 1) (named_trees files ts)) ∙ w.had;
+          had = told_both tell (parts_of_file n t) (parts_from (n + 1) (named_trees files ts)) ∙ w.had;
           has =
-              ap (λ us. of_project n (named_trees (g ∷ files) us)) (sym o.2) ∙ told_both tell (file_parts n o.0) (parts_from (n + 1) (named_trees files ts))
+              ap (λ us. of_project n (named_trees (g ∷ files) us)) (sym o.2) ∙ told_both tell (parts_of_file n o.0) (parts_from (n + 1) (named_trees files ts))
               ∙ ap (λ u. of_file n u ++ rest) (sym m.2) ∙ w.has;
         }
     project_cut line it (g ∷ files) (t ∷ ts) after n (suc i) f is_file is_it made =
@@ -315,8 +315,8 @@ module _ {Y : Type 0} (tell : Part Nowhere → Option Y) where
           front = own ++ c.front;
           behind = c.behind;
           had =
-              told_both tell (file_parts n t) (parts_from (n + 1) (named_trees files ts)) ∙ ap (λ l. own ++ l) c.had ∙ sym (append_assoc own c.front (of_node of_statement it ++ c.behind));
+              told_both tell (parts_of_file n t) (parts_from (n + 1) (named_trees files ts)) ∙ ap (λ l. own ++ l) c.had ∙ sym (append_assoc own c.front (of_node of_statement it ++ c.behind));
           has =
-              ap (λ us. of_project n (named_trees (g ∷ files) us)) (sym o.2) ∙ told_both tell (file_parts n t) (parts_from (n + 1) (named_trees files o.0))
+              ap (λ us. of_project n (named_trees (g ∷ files) us)) (sym o.2) ∙ told_both tell (parts_of_file n t) (parts_from (n + 1) (named_trees files o.0))
               ∙ ap (λ l. own ++ l) c.has ∙ sym (append_assoc own c.front c.behind);
         }

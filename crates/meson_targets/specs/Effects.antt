@@ -11,7 +11,7 @@ use Rattle.meson_calls.specs.declared.refusal.Refusal.TheVariants.{NotFound}
 use Rattle.meson_calls.specs.Calls.{Call, all_chosen, part_call}
 use Rattle.meson_calls.specs.Finding.{the_call}
 use Rattle.meson_calls.specs.Loading.{IsProject, Loaded, named_trees, project}
-use Rattle.meson_calls.specs.Parts.{Part, parts, statement_parts}
+use Rattle.meson_calls.specs.Parts.{Part, parts, parts_of_statement}
 use Rattle.meson_calls.specs.Project.{Project, Placed, place, placed}
 use Rattle.meson_steps.specs.Names.{distinct}
 use Rattle.meson_steps.specs.ResultLimits.{plain_trees}
@@ -69,7 +69,7 @@ calls_among qs = map (λ (c : Placed (Call Nowhere)). c.it) (all_chosen part_cal
 
 -- those that stand in a statement, wherever that is
 abbrev pub calls_in : Statement Nowhere → List (Call Nowhere)
-calls_in it = calls_among (statement_parts (place 0 []) it)
+calls_in it = calls_among (parts_of_statement (place 0 []) it)
 
 -- The calls in the statement are gone, and all others stay in their order. No target has the name any more; and where none had it before, since the id is that of
 -- a variable, the id names none.

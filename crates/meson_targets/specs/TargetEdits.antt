@@ -173,11 +173,11 @@ not_in_use p statement (set_to x) = if is_used_outside p statement x then Err (I
 abbrev pub statement_removal : StatementPlace → List Step
 statement_removal statement = record { file = statement.block.file; edit = RemoveStatement statement.block.path.steps statement.number } ∷ []
 
-abbrev pub removed_at : {S : Type 0} → Project S → CallRef → Result (List Step) Refusal
-removed_at p c = then_ok (some_holder (holder p c)) (λ h. then_ok (not_in_use p h.statement h.held) (λ _. Ok (statement_removal h.statement)))
+abbrev pub call_removed : {S : Type 0} → Project S → CallRef → Result (List Step) Refusal
+call_removed p c = then_ok (some_holder (holder p c)) (λ h. then_ok (not_in_use p h.statement h.held) (λ _. Ok (statement_removal h.statement)))
 
 abbrev pub target_removed : {S : Type 0} → Project S → Placed (Call S) → Result (List Step) Refusal
-target_removed p c = removed_at p c.place
+target_removed p c = call_removed p c.place
 
 -- the target that an id names
 abbrev pub named_removed : {S : Type 0} → Project S → List ℕ → Result (List Step) Refusal

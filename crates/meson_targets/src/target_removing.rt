@@ -4,7 +4,7 @@ ghost use Rattle.std.specs.Prelude.{◌≡◌, ◌≢◌, ◌∷◌, [], Err, If
 ghost use Rattle.meson_calls.specs.Loading.{IsProject};
 ghost use Rattle.meson_calls.specs.NotedProjects.{IsNotedFor, loaded_in, project_in};
 ghost use Rattle.meson_steps.specs.Meanings.{AreMeant};
-ghost use Rattle.meson_targets.specs.TargetEdits.{named_removed, not_in_use, removed_at};
+ghost use Rattle.meson_targets.specs.TargetEdits.{named_removed, not_in_use, call_removed};
 ghost use Rattle.meson_targets.specs.TargetViews.{IsNamed, held_view, place_view};
 
 use crate::holder::{Held, Holder, holder_of};
@@ -62,8 +62,8 @@ fn statement_removed(alloc: Global, line: StatementPlace) -> Result<Vec<ListStep
 /// The call is no statement and no assigned value, its variable is used elsewhere, or memory is refused.
 fn call_removed(alloc: Global, noted: &Noted<'_>, call: &CallRef) -> Result<Vec<ListStep>, Refusal>
     requires { IsProject (loaded_in noted.now) }
-    ensures meant { IfOk result (λ steps. AreMeant (removed_at (project_in noted.now) call.now) steps.items) }
-    ensures refused { IfErr result (λ e. e ≢ Refusal.OutOfMemory → removed_at (project_in noted.now) call.now ≡ Err e) }
+    ensures meant { IfOk result (λ steps. AreMeant (call_removed (project_in noted.now) call.now) steps.items) }
+    ensures refused { IfErr result (λ e. e ≢ Refusal.OutOfMemory → call_removed (project_in noted.now) call.now ≡ Err e) }
 {
     let Some(holder) = holder_of(alloc, noted.files, noted.trees, call)? else {
         return Err(Refusal::NotStatement);

@@ -1,7 +1,7 @@
 use Rattle.std.proofs.Common.{◌≡◌, None, Some, ◌∙◌, ap}
 use Rattle.meson_syntax.specs.View.{view}
 use Rattle.meson_syntax.proofs.parsing.Steps.{some-injective}
-use Rattle.meson_calls.specs.Parts.{file_parts}
+use Rattle.meson_calls.specs.Parts.{parts_of_file}
 use Rattle.meson_calls.specs.Notes.{noted, taken_view}
 use Rattle.meson_calls.specs.Walks.{notes_kept, keeper_view, with_parts}
 use Rattle.meson_calls.proofs.Visits.{all_noted}
@@ -9,14 +9,14 @@ use Rattle.meson_calls.proofs.notes.notes_in.Goals as goal
 
 pub unreachable-requires : goal.unreachable-requires
 unreachable-requires c =
-    let ps = file_parts c.args.file (view c.args.source.now c.args.parsed.now) in
+    let ps = parts_of_file c.args.file (view c.args.source.now c.args.parsed.now) in
     let none : None ≡ Some (noted ps) =
     all_noted None (keeper_view c.walk_file.new.keeper) ps c.in-None.ensures (c.in_ok-walk_file.ensures ∙ ap (λ ns. with_parts (notes_kept ns) ps) c.new.ensures) in
     absurd cc
 
 pub returns : goal.returns
 returns c =
-    let ps = file_parts c.args.file (view c.args.source.now c.args.parsed.now) in
+    let ps = parts_of_file c.args.file (view c.args.source.now c.args.parsed.now) in
     some-injective _ _
     (all_noted (Some (taken_view c.in-Some.found)) (keeper_view c.walk_file.new.keeper) ps c.in-Some.ensures
     (c.in_ok-walk_file.ensures ∙ ap (λ ns. with_parts (notes_kept ns) ps) c.new.ensures))

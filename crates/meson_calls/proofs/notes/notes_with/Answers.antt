@@ -4,7 +4,7 @@ use Rattle.meson_splice.specs.Files.{bytes_at}
 use Rattle.meson_syntax.specs.Reads.{IsSpanned}
 use Rattle.meson_syntax.specs.View.{view}
 use Rattle.meson_calls.specs.Notes.{noted, taken_view, without_calls}
-use Rattle.meson_calls.specs.Parts.{file_parts}
+use Rattle.meson_calls.specs.Parts.{parts_of_file}
 use Rattle.meson_calls.specs.Spelling.{AreNotesWith, HasNoneOf}
 use Rattle.meson_calls.proofs.CallsAt.{spanned_at}
 use Rattle.meson_calls.proofs.Loads.{as_many}
@@ -35,8 +35,8 @@ loop-i-preserved c =
     next_file words files c.args.trees.now i (record { name = []; bytes = [] }) c.index-trees-i.result calls before _ within c.loop-i-test.true
     (λ no. subst (HasNoneOf words) c.bytes-source.ensures (c.may_stand_in.ensures no))
     (c.in_ok-taken.ensures
-    ∙ ap (λ b. before ++ (if calls then noted (file_parts i (view b c.index-trees-i.result)) else without_calls (noted (file_parts i (view b c.index-trees-i.result))))) c.bytes-source.ensures
-    ∙ ap (λ t. before ++ (if calls then noted (file_parts i (view (bytes_at i files) t)) else without_calls (noted (file_parts i (view (bytes_at i files) t))))) c.index-trees-i.is)
+    ∙ ap (λ b. before ++ (if calls then noted (parts_of_file i (view b c.index-trees-i.result)) else without_calls (noted (parts_of_file i (view b c.index-trees-i.result))))) c.bytes-source.ensures
+    ∙ ap (λ t. before ++ (if calls then noted (parts_of_file i (view (bytes_at i files) t)) else without_calls (noted (parts_of_file i (view (bytes_at i files) t))))) c.index-trees-i.is)
     c.loop-i.invariant
 
 pub returns : goal.returns

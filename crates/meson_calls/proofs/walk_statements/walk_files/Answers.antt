@@ -1,7 +1,7 @@
 use Rattle.std.proofs.Common.{◌<◌, ◌≤◌, length, ◌∙◌, sym, ap, subst, arith}
 use Rattle.meson_splice.specs.Files.{bytes_at}
 use Rattle.meson_syntax.specs.View.{view}
-use Rattle.meson_calls.specs.Parts.{file_parts}
+use Rattle.meson_calls.specs.Parts.{parts_of_file}
 use Rattle.meson_calls.specs.Walks.{keeper_view, with_parts}
 use Rattle.meson_syntax.specs.Reads.{IsSpanned}
 use Rattle.meson_calls.proofs.CallsAt.{spanned_at}
@@ -25,8 +25,8 @@ loop-i-preserved c =
     let before = keeper_view c.loop-i.keeper in
     file_turn c.args.files.now c.args.trees.now c.loop-i.i c.index-trees-i.result before _ _ within c.loop-i-test.true
     (c.in_ok-walk_file.ensures
-    ∙ ap (λ bytes. with_parts before (file_parts c.loop-i.i (view bytes c.index-trees-i.result))) c.bytes.ensures
-    ∙ ap (λ t. with_parts before (file_parts c.loop-i.i (view (bytes_at c.loop-i.i c.args.files.now) t))) c.index-trees-i.is)
+    ∙ ap (λ bytes. with_parts before (parts_of_file c.loop-i.i (view bytes c.index-trees-i.result))) c.bytes.ensures
+    ∙ ap (λ t. with_parts before (parts_of_file c.loop-i.i (view (bytes_at c.loop-i.i c.args.files.now) t))) c.index-trees-i.is)
     c.loop-i.invariant
 
 pub returns : goal.returns

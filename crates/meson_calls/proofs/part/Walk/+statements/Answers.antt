@@ -2,7 +2,7 @@ use Rattle.std.proofs.Common.{rules, ◌≡◌, ◌+◌, ◌*◌, ◌++◌, ◌�
 use Rattle.std.proofs.lemmas.List.{append_assoc}
 use Rattle.meson_syntax.specs.View.{expr_view, stmt_view, block_view, branch_view}
 use Rattle.meson_calls.specs.Project.{place, child}
-use Rattle.meson_calls.specs.Parts.{expression_parts, block_parts, otherwise_parts}
+use Rattle.meson_calls.specs.Parts.{parts_of_expression, parts_of_block, parts_of_otherwise}
 use Rattle.meson_calls.specs.Walks.{else_view, keeper_view, with_parts, parts_inside}
 use Rattle.meson_calls.proofs.Visits.{two_parts, turn}
 use Rattle.meson_calls.proofs.StatementParts.{list_parts, list_part, conditions_parts, conditions_part, branches_count, branch_condition, branch_block, two_each, if_view, foreach_view}
@@ -23,11 +23,11 @@ in_branch-returns-clause-all t c =
     let before = keeper_view c.args.keeper.now in
     let middle = keeper_view c.in_child.new.keeper in
     let b = c.args.branch.now in
-    two_parts before middle _ (expression_parts (child p n) (expr_view source b.condition)) (block_parts (child p (n + 1)) (block_view source b.block))
+    two_parts before middle _ (parts_of_expression (child p n) (expr_view source b.condition)) (parts_of_block (child p (n + 1)) (block_view source b.block))
     c.in_ok-in_child.ensures.all
-    (c.in_ok-in_block.ensures.all ∙ ap (λ path. with_parts middle (block_parts (child (place file path) (n + 1)) (block_view source b.block))) c.in_ok-in_child.ensures.back)
-    ∙ ap (λ e. with_parts before (expression_parts (child p n) e ++ block_parts (child p (n + 1)) (block_view source b.block))) (sym (branch_condition source b))
-    ∙ ap (λ k. with_parts before (expression_parts (child p n) (branch_view source b).0 ++ block_parts (child p (n + 1)) k)) (sym (branch_block source b))
+    (c.in_ok-in_block.ensures.all ∙ ap (λ path. with_parts middle (parts_of_block (child (place file path) (n + 1)) (block_view source b.block))) c.in_ok-in_child.ensures.back)
+    ∙ ap (λ e. with_parts before (parts_of_expression (child p n) e ++ parts_of_block (child p (n + 1)) (block_view source b.block))) (sym (branch_condition source b))
+    ∙ ap (λ k. with_parts before (parts_of_expression (child p n) (branch_view source b).0 ++ parts_of_block (child p (n + 1)) k)) (sym (branch_block source b))
 
 pub in_stmts-loop-i-preserved : goal.in_stmts-loop-i-preserved
 in_stmts-loop-i-preserved t c =
@@ -56,7 +56,7 @@ in_branches-loop-i-preserved t c =
     ∙ ap (λ b. conditions_part source p (2 * i) b) c.index-branches-i.is in
     let next : 2 * (i + 1) ≡ 2 * i + 2 = omega arith in (
       c.in_ok-in_branch.ensures.back ∙ c.loop-i.invariant.0,
-      turn (conditions_parts source p) (conditions_part source p) (λ b. 2) (λ n b bs. sym (append_assoc (expression_parts (child p n) (branch_view source b).0) (block_parts (child p (n + 1)) (branch_view source b).1) (conditions_parts source p (n + 2) bs))) c.args.branches.now i c.index-branches-i.result (2 * i) (2 * (i + 1)) (keeper_view c.loop-i.keeper) (keeper_view c.in_branch.new.keeper) _ now c.loop-i-test.true c.in_ok-in_branch.ensures.all here next c.loop-i.invariant.1,
+      turn (conditions_parts source p) (conditions_part source p) (λ b. 2) (λ n b bs. sym (append_assoc (parts_of_expression (child p n) (branch_view source b).0) (parts_of_block (child p (n + 1)) (branch_view source b).1) (conditions_parts source p (n + 2) bs))) c.args.branches.now i c.index-branches-i.result (2 * i) (2 * (i + 1)) (keeper_view c.loop-i.keeper) (keeper_view c.in_branch.new.keeper) _ now c.loop-i-test.true c.in_ok-in_branch.ensures.all here next c.loop-i.invariant.1,
     )
 
 pub in_stmt-returns-in_ok-in_otherwise-in-If-clause-all : goal.in_stmt-returns-in_ok-in_otherwise-in-If-clause-all
@@ -67,11 +67,11 @@ in_stmt-returns-in_ok-in_otherwise-in-If-clause-all t c =
     let before = keeper_view c.args.keeper.now in
     let middle = keeper_view c.in_branches.new.keeper in
     let number = ap (λ bs. 2 * length bs) c.get-branches.ensures ∙ two_each source c.in-If.branches in
-    two_parts before middle _ (conditions_parts source p 0 c.in-If.branches) (otherwise_parts p (branches_count source c.in-If.branches) (else_view source c.in-If.otherwise))
+    two_parts before middle _ (conditions_parts source p 0 c.in-If.branches) (parts_of_otherwise p (branches_count source c.in-If.branches) (else_view source c.in-If.otherwise))
     (c.in_ok-in_branches-in-If.ensures.all ∙ ap (λ bs. with_parts before (conditions_parts source p 0 bs)) c.get-branches.ensures)
     (c.in_ok-in_otherwise-in-If.ensures.all
-    ∙ ap (λ path. with_parts middle (otherwise_parts (place file path) (2 * length c.get-branches.result.now) (else_view source c.in-If.otherwise))) c.in_ok-in_branches-in-If.ensures.back
-    ∙ ap (λ n. with_parts middle (otherwise_parts p n (else_view source c.in-If.otherwise))) number)
+    ∙ ap (λ path. with_parts middle (parts_of_otherwise (place file path) (2 * length c.get-branches.result.now) (else_view source c.in-If.otherwise))) c.in_ok-in_branches-in-If.ensures.back
+    ∙ ap (λ n. with_parts middle (parts_of_otherwise p n (else_view source c.in-If.otherwise))) number)
     ∙ ap (with_parts before) (sym (ap (parts_inside p) (if_view source c.in-If.span c.in-If.branches c.in-If.otherwise)))
     ∙ ap (λ x. with_parts before (parts_inside p (stmt_view source x))) (sym c.in-If.is)
 
@@ -82,9 +82,9 @@ in_stmt-returns-in_ok-in_block-in-Foreach-clause-all t c =
     let p = place file c.args.path.now.items in
     let before = keeper_view c.args.keeper.now in
     let middle = keeper_view c.in_child-in-Foreach.new.keeper in
-    two_parts before middle _ (expression_parts (child p 0) (expr_view source c.in-Foreach.items)) (block_parts (child p 1) (block_view source c.in-Foreach.body))
+    two_parts before middle _ (parts_of_expression (child p 0) (expr_view source c.in-Foreach.items)) (parts_of_block (child p 1) (block_view source c.in-Foreach.body))
     c.in_ok-in_child-in-Foreach.ensures.all
-    (c.in_ok-in_block-in-Foreach.ensures.all ∙ ap (λ path. with_parts middle (block_parts (child (place file path) 1) (block_view source c.in-Foreach.body))) c.in_ok-in_child-in-Foreach.ensures.back)
+    (c.in_ok-in_block-in-Foreach.ensures.all ∙ ap (λ path. with_parts middle (parts_of_block (child (place file path) 1) (block_view source c.in-Foreach.body))) c.in_ok-in_child-in-Foreach.ensures.back)
     ∙ ap (with_parts before) (sym (ap (parts_inside p) (foreach_view source c.in-Foreach.span c.in-Foreach.names c.in-Foreach.items c.in-Foreach.body)))
     ∙ ap (λ x. with_parts before (parts_inside p (stmt_view source x))) (sym c.in-Foreach.is)
 

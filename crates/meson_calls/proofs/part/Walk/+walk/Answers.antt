@@ -3,7 +3,7 @@ use Rattle.meson_lex.specs.declared.kinds.Span.{Span}
 use Rattle.meson_syntax.specs.declared.tree.Expr.{Expr}
 use Rattle.meson_syntax.specs.View.{expr_view, arg_view}
 use Rattle.meson_calls.specs.Project.{Placed, place, child}
-use Rattle.meson_calls.specs.Parts.{Part, expression_parts, argument_parts}
+use Rattle.meson_calls.specs.Parts.{Part, parts_of_expression, parts_of_argument}
 use Rattle.meson_calls.specs.Walks.{keeper_view, with_parts, parts_within}
 use Rattle.meson_calls.proofs.Visits.{two_parts, three_parts, turn, count_turn, count_ended}
 use Rattle.meson_calls.proofs.Parted.{operand_value, row_view, postfix_view, conditional_view, pair_view}
@@ -54,9 +54,9 @@ in_operands-loop-i-preserved t c =
     let p = place c.args.self.now.file c.args.path.now.items in
     let q = place c.args.self.now.file c.loop-i.path.items in
     let x = get_or c.args.operands.now c.loop-i.i c.index-operands-i.result in
-    let found = expression_parts (child q n) (expr_view source x.value) in
+    let found = parts_of_expression (child q n) (expr_view source x.value) in
     let here : found ≡ row_part source p n x =
-    ap (λ e. expression_parts (child q n) e) (sym (operand_value source x))
+    ap (λ e. parts_of_expression (child q n) e) (sym (operand_value source x))
     ∙ ap (λ path. row_part source (place c.args.self.now.file path) n x) c.loop-i.invariant.0 in (
       c.in_ok-in_child.ensures.back ∙ c.loop-i.invariant.0,
       turn (row_parts source p) (row_part source p) (λ y. 1) (λ n y ys. refl) c.args.operands.now c.loop-i.i c.index-operands-i.result n (n + 1)
@@ -70,8 +70,8 @@ in_expr-returns-in_ok-in_operands-in-Row-clause-all t c =
     let p = place file c.args.path.now.items in
     let before = keeper_view c.args.keeper.now in
     let middle = keeper_view c.in_child-in-Row.new.keeper in
-    two_parts before middle _ (expression_parts (child p 0) (expr_view source c.in-Row.first)) (row_parts source p 1 c.in-Row.rest)
-    (c.in_ok-in_child-in-Row.ensures.all ∙ ap (λ x. with_parts before (expression_parts (child p 0) (expr_view source x))) c.get-in-Row.ensures)
+    two_parts before middle _ (parts_of_expression (child p 0) (expr_view source c.in-Row.first)) (row_parts source p 1 c.in-Row.rest)
+    (c.in_ok-in_child-in-Row.ensures.all ∙ ap (λ x. with_parts before (parts_of_expression (child p 0) (expr_view source x))) c.get-in-Row.ensures)
     (c.in_ok-in_operands-in-Row.ensures.all
     ∙ ap (λ path. with_parts middle (row_parts source (place file path) 1 c.get-in-Row-2.result.now)) c.in_ok-in_child-in-Row.ensures.back
     ∙ ap (λ xs. with_parts middle (row_parts source p 1 xs)) c.get-in-Row-2.ensures)
@@ -85,8 +85,8 @@ in_expr-returns-in_ok-in_tails-in-Postfix-clause-all t c =
     let p = place file c.args.path.now.items in
     let before = keeper_view c.args.keeper.now in
     let middle = keeper_view c.in_child-in-Postfix.new.keeper in
-    two_parts before middle _ (expression_parts (child p 0) (expr_view source c.in-Postfix.base)) (tail_list_parts source p 1 c.in-Postfix.tails)
-    (c.in_ok-in_child-in-Postfix.ensures.all ∙ ap (λ x. with_parts before (expression_parts (child p 0) (expr_view source x))) c.get-in-Postfix.ensures)
+    two_parts before middle _ (parts_of_expression (child p 0) (expr_view source c.in-Postfix.base)) (tail_list_parts source p 1 c.in-Postfix.tails)
+    (c.in_ok-in_child-in-Postfix.ensures.all ∙ ap (λ x. with_parts before (parts_of_expression (child p 0) (expr_view source x))) c.get-in-Postfix.ensures)
     (c.in_ok-in_tails-in-Postfix.ensures.all
     ∙ ap (λ path. with_parts middle (tail_list_parts source (place file path) 1 c.get-in-Postfix-2.result.now)) c.in_ok-in_child-in-Postfix.ensures.back
     ∙ ap (λ xs. with_parts middle (tail_list_parts source p 1 xs)) c.get-in-Postfix-2.ensures)
@@ -102,15 +102,15 @@ in_expr-returns-in_ok-in_child-in-Conditional-3-clause-all t c =
     let middle = keeper_view c.in_child-in-Conditional.new.keeper in
     let later = keeper_view c.in_child-in-Conditional-2.new.keeper in
     let back = c.in_ok-in_child-in-Conditional-2.ensures.back ∙ c.in_ok-in_child-in-Conditional.ensures.back in
-    let part : ℕ → Expr → List (Placed (Part Span)) = λ n x. expression_parts (child p n) (expr_view source x) in
+    let part : ℕ → Expr → List (Placed (Part Span)) = λ n x. parts_of_expression (child p n) (expr_view source x) in
     three_parts before middle later _ (part 0 c.in-Conditional.condition) (part 1 c.in-Conditional.yes) (part 2 c.in-Conditional.no)
-    (c.in_ok-in_child-in-Conditional.ensures.all ∙ ap (λ x. with_parts before (expression_parts (child p 0) (expr_view source x))) c.get-in-Conditional.ensures)
+    (c.in_ok-in_child-in-Conditional.ensures.all ∙ ap (λ x. with_parts before (parts_of_expression (child p 0) (expr_view source x))) c.get-in-Conditional.ensures)
     (c.in_ok-in_child-in-Conditional-2.ensures.all
-    ∙ ap (λ path. with_parts middle (expression_parts (child (place file path) 1) (expr_view source c.get-in-Conditional-2.result.now))) c.in_ok-in_child-in-Conditional.ensures.back
-    ∙ ap (λ x. with_parts middle (expression_parts (child p 1) (expr_view source x))) c.get-in-Conditional-2.ensures)
+    ∙ ap (λ path. with_parts middle (parts_of_expression (child (place file path) 1) (expr_view source c.get-in-Conditional-2.result.now))) c.in_ok-in_child-in-Conditional.ensures.back
+    ∙ ap (λ x. with_parts middle (parts_of_expression (child p 1) (expr_view source x))) c.get-in-Conditional-2.ensures)
     (c.in_ok-in_child-in-Conditional-3.ensures.all
-    ∙ ap (λ path. with_parts later (expression_parts (child (place file path) 2) (expr_view source c.get-in-Conditional-3.result.now))) back
-    ∙ ap (λ x. with_parts later (expression_parts (child p 2) (expr_view source x))) c.get-in-Conditional-3.ensures)
+    ∙ ap (λ path. with_parts later (parts_of_expression (child (place file path) 2) (expr_view source c.get-in-Conditional-3.result.now))) back
+    ∙ ap (λ x. with_parts later (parts_of_expression (child p 2) (expr_view source x))) c.get-in-Conditional-3.ensures)
     ∙ ap (with_parts before) (sym (ap (parts_within p) (conditional_view source c.in-Conditional.span c.in-Conditional.condition c.in-Conditional.yes c.in-Conditional.no)))
     ∙ ap (λ x. with_parts before (parts_within p (expr_view source x))) (sym c.in-Conditional.is)
 
@@ -121,13 +121,13 @@ in_arg-returns-in_ok-in_child-in-Pair-2-clause-all t c =
     let p = place file c.args.path.now.items in
     let before = keeper_view c.args.keeper.now in
     let middle = keeper_view c.in_child-in-Pair.new.keeper in
-    two_parts before middle _ (expression_parts (child p c.args.number) (expr_view source c.in-Pair.key)) (expression_parts (child p (c.args.number + 1)) (expr_view source c.in-Pair.value))
-    (c.in_ok-in_child-in-Pair.ensures.all ∙ ap (λ x. with_parts before (expression_parts (child p c.args.number) (expr_view source x))) c.get.ensures)
+    two_parts before middle _ (parts_of_expression (child p c.args.number) (expr_view source c.in-Pair.key)) (parts_of_expression (child p (c.args.number + 1)) (expr_view source c.in-Pair.value))
+    (c.in_ok-in_child-in-Pair.ensures.all ∙ ap (λ x. with_parts before (parts_of_expression (child p c.args.number) (expr_view source x))) c.get.ensures)
     (c.in_ok-in_child-in-Pair-2.ensures.all
-    ∙ ap (λ path. with_parts middle (expression_parts (child (place file path) (c.args.number + 1)) (expr_view source c.get-in-Pair.result.now))) c.in_ok-in_child-in-Pair.ensures.back
-    ∙ ap (λ x. with_parts middle (expression_parts (child p (c.args.number + 1)) (expr_view source x))) c.get-in-Pair.ensures)
-    ∙ ap (with_parts before) (sym (ap (argument_parts p c.args.number) (pair_view source c.in-Pair.span c.in-Pair.key c.in-Pair.value)))
-    ∙ ap (λ x. with_parts before (argument_parts p c.args.number (arg_view source x))) (sym c.in-Pair.is)
+    ∙ ap (λ path. with_parts middle (parts_of_expression (child (place file path) (c.args.number + 1)) (expr_view source c.get-in-Pair.result.now))) c.in_ok-in_child-in-Pair.ensures.back
+    ∙ ap (λ x. with_parts middle (parts_of_expression (child p (c.args.number + 1)) (expr_view source x))) c.get-in-Pair.ensures)
+    ∙ ap (with_parts before) (sym (ap (parts_of_argument p c.args.number) (pair_view source c.in-Pair.span c.in-Pair.key c.in-Pair.value)))
+    ∙ ap (λ x. with_parts before (parts_of_argument p c.args.number (arg_view source x))) (sym c.in-Pair.is)
 
 pub in_expr-in_list-requires : goal.in_expr-in_list-requires
 in_expr-in_list-requires t c = (search (rules, the_lemmas), array_fits c.args.self.now.source.now _ _ _ c.in-Array.is c.requires.fits)
