@@ -64,6 +64,12 @@ module _ (r : Role) (pair : List ℕ × Setting) where
   pub add_no_list : (e : Refusal) → then_ok (key_kind r pair.0) (list_kind pair.0) ≡ Err e → add_entry r pair ≡ Err e
   add_no_list e is = ap (λ k. then_ok k (λ x. then_ok (list_values x pair.0 pair.1) (λ values. Ok (add pair.0 x values ∷ [])))) is
 
+  pub remove_no_list : (e : Refusal) → then_ok (key_kind r pair.0) (list_kind pair.0) ≡ Err e → remove_entry r pair ≡ Err e
+  remove_no_list e is = ap (λ k. then_ok k (λ x. then_ok (list_values x pair.0 pair.1) (λ values. Ok (once pair.0 ∷ map (remove pair.0 x) values)))) is
+
+  pub set_no_kind : (e : Refusal) → key_kind r pair.0 ≡ Err e → set_entry r pair ≡ Err e
+  set_no_kind e is = ap (λ o. then_ok o (λ x. then_ok (written_value x pair.0 pair.1) (λ w. Ok (set pair.0 w ∷ [])))) is
+
   module _ (k : ElementKind) (is_list : then_ok (key_kind r pair.0) (list_kind pair.0) ≡ Ok k) where
     pub add_by_kind : add_entry r pair ≡ then_ok (list_values k pair.0 pair.1) (λ values. Ok (add pair.0 k values ∷ []))
     add_by_kind = ap (λ o. then_ok o (λ x. then_ok (list_values x pair.0 pair.1) (λ values. Ok (add pair.0 x values ∷ [])))) is_list
@@ -77,23 +83,39 @@ module _ (r : Role) (pair : List ℕ × Setting) where
     pub remove_by_kind : remove_entry r pair ≡ then_ok (list_values k pair.0 pair.1) (λ values. Ok (once pair.0 ∷ map (remove pair.0 k) values))
     remove_by_kind = ap (λ o. then_ok o (λ x. then_ok (list_values x pair.0 pair.1) (λ values. Ok (once pair.0 ∷ map (remove pair.0 x) values)))) is_list
 
+    pub remove_no_values : (e : Refusal) → list_values k pair.0 pair.1 ≡ Err e → remove_entry r pair ≡ Err e
+    remove_no_values e is = remove_by_kind ∙ ap (λ o. then_ok o (λ values. Ok (once pair.0 ∷ map (remove pair.0 k) values))) is
+
     pub remove_made : (vs : List (List ℕ)) → list_values k pair.0 pair.1 ≡ Ok vs → remove_entry r pair ≡ Ok (once pair.0 ∷ map (remove pair.0 k) vs)
     remove_made vs is = remove_by_kind ∙ ap (λ o. then_ok o (λ values. Ok (once pair.0 ∷ map (remove pair.0 k) values))) is
 
-  module _ (k : ValueKind) (is_kind : key_kind r pair.0 ≡ Ok k) (new : Written (Expression Nowhere)) (is_value : written_value k pair.0 pair.1 ≡ Ok new) where
-    pub set_made : set_entry r pair ≡ Ok (set pair.0 new ∷ [])
-    set_made =
-        ap (λ o. then_ok o (λ x. then_ok (written_value x pair.0 pair.1) (λ w. Ok (set pair.0 w ∷ [])))) is_kind
-        ∙ ap (λ o. then_ok o (λ w. Ok (set pair.0 w ∷ []))) is_value
+  module _ (k : ValueKind) (is_kind : key_kind r pair.0 ≡ Ok k) where
+    set_by_kind : set_entry r pair ≡ then_ok (written_value k pair.0 pair.1) (λ w. Ok (set pair.0 w ∷ []))
+    set_by_kind = ap (λ o. then_ok o (λ x. then_ok (written_value x pair.0 pair.1) (λ w. Ok (set pair.0 w ∷ [])))) is_kind
+
+    pub set_no_value : (e : Refusal) → written_value k pair.0 pair.1 ≡ Err e → set_entry r pair ≡ Err e
+    set_no_value e is = set_by_kind ∙ ap (λ o. then_ok o (λ w. Ok (set pair.0 w ∷ []))) is
+
+    pub set_made : (new : Written (Expression Nowhere)) → written_value k pair.0 pair.1 ≡ Ok new → set_entry r pair ≡ Ok (set pair.0 new ∷ [])
+    set_made new is = set_by_kind ∙ ap (λ o. then_ok o (λ w. Ok (set pair.0 w ∷ []))) is
 
 pub delete_made : (r : Role) (key : List ℕ) (k : ValueKind) → key_kind r key ≡ Ok k → delete_entry r key ≡ Ok (delete key ∷ [])
 delete_made r key k is = ap (λ o. then_ok o (λ x. Ok (delete key ∷ []))) is
 
+pub delete_no_kind : (r : Role) (key : List ℕ) (e : Refusal) → key_kind r key ≡ Err e → delete_entry r key ≡ Err e
+delete_no_kind r key e is = ap (λ o. then_ok o (λ x. Ok (delete key ∷ []))) is
+
 pub set_option_made : (pair : List ℕ × List ℕ) → checked_option pair.0 ≡ Ok tt → set_option_entry pair ≡ Ok (set_option pair.0 pair.1 ∷ [])
 set_option_made pair is = ap (λ o. then_ok o (λ _. Ok (set_option pair.0 pair.1 ∷ []))) is
 
+pub set_no_option : (pair : List ℕ × List ℕ) (e : Refusal) → checked_option pair.0 ≡ Err e → set_option_entry pair ≡ Err e
+set_no_option pair e is = ap (λ o. then_ok o (λ _. Ok (set_option pair.0 pair.1 ∷ []))) is
+
 pub delete_option_made : (name : List ℕ) → checked_option name ≡ Ok tt → delete_option_entry name ≡ Ok (delete_option name ∷ [])
 delete_option_made name is = ap (λ o. then_ok o (λ _. Ok (delete_option name ∷ []))) is
+
+pub delete_no_option : (name : List ℕ) (e : Refusal) → checked_option name ≡ Err e → delete_option_entry name ≡ Err e
+delete_no_option name e is = ap (λ o. then_ok o (λ _. Ok (delete_option name ∷ []))) is
 
 -- ---- what may be written
 

@@ -1,22 +1,22 @@
 -- One entry: the key once, and then a task for each value.
-use Rattle.std.proofs.Common.{◌≡◌, ◌<◌, ◌≤◌, ◌∷◌, List, ℕ, length, get_or, map, refl, sym, ap, ◌∙◌, subst, arith, rules}
+use Rattle.std.proofs.Common.{◌≡◌, ◌<◌, ◌≤◌, ◌∷◌, List, ℕ, length, get_or, map, refl, sym, ap, ◌∙◌, subst, arith}
 use Rattle.std.specs.Prelude.{Ok}
 use Rattle.std.proofs.lemmas.List.{get_or-map, length-map, take_all}
 use Rattle.std.proofs.lemmas.Result.{err_from_is_err_and}
 use Rattle.meson_keywords.specs.Tasks.{once, remove}
 use Rattle.meson_keywords.specs.Tasking.{AreTasksBehind}
-use Rattle.meson_keywords.proofs.TasksSoFar.{behind_one, behind_more, more_removed, remove_made}
+use Rattle.meson_keywords.proofs.TasksSoFar.{behind_one, behind_more, more_removed, remove_made, remove_no_list, remove_no_values}
 use Rattle.meson_keywords.proofs.tasks.remove_one.Goals as goal
 
 pub returns-in_err-kind-clause-refused : goal.returns-in_err-kind-clause-refused
 returns-in_err-kind-clause-refused c =
     let error = err_from_is_err_and c.from_residual.result c.from_residual.ensures.1 in
-    rw (error.1, error.2) (search rules)
+    rw (error.1, error.2) (λ other. remove_no_list c.args.role c.args.pair.now c.in_err-kind.field-0.0 (c.in_err-kind.ensures.refused other))
 
 pub returns-in_err-values-clause-refused : goal.returns-in_err-values-clause-refused
 returns-in_err-values-clause-refused c =
     let error = err_from_is_err_and c.from_residual-in_err-values.result c.from_residual-in_err-values.ensures.1 in
-    rw (error.1, error.2) (search rules)
+    rw (error.1, error.2) (λ other. remove_no_values c.args.role c.args.pair.now c.in_ok-kind.kind c.in_ok-kind.ensures.found c.in_err-values.field-0.0 (c.in_err-values.ensures.refused other))
 
 pub loop-i-init : goal.loop-i-init
 loop-i-init c = behind_one c.args.tasks.now.items c.push_task.new.tasks.items _ (once c.args.pair.now.0) c.in_ok-push_task.ensures refl tt

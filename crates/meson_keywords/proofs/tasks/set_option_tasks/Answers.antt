@@ -1,7 +1,8 @@
 -- Each option and its value become one task.
 use Rattle.std.proofs.Common.{◌+◌, drop, sym, ap, ◌∙◌, subst}
 use Rattle.std.specs.Str.{IsUtf8}
-use Rattle.meson_keywords.proofs.TasksSoFar.{none_so_far, one_is, one_made, set_option_made}
+use Rattle.std.proofs.lemmas.Result.{err_from_is_err_and}
+use Rattle.meson_keywords.proofs.TasksSoFar.{none_so_far, not_made, one_is, one_made, set_no_option, set_option_made}
 use Rattle.meson_keywords.specs.Tasks.{each_made, set_option, set_option_entry}
 use Rattle.meson_keywords.specs.Tasking.{TasksSoFar}
 use Rattle.meson_keywords.proofs.tasks.set_option_tasks.Goals as goal
@@ -16,3 +17,11 @@ loop-i-preserved c =
     let here = set_option_made c.index-pairs-i.result (sym c.checked_option.ensures.checked ∙ c.in_ok-checked_option.was) in
     subst (TasksSoFar whole (each_made set_option_entry (drop (c.loop-i.i + 1) c.args.pairs.now))) (sym c.in_ok-push_task.ensures)
     (one_made set_option_entry c.args.pairs.now whole c.loop-i.tasks.items c.loop-i.i c.loop-i.invariant c.index-pairs-i.result c.loop-i-test.true _ _ (ap set_option_entry (sym c.index-pairs-i.is) ∙ here) (one_is _ _ (ap (set_option pair.0) (sym c.get.ensures)) (c.checked_option.ensures.utf8, subst IsUtf8 c.get.ensures c.get.utf8)))
+
+pub returns-in_err-checked_option-clause-refused : goal.returns-in_err-checked_option-clause-refused
+returns-in_err-checked_option-clause-refused c =
+    let error = err_from_is_err_and c.from_residual.result c.from_residual.ensures.1 in
+    let make = set_option_entry in
+    rw (error.1, error.2) (λ other.
+    not_made make c.args.pairs.now (each_made make c.args.pairs.now) c.loop-i.tasks.items c.loop-i.i c.loop-i.invariant c.index-pairs-i.result c.loop-i-test.true c.in_err-checked_option.field-0.0
+    (ap make (sym c.index-pairs-i.is) ∙ set_no_option c.index-pairs-i.result c.in_err-checked_option.field-0.0 (sym c.checked_option.ensures.checked ∙ c.in_err-checked_option.was)))

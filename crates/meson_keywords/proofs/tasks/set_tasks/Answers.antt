@@ -1,8 +1,7 @@
 -- Each key and its new value become one task.
-use Rattle.std.proofs.Common.{◌+◌, drop, refl, sym, ap, ◌∙◌, subst, arith}
-use Rattle.std.proofs.lemmas.Grind.{common_steps}
+use Rattle.std.proofs.Common.{◌+◌, drop, refl, sym, ap, ◌∙◌, subst}
 use Rattle.std.proofs.lemmas.Result.{err_from_is_err_and}
-use Rattle.meson_keywords.proofs.TasksSoFar.{none_so_far, one_is, one_made, set_made, value_may}
+use Rattle.meson_keywords.proofs.TasksSoFar.{none_so_far, not_made, one_is, one_made, set_made, set_no_kind, set_no_value, value_may}
 use Rattle.meson_keywords.specs.Tasks.{each_made, set_entry}
 use Rattle.meson_keywords.specs.Tasking.{TasksSoFar}
 use Rattle.meson_keywords.proofs.tasks.set_tasks.Goals as goal
@@ -10,12 +9,18 @@ use Rattle.meson_keywords.proofs.tasks.set_tasks.Goals as goal
 pub returns-in_err-kind-clause-refused : goal.returns-in_err-kind-clause-refused
 returns-in_err-kind-clause-refused c =
     let error = err_from_is_err_and c.from_residual.result c.from_residual.ensures.1 in
-    rw (error.1, error.2) (grind (arith, common_steps))
+    let make = set_entry c.args.role in
+    rw (error.1, error.2) (λ other.
+    not_made make c.args.pairs.now (each_made make c.args.pairs.now) c.loop-i.tasks.items c.loop-i.i c.loop-i.invariant c.index-pairs-i.result c.loop-i-test.true c.in_err-kind.field-0.0
+    (ap make (sym c.index-pairs-i.is) ∙ set_no_kind c.args.role c.index-pairs-i.result c.in_err-kind.field-0.0 (c.in_err-kind.ensures.refused other)))
 
 pub returns-in_err-new-clause-refused : goal.returns-in_err-new-clause-refused
 returns-in_err-new-clause-refused c =
     let error = err_from_is_err_and c.from_residual-in_err-new.result c.from_residual-in_err-new.ensures.1 in
-    rw (error.1, error.2) (grind (arith, common_steps))
+    let make = set_entry c.args.role in
+    rw (error.1, error.2) (λ other.
+    not_made make c.args.pairs.now (each_made make c.args.pairs.now) c.loop-i.tasks.items c.loop-i.i c.loop-i.invariant c.index-pairs-i.result c.loop-i-test.true c.in_err-new.field-0.0
+    (ap make (sym c.index-pairs-i.is) ∙ set_no_value c.args.role c.index-pairs-i.result c.in_ok-kind.kind c.in_ok-kind.ensures.found c.in_err-new.field-0.0 (c.in_err-new.ensures.refused other)))
 
 pub loop-i-init : goal.loop-i-init
 loop-i-init c = let whole = each_made (set_entry c.args.role) c.args.pairs.now in subst (TasksSoFar whole whole) (sym c.new-tasks.ensures.items) (none_so_far whole)
