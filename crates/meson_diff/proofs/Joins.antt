@@ -110,24 +110,6 @@ new_more es old new gone come meets =
     (new_kept (slice_range old gone (gone + 1)) ∙ slice_one old gone meets.in_old ∙ ap (λ l. l ∷ []) (meets.one_line []))
     (ap (λ l. l ++ get_or new come [] ∷ rest) (new_come (take come new)) ∙ kept_one new come meets.in_new)
 
--- ---- the whole: what stands before the common tail, and that
-
-pub old_whole : (none es all : List Entry) (front end whole : List (List ℕ)) → none ≡ [] → old_lines es ≡ old_lines none ++ front
-    → all ≡ es ++ marked Kept end → whole ≡ front ++ end → old_lines all ≡ whole
-old_whole none es all front end whole empty are pushed is =
-    ap old_lines pushed
-    ∙ old_lines-append es (marked Kept end)
-    ∙ ap₂ (λ a b. a ++ b) (are ∙ ap (λ l. old_lines l ++ front) empty) (old_kept end)
-    ∙ sym is
-
-pub new_whole : (none es all : List Entry) (front end whole : List (List ℕ)) → none ≡ [] → new_lines es ≡ new_lines none ++ front
-    → all ≡ es ++ marked Kept end → whole ≡ front ++ end → new_lines all ≡ whole
-new_whole none es all front end whole empty are pushed is =
-    ap new_lines pushed
-    ∙ new_lines-append es (marked Kept end)
-    ∙ ap₂ (λ a b. a ++ b) (are ∙ ap (λ l. new_lines l ++ front) empty) (new_kept end)
-    ∙ sym is
-
 -- the rest goes, and then comes
 pub old_rest : (es some all : List Entry) (old new whole : List (List ℕ)) → some ≡ es ++ marked Gone old → all ≡ some ++ marked Come new
     → old_lines es ++ old ≡ whole → old_lines all ≡ whole

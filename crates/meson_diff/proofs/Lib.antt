@@ -7,3 +7,4 @@ pub mod Files
 pub mod Pieces
 pub mod Written
 pub mod Patched
+pub mod Ends

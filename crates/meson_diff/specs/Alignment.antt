@@ -1,5 +1,5 @@
 -- Alignments of two texts: each line is kept, goes or comes.
-use Rattle.std.specs.Prelude.{◌≡◌, ℕ, ◌<◌, Bool, true, false, List, filter, get_or, length, map}
+use Rattle.std.specs.Prelude.{◌≡◌, ℕ, ◌<◌, Bool, true, false, List, [], ◌∷◌, ◌++◌, filter, get_or, length, map}
 use Rattle.meson_diff.specs.Lines.{lines}
 use Rattle.meson_diff.specs.declared.entry.Entry.{Entry}
 use Rattle.meson_diff.specs.declared.entry.Mark.{Mark}
@@ -46,3 +46,23 @@ pub record IsMeeting (old new : List (List ℕ)) (gone come : ℕ) : Type 0 wher
   pub in_old : gone < length old
   pub in_new : come < length new
   pub one_line : (d : List ℕ) → get_or old gone d ≡ get_or new come d
+
+-- ---- what is kept
+
+-- the two do not begin with one line
+abbrev pub BeginApart : List (List ℕ) → List (List ℕ) → Type 0
+BeginApart old new = (line : List ℕ) (os ns : List (List ℕ)) → old ≡ line ∷ os → new ≡ line ∷ ns → ⊥
+
+-- nor end with one
+abbrev pub EndApart : List (List ℕ) → List (List ℕ) → Type 0
+EndApart old new = (line : List ℕ) (os ns : List (List ℕ)) → old ≡ os ++ line ∷ [] → new ≡ ns ++ line ∷ [] → ⊥
+
+-- The lines with which both texts end are kept, and of those before them the ones with which both begin.
+-- What stands between neither begins nor ends with one line of both.
+pub record KeepsEnds (entries : List Entry) : Type 0 where
+  pub head : List (List ℕ)
+  pub between : List Entry
+  pub tail : List (List ℕ)
+  pub parts : entries ≡ marked Kept head ++ (between ++ marked Kept tail)
+  pub begin_apart : BeginApart (old_lines between) (new_lines between)
+  pub end_apart : EndApart (old_lines between) (new_lines between)

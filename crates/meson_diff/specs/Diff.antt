@@ -2,7 +2,7 @@
 use Rattle.std.specs.Prelude.{◌≡◌, ◌≢◌, ◌⊎◌, ℕ, List, [], ◌∷◌, ◌++◌, ◌==◌, if◌then◌else◌, codes}
 use Rattle.std.specs.List.{list_any}
 use Rattle.meson_splice.specs.declared.file_set.File.{File}
-use Rattle.meson_diff.specs.Alignment.{IsAlignment}
+use Rattle.meson_diff.specs.Alignment.{IsAlignment, KeepsEnds}
 use Rattle.meson_diff.specs.Hunks.{hunks_text}
 use Rattle.meson_diff.specs.declared.entry.Entry.{Entry}
 
@@ -14,10 +14,11 @@ name_end name = if list_any (λ b. b == 32) name then codes "\t" else []
 abbrev pub file_head : List ℕ → List ℕ
 file_head name = codes "--- a/" ++ (name ++ (name_end name ++ (codes "\n+++ b/" ++ (name ++ (name_end name ++ codes "\n")))))
 
--- the text is that of some alignment of the file's two texts
+-- the text is that of some alignment of the file's two texts which keeps the lines at both ends
 pub record IsPrinted (name old new text : List ℕ) : Type 0 where
   pub entries : List Entry
   pub aligned : IsAlignment old new entries
+  pub ends : KeepsEnds entries
   pub printed : text ≡ file_head name ++ hunks_text entries
 
 -- nothing where the two texts are one

@@ -1,7 +1,7 @@
 //! The alignment of two texts: which lines are kept.
 
-ghost use Rattle.std.specs.Prelude.{◌≡◌, ◌+◌, ◌++◌, ◌-◌, ◌<◌, ◌≤◌, IfOk, IfSome, OnOk, drop, length, true};
-ghost use Rattle.meson_diff.specs.Alignment.{IsMeeting, new_lines, old_lines};
+ghost use Rattle.std.specs.Prelude.{◌≡◌, ◌+◌, ◌++◌, ◌-◌, ◌<◌, ◌≤◌, IfOk, IfSome, OnOk, drop, false, length, take, true};
+ghost use Rattle.meson_diff.specs.Alignment.{IsMeeting, KeepsEnds, new_lines, old_lines};
 
 use crate::entry::{Entry, Mark, push_all};
 use crate::line::Line;
@@ -19,7 +19,8 @@ struct Meeting {
 
 /// Whether both texts go on with one line behind so many lines each.
 fn is_meeting(old: &[Line<'_>], new: &[Line<'_>], gone: usize, come: usize) -> bool
-    ensures { result ≡ true → IsMeeting old.now new.now gone come }
+    ensures found { result ≡ true → IsMeeting old.now new.now gone come }
+    ensures apart { result ≡ false → IsMeeting old.now new.now gone come → ⊥ }
 {
     gone < old.len() && come < new.len() && old[gone].text() == new[come].text()
 }
@@ -44,10 +45,28 @@ fn common_tail(old: &[Line<'_>], new: &[Line<'_>]) -> usize
     ensures in_old { result ≤ length old.now }
     ensures in_new { result ≤ length new.now }
     ensures same { drop (length old.now - result) old.now ≡ drop (length new.now - result) new.now }
+    ensures apart { result < length old.now → result < length new.now
+        → IsMeeting old.now new.now (length old.now - 1 - result) (length new.now - 1 - result) → ⊥ }
 {
     let most = old.len().min(new.len());
     for n in 0..most {
         if !is_meeting(old, new, old.len() - 1 - n, new.len() - 1 - n) {
+            return n;
+        }
+    }
+    most
+}
+
+/// With how many lines both texts begin.
+fn common_head(old: &[Line<'_>], new: &[Line<'_>]) -> usize
+    ensures in_old { result ≤ length old.now }
+    ensures in_new { result ≤ length new.now }
+    ensures same { take result old.now ≡ take result new.now }
+    ensures apart { IsMeeting old.now new.now result result → ⊥ }
+{
+    let most = old.len().min(new.len());
+    for n in 0..most {
+        if !is_meeting(old, new, n, n) {
             return n;
         }
     }
@@ -100,7 +119,8 @@ fn push_between<'a>(
     Ok(())
 }
 
-/// The entries of two texts: the lines that both end with are kept, and so are those before them that are found again.
+/// The entries of two texts: the lines that both end with are kept, before them those that both begin with, and of what
+/// stands between these the lines that are found again.
 pub(crate) fn aligned<'a>(
     alloc: Global,
     old: &[Line<'a>],
@@ -108,12 +128,19 @@ pub(crate) fn aligned<'a>(
 ) -> Result<Vec<Entry<'a>>, AllocError>
     ensures of_old { IfOk result (λ v. old_lines v.items ≡ old.now) }
     ensures of_new { IfOk result (λ v. new_lines v.items ≡ new.now) }
+    ensures ends { IfOk result (λ v. KeepsEnds v.items) }
 {
     let tail = common_tail(old, new);
     let (old_front, end) = old.split_at(old.len() - tail);
     let (new_front, _) = new.split_at(new.len() - tail);
+    let head = common_head(old_front, new_front);
+    let (begin, old_rest) = old_front.split_at(head);
+    let (_, new_rest) = new_front.split_at(head);
+    let mut between = Vec::new(alloc);
+    push_between(&mut between, old_rest, new_rest)?;
     let mut entries = Vec::new(alloc);
-    push_between(&mut entries, old_front, new_front)?;
+    push_all(&mut entries, Mark::Kept, begin)?;
+    entries.append(&mut between)?;
     push_all(&mut entries, Mark::Kept, end)?;
     Ok(entries)
 }

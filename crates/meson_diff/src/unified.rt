@@ -2,7 +2,7 @@
 
 ghost use Rattle.std.specs.Prelude.{◌≡◌, ◌==◌, IfOk, map, string_bytes};
 ghost use Rattle.std.specs.List.{list_any};
-ghost use Rattle.meson_diff.specs.Alignment.{IsAlignment};
+ghost use Rattle.meson_diff.specs.Alignment.{IsAlignment, KeepsEnds};
 ghost use Rattle.meson_diff.specs.Diff.{IsDiff, IsFileDiff, file_head, name_end};
 
 use crate::aligning::aligned;
@@ -36,7 +36,8 @@ fn file_head(alloc: Global, name: &str) -> Result<String, AllocError>
 
 /// The entries of two texts.
 fn entries_of<'a>(alloc: Global, old: &'a [u8], new: &'a [u8]) -> Result<Vec<Entry<'a>>, AllocError>
-    ensures { IfOk result (λ v. IsAlignment old.entry.now new.entry.now v.items) }
+    ensures aligned { IfOk result (λ v. IsAlignment old.entry.now new.entry.now v.items) }
+    ensures ends { IfOk result (λ v. KeepsEnds v.items) }
 {
     let old_lines = lines(alloc, old)?;
     let new_lines = lines(alloc, new)?;
