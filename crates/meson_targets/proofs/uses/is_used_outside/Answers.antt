@@ -8,7 +8,7 @@ use Rattle.meson_targets.proofs.UsesFound.{when_noted, when_not_noted}
 use Rattle.meson_targets.proofs.uses.is_used_outside.Goals as goal
 
 pub is_noted_outside-requires : goal.is_noted_outside-requires
-is_noted_outside-requires c = 
+is_noted_outside-requires c =
     let n = c.args.noted.now in
     taken_good n.files.now n.trees.now c.requires.parsed _ (ap note_views c.as_slice.ensures.value ∙ c.in_ok-notes.ensures ∙ c.in_ok-taken.ensures)
 

@@ -14,9 +14,11 @@ use Rattle.meson_calls.specs.Spelling.{AreNotesWith, setter_words}
 use Rattle.meson_plan.proofs.project.Project.extra_files.Goals as goal
 
 pub of-requires : goal.of-requires
-of-requires c = ([],
-    c.noted-noted.ensures.noted ([])
-    (subst (AreNotesWith ([] ++ setter_words) 0 c.args.self.now.files c.args.self.now.parsed) (sym (ap note_views c.as_slice.ensures.value ∙ c.in_ok-notes.ensures)) c.in_ok-taken.ensures))
+of-requires c = (
+  [],
+  c.noted-noted.ensures.noted ([])
+      (subst (AreNotesWith ([] ++ setter_words) 0 c.args.self.now.files c.args.self.now.parsed) (sym (ap note_views c.as_slice.ensures.value ∙ c.in_ok-notes.ensures)) c.in_ok-taken.ensures),
+)
 
 pub call_at-called-requires-clause-parsed : goal.call_at-called-requires-clause-parsed
 call_at-called-requires-clause-parsed c =

@@ -10,9 +10,11 @@ use Rattle.meson_calls.specs.Spelling.{AreNotesWith, setter_words}
 use Rattle.meson_plan.proofs.project.Project.sources.Goals as goal
 
 pub of-requires : goal.of-requires
-of-requires c = ([],
-    c.noted-noted.ensures.noted ([])
-    (subst (AreNotesWith ([] ++ setter_words) 0 c.args.self.now.files c.args.self.now.parsed) (sym (ap note_views c.as_slice.ensures.value ∙ c.in_ok-notes.ensures)) c.in_ok-taken.ensures))
+of-requires c = (
+  [],
+  c.noted-noted.ensures.noted ([])
+      (subst (AreNotesWith ([] ++ setter_words) 0 c.args.self.now.files c.args.self.now.parsed) (sym (ap note_views c.as_slice.ensures.value ∙ c.in_ok-notes.ensures)) c.in_ok-taken.ensures),
+)
 
 pub sources_at-requires-clause-parsed : goal.sources_at-requires-clause-parsed
 sources_at-requires-clause-parsed c =

@@ -28,9 +28,11 @@ returns-in_err-place-clause-refused c =
     rw (error.1, error.2) (λ other. not_found c.in_err-place.field-0.0 (sym found ∙ c.in_err-place.ensures.refused other))
 
 pub of-requires : goal.of-requires
-of-requires c = (sought_words Target c.args.id.now,
-    c.noted-noted.ensures.noted (sought_words Target c.args.id.now)
-    (subst (AreNotesWith (sought_words Target c.args.id.now ++ setter_words) 0 c.args.self.now.files c.args.self.now.parsed) (sym (ap note_views c.as_slice.ensures.value ∙ c.in_ok-notes.ensures)) c.in_ok-taken.ensures))
+of-requires c = (
+  sought_words Target c.args.id.now,
+  c.noted-noted.ensures.noted (sought_words Target c.args.id.now)
+      (subst (AreNotesWith (sought_words Target c.args.id.now ++ setter_words) 0 c.args.self.now.files c.args.self.now.parsed) (sym (ap note_views c.as_slice.ensures.value ∙ c.in_ok-notes.ensures)) c.in_ok-taken.ensures),
+)
 
 pub details_at-requires-clause-parsed : goal.details_at-requires-clause-parsed
 details_at-requires-clause-parsed c =
