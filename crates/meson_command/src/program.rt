@@ -103,7 +103,6 @@ fn with_version<'h>(alloc: Global, command: Command<'h>) -> Result<Command<'h>, 
     )
 }
 
-#[tactic(auto, unfolding(crate::specs::Program::target))]
 fn target<'h>(alloc: Global) -> Result<Command<'h>, AllocError>
     ensures { IfOk result (IsToldToClap target) }
 {
@@ -116,7 +115,6 @@ fn target<'h>(alloc: Global) -> Result<Command<'h>, AllocError>
     with_help(alloc, command)
 }
 
-#[tactic(auto, unfolding(crate::specs::Program::kwargs))]
 fn kwargs<'h>(alloc: Global) -> Result<Command<'h>, AllocError>
     ensures { IfOk result (IsToldToClap kwargs) }
 {
