@@ -57,6 +57,18 @@ returns-in-DisplayVersion-clause-ok c =
 pub returns-in-DisplayVersion-clause-title : goal.returns-in-DisplayVersion-clause-title
 returns-in-DisplayVersion-clause-title c = ap (λ (a : Asked). is_title a.title) c.shown-in-DisplayVersion.ensures
 
+pub returns-in-DisplayHelp-clause-taken : goal.returns-in-DisplayHelp-clause-taken
+returns-in-DisplayHelp-clause-taken c = λ t.
+    let ws : List Text = map string_bytes c.args.words.now in
+    let out = takes_at _ ws _ c.in_ok-command.ensures c.in-Err.ensures.passes t in
+    absurd (cc (out, c.kind.ensures, c.in-DisplayHelp.is))
+
+pub returns-in-DisplayVersion-clause-taken : goal.returns-in-DisplayVersion-clause-taken
+returns-in-DisplayVersion-clause-taken c = λ t.
+    let ws : List Text = map string_bytes c.args.words.now in
+    let out = takes_at _ ws _ c.in_ok-command.ensures c.in-Err.ensures.passes t in
+    absurd (cc (out, c.kind.ensures, c.in-DisplayVersion.is))
+
 pub returns : goal.returns
 returns c =
     let ws : List Text = map string_bytes c.args.words.now in
