@@ -1,0 +1,162 @@
+-- What variables stand for, in trees without spans; and that an expansion looks at no span.
+use Rattle.std.proofs.Common.{◌≡◌, ℕ, zero, suc, ◌+◌, Bool, true, false, List, [], ◌∷◌, ◌++◌, map, Option, Some, None, refl, sym, ap, ap₂, ◌∙◌}
+use Rattle.std.specs.Prelude.{not, ◌&&◌, if◌then◌else◌, bytes_eq, codes, option_map}
+use Rattle.std.proofs.lemmas.List.{map-append}
+use Rattle.meson_lex.specs.Literals.{value}
+use Rattle.meson_syntax.specs.Operators.{string_kind}
+use Rattle.meson_syntax.specs.Tree.{Nowhere, Expression, identifier, string, array, call, row, Operands, no_operands, operand, Listing, listing, Argument, plain, named, pair, Arguments, no_arguments, argument, erase_expression, erase_operands, erase_listing, erase_argument, erase_arguments}
+use Rattle.meson_calls.specs.declared.call.CallRef.{CallRef}
+use Rattle.meson_calls.specs.Expansion.{Slot, Item, Mark, known, opaque, empty, Expansion, Stand, both_expanded, met, element, operand_at, or_empty, within, is_files, has_names, are_named, is_plus, are_plus, is_operand_by, is_value_by, is_single_by, is_list_variable, is_list_operand, max_followed, literal_item, expand_by, expand_operands, expand_listing, expand_each, expand_argument, expand, follow_single, of_variable}
+use Rattle.meson_calls.specs.Project.{Project, Placed, placed}
+use Rattle.meson_calls.specs.Roles.{one_of}
+use Rattle.meson_calls.specs.Variables.{single}
+
+-- ---- what variables stand for
+
+abbrev pub Values : Type 0
+Values = List ℕ → Option (Placed (Expression Nowhere))
+
+abbrev pub list_by : Values → ℕ → List ℕ → Bool
+list_by values zero x = false
+list_by values (suc left) x = is_single_by (is_operand_by (list_by values left)) (values x)
+
+unfoldable pub lists_by : Values → Expression Nowhere → Bool
+lists_by values = is_operand_by (list_by values max_followed)
+
+abbrev pub follow_by : (Values → ℕ → Expression Nowhere → Stand → List (List ℕ) → Expansion Nowhere) → Values → ℕ → List ℕ → List (List ℕ) → Expansion Nowhere
+follow_by inner values left x followed = follow_single (inner values left) x followed (values x)
+
+abbrev pub expand_with : Values → ℕ → Expression Nowhere → Stand → List (List ℕ) → Expansion Nowhere
+expand_with values zero = expand_by (lists_by values) (λ x followed. met opaque followed)
+expand_with values (suc left) = expand_by (lists_by values) (λ x followed. follow_single (expand_with values left) x followed (values x))
+
+-- ---- without spans
+
+abbrev pub bare_mark : {S : Type 0} → Mark S → Mark Nowhere
+bare_mark (known i) = known (record { text = i.text; stands = tt; place = i.place; slot = i.slot; variable = i.variable })
+bare_mark opaque = opaque
+bare_mark (empty p) = empty p
+
+abbrev pub bare : {S : Type 0} → Expansion S → Expansion Nowhere
+bare e = record { marks = map bare_mark e.marks; followed = e.followed }
+
+abbrev pub bare_value : {S : Type 0} → Placed (Expression S) → Placed (Expression Nowhere)
+bare_value v = placed v.place (erase_expression v.it)
+
+abbrev pub values_of : {S : Type 0} → Project S → Values
+values_of p x = option_map bare_value (single p x)
+
+module _ {S : Type 0} where
+  names_bare : (list : Arguments S) → has_names (erase_arguments list) ≡ has_names list
+  names_bare no_arguments = refl
+  names_bare (argument (plain e) more) = names_bare more
+  names_bare (argument (named s x e) more) = refl
+  names_bare (argument (pair s e f) more) = names_bare more
+
+  pub files_bare : (f : List ℕ) (l : Listing S) → is_files f (erase_listing l) ≡ is_files f l
+  files_bare f (listing s trailing list) = ap (λ b. bytes_eq f (codes "files") && not b) (names_bare list)
+
+  plus_bare : (os : Operands S) → are_plus (erase_operands os) ≡ are_plus os
+  plus_bare no_operands = refl
+  plus_bare (operand o e more) = ap (λ b. is_plus o && b) (plus_bare more)
+
+  -- ---- which are lists
+
+  operand_bare : (few many : List ℕ → Bool) → ((x : List ℕ) → few x ≡ many x) → (e : Expression S) → is_operand_by few (erase_expression e) ≡ is_operand_by many e
+  operand_bare few many alike (array l) = refl
+  operand_bare few many alike (call at_ f l) = files_bare f.text l
+  operand_bare few many alike (identifier at_ x) = alike x
+  operand_bare few many alike _ = refl
+
+  value_bare : (few : Expression Nowhere → Bool) (many : Expression S → Bool) → ((e : Expression S) → few (erase_expression e) ≡ many e) → (e : Expression S) → is_value_by few (erase_expression e) ≡ is_value_by many e
+  value_bare few many alike (array l) = refl
+  value_bare few many alike (call at_ f l) = files_bare f.text l
+  value_bare few many alike (row at_ e os) = ap₂ (λ a b. a && b) (plus_bare os) (alike e)
+  value_bare few many alike _ = refl
+
+  single_bare : (few : Expression Nowhere → Bool) (many : Expression S → Bool) → ((e : Expression S) → few (erase_expression e) ≡ many e) → (o : Option (Placed (Expression S))) → is_single_by few (option_map bare_value o) ≡ is_single_by many o
+  single_bare few many alike None = refl
+  single_bare few many alike (Some v) = value_bare few many alike v.it
+
+  list_bare : (p : Project S) (left : ℕ) (x : List ℕ) → list_by (values_of p) left x ≡ is_list_variable p left x
+  list_bare p zero x = refl
+  list_bare p (suc left) x =
+      single_bare (is_operand_by (list_by (values_of p) left)) (is_operand_by (is_list_variable p left))
+      (operand_bare (list_by (values_of p) left) (is_list_variable p left) (list_bare p left)) (single p x)
+
+  lists_bare : (p : Project S) (e : Expression S) → lists_by (values_of p) (erase_expression e) ≡ is_list_operand p e
+  unfolding lists_by is_list_operand
+  lists_bare p e = operand_bare (list_by (values_of p) max_followed) (is_list_variable p max_followed) (list_bare p max_followed) e
+
+  -- ---- expansions
+
+  within_bare : (p : CallRef) (e : Expansion S) → within p (bare e) ≡ bare (within p e)
+  within_bare p e = ap (λ ms. record { marks = ms; followed = e.followed }) (go e.marks)
+    where
+      go : (ms : List (Mark S)) → or_empty p (map bare_mark ms) ≡ map bare_mark (or_empty p ms)
+      go [] = refl
+      go (m ∷ ms) = refl
+
+  pub both_bare : (e f : Expansion S) → both_expanded (bare e) (bare f) ≡ bare (both_expanded e f)
+  both_bare e f = ap (λ ms. record { marks = ms; followed = f.followed }) (sym (map-append bare_mark e.marks f.marks))
+
+  literal_bare : (at_ : S) (s : Stand) (followed : List (List ℕ)) (o : Option (List ℕ)) → literal_item tt s followed o ≡ bare (literal_item at_ s followed o)
+  literal_bare at_ s followed None = refl
+  literal_bare at_ s followed (Some x) = refl
+
+  either_bare : (a b : Bool) → a ≡ b → (yea nay : Expansion Nowhere) (yea2 nay2 : Expansion S) → yea ≡ bare yea2 → nay ≡ bare nay2 → (if a then yea else nay) ≡ bare (if b then yea2 else nay2)
+  either_bare a true is yea nay yea2 nay2 one other = ap (λ c. if c then yea else nay) is ∙ one
+  either_bare a false is yea nay yea2 nay2 one other = ap (λ c. if c then yea else nay) is ∙ other
+
+  module _ (few : Expression Nowhere → Bool) (many : Expression S → Bool) (alike : (e : Expression S) → few (erase_expression e) ≡ many e)
+      (follow : List ℕ → List (List ℕ) → Expansion Nowhere) (follows : List ℕ → List (List ℕ) → Expansion S) (same : (x : List ℕ) (followed : List (List ℕ)) → follow x followed ≡ bare (follows x followed)) where
+    mutual
+      expression_bare : (e : Expression S) (s : Stand) (followed : List (List ℕ)) → expand_by few follow (erase_expression e) s followed ≡ bare (expand_by many follows e s followed)
+      expression_bare (string at_ q x) s followed = literal_bare at_ s followed (value (string_kind q) x)
+      expression_bare (array l) s followed = ap (within s.place) (listing_bare l s followed) ∙ within_bare s.place _
+      expression_bare (call at_ f l) s followed =
+          either_bare (is_files f.text (erase_listing l)) (is_files f.text l) (files_bare f.text l) _ (met opaque followed) _ (met opaque followed) (ap (within s.place) (listing_bare l s followed) ∙ within_bare s.place _) refl
+      expression_bare (identifier at_ x) s followed = either_bare (one_of followed x) (one_of followed x) refl (met opaque followed) (follow x followed) (met opaque followed) (follows x followed) refl (same x followed)
+      expression_bare (row at_ e os) s followed =
+          let first = expand_by many follows e (operand_at s 0) followed in
+          either_bare (are_plus (erase_operands os) && few (erase_expression e)) (are_plus os && many e) (ap₂ (λ a b. a && b) (plus_bare os) (alike e))
+          _ (met opaque followed) _ (met opaque followed)
+          (ap (λ (x : Expansion Nowhere). both_expanded x (expand_operands few follow (erase_operands os) 1 s x.followed)) (expression_bare e (operand_at s 0) followed)
+          ∙ ap (both_expanded (bare first)) (operands_bare os 1 s first.followed) ∙ both_bare first _) refl
+      expression_bare _ s followed = refl
+
+      operands_bare : (os : Operands S) (n : ℕ) (s : Stand) (followed : List (List ℕ)) → expand_operands few follow (erase_operands os) n s followed ≡ bare (expand_operands many follows os n s followed)
+      operands_bare no_operands n s followed = refl
+      operands_bare (operand o e more) n s followed =
+          let first = expand_by many follows e (operand_at s n) followed in
+          ap (λ (x : Expansion Nowhere). both_expanded x (expand_operands few follow (erase_operands more) (n + 1) s x.followed)) (expression_bare e (operand_at s n) followed)
+          ∙ ap (both_expanded (bare first)) (operands_bare more (n + 1) s first.followed) ∙ both_bare first _
+
+      listing_bare : (l : Listing S) (s : Stand) (followed : List (List ℕ)) → expand_listing few follow (erase_listing l) s followed ≡ bare (expand_listing many follows l s followed)
+      listing_bare (listing at_ trailing list) s followed = each_bare list 0 s followed
+
+      each_bare : (list : Arguments S) (n : ℕ) (s : Stand) (followed : List (List ℕ)) → expand_each few follow (erase_arguments list) n s followed ≡ bare (expand_each many follows list n s followed)
+      each_bare no_arguments n s followed = refl
+      each_bare (argument a more) n s followed =
+          let first = expand_argument many follows a (element s n) followed in
+          ap (λ (x : Expansion Nowhere). both_expanded x (expand_each few follow (erase_arguments more) (n + 1) s x.followed)) (argument_bare a (element s n) followed)
+          ∙ ap (both_expanded (bare first)) (each_bare more (n + 1) s first.followed) ∙ both_bare first _
+
+      argument_bare : (a : Argument S) (s : Stand) (followed : List (List ℕ)) → expand_argument few follow (erase_argument a) s followed ≡ bare (expand_argument many follows a s followed)
+      argument_bare (plain e) s followed = expression_bare e s followed
+      argument_bare (named at_ x e) s followed = refl
+      argument_bare (pair at_ e f) s followed = refl
+
+  follow_bare : (inner : Expression Nowhere → Stand → List (List ℕ) → Expansion Nowhere) (inners : Expression S → Stand → List (List ℕ) → Expansion S)
+      → ((e : Expression S) (s : Stand) (followed : List (List ℕ)) → inner (erase_expression e) s followed ≡ bare (inners e s followed))
+      → (x : List ℕ) (followed : List (List ℕ)) (o : Option (Placed (Expression S))) → follow_single inner x followed (option_map bare_value o) ≡ bare (follow_single inners x followed o)
+  follow_bare inner inners same x followed None = refl
+  follow_bare inner inners same x followed (Some v) = same v.it (of_variable x v.place) (x ∷ followed)
+
+  -- what an expression holds is what it holds without spans
+  pub expand_bare : (p : Project S) (left : ℕ) (e : Expression S) (s : Stand) (followed : List (List ℕ)) → expand_with (values_of p) left (erase_expression e) s followed ≡ bare (expand p left e s followed)
+  expand_bare p zero e s followed =
+      expression_bare (lists_by (values_of p)) (is_list_operand p) (lists_bare p) (λ x now. met opaque now) (λ x now. met opaque now) (λ x now. refl) e s followed
+  expand_bare p (suc left) e s followed =
+      expression_bare (lists_by (values_of p)) (is_list_operand p) (lists_bare p) (λ x now. follow_single (expand_with (values_of p) left) x now (values_of p x)) (λ x now. follow_single (expand p left) x now (single p x))
+      (λ x now. follow_bare (expand_with (values_of p) left) (expand p left) (expand_bare p left) x now (single p x)) e s followed
