@@ -1,0 +1,215 @@
+-- Where the value of a variable stands, by what the parts of a project tell.
+use Rattle.std.proofs.Common.{◌≡◌, ℕ, zero, suc, Bool, true, false, List, [], ◌∷◌, map, Option, Some, None, refl, sym, ap, ap₂, ◌∙◌}
+use Rattle.std.specs.Prelude.{not, ◌&&◌, ◌||◌, if◌then◌else◌, bytes_eq, codes, is_none, option_and_then, option_map}
+use Rattle.std.specs.List.{cons_option, list_any}
+use Rattle.meson_syntax.specs.Paths.{nth}
+use Rattle.meson_syntax.specs.Tree.{Name, Expression, evaluate, assign, selection, iteration, breaks, continues}
+use Rattle.meson_calls.specs.declared.call.CallRef.{CallRef}
+use Rattle.meson_calls.specs.Calls.{Call, call_of, first_literal, part_call, all_chosen, is}
+use Rattle.meson_calls.specs.Folders.{file_in}
+use Rattle.meson_calls.specs.Parts.{Part, an_expression, a_statement, parts}
+use Rattle.meson_calls.specs.Project.{BuildFile, Project, Placed, placed, child, nth_file}
+use Rattle.meson_calls.specs.Variables.{Assigned, is_set, part_assigned, assignments, is_outermost, only_value, is_iterated, sets_variable, is_set_otherwise, sets_unknown, enters_unknown, has_name, is_there, meant_file, all_known, single, one_of_names}
+use Rattle.meson_sources.proofs.Tells.{Told, a_call, an_assignment, a_loop, matters, tell_call, name_texts, told}
+
+-- ---- what may set any variable
+
+abbrev there_by : List (List ℕ) → Option (List ℕ) → Bool
+there_by names None = false
+there_by names (Some name) = list_any (λ n. bytes_eq n name) names
+
+abbrev meant_by : List (List ℕ) → ℕ → Option (List ℕ) → Option (List ℕ)
+meant_by names file lit = option_and_then (λ name. option_and_then (file_in name) lit) (nth names file)
+
+abbrev doubts : List (List ℕ) → Told → Bool
+doubts names (a_call file f lit) = (bytes_eq f (codes "set_variable") && is_none lit) || (bytes_eq f (codes "subdir") && not (there_by names (meant_by names file lit)))
+doubts names (an_assignment p x a) = false
+doubts names (a_loop xs) = false
+
+abbrev known_by : List (List ℕ) → List Told → Bool
+known_by names ts = not (list_any (doubts names) ts)
+
+-- ---- what sets one
+
+abbrev loops : List ℕ → Told → Bool
+loops x (a_call file f lit) = false
+loops x (an_assignment p y a) = false
+loops x (a_loop xs) = list_any (λ y. bytes_eq y x) xs
+
+abbrev sets : List ℕ → Told → Bool
+sets x (a_call file f lit) = bytes_eq f (codes "set_variable") && is x lit
+sets x (an_assignment p y a) = false
+sets x (a_loop xs) = false
+
+abbrev set_by : List ℕ → List Told → Bool
+set_by x ts = list_any (loops x) ts || list_any (sets x) ts
+
+-- ---- the only value
+
+abbrev assigned_by_told : List ℕ → List Told → List (CallRef × Bool)
+assigned_by_told x [] = []
+assigned_by_told x (a_call file f lit ∷ ts) = assigned_by_told x ts
+assigned_by_told x (an_assignment p y a ∷ ts) = if bytes_eq y x then (p, is_set a) ∷ assigned_by_told x ts else assigned_by_told x ts
+assigned_by_told x (a_loop xs ∷ ts) = assigned_by_told x ts
+
+abbrev only_place : List (CallRef × Bool) → Option CallRef
+only_place [] = None
+only_place (a ∷ []) = if a.1 && is_outermost a.0.path.steps then Some (child a.0 0) else None
+only_place (a ∷ b ∷ more) = None
+
+abbrev pub value_place : List (List ℕ) → List Told → List ℕ → Option CallRef
+value_place names ts x = if known_by names ts && not (set_by x ts) then only_place (assigned_by_told x ts) else None
+
+abbrev pub file_names : {S : Type 0} → Project S → List (List ℕ)
+file_names p = map (λ f. f.name) p
+
+-- ---- they are the project's
+
+any_option : (f : Told → Bool) (m : Bool) (t : Told) (ts : List Told) → list_any f (cons_option (if m then Some t else None) ts) ≡ (if m then f t else false) || list_any f ts
+any_option f true t ts = refl
+any_option f false t ts = refl
+
+either_matters : (a b u v : Bool) → (if a || b then (a && u) || (b && v) else false) ≡ (a && u) || (b && v)
+either_matters true b u v = refl
+either_matters false true u v = refl
+either_matters false false u v = refl
+
+first_matters : (a b u : Bool) → (if a || b then a && u else false) ≡ a && u
+first_matters true b u = refl
+first_matters false true u = refl
+first_matters false false u = refl
+
+module _ {S : Type 0} where
+  name_there : (p : Project S) (name : List ℕ) → has_name p name ≡ list_any (λ n. bytes_eq n name) (file_names p)
+  name_there [] name = refl
+  name_there (f ∷ p) name = ap (λ b. bytes_eq f.name name || b) (name_there p name)
+
+  is_there_by : (p : Project S) (o : Option (List ℕ)) → is_there p o ≡ there_by (file_names p) o
+  is_there_by p None = refl
+  is_there_by p (Some name) = name_there p name
+
+  meant_is : (p : Project S) (file : ℕ) (c : Call S) → option_and_then (λ (f : BuildFile S). meant_file f.name c) (nth_file p file) ≡ meant_by (file_names p) file (first_literal c)
+  meant_is [] file c = refl
+  meant_is (f ∷ p) zero c = refl
+  meant_is (f ∷ p) (suc file) c = meant_is p file c
+
+  module _ (p : Project S) where
+    abbrev doubtful : Placed (Call S) → Bool
+    doubtful c = sets_unknown c.it || enters_unknown p c
+
+    call_doubts : (pl : CallRef) (c : Call S) → doubtful (placed pl c) ≡ doubts (file_names p) (a_call pl.file c.function (first_literal c))
+    call_doubts pl c =
+        ap (λ b. (bytes_eq c.function (codes "set_variable") && is_none (first_literal c)) || (bytes_eq c.function (codes "subdir") && not b))
+        (ap (is_there p) (meant_is p pl.file c) ∙ is_there_by p (meant_by (file_names p) pl.file (first_literal c)))
+
+    one_doubts : (pl : CallRef) (o : Option (Call S)) (cs : List (Placed (Call S))) (ts : List Told) → list_any doubtful cs ≡ list_any (doubts (file_names p)) ts
+        → list_any doubtful (cons_option (option_map (placed pl) o) cs) ≡ list_any (doubts (file_names p)) (cons_option (tell_call pl.file o) ts)
+    one_doubts pl None cs ts rest = rest
+    one_doubts pl (Some c) cs ts rest =
+        ap₂ (λ a b. a || b) (call_doubts pl c ∙ sym (either_matters (bytes_eq c.function (codes "set_variable")) (bytes_eq c.function (codes "subdir")) _ _)) rest
+        ∙ sym (any_option (doubts (file_names p)) (matters c.function) (a_call pl.file c.function (first_literal c)) ts)
+
+    part_doubts : (pl : CallRef) (x : Part S) (cs : List (Placed (Call S))) (qs : List (Placed (Part S))) → list_any doubtful cs ≡ list_any (doubts (file_names p)) (told qs)
+        → list_any doubtful (cons_option (option_map (placed pl) (part_call x)) cs) ≡ list_any (doubts (file_names p)) (told (placed pl x ∷ qs))
+    part_doubts pl (an_expression e) cs qs rest = one_doubts pl (call_of e) cs (told qs) rest
+    part_doubts pl (a_statement (assign s y a e)) cs qs rest = rest
+    part_doubts pl (a_statement (iteration s xs e b)) cs qs rest = rest
+    part_doubts pl (a_statement _) cs qs rest = rest
+
+    all_doubts : (qs : List (Placed (Part S))) → list_any doubtful (all_chosen part_call qs) ≡ list_any (doubts (file_names p)) (told qs)
+    all_doubts [] = refl
+    all_doubts (q ∷ qs) = part_doubts q.place q.it (all_chosen part_call qs) qs (all_doubts qs)
+
+    known_is : all_known p ≡ known_by (file_names p) (told (parts p))
+    known_is = ap not (all_doubts (parts p))
+
+  module _ (x : List ℕ) where
+    names_any : (xs : List (Name S)) → one_of_names xs x ≡ list_any (λ y. bytes_eq y x) (name_texts xs)
+    names_any [] = refl
+    names_any (y ∷ xs) = ap (λ b. bytes_eq y.text x || b) (names_any xs)
+
+    call_loops : (file : ℕ) (o : Option (Call S)) (ts : List Told) → list_any (loops x) (cons_option (tell_call file o) ts) ≡ list_any (loops x) ts
+    call_loops file None ts = refl
+    call_loops file (Some c) ts = go (matters c.function)
+      where
+        go : (b : Bool) → list_any (loops x) (cons_option (if b then Some (a_call file c.function (first_literal c)) else None) ts) ≡ list_any (loops x) ts
+        go true = refl
+        go false = refl
+
+    part_loops : (pl : CallRef) (y : Part S) (qs : List (Placed (Part S))) → list_any (λ q. is_iterated x q.it) qs ≡ list_any (loops x) (told qs)
+        → is_iterated x y || list_any (λ q. is_iterated x q.it) qs ≡ list_any (loops x) (told (placed pl y ∷ qs))
+    part_loops pl (an_expression e) qs rest = rest ∙ sym (call_loops pl.file (call_of e) (told qs))
+    part_loops pl (a_statement (assign s y a e)) qs rest = rest
+    part_loops pl (a_statement (iteration s xs e b)) qs rest = ap₂ (λ a b. a || b) (names_any xs) rest
+    part_loops pl (a_statement _) qs rest = rest
+
+    all_loops : (qs : List (Placed (Part S))) → list_any (λ q. is_iterated x q.it) qs ≡ list_any (loops x) (told qs)
+    all_loops [] = refl
+    all_loops (q ∷ qs) = part_loops q.place q.it qs (all_loops qs)
+
+    one_sets : (pl : CallRef) (o : Option (Call S)) (cs : List (Placed (Call S))) (ts : List Told) → list_any (λ c. sets_variable x c.it) cs ≡ list_any (sets x) ts
+        → list_any (λ c. sets_variable x c.it) (cons_option (option_map (placed pl) o) cs) ≡ list_any (sets x) (cons_option (tell_call pl.file o) ts)
+    one_sets pl None cs ts rest = rest
+    one_sets pl (Some c) cs ts rest =
+        ap₂ (λ a b. a || b) (sym (first_matters (bytes_eq c.function (codes "set_variable")) (bytes_eq c.function (codes "subdir")) (is x (first_literal c)))) rest
+        ∙ sym (any_option (sets x) (matters c.function) (a_call pl.file c.function (first_literal c)) ts)
+
+    part_sets : (pl : CallRef) (y : Part S) (cs : List (Placed (Call S))) (qs : List (Placed (Part S))) → list_any (λ c. sets_variable x c.it) cs ≡ list_any (sets x) (told qs)
+        → list_any (λ c. sets_variable x c.it) (cons_option (option_map (placed pl) (part_call y)) cs) ≡ list_any (sets x) (told (placed pl y ∷ qs))
+    part_sets pl (an_expression e) cs qs rest = one_sets pl (call_of e) cs (told qs) rest
+    part_sets pl (a_statement (assign s y a e)) cs qs rest = rest
+    part_sets pl (a_statement (iteration s xs e b)) cs qs rest = rest
+    part_sets pl (a_statement _) cs qs rest = rest
+
+    all_sets : (qs : List (Placed (Part S))) → list_any (λ c. sets_variable x c.it) (all_chosen part_call qs) ≡ list_any (sets x) (told qs)
+    all_sets [] = refl
+    all_sets (q ∷ qs) = part_sets q.place q.it (all_chosen part_call qs) qs (all_sets qs)
+
+    set_is : (p : Project S) → is_set_otherwise p x ≡ set_by x (told (parts p))
+    set_is p = ap₂ (λ a b. a || b) (all_loops (parts p)) (all_sets (parts p))
+
+    -- ---- assignments
+
+    abbrev looked : List (Placed (Assigned S)) → List (CallRef × Bool)
+    looked vs = map (λ v. (v.place, v.it.sets)) vs
+
+    call_assigned : (file : ℕ) (o : Option (Call S)) (ts : List Told) → assigned_by_told x (cons_option (tell_call file o) ts) ≡ assigned_by_told x ts
+    call_assigned file None ts = refl
+    call_assigned file (Some c) ts = go (matters c.function)
+      where
+        go : (b : Bool) → assigned_by_told x (cons_option (if b then Some (a_call file c.function (first_literal c)) else None) ts) ≡ assigned_by_told x ts
+        go true = refl
+        go false = refl
+
+    part_assigns : (pl : CallRef) (y : Part S) (vs : List (Placed (Assigned S))) (qs : List (Placed (Part S))) → looked vs ≡ assigned_by_told x (told qs)
+        → looked (cons_option (option_map (placed pl) (part_assigned x y)) vs) ≡ assigned_by_told x (told (placed pl y ∷ qs))
+    part_assigns pl (an_expression e) vs qs rest = rest ∙ sym (call_assigned pl.file (call_of e) (told qs))
+    part_assigns pl (a_statement (assign s y a e)) vs qs rest = go (bytes_eq y.text x)
+      where
+        go : (b : Bool) → looked (cons_option (option_map (placed pl) (if b then Some (record { value = e; sets = is_set a }) else None)) vs) ≡ (if b then (pl, is_set a) ∷ assigned_by_told x (told qs) else assigned_by_told x (told qs))
+        go true = ap (λ l. (pl, is_set a) ∷ l) rest
+        go false = rest
+    part_assigns pl (a_statement (iteration s xs e b)) vs qs rest = rest
+    part_assigns pl (a_statement _) vs qs rest = rest
+
+    all_assigned : (qs : List (Placed (Part S))) → looked (all_chosen (part_assigned x) qs) ≡ assigned_by_told x (told qs)
+    all_assigned [] = refl
+    all_assigned (q ∷ qs) = part_assigns q.place q.it (all_chosen (part_assigned x) qs) qs (all_assigned qs)
+
+    only_is : (vs : List (Placed (Assigned S))) → option_map (λ (v : Placed (Expression S)). v.place) (only_value vs) ≡ only_place (looked vs)
+    only_is [] = refl
+    only_is (a ∷ []) = go (a.it.sets && is_outermost a.place.path.steps)
+      where
+        go : (b : Bool) → option_map (λ (v : Placed (Expression S)). v.place) (if b then Some (placed (child a.place 0) a.it.value) else None) ≡ (if b then Some (child a.place 0) else None)
+        go true = refl
+        go false = refl
+    only_is (a ∷ b ∷ more) = refl
+
+    either_place : (b : Bool) (o : Option (Placed (Expression S))) (l : Option CallRef) → option_map (λ (v : Placed (Expression S)). v.place) o ≡ l → option_map (λ (v : Placed (Expression S)). v.place) (if b then o else None) ≡ (if b then l else None)
+    either_place true o l same = same
+    either_place false o l same = refl
+
+    pub value_place_is : (p : Project S) → option_map (λ (v : Placed (Expression S)). v.place) (single p x) ≡ value_place (file_names p) (told (parts p)) x
+    value_place_is p =
+        either_place (all_known p && not (is_set_otherwise p x)) (only_value (assignments p x)) (only_place (assigned_by_told x (told (parts p)))) (only_is (assignments p x) ∙ ap only_place (all_assigned (parts p)))
+        ∙ ap₂ (λ a b. if a && not b then only_place (assigned_by_told x (told (parts p))) else None) (known_is p) (set_is p)
