@@ -80,7 +80,7 @@ module _ (new : List (List ℕ)) (bad : CallRef → Type 0) (seen : List (List �
         let one = argument_same x (element s n) (element t m) f g same (here_away s.place n a) (slot_clear s.place n fine) in
         joined new bad seen f _ _ _ _ one (each_same more (n + 1) (m + 1) s t _ _ one.followed fine (next_away s.place n a))
 
-    argument_same : (x : Argument Nowhere) (s t : Stand) (f g : List (List ℕ)) → g ≡ f → away s.place → SlotClear s.slot → Out f (expand_argument lists follow x s f) (expand_argument lists2 follow2 x t g)
+    pub argument_same : (x : Argument Nowhere) (s t : Stand) (f g : List (List ℕ)) → g ≡ f → away s.place → SlotClear s.slot → Out f (expand_argument lists follow x s f) (expand_argument lists2 follow2 x t g)
     argument_same (plain e) s t f g same a clear = expression_same e s t f g same a clear
     argument_same (named at_ k e) s t f g same a clear = opaque_both new bad seen f g same
     argument_same (pair at_ e d) s t f g same a clear = opaque_both new bad seen f g same

@@ -1,0 +1,216 @@
+-- The arguments of a call that hold sources, in two projects where one argument may have become another.
+use Rattle.std.specs.Prelude.{◌⊎◌, if◌then◌else◌, bytes_eq, option_map}
+use Rattle.std.specs.List.{cons_option, filter_map}
+use Rattle.std.proofs.Common.{◌≡◌, ℕ, zero, suc, ◌+◌, ◌≤◌, Bool, true, false, List, [], ◌∷◌, Option, Some, None, refl, sym, ap, ap₂, ◌∙◌, subst, arith, inl, inr}
+use Rattle.meson_syntax.specs.declared.operator.Bracket.{Bracket}
+use Rattle.meson_syntax.specs.Grammar.{LevelExpression, LevelArguments}
+use Rattle.meson_syntax.specs.Operators.{holds_pairs}
+use Rattle.meson_syntax.specs.Parts.{Any, an_expression, arguments_parts}
+use Rattle.meson_syntax.specs.Tree.{Nowhere, Name, Expression, Argument, plain, named, pair, Arguments, no_arguments, argument}
+use Rattle.meson_calls.specs.declared.call.CallRef.{CallRef}
+use Rattle.meson_calls.specs.Calls.{Numbered, kept_number, numbered, value_without_name, value_with_name}
+use Rattle.meson_calls.specs.Expansion.{Slot, in_list, fixed, Expansion, Stand, both_expanded, nothing_met}
+use Rattle.meson_calls.specs.Project.{child}
+use Rattle.meson_calls.specs.Sources.{list_of_slot, rest, sources_key}
+use Rattle.meson_sources.proofs.Holds.{below, below_child}
+use Rattle.meson_sources.proofs.Outcomes.{Outcome, Along, Still, joined, nothing_both, still, along_same, along_first, along_behind}
+use Rattle.meson_sources.proofs.PartsPut.{Differ}
+use Rattle.meson_sources.proofs.Shapes.{Becomes, blanks, differ_none, differ_here, differ_there, same_arguments}
+
+abbrev pub Expand : Type 0
+Expand = Expression Nowhere → Stand → List (List ℕ) → Expansion Nowhere
+
+-- what numbered expressions hold, one after another
+abbrev pub list_with : Expand → CallRef → (ℕ → Slot) → List (Numbered (Expression Nowhere)) → List (List ℕ) → Expansion Nowhere
+list_with expand c slot [] f = nothing_met f
+list_with expand c slot (a ∷ more) f =
+    let first = expand a.value (record { place = child c a.number; slot = slot a.number; variable = None }) f in
+    both_expanded first (list_with expand c slot more first.followed)
+
+abbrev pub plains : {S : Type 0} → ℕ → Arguments S → List (Numbered (Expression S))
+plains k xs = filter_map (kept_number value_without_name) (numbered k xs)
+
+abbrev pub keys : {S : Type 0} → ℕ → Arguments S → List (Numbered (Expression S))
+keys k xs = filter_map (kept_number (value_with_name sources_key)) (numbered k xs)
+
+module _ (new : List (List ℕ)) (bad : CallRef → Type 0) (seen : List (List ℕ) → Bool) (away : CallRef → Type 0) (older newer : Any Nowhere) (t : CallRef) (b : Bool) (one two : Expand)
+    (same : (e : Expression Nowhere) (s u : Stand) (f g : List (List ℕ)) → g ≡ f → away s.place → ((q : CallRef) → list_of_slot s.slot ≡ Some q → bad q → ⊥) → Outcome new bad seen f (one e s f) (two e u g)) (c : CallRef) where
+  abbrev Out : List (List ℕ) → Expansion Nowhere → Expansion Nowhere → Type 0
+  Out = Outcome new bad seen
+
+  abbrev AwayFrom : ℕ → Type 0
+  AwayFrom n = (k : ℕ) → n ≤ k → away (child c k)
+
+  -- ---- arguments that are the same in both
+
+  slot_fine : (n : ℕ) → (bad c → ⊥) → (q : CallRef) → list_of_slot (in_list c n) ≡ Some q → bad q → ⊥
+  slot_fine n fine q is z = let equal : c ≡ q = cc in fine (rw equal z)
+
+  pub plains_same : (xs : Arguments Nowhere) (k m : ℕ) → (bad c → ⊥) → AwayFrom k → (f g : List (List ℕ)) → g ≡ f → Out f (list_with one c (in_list c) (plains k xs) f) (list_with two c (in_list c) (plains m xs) g)
+  plains_same no_arguments k m fine all f g equal = nothing_both new bad seen f g equal
+  plains_same (argument (plain e) more) k m fine all f g equal =
+      let o = same e (record { place = child c k; slot = in_list c k; variable = None }) (record { place = child c m; slot = in_list c m; variable = None }) f g equal (all k (omega arith)) (slot_fine k fine) in
+      joined new bad seen f _ _ _ _ o (plains_same more (k + 1) (m + 1) fine (λ j le. all j (omega (arith, le))) _ _ o.followed)
+  plains_same (argument (named s x e) more) k m fine all f g equal = plains_same more (k + 1) (m + 1) fine (λ j le. all j (omega (arith, le))) f g equal
+  plains_same (argument (pair s e d) more) k m fine all f g equal = plains_same more (k + 1) (m + 1) fine (λ j le. all j (omega (arith, le))) f g equal
+
+  pub rest_same : (xs : Arguments Nowhere) (k m : ℕ) → (bad c → ⊥) → AwayFrom k → (f g : List (List ℕ)) → g ≡ f → Out f (list_with one c (in_list c) (rest (plains k xs)) f) (list_with two c (in_list c) (rest (plains m xs)) g)
+  rest_same no_arguments k m fine all f g equal = nothing_both new bad seen f g equal
+  rest_same (argument (plain e) more) k m fine all f g equal = plains_same more (k + 1) (m + 1) fine (λ j le. all j (omega (arith, le))) f g equal
+  rest_same (argument (named s x e) more) k m fine all f g equal = rest_same more (k + 1) (m + 1) fine (λ j le. all j (omega (arith, le))) f g equal
+  rest_same (argument (pair s e d) more) k m fine all f g equal = rest_same more (k + 1) (m + 1) fine (λ j le. all j (omega (arith, le))) f g equal
+
+  -- with one more argument of the key, or without
+  abbrev with_key : Expand → ℕ → Bool → Expression Nowhere → List (Numbered (Expression Nowhere)) → List (List ℕ) → Expansion Nowhere
+  with_key expand k z e more f = list_with expand c (λ n. fixed) (cons_option (option_map (λ y. record { number = k; value = y }) (if z then Some e else None)) more) f
+
+  abbrev KeysOut : List (Numbered (Expression Nowhere)) → List (Numbered (Expression Nowhere)) → Type 0
+  KeysOut us vs = (f g : List (List ℕ)) → g ≡ f → Out f (list_with one c (λ n. fixed) us f) (list_with two c (λ n. fixed) vs g)
+
+  key_same : (z : Bool) (e : Expression Nowhere) (k m : ℕ) (more more2 : List (Numbered (Expression Nowhere))) → away (child c k) → KeysOut more more2 → (f g : List (List ℕ)) → g ≡ f
+      → Out f (with_key one k z e more f) (with_key two m z e more2 g)
+  key_same true e k m more more2 far others f g equal =
+      let o = same e (record { place = child c k; slot = fixed; variable = None }) (record { place = child c m; slot = fixed; variable = None }) f g equal far (λ q none. absurd cc) in
+      joined new bad seen f _ _ _ _ o (others _ _ o.followed)
+  key_same false e k m more more2 far others f g equal = others f g equal
+
+  pub keys_same : (xs : Arguments Nowhere) (k m : ℕ) → AwayFrom k → KeysOut (keys k xs) (keys m xs)
+  keys_same no_arguments k m all f g equal = nothing_both new bad seen f g equal
+  keys_same (argument (plain e) more) k m all f g equal = keys_same more (k + 1) (m + 1) (λ j le. all j (omega (arith, le))) f g equal
+  keys_same (argument (named s x e) more) k m all f g equal =
+      key_same (bytes_eq x.text sources_key) e k m (keys (k + 1) more) (keys (m + 1) more) (all k (omega arith)) (λ h i is. keys_same more (k + 1) (m + 1) (λ j le. all j (omega (arith, le))) h i is) f g equal
+  keys_same (argument (pair s e d) more) k m all f g equal = keys_same more (k + 1) (m + 1) (λ j le. all j (omega (arith, le))) f g equal
+
+  -- ---- one argument that has another node on the way
+
+  module _ (way : (path : List ℕ) (e e2 : Expression Nowhere) (s u : Stand) (f g : List (List ℕ)) → Becomes older newer path (an_expression e) (an_expression e2) → LevelExpression e → t ≡ below s.place path → g ≡ f → seen f ≡ true
+          → Along new bad seen b (one e s f) (two e2 u g))
+      (m : ℕ) (path : List ℕ) (leads : t ≡ below c (m ∷ path)) (aside : (j : ℕ) → (m ≡ j → ⊥) → away (child c j)) (fine : bad c → ⊥) (y next : Any Nowhere) (on_way : Becomes older newer path y next) where
+    abbrev Way : Expansion Nowhere → Expansion Nowhere → Type 0
+    Way = Along new bad seen b
+
+    abbrev PlainsOut : List (Numbered (Expression Nowhere)) → List (Numbered (Expression Nowhere)) → Type 0
+    PlainsOut us vs = (f g : List (List ℕ)) → g ≡ f → Out f (list_with one c (in_list c) us f) (list_with two c (in_list c) vs g)
+
+    abbrev PlainsWay : List (Numbered (Expression Nowhere)) → List (Numbered (Expression Nowhere)) → Type 0
+    PlainsWay us vs = (f g : List (List ℕ)) → g ≡ f → seen f ≡ true → Way (list_with one c (in_list c) us f) (list_with two c (in_list c) vs g)
+
+    abbrev KeysWay : List (Numbered (Expression Nowhere)) → List (Numbered (Expression Nowhere)) → Type 0
+    KeysWay us vs = (f g : List (List ℕ)) → g ≡ f → seen f ≡ true → Way (list_with one c (λ n. fixed) us f) (list_with two c (λ n. fixed) vs g)
+
+    -- either those without a name are on the way, or those of the key
+    abbrev pub Ways : (ps qs us vs : List (Numbered (Expression Nowhere))) → Type 0
+    Ways ps qs us vs = (PlainsWay ps qs × KeysOut us vs) ⊎ (PlainsOut ps qs × KeysWay us vs)
+
+    behind_it : (k : ℕ) → m ≡ k → AwayFrom (k + 1)
+    behind_it k is j le = aside j (λ equal. omega (arith, is, le, equal))
+
+    way_here : (e e2 : Expression Nowhere) (k : ℕ) (slot : Slot) → m ≡ k → an_expression e ≡ y → an_expression e2 ≡ next → LevelExpression e → (f g : List (List ℕ)) → g ≡ f → seen f ≡ true
+        → Way (one e (record { place = child c k; slot = slot; variable = None }) f) (two e2 (record { place = child c k; slot = slot; variable = None }) g)
+    way_here e e2 k slot number is is2 level f g equal behind =
+        way path e e2 (record { place = child c k; slot = slot; variable = None }) (record { place = child c k; slot = slot; variable = None }) f g
+        (subst (λ z. Becomes older newer path z (an_expression e2)) (sym is) (subst (Becomes older newer path y) (sym is2) on_way)) level (leads ∙ ap (λ i. below c (i ∷ path)) number ∙ sym (below_child c k path)) equal behind
+
+    key_way : (z : Bool) (e e2 : Expression Nowhere) (k : ℕ) (more more2 : List (Numbered (Expression Nowhere))) → m ≡ k → an_expression e ≡ y → an_expression e2 ≡ next → LevelExpression e → KeysOut more more2
+        → (f g : List (List ℕ)) → g ≡ f → seen f ≡ true → Way (with_key one k z e more f) (with_key two k z e2 more2 g)
+    key_way true e e2 k more more2 number is is2 level others f g equal behind =
+        let a = way_here e e2 k fixed number is is2 level f g equal behind in along_first new bad seen b _ _ _ _ a (others _ _ a.followed)
+    key_way false e e2 k more more2 number is is2 level others f g equal behind = along_same new bad seen b f _ _ behind (others f g equal)
+
+    key_behind : (z : Bool) (e : Expression Nowhere) (k : ℕ) (more more2 : List (Numbered (Expression Nowhere))) → away (child c k) → KeysWay more more2 → (f g : List (List ℕ)) → g ≡ f → seen f ≡ true
+        → Way (with_key one k z e more f) (with_key two k z e more2 g)
+    key_behind true e k more more2 far others f g equal behind =
+        let o = same e (record { place = child c k; slot = fixed; variable = None }) (record { place = child c k; slot = fixed; variable = None }) f g equal far (λ q none. absurd cc) in
+        along_behind new bad seen b f _ _ _ _ behind o (others _ _ o.followed (still new bad seen f _ _ behind o).behind)
+    key_behind false e k more more2 far others f g equal behind = others f g equal behind
+
+    same_node : (e e2 : Expression Nowhere) → an_expression e ≡ an_expression e2 → e2 ≡ e
+    same_node e e2 is = cc
+
+    -- a further argument before the others
+    plain_before : (e : Expression Nowhere) (k : ℕ) (ps qs us vs : List (Numbered (Expression Nowhere))) → away (child c k) → Ways ps qs us vs
+        → Ways (record { number = k; value = e } ∷ ps) (record { number = k; value = e } ∷ qs) us vs
+    plain_before e k ps qs us vs far (inl w) = inl (λ f g equal behind.
+        let o = same e (record { place = child c k; slot = in_list c k; variable = None }) (record { place = child c k; slot = in_list c k; variable = None }) f g equal far (slot_fine k fine) in
+        along_behind new bad seen b f _ _ _ _ behind o (w.0 _ _ o.followed (still new bad seen f _ _ behind o).behind), w.1)
+    plain_before e k ps qs us vs far (inr w) = inr (λ f g equal.
+        let o = same e (record { place = child c k; slot = in_list c k; variable = None }) (record { place = child c k; slot = in_list c k; variable = None }) f g equal far (slot_fine k fine) in
+        joined new bad seen f _ _ _ _ o (w.0 _ _ o.followed), w.1)
+
+    named_before : (z : Bool) (e : Expression Nowhere) (k : ℕ) (ps qs us vs : List (Numbered (Expression Nowhere))) → away (child c k) → Ways ps qs us vs
+        → Ways ps qs (cons_option (option_map (λ v. record { number = k; value = v }) (if z then Some e else None)) us) (cons_option (option_map (λ v. record { number = k; value = v }) (if z then Some e else None)) vs)
+    named_before z e k ps qs us vs far (inl w) = inl (w.0, key_same z e k k us vs far w.1)
+    named_before z e k ps qs us vs far (inr w) = inr (w.0, key_behind z e k us vs far w.1)
+
+    all_along : (xs ys : Arguments Nowhere) (k n : ℕ) → m ≡ k + n → blanks ys ≡ blanks xs → Differ y next n (arguments_parts xs) (arguments_parts ys) → (br : Bracket) (nb : Bool) → holds_pairs br ≡ false → LevelArguments xs br nb
+        → Ways (plains k xs) (plains k ys) (keys k xs) (keys k ys)
+    all_along no_arguments ys k n number bs d br nb none level = absurd (differ_none y next n (arguments_parts ys) d)
+    all_along (argument a xs) no_arguments k n number bs d br nb none level = absurd cc
+    all_along (argument (plain e) xs) (argument (plain e2) ys) k zero number bs d br nb none level =
+        let h = differ_here y next (an_expression e) (an_expression e2) (arguments_parts xs) (arguments_parts ys) d in
+        let tails : blanks ys ≡ blanks xs = cc in
+        let at_it : m ≡ k = omega (arith, number) in
+        subst (λ zs. Ways (plains k (argument (plain e) xs)) (plains k (argument (plain e2) zs)) (keys (k + 1) xs) (keys (k + 1) zs)) (sym (same_arguments xs ys tails h.2))
+        (inl (λ f g equal behind.
+        let w = way_here e e2 k (in_list c k) at_it h.0 h.1 level.0.2 f g equal behind in
+        along_first new bad seen b _ _ _ _ w (plains_same xs (k + 1) (k + 1) fine (behind_it k at_it) _ _ w.followed), keys_same xs (k + 1) (k + 1) (behind_it k at_it)))
+    all_along (argument (plain e) xs) (argument (plain e2) ys) k (suc n) number bs d br nb none level =
+        let h = differ_there y next n (an_expression e) (an_expression e2) (arguments_parts xs) (arguments_parts ys) d in
+        let tails : blanks ys ≡ blanks xs = cc in
+        let far = aside k (λ equal. omega (arith, number, equal)) in
+        subst (λ v. Ways (plains k (argument (plain e) xs)) (plains k (argument (plain v) ys)) (keys (k + 1) xs) (keys (k + 1) ys)) (sym (same_node e e2 h.0))
+        (plain_before e k _ _ _ _ far (all_along xs ys (k + 1) n (omega (arith, number)) tails h.1 br false none level.1))
+    all_along (argument (named s x e) xs) (argument (named r z e2) ys) k zero number bs d br nb none level =
+        let h = differ_here y next (an_expression e) (an_expression e2) (arguments_parts xs) (arguments_parts ys) d in
+        let tails : blanks ys ≡ blanks xs = cc in
+        let name : z ≡ x = cc in
+        let at_it : m ≡ k = omega (arith, number) in
+        subst (λ w. Ways (plains (k + 1) xs) (plains (k + 1) ys) (keys k (argument (named s x e) xs)) (keys k (argument (named r w e2) ys))) (sym name)
+        (subst (λ zs. Ways (plains (k + 1) xs) (plains (k + 1) zs) (keys k (argument (named s x e) xs)) (keys k (argument (named r x e2) zs))) (sym (same_arguments xs ys tails h.2))
+        (inr (plains_same xs (k + 1) (k + 1) fine (behind_it k at_it), key_way (bytes_eq x.text sources_key) e e2 k (keys (k + 1) xs) (keys (k + 1) xs) at_it h.0 h.1 level.0.1 (keys_same xs (k + 1) (k + 1) (behind_it k at_it)))))
+    all_along (argument (named s x e) xs) (argument (named r z e2) ys) k (suc n) number bs d br nb none level =
+        let h = differ_there y next n (an_expression e) (an_expression e2) (arguments_parts xs) (arguments_parts ys) d in
+        let tails : blanks ys ≡ blanks xs = cc in
+        let name : z ≡ x = cc in
+        let far = aside k (λ equal. omega (arith, number, equal)) in
+        subst (λ w. Ways (plains (k + 1) xs) (plains (k + 1) ys) (keys k (argument (named s x e) xs)) (keys k (argument (named r w e2) ys))) (sym name)
+        (subst (λ v. Ways (plains (k + 1) xs) (plains (k + 1) ys) (keys k (argument (named s x e) xs)) (keys k (argument (named r x v) ys))) (sym (same_node e e2 h.0))
+        (named_before (bytes_eq x.text sources_key) e k _ _ _ _ far (all_along xs ys (k + 1) n (omega (arith, number)) tails h.1 br true none level.1)))
+    all_along (argument (pair s e v) xs) (argument a ys) k n number bs d br nb none level = let both : true ≡ false = sym level.0.0 ∙ none in absurd cc
+    all_along (argument (plain e) xs) (argument _ ys) k n number bs d br nb none level = absurd cc
+    all_along (argument (named s x e) xs) (argument _ ys) k n number bs d br nb none level = absurd cc
+
+    -- the first without a name left out
+    pub rest_along : (xs ys : Arguments Nowhere) (k n : ℕ) → m ≡ k + n → blanks ys ≡ blanks xs → Differ y next n (arguments_parts xs) (arguments_parts ys) → (br : Bracket) (nb : Bool) → holds_pairs br ≡ false → LevelArguments xs br nb
+        → Ways (rest (plains k xs)) (rest (plains k ys)) (keys k xs) (keys k ys)
+    rest_along no_arguments ys k n number bs d br nb none level = absurd (differ_none y next n (arguments_parts ys) d)
+    rest_along (argument a xs) no_arguments k n number bs d br nb none level = absurd cc
+    rest_along (argument (plain e) xs) (argument (plain e2) ys) k zero number bs d br nb none level =
+        let h = differ_here y next (an_expression e) (an_expression e2) (arguments_parts xs) (arguments_parts ys) d in
+        let tails : blanks ys ≡ blanks xs = cc in
+        let at_it : m ≡ k = omega (arith, number) in
+        subst (λ zs. Ways (plains (k + 1) xs) (plains (k + 1) zs) (keys (k + 1) xs) (keys (k + 1) zs)) (sym (same_arguments xs ys tails h.2))
+        (inl (λ f g equal behind. along_same new bad seen b f _ _ behind (plains_same xs (k + 1) (k + 1) fine (behind_it k at_it) f g equal), keys_same xs (k + 1) (k + 1) (behind_it k at_it)))
+    rest_along (argument (plain e) xs) (argument (plain e2) ys) k (suc n) number bs d br nb none level =
+        let h = differ_there y next n (an_expression e) (an_expression e2) (arguments_parts xs) (arguments_parts ys) d in
+        let tails : blanks ys ≡ blanks xs = cc in
+        all_along xs ys (k + 1) n (omega (arith, number)) tails h.1 br false none level.1
+    rest_along (argument (named s x e) xs) (argument (named r z e2) ys) k zero number bs d br nb none level =
+        let h = differ_here y next (an_expression e) (an_expression e2) (arguments_parts xs) (arguments_parts ys) d in
+        let tails : blanks ys ≡ blanks xs = cc in
+        let name : z ≡ x = cc in
+        let at_it : m ≡ k = omega (arith, number) in
+        subst (λ w. Ways (rest (plains (k + 1) xs)) (rest (plains (k + 1) ys)) (keys k (argument (named s x e) xs)) (keys k (argument (named r w e2) ys))) (sym name)
+        (subst (λ zs. Ways (rest (plains (k + 1) xs)) (rest (plains (k + 1) zs)) (keys k (argument (named s x e) xs)) (keys k (argument (named r x e2) zs))) (sym (same_arguments xs ys tails h.2))
+        (inr (rest_same xs (k + 1) (k + 1) fine (behind_it k at_it), key_way (bytes_eq x.text sources_key) e e2 k (keys (k + 1) xs) (keys (k + 1) xs) at_it h.0 h.1 level.0.1 (keys_same xs (k + 1) (k + 1) (behind_it k at_it)))))
+    rest_along (argument (named s x e) xs) (argument (named r z e2) ys) k (suc n) number bs d br nb none level =
+        let h = differ_there y next n (an_expression e) (an_expression e2) (arguments_parts xs) (arguments_parts ys) d in
+        let tails : blanks ys ≡ blanks xs = cc in
+        let name : z ≡ x = cc in
+        let far = aside k (λ equal. omega (arith, number, equal)) in
+        subst (λ w. Ways (rest (plains (k + 1) xs)) (rest (plains (k + 1) ys)) (keys k (argument (named s x e) xs)) (keys k (argument (named r w e2) ys))) (sym name)
+        (subst (λ v. Ways (rest (plains (k + 1) xs)) (rest (plains (k + 1) ys)) (keys k (argument (named s x e) xs)) (keys k (argument (named r x v) ys))) (sym (same_node e e2 h.0))
+        (named_before (bytes_eq x.text sources_key) e k _ _ _ _ far (rest_along xs ys (k + 1) n (omega (arith, number)) tails h.1 br true none level.1)))
+    rest_along (argument (pair s e v) xs) (argument a ys) k n number bs d br nb none level = let both : true ≡ false = sym level.0.0 ∙ none in absurd cc
+    rest_along (argument (plain e) xs) (argument _ ys) k n number bs d br nb none level = absurd cc
+    rest_along (argument (named s x e) xs) (argument _ ys) k n number bs d br nb none level = absurd cc
