@@ -143,7 +143,7 @@ module _ (new : List (List ℕ)) (bad : CallRef → Type 0) (seen : List (List �
             go (inr is) (as_before same clear) = stays same clear (a.behind ∙ sym is.1)
             go (inr is) (grown yea grows) = let both : true ≡ false = sym yea ∙ is.0 in absurd cc
 
-        followed : (left : ℕ) → Level left → (x : List ℕ) (f : List (List ℕ)) → one_of f x ≡ false
+        pub followed : (left : ℕ) → Level left → (x : List ℕ) (f : List (List ℕ)) → one_of f x ≡ false
             → Outcome new bad seen f (follow_single (expand_with values left) x f (values x)) (follow_single (expand_with values2 left) x f (values2 x))
         followed left l x f not_yet = go (kin x)
           where
@@ -162,10 +162,10 @@ module _ (new : List (List ℕ)) (bad : CallRef → Type 0) (seen : List (List �
                 (subst (λ o. Outcome new bad seen f (expand_with values left v.it (of_variable x v.place) (x ∷ f)) (follow_single (expand_with values2 left) x f o)) (sym two)
                 (from_way f _ _ s.1 (l.way k.path v.it v2.it (of_variable x v.place) (of_variable x v2.place) (x ∷ f) (x ∷ f) k.way k.level k.leads refl s.0)))
 
-        abbrev none_left : Follow
+        abbrev pub none_left : Follow
         none_left x f = met opaque f
 
-        abbrev some_left : Values → ℕ → Follow
+        abbrev pub some_left : Values → ℕ → Follow
         some_left vs left x f = follow_single (expand_with vs left) x f (vs x)
 
         pub levels : (left : ℕ) → Level left

@@ -1,0 +1,155 @@
+-- The variable to whose value a path leads; no statement stands in an expression.
+use Rattle.std.specs.Prelude.{◌⊎◌, not, ◌&&◌, if◌then◌else◌, bytes_eq, option_and_then}
+use Rattle.std.proofs.Common.{◌≡◌, ℕ, zero, suc, ◌+◌, Bool, true, false, List, [], ◌∷◌, ◌++◌, Option, Some, None, refl, sym, ap, ◌∙◌, subst, arith}
+use Rattle.meson_lex.specs.declared.kinds.Span.{Span}
+use Rattle.meson_syntax.specs.declared.operator.Assignment.{Assignment}
+use Rattle.meson_syntax.specs.Parts.{Any, an_expression, a_statement, a_block, child_nodes, node_at, arguments_parts, operands_parts, tail_parts, tails_parts, expression_parts}
+use Rattle.meson_syntax.specs.Paths.{nth, block_of}
+use Rattle.meson_syntax.specs.Tree.{Name, Expression, paren, array, dictionary, call, unary, row, postfix, conditional, Operands, no_operands, operand, Tail, method, index, Tails, no_tails, tail, Listing, listing, Argument, plain, named, pair, Arguments, no_arguments, argument, Statement, evaluate, assign, selection, iteration, breaks, continues}
+use Rattle.meson_syntax.proofs.parsing.Steps.{some-injective}
+use Rattle.meson_syntax.proofs.paths.Every.{Every, every-append, every-nth}
+use Rattle.meson_syntax.proofs.paths.Reaching.{and-then-some}
+use Rattle.meson_calls.specs.declared.call.CallRef.{CallRef}
+use Rattle.meson_calls.specs.Parts.{Part, parts}
+use Rattle.meson_calls.specs.Parts as part
+use Rattle.meson_calls.specs.Project.{BuildFile, Project, Placed, placed, child, nth_file}
+use Rattle.meson_calls.specs.Sources.{or_option}
+use Rattle.meson_calls.specs.Variables.{Assigned, is_set, part_assigned, assigned_by, assignments, is_outermost, only_value, is_set_otherwise, all_known, single}
+use Rattle.meson_calls.proofs.CallsReached.{InProject, every_chosen, every_part}
+use Rattle.meson_calls.proofs.Reached.{any}
+
+module _ {S : Type 0} where
+  -- ---- all in an expression are expressions
+
+  abbrev IsExpression : Any S → Type 0
+  IsExpression x = (e : Expression S) × (x ≡ an_expression e)
+
+  abbrev AllExpressions : List (Any S) → Type 0
+  AllExpressions xs = Every IsExpression xs
+
+  arguments_all : (list : Arguments S) → AllExpressions (arguments_parts list)
+  arguments_all no_arguments = tt
+  arguments_all (argument (plain e) more) = ((e, refl), arguments_all more)
+  arguments_all (argument (named s x e) more) = ((e, refl), arguments_all more)
+  arguments_all (argument (pair s e f) more) = ((e, refl), ((f, refl), arguments_all more))
+
+  operands_all : (os : Operands S) → AllExpressions (operands_parts os)
+  operands_all no_operands = tt
+  operands_all (operand o e more) = ((e, refl), operands_all more)
+
+  tail_all : (t : Tail S) → AllExpressions (tail_parts t)
+  tail_all (method s x (listing r trailing list)) = arguments_all list
+  tail_all (index s e) = ((e, refl), tt)
+
+  tails_all : (ts : Tails S) → AllExpressions (tails_parts ts)
+  tails_all no_tails = tt
+  tails_all (tail t more) = every-append IsExpression (tail_parts t) (tails_parts more) (tail_all t) (tails_all more)
+
+  expression_all : (e : Expression S) → AllExpressions (expression_parts e)
+  expression_all (paren s e) = ((e, refl), tt)
+  expression_all (array (listing r trailing list)) = arguments_all list
+  expression_all (dictionary (listing r trailing list)) = arguments_all list
+  expression_all (call s x (listing r trailing list)) = arguments_all list
+  expression_all (unary s o e) = ((e, refl), tt)
+  expression_all (row s e os) = ((e, refl), operands_all os)
+  expression_all (postfix s e ts) = ((e, refl), tails_all ts)
+  expression_all (conditional s c y n) = ((c, refl), ((y, refl), ((n, refl), tt)))
+  expression_all _ = tt
+
+  pub no_statement : (path : List ℕ) (e : Expression S) (s : Statement S) → node_at (an_expression e) path ≡ Some (a_statement s) → ⊥
+  no_statement [] e s is = cc
+  no_statement (n ∷ path) e s is =
+      let o = and-then-some (λ y. node_at y path) (nth (expression_parts e) n) (a_statement s) is in
+      let d = every-nth IsExpression (expression_parts e) n o.0 (expression_all e) o.1 in
+      no_statement path d.0 s (sym (ap (λ y. node_at y path) d.1) ∙ o.2)
+
+  -- a node that stands on the way to another
+  pub node_between : (path rest : List ℕ) (x y : Any S) → node_at x path ≡ Some y → node_at x (path ++ rest) ≡ node_at y rest
+  node_between [] rest x y is = ap (λ z. node_at z rest) (some-injective x y is)
+  node_between (n ∷ path) rest x y is =
+      let o = and-then-some (λ z. node_at z path) (nth (child_nodes x) n) y is in
+      ap (option_and_then (λ z. node_at z (path ++ rest))) o.1 ∙ node_between path rest o.0 y o.2
+
+  -- ---- whose value a path leads to
+
+  abbrev assigned_name : Any S → Option (List ℕ)
+  assigned_name (a_statement (assign s x a e)) = Some x.text
+  assigned_name _ = None
+
+  abbrev pub owner : Any S → List ℕ → Option (List ℕ)
+  owner x [] = None
+  owner x (n ∷ path) = or_option (assigned_name x) (option_and_then (λ y. owner y path) (nth (child_nodes x) n))
+
+  -- an assignment has no statement within it
+  none_within : (x : Any S) (n : ℕ) (path : List ℕ) (s : Statement S) → node_at x (n ∷ path) ≡ Some (a_statement s) → assigned_name x ≡ None
+  none_within (an_expression e) n path s is = refl
+  none_within (a_block b) n path s is = refl
+  none_within (a_statement (evaluate e)) n path s is = refl
+  none_within (a_statement (assign r x a e)) zero path s is = absurd (no_statement path e s is)
+  none_within (a_statement (assign r x a e)) (suc n) path s is = absurd cc
+  none_within (a_statement (selection r bs o)) n path s is = refl
+  none_within (a_statement (iteration r xs e b)) n path s is = refl
+  none_within (a_statement (breaks r)) n path s is = refl
+  none_within (a_statement (continues r)) n path s is = refl
+
+  pub owner_is : (path : List ℕ) (n : ℕ) (rest : List ℕ) (x : Any S) (s : S) (y : Name S) (a : Assignment) (e : Expression S) → node_at x path ≡ Some (a_statement (assign s y a e)) → owner x (path ++ n ∷ rest) ≡ Some y.text
+  owner_is [] n rest x s y a e is =
+      let same : x ≡ a_statement (assign s y a e) = some-injective x _ is in
+      ap (λ z. or_option (assigned_name z) (option_and_then (λ w. owner w rest) (nth (child_nodes z) n))) same
+  owner_is (m ∷ path) n rest x s y a e is =
+      let o = and-then-some (λ z. node_at z path) (nth (child_nodes x) m) (a_statement (assign s y a e)) is in
+      ap (λ z. or_option z (option_and_then (λ w. owner w (path ++ n ∷ rest)) (nth (child_nodes x) m))) (none_within x m path (assign s y a e) is)
+      ∙ ap (option_and_then (λ w. owner w (path ++ n ∷ rest))) o.1 ∙ owner_is path n rest o.0 s y a e o.2
+
+-- ---- the assignment of the only value
+
+pub record NamedAt (p : Project Span) (x : List ℕ) (at : CallRef) : Type 0 where
+  pub file : BuildFile Span
+  pub is_file : nth_file p at.file ≡ Some file
+  pub span : Span
+  pub name : Name Span
+  pub how : Assignment
+  pub value : Expression Span
+  pub is_node : node_at (a_block (block_of file.tree)) at.path.steps ≡ Some (a_statement (assign span name how value))
+  pub is_name : bytes_eq name.text x ≡ true
+
+file_of : (p : Project Span) (q : Placed (Part Span)) (i : InProject 0 p q) → nth_file p q.place.file ≡ Some i.file
+file_of p q i =
+    let z : 0 + i.number ≡ i.number = omega arith in
+    ap (nth_file p) (i.is_number ∙ z) ∙ i.is_file
+
+module _ (p : Project Span) (x : List ℕ) where
+  abbrev AssignedAt : Placed (Assigned Span) → Type 0
+  AssignedAt a = NamedAt p x a.place
+
+  assigned_at : (q : Placed (Part Span)) (v : Assigned Span) → InProject 0 p q → part_assigned x q.it ≡ Some v → AssignedAt (placed q.place v)
+  assigned_at q v i is = go q.it refl is
+    where
+      given : (s : Span) (y : Name Span) (a : Assignment) (e : Expression Span) (b : Bool) → bytes_eq y.text x ≡ b → q.it ≡ part.a_statement (assign s y a e) → (if b then Some (record { value = e; sets = is_set a }) else None) ≡ Some v
+          → AssignedAt (placed q.place v)
+      given s y a e true named_so same k = record { file = i.file; is_file = file_of p q i; span = s; name = y; how = a; value = e; is_node = i.is_node ∙ ap (λ z. Some (any z)) same; is_name = named_so }
+      given s y a e false named_so same k = absurd cc
+
+      stated : (s : Statement Span) → q.it ≡ part.a_statement s → assigned_by x s ≡ Some v → AssignedAt (placed q.place v)
+      stated (assign s y a e) same k = given s y a e (bytes_eq y.text x) refl same k
+      stated _ same k = absurd cc
+
+      go : (y : Part Span) → q.it ≡ y → part_assigned x y ≡ Some v → AssignedAt (placed q.place v)
+      go (part.an_expression f) same k = absurd cc
+      go (part.a_statement s) same k = stated s same k
+
+  only_named : (values : List (Placed (Assigned Span))) (v : Placed (Expression Span)) → Every AssignedAt values → only_value values ≡ Some v → (at : CallRef) × (v.place ≡ child at 0) × NamedAt p x at
+  only_named [] v all is = absurd cc
+  only_named (a ∷ []) v all is = go (a.it.sets && is_outermost a.place.path.steps) is
+    where
+      go : (b : Bool) → (if b then Some (placed (child a.place 0) a.it.value) else None) ≡ Some v → (at : CallRef) × (v.place ≡ child at 0) × NamedAt p x at
+      go true k = (a.place, sym (ap (λ (w : Placed (Expression Span)). w.place) (some-injective _ v k)), all.0)
+      go false k = absurd cc
+  only_named (a ∷ b ∷ more) v all is = absurd cc
+
+  pub single_named : (v : Placed (Expression Span)) → single p x ≡ Some v → (at : CallRef) × (v.place ≡ child at 0) × NamedAt p x at
+  single_named v is = go (all_known p && not (is_set_otherwise p x)) is
+    where
+      go : (b : Bool) → (if b then only_value (assignments p x) else None) ≡ Some v → (at : CallRef) × (v.place ≡ child at 0) × NamedAt p x at
+      go true k = only_named (assignments p x) v (every_chosen (InProject 0 p) AssignedAt (part_assigned x) assigned_at (parts p) (every_part 0 p)) k
+      go false k = absurd cc
