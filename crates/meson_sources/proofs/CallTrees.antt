@@ -33,6 +33,11 @@ plains k xs = filter_map (kept_number value_without_name) (numbered k xs)
 abbrev pub keys : {S : Type 0} → ℕ → Arguments S → List (Numbered (Expression S))
 keys k xs = filter_map (kept_number (value_with_name sources_key)) (numbered k xs)
 
+-- the sources of a call with these arguments
+abbrev pub whole : Expand → CallRef → Arguments Nowhere → List (List ℕ) → Expansion Nowhere
+whole expand c xs f =
+    let first = list_with expand c (in_list c) (rest (plains 0 xs)) f in both_expanded first (list_with expand c (λ n. fixed) (keys 0 xs) first.followed)
+
 module _ (new : List (List ℕ)) (bad : CallRef → Type 0) (seen : List (List ℕ) → Bool) (away : CallRef → Type 0) (older newer : Any Nowhere) (t : CallRef) (b : Bool) (one two : Expand)
     (same : (e : Expression Nowhere) (s u : Stand) (f g : List (List ℕ)) → g ≡ f → away s.place → ((q : CallRef) → list_of_slot s.slot ≡ Some q → bad q → ⊥) → Outcome new bad seen f (one e s f) (two e u g)) (c : CallRef) where
   abbrev Out : List (List ℕ) → Expansion Nowhere → Expansion Nowhere → Type 0
@@ -80,6 +85,9 @@ module _ (new : List (List ℕ)) (bad : CallRef → Type 0) (seen : List (List �
   keys_same (argument (named s x e) more) k m all f g equal =
       key_same (bytes_eq x.text sources_key) e k m (keys (k + 1) more) (keys (m + 1) more) (all k (omega arith)) (λ h i is. keys_same more (k + 1) (m + 1) (λ j le. all j (omega (arith, le))) h i is) f g equal
   keys_same (argument (pair s e d) more) k m all f g equal = keys_same more (k + 1) (m + 1) (λ j le. all j (omega (arith, le))) f g equal
+
+  pub whole_same : (xs : Arguments Nowhere) → (bad c → ⊥) → AwayFrom 0 → (f g : List (List ℕ)) → g ≡ f → Out f (whole one c xs f) (whole two c xs g)
+  whole_same xs fine all f g equal = let o = rest_same xs 0 0 fine all f g equal in joined new bad seen f _ _ _ _ o (keys_same xs 0 0 all _ _ o.followed)
 
   -- ---- one argument that has another node on the way
 
@@ -214,3 +222,11 @@ module _ (new : List (List ℕ)) (bad : CallRef → Type 0) (seen : List (List �
     rest_along (argument (pair s e v) xs) (argument a ys) k n number bs d br nb none level = let both : true ≡ false = sym level.0.0 ∙ none in absurd cc
     rest_along (argument (plain e) xs) (argument _ ys) k n number bs d br nb none level = absurd cc
     rest_along (argument (named s x e) xs) (argument _ ys) k n number bs d br nb none level = absurd cc
+
+    pub whole_along : (xs ys : Arguments Nowhere) → blanks ys ≡ blanks xs → Differ y next m (arguments_parts xs) (arguments_parts ys) → (br : Bracket) (nb : Bool) → holds_pairs br ≡ false → LevelArguments xs br nb
+        → (f g : List (List ℕ)) → g ≡ f → seen f ≡ true → Way (whole one c xs f) (whole two c ys g)
+    whole_along xs ys bs d br nb none level f g equal behind = go (rest_along xs ys 0 m (omega arith) bs d br nb none level)
+      where
+        go : Ways (rest (plains 0 xs)) (rest (plains 0 ys)) (keys 0 xs) (keys 0 ys) → Way (whole one c xs f) (whole two c ys g)
+        go (inl w) = let a = w.0 f g equal behind in along_first new bad seen b _ _ _ _ a (w.1 _ _ a.followed)
+        go (inr w) = let o = w.0 f g equal in along_behind new bad seen b f _ _ _ _ behind o (w.1 _ _ o.followed (still new bad seen f _ _ behind o).behind)

@@ -37,7 +37,7 @@ SameTells k _ _ = ⊥
 file_tells : (k : ℕ) (t : Plain) → told (file_parts k t) ≡ of_any (place k []) (a_block (block_of t))
 file_tells k (file s b) = refl
 
-abbrev names_of : List File → List (List ℕ)
+abbrev pub names_of : List File → List (List ℕ)
 names_of files = map (λ (f : File). f.name) files
 
 projects_tell : (fs gs : List File) → names_of gs ≡ names_of fs → (n : ℕ) (ts us : List Plain) → ((i : ℕ) → SameTells (n + i) (nth ts i) (nth us i))
