@@ -12,7 +12,7 @@ use Rattle.meson_calls.specs.Calls.{Numbered, kept_number, numbered, value_witho
 use Rattle.meson_calls.specs.Expansion.{Slot, in_list, fixed, Expansion, Stand, both_expanded, nothing_met}
 use Rattle.meson_calls.specs.Project.{child}
 use Rattle.meson_calls.specs.Sources.{list_of_slot, rest, sources_key}
-use Rattle.meson_sources.proofs.Holds.{below, below_child}
+use Rattle.meson_sources.proofs.MarkLists.{below, below_child}
 use Rattle.meson_sources.proofs.Outcomes.{Outcome, Along, Still, joined, nothing_both, still, along_same, along_first, along_behind}
 use Rattle.meson_sources.proofs.PartsPut.{Differ}
 use Rattle.meson_sources.proofs.Shapes.{Becomes, blanks, differ_none, differ_here, differ_there, same_arguments}

@@ -10,7 +10,7 @@ use Rattle.meson_calls.specs.Project.{Placed, child}
 use Rattle.meson_calls.specs.Roles.{one_of}
 use Rattle.meson_calls.specs.Sources.{list_of_slot}
 use Rattle.meson_sources.proofs.Bares.{Values, list_by, lists_by, expand_with}
-use Rattle.meson_sources.proofs.Holds.{below}
+use Rattle.meson_sources.proofs.MarkLists.{below}
 use Rattle.meson_sources.proofs.Outcomes.{Clear, Either, as_before, grown, How, stays, comes, Outcome, Along, opaque_both}
 use Rattle.meson_sources.proofs.PathTrees.{along, files_alike, kind_along, operand_alike, plus_alike}
 use Rattle.meson_sources.proofs.SameTrees.{expression_same}

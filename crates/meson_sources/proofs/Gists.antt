@@ -4,7 +4,7 @@ use Rattle.std.proofs.lemmas.List.{map-append}
 use Rattle.meson_calls.specs.Expansion.{Item, Mark, known, opaque, empty, or_empty}
 use Rattle.meson_calls.specs.Sources.{items, opaque_count}
 use Rattle.meson_calls.specs.declared.call.CallRef.{CallRef}
-use Rattle.meson_sources.specs.WrittenSources.{TextsCome}
+use Rattle.meson_sources.specs.WholeSources.{TextsCome}
 
 abbrev pub Gist : Type 0
 Gist = List (Option (List ℕ))

@@ -48,7 +48,7 @@ only_stands p (a ∷ []) v all is = go (a.it.sets && is_outermost a.place.path.s
     go false k = absurd cc
 only_stands p (a ∷ b ∷ more) v all is = absurd cc
 
-single_stands : (p : Project Span) (x : List ℕ) (v : Placed (Expression Span)) → single p x ≡ Some v → expression_at p v.place ≡ Some v.it
+pub single_stands : (p : Project Span) (x : List ℕ) (v : Placed (Expression Span)) → single p x ≡ Some v → expression_at p v.place ≡ Some v.it
 single_stands p x v is = go (all_known p && not (is_set_otherwise p x)) is
   where
     go : (b : Bool) → (if b then only_value (assignments p x) else None) ≡ Some v → expression_at p v.place ≡ Some v.it

@@ -5,7 +5,7 @@ use Rattle.meson_syntax.proofs.paths.Every.{Every, every-append}
 use Rattle.meson_calls.specs.declared.call.CallRef.{CallRef}
 use Rattle.meson_calls.specs.Expansion.{Mark, known, opaque, empty, Expansion, both_expanded, met, or_empty, within}
 use Rattle.meson_sources.proofs.Gists.{Gist, gist, gist_append, gist_within, Grows, grows_first, grows_behind}
-use Rattle.meson_sources.proofs.Holds.{list_of_mark}
+use Rattle.meson_sources.proofs.MarkLists.{list_of_mark}
 
 pub moved : (new : List (List ℕ)) (g h g2 h2 : Gist) → g2 ≡ g → h2 ≡ h → Grows new g h → Grows new g2 h2
 moved new g h g2 h2 one other grows = record { front = grows.front; back = grows.back; had = one ∙ grows.had; has = other ∙ grows.has }

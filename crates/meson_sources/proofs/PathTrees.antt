@@ -12,7 +12,7 @@ use Rattle.meson_calls.specs.declared.call.CallRef.{CallRef}
 use Rattle.meson_calls.specs.Expansion.{Mark, opaque, Expansion, Stand, both_expanded, met, element, operand_at, within, is_files, has_names, is_plus, are_plus, is_operand_by, expand_by, expand_operands, expand_listing, expand_each, expand_argument}
 use Rattle.meson_calls.specs.Project.{child}
 use Rattle.meson_calls.specs.Roles.{one_of}
-use Rattle.meson_sources.proofs.Holds.{below, below_child}
+use Rattle.meson_sources.proofs.MarkLists.{below, below_child}
 use Rattle.meson_sources.proofs.Outcomes.{Outcome, Along, joined, opaque_both, still, along_same, along_first, along_behind, along_within}
 use Rattle.meson_sources.proofs.PartsPut.{Differ}
 use Rattle.meson_sources.proofs.SameTrees.{expression_same, operands_same, each_same, slot_clear}

@@ -5,7 +5,7 @@ use Rattle.std.proofs.lemmas.Bool.{eqb-true, eq-eqb}
 use Rattle.std.proofs.lemmas.List.{append_cancel_left}
 use Rattle.meson_calls.specs.declared.call.CallRef.{CallRef}
 use Rattle.meson_calls.specs.Project.{place, child}
-use Rattle.meson_sources.proofs.Holds.{below, below_child, below_itself}
+use Rattle.meson_sources.proofs.MarkLists.{below, below_child, below_itself}
 
 pub below_steps : (p : CallRef) (a b : List ℕ) → below p a ≡ below p b → a ≡ b
 below_steps p a b is = append_cancel_left p.path.steps a b (ap (λ (q : CallRef). q.path.steps) is)

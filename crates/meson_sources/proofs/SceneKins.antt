@@ -16,7 +16,7 @@ use Rattle.meson_calls.specs.Variables.{single}
 use Rattle.meson_steps.specs.ListSteps.{MayStandBetween}
 use Rattle.meson_steps.specs.ResultLimits.{plain_trees}
 use Rattle.meson_sources.proofs.Bares.{bare_value, values_of}
-use Rattle.meson_sources.proofs.Holds.{below, below_itself}
+use Rattle.meson_sources.proofs.MarkLists.{below, below_itself}
 use Rattle.meson_sources.proofs.Kins.{becomes_same, kin_by, node_below, node_level, placed_of, value_in}
 use Rattle.meson_sources.proofs.PlacesBelow.{Far, IsIt, far_deeper, far_apart, aside_far, above_it, under, below_below, one_goes_on}
 use Rattle.meson_sources.proofs.Scenes.{NodeIn, names_of, node_above, next_in, node_away, same_in, value_apart}

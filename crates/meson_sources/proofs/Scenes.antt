@@ -18,7 +18,7 @@ use Rattle.meson_calls.specs.Variables.{single}
 use Rattle.meson_steps.specs.ResultLimits.{plain_trees}
 use Rattle.meson_steps.proofs.PlainTrees.{tree_there}
 use Rattle.meson_sources.proofs.ErasedNodes.{bare_node, expression_node, node_with_spans}
-use Rattle.meson_sources.proofs.Holds.{below}
+use Rattle.meson_sources.proofs.MarkLists.{below}
 use Rattle.meson_sources.proofs.Owners.{NamedAt, no_statement, node_between, single_named}
 use Rattle.meson_sources.proofs.PartsPut.{differ_old, differ_new, differ_other}
 use Rattle.meson_sources.proofs.PlacesBelow.{Far, under, without_last}

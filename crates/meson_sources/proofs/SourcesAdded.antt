@@ -113,7 +113,7 @@ module _ (b : Bracket) (none : holds_pairs b ≡ false) where
   all_named (named s x e ∷ xs) level = let r = all_named xs level.1 in (r.0, ap (λ l. named s x e ∷ l) r.1)
   all_named (pair s e f ∷ xs) level = let both : true ≡ false = sym level.0.0 ∙ none in absurd cc
 
-  in_order : (xs : List (Argument Nowhere)) (seen : Bool) → LevelArguments (arguments_of xs) b seen → xs ≡ filter is_plain xs ++ filter not_plain xs
+  pub in_order : (xs : List (Argument Nowhere)) (seen : Bool) → LevelArguments (arguments_of xs) b seen → xs ≡ filter is_plain xs ++ filter not_plain xs
   in_order [] seen level = refl
   in_order (plain e ∷ xs) seen level = ap (λ l. plain e ∷ l) (in_order xs false level.1)
   in_order (named s x e ∷ xs) seen level = let r = all_named xs level.1 in sym (ap₂ (λ l m. l ++ (named s x e ∷ m)) r.0 r.1)

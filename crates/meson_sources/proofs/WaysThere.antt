@@ -25,7 +25,7 @@ use Rattle.meson_sources.proofs.Bares.{Values, bare_value, expand_with, list_by,
 use Rattle.meson_sources.proofs.CallTrees.{Expand, whole, whole_same, whole_along}
 use Rattle.meson_sources.proofs.Follows.{Kin, Equal, OnTheWay, Level, followed, levels, same_holds, some_left}
 use Rattle.meson_sources.proofs.GrownLists.{Nothing, Anywhere, Brings, arguments_bring, name_met}
-use Rattle.meson_sources.proofs.Holds.{below, below_child, below_itself}
+use Rattle.meson_sources.proofs.MarkLists.{below, below_child, below_itself}
 use Rattle.meson_sources.proofs.Kins.{becomes_same, kin_by, node_below, node_level, placed_of, value_in}
 use Rattle.meson_sources.proofs.Outcomes.{Clear, Either, as_before, grown, How, stays, comes, Outcome, Along, along_same, opaque_both}
 use Rattle.meson_sources.proofs.PathTrees.{along}
@@ -55,18 +55,15 @@ module _ (new : List (List ℕ)) (h : CallRef) (older newer : Expression Nowhere
     (b : Bool) (base : (bad : CallRef → Type 0) (seen : List (List ℕ) → Bool) (holds holds2 : List ℕ → Bool) (alike : (x : List ℕ) → holds2 x ≡ holds x) (follow follow2 : List ℕ → List (List ℕ) → Expansion Nowhere)
     → ((x : List ℕ) (f : List (List ℕ)) → one_of f x ≡ false → Outcome new bad seen f (follow x f) (follow2 x f)) → (s u : Stand) (f g : List (List ℕ)) → g ≡ f → seen f ≡ true
     → Along new bad seen b (expand_by (is_operand_by holds) follow older s f) (expand_by (is_operand_by holds2) follow2 newer u g)) where
-  pub leads_itself : h ≡ below h []
-  leads_itself = sym (below_itself h)
-
   module _ (seen : List (List ℕ) → Bool) (values values2 : Values) where
     abbrev KinV : List ℕ → Type 0
-    KinV x = Kin new (IsIt h) seen (Far h) (far_deeper h) (far_apart h) older newer kind value_kind h b (aside_far h h [] leads_itself) (above_it h h [] leads_itself) values values2 x
+    KinV x = Kin new (IsIt h) seen (Far h) (far_deeper h) (far_apart h) older newer kind value_kind h b (aside_far h h [] (sym (below_itself h))) (above_it h h [] (sym (below_itself h))) values values2 x
 
-    level_v : (kin : (x : List ℕ) → KinV x) → Level new (IsIt h) seen (Far h) (far_deeper h) (far_apart h) older newer kind value_kind h b (aside_far h h [] leads_itself) (above_it h h [] leads_itself) values values2 kin
-        (λ follow follow2 follows s u f g leads equal behind. base (IsIt h) seen _ _ (same_holds new (IsIt h) seen (Far h) (far_deeper h) (far_apart h) older newer kind value_kind h b (aside_far h h [] leads_itself) (above_it h h [] leads_itself) values values2 kin) follow follow2 follows s u f g equal behind)
+    level_v : (kin : (x : List ℕ) → KinV x) → Level new (IsIt h) seen (Far h) (far_deeper h) (far_apart h) older newer kind value_kind h b (aside_far h h [] (sym (below_itself h))) (above_it h h [] (sym (below_itself h))) values values2 kin
+        (λ follow follow2 follows s u f g leads equal behind. base (IsIt h) seen _ _ (same_holds new (IsIt h) seen (Far h) (far_deeper h) (far_apart h) older newer kind value_kind h b (aside_far h h [] (sym (below_itself h))) (above_it h h [] (sym (below_itself h))) values values2 kin) follow follow2 follows s u f g equal behind)
         max_followed
-    level_v kin = levels new (IsIt h) seen (Far h) (far_deeper h) (far_apart h) older newer kind value_kind h b (aside_far h h [] leads_itself) (above_it h h [] leads_itself) values values2 kin
-        (λ follow follow2 follows s u f g leads equal behind. base (IsIt h) seen _ _ (same_holds new (IsIt h) seen (Far h) (far_deeper h) (far_apart h) older newer kind value_kind h b (aside_far h h [] leads_itself) (above_it h h [] leads_itself) values values2 kin) follow follow2 follows s u f g equal behind)
+    level_v kin = levels new (IsIt h) seen (Far h) (far_deeper h) (far_apart h) older newer kind value_kind h b (aside_far h h [] (sym (below_itself h))) (above_it h h [] (sym (below_itself h))) values values2 kin
+        (λ follow follow2 follows s u f g leads equal behind. base (IsIt h) seen _ _ (same_holds new (IsIt h) seen (Far h) (far_deeper h) (far_apart h) older newer kind value_kind h b (aside_far h h [] (sym (below_itself h))) (above_it h h [] (sym (below_itself h))) values values2 kin) follow follow2 follows s u f g equal behind)
         max_followed
 
     -- a call that is not above the list
@@ -81,7 +78,7 @@ module _ (new : List (List ℕ)) (h : CallRef) (older newer : Expression Nowhere
     call_above kin behind c m path leads y next way xs ys bs d level =
         let l = level_v kin in
         whole_along new (IsIt h) seen (Far h) (an_expression older) (an_expression newer) h b (expand_with values max_followed) (expand_with values2 max_followed) l.same c l.way m path leads
-        (λ j other. aside_far h h [] leads_itself c m j path leads other) (above_it h h [] leads_itself c m path leads) y next way xs ys bs d bracket.Round false refl level [] [] refl behind
+        (λ j other. aside_far h h [] (sym (below_itself h)) c m j path leads other) (above_it h h [] (sym (below_itself h)) c m path leads) y next way xs ys bs d bracket.Round false refl level [] [] refl behind
 
 -- ---- by an argument of the call
 

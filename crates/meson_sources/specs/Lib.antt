@@ -4,3 +4,4 @@ pub mod Extras
 pub mod CodeSpots
 pub mod Targeted
 pub mod Effects
+pub mod WholeSources

@@ -1,0 +1,254 @@
+-- The sources of a call after another list has got strings.
+use Rattle.std.specs.Prelude.{◌⊎◌, All, bytes_eq, option_and_then}
+use Rattle.std.proofs.Common.{◌≡◌, ℕ, zero, suc, Bool, true, false, List, [], ◌∷◌, ◌++◌, map, Option, Some, None, refl, sym, ap, ap₂, ◌∙◌, subst, inl, inr}
+use Rattle.std.proofs.lemmas.Slice.Eq.{bytes_eq-Decides}
+use Rattle.meson_lex.specs.declared.kinds.Span.{Span}
+use Rattle.meson_syntax.specs.declared.operator.Bracket.TheVariants as bracket
+use Rattle.meson_syntax.specs.Grammar.{LevelArguments}
+use Rattle.meson_syntax.specs.Parts.{Any, an_expression, a_statement, a_block, child_nodes, node_at, arguments_parts}
+use Rattle.meson_syntax.specs.Paths.{nth, block_of}
+use Rattle.meson_syntax.specs.Paths as paths
+use Rattle.meson_syntax.specs.Tree.{Nowhere, Plain, Name, Expression, identifier, string, array, row, call, Listing, listing, Argument, Arguments, Statement, assign, iteration, erase, erase_name, erase_arguments, erase_expression}
+use Rattle.meson_syntax.proofs.parsing.Steps.{some-injective}
+use Rattle.meson_syntax.proofs.paths.Every.{Every, every-append}
+use Rattle.meson_syntax.proofs.paths.Reaching.{and-then-some}
+use Rattle.meson_calls.specs.declared.call.CallRef.{CallRef}
+use Rattle.meson_calls.specs.Calls.{Call, keyword}
+use Rattle.meson_calls.specs.Expansion.{Mark, Expansion, Stand, in_list, fixed, is_files, is_operand_by, is_value_by, max_followed, expand_by, then_expand}
+use Rattle.meson_calls.specs.Loading.{Loaded, project}
+use Rattle.meson_calls.specs.Project.{BuildFile, Placed, Project, placed, place, child, expression_at, nth_file}
+use Rattle.meson_calls.specs.Roles.{one_of}
+use Rattle.meson_calls.specs.Sources.{expand_arguments, hidden, home, kwargs_key, rest, source_marks}
+use Rattle.meson_calls.specs.Variables.{single}
+use Rattle.meson_steps.specs.ListSteps.{MayStandBetween}
+use Rattle.meson_steps.specs.ResultLimits.{plain_trees}
+use Rattle.meson_sources.proofs.Bares.{bare, bare_mark, expand_with, values_of}
+use Rattle.meson_sources.proofs.CallTrees.{keys, plains, whole}
+use Rattle.meson_sources.proofs.ErasedNodes.{expression_node}
+use Rattle.meson_sources.proofs.Gists.{Gist, gist, Grows}
+use Rattle.meson_sources.proofs.MarkLists.{below, below_child, below_itself}
+use Rattle.meson_sources.proofs.Kins.{node_below, node_level, placed_of}
+use Rattle.meson_sources.proofs.Outcomes.{Clear, Either, as_before, grown, How, stays, comes, Outcome, Along}
+use Rattle.meson_sources.proofs.Owners.{NamedAt, no_statement, node_between, owner, owner_is, single_named}
+use Rattle.meson_sources.proofs.PartsPut.{Differ, differ_new, differ_old}
+use Rattle.meson_sources.proofs.PathTrees.{files_alike}
+use Rattle.meson_sources.proofs.PlacesBelow.{Far, IsIt, far_deeper, far_apart, aside_far, above_it, under, without_last}
+use Rattle.meson_sources.proofs.SceneKins.{kin_v, kin_c, kin_x}
+use Rattle.meson_sources.proofs.Scenes.{NodeIn, bare_in, names_of, node_above, next_in, node_away, same_in}
+use Rattle.meson_sources.proofs.Shapes.{Shape, a_call, shape, Becomes, blanks}
+use Rattle.meson_sources.proofs.SourceTotals.{first_clear, hidden_clear, no_home, whole_bare}
+use Rattle.meson_sources.proofs.WaysThere.{always, arguments_above, call_above, far_call}
+
+-- ---- the call, by its shape
+
+record CallOf (x : Any Nowhere) (f : List ℕ) (bs : List (Argument Nowhere)) : Type 0 where
+  r : Nowhere
+  name : Name Nowhere
+  z : Nowhere
+  trailing : Bool
+  list : Arguments Nowhere
+  is : x ≡ an_expression (call r name (listing z trailing list))
+  same_name : name.text ≡ f
+  same_blanks : blanks list ≡ bs
+
+call_shape : (x : Any Nowhere) (f : List ℕ) (bs : List (Argument Nowhere)) → shape x ≡ a_call f bs → CallOf x f bs
+call_shape (an_expression (call r g (listing z t ys))) f bs is = record { r = r; name = g; z = z; trailing = t; list = ys; is = refl; same_name = let s : g.text ≡ f = cc in s; same_blanks = let s : blanks ys ≡ bs = cc in s }
+call_shape (an_expression (array l)) f bs is = absurd cc
+call_shape (an_expression (row r e os)) f bs is = absurd cc
+call_shape (an_expression (identifier r x)) f bs is = absurd cc
+call_shape (an_expression (string r q x)) f bs is = absurd cc
+call_shape (an_expression _) f bs is = absurd cc
+call_shape (a_statement (assign r x a e)) f bs is = absurd cc
+call_shape (a_statement (iteration r xs e b)) f bs is = absurd cc
+call_shape (a_statement _) f bs is = absurd cc
+call_shape (a_block b) f bs is = absurd cc
+
+-- ---- values of variables do not stand in calls
+
+pub outside : (old : Loaded) (c : CallRef) (value : Expression Span) → expression_at (project old) c ≡ Some value → (x : List ℕ) (v : Placed (Expression Span)) → single (project old) x ≡ Some v
+    → (m : ℕ) (rest : List ℕ) → v.place ≡ below c (m ∷ rest) → ⊥
+outside old c value at x v is m rest within =
+    let s = single_named (project old) x v is in
+    let a = s.2 in
+    let places : child s.0 0 ≡ below c (m ∷ rest) = sym s.1 ∙ within in
+    let same_file : s.0.file ≡ c.file = ap (λ (q : CallRef). q.file) places in
+    let w = without_last s.0.path.steps c.path.steps rest 0 m (ap (λ (q : CallRef). q.path.steps) places) in
+    let o = and-then-some (λ (g : BuildFile Span). paths.expression_on_path g.tree c.path.steps) (nth_file (project old) c.file) value at in
+    let file_is : o.0 ≡ a.file = some-injective _ _ (sym o.1 ∙ ap (nth_file (project old)) (sym same_file) ∙ a.is_file) in
+    let there = expression_node Span o.0.tree c.path.steps value o.2 in
+    no_statement w.0 value _ (sym (node_between c.path.steps w.0 (a_block (block_of o.0.tree)) (an_expression value) there) ∙ ap (node_at (a_block (block_of o.0.tree))) (sym w.1)
+    ∙ ap (λ (g : BuildFile Span). node_at (a_block (block_of g.tree)) s.0.path.steps) file_is ∙ a.is_node)
+
+-- ---- whose value holds the list
+
+text_or : Option (List ℕ) → List ℕ
+text_or None = []
+text_or (Some x) = x
+
+module _ (old : Loaded) (h : CallRef) (file : BuildFile Span) (is_file : nth_file (project old) h.file ≡ Some file) where
+  pub holder : List ℕ
+  unfolding text_or
+  holder = text_or (owner (a_block (block_of file.tree)) h.path.steps)
+
+  holds_it : (x : List ℕ) (v : Placed (Expression Span)) → single (project old) x ≡ Some v → (rest : List ℕ) → h ≡ below v.place rest → x ≡ holder
+  unfolding text_or holder
+  holds_it x v is rest leads =
+      let s = single_named (project old) x v is in
+      let a = s.2 in
+      let to : h ≡ below s.0 (0 ∷ rest) = leads ∙ ap (λ q. below q rest) s.1 ∙ below_child s.0 0 rest in
+      let file_is : a.file ≡ file = some-injective _ _ (sym a.is_file ∙ ap (nth_file (project old)) (sym (ap (λ (q : CallRef). q.file) to)) ∙ is_file) in
+      let node = ap (λ (g : BuildFile Span). node_at (a_block (block_of g.tree)) s.0.path.steps) (sym file_is) ∙ a.is_node in
+      let owned = owner_is s.0.path.steps 0 rest (a_block (block_of file.tree)) a.span a.name a.how a.value node in
+      let name : holder ≡ a.name.text = ap text_or (ap (owner (a_block (block_of file.tree))) (ap (λ (q : CallRef). q.path.steps) to) ∙ owned) in
+      sym ((bytes_eq-Decides a.name.text x).0 a.is_name) ∙ sym name
+
+-- ---- where further sources go is met
+
+module _ (new_texts : List (List ℕ)) (seen : List (List ℕ) → Bool) (p : Project Span) (c h : CallRef) (function : List ℕ) (r : Span) (trailing : Bool) (xs : Arguments Span) where
+  abbrev the_call : Placed (Call Span)
+  the_call = placed c (record { function = function; arguments = listing r trailing xs })
+
+  pub not_clear : (is_home : home c (source_marks p the_call) ≡ h) → (c ≡ h → ⊥) → Every (Clear new_texts (IsIt h) seen) (whole (expand_with (values_of p) max_followed) c (erase_arguments xs) []).marks → ⊥
+  not_clear is_home other clear =
+      let found = then_expand (expand_arguments p c (in_list c) (rest (plains 0 xs)) []) (λ now. expand_arguments p c (λ n. fixed) (keys 0 xs) now) in
+      no_home new_texts seen h c (source_marks p the_call)
+      (first_clear new_texts seen h found.marks (hidden (keyword kwargs_key the_call.it))
+      (subst (λ (e : Expansion Nowhere). Every (Clear new_texts (IsIt h) seen) e.marks) (whole_bare p c xs) clear)
+      (hidden_clear new_texts seen h (keyword kwargs_key the_call.it))) is_home other
+
+  grown_or_clear : (b : Bool) (ms ns : List (Mark Nowhere)) → Either new_texts (IsIt h) seen b ms ns → (Every (Clear new_texts (IsIt h) seen) ms → ⊥) → (b ≡ true) × Grows new_texts (gist ms) (gist ns)
+  grown_or_clear b ms ns (as_before same clear) met = absurd (met clear)
+  grown_or_clear b ms ns (grown is grows) met = (is, grows)
+
+-- ---- after the addition
+
+-- the call at the place, with the new sources
+pub record CallGrows (new_texts : List (List ℕ)) (old new : Loaded) (c : CallRef) (f : List ℕ) (xs : Arguments Nowhere) : Type 0 where
+  pub r : Nowhere
+  pub name : Name Nowhere
+  pub z : Nowhere
+  pub trailing : Bool
+  pub list : Arguments Nowhere
+  pub node : NodeIn (plain_trees new) c (an_expression (call r name (listing z trailing list)))
+  pub same_blanks : blanks list ≡ blanks xs
+  pub grows : Grows new_texts (gist (whole (expand_with (values_of (project old)) max_followed) c xs []).marks) (gist (whole (expand_with (values_of (project new)) max_followed) c list []).marks)
+
+module _ (new_texts : List (List ℕ)) (old new : Loaded) (names : names_of new.files ≡ names_of old.files) (h : CallRef) (tree now : Plain) (was : nth (plain_trees old) h.file ≡ Some tree) (is_now : nth (plain_trees new) h.file ≡ Some now)
+    (others : (i : ℕ) → (h.file ≡ i → ⊥) → nth (plain_trees new) i ≡ nth (plain_trees old) i) (older newer : Expression Nowhere)
+    (becomes : Becomes (an_expression older) (an_expression newer) h.path.steps (a_block (block_of tree)) (a_block (block_of now))) (stand : All MayStandBetween (plain_trees old))
+    (places : (x : List ℕ) → placed_of (single (project new) x) ≡ placed_of (single (project old) x)) (file : BuildFile Span) (is_file : nth_file (project old) h.file ≡ Some file)
+    (kind : (holds holds2 : List ℕ → Bool) → is_operand_by holds2 newer ≡ is_operand_by holds older) (value_kind : (m m2 : Expression Nowhere → Bool) → is_value_by m2 newer ≡ is_value_by m older)
+    (base : (bad : CallRef → Type 0) (seen : List (List ℕ) → Bool) (holds holds2 : List ℕ → Bool) (alike : (x : List ℕ) → holds2 x ≡ holds x) (follow follow2 : List ℕ → List (List ℕ) → Expansion Nowhere)
+    → ((x : List ℕ) (f : List (List ℕ)) → one_of f x ≡ false → Outcome new_texts bad seen f (follow x f) (follow2 x f)) → (s u : Stand) (f g : List (List ℕ)) → g ≡ f → seen f ≡ true
+    → Along new_texts bad seen true (expand_by (is_operand_by holds) follow older s f) (expand_by (is_operand_by holds2) follow2 newer u g))
+    (stays_below : (m : ℕ) (rest : List ℕ) (y : Any Nowhere) → node_at (an_expression older) (m ∷ rest) ≡ Some y → node_at (an_expression newer) (m ∷ rest) ≡ Some y)
+    (c : CallRef) (other : c ≡ h → ⊥) (s : Span) (f : Name Span) (r : Span) (trailing : Bool) (xs : Arguments Span) (at : expression_at (project old) c ≡ Some (call s f (listing r trailing xs)))
+    (no_files : is_files f.text (listing tt trailing (erase_arguments xs)) ≡ false) (is_home : home c (source_marks (project old) (placed c (record { function = f.text; arguments = listing r trailing xs }))) ≡ h) where
+  abbrev ts : List Plain
+  ts = plain_trees old
+
+  abbrev us : List Plain
+  us = plain_trees new
+
+  abbrev call_node : Expression Nowhere
+  call_node = call tt (erase_name f) (listing tt trailing (erase_arguments xs))
+
+  abbrev before : Expansion Nowhere
+  before = whole (expand_with (values_of (project old)) max_followed) c (erase_arguments xs) []
+
+  abbrev after : Arguments Nowhere → Expansion Nowhere
+  after ys = whole (expand_with (values_of (project new)) max_followed) c ys []
+
+  here : NodeIn ts c (an_expression call_node)
+  here = bare_in old c _ at
+
+  newer_there : (path : List ℕ) (x y : Any Nowhere) → Becomes (an_expression older) (an_expression newer) path x y → node_at y path ≡ Some (an_expression newer)
+  newer_there [] x y w = ap Some w.1
+  newer_there (n ∷ path) x y w = ap (option_and_then (λ z. node_at z path)) (differ_new w.0 w.1 w.2.parts) ∙ newer_there path w.0 w.1 w.3
+
+  older_there : (path : List ℕ) (x y : Any Nowhere) → Becomes (an_expression older) (an_expression newer) path x y → node_at x path ≡ Some (an_expression older)
+  older_there [] x y w = ap Some w.0
+  older_there (n ∷ path) x y w = ap (option_and_then (λ z. node_at z path)) (differ_old w.0 w.1 w.2.parts) ∙ older_there path w.0 w.1 w.3
+
+  grows_by : (seen : List (List ℕ) → Bool) (e : Expansion Nowhere) → Either new_texts (IsIt h) seen true before.marks e.marks → Grows new_texts (gist before.marks) (gist e.marks)
+  grows_by seen e either =
+      (grown_or_clear new_texts seen (project old) c h f.text r trailing xs true before.marks e.marks either (not_clear new_texts seen (project old) c h f.text r trailing xs is_home other)).1
+
+  -- ---- by a variable
+
+  how_either : (seen : List (List ℕ) → Bool) (g k : List (List ℕ)) (ms ns : List (Mark Nowhere)) → How new_texts (IsIt h) seen g k ms ns → Either new_texts (IsIt h) seen true ms ns
+  how_either seen g k ms ns (stays same clear is) = as_before same clear
+  how_either seen g k ms ns (comes no_yet yea either) = either
+
+  call_stays : Far h c → NodeIn us c (an_expression call_node)
+  call_stays far = go (under h c)
+    where
+      go : ((rest : List ℕ) × (c ≡ below h rest)) ⊎ ((rest : List ℕ) → c ≡ below h rest → ⊥) → NodeIn us c (an_expression call_node)
+      go (inr not) = node_away old new names h tree now was is_now others older newer becomes c far (λ m rest is. not (m ∷ rest) is) (an_expression call_node) here
+      go (inl w) = by w.0 w.1
+        where
+          by : (rest : List ℕ) → c ≡ below h rest → NodeIn us c (an_expression call_node)
+          by [] is = absurd (other (is ∙ below_itself h))
+          by (m ∷ rest) is =
+              let same_file : c.file ≡ h.file = ap (λ (q : CallRef). q.file) is in
+              let steps : c.path.steps ≡ h.path.steps ++ m ∷ rest = ap (λ (q : CallRef). q.path.steps) is in
+              let same_tree : here.tree ≡ tree = some-injective _ _ (sym here.is_tree ∙ ap (nth ts) same_file ∙ was) in
+              let was_there : node_at (a_block (block_of tree)) (h.path.steps ++ m ∷ rest) ≡ Some (an_expression call_node) =
+              ap (node_at (a_block (block_of tree))) (sym steps) ∙ ap (λ t. node_at (a_block (block_of t)) c.path.steps) (sym same_tree) ∙ here.is_node in
+              let old_there = older_there h.path.steps (a_block (block_of tree)) (a_block (block_of now)) becomes in
+              let inner = sym (node_between h.path.steps (m ∷ rest) (a_block (block_of tree)) (an_expression older) old_there) ∙ was_there in
+              record {
+                tree = now;
+                is_tree = ap (nth us) same_file ∙ is_now;
+                is_node =
+                    ap (node_at (a_block (block_of now))) steps ∙ node_between h.path.steps (m ∷ rest) (a_block (block_of now)) (an_expression newer) (newer_there h.path.steps (a_block (block_of tree)) (a_block (block_of now)) becomes)
+                    ∙ stays_below m rest (an_expression call_node) inner;
+              }
+
+  by_variable : Far h c → CallGrows new_texts old new c f.text (erase_arguments xs)
+  by_variable far =
+      let x0 = holder old h file is_file in
+      let seen = λ (g : List (List ℕ)). one_of g x0 in
+      let kin = kin_v new_texts old new names h tree now was is_now others older newer becomes stand places kind value_kind x0 (holds_it old h file is_file) in
+      let o = far_call new_texts h older newer kind value_kind true base seen (values_of (project old)) (values_of (project new)) kin c far (erase_arguments xs) in
+      record {
+        r = tt;
+        name = erase_name f;
+        z = tt;
+        trailing = trailing;
+        list = erase_arguments xs;
+        node = call_stays far;
+        same_blanks = refl;
+        grows = grows_by seen (after (erase_arguments xs)) (how_either seen [] _ _ _ o.how);
+      }
+
+  -- ---- in an argument
+
+  in_argument : (m : ℕ) (path : List ℕ) → h ≡ below c (m ∷ path) → CallGrows new_texts old new c f.text (erase_arguments xs)
+  in_argument m path leads =
+      let on = node_above old new names h tree now was is_now others older newer becomes c (m ∷ path) leads (an_expression call_node) here in
+      let w = on.further in
+      let k = call_shape on.next f.text (blanks (erase_arguments xs)) w.2.shapes in
+      let next_node = next_in old new names h tree now was is_now others older newer becomes c (m ∷ path) leads (an_expression call_node) here in
+      let at_c2 : NodeIn us c (an_expression (call k.r k.name (listing k.z k.trailing k.list))) = subst (NodeIn us c) k.is next_node in
+      let no_files2 : is_files k.name.text (listing k.z k.trailing k.list) ≡ false = files_alike f.text k.name.text (listing tt trailing (erase_arguments xs)) (listing k.z k.trailing k.list) k.same_name k.same_blanks ∙ no_files in
+      let aside = aside_far h c (m ∷ path) leads in
+      let above = above_it h c (m ∷ path) leads in
+      let kin = kin_c new_texts old new names h tree now was is_now others older newer becomes stand places (IsIt h) (Far h) (far_deeper h) (far_apart h) (λ p far. far) tt k.r (erase_name f) k.name
+      (listing tt trailing (erase_arguments xs)) (listing k.z k.trailing k.list) no_files no_files2 c aside above here at_c2 (m ∷ path) leads (outside old c _ at) in
+      let level = node_level ts stand c call_node here in
+      let a = arguments_above new_texts (IsIt h) (Far h) (far_deeper h) (far_apart h) tt k.r (erase_name f) k.name (listing tt trailing (erase_arguments xs)) (listing k.z k.trailing k.list) no_files no_files2 c aside above
+      (values_of (project old)) (values_of (project new)) kin h older newer kind (base (IsIt h)) (aside_far h h [] (sym (below_itself h))) (above_it h h [] (sym (below_itself h)))
+      m path leads w.0 w.1 w.3 (erase_arguments xs) k.list k.same_blanks (subst (λ x. Differ w.0 w.1 m (arguments_parts (erase_arguments xs)) (child_nodes x)) k.is w.2.parts) level.1 in
+      record { r = k.r; name = k.name; z = k.z; trailing = k.trailing; list = k.list; node = at_c2; same_blanks = k.same_blanks; grows = grows_by always (after k.list) a.marks }
+
+  pub arrives : CallGrows new_texts old new c f.text (erase_arguments xs)
+  arrives = go (under c h)
+    where
+      go : ((rest : List ℕ) × (h ≡ below c rest)) ⊎ ((rest : List ℕ) → h ≡ below c rest → ⊥) → CallGrows new_texts old new c f.text (erase_arguments xs)
+      go (inr not) = by_variable (λ rest is. not rest is)
+      go (inl w) = by w.0 w.1
+        where
+          by : (rest : List ℕ) → h ≡ below c rest → CallGrows new_texts old new c f.text (erase_arguments xs)
+          by [] is = absurd (other (sym (below_itself c) ∙ sym is))
+          by (m ∷ path) is = in_argument m path is
