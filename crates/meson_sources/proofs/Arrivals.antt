@@ -1,43 +1,41 @@
 -- The sources of a call after another list has got strings.
-use Rattle.std.specs.Prelude.{◌⊎◌, All, bytes_eq, option_and_then}
-use Rattle.std.proofs.Common.{◌≡◌, ℕ, zero, suc, Bool, true, false, List, [], ◌∷◌, ◌++◌, map, Option, Some, None, refl, sym, ap, ap₂, ◌∙◌, subst, inl, inr}
+use Rattle.std.specs.Prelude.{◌⊎◌, All, option_and_then}
+use Rattle.std.proofs.Common.{◌≡◌, ℕ, Bool, true, false, List, [], ◌∷◌, ◌++◌, Option, Some, None, refl, sym, ap, ◌∙◌, subst, inl, inr}
 use Rattle.std.proofs.lemmas.Slice.Eq.{bytes_eq-Decides}
 use Rattle.meson_lex.specs.declared.kinds.Span.{Span}
-use Rattle.meson_syntax.specs.declared.operator.Bracket.TheVariants as bracket
-use Rattle.meson_syntax.specs.Grammar.{LevelArguments}
 use Rattle.meson_syntax.specs.Parts.{Any, an_expression, a_statement, a_block, child_nodes, node_at, arguments_parts}
 use Rattle.meson_syntax.specs.Paths.{nth, block_of}
 use Rattle.meson_syntax.specs.Paths as paths
-use Rattle.meson_syntax.specs.Tree.{Nowhere, Plain, Name, Expression, identifier, string, array, row, call, Listing, listing, Argument, Arguments, Statement, assign, iteration, erase, erase_name, erase_arguments, erase_expression}
+use Rattle.meson_syntax.specs.Tree.{Nowhere, Plain, Name, Expression, identifier, string, array, row, call, listing, Argument, Arguments, assign, iteration, erase_name, erase_arguments}
 use Rattle.meson_syntax.proofs.parsing.Steps.{some-injective}
-use Rattle.meson_syntax.proofs.paths.Every.{Every, every-append}
+use Rattle.meson_syntax.proofs.paths.Every.{Every}
 use Rattle.meson_syntax.proofs.paths.Reaching.{and-then-some}
 use Rattle.meson_calls.specs.declared.call.CallRef.{CallRef}
 use Rattle.meson_calls.specs.Calls.{Call, keyword}
 use Rattle.meson_calls.specs.Expansion.{Mark, Expansion, Stand, in_list, fixed, is_files, is_operand_by, is_value_by, max_followed, expand_by, then_expand}
 use Rattle.meson_calls.specs.Loading.{Loaded, project}
-use Rattle.meson_calls.specs.Project.{BuildFile, Placed, Project, placed, place, child, expression_at, nth_file}
+use Rattle.meson_calls.specs.Project.{BuildFile, Placed, Project, placed, child, expression_at, nth_file}
 use Rattle.meson_calls.specs.Roles.{one_of}
 use Rattle.meson_calls.specs.Sources.{expand_arguments, hidden, home, kwargs_key, rest, source_marks}
 use Rattle.meson_calls.specs.Variables.{single}
 use Rattle.meson_steps.specs.ListSteps.{MayStandBetween}
 use Rattle.meson_steps.specs.ResultLimits.{plain_trees}
-use Rattle.meson_sources.proofs.Bares.{bare, bare_mark, expand_with, values_of}
+use Rattle.meson_sources.proofs.Bares.{expand_with, values_of}
 use Rattle.meson_sources.proofs.CallTrees.{keys, plains, whole}
 use Rattle.meson_sources.proofs.ErasedNodes.{expression_node}
-use Rattle.meson_sources.proofs.Gists.{Gist, gist, Grows}
+use Rattle.meson_sources.proofs.Gists.{gist, Grows}
 use Rattle.meson_sources.proofs.MarkLists.{below, below_child, below_itself}
-use Rattle.meson_sources.proofs.Kins.{node_below, node_level, placed_of}
+use Rattle.meson_sources.proofs.Kins.{node_level, placed_of}
 use Rattle.meson_sources.proofs.Outcomes.{Clear, Either, as_before, grown, How, stays, comes, Outcome, Along}
-use Rattle.meson_sources.proofs.Owners.{NamedAt, no_statement, node_between, owner, owner_is, single_named}
+use Rattle.meson_sources.proofs.Owners.{no_statement, node_between, owner, owner_is, single_named}
 use Rattle.meson_sources.proofs.PartsPut.{Differ, differ_new, differ_old}
 use Rattle.meson_sources.proofs.PathTrees.{files_alike}
 use Rattle.meson_sources.proofs.PlacesBelow.{Far, IsIt, far_deeper, far_apart, aside_far, above_it, under, without_last}
-use Rattle.meson_sources.proofs.SceneKins.{kin_v, kin_c, kin_x}
-use Rattle.meson_sources.proofs.Scenes.{NodeIn, bare_in, names_of, node_above, next_in, node_away, same_in}
-use Rattle.meson_sources.proofs.Shapes.{Shape, a_call, shape, Becomes, blanks}
+use Rattle.meson_sources.proofs.SceneKins.{kin_v, kin_c}
+use Rattle.meson_sources.proofs.Scenes.{NodeIn, bare_in, names_of, node_above, next_in, node_away}
+use Rattle.meson_sources.proofs.Shapes.{a_call, shape, Becomes, blanks}
 use Rattle.meson_sources.proofs.SourceTotals.{first_clear, hidden_clear, no_home, whole_bare}
-use Rattle.meson_sources.proofs.WaysThere.{always, arguments_above, call_above, far_call}
+use Rattle.meson_sources.proofs.WaysThere.{always, arguments_above, far_call}
 
 -- ---- the call, by its shape
 

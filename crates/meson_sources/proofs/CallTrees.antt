@@ -1,19 +1,19 @@
 -- The arguments of a call that hold sources, in two projects where one argument may have become another.
 use Rattle.std.specs.Prelude.{◌⊎◌, if◌then◌else◌, bytes_eq, option_map}
 use Rattle.std.specs.List.{cons_option, filter_map}
-use Rattle.std.proofs.Common.{◌≡◌, ℕ, zero, suc, ◌+◌, ◌≤◌, Bool, true, false, List, [], ◌∷◌, Option, Some, None, refl, sym, ap, ap₂, ◌∙◌, subst, arith, inl, inr}
+use Rattle.std.proofs.Common.{◌≡◌, ℕ, zero, suc, ◌+◌, ◌≤◌, Bool, true, false, List, [], ◌∷◌, Some, None, sym, ap, ◌∙◌, subst, arith, inl, inr}
 use Rattle.meson_syntax.specs.declared.operator.Bracket.{Bracket}
 use Rattle.meson_syntax.specs.Grammar.{LevelExpression, LevelArguments}
 use Rattle.meson_syntax.specs.Operators.{holds_pairs}
 use Rattle.meson_syntax.specs.Parts.{Any, an_expression, arguments_parts}
-use Rattle.meson_syntax.specs.Tree.{Nowhere, Name, Expression, Argument, plain, named, pair, Arguments, no_arguments, argument}
+use Rattle.meson_syntax.specs.Tree.{Nowhere, Expression, plain, named, pair, Arguments, no_arguments, argument}
 use Rattle.meson_calls.specs.declared.call.CallRef.{CallRef}
 use Rattle.meson_calls.specs.Calls.{Numbered, kept_number, numbered, value_without_name, value_with_name}
 use Rattle.meson_calls.specs.Expansion.{Slot, in_list, fixed, Expansion, Stand, both_expanded, nothing_met}
 use Rattle.meson_calls.specs.Project.{child}
 use Rattle.meson_calls.specs.Sources.{list_of_slot, rest, sources_key}
 use Rattle.meson_sources.proofs.MarkLists.{below, below_child}
-use Rattle.meson_sources.proofs.Outcomes.{Outcome, Along, Still, joined, nothing_both, still, along_same, along_first, along_behind}
+use Rattle.meson_sources.proofs.Outcomes.{Outcome, Along, joined, nothing_both, still, along_same, along_first, along_behind}
 use Rattle.meson_sources.proofs.PartsPut.{Differ}
 use Rattle.meson_sources.proofs.Shapes.{Becomes, blanks, differ_none, differ_here, differ_there, same_arguments}
 
@@ -92,7 +92,7 @@ module _ (new : List (List ℕ)) (bad : CallRef → Type 0) (seen : List (List �
   -- ---- one argument that has another node on the way
 
   module _ (way : (path : List ℕ) (e e2 : Expression Nowhere) (s u : Stand) (f g : List (List ℕ)) → Becomes older newer path (an_expression e) (an_expression e2) → LevelExpression e → t ≡ below s.place path → g ≡ f → seen f ≡ true
-          → Along new bad seen b (one e s f) (two e2 u g))
+      → Along new bad seen b (one e s f) (two e2 u g))
       (m : ℕ) (path : List ℕ) (leads : t ≡ below c (m ∷ path)) (aside : (j : ℕ) → (m ≡ j → ⊥) → away (child c j)) (fine : bad c → ⊥) (y next : Any Nowhere) (on_way : Becomes older newer path y next) where
     abbrev Way : Expansion Nowhere → Expansion Nowhere → Type 0
     Way = Along new bad seen b
@@ -138,12 +138,18 @@ module _ (new : List (List ℕ)) (bad : CallRef → Type 0) (seen : List (List �
     -- a further argument before the others
     plain_before : (e : Expression Nowhere) (k : ℕ) (ps qs us vs : List (Numbered (Expression Nowhere))) → away (child c k) → Ways ps qs us vs
         → Ways (record { number = k; value = e } ∷ ps) (record { number = k; value = e } ∷ qs) us vs
-    plain_before e k ps qs us vs far (inl w) = inl (λ f g equal behind.
-        let o = same e (record { place = child c k; slot = in_list c k; variable = None }) (record { place = child c k; slot = in_list c k; variable = None }) f g equal far (slot_fine k fine) in
-        along_behind new bad seen b f _ _ _ _ behind o (w.0 _ _ o.followed (still new bad seen f _ _ behind o).behind), w.1)
-    plain_before e k ps qs us vs far (inr w) = inr (λ f g equal.
-        let o = same e (record { place = child c k; slot = in_list c k; variable = None }) (record { place = child c k; slot = in_list c k; variable = None }) f g equal far (slot_fine k fine) in
-        joined new bad seen f _ _ _ _ o (w.0 _ _ o.followed), w.1)
+    plain_before e k ps qs us vs far (inl w) = inl (
+      λ f g equal behind.
+          let o = same e (record { place = child c k; slot = in_list c k; variable = None }) (record { place = child c k; slot = in_list c k; variable = None }) f g equal far (slot_fine k fine) in
+          along_behind new bad seen b f _ _ _ _ behind o (w.0 _ _ o.followed (still new bad seen f _ _ behind o).behind),
+      w.1,
+    )
+    plain_before e k ps qs us vs far (inr w) = inr (
+      λ f g equal.
+          let o = same e (record { place = child c k; slot = in_list c k; variable = None }) (record { place = child c k; slot = in_list c k; variable = None }) f g equal far (slot_fine k fine) in
+          joined new bad seen f _ _ _ _ o (w.0 _ _ o.followed),
+      w.1,
+    )
 
     named_before : (z : Bool) (e : Expression Nowhere) (k : ℕ) (ps qs us vs : List (Numbered (Expression Nowhere))) → away (child c k) → Ways ps qs us vs
         → Ways ps qs (cons_option (option_map (λ v. record { number = k; value = v }) (if z then Some e else None)) us) (cons_option (option_map (λ v. record { number = k; value = v }) (if z then Some e else None)) vs)
@@ -159,9 +165,12 @@ module _ (new : List (List ℕ)) (bad : CallRef → Type 0) (seen : List (List �
         let tails : blanks ys ≡ blanks xs = cc in
         let at_it : m ≡ k = omega (arith, number) in
         subst (λ zs. Ways (plains k (argument (plain e) xs)) (plains k (argument (plain e2) zs)) (keys (k + 1) xs) (keys (k + 1) zs)) (sym (same_arguments xs ys tails h.2))
-        (inl (λ f g equal behind.
-        let w = way_here e e2 k (in_list c k) at_it h.0 h.1 level.0.2 f g equal behind in
-        along_first new bad seen b _ _ _ _ w (plains_same xs (k + 1) (k + 1) fine (behind_it k at_it) _ _ w.followed), keys_same xs (k + 1) (k + 1) (behind_it k at_it)))
+        (inl (
+          λ f g equal behind.
+              let w = way_here e e2 k (in_list c k) at_it h.0 h.1 level.0.2 f g equal behind in
+              along_first new bad seen b _ _ _ _ w (plains_same xs (k + 1) (k + 1) fine (behind_it k at_it) _ _ w.followed),
+          keys_same xs (k + 1) (k + 1) (behind_it k at_it),
+        ))
     all_along (argument (plain e) xs) (argument (plain e2) ys) k (suc n) number bs d br nb none level =
         let h = differ_there y next n (an_expression e) (an_expression e2) (arguments_parts xs) (arguments_parts ys) d in
         let tails : blanks ys ≡ blanks xs = cc in

@@ -1,20 +1,20 @@
 -- Variables that stand for the same in two projects, or for an expression in which another node stands on the way to it: what is met behind them.
 use Rattle.std.specs.Prelude.{◌⊎◌, ◌&&◌}
-use Rattle.std.proofs.Common.{◌≡◌, ℕ, zero, suc, ◌+◌, Bool, true, false, List, [], ◌∷◌, Option, Some, None, refl, sym, ap, ap₂, ◌∙◌, subst, inl, inr}
+use Rattle.std.proofs.Common.{◌≡◌, ℕ, zero, suc, Bool, true, false, List, [], ◌∷◌, Some, None, refl, sym, ap, ap₂, ◌∙◌, subst, inl, inr}
 use Rattle.meson_syntax.specs.Grammar.{LevelExpression}
-use Rattle.meson_syntax.specs.Parts.{Any, an_expression, expression_parts, operands_parts}
+use Rattle.meson_syntax.specs.Parts.{Any, an_expression, operands_parts}
 use Rattle.meson_syntax.specs.Tree.{Nowhere, Expression, identifier, string, array, call, row}
 use Rattle.meson_calls.specs.declared.call.CallRef.{CallRef}
-use Rattle.meson_calls.specs.Expansion.{Slot, Mark, opaque, Expansion, Stand, met, is_files, are_plus, is_operand_by, is_value_by, is_single_by, max_followed, expand_by, follow_single, of_variable}
+use Rattle.meson_calls.specs.Expansion.{Mark, opaque, Expansion, Stand, met, are_plus, is_operand_by, is_value_by, is_single_by, max_followed, expand_by, follow_single, of_variable}
 use Rattle.meson_calls.specs.Project.{Placed, child}
 use Rattle.meson_calls.specs.Roles.{one_of}
 use Rattle.meson_calls.specs.Sources.{list_of_slot}
 use Rattle.meson_sources.proofs.Bares.{Values, list_by, lists_by, expand_with}
 use Rattle.meson_sources.proofs.MarkLists.{below}
-use Rattle.meson_sources.proofs.Outcomes.{Clear, Either, as_before, grown, How, stays, comes, Outcome, Along, opaque_both}
+use Rattle.meson_sources.proofs.Outcomes.{Either, as_before, grown, How, stays, comes, Outcome, Along, opaque_both}
 use Rattle.meson_sources.proofs.PathTrees.{along, files_alike, kind_along, operand_alike, plus_alike}
 use Rattle.meson_sources.proofs.SameTrees.{expression_same}
-use Rattle.meson_sources.proofs.Shapes.{Becomes, differ_here, differ_there, differ_none, operators, shape, a_row, an_array, a_call, list_blanks, another, same_operands}
+use Rattle.meson_sources.proofs.Shapes.{Becomes, differ_here, differ_there, differ_none, operators, shape, list_blanks, another}
 
 value_same : (m m2 : Expression Nowhere → Bool) → ((e : Expression Nowhere) → m2 e ≡ m e) → (e : Expression Nowhere) → is_value_by m2 e ≡ is_value_by m e
 value_same m m2 alike (row s e os) = ap (λ b. are_plus os && b) (alike e)

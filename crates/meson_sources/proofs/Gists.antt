@@ -1,7 +1,6 @@
 -- What marks say without places: of each known source its text, and each that is not known.
-use Rattle.std.proofs.Common.{◌≡◌, ℕ, suc, List, [], ◌∷◌, ◌++◌, append_assoc, map, Option, Some, None, refl, sym, ap, ap₂, ◌∙◌}
-use Rattle.std.proofs.lemmas.List.{map-append}
-use Rattle.meson_calls.specs.Expansion.{Item, Mark, known, opaque, empty, or_empty}
+use Rattle.std.proofs.Common.{◌≡◌, ℕ, suc, List, [], ◌∷◌, ◌++◌, append_assoc, map, Option, Some, None, refl, sym, ap, ◌∙◌}
+use Rattle.meson_calls.specs.Expansion.{Mark, known, opaque, empty, or_empty}
 use Rattle.meson_calls.specs.Sources.{items, opaque_count}
 use Rattle.meson_calls.specs.declared.call.CallRef.{CallRef}
 use Rattle.meson_sources.specs.WholeSources.{TextsCome}

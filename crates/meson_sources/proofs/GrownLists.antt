@@ -1,5 +1,5 @@
 -- A list that gets strings behind some of its elements: what is met in it, and these.
-use Rattle.std.proofs.Common.{◌≡◌, ℕ, zero, suc, ◌+◌, Bool, true, false, List, [], ◌∷◌, ◌++◌, Option, Some, None, refl, sym, ap, ap₂, ◌∙◌, subst, IsUtf8}
+use Rattle.std.proofs.Common.{◌≡◌, ℕ, ◌+◌, Bool, true, false, List, [], ◌∷◌, ◌++◌, Some, None, refl, sym, ap, ap₂, ◌∙◌, subst, IsUtf8}
 use Rattle.std.specs.Prelude.{not, ◌&&◌, if◌then◌else◌, bytes_eq, codes, All}
 use Rattle.std.proofs.lemmas.List.Elements.{All-head, All-tail}
 use Rattle.meson_lex.specs.Literals.{value, literal}
@@ -7,11 +7,10 @@ use Rattle.meson_lex.proofs.Written.{literal_value}
 use Rattle.meson_syntax.specs.declared.operator.StringKind.TheVariants as quotes
 use Rattle.meson_syntax.specs.Operators.{string_kind}
 use Rattle.meson_syntax.specs.Parts.{Any}
-use Rattle.meson_syntax.specs.Tree.{Nowhere, Name, Expression, array, call, Listing, listing, Argument, plain, named, pair, Arguments, no_arguments, argument, arguments_of}
+use Rattle.meson_syntax.specs.Tree.{Nowhere, Name, Expression, array, call, listing, Argument, plain, named, pair, arguments_of}
 use Rattle.meson_syntax.proofs.paths.Every.{Every}
 use Rattle.meson_calls.specs.declared.call.CallRef.{CallRef}
-use Rattle.meson_calls.specs.Calls.{Numbered}
-use Rattle.meson_calls.specs.Expansion.{Slot, in_list, fixed, Mark, known, opaque, Expansion, Stand, both_expanded, nothing_met, met, element, within, is_files, has_names, is_operand_by, is_value_by, literal_item, expand_by, expand_each, expand_argument}
+use Rattle.meson_calls.specs.Expansion.{in_list, fixed, Mark, known, opaque, Expansion, Stand, both_expanded, nothing_met, met, element, within, is_files, has_names, literal_item, expand_by, expand_each}
 use Rattle.meson_calls.specs.Project.{child}
 use Rattle.meson_calls.specs.Roles.{one_of}
 use Rattle.meson_calls.specs.Sources.{list_of_slot, rest}
@@ -19,8 +18,8 @@ use Rattle.meson_steps.specs.WrittenTexts.{string_of}
 use Rattle.meson_sources.specs.Effects.{strings}
 use Rattle.meson_sources.specs.SourceEdits.{is_plain}
 use Rattle.meson_sources.proofs.CallTrees.{Expand, list_with, plains, keys, keys_same}
-use Rattle.meson_sources.proofs.Gists.{Gist, gist, gist_append, gist_within, all_known, Grows, grows_first, grows_behind}
-use Rattle.meson_sources.proofs.Outcomes.{moved, Clear, Either, as_before, grown, How, stays, comes, Outcome, Along, Still, still, along_same, opaque_both, joined}
+use Rattle.meson_sources.proofs.Gists.{gist, gist_append, gist_within, all_known, Grows, grows_first, grows_behind}
+use Rattle.meson_sources.proofs.Outcomes.{moved, Clear, Either, as_before, grown, How, stays, comes, Outcome, Along, still}
 use Rattle.meson_sources.proofs.SameTrees.{argument_same, each_same}
 
 pub every_of : {X : Type 0} (P : X → Type 0) (xs : List X) → All P xs → Every P xs

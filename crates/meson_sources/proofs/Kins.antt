@@ -1,9 +1,7 @@
 -- What variables stand for before and after one list has got strings: the same, or an expression with this list in it.
-use Rattle.std.specs.Prelude.{◌⊎◌, ◌||◌, All, bytes_eq, option_map}
-use Rattle.std.proofs.Common.{◌≡◌, ℕ, zero, suc, Bool, true, false, List, [], ◌∷◌, ◌++◌, map, Option, Some, None, refl, sym, ap, ap₂, ◌∙◌, subst, inl, inr}
-use Rattle.std.proofs.lemmas.Slice.Eq.{bytes_eq-Decides}
+use Rattle.std.specs.Prelude.{◌⊎◌, All, option_map}
+use Rattle.std.proofs.Common.{◌≡◌, ℕ, zero, suc, Bool, List, [], ◌∷◌, ◌++◌, Option, Some, None, refl, sym, ap, ◌∙◌, subst, inl, inr}
 use Rattle.meson_lex.specs.declared.kinds.Span.{Span}
-use Rattle.meson_splice.specs.declared.file_set.File.{File}
 use Rattle.meson_syntax.specs.Grammar.{LevelExpression, LevelFile}
 use Rattle.meson_syntax.specs.Parts.{Any, an_expression, a_block, child_nodes, node_at, expression_any}
 use Rattle.meson_syntax.specs.Paths.{Sort, of_expression, of_statement, of_block, Node, nth, block_of, reach, expression_of, expression_on_path}
@@ -17,7 +15,6 @@ use Rattle.meson_calls.specs.declared.call.CallRef.{CallRef}
 use Rattle.meson_calls.specs.Expansion.{is_operand_by, is_value_by}
 use Rattle.meson_calls.specs.Loading.{Loaded, project}
 use Rattle.meson_calls.specs.Project.{Placed, child, expression_at}
-use Rattle.meson_calls.specs.Roles.{one_of}
 use Rattle.meson_calls.specs.Variables.{single}
 use Rattle.meson_steps.specs.ListSteps.{MayStandBetween}
 use Rattle.meson_steps.specs.ResultLimits.{plain_trees}
@@ -28,9 +25,8 @@ use Rattle.meson_sources.proofs.MarkLists.{below}
 use Rattle.meson_sources.proofs.MarksThere.{single_stands}
 use Rattle.meson_sources.proofs.Owners.{node_between}
 use Rattle.meson_sources.proofs.PartsPut.{Differ, here, there}
-use Rattle.meson_sources.proofs.PlacesBelow.{Far, IsIt, far_deeper, far_apart, aside_far, above_it, under, below_below}
-use Rattle.meson_sources.proofs.Scenes.{NodeIn, bare_in, names_of, node_above, next_in, node_away, same_in, value_apart}
-use Rattle.meson_sources.proofs.Shapes.{Becomes, Step, OnPath, on_path}
+use Rattle.meson_sources.proofs.Scenes.{NodeIn, bare_in}
+use Rattle.meson_sources.proofs.Shapes.{Becomes}
 
 -- ---- levels of nodes
 

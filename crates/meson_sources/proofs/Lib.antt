@@ -71,3 +71,6 @@ mod SourceTotals
 mod WaysThere
 mod SceneKins
 mod Arrivals
+mod WholeSources
+mod NeverMet
+pub mod AllSources

@@ -1,22 +1,22 @@
 -- An expression in which another node stands where a path leads, and what is met in it.
-use Rattle.std.proofs.Common.{◌≡◌, ℕ, zero, suc, ◌+◌, ◌≤◌, Bool, true, false, List, [], ◌∷◌, refl, sym, ap, ap₂, ◌∙◌, subst, arith}
+use Rattle.std.proofs.Common.{◌≡◌, ℕ, zero, suc, ◌+◌, Bool, true, false, List, [], ◌∷◌, refl, sym, ap, ap₂, ◌∙◌, subst, arith}
 use Rattle.std.specs.Prelude.{not, ◌&&◌, if◌then◌else◌, bytes_eq, codes}
 use Rattle.meson_syntax.specs.declared.operator.Bracket.{Bracket}
 use Rattle.meson_syntax.specs.declared.operator.Bracket.TheVariants as bracket
 use Rattle.meson_syntax.specs.declared.operator.Operator.{Operator}
 use Rattle.meson_syntax.specs.Grammar.{LevelExpression, LevelOperands, LevelArguments}
 use Rattle.meson_syntax.specs.Operators.{holds_pairs}
-use Rattle.meson_syntax.specs.Parts.{Any, an_expression, arguments_parts, listing_parts, operands_parts, expression_parts}
+use Rattle.meson_syntax.specs.Parts.{Any, an_expression, arguments_parts, operands_parts, expression_parts}
 use Rattle.meson_syntax.specs.Tree.{Nowhere, Expression, identifier, string, array, call, row, Operands, no_operands, operand, Listing, listing, Argument, plain, named, pair, is_named, Arguments, no_arguments, argument}
 use Rattle.meson_calls.specs.declared.call.CallRef.{CallRef}
-use Rattle.meson_calls.specs.Expansion.{Mark, opaque, Expansion, Stand, both_expanded, met, element, operand_at, within, is_files, has_names, is_plus, are_plus, is_operand_by, expand_by, expand_operands, expand_listing, expand_each, expand_argument}
+use Rattle.meson_calls.specs.Expansion.{opaque, Expansion, Stand, met, element, operand_at, is_files, has_names, is_plus, are_plus, is_operand_by, expand_by, expand_operands, expand_each}
 use Rattle.meson_calls.specs.Project.{child}
 use Rattle.meson_calls.specs.Roles.{one_of}
 use Rattle.meson_sources.proofs.MarkLists.{below, below_child}
 use Rattle.meson_sources.proofs.Outcomes.{Outcome, Along, joined, opaque_both, still, along_same, along_first, along_behind, along_within}
 use Rattle.meson_sources.proofs.PartsPut.{Differ}
 use Rattle.meson_sources.proofs.SameTrees.{expression_same, operands_same, each_same, slot_clear}
-use Rattle.meson_sources.proofs.Shapes.{Shape, an_array, a_call, a_row, a_leaf, an_assignment, a_loop, another, shape, blank, blanks, list_blanks, operators, Becomes, differ_none, differ_here, differ_there, same_arguments, same_operands}
+use Rattle.meson_sources.proofs.Shapes.{Shape, an_array, a_call, a_leaf, another, shape, blanks, list_blanks, operators, Becomes, differ_none, differ_here, differ_there, same_arguments, same_operands}
 
 -- ---- what shapes tell
 
@@ -95,7 +95,7 @@ module _ (new : List (List ℕ)) (bad : CallRef → Type 0) (seen : List (List �
       (t : CallRef) (b : Bool) (aside : (p : CallRef) (n m : ℕ) (path : List ℕ) → t ≡ below p (n ∷ path) → (n ≡ m → ⊥) → away (child p m))
       (above : (p : CallRef) (n : ℕ) (path : List ℕ) → t ≡ below p (n ∷ path) → bad p → ⊥)
       (base : (s u : Stand) (f g : List (List ℕ)) → t ≡ below s.place [] → g ≡ f → seen f ≡ true
-          → Along new bad seen b (expand_by (is_operand_by holds) follow older s f) (expand_by (is_operand_by holds2) follow2 newer u g)) where
+      → Along new bad seen b (expand_by (is_operand_by holds) follow older s f) (expand_by (is_operand_by holds2) follow2 newer u g)) where
     abbrev many : Expression Nowhere → Bool
     many = is_operand_by holds
 

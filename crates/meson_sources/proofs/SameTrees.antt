@@ -1,11 +1,11 @@
 -- An expression that is the same in two projects, and what is met in it where variables may stand for something else.
-use Rattle.std.proofs.Common.{◌≡◌, ℕ, suc, ◌+◌, ◌≤◌, Bool, true, false, List, [], ◌∷◌, Option, Some, None, refl, sym, ap, ◌∙◌, subst, arith}
+use Rattle.std.proofs.Common.{◌≡◌, ℕ, ◌+◌, ◌≤◌, Bool, true, false, List, Option, Some, None, refl, sym, subst, arith}
 use Rattle.std.specs.Prelude.{◌&&◌, if◌then◌else◌}
 use Rattle.meson_lex.specs.Literals.{value}
 use Rattle.meson_syntax.specs.Operators.{string_kind}
 use Rattle.meson_syntax.specs.Tree.{Nowhere, Expression, identifier, string, array, call, row, Operands, no_operands, operand, Listing, listing, Argument, plain, named, pair, Arguments, no_arguments, argument}
 use Rattle.meson_calls.specs.declared.call.CallRef.{CallRef}
-use Rattle.meson_calls.specs.Expansion.{Slot, in_list, fixed, Mark, opaque, Expansion, Stand, both_expanded, met, element, operand_at, within, is_files, are_plus, literal_item, expand_by, expand_operands, expand_listing, expand_each, expand_argument}
+use Rattle.meson_calls.specs.Expansion.{Slot, in_list, opaque, Expansion, Stand, both_expanded, met, element, operand_at, is_files, are_plus, literal_item, expand_by, expand_operands, expand_listing, expand_each, expand_argument}
 use Rattle.meson_calls.specs.Project.{child}
 use Rattle.meson_calls.specs.Roles.{one_of}
 use Rattle.meson_calls.specs.Sources.{list_of_slot}

@@ -1,9 +1,9 @@
 -- What variables stand for before and after an addition, by where the list is that gets strings.
 use Rattle.std.specs.Prelude.{◌⊎◌, ◌||◌, All, bytes_eq}
-use Rattle.std.proofs.Common.{◌≡◌, ℕ, zero, suc, Bool, true, false, List, [], ◌∷◌, ◌++◌, Option, Some, None, refl, sym, ap, ap₂, ◌∙◌, subst, inl, inr}
+use Rattle.std.proofs.Common.{◌≡◌, ℕ, Bool, true, false, List, [], ◌∷◌, ◌++◌, Some, refl, sym, ap, ap₂, ◌∙◌, subst, inl, inr}
 use Rattle.std.proofs.lemmas.Slice.Eq.{bytes_eq-Decides}
 use Rattle.meson_lex.specs.declared.kinds.Span.{Span}
-use Rattle.meson_syntax.specs.Parts.{Any, an_expression, a_block, node_at}
+use Rattle.meson_syntax.specs.Parts.{an_expression, a_block}
 use Rattle.meson_syntax.specs.Paths.{nth, block_of}
 use Rattle.meson_syntax.specs.Tree.{Nowhere, Plain, Name, Expression, call, Listing, erase_expression}
 use Rattle.meson_syntax.proofs.parsing.Steps.{some-injective}

@@ -1,29 +1,29 @@
 -- A project before and after one node of it has become another one: the nodes at places, and what variables stand for.
-use Rattle.std.specs.Prelude.{◌⊎◌, nat_eq, option_and_then, option_map}
-use Rattle.std.proofs.Common.{◌≡◌, ℕ, zero, suc, ◌+◌, Bool, true, false, List, [], ◌∷◌, ◌++◌, map, Option, Some, None, refl, sym, ap, ap₂, ◌∙◌, subst, arith, inl, inr}
+use Rattle.std.specs.Prelude.{nat_eq, option_and_then, option_map}
+use Rattle.std.proofs.Common.{◌≡◌, ℕ, suc, ◌+◌, Bool, true, false, List, [], ◌∷◌, ◌++◌, map, Option, Some, None, refl, sym, ap, ap₂, ◌∙◌, subst, arith}
 use Rattle.std.proofs.lemmas.Bool.{eqb-true, eq-eqb}
 use Rattle.meson_lex.specs.declared.kinds.Span.{Span}
 use Rattle.meson_splice.specs.declared.file_set.File.{File}
-use Rattle.meson_syntax.specs.Parts.{Any, an_expression, a_statement, a_block, child_nodes, node_at}
+use Rattle.meson_syntax.specs.Parts.{Any, an_expression, a_block, child_nodes, node_at}
 use Rattle.meson_syntax.specs.Paths.{nth, block_of}
 use Rattle.meson_syntax.specs.Paths as paths
 use Rattle.meson_syntax.specs.Tree.{Nowhere, Plain, Expression, file, erase, erase_expression}
 use Rattle.meson_syntax.proofs.parsing.Steps.{some-injective}
 use Rattle.meson_syntax.proofs.paths.Reaching.{and-then-some}
 use Rattle.meson_calls.specs.declared.call.CallRef.{CallRef}
-use Rattle.meson_calls.specs.Loading.{Loaded, named_trees, project, trees, views}
-use Rattle.meson_calls.specs.Parts.{file_parts, parts, parts_from}
-use Rattle.meson_calls.specs.Project.{BuildFile, Placed, Project, child, expression_at, nth_file, place}
+use Rattle.meson_calls.specs.Loading.{Loaded, named_trees, project, trees}
+use Rattle.meson_calls.specs.Parts.{file_parts, parts_from}
+use Rattle.meson_calls.specs.Project.{BuildFile, Placed, child, expression_at, nth_file, place}
 use Rattle.meson_calls.specs.Variables.{single}
 use Rattle.meson_steps.specs.ResultLimits.{plain_trees}
 use Rattle.meson_steps.proofs.PlainTrees.{tree_there}
 use Rattle.meson_sources.proofs.ErasedNodes.{bare_node, expression_node, node_with_spans}
 use Rattle.meson_sources.proofs.MarkLists.{below}
-use Rattle.meson_sources.proofs.Owners.{NamedAt, no_statement, node_between, single_named}
+use Rattle.meson_sources.proofs.Owners.{no_statement, node_between, single_named}
 use Rattle.meson_sources.proofs.PartsPut.{differ_old, differ_new, differ_other}
-use Rattle.meson_sources.proofs.PlacesBelow.{Far, under, without_last}
+use Rattle.meson_sources.proofs.PlacesBelow.{Far, without_last}
 use Rattle.meson_sources.proofs.Shapes.{Becomes, OnPath, on_path}
-use Rattle.meson_sources.proofs.Tells.{Told, of_any, told, told_both}
+use Rattle.meson_sources.proofs.Tells.{of_any, told, told_both}
 use Rattle.meson_sources.proofs.TellsErased.{told_erased, file_names_erased}
 use Rattle.meson_sources.proofs.ValuePlaces.{file_names, value_place, value_place_is}
 

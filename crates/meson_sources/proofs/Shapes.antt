@@ -1,6 +1,6 @@
 -- A node put where a path leads: on each step the node keeps its shape and its other children.
 use Rattle.std.specs.Prelude.{option_map, option_and_then}
-use Rattle.std.proofs.Common.{◌≡◌, ℕ, zero, suc, Bool, false, List, [], ◌∷◌, ◌++◌, Option, Some, None, refl, sym, ap, ap₂, ◌∙◌, subst, arith}
+use Rattle.std.proofs.Common.{◌≡◌, ℕ, zero, suc, Bool, false, List, [], ◌∷◌, ◌++◌, Some, refl, sym, ap, ap₂, ◌∙◌, subst, arith}
 use Rattle.meson_lex.specs.Significant.{Word}
 use Rattle.meson_syntax.specs.declared.operator.Assignment.{Assignment}
 use Rattle.meson_syntax.specs.declared.operator.Bracket.{Bracket}
@@ -9,8 +9,8 @@ use Rattle.meson_syntax.specs.declared.operator.Bracket.TheVariants as bracket
 use Rattle.meson_lex.specs.declared.kinds.Kind.TheVariants as k
 use Rattle.meson_syntax.specs.Operators.{opens, closes}
 use Rattle.meson_syntax.specs.Grammar.{mark, comma_words, argument_words, arguments_words, expression_words, operator_words, otherwise_words, branches_words}
-use Rattle.meson_syntax.specs.Tree.{Nowhere, Plain, Name, Expression, boolean, identifier, integer, string, paren, array, dictionary, call, unary, row, postfix, conditional, Operands, no_operands, operand, Tails, Listing, listing, Argument, plain, named, pair, Arguments, no_arguments, argument, Statement, evaluate, assign, selection, iteration, breaks, continues, Block, file}
-use Rattle.meson_syntax.specs.Paths.{Sort, of_expression, of_statement, of_block, Node, Hole, around, all_around, children, nth_hole, reach, block_of, ListIn, list_in, ListAt, list_at, list_within, list_of_node, argument_children, arguments_children, listing_children, operands_children, tails_children, expression_children, branches_children, otherwise_children, statement_children, nth}
+use Rattle.meson_syntax.specs.Tree.{Nowhere, Plain, Name, Expression, boolean, identifier, integer, string, paren, array, dictionary, call, unary, row, postfix, conditional, Operands, no_operands, operand, Listing, listing, Argument, plain, named, pair, Arguments, no_arguments, argument, Statement, evaluate, assign, selection, iteration, breaks, continues, Block, file}
+use Rattle.meson_syntax.specs.Paths.{Sort, of_expression, of_statement, of_block, Node, Hole, around, all_around, children, nth_hole, reach, block_of, ListIn, list_in, ListAt, list_at, list_within, list_of_node, argument_children, arguments_children, listing_children, operands_children, tails_children, expression_children, branches_children, otherwise_children, statement_children}
 use Rattle.meson_syntax.specs.Parts.{Any, an_expression, a_statement, a_block, any_of, child_nodes, node_at, arguments_parts, operands_parts}
 use Rattle.meson_syntax.proofs.parsing.Steps.{some-injective}
 use Rattle.meson_syntax.proofs.paths.Every.{Every, every-append, every-around, every-nth}

@@ -1,10 +1,9 @@
 -- All sources of a call: without spans, and in which lists they are met.
 use Rattle.std.specs.Prelude.{if◌then◌else◌, bytes_eq, option_map}
 use Rattle.std.specs.List.{cons_option}
-use Rattle.std.proofs.Common.{◌≡◌, ℕ, ◌+◌, Bool, true, false, List, [], ◌∷◌, ◌++◌, map, Option, Some, None, refl, sym, ap, ap₂, ◌∙◌, subst}
-use Rattle.std.proofs.lemmas.List.{map-append}
+use Rattle.std.proofs.Common.{◌≡◌, ℕ, ◌+◌, Bool, true, false, List, [], ◌∷◌, ◌++◌, map, Option, Some, None, refl, ap, ◌∙◌}
 use Rattle.meson_lex.specs.declared.kinds.Span.{Span}
-use Rattle.meson_syntax.specs.Tree.{Nowhere, Expression, Listing, listing, Argument, plain, named, pair, Arguments, no_arguments, argument, erase_expression, erase_arguments}
+use Rattle.meson_syntax.specs.Tree.{Nowhere, Expression, plain, named, pair, Arguments, no_arguments, argument, erase_expression, erase_arguments}
 use Rattle.meson_syntax.proofs.parsing.Steps.{some-injective}
 use Rattle.meson_syntax.proofs.paths.Every.{Every}
 use Rattle.meson_calls.specs.declared.call.CallRef.{CallRef}
@@ -14,7 +13,7 @@ use Rattle.meson_calls.specs.Project.{Project, child}
 use Rattle.meson_calls.specs.Sources.{rest, sources_key, expand_arguments, first_list, first_empty, home, hidden, list_of_slot, or_call, or_option}
 use Rattle.meson_sources.proofs.Bares.{bare_mark, bare, both_bare, expand_with, expand_bare, values_of}
 use Rattle.meson_sources.proofs.CallTrees.{list_with, plains, keys, whole}
-use Rattle.meson_sources.proofs.Gists.{Gist, gist, gist_append}
+use Rattle.meson_sources.proofs.Gists.{gist}
 use Rattle.meson_sources.proofs.Outcomes.{Clear}
 use Rattle.meson_sources.proofs.PlacesBelow.{IsIt}
 

@@ -1,11 +1,11 @@
 -- What a node tells is the same when a list in it gets strings.
-use Rattle.std.proofs.Common.{◌≡◌, ℕ, zero, suc, ◌+◌, Bool, true, false, List, [], ◌∷◌, ◌++◌, append_assoc, Option, Some, None, refl, sym, ap, ap₂, ◌∙◌, subst, arith}
+use Rattle.std.proofs.Common.{◌≡◌, ℕ, zero, suc, ◌+◌, Bool, true, false, List, [], ◌∷◌, ◌++◌, Option, Some, None, refl, sym, ap, ap₂, ◌∙◌}
 use Rattle.std.specs.Prelude.{if◌then◌else◌, option_and_then, option_map}
 use Rattle.std.specs.List.{cons_option, filter_map}
 use Rattle.meson_syntax.specs.Parts.{Any, an_expression, a_statement, a_block, child_nodes, arguments_parts}
-use Rattle.meson_syntax.specs.Tree.{Nowhere, Name, Expression, identifier, string, array, call, Listing, listing, Argument, plain, named, pair, Arguments, no_arguments, argument, arguments_of, assign, iteration}
+use Rattle.meson_syntax.specs.Tree.{Nowhere, Name, Expression, identifier, string, array, call, listing, Argument, plain, named, pair, Arguments, no_arguments, argument, arguments_of, assign, iteration}
 use Rattle.meson_calls.specs.declared.call.CallRef.{CallRef}
-use Rattle.meson_calls.specs.Calls.{Call, first_of, first_argument, first_literal, literal_of, kept_number, numbered, value_without_name}
+use Rattle.meson_calls.specs.Calls.{first_of, first_literal, literal_of, kept_number, numbered, value_without_name}
 use Rattle.meson_calls.specs.Project.{child}
 use Rattle.meson_sources.specs.Effects.{strings}
 use Rattle.meson_sources.proofs.PartsPut.{Differ, here, there}

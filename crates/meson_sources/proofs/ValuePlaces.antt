@@ -3,7 +3,7 @@ use Rattle.std.proofs.Common.{◌≡◌, ℕ, zero, suc, Bool, true, false, List
 use Rattle.std.specs.Prelude.{not, ◌&&◌, ◌||◌, if◌then◌else◌, bytes_eq, codes, is_none, option_and_then, option_map}
 use Rattle.std.specs.List.{cons_option, list_any}
 use Rattle.meson_syntax.specs.Paths.{nth}
-use Rattle.meson_syntax.specs.Tree.{Name, Expression, evaluate, assign, selection, iteration, breaks, continues}
+use Rattle.meson_syntax.specs.Tree.{Name, Expression, assign, iteration}
 use Rattle.meson_calls.specs.declared.call.CallRef.{CallRef}
 use Rattle.meson_calls.specs.Calls.{Call, call_of, first_literal, part_call, all_chosen, is}
 use Rattle.meson_calls.specs.Folders.{file_in}

@@ -1,44 +1,30 @@
 -- The three ways on which a list that gets strings is come to: by a variable, by an argument of the call, or it is the call's own.
-use Rattle.std.specs.Prelude.{◌⊎◌, ◌||◌, All, bytes_eq, codes, if◌then◌else◌}
-use Rattle.std.proofs.Common.{◌≡◌, ℕ, zero, suc, ◌≤◌, Bool, true, false, List, [], ◌∷◌, ◌++◌, append_assoc, Option, Some, None, refl, sym, ap, ap₂, ◌∙◌, subst, inl, inr, IsUtf8}
-use Rattle.std.proofs.lemmas.Slice.Eq.{bytes_eq-Decides}
-use Rattle.meson_lex.specs.declared.kinds.Span.{Span}
+use Rattle.std.specs.Prelude.{if◌then◌else◌}
+use Rattle.std.proofs.Common.{◌≡◌, ℕ, suc, Bool, true, false, List, [], ◌∷◌, Some, refl, sym, ap, ◌∙◌, subst}
 use Rattle.meson_syntax.specs.declared.operator.Bracket.TheVariants as bracket
 use Rattle.meson_syntax.specs.Grammar.{LevelExpression, LevelArguments}
-use Rattle.meson_syntax.specs.Parts.{Any, an_expression, a_block, arguments_parts, node_at}
-use Rattle.meson_syntax.specs.Paths.{nth, block_of}
-use Rattle.meson_syntax.specs.Tree.{Nowhere, Plain, Name, Expression, call, Listing, listing, Argument, Arguments, arguments_of, erase_expression}
-use Rattle.meson_syntax.proofs.paths.Every.{Every}
+use Rattle.meson_syntax.specs.Parts.{Any, an_expression, arguments_parts}
+use Rattle.meson_syntax.specs.Tree.{Nowhere, Name, Expression, call, Listing, Arguments}
 use Rattle.meson_calls.specs.declared.call.CallRef.{CallRef}
-use Rattle.meson_calls.specs.Expansion.{Slot, Mark, known, opaque, Expansion, Stand, met, is_files, is_operand_by, is_value_by, max_followed, expand_by, within, expand_listing, follow_single}
-use Rattle.meson_calls.specs.Loading.{Loaded, project}
-use Rattle.meson_calls.specs.Project.{Placed, place, child}
+use Rattle.meson_calls.specs.Expansion.{opaque, Expansion, Stand, met, is_files, is_operand_by, is_value_by, max_followed, expand_by, within, expand_listing, follow_single}
+use Rattle.meson_calls.specs.Project.{child}
 use Rattle.meson_calls.specs.Roles.{one_of}
 use Rattle.meson_calls.specs.Sources.{list_of_slot}
-use Rattle.meson_calls.specs.Variables.{single}
-use Rattle.meson_steps.specs.ListSteps.{MayStandBetween}
-use Rattle.meson_steps.specs.ResultLimits.{plain_trees}
-use Rattle.meson_steps.specs.WrittenTexts.{string_of}
-use Rattle.meson_sources.specs.Effects.{strings}
-use Rattle.meson_sources.specs.SourceEdits.{is_plain}
-use Rattle.meson_sources.proofs.Bares.{Values, bare_value, expand_with, list_by, lists_by, values_of}
-use Rattle.meson_sources.proofs.CallTrees.{Expand, whole, whole_same, whole_along}
-use Rattle.meson_sources.proofs.Follows.{Kin, Equal, OnTheWay, Level, followed, levels, same_holds, some_left}
-use Rattle.meson_sources.proofs.GrownLists.{Nothing, Anywhere, Brings, arguments_bring, name_met}
-use Rattle.meson_sources.proofs.MarkLists.{below, below_child, below_itself}
-use Rattle.meson_sources.proofs.Kins.{becomes_same, kin_by, node_below, node_level, placed_of, value_in}
-use Rattle.meson_sources.proofs.Outcomes.{Clear, Either, as_before, grown, How, stays, comes, Outcome, Along, along_same, opaque_both}
+use Rattle.meson_sources.proofs.Bares.{Values, expand_with, list_by, lists_by}
+use Rattle.meson_sources.proofs.CallTrees.{whole, whole_same, whole_along}
+use Rattle.meson_sources.proofs.Follows.{Kin, Level, followed, levels, same_holds}
+use Rattle.meson_sources.proofs.MarkLists.{below, below_itself}
+use Rattle.meson_sources.proofs.Outcomes.{Outcome, Along, along_same, opaque_both}
 use Rattle.meson_sources.proofs.PathTrees.{along}
 use Rattle.meson_sources.proofs.PartsPut.{Differ}
-use Rattle.meson_sources.proofs.PlacesBelow.{Far, IsIt, far_deeper, far_apart, aside_far, above_it, under, below_below, below_steps}
-use Rattle.meson_sources.proofs.Scenes.{NodeIn, bare_in, names_of, node_above, next_in, node_away, same_in, value_apart}
-use Rattle.meson_sources.proofs.Shapes.{Becomes, OnPath, blanks, on_path}
+use Rattle.meson_sources.proofs.PlacesBelow.{Far, IsIt, far_deeper, far_apart, aside_far, above_it}
+use Rattle.meson_sources.proofs.Shapes.{Becomes, blanks}
 
 abbrev pub always : List (List ℕ) → Bool
 always f = true
 
 -- a call that is no call of `files` is met as one whose sources are not known
-opaque_call : (lists : Expression Nowhere → Bool) (follow : List ℕ → List (List ℕ) → Expansion Nowhere) (r : Nowhere) (x : Name Nowhere) (l : Listing Nowhere) → is_files x.text l ≡ false → (s : Stand) (f : List (List ℕ))
+pub opaque_call : (lists : Expression Nowhere → Bool) (follow : List ℕ → List (List ℕ) → Expansion Nowhere) (r : Nowhere) (x : Name Nowhere) (l : Listing Nowhere) → is_files x.text l ≡ false → (s : Stand) (f : List (List ℕ))
     → expand_by lists follow (call r x l) s f ≡ met opaque f
 opaque_call lists follow r x l is s f = ap (λ b. if b then within s.place (expand_listing lists follow l s f) else met opaque f) is
 

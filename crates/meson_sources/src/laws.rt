@@ -1,10 +1,17 @@
 //! Laws of sources. The functions do nothing: what they ensure is the law.
 
 ghost use Rattle.meson_sources.specs.Effects.{ExtraIsAdded, ExtraIsRemoved, SourcesAreAdded, SourcesAreRemoved};
+ghost use Rattle.meson_sources.specs.WholeSources.{AllSourcesGrow};
 
 /// The list where further sources of a target go has its elements in their order afterwards, and behind those without a name each new source once.
 pub fn sources_are_added()
     ensures { SourcesAreAdded }
+{}
+
+/// After an addition all sources of the target, wherever they stand, are those that it had, in their order, and in one place among them each new source once. As
+/// many as before are not known.
+pub fn all_sources_grow()
+    ensures { AllSourcesGrow }
 {}
 
 /// The list of a target's extra files has its elements in their order afterwards, and behind those without a name each new extra file once. Where there is no
