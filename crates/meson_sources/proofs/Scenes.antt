@@ -12,7 +12,7 @@ use Rattle.meson_syntax.proofs.parsing.Steps.{some-injective}
 use Rattle.meson_syntax.proofs.paths.Reaching.{and-then-some}
 use Rattle.meson_calls.specs.declared.call.CallRef.{CallRef}
 use Rattle.meson_calls.specs.Loading.{Loaded, named_trees, project, trees}
-use Rattle.meson_calls.specs.Parts.{file_parts, parts_from}
+use Rattle.meson_calls.specs.Parts.{parts_of_file, parts_from}
 use Rattle.meson_calls.specs.Project.{BuildFile, Placed, child, expression_at, nth_file, place}
 use Rattle.meson_calls.specs.Variables.{single}
 use Rattle.meson_steps.specs.ResultLimits.{plain_trees}
@@ -31,10 +31,10 @@ use Rattle.meson_sources.proofs.ValuePlaces.{file_names, value_place, value_plac
 
 abbrev SameTells : ℕ → Option Plain → Option Plain → Type 0
 SameTells k None None = Unit {0}
-SameTells k (Some t) (Some u) = told (file_parts k u) ≡ told (file_parts k t)
+SameTells k (Some t) (Some u) = told (parts_of_file k u) ≡ told (parts_of_file k t)
 SameTells k _ _ = ⊥
 
-file_tells : (k : ℕ) (t : Plain) → told (file_parts k t) ≡ of_any (place k []) (a_block (block_of t))
+file_tells : (k : ℕ) (t : Plain) → told (parts_of_file k t) ≡ of_any (place k []) (a_block (block_of t))
 file_tells k (file s b) = refl
 
 abbrev pub names_of : List File → List (List ℕ)
@@ -52,9 +52,9 @@ projects_tell (f ∷ fs) (g ∷ gs) names n (t ∷ ts) (u ∷ us) all =
     let name : g.name ≡ f.name = cc in
     let tails : names_of gs ≡ names_of fs = cc in
     let z : n + 0 ≡ n = omega arith in
-    let here : told (file_parts n u) ≡ told (file_parts n t) = subst (λ k. told (file_parts k u) ≡ told (file_parts k t)) z (all 0) in
+    let here : told (parts_of_file n u) ≡ told (parts_of_file n t) = subst (λ k. told (parts_of_file k u) ≡ told (parts_of_file k t)) z (all 0) in
     let rest = projects_tell fs gs tails (n + 1) ts us (λ i. let k : n + suc i ≡ (n + 1) + i = omega arith in subst (λ j. SameTells j (nth ts i) (nth us i)) k (all (suc i))) in (
-      told_both (file_parts n u) (parts_from (n + 1) (named_trees gs us)) ∙ ap₂ (λ l m. l ++ m) here rest.0 ∙ sym (told_both (file_parts n t) (parts_from (n + 1) (named_trees fs ts))),
+      told_both (parts_of_file n u) (parts_from (n + 1) (named_trees gs us)) ∙ ap₂ (λ l m. l ++ m) here rest.0 ∙ sym (told_both (parts_of_file n t) (parts_from (n + 1) (named_trees fs ts))),
       ap₂ (λ x l. x ∷ l) name rest.1,
     )
 

@@ -9,7 +9,7 @@ use Rattle.meson_syntax.specs.Parts.{Any, an_expression, a_statement, a_block, c
 use Rattle.meson_syntax.specs.Parts as syntax
 use Rattle.meson_calls.specs.declared.call.CallRef.{CallRef}
 use Rattle.meson_calls.specs.Calls.{Call, call_of, first_literal}
-use Rattle.meson_calls.specs.Parts.{Part, argument_child_count, argument_parts, arguments_parts, block_parts, branches_child_count, branches_parts, expression_parts, listing_parts, operands_parts, otherwise_parts, statement_parts, statements_parts, tail_child_count, tail_parts, tails_parts}
+use Rattle.meson_calls.specs.Parts.{Part, argument_child_count, parts_of_argument, parts_of_arguments, parts_of_block, branches_child_count, parts_of_branches, parts_of_expression, parts_of_listing, parts_of_operands, parts_of_otherwise, parts_of_statement, parts_of_statements, tail_child_count, parts_of_tail, parts_of_tails}
 use Rattle.meson_calls.specs.Parts as part
 use Rattle.meson_calls.specs.Project.{Placed, place, child}
 
@@ -50,9 +50,9 @@ module _ {S : Type 0} where
   -- ---- node by node
 
   abbrev pub of_any : CallRef → Any S → List Told
-  of_any p (an_expression e) = told (expression_parts p e)
-  of_any p (a_statement s) = told (statement_parts p s)
-  of_any p (a_block b) = told (block_parts p b)
+  of_any p (an_expression e) = told (parts_of_expression p e)
+  of_any p (a_statement s) = told (parts_of_statement p s)
+  of_any p (a_block b) = told (parts_of_block p b)
 
   abbrev pub own : CallRef → Any S → Option Told
   own p (an_expression e) = tell_call p.file (call_of e)
@@ -72,22 +72,22 @@ module _ {S : Type 0} where
   then_told : (xs ys : List (Placed (Part S))) {us vs : List Told} → told xs ≡ us → told ys ≡ vs → told (xs ++ ys) ≡ us ++ vs
   then_told xs ys one other = told_both xs ys ∙ ap₂ (λ l m. l ++ m) one other
 
-  arguments_told : (p : CallRef) (n : ℕ) (list : Arguments S) → told (arguments_parts p n list) ≡ of_children p n (syntax.arguments_parts list)
+  arguments_told : (p : CallRef) (n : ℕ) (list : Arguments S) → told (parts_of_arguments p n list) ≡ of_children p n (syntax.arguments_parts list)
   arguments_told p n no_arguments = refl
-  arguments_told p n (argument (plain e) more) = then_told (expression_parts (child p n) e) (arguments_parts p (n + 1) more) refl (arguments_told p (n + 1) more)
-  arguments_told p n (argument (named s x e) more) = then_told (expression_parts (child p n) e) (arguments_parts p (n + 1) more) refl (arguments_told p (n + 1) more)
+  arguments_told p n (argument (plain e) more) = then_told (parts_of_expression (child p n) e) (parts_of_arguments p (n + 1) more) refl (arguments_told p (n + 1) more)
+  arguments_told p n (argument (named s x e) more) = then_told (parts_of_expression (child p n) e) (parts_of_arguments p (n + 1) more) refl (arguments_told p (n + 1) more)
   arguments_told p n (argument (pair s e f) more) =
       let two : n + 2 ≡ n + 1 + 1 = omega arith in
-      then_told (expression_parts (child p n) e ++ expression_parts (child p (n + 1)) f) (arguments_parts p (n + 2) more) (told_both (expression_parts (child p n) e) (expression_parts (child p (n + 1)) f))
-      (ap (λ k. told (arguments_parts p k more)) two ∙ arguments_told p (n + 1 + 1) more)
-      ∙ append_assoc (told (expression_parts (child p n) e)) (told (expression_parts (child p (n + 1)) f)) (of_children p (n + 1 + 1) (syntax.arguments_parts more))
+      then_told (parts_of_expression (child p n) e ++ parts_of_expression (child p (n + 1)) f) (parts_of_arguments p (n + 2) more) (told_both (parts_of_expression (child p n) e) (parts_of_expression (child p (n + 1)) f))
+      (ap (λ k. told (parts_of_arguments p k more)) two ∙ arguments_told p (n + 1 + 1) more)
+      ∙ append_assoc (told (parts_of_expression (child p n) e)) (told (parts_of_expression (child p (n + 1)) f)) (of_children p (n + 1 + 1) (syntax.arguments_parts more))
 
-  listing_told : (p : CallRef) (n : ℕ) (l : Listing S) → told (listing_parts p n l) ≡ of_children p n (syntax.listing_parts l)
+  listing_told : (p : CallRef) (n : ℕ) (l : Listing S) → told (parts_of_listing p n l) ≡ of_children p n (syntax.listing_parts l)
   listing_told p n (listing s trailing list) = arguments_told p n list
 
-  operands_told : (p : CallRef) (n : ℕ) (os : Operands S) → told (operands_parts p n os) ≡ of_children p n (syntax.operands_parts os)
+  operands_told : (p : CallRef) (n : ℕ) (os : Operands S) → told (parts_of_operands p n os) ≡ of_children p n (syntax.operands_parts os)
   operands_told p n no_operands = refl
-  operands_told p n (operand o e more) = then_told (expression_parts (child p n) e) (operands_parts p (n + 1) more) refl (operands_told p (n + 1) more)
+  operands_told p n (operand o e more) = then_told (parts_of_expression (child p n) e) (parts_of_operands p (n + 1) more) refl (operands_told p (n + 1) more)
 
   arguments_count : (list : Arguments S) → part.arguments_child_count list ≡ length (syntax.arguments_parts list)
   arguments_count no_arguments = refl
@@ -99,36 +99,36 @@ module _ {S : Type 0} where
   tail_count (method s x (listing z trailing list)) = arguments_count list
   tail_count (index s e) = refl
 
-  tail_told : (p : CallRef) (n : ℕ) (t : Tail S) → told (tail_parts p n t) ≡ of_children p n (syntax.tail_parts t)
+  tail_told : (p : CallRef) (n : ℕ) (t : Tail S) → told (parts_of_tail p n t) ≡ of_children p n (syntax.tail_parts t)
   tail_told p n (method s x l) = listing_told p n l
   tail_told p n (index s e) = sym (append-nil _)
 
-  tails_told : (p : CallRef) (n : ℕ) (ts : Tails S) → told (tails_parts p n ts) ≡ of_children p n (syntax.tails_parts ts)
+  tails_told : (p : CallRef) (n : ℕ) (ts : Tails S) → told (parts_of_tails p n ts) ≡ of_children p n (syntax.tails_parts ts)
   tails_told p n no_tails = refl
   tails_told p n (tail t more) =
-      then_told (tail_parts p n t) (tails_parts p (n + tail_child_count t) more) (tail_told p n t) (tails_told p (n + tail_child_count t) more)
+      then_told (parts_of_tail p n t) (parts_of_tails p (n + tail_child_count t) more) (tail_told p n t) (tails_told p (n + tail_child_count t) more)
       ∙ sym (children_both p n (n + tail_child_count t) (syntax.tail_parts t) (syntax.tails_parts more) (ap (λ k. n + k) (tail_count t)))
 
   branches_count : (bs : Branches S) → branches_child_count bs ≡ length (syntax.branches_parts bs)
   branches_count no_branches = refl
   branches_count (branch e b more) = let others = branches_count more in omega (arith, others)
 
-  branches_told : (p : CallRef) (n : ℕ) (bs : Branches S) → told (branches_parts p n bs) ≡ of_children p n (syntax.branches_parts bs)
+  branches_told : (p : CallRef) (n : ℕ) (bs : Branches S) → told (parts_of_branches p n bs) ≡ of_children p n (syntax.branches_parts bs)
   branches_told p n no_branches = refl
   branches_told p n (branch e b more) =
       let two : n + 2 ≡ n + 1 + 1 = omega arith in
-      then_told (expression_parts (child p n) e) (block_parts (child p (n + 1)) b ++ branches_parts p (n + 2) more) refl
-      (then_told (block_parts (child p (n + 1)) b) (branches_parts p (n + 2) more) refl (ap (λ k. told (branches_parts p k more)) two ∙ branches_told p (n + 1 + 1) more))
+      then_told (parts_of_expression (child p n) e) (parts_of_block (child p (n + 1)) b ++ parts_of_branches p (n + 2) more) refl
+      (then_told (parts_of_block (child p (n + 1)) b) (parts_of_branches p (n + 2) more) refl (ap (λ k. told (parts_of_branches p k more)) two ∙ branches_told p (n + 1 + 1) more))
 
-  otherwise_told : (p : CallRef) (n : ℕ) (o : Otherwise S) → told (otherwise_parts p n o) ≡ of_children p n (syntax.otherwise_parts o)
+  otherwise_told : (p : CallRef) (n : ℕ) (o : Otherwise S) → told (parts_of_otherwise p n o) ≡ of_children p n (syntax.otherwise_parts o)
   otherwise_told p n nothing_else = refl
   otherwise_told p n (otherwise b) = sym (append-nil _)
 
-  statements_told : (p : CallRef) (n : ℕ) (list : Statements S) → told (statements_parts p n list) ≡ of_children p n (syntax.statements_parts list)
+  statements_told : (p : CallRef) (n : ℕ) (list : Statements S) → told (parts_of_statements p n list) ≡ of_children p n (syntax.statements_parts list)
   statements_told p n no_statements = refl
-  statements_told p n (statement s more) = then_told (statement_parts (child p n) s) (statements_parts p (n + 1) more) refl (statements_told p (n + 1) more)
+  statements_told p n (statement s more) = then_told (parts_of_statement (child p n) s) (parts_of_statements p (n + 1) more) refl (statements_told p (n + 1) more)
 
-  expression_told : (p : CallRef) (e : Expression S) → told (expression_parts p e) ≡ cons_option (tell_call p.file (call_of e)) (of_children p 0 (syntax.expression_parts e))
+  expression_told : (p : CallRef) (e : Expression S) → told (parts_of_expression p e) ≡ cons_option (tell_call p.file (call_of e)) (of_children p 0 (syntax.expression_parts e))
   expression_told p (identifier s x) = refl
   expression_told p (boolean s b) = refl
   expression_told p (integer s x) = refl
@@ -138,24 +138,24 @@ module _ {S : Type 0} where
   expression_told p (dictionary l) = listing_told p 0 l
   expression_told p (call s x l) = with_own (tell_call p.file (call_of (call s x l))) (listing_told p 0 l)
   expression_told p (unary s o e) = sym (append-nil _)
-  expression_told p (row s e os) = then_told (expression_parts (child p 0) e) (operands_parts p 1 os) refl (operands_told p 1 os)
-  expression_told p (postfix s e ts) = then_told (expression_parts (child p 0) e) (tails_parts p 1 ts) refl (tails_told p 1 ts)
+  expression_told p (row s e os) = then_told (parts_of_expression (child p 0) e) (parts_of_operands p 1 os) refl (operands_told p 1 os)
+  expression_told p (postfix s e ts) = then_told (parts_of_expression (child p 0) e) (parts_of_tails p 1 ts) refl (tails_told p 1 ts)
   expression_told p (conditional s c y n) =
-      then_told (expression_parts (child p 0) c) (expression_parts (child p 1) y ++ expression_parts (child p 2) n) refl
-      (then_told (expression_parts (child p 1) y) (expression_parts (child p 2) n) refl (sym (append-nil _)))
+      then_told (parts_of_expression (child p 0) c) (parts_of_expression (child p 1) y ++ parts_of_expression (child p 2) n) refl
+      (then_told (parts_of_expression (child p 1) y) (parts_of_expression (child p 2) n) refl (sym (append-nil _)))
 
-  statement_told : (p : CallRef) (s : Statement S) → told (statement_parts p s) ≡ cons_option (tell_statement p s) (of_children p 0 (syntax.statement_parts s))
+  statement_told : (p : CallRef) (s : Statement S) → told (parts_of_statement p s) ≡ cons_option (tell_statement p s) (of_children p 0 (syntax.statement_parts s))
   statement_told p (evaluate e) = sym (append-nil _)
   statement_told p (assign s x a e) = with_own (tell_statement p (assign s x a e)) (sym (append-nil _))
   statement_told p (selection s bs o) =
-      then_told (branches_parts p 0 bs) (otherwise_parts p (branches_child_count bs) o) (branches_told p 0 bs) (otherwise_told p (branches_child_count bs) o)
+      then_told (parts_of_branches p 0 bs) (parts_of_otherwise p (branches_child_count bs) o) (branches_told p 0 bs) (otherwise_told p (branches_child_count bs) o)
       ∙ sym (children_both p 0 (branches_child_count bs) (syntax.branches_parts bs) (syntax.otherwise_parts o) (let many = branches_count bs in omega (arith, many)))
   statement_told p (iteration s xs e b) =
-      with_own (tell_statement p (iteration s xs e b)) (then_told (expression_parts (child p 0) e) (block_parts (child p 1) b) refl (sym (append-nil _)))
+      with_own (tell_statement p (iteration s xs e b)) (then_told (parts_of_expression (child p 0) e) (parts_of_block (child p 1) b) refl (sym (append-nil _)))
   statement_told p (breaks s) = refl
   statement_told p (continues s) = refl
 
-  block_told : (p : CallRef) (b : Block S) → told (block_parts p b) ≡ of_children p 0 (syntax.block_parts b)
+  block_told : (p : CallRef) (b : Block S) → told (parts_of_block p b) ≡ of_children p 0 (syntax.block_parts b)
   block_told p (block s list) = statements_told p 0 list
 
   -- what is told of a node is its own and what is told of its children
@@ -171,7 +171,7 @@ module _ {S : Type 0} where
 
   module _ (k : ℕ) where
     mutual
-      pub expressions_alike : (p q : List ℕ) (e : Expression S) → told (expression_parts (place k p) e) ≡ told (expression_parts (place k q) e)
+      pub expressions_alike : (p q : List ℕ) (e : Expression S) → told (parts_of_expression (place k p) e) ≡ told (parts_of_expression (place k q) e)
       expressions_alike p q (identifier s x) = refl
       expressions_alike p q (boolean s b) = refl
       expressions_alike p q (integer s x) = refl
@@ -182,45 +182,45 @@ module _ {S : Type 0} where
       expressions_alike p q (call s x l) = with_own (tell_call k (call_of (call s x l))) (lists_alike p q 0 0 l)
       expressions_alike p q (unary s o e) = expressions_alike (p ++ 0 ∷ []) (q ++ 0 ∷ []) e
       expressions_alike p q (row s e os) =
-          both_alike (expression_parts (child (place k p) 0) e) (operands_parts (place k p) 1 os) (expression_parts (child (place k q) 0) e) (operands_parts (place k q) 1 os) (expressions_alike (p ++ 0 ∷ []) (q ++ 0 ∷ []) e) (operands_alike p q 1 1 os)
+          both_alike (parts_of_expression (child (place k p) 0) e) (parts_of_operands (place k p) 1 os) (parts_of_expression (child (place k q) 0) e) (parts_of_operands (place k q) 1 os) (expressions_alike (p ++ 0 ∷ []) (q ++ 0 ∷ []) e) (operands_alike p q 1 1 os)
       expressions_alike p q (postfix s e ts) =
-          both_alike (expression_parts (child (place k p) 0) e) (tails_parts (place k p) 1 ts) (expression_parts (child (place k q) 0) e) (tails_parts (place k q) 1 ts) (expressions_alike (p ++ 0 ∷ []) (q ++ 0 ∷ []) e) (tails_alike p q 1 1 ts)
+          both_alike (parts_of_expression (child (place k p) 0) e) (parts_of_tails (place k p) 1 ts) (parts_of_expression (child (place k q) 0) e) (parts_of_tails (place k q) 1 ts) (expressions_alike (p ++ 0 ∷ []) (q ++ 0 ∷ []) e) (tails_alike p q 1 1 ts)
       expressions_alike p q (conditional s c y n) =
-          both_alike (expression_parts (child (place k p) 0) c) (expression_parts (child (place k p) 1) y ++ expression_parts (child (place k p) 2) n) (expression_parts (child (place k q) 0) c) (expression_parts (child (place k q) 1) y ++ expression_parts (child (place k q) 2) n)
+          both_alike (parts_of_expression (child (place k p) 0) c) (parts_of_expression (child (place k p) 1) y ++ parts_of_expression (child (place k p) 2) n) (parts_of_expression (child (place k q) 0) c) (parts_of_expression (child (place k q) 1) y ++ parts_of_expression (child (place k q) 2) n)
           (expressions_alike (p ++ 0 ∷ []) (q ++ 0 ∷ []) c)
-          (both_alike (expression_parts (child (place k p) 1) y) (expression_parts (child (place k p) 2) n) (expression_parts (child (place k q) 1) y) (expression_parts (child (place k q) 2) n)
+          (both_alike (parts_of_expression (child (place k p) 1) y) (parts_of_expression (child (place k p) 2) n) (parts_of_expression (child (place k q) 1) y) (parts_of_expression (child (place k q) 2) n)
           (expressions_alike (p ++ 1 ∷ []) (q ++ 1 ∷ []) y) (expressions_alike (p ++ 2 ∷ []) (q ++ 2 ∷ []) n))
 
-      operands_alike : (p q : List ℕ) (n m : ℕ) (os : Operands S) → told (operands_parts (place k p) n os) ≡ told (operands_parts (place k q) m os)
+      operands_alike : (p q : List ℕ) (n m : ℕ) (os : Operands S) → told (parts_of_operands (place k p) n os) ≡ told (parts_of_operands (place k q) m os)
       operands_alike p q n m no_operands = refl
       operands_alike p q n m (operand o e more) =
-          both_alike (expression_parts (child (place k p) n) e) (operands_parts (place k p) (n + 1) more) (expression_parts (child (place k q) m) e) (operands_parts (place k q) (m + 1) more)
+          both_alike (parts_of_expression (child (place k p) n) e) (parts_of_operands (place k p) (n + 1) more) (parts_of_expression (child (place k q) m) e) (parts_of_operands (place k q) (m + 1) more)
           (expressions_alike (p ++ n ∷ []) (q ++ m ∷ []) e) (operands_alike p q (n + 1) (m + 1) more)
 
-      tail_alike : (p q : List ℕ) (n m : ℕ) (t : Tail S) → told (tail_parts (place k p) n t) ≡ told (tail_parts (place k q) m t)
+      tail_alike : (p q : List ℕ) (n m : ℕ) (t : Tail S) → told (parts_of_tail (place k p) n t) ≡ told (parts_of_tail (place k q) m t)
       tail_alike p q n m (method s x l) = lists_alike p q n m l
       tail_alike p q n m (index s e) = expressions_alike (p ++ n ∷ []) (q ++ m ∷ []) e
 
-      tails_alike : (p q : List ℕ) (n m : ℕ) (ts : Tails S) → told (tails_parts (place k p) n ts) ≡ told (tails_parts (place k q) m ts)
+      tails_alike : (p q : List ℕ) (n m : ℕ) (ts : Tails S) → told (parts_of_tails (place k p) n ts) ≡ told (parts_of_tails (place k q) m ts)
       tails_alike p q n m no_tails = refl
       tails_alike p q n m (tail t more) =
-          both_alike (tail_parts (place k p) n t) (tails_parts (place k p) (n + tail_child_count t) more) (tail_parts (place k q) m t) (tails_parts (place k q) (m + tail_child_count t) more)
+          both_alike (parts_of_tail (place k p) n t) (parts_of_tails (place k p) (n + tail_child_count t) more) (parts_of_tail (place k q) m t) (parts_of_tails (place k q) (m + tail_child_count t) more)
           (tail_alike p q n m t) (tails_alike p q (n + tail_child_count t) (m + tail_child_count t) more)
 
-      lists_alike : (p q : List ℕ) (n m : ℕ) (l : Listing S) → told (listing_parts (place k p) n l) ≡ told (listing_parts (place k q) m l)
+      lists_alike : (p q : List ℕ) (n m : ℕ) (l : Listing S) → told (parts_of_listing (place k p) n l) ≡ told (parts_of_listing (place k q) m l)
       lists_alike p q n m (listing s trailing list) = arguments_alike p q n m list
 
-      argument_alike : (p q : List ℕ) (n m : ℕ) (a : Argument S) → told (argument_parts (place k p) n a) ≡ told (argument_parts (place k q) m a)
+      argument_alike : (p q : List ℕ) (n m : ℕ) (a : Argument S) → told (parts_of_argument (place k p) n a) ≡ told (parts_of_argument (place k q) m a)
       argument_alike p q n m (plain e) = expressions_alike (p ++ n ∷ []) (q ++ m ∷ []) e
       argument_alike p q n m (named s x e) = expressions_alike (p ++ n ∷ []) (q ++ m ∷ []) e
       argument_alike p q n m (pair s e f) =
-          both_alike (expression_parts (child (place k p) n) e) (expression_parts (child (place k p) (n + 1)) f) (expression_parts (child (place k q) m) e) (expression_parts (child (place k q) (m + 1)) f)
+          both_alike (parts_of_expression (child (place k p) n) e) (parts_of_expression (child (place k p) (n + 1)) f) (parts_of_expression (child (place k q) m) e) (parts_of_expression (child (place k q) (m + 1)) f)
           (expressions_alike (p ++ n ∷ []) (q ++ m ∷ []) e) (expressions_alike (p ++ (n + 1) ∷ []) (q ++ (m + 1) ∷ []) f)
 
-      pub arguments_alike : (p q : List ℕ) (n m : ℕ) (list : Arguments S) → told (arguments_parts (place k p) n list) ≡ told (arguments_parts (place k q) m list)
+      pub arguments_alike : (p q : List ℕ) (n m : ℕ) (list : Arguments S) → told (parts_of_arguments (place k p) n list) ≡ told (parts_of_arguments (place k q) m list)
       arguments_alike p q n m no_arguments = refl
       arguments_alike p q n m (argument a more) =
-          both_alike (argument_parts (place k p) n a) (arguments_parts (place k p) (n + argument_child_count a) more) (argument_parts (place k q) m a) (arguments_parts (place k q) (m + argument_child_count a) more)
+          both_alike (parts_of_argument (place k p) n a) (parts_of_arguments (place k p) (n + argument_child_count a) more) (parts_of_argument (place k q) m a) (parts_of_arguments (place k q) (m + argument_child_count a) more)
           (argument_alike p q n m a) (arguments_alike p q (n + argument_child_count a) (m + argument_child_count a) more)
 
   pub children_alike : (p : CallRef) (n m : ℕ) (list : Arguments S) → of_children p n (syntax.arguments_parts list) ≡ of_children p m (syntax.arguments_parts list)

@@ -8,7 +8,7 @@ use Rattle.meson_syntax.specs.Tree as tree
 use Rattle.meson_calls.specs.declared.call.CallRef.{CallRef}
 use Rattle.meson_calls.specs.Calls.{first_of, kept_number, literal_of, numbered, value_without_name}
 use Rattle.meson_calls.specs.Loading.{named_trees}
-use Rattle.meson_calls.specs.Parts.{Part, argument_child_count, argument_parts, arguments_child_count, arguments_parts, block_parts, branches_child_count, branches_parts, expression_parts, file_parts, listing_parts, operands_parts, otherwise_parts, parts_from, statement_parts, statements_parts, tail_child_count, tail_parts, tails_parts}
+use Rattle.meson_calls.specs.Parts.{Part, argument_child_count, parts_of_argument, arguments_child_count, parts_of_arguments, parts_of_block, branches_child_count, parts_of_branches, parts_of_expression, parts_of_file, parts_of_listing, parts_of_operands, parts_of_otherwise, parts_from, parts_of_statement, parts_of_statements, tail_child_count, parts_of_tail, parts_of_tails}
 use Rattle.meson_calls.specs.Project.{Placed, child, place}
 use Rattle.meson_sources.proofs.Tells.{Told, a_call, an_assignment, a_loop, matters, tell_call, name_texts, told, told_both}
 use Rattle.meson_sources.proofs.ValuePlaces.{file_names}
@@ -60,7 +60,7 @@ module _ {S : Type 0} where
   joined xs ys us vs one other = told_both xs ys ∙ ap₂ (λ l m. l ++ m) one other ∙ sym (told_both us vs)
 
   mutual
-    in_expression : (p : CallRef) (e : Expression S) → told (expression_parts p (erase_expression e)) ≡ told (expression_parts p e)
+    in_expression : (p : CallRef) (e : Expression S) → told (parts_of_expression p (erase_expression e)) ≡ told (parts_of_expression p e)
     in_expression p (identifier s x) = refl
     in_expression p (boolean s b) = refl
     in_expression p (integer s x) = refl
@@ -71,84 +71,84 @@ module _ {S : Type 0} where
     in_expression p (call s x l) = ap₂ cons_option (call_erased p.file x.text l) (in_listing p 0 l)
     in_expression p (unary s o e) = in_expression (child p 0) e
     in_expression p (row s e os) =
-        joined (expression_parts (child p 0) (erase_expression e)) (operands_parts p 1 (erase_operands os)) (expression_parts (child p 0) e) (operands_parts p 1 os) (in_expression (child p 0) e) (in_operands p 1 os)
+        joined (parts_of_expression (child p 0) (erase_expression e)) (parts_of_operands p 1 (erase_operands os)) (parts_of_expression (child p 0) e) (parts_of_operands p 1 os) (in_expression (child p 0) e) (in_operands p 1 os)
     in_expression p (postfix s e ts) =
-        joined (expression_parts (child p 0) (erase_expression e)) (tails_parts p 1 (erase_tails ts)) (expression_parts (child p 0) e) (tails_parts p 1 ts) (in_expression (child p 0) e) (in_tails p 1 ts)
+        joined (parts_of_expression (child p 0) (erase_expression e)) (parts_of_tails p 1 (erase_tails ts)) (parts_of_expression (child p 0) e) (parts_of_tails p 1 ts) (in_expression (child p 0) e) (in_tails p 1 ts)
     in_expression p (conditional s c y n) =
-        joined (expression_parts (child p 0) (erase_expression c)) (expression_parts (child p 1) (erase_expression y) ++ expression_parts (child p 2) (erase_expression n)) (expression_parts (child p 0) c) (expression_parts (child p 1) y ++ expression_parts (child p 2) n)
+        joined (parts_of_expression (child p 0) (erase_expression c)) (parts_of_expression (child p 1) (erase_expression y) ++ parts_of_expression (child p 2) (erase_expression n)) (parts_of_expression (child p 0) c) (parts_of_expression (child p 1) y ++ parts_of_expression (child p 2) n)
         (in_expression (child p 0) c)
-        (joined (expression_parts (child p 1) (erase_expression y)) (expression_parts (child p 2) (erase_expression n)) (expression_parts (child p 1) y) (expression_parts (child p 2) n) (in_expression (child p 1) y) (in_expression (child p 2) n))
+        (joined (parts_of_expression (child p 1) (erase_expression y)) (parts_of_expression (child p 2) (erase_expression n)) (parts_of_expression (child p 1) y) (parts_of_expression (child p 2) n) (in_expression (child p 1) y) (in_expression (child p 2) n))
 
-    in_operands : (p : CallRef) (n : ℕ) (os : Operands S) → told (operands_parts p n (erase_operands os)) ≡ told (operands_parts p n os)
+    in_operands : (p : CallRef) (n : ℕ) (os : Operands S) → told (parts_of_operands p n (erase_operands os)) ≡ told (parts_of_operands p n os)
     in_operands p n no_operands = refl
     in_operands p n (operand o e more) =
-        joined (expression_parts (child p n) (erase_expression e)) (operands_parts p (n + 1) (erase_operands more)) (expression_parts (child p n) e) (operands_parts p (n + 1) more) (in_expression (child p n) e) (in_operands p (n + 1) more)
+        joined (parts_of_expression (child p n) (erase_expression e)) (parts_of_operands p (n + 1) (erase_operands more)) (parts_of_expression (child p n) e) (parts_of_operands p (n + 1) more) (in_expression (child p n) e) (in_operands p (n + 1) more)
 
-    in_tail : (p : CallRef) (n : ℕ) (t : Tail S) → told (tail_parts p n (erase_tail t)) ≡ told (tail_parts p n t)
+    in_tail : (p : CallRef) (n : ℕ) (t : Tail S) → told (parts_of_tail p n (erase_tail t)) ≡ told (parts_of_tail p n t)
     in_tail p n (method s x l) = in_listing p n l
     in_tail p n (index s e) = in_expression (child p n) e
 
-    in_tails : (p : CallRef) (n : ℕ) (ts : Tails S) → told (tails_parts p n (erase_tails ts)) ≡ told (tails_parts p n ts)
+    in_tails : (p : CallRef) (n : ℕ) (ts : Tails S) → told (parts_of_tails p n (erase_tails ts)) ≡ told (parts_of_tails p n ts)
     in_tails p n no_tails = refl
     in_tails p n (tail t more) =
-        ap (λ m. told (tail_parts p n (erase_tail t) ++ tails_parts p (n + m) (erase_tails more))) (tail_count t)
-        ∙ joined (tail_parts p n (erase_tail t)) (tails_parts p (n + tail_child_count t) (erase_tails more)) (tail_parts p n t) (tails_parts p (n + tail_child_count t) more) (in_tail p n t) (in_tails p (n + tail_child_count t) more)
+        ap (λ m. told (parts_of_tail p n (erase_tail t) ++ parts_of_tails p (n + m) (erase_tails more))) (tail_count t)
+        ∙ joined (parts_of_tail p n (erase_tail t)) (parts_of_tails p (n + tail_child_count t) (erase_tails more)) (parts_of_tail p n t) (parts_of_tails p (n + tail_child_count t) more) (in_tail p n t) (in_tails p (n + tail_child_count t) more)
 
-    in_listing : (p : CallRef) (n : ℕ) (l : Listing S) → told (listing_parts p n (erase_listing l)) ≡ told (listing_parts p n l)
+    in_listing : (p : CallRef) (n : ℕ) (l : Listing S) → told (parts_of_listing p n (erase_listing l)) ≡ told (parts_of_listing p n l)
     in_listing p n (listing s trailing list) = in_arguments p n list
 
-    in_argument : (p : CallRef) (n : ℕ) (a : Argument S) → told (argument_parts p n (erase_argument a)) ≡ told (argument_parts p n a)
+    in_argument : (p : CallRef) (n : ℕ) (a : Argument S) → told (parts_of_argument p n (erase_argument a)) ≡ told (parts_of_argument p n a)
     in_argument p n (plain e) = in_expression (child p n) e
     in_argument p n (named s x e) = in_expression (child p n) e
     in_argument p n (pair s e f) =
-        joined (expression_parts (child p n) (erase_expression e)) (expression_parts (child p (n + 1)) (erase_expression f)) (expression_parts (child p n) e) (expression_parts (child p (n + 1)) f) (in_expression (child p n) e) (in_expression (child p (n + 1)) f)
+        joined (parts_of_expression (child p n) (erase_expression e)) (parts_of_expression (child p (n + 1)) (erase_expression f)) (parts_of_expression (child p n) e) (parts_of_expression (child p (n + 1)) f) (in_expression (child p n) e) (in_expression (child p (n + 1)) f)
 
-    in_arguments : (p : CallRef) (n : ℕ) (list : Arguments S) → told (arguments_parts p n (erase_arguments list)) ≡ told (arguments_parts p n list)
+    in_arguments : (p : CallRef) (n : ℕ) (list : Arguments S) → told (parts_of_arguments p n (erase_arguments list)) ≡ told (parts_of_arguments p n list)
     in_arguments p n no_arguments = refl
     in_arguments p n (argument a more) =
-        ap (λ m. told (argument_parts p n (erase_argument a) ++ arguments_parts p (n + m) (erase_arguments more))) (argument_count a)
-        ∙ joined (argument_parts p n (erase_argument a)) (arguments_parts p (n + argument_child_count a) (erase_arguments more)) (argument_parts p n a) (arguments_parts p (n + argument_child_count a) more)
+        ap (λ m. told (parts_of_argument p n (erase_argument a) ++ parts_of_arguments p (n + m) (erase_arguments more))) (argument_count a)
+        ∙ joined (parts_of_argument p n (erase_argument a)) (parts_of_arguments p (n + argument_child_count a) (erase_arguments more)) (parts_of_argument p n a) (parts_of_arguments p (n + argument_child_count a) more)
         (in_argument p n a) (in_arguments p (n + argument_child_count a) more)
 
   mutual
-    in_statement : (p : CallRef) (s : Statement S) → told (statement_parts p (erase_statement s)) ≡ told (statement_parts p s)
+    in_statement : (p : CallRef) (s : Statement S) → told (parts_of_statement p (erase_statement s)) ≡ told (parts_of_statement p s)
     in_statement p (evaluate e) = in_expression (child p 0) e
     in_statement p (assign s x a e) = with_own (Some (an_assignment p x.text a)) (in_expression (child p 0) e)
     in_statement p (selection s bs o) =
-        ap (λ n. told (branches_parts p 0 (erase_branches bs) ++ otherwise_parts p n (erase_otherwise o))) (branches_count bs)
-        ∙ joined (branches_parts p 0 (erase_branches bs)) (otherwise_parts p (branches_child_count bs) (erase_otherwise o)) (branches_parts p 0 bs) (otherwise_parts p (branches_child_count bs) o) (in_branches p 0 bs) (in_otherwise p (branches_child_count bs) o)
+        ap (λ n. told (parts_of_branches p 0 (erase_branches bs) ++ parts_of_otherwise p n (erase_otherwise o))) (branches_count bs)
+        ∙ joined (parts_of_branches p 0 (erase_branches bs)) (parts_of_otherwise p (branches_child_count bs) (erase_otherwise o)) (parts_of_branches p 0 bs) (parts_of_otherwise p (branches_child_count bs) o) (in_branches p 0 bs) (in_otherwise p (branches_child_count bs) o)
     in_statement p (iteration s xs e b) =
         ap₂ (λ t l. t ∷ l) (ap a_loop (names_erased xs))
-        (joined (expression_parts (child p 0) (erase_expression e)) (block_parts (child p 1) (erase_block b)) (expression_parts (child p 0) e) (block_parts (child p 1) b) (in_expression (child p 0) e) (in_block (child p 1) b))
+        (joined (parts_of_expression (child p 0) (erase_expression e)) (parts_of_block (child p 1) (erase_block b)) (parts_of_expression (child p 0) e) (parts_of_block (child p 1) b) (in_expression (child p 0) e) (in_block (child p 1) b))
     in_statement p (breaks s) = refl
     in_statement p (continues s) = refl
 
-    in_branches : (p : CallRef) (n : ℕ) (bs : Branches S) → told (branches_parts p n (erase_branches bs)) ≡ told (branches_parts p n bs)
+    in_branches : (p : CallRef) (n : ℕ) (bs : Branches S) → told (parts_of_branches p n (erase_branches bs)) ≡ told (parts_of_branches p n bs)
     in_branches p n no_branches = refl
     in_branches p n (branch e b more) =
-        joined (expression_parts (child p n) (erase_expression e)) (block_parts (child p (n + 1)) (erase_block b) ++ branches_parts p (n + 2) (erase_branches more)) (expression_parts (child p n) e) (block_parts (child p (n + 1)) b ++ branches_parts p (n + 2) more)
+        joined (parts_of_expression (child p n) (erase_expression e)) (parts_of_block (child p (n + 1)) (erase_block b) ++ parts_of_branches p (n + 2) (erase_branches more)) (parts_of_expression (child p n) e) (parts_of_block (child p (n + 1)) b ++ parts_of_branches p (n + 2) more)
         (in_expression (child p n) e)
-        (joined (block_parts (child p (n + 1)) (erase_block b)) (branches_parts p (n + 2) (erase_branches more)) (block_parts (child p (n + 1)) b) (branches_parts p (n + 2) more) (in_block (child p (n + 1)) b) (in_branches p (n + 2) more))
+        (joined (parts_of_block (child p (n + 1)) (erase_block b)) (parts_of_branches p (n + 2) (erase_branches more)) (parts_of_block (child p (n + 1)) b) (parts_of_branches p (n + 2) more) (in_block (child p (n + 1)) b) (in_branches p (n + 2) more))
 
-    in_otherwise : (p : CallRef) (n : ℕ) (o : Otherwise S) → told (otherwise_parts p n (erase_otherwise o)) ≡ told (otherwise_parts p n o)
+    in_otherwise : (p : CallRef) (n : ℕ) (o : Otherwise S) → told (parts_of_otherwise p n (erase_otherwise o)) ≡ told (parts_of_otherwise p n o)
     in_otherwise p n nothing_else = refl
     in_otherwise p n (otherwise b) = in_block (child p n) b
 
-    in_statements : (p : CallRef) (n : ℕ) (list : Statements S) → told (statements_parts p n (erase_statements list)) ≡ told (statements_parts p n list)
+    in_statements : (p : CallRef) (n : ℕ) (list : Statements S) → told (parts_of_statements p n (erase_statements list)) ≡ told (parts_of_statements p n list)
     in_statements p n no_statements = refl
     in_statements p n (statement s more) =
-        joined (statement_parts (child p n) (erase_statement s)) (statements_parts p (n + 1) (erase_statements more)) (statement_parts (child p n) s) (statements_parts p (n + 1) more) (in_statement (child p n) s) (in_statements p (n + 1) more)
+        joined (parts_of_statement (child p n) (erase_statement s)) (parts_of_statements p (n + 1) (erase_statements more)) (parts_of_statement (child p n) s) (parts_of_statements p (n + 1) more) (in_statement (child p n) s) (in_statements p (n + 1) more)
 
-    in_block : (p : CallRef) (b : Block S) → told (block_parts p (erase_block b)) ≡ told (block_parts p b)
+    in_block : (p : CallRef) (b : Block S) → told (parts_of_block p (erase_block b)) ≡ told (parts_of_block p b)
     in_block p (block s list) = in_statements p 0 list
 
-  in_file : (n : ℕ) (f : tree.File S) → told (file_parts n (erase f)) ≡ told (file_parts n f)
+  in_file : (n : ℕ) (f : tree.File S) → told (parts_of_file n (erase f)) ≡ told (parts_of_file n f)
   in_file n (file s b) = in_block (place n []) b
 
   pub told_erased : (n : ℕ) (files : List File) (trees : List (tree.File S)) → told (parts_from n (named_trees files (map erase trees))) ≡ told (parts_from n (named_trees files trees))
   told_erased n [] trees = refl
   told_erased n (f ∷ files) [] = refl
-  told_erased n (f ∷ files) (t ∷ trees) = joined (file_parts n (erase t)) (parts_from (n + 1) (named_trees files (map erase trees))) (file_parts n t) (parts_from (n + 1) (named_trees files trees)) (in_file n t) (told_erased (n + 1) files trees)
+  told_erased n (f ∷ files) (t ∷ trees) = joined (parts_of_file n (erase t)) (parts_from (n + 1) (named_trees files (map erase trees))) (parts_of_file n t) (parts_from (n + 1) (named_trees files trees)) (in_file n t) (told_erased (n + 1) files trees)
 
   pub file_names_erased : (files : List File) (trees : List (tree.File S)) → file_names (named_trees files (map erase trees)) ≡ file_names (named_trees files trees)
   file_names_erased [] trees = refl
