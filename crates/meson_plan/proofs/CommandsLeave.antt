@@ -1,9 +1,10 @@
 -- What a command that is performed leaves of the call that it changes.
-use Rattle.std.proofs.Common.{◌≡◌, ℕ, List, Some, sym, ap, ◌∙◌, subst}
+use Rattle.std.proofs.Common.{◌≡◌, ℕ, List, map, Some, sym, ap, ◌∙◌, subst}
 use Rattle.std.specs.Prelude.{Result, Ok}
 use Rattle.std.specs.Str.{IsUtf8}
 use Rattle.meson_lex.specs.declared.kinds.Span.{Span}
 use Rattle.meson_splice.specs.Patch.{then_ok}
+use Rattle.meson_splice.specs.declared.file_set.File.{File}
 use Rattle.meson_calls.specs.declared.call.Role.{Role}
 use Rattle.meson_calls.specs.declared.call.Role.TheVariants as role
 use Rattle.meson_calls.specs.declared.refusal.Refusal.{Refusal}
@@ -22,6 +23,7 @@ use Rattle.meson_steps.specs.declared.command.Done.{Done}
 use Rattle.meson_steps.specs.ResultLimits.{plain_trees}
 use Rattle.meson_steps.specs.Steps.{Step, all_stepped}
 use Rattle.meson_sources.specs.SourceEdits.{extra_added, extra_removed, sources_added, sources_removed}
+use Rattle.meson_sources.proofs.AllSources.{all-sources-grow}
 use Rattle.meson_sources.proofs.ExtraAdded.{extra-is-added}
 use Rattle.meson_sources.proofs.SourcesAdded.{sources-are-added}
 use Rattle.meson_sources.proofs.SourcesGone.{extra-is-removed, sources-are-removed}
@@ -31,6 +33,7 @@ use Rattle.meson_targets.proofs.AddedTargets.{added-targets-are-named}
 use Rattle.meson_targets.proofs.RemovedTargets.{removed-targets-are-gone}
 use Rattle.meson_plan.specs.Effects.{CommandsLeave, ExtrasCome, ExtrasGo, LeavesOf, SourcesCome, SourcesGo, TargetComes, TargetGoes}
 use Rattle.meson_plan.specs.Performing.{Performs}
+use Rattle.meson_plan.proofs.NamesKept.{names_kept}
 
 module _ (old new : Loaded) (c : Command) (done : Done) (is : IsProject old) (p : Performs old c done new) where
   leaves : (r : Role) (id : List ℕ) (asked : Asked) → request_steps (project old) (r, id, asked) ≡ Ok p.made.steps → LeavesOf old r id asked new
@@ -41,7 +44,13 @@ module _ (old new : Loaded) (c : Command) (done : Done) (is : IsProject old) (p 
   sources_come : (id : List ℕ) (names : List (List ℕ)) → then_ok (the_call (project old) role.Target id) (λ k. sources_added (project old) k names) ≡ Ok p.made.steps → SourcesCome old id names new
   sources_come id names made =
       let k = then_was (the_call (project old) role.Target id) (λ k. sources_added (project old) k names) p.made.steps made in
-      record { call = k.0; is_call = k.1; gets = sources-are-added old is id k.0 k.1 names p.made.steps (plain_trees new) k.2 (p.made.are_trees ∙ ap Some (sym p.are_trees)) }
+      let same_names = ap (map (λ (f : File). f.name)) p.are_files ∙ names_kept old.files p.made.steps p.made.splices p.made.files p.made.bytes p.made.are_done in
+      record {
+        call = k.0;
+        is_call = k.1;
+        gets = sources-are-added old is id k.0 k.1 names p.made.steps (plain_trees new) k.2 (p.made.are_trees ∙ ap Some (sym p.are_trees));
+        whole = λ utf8. all-sources-grow old new is same_names id k.0 k.1 names utf8 p.made.steps k.2 (p.made.are_trees ∙ ap Some (sym p.are_trees));
+      }
 
   -- the call of a target, whose steps these are
   module _ (id : List ℕ) (meant : Project Span → Placed (Call Span) → Result (List Step) Refusal) (made : then_ok (the_call (project old) role.Target id) (meant (project old)) ≡ Ok p.made.steps) where

@@ -11,3 +11,4 @@ mod DetailsThere
 mod ValuesAreTexts
 mod ChangedKeys
 mod CommandsLeave
+mod NamesKept

@@ -1,6 +1,6 @@
 -- What is there after a command, said of the arguments of the call that it changes, of the lists that get or lose sources or extra files, and of the calls that a name names.
 -- Meson manual, Rewriter.
-use Rattle.std.specs.Prelude.{◌≡◌, ℕ, List, ◌∷◌, codes, Ok}
+use Rattle.std.specs.Prelude.{◌≡◌, ℕ, List, ◌∷◌, All, codes, Ok}
 use Rattle.std.specs.Str.{IsUtf8}
 use Rattle.meson_lex.specs.declared.kinds.Span.{Span}
 use Rattle.meson_calls.specs.declared.call.Role.{Role}
@@ -17,6 +17,7 @@ use Rattle.meson_steps.specs.declared.command.Command.TheVariants as command
 use Rattle.meson_steps.specs.declared.command.Done.{Done}
 use Rattle.meson_sources.specs.Effects.{ExtraComes, ListGets, NamesGo, extra_home}
 use Rattle.meson_sources.specs.SourceEdits.{extra_marks, new_names}
+use Rattle.meson_sources.specs.WholeSources.{SourcesGrow}
 use Rattle.meson_steps.specs.Names.{distinct}
 use Rattle.meson_steps.specs.ResultLimits.{plain_trees}
 use Rattle.meson_targets.specs.Effects.{NamesTarget, TargetRemoved, call_with_texts}
@@ -27,11 +28,12 @@ use Rattle.meson_plan.specs.Performing.{Performs}
 abbrev pub LeavesOf : Loaded → Role → List ℕ → Asked → Loaded → Type 0
 LeavesOf old r id asked new = AreAskedTexts asked → CallLeft old r id asked (plain_trees new)
 
--- The target is the only one that the id names, and where its further sources go is each new one once.
+-- The target is the only one that the id names, and where its further sources go is each new one once. All its sources are those that it had and these.
 pub record SourcesCome (old : Loaded) (id : List ℕ) (names : List (List ℕ)) (new : Loaded) : Type 0 where
   pub call : Placed (Call Span)
   pub is_call : the_call (project old) role.Target id ≡ Ok call
   pub gets : ListGets (home call.place (source_marks (project old) call)) (new_names (source_marks (project old) call) names) (plain_trees old) (plain_trees new)
+  pub whole : All IsUtf8 names → SourcesGrow (new_names (source_marks (project old) call) names) call.place (project old) (project new)
 
 -- Of the sources those that are named are gone.
 pub record SourcesGo (old : Loaded) (id : List ℕ) (names : List (List ℕ)) (new : Loaded) : Type 0 where
