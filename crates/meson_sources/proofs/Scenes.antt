@@ -88,7 +88,8 @@ bare_in l p e is =
     let o = and-then-some (λ (g : BuildFile Span). paths.expression_on_path g.tree p.path.steps) (nth_file (project l) p.file) e is in
     record { tree = erase o.0.tree; is_tree = tree_there l.files l.parsed p.file o.0 o.1; is_node = bare_node o.0.tree p.path.steps e o.2 }
 
--- a path ends at one of two paths that do not go on in one another
+-- ---- where one node has become another one
+
 module _ (old new : Loaded) (names : names_of new.files ≡ names_of old.files) (h : CallRef) (tree now : Plain) (was : nth (plain_trees old) h.file ≡ Some tree) (is_now : nth (plain_trees new) h.file ≡ Some now)
     (others : (i : ℕ) → (h.file ≡ i → ⊥) → nth (plain_trees new) i ≡ nth (plain_trees old) i) (older newer : Expression Nowhere)
     (becomes : Becomes (an_expression older) (an_expression newer) h.path.steps (a_block (block_of tree)) (a_block (block_of now))) where
