@@ -1,5 +1,6 @@
-use Rattle.std.proofs.Common.{Ok, Err, Result}
+use Rattle.std.proofs.Common.{Ok, Err, Result, arith}
 use Rattle.std.specs.Prelude.{IfOk, OnOk}
+use Rattle.std.proofs.lemmas.Grind.{common_steps}
 use Rattle.std.proofs.lemmas.Result.{IfErr-weaker}
 use Rattle.meson_script.proofs.Keeping.{keeps-stands, keeps-text}
 use Rattle.meson_script.proofs.RunFacts.{reaches-none}
@@ -24,3 +25,18 @@ returns-in_default-clause-text c = if_ok c.run_all.result c.run_all.ensures.done
 
 pub returns-in-len1-clause-index : goal.returns-in-len1-clause-index
 returns-in-len1-clause-index c = IfErr-weaker c.run_one.result _ _ (λ f. reaches-none c.args.self.now.project c.args.script.now.commands f.index) c.run_one.ensures.index
+
+pub returns-in_default-clause-done : goal.returns-in_default-clause-done
+returns-in_default-clause-done c = grind (arith, common_steps)
+
+pub returns-in_default-clause-refused : goal.returns-in_default-clause-refused
+returns-in_default-clause-refused c = grind (arith, common_steps)
+
+pub returns-in_default-clause-index : goal.returns-in_default-clause-index
+returns-in_default-clause-index c = grind (arith, common_steps)
+
+pub returns-in-len1-clause-done : goal.returns-in-len1-clause-done
+returns-in-len1-clause-done c = grind (arith, common_steps)
+
+pub returns-in-len1-clause-refused : goal.returns-in-len1-clause-refused
+returns-in-len1-clause-refused c = grind (arith, common_steps)
