@@ -1,9 +1,8 @@
 -- What is read off notes without the calls of files in which none of some words stands is what is read off all notes.
-use Rattle.std.proofs.Common.{◌≡◌, ℕ, ◌+◌, List, [], ◌∷◌, ◌++◌, false, codes, Option, Some, None, refl, sym, ap, ap₂, subst}
-use Rattle.std.specs.Prelude.{◌||◌, All, Bool, true, if◌then◌else◌}
+use Rattle.std.proofs.Common.{◌≡◌, ℕ, ◌+◌, List, [], ◌∷◌, ◌++◌, false, codes, refl, sym, ap, ap₂, subst}
+use Rattle.std.specs.Prelude.{◌||◌, Bool, true, if◌then◌else◌}
 use Rattle.std.proofs.lemmas.List.Elements.{All-head, All-tail}
 use Rattle.meson_lex.specs.declared.kinds.Span.{Span}
-use Rattle.meson_calls.specs.declared.call.CallRef.{CallRef}
 use Rattle.meson_splice.specs.Patch.{then_ok}
 use Rattle.meson_splice.specs.declared.file_set.File.{File}
 use Rattle.meson_syntax.specs.declared.tree.Parsed.{Parsed}

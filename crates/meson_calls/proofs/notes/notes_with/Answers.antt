@@ -5,7 +5,7 @@ use Rattle.meson_syntax.specs.Reads.{IsSpanned}
 use Rattle.meson_syntax.specs.View.{view}
 use Rattle.meson_calls.specs.Notes.{noted, taken_view, without_calls}
 use Rattle.meson_calls.specs.Parts.{parts_of_file}
-use Rattle.meson_calls.specs.Spelling.{AreNotesWith, HasNoneOf}
+use Rattle.meson_calls.specs.Spelling.{HasNoneOf}
 use Rattle.meson_calls.proofs.CallsAt.{spanned_at}
 use Rattle.meson_calls.proofs.Loads.{as_many}
 use Rattle.meson_calls.proofs.NoteTurns.{GoesOn, all_files, goes_on, next_file}
