@@ -47,7 +47,7 @@ pub mod FirstValue
 mod PartsContained
 mod PartsOrdered
 pub mod Spelled
-pub mod ExpressionNotes
+pub mod SoughtValues
 pub mod NoteTurns
 mod SpelledLiterals
 mod StandingParts

@@ -1,4 +1,4 @@
--- Readings of notes: the calls of files in which none of some words stands may be missing, where these tell nothing.
+-- Readings of notes: those of files in which none of some words stands may be missing, where these tell nothing.
 use Rattle.std.proofs.Common.{◌≡◌, ℕ, ◌+◌, List, [], ◌∷◌, ◌++◌, Bool, false, Option, None, refl, sym, ap, ◌∙◌}
 use Rattle.std.specs.Prelude.{◌||◌, map, filter, if◌then◌else◌}
 use Rattle.std.specs.List.{cons_option, filter_map, list_any}
@@ -10,14 +10,13 @@ use Rattle.meson_splice.specs.declared.file_set.File.{File}
 use Rattle.meson_syntax.specs.declared.tree.Parsed.{Parsed}
 use Rattle.meson_syntax.specs.Reads.{IsSpanned}
 use Rattle.meson_syntax.specs.View.{view}
-use Rattle.meson_calls.specs.declared.call.CallRef.{CallRef}
-use Rattle.meson_calls.specs.Calls.{Call, chosen}
+use Rattle.meson_calls.specs.Calls.{chosen}
 use Rattle.meson_calls.specs.Loading.{AreParsed, named_trees, views}
-use Rattle.meson_calls.specs.Notes.{Note, a_call, an_assignment, a_loop, note_of, noted, without_calls}
+use Rattle.meson_calls.specs.Notes.{Note, note_of, noted}
 use Rattle.meson_calls.specs.Parts.{Part, parts_of_file, parts_from}
-use Rattle.meson_calls.specs.Project.{Placed, placed}
-use Rattle.meson_calls.specs.Spelling.{HasNoneOf, AreNotesOf, whole, less, AreNotesWith}
-use Rattle.meson_calls.proofs.StandingNotes.{CallStands, NoteStands, NotesStand, notes_stand}
+use Rattle.meson_calls.specs.Project.{Placed}
+use Rattle.meson_calls.specs.Spelling.{HasNoneOf, AreNotesOf, whole, passed, AreNotesWith}
+use Rattle.meson_calls.proofs.StandingNotes.{NoteStands, NotesStand, notes_stand}
 
 abbrev pub Notes : Type 0
 Notes = List (Placed (Note Span))
@@ -40,34 +39,25 @@ pub record Gathers {X : Type 0} (read : Notes → X) (join : X → X → X) (not
   pub joins : (xs ys : Notes) → read (xs ++ ys) ≡ join (read xs) (read ys)
   pub unit : (x : X) → join nothing x ≡ x
 
--- it reads nothing off a call whose words stand in bytes that have none of some words
+-- it reads nothing off a note whose words stand in bytes that have none of some words
 abbrev pub ReadsNothing : {X : Type 0} → List (List ℕ) → (Notes → X) → X → Type 0
-ReadsNothing words read nothing = (bytes : List ℕ) → HasNoneOf words bytes → (p : CallRef) (c : Call Span) → CallStands bytes c → read (placed p (a_call c) ∷ []) ≡ nothing
+ReadsNothing words read nothing = (bytes : List ℕ) → HasNoneOf words bytes → (n : Placed (Note Span)) → NoteStands bytes n.it → read (n ∷ []) ≡ nothing
 
 module _ {X : Type 0} (words : List (List ℕ)) (read : Notes → X) (join : X → X → X) (nothing : X) (gathers : Gathers read join nothing) (alone : ReadsNothing words read nothing) where
-  one_less : (bytes : List ℕ) → HasNoneOf words bytes → (p : CallRef) (m : Note Span) (ns : Notes) → NoteStands bytes m → read (without_calls ns) ≡ read ns → read (without_calls (placed p m ∷ ns)) ≡ read (placed p m ∷ ns)
-  one_less bytes none p (a_call c) ns stands rest =
-      rest ∙ sym (gathers.joins (placed p (a_call c) ∷ []) ns ∙ ap (λ x. join x (read ns)) (alone bytes none p c stands) ∙ gathers.unit (read ns))
-  one_less bytes none p (an_assignment y sets e) ns stands rest =
-      let here = placed p (an_assignment y sets e) ∷ [] in
-      gathers.joins here (without_calls ns) ∙ ap (join (read here)) rest ∙ sym (gathers.joins here ns)
-  one_less bytes none p (a_loop xs) ns stands rest =
-      let here = placed p (a_loop xs) ∷ [] in
-      gathers.joins here (without_calls ns) ∙ ap (join (read here)) rest ∙ sym (gathers.joins here ns)
-
-  all_less : (bytes : List ℕ) → HasNoneOf words bytes → (ns : Notes) → NotesStand bytes ns → read (without_calls ns) ≡ read ns
-  all_less bytes none [] stand = refl
-  all_less bytes none (n ∷ ns) stand = one_less bytes none n.place n.it ns stand.0 (all_less bytes none ns stand.1)
+  all_nothing : (bytes : List ℕ) → HasNoneOf words bytes → (ns : Notes) → NotesStand bytes ns → read ns ≡ nothing
+  all_nothing bytes none [] stand = gathers.none
+  all_nothing bytes none (n ∷ ns) stand =
+      gathers.joins (n ∷ []) ns ∙ ap (λ x. join x (read ns)) (alone bytes none n stand.0) ∙ gathers.unit (read ns) ∙ all_nothing bytes none ns stand.1
 
   read_step : (n : ℕ) (f : File) (t : Parsed) (Further : Notes → Type 0) (ns rest : Notes) → IsSpanned f.bytes (view f.bytes t)
       → ((more : Notes) → Further more → read more ≡ read rest) → AreNotesOf words n f t Further ns → read ns ≡ join (read (noted (parts_of_file n (view f.bytes t)))) (read rest)
   read_step n f t Further ns rest spanned same (whole more further is) =
       let here = noted (parts_of_file n (view f.bytes t)) in
       ap read is ∙ gathers.joins here more ∙ ap (join (read here)) (same more further)
-  read_step n f t Further ns rest spanned same (less more none further is) =
+  read_step n f t Further ns rest spanned same (passed none further) =
       let here = noted (parts_of_file n (view f.bytes t)) in
-      ap read is ∙ gathers.joins (without_calls here) more
-      ∙ ap (λ x. join x (read more)) (all_less f.bytes none here (notes_stand n f.bytes (view f.bytes t) spanned)) ∙ ap (join (read here)) (same more further)
+      same ns further
+      ∙ sym (ap (λ x. join x (read rest)) (all_nothing f.bytes none here (notes_stand n f.bytes (view f.bytes t) spanned)) ∙ gathers.unit (read rest))
 
   pub same_read : (n : ℕ) (files : List File) (parsed : List Parsed) (ns : Notes) → AreParsed files parsed → AreNotesWith words n files parsed ns → read ns ≡ read (notes_from n files parsed)
   same_read n [] [] ns parses are = ap read are

@@ -1,5 +1,5 @@
 -- A project with its notes: these are good, and the call that an id names in them is that of the project, and stands in its trees.
-use Rattle.std.proofs.Common.{◌≡◌, ℕ, ◌<◌, List, ◌++◌, length, sym, ap₂, ◌∙◌, subst, arith}
+use Rattle.std.proofs.Common.{◌≡◌, ℕ, ◌<◌, List, length, sym, ap₂, ◌∙◌, subst, arith}
 use Rattle.std.specs.Prelude.{Ok, Err}
 use Rattle.meson_lex.specs.declared.kinds.Span.{Span}
 use Rattle.meson_calls.specs.declared.call.CallRef.{CallRef}
@@ -12,11 +12,11 @@ use Rattle.meson_calls.specs.Calls.{Call}
 use Rattle.meson_calls.specs.Finding.{the_call}
 use Rattle.meson_calls.specs.Loading.{AreParsed, named_trees, views}
 use Rattle.meson_calls.specs.CodeVariables.{project_of}
-use Rattle.meson_calls.specs.NotedProjects.{IsNoted, IsNotedFor, project_in}
+use Rattle.meson_calls.specs.NotedProjects.{IsNotedFor, project_in}
 use Rattle.meson_calls.specs.Notes.{note_views}
 use Rattle.meson_calls.specs.OnePlace.{the_place}
 use Rattle.meson_calls.specs.Project.{Placed}
-use Rattle.meson_calls.specs.Spelling.{setter_words}
+use Rattle.meson_calls.specs.Spelling.{sought_words}
 use Rattle.meson_calls.specs.Strings.{NotesGood}
 use Rattle.meson_calls.proofs.CallLists.{inside}
 use Rattle.meson_calls.proofs.CallsFound.{calls_stand}
@@ -25,9 +25,9 @@ use Rattle.meson_calls.proofs.Loads.{as_many}
 use Rattle.meson_calls.proofs.NotesWith as with_words
 use Rattle.meson_calls.proofs.OneCall.{call_refused, call_there, place_is, placed_at}
 
-module _ {words : List (List ℕ)} (n : Noted) (is : IsNoted words n) where
+module _ {r : Role} {id : List ℕ} (n : Noted) (is : IsNotedFor r id n) where
   pub noted_good : NotesGood (note_views n.notes.now)
-  noted_good = with_words.good_with (words ++ setter_words) n.files.now n.trees.now (note_views n.notes.now) (project_good n.files.now n.trees.now is.whole.parsed) is.taken
+  noted_good = with_words.good_with (sought_words r id) n.files.now n.trees.now (note_views n.notes.now) (project_good n.files.now n.trees.now is.whole.parsed) is.taken
 
   pub trees_as_many : length n.trees.now ≡ length n.files.now
   trees_as_many = as_many n.files.now n.trees.now is.whole.parsed
@@ -36,7 +36,7 @@ module _ {words : List (List ℕ)} (n : Noted) (is : IsNoted words n) where
 
 module _ (n : Noted) (r : Role) (id : List ℕ) (is : IsNotedFor r id n) where
   pub same_place : placed_at (the_call (project_in n) r id) ≡ the_place r id (note_views n.notes.now)
-  same_place = sym (place_is r id (project_in n)) ∙ sym (with_words.same_place r id setter_words n.files.now n.trees.now (note_views n.notes.now) is.whole.parsed is.taken)
+  same_place = sym (place_is r id (project_in n)) ∙ sym (with_words.same_place r id n.files.now n.trees.now (note_views n.notes.now) is.whole.parsed is.taken)
 
   pub none_noted : (e : Refusal) → the_place r id (note_views n.notes.now) ≡ Err e → the_call (project_in n) r id ≡ Err e
   none_noted e why = call_refused (the_call (project_in n) r id) e (same_place ∙ why)

@@ -1,6 +1,7 @@
--- What is read off notes without the calls of files in which none of some words stands is what is read off all notes.
-use Rattle.std.proofs.Common.{◌≡◌, ℕ, ◌+◌, List, [], ◌∷◌, ◌++◌, false, codes, refl, sym, ap, ap₂, subst}
-use Rattle.std.specs.Prelude.{◌||◌, Bool, true, if◌then◌else◌}
+-- What is read off notes without the files in which none of some words stands is what is read off all notes.
+use Rattle.std.proofs.Common.{◌≡◌, ℕ, ◌+◌, List, [], ◌∷◌, ◌++◌, Bor, false, codes, refl, sym, ap, ap₂, subst}
+use Rattle.std.specs.Prelude.{◌||◌, Bool, true, bytes_eq, map, option_map, if◌then◌else◌}
+use Rattle.std.proofs.lemmas.Slice.Eq.{bytes_eq-Decides}
 use Rattle.std.proofs.lemmas.List.Elements.{All-head, All-tail}
 use Rattle.meson_lex.specs.declared.kinds.Span.{Span}
 use Rattle.meson_splice.specs.Patch.{then_ok}
@@ -10,20 +11,21 @@ use Rattle.meson_syntax.specs.View.{view}
 use Rattle.meson_calls.specs.declared.call.Role.{Role}
 use Rattle.meson_calls.specs.declared.call.Role.TheVariants as role
 use Rattle.meson_calls.specs.Calls.{chosen}
+use Rattle.meson_calls.specs.CodeVariables.{is_among}
 use Rattle.meson_calls.specs.Finding.{only_one}
 use Rattle.meson_calls.specs.Knowns.{has_unknown, is_unknown_in}
 use Rattle.meson_calls.specs.Loading.{AreParsed, named_trees, views}
 use Rattle.meson_calls.specs.Noted.{assigned_notes, is_set_by, note_assigned, note_sets}
-use Rattle.meson_calls.specs.Notes.{Note, a_call, is_statement, noted, notes, without_calls}
+use Rattle.meson_calls.specs.Notes.{Note, noted, notes}
 use Rattle.meson_calls.specs.OnePlace.{any_place, the_place}
 use Rattle.meson_calls.specs.Parts.{parts_of_file}
 use Rattle.meson_calls.specs.Picking.{assigned_places, found_places, note_has_name, note_has_role, note_sets_call, places_that, places_with_role}
 use Rattle.meson_calls.specs.Project.{Placed, child, placed}
 use Rattle.meson_calls.specs.Roles.{one_of, or_else, project_ids}
-use Rattle.meson_calls.specs.Spelling.{HasNone, HasNoneOf, AreNotesOf, whole, less, AreNotesWith, setter_words, sought_words}
-use Rattle.meson_calls.specs.Strings.{AreGood, NotesGood, note_words}
+use Rattle.meson_calls.specs.Spelling.{HasNone, HasNoneOf, AreNotesOf, whole, passed, AreNotesWith, setter_words, sought_words}
+use Rattle.meson_calls.specs.Strings.{NotesGood}
 use Rattle.meson_calls.proofs.NoteReadings.{Notes, notes_from, notes_after, same_read, any_gathers, none_passes, chosen_gathers, none_chosen, picked_gathers, none_picked}
-use Rattle.meson_calls.proofs.NothingRead.{calls_set_none, unknown_none, names_nothing, no_project}
+use Rattle.meson_calls.proofs.NothingRead.{assigned_none, names_nothing, no_project, sets_none, unknown_none, value_unnamed}
 
 -- ---- good notes
 
@@ -39,21 +41,11 @@ good_join : (xs ys : Notes) → NotesGood xs → NotesGood ys → NotesGood (xs 
 good_join [] ys a b = b
 good_join (x ∷ xs) ys a b = (a.0, good_join xs ys a.1 b)
 
-less_good : (n : Placed (Note Span)) (ns : Notes) (b : Bool) → AreGood (note_words n.it) → NotesGood ns → NotesGood (if b then n ∷ ns else ns)
-less_good n ns true here rest = (here, rest)
-less_good n ns false here rest = rest
-
-good_less : (ns : Notes) → NotesGood ns → NotesGood (without_calls ns)
-good_less [] good = tt
-good_less (n ∷ ns) good = less_good n (without_calls ns) (is_statement n.it) good.0 (good_less ns good.1)
-
 module _ (words : List (List ℕ)) where
   good_step : (n : ℕ) (f : File) (t : Parsed) (Further : Notes → Type 0) (ns : Notes) → NotesGood (noted (parts_of_file n (view f.bytes t))) → ((more : Notes) → Further more → NotesGood more)
       → AreNotesOf words n f t Further ns → NotesGood ns
   good_step n f t Further ns good rest (whole more further is) = subst NotesGood (sym is) (good_join (noted (parts_of_file n (view f.bytes t))) more good (rest more further))
-  good_step n f t Further ns good rest (less more none further is) =
-      let here = noted (parts_of_file n (view f.bytes t)) in
-      subst NotesGood (sym is) (good_join (without_calls here) more (good_less here good) (rest more further))
+  good_step n f t Further ns good rest (passed none further) = rest ns further
 
   good_from : (n : ℕ) (files : List File) (parsed : List Parsed) (ns : Notes) → NotesGood (notes_from n files parsed) → AreNotesWith words n files parsed ns → NotesGood ns
   good_from n [] parsed ns good are = subst NotesGood (sym are) tt
@@ -79,6 +71,17 @@ last_words : (bytes : List ℕ) (ws vs : List (List ℕ)) → HasNoneOf (ws ++ v
 last_words bytes [] vs none = none
 last_words bytes (w ∷ ws) vs none = last_words bytes ws vs (further_words bytes w (ws ++ vs) none)
 
+-- a word of the code's names
+named_word : (bytes : List ℕ) (names : List (Bor (List ℕ))) (vs : List (List ℕ)) (x : List ℕ) → HasNoneOf (map (λ name. name.now) names ++ vs) bytes → is_among names x ≡ true → HasNone x bytes
+named_word bytes [] vs x none among = absurd cc
+named_word bytes (y ∷ ys) vs x none among =
+    by (bytes_eq y.now x) (bytes_eq-Decides y.now x).0 among
+    (λ more. named_word bytes ys vs x (further_words bytes y.now (map (λ name. name.now) ys ++ vs) none) more)
+  where
+    by : (b : Bool) → (b ≡ true → y.now ≡ x) → (b || is_among ys x) ≡ true → (is_among ys x ≡ true → HasNone x bytes) → HasNone x bytes
+    by true same either more = subst (λ w. HasNone w bytes) (same refl) (first_word bytes y.now (map (λ name. name.now) ys ++ vs) none)
+    by false same either more = more either
+
 -- ---- what sets a variable
 
 module _ (ws : List (List ℕ)) (bytes : List ℕ) (none : HasNoneOf (ws ++ setter_words) bytes) where
@@ -88,57 +91,68 @@ module _ (ws : List (List ℕ)) (bytes : List ℕ) (none : HasNoneOf (ws ++ sett
   no_setter : HasNone (codes "set_variable") bytes
   no_setter = first_word bytes (codes "set_variable") [] (further_words bytes (codes "subdir") (codes "set_variable" ∷ []) (last_words bytes ws setter_words none))
 
-module _ (ws : List (List ℕ)) (files : List File) (parsed : List Parsed) (ns : Notes) (parses : AreParsed files parsed) (are : AreNotesWith (ws ++ setter_words) 0 files parsed ns) where
-  pub same_set : (x : List ℕ) → is_set_by x ns ≡ is_set_by x (notes (named_trees files (views files parsed)))
-  same_set x =
-      same_read (ws ++ setter_words) (is_set_by x) (λ a b. a || b) false (any_gathers (λ m. note_sets x m.it))
-      (λ bytes none p c stands. none_passes (λ k. note_sets x k.it) (placed p (a_call c)) (calls_set_none bytes x (no_setter ws bytes none) c stands)) 0 files parsed ns parses are
+module _ (names : List (Bor (List ℕ))) (files : List File) (parsed : List Parsed) (ns : Notes) (parses : AreParsed files parsed)
+    (are : AreNotesWith (map (λ name. name.now) names ++ setter_words) 0 files parsed ns) where
+  abbrev those : List (List ℕ)
+  those = map (λ (name : Bor (List ℕ)). name.now) names
 
-  pub same_assigned : (x : List ℕ) → assigned_notes x ns ≡ assigned_notes x (notes (named_trees files (views files parsed)))
-  same_assigned x =
-      same_read (ws ++ setter_words) (assigned_notes x) (λ a b. a ++ b) [] (chosen_gathers (chosen (note_assigned x)))
-      (λ bytes none p c stands. none_chosen (chosen (note_assigned x)) (placed p (a_call c)) refl) 0 files parsed ns parses are
+  pub same_set : (x : List ℕ) → is_among names x ≡ true → is_set_by x ns ≡ is_set_by x (notes (named_trees files (views files parsed)))
+  same_set x among =
+      same_read (those ++ setter_words) (is_set_by x) (λ a b. a || b) false (any_gathers (λ m. note_sets x m.it))
+      (λ bytes none n stands. none_passes (λ k. note_sets x k.it) n (sets_none bytes x (named_word bytes names setter_words x none among) (no_setter those bytes none) n.it stands))
+      0 files parsed ns parses are
 
-  pub same_unknown : (those : List File) → has_unknown those ns ≡ has_unknown those (notes (named_trees files (views files parsed)))
-  same_unknown those =
-      same_read (ws ++ setter_words) (has_unknown those) (λ a b. a || b) false (any_gathers (λ m. is_unknown_in those m.place m.it))
-      (λ bytes none p c stands. none_passes (λ k. is_unknown_in those k.place k.it) (placed p (a_call c)) (unknown_none bytes those (no_subdir ws bytes none) (no_setter ws bytes none) p (a_call c) stands))
+  pub same_assigned : (x : List ℕ) → is_among names x ≡ true → assigned_notes x ns ≡ assigned_notes x (notes (named_trees files (views files parsed)))
+  same_assigned x among =
+      same_read (those ++ setter_words) (assigned_notes x) (λ a b. a ++ b) [] (chosen_gathers (chosen (note_assigned x)))
+      (λ bytes none n stands.
+      none_chosen (chosen (note_assigned x)) n (ap (option_map (placed n.place)) (assigned_none bytes x (named_word bytes names setter_words x none among) n.it stands)))
+      0 files parsed ns parses are
+
+  pub same_unknown : (fs : List File) → has_unknown fs ns ≡ has_unknown fs (notes (named_trees files (views files parsed)))
+  same_unknown fs =
+      same_read (those ++ setter_words) (has_unknown fs) (λ a b. a || b) false (any_gathers (λ m. is_unknown_in fs m.place m.it))
+      (λ bytes none n stands. none_passes (λ k. is_unknown_in fs k.place k.it) n (unknown_none bytes fs (no_subdir those bytes none) (no_setter those bytes none) n.place n.it stands))
       0 files parsed ns parses are
 
 -- ---- what an id names
 
-module _ (r : Role) (id : List ℕ) (ws : List (List ℕ)) (files : List File) (parsed : List Parsed) (ns : Notes) (parses : AreParsed files parsed) where
-  pub same_named : AreNotesWith (id ∷ (92 ∷ []) ∷ ws) 0 files parsed ns → places_that (note_has_name r id) ns ≡ places_that (note_has_name r id) (notes (named_trees files (views files parsed)))
-  same_named are =
-      same_read (id ∷ (92 ∷ []) ∷ ws) (places_that (note_has_name r id)) (λ a b. a ++ b) [] (picked_gathers (λ m. m.place) (λ m. note_has_name r id m.it))
-      (λ bytes none p c stands.
-      none_picked (λ k. k.place) (λ k. note_has_name r id k.it) (placed p (a_call c))
-      (names_nothing bytes r id (first_word bytes id ((92 ∷ []) ∷ ws) none) (first_word bytes (92 ∷ []) ws (further_words bytes id ((92 ∷ []) ∷ ws) none)) (a_call c) stands))
-      0 files parsed ns parses are
+module _ (r : Role) (id : List ℕ) (files : List File) (parsed : List Parsed) (ns : Notes) (parses : AreParsed files parsed) where
+  module _ (are : AreNotesWith (id ∷ (92 ∷ []) ∷ []) 0 files parsed ns) where
+    pub same_named : places_that (note_has_name r id) ns ≡ places_that (note_has_name r id) (notes (named_trees files (views files parsed)))
+    same_named =
+        same_read (id ∷ (92 ∷ []) ∷ []) (places_that (note_has_name r id)) (λ a b. a ++ b) [] (picked_gathers (λ m. m.place) (λ m. note_has_name r id m.it))
+        (λ bytes none n stands.
+        none_picked (λ k. k.place) (λ k. note_has_name r id k.it) n
+        (names_nothing bytes r id (first_word bytes id ((92 ∷ []) ∷ []) none) (first_word bytes (92 ∷ []) [] (further_words bytes id ((92 ∷ []) ∷ []) none)) n.it stands))
+        0 files parsed ns parses are
 
-  same_values : (words : List (List ℕ)) → AreNotesWith words 0 files parsed ns → assigned_places r id ns ≡ assigned_places r id (notes (named_trees files (views files parsed)))
-  same_values words are =
-      same_read words (assigned_places r id) (λ a b. a ++ b) [] (picked_gathers (λ m. child m.place 0) (λ m. note_sets_call r id m.it))
-      (λ bytes none p c stands. none_picked (λ k. child k.place 0) (λ k. note_sets_call r id k.it) (placed p (a_call c)) refl) 0 files parsed ns parses are
+    same_values : assigned_places r id ns ≡ assigned_places r id (notes (named_trees files (views files parsed)))
+    same_values =
+        same_read (id ∷ (92 ∷ []) ∷ []) (assigned_places r id) (λ a b. a ++ b) [] (picked_gathers (λ m. child m.place 0) (λ m. note_sets_call r id m.it))
+        (λ bytes none n stands. none_picked (λ k. child k.place 0) (λ k. note_sets_call r id k.it) n (value_unnamed bytes r id (first_word bytes id ((92 ∷ []) ∷ []) none) n.it stands))
+        0 files parsed ns parses are
 
-same_projects : (ws : List (List ℕ)) (files : List File) (parsed : List Parsed) (ns : Notes) → AreParsed files parsed → AreNotesWith (codes "project" ∷ ws) 0 files parsed ns
+    pub named_found : or_else (places_that (note_has_name r id) ns) (assigned_places r id ns)
+        ≡ or_else (places_that (note_has_name r id) (notes (named_trees files (views files parsed)))) (assigned_places r id (notes (named_trees files (views files parsed))))
+    named_found = ap₂ or_else same_named same_values
+
+same_projects : (files : List File) (parsed : List Parsed) (ns : Notes) → AreParsed files parsed → AreNotesWith (codes "project" ∷ []) 0 files parsed ns
     → places_with_role role.Project ns ≡ places_with_role role.Project (notes (named_trees files (views files parsed)))
-same_projects ws files parsed ns parses are =
-    same_read (codes "project" ∷ ws) (places_with_role role.Project) (λ a b. a ++ b) [] (picked_gathers (λ m. m.place) (λ m. note_has_role role.Project m.it))
-    (λ bytes none p c stands. none_picked (λ k. k.place) (λ k. note_has_role role.Project k.it) (placed p (a_call c)) (no_project bytes (first_word bytes (codes "project") ws none) (a_call c) stands))
+same_projects files parsed ns parses are =
+    same_read (codes "project" ∷ []) (places_with_role role.Project) (λ a b. a ++ b) [] (picked_gathers (λ m. m.place) (λ m. note_has_role role.Project m.it))
+    (λ bytes none n stands. none_picked (λ k. k.place) (λ k. note_has_role role.Project k.it) n (no_project bytes (first_word bytes (codes "project") [] none) n.it stands))
     0 files parsed ns parses are
 
-pub same_found : (r : Role) (id : List ℕ) (ws : List (List ℕ)) (files : List File) (parsed : List Parsed) (ns : Notes) → AreParsed files parsed → AreNotesWith (sought_words r id ++ ws) 0 files parsed ns
+pub same_found : (r : Role) (id : List ℕ) (files : List File) (parsed : List Parsed) (ns : Notes) → AreParsed files parsed → AreNotesWith (sought_words r id) 0 files parsed ns
     → found_places r id ns ≡ found_places r id (notes (named_trees files (views files parsed)))
-same_found role.Target id ws files parsed ns parses are =
-    ap₂ or_else (same_named role.Target id ws files parsed ns parses are) (same_values role.Target id ws files parsed ns parses (sought_words role.Target id ++ ws) are)
-same_found role.Dependency id ws files parsed ns parses are =
-    ap₂ or_else (same_named role.Dependency id ws files parsed ns parses are) (same_values role.Dependency id ws files parsed ns parses (sought_words role.Dependency id ++ ws) are)
-same_found role.Project id ws files parsed ns parses are = ap (λ ps. if one_of project_ids id then ps else []) (same_projects ws files parsed ns parses are)
+same_found role.Target id files parsed ns parses are = named_found role.Target id files parsed ns parses are
+same_found role.Dependency id files parsed ns parses are = named_found role.Dependency id files parsed ns parses are
+same_found role.Project id files parsed ns parses are = ap (λ ps. if one_of project_ids id then ps else []) (same_projects files parsed ns parses are)
 
-pub same_place : (r : Role) (id : List ℕ) (ws : List (List ℕ)) (files : List File) (parsed : List Parsed) (ns : Notes) → AreParsed files parsed → AreNotesWith (sought_words r id ++ ws) 0 files parsed ns
+pub same_place : (r : Role) (id : List ℕ) (files : List File) (parsed : List Parsed) (ns : Notes) → AreParsed files parsed → AreNotesWith (sought_words r id) 0 files parsed ns
     → the_place r id ns ≡ the_place r id (notes (named_trees files (views files parsed)))
-same_place role.Target id ws files parsed ns parses are = ap only_one (same_found role.Target id ws files parsed ns parses are)
-same_place role.Dependency id ws files parsed ns parses are = ap only_one (same_found role.Dependency id ws files parsed ns parses are)
-same_place role.Project id ws files parsed ns parses are =
-    ap₂ (λ ps qs. then_ok (any_place ps) (λ _. only_one qs)) (same_projects ws files parsed ns parses are) (same_found role.Project id ws files parsed ns parses are)
+same_place role.Target id files parsed ns parses are = ap only_one (same_found role.Target id files parsed ns parses are)
+same_place role.Dependency id files parsed ns parses are = ap only_one (same_found role.Dependency id files parsed ns parses are)
+same_place role.Project id files parsed ns parses are =
+    ap₂ (λ ps qs. then_ok (any_place ps) (λ _. only_one qs)) (same_projects files parsed ns parses are) (same_found role.Project id files parsed ns parses are)

@@ -1,16 +1,15 @@
 -- Parts that are visited one after another.
-use Rattle.std.proofs.Common.{◌≡◌, ℕ, ◌+◌, ◌<◌, ◌≤◌, List, [], ◌∷◌, ◌++◌, length, drop, get_or, Bool, true, false, Option, Some, sym, ap, ◌∙◌, arith}
-use Rattle.std.specs.Prelude.{if◌then◌else◌}
+use Rattle.std.proofs.Common.{◌≡◌, ℕ, ◌+◌, ◌<◌, ◌≤◌, List, [], ◌∷◌, ◌++◌, length, drop, get_or, Option, Some, sym, ap, ◌∙◌, arith}
 use Rattle.std.proofs.lemmas.List.{append_assoc, append-nil, at_drop_more, at_drop_all}
-use Rattle.std.proofs.lemmas.List.Elements.{filter-append, filter_map-append}
+use Rattle.std.proofs.lemmas.List.Elements.{filter_map-append}
 use Rattle.std.proofs.lemmas.List.Sums.{fold-append}
 use Rattle.meson_lex.specs.declared.kinds.Span.{Span}
 use Rattle.meson_calls.specs.Parts.{Part}
 use Rattle.meson_calls.specs.Project.{Placed}
 use Rattle.meson_calls.specs.declared.call.CallRef.{CallRef}
 use Rattle.meson_calls.specs.Calls.{chosen}
-use Rattle.meson_calls.specs.Notes.{Note, is_statement, note_of, noted, without_calls}
-use Rattle.meson_calls.specs.Walks.{KeptParts, notes_kept, statements_kept, reads_kept, with_part, with_parts, notes_of_kept, reads_of_kept, read_at, read_in}
+use Rattle.meson_calls.specs.Notes.{Note, note_of, noted}
+use Rattle.meson_calls.specs.Walks.{KeptParts, notes_kept, reads_kept, with_part, with_parts, notes_of_kept, reads_of_kept, read_at, read_in}
 
 pub two_parts : (before middle after : KeptParts) (a b : List (Placed (Part Span))) → middle ≡ with_parts before a → after ≡ with_parts middle b → after ≡ with_parts before (a ++ b)
 two_parts before middle after a b first last = last ∙ ap (λ m. with_parts m b) first ∙ sym (fold-append with_part before a b)
@@ -58,17 +57,6 @@ notes_come ns (q ∷ ps) =
 pub notes_stay : (ns : List (Placed (Note Span))) (ps : List (Placed (Part Span))) → noted ps ≡ [] → notes_kept ns ≡ with_parts (notes_kept ns) ps
 notes_stay ns ps none = sym (notes_come ns ps ∙ ap (λ l. notes_kept (ns ++ l)) none ∙ ap notes_kept (append-nil ns))
 
-pub statements_come : (ns : List (Placed (Note Span))) (ps : List (Placed (Part Span))) → with_parts (statements_kept ns) ps ≡ statements_kept (ns ++ without_calls (noted ps))
-statements_come ns [] = ap statements_kept (sym (append-nil ns))
-statements_come ns (q ∷ ps) =
-    let here = noted (q ∷ []) in
-    statements_come (ns ++ without_calls here) ps
-    ∙ ap statements_kept (append_assoc ns (without_calls here) (without_calls (noted ps))
-    ∙ ap (λ l. ns ++ l) (sym (filter-append (λ (n : Placed (Note Span)). is_statement n.it) here (noted ps)) ∙ ap without_calls (sym (filter_map-append (chosen note_of) (q ∷ []) ps))))
-
-pub statements_stay : (ns : List (Placed (Note Span))) (ps : List (Placed (Part Span))) → without_calls (noted ps) ≡ [] → statements_kept ns ≡ with_parts (statements_kept ns) ps
-statements_stay ns ps none = sym (statements_come ns ps ∙ ap (λ l. statements_kept (ns ++ l)) none ∙ ap statements_kept (append-nil ns))
-
 reads_come : (x : List ℕ) (cs : List CallRef) (ps : List (Placed (Part Span))) → with_parts (reads_kept x cs) ps ≡ reads_kept x (cs ++ read_in x ps)
 reads_come x cs [] = ap (reads_kept x) (sym (append-nil cs))
 reads_come x cs (q ∷ ps) =
@@ -78,14 +66,9 @@ reads_come x cs (q ∷ ps) =
 pub all_noted : (found : Option (List (Placed (Note Span)))) (kept : KeptParts) (ps : List (Placed (Part Span))) → found ≡ notes_of_kept kept → kept ≡ with_parts (notes_kept []) ps → found ≡ Some (noted ps)
 all_noted found kept ps is comes = is ∙ ap notes_of_kept (comes ∙ notes_come [] ps)
 
--- all of them, or those of statements alone, behind others
-abbrev pub kept_with : Bool → List (Placed (Note Span)) → KeptParts
-kept_with calls ns = if calls then notes_kept ns else statements_kept ns
-
-pub more_noted : (calls : Bool) (ns : List (Placed (Note Span))) (found : Option (List (Placed (Note Span)))) (kept : KeptParts) (ps : List (Placed (Part Span))) → found ≡ notes_of_kept kept → kept ≡ with_parts (kept_with calls ns) ps
-    → found ≡ Some (ns ++ (if calls then noted ps else without_calls (noted ps)))
-more_noted true ns found kept ps is comes = is ∙ ap notes_of_kept (comes ∙ notes_come ns ps)
-more_noted false ns found kept ps is comes = is ∙ ap notes_of_kept (comes ∙ statements_come ns ps)
+-- behind others
+pub more_noted : (ns : List (Placed (Note Span))) (found : Option (List (Placed (Note Span)))) (kept : KeptParts) (ps : List (Placed (Part Span))) → found ≡ notes_of_kept kept → kept ≡ with_parts (notes_kept ns) ps → found ≡ Some (ns ++ noted ps)
+more_noted ns found kept ps is comes = is ∙ ap notes_of_kept (comes ∙ notes_come ns ps)
 
 pub all_read : (x : List ℕ) (found : Option (List CallRef)) (kept : KeptParts) (ps : List (Placed (Part Span))) → found ≡ reads_of_kept kept → kept ≡ with_parts (reads_kept x []) ps → found ≡ Some (read_in x ps)
 all_read x found kept ps is comes = is ∙ ap reads_of_kept (comes ∙ reads_come x [] ps)

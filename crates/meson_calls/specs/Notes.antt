@@ -1,5 +1,5 @@
 -- What all commands look at: the calls, assignments and loops of a project, with their places.
-use Rattle.std.specs.Prelude.{ℕ, Bool, true, false, List, map, filter, slice_range, Option, Some, None, option_map}
+use Rattle.std.specs.Prelude.{ℕ, Bool, List, map, slice_range, Option, Some, None, option_map}
 use Rattle.meson_lex.specs.declared.kinds.Span.{Span}
 use Rattle.meson_syntax.specs.Tree.{Name, Expression, Statement, evaluate, assign, selection, iteration, breaks, continues}
 use Rattle.meson_syntax.specs.View.{text_at, names_at, expr_view, list_view}
@@ -36,16 +36,6 @@ noted ps = all_chosen note_of ps
 
 abbrev pub notes : {S : Type 0} → Project S → List (Placed (Note S))
 notes p = noted (parts p)
-
--- ---- the assignments and loops among notes
-
-abbrev pub is_statement : {S : Type 0} → Note S → Bool
-is_statement (a_call c) = false
-is_statement (an_assignment x sets e) = true
-is_statement (a_loop xs) = true
-
-abbrev pub without_calls : {S : Type 0} → List (Placed (Note S)) → List (Placed (Note S))
-without_calls ns = filter (λ n. is_statement n.it) ns
 
 -- ---- what the code's notes stand for
 

@@ -1,4 +1,4 @@
--- Words that stand in the bytes of files, and notes that lack the calls of files in which none of some words stands.
+-- Words that stand in the bytes of files, and notes that lack the files in which none of some words stands.
 use Rattle.std.specs.Prelude.{◌≡◌, ◌≢◌, ℕ, ◌+◌, List, [], ◌∷◌, ◌++◌, All, codes}
 use Rattle.meson_lex.specs.declared.kinds.Span.{Span}
 use Rattle.meson_splice.specs.declared.file_set.File.{File}
@@ -8,7 +8,7 @@ use Rattle.meson_calls.specs.declared.call.Role.{Role}
 use Rattle.meson_calls.specs.declared.call.Role.TheVariants as role
 use Rattle.meson_calls.specs.Project.{Placed}
 use Rattle.meson_calls.specs.Parts.{parts_of_file}
-use Rattle.meson_calls.specs.Notes.{Note, noted, without_calls}
+use Rattle.meson_calls.specs.Notes.{Note, noted}
 
 -- no part of the bytes is the word
 abbrev pub HasNone : List ℕ → List ℕ → Type 0
@@ -20,13 +20,12 @@ HasNoneOf words bytes = All (λ word. HasNone word bytes) words
 
 -- ---- notes
 
--- Notes begin with all those of a file; or it has none of the words, and they begin with its assignments and loops.
+-- Notes begin with those of a file; or it has none of the words, and they have none of its.
 pub data AreNotesOf (words : List (List ℕ)) (n : ℕ) (f : File) (t : Parsed) (Further : List (Placed (Note Span)) → Type 0) (ns : List (Placed (Note Span))) : Type 0 where
   whole : (more : List (Placed (Note Span))) → Further more → ns ≡ noted (parts_of_file n (view f.bytes t)) ++ more → AreNotesOf words n f t Further ns
-  less : (more : List (Placed (Note Span))) → HasNoneOf words f.bytes → Further more → ns ≡ without_calls (noted (parts_of_file n (view f.bytes t))) ++ more
-      → AreNotesOf words n f t Further ns
+  passed : HasNoneOf words f.bytes → Further ns → AreNotesOf words n f t Further ns
 
--- Notes of files, of which the first has the number n; the calls of files that have none of the words may be missing.
+-- Notes of files, of which the first has the number n; those of files that have none of the words may be missing.
 abbrev pub AreNotesWith : List (List ℕ) → ℕ → List File → List Parsed → List (Placed (Note Span)) → Type 0
 AreNotesWith words n (f ∷ files) (t ∷ parsed) ns = AreNotesOf words n f t (AreNotesWith words (n + 1) files parsed) ns
 AreNotesWith words n _ _ ns = ns ≡ []

@@ -8,11 +8,11 @@ use Rattle.meson_syntax.specs.View.{expr_view}
 use Rattle.meson_calls.specs.declared.note.Note as code
 use Rattle.meson_calls.specs.declared.values.Value.{Value}
 use Rattle.meson_calls.specs.declared.values.Values.{Values}
-use Rattle.meson_calls.specs.Project.{child, Placed, place_at, placed}
+use Rattle.meson_calls.specs.Project.{child, Placed, place, place_at, placed}
 use Rattle.meson_calls.specs.Variables.{Assigned, only_value}
 
 abbrev pub value_view : Value → Placed (Expression Span)
-value_view v = placed (child (place_at v.place) 0) (expr_view v.source.now v.value.now)
+value_view v = placed (child (place v.file (v.statement ∷ [])) 0) (expr_view v.source.now v.value.now)
 
 -- an assignment of this value at the place of a note
 abbrev pub assignment : code.Note → Bool → Expression Span → Placed (Assigned Span)

@@ -13,7 +13,7 @@ use Rattle.meson_calls.specs.declared.part.Part.TheVariants as rust
 use Rattle.meson_calls.specs.declared.part.Walk.{Walk}
 use Rattle.meson_calls.specs.Project.{Placed, placed, place, child}
 use Rattle.meson_calls.specs.Parts.{Part, an_expression, a_statement, parts_of_expression, parts_of_statement, parts_of_block}
-use Rattle.meson_calls.specs.Notes.{Note, noted, taken_view, without_calls}
+use Rattle.meson_calls.specs.Notes.{Note, noted, taken_view}
 
 -- ---- where a variable is read
 
@@ -32,21 +32,18 @@ read_at x q = if part_reads x q.it then Some q.place else None
 abbrev pub read_in : {S : Type 0} → List ℕ → List (Placed (Part S)) → List CallRef
 read_in x ps = filter_map (read_at x) ps
 
--- ---- what is kept: the notes, those of statements, or the places where a variable is read
+-- ---- what is kept: the notes, or the places where a variable is read
 
 pub data KeptParts : Type 0 where
   notes_kept : List (Placed (Note Span)) → KeptParts
-  statements_kept : List (Placed (Note Span)) → KeptParts
   reads_kept : List ℕ → List CallRef → KeptParts
 
 abbrev pub keeper_view : Keeper → KeptParts
 keeper_view (keeper.Notes found) = notes_kept (taken_view found)
-keeper_view (keeper.Statements found) = statements_kept (taken_view found)
 keeper_view (keeper.Reads name found) = reads_kept name.now found.items
 
 abbrev pub with_part : KeptParts → Placed (Part Span) → KeptParts
 with_part (notes_kept ns) q = notes_kept (ns ++ noted (q ∷ []))
-with_part (statements_kept ns) q = statements_kept (ns ++ without_calls (noted (q ∷ [])))
 with_part (reads_kept x cs) q = reads_kept x (cs ++ read_in x (q ∷ []))
 
 abbrev pub with_parts : KeptParts → List (Placed (Part Span)) → KeptParts
@@ -54,12 +51,10 @@ with_parts kept ps = fold with_part kept ps
 
 abbrev pub notes_of_kept : KeptParts → Option (List (Placed (Note Span)))
 notes_of_kept (notes_kept ns) = Some ns
-notes_of_kept (statements_kept ns) = Some ns
 notes_of_kept (reads_kept x cs) = None
 
 abbrev pub reads_of_kept : KeptParts → Option (List CallRef)
 reads_of_kept (notes_kept ns) = None
-reads_of_kept (statements_kept ns) = None
 reads_of_kept (reads_kept x cs) = Some cs
 
 -- the parts come to what a keeper has

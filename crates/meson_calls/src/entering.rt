@@ -45,7 +45,7 @@ pub fn file_in(alloc: Global, name: &str, folder: &str) -> Result<Option<String>
 }
 
 /// The file that a note enters, if it enters one.
-fn entered(alloc: Global, name: &str, note: &Note<'_>) -> Result<Option<String>, AllocError>
+fn entered(alloc: Global, name: &str, note: &Note<'_, '_>) -> Result<Option<String>, AllocError>
     requires file { IsFileName name.now }
     requires good { AreGood (note_words (note_view note.now).it) }
     ensures { IfOk result (λ file. option_map string_bytes file ≡ note_enters name.now (note_view note.now).it) }
@@ -72,7 +72,7 @@ fn entered(alloc: Global, name: &str, note: &Note<'_>) -> Result<Option<String>,
 }
 
 /// The files that notes enter.
-fn all_entered(alloc: Global, name: &str, notes: &[Note<'_>]) -> Result<Vec<String>, AllocError>
+fn all_entered(alloc: Global, name: &str, notes: &[Note<'_, '_>]) -> Result<Vec<String>, AllocError>
     requires file { IsFileName name.now }
     requires good { NotesGood (note_views notes.now) }
     ensures { IfOk result (λ names. map string_bytes names.items ≡ entered_names name.now (note_views notes.now)) }

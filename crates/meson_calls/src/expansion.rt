@@ -177,7 +177,7 @@ impl<'t> Variables<'t> {
         ensures all { OnOk result (Meets marks.old (row_left (project_of self.now) left (expr_view site.entry.source.now first.now)
             (operands_of (operands_view site.entry.source.now rest.now)) (stand_at site.entry path.old.items slot)) marks.new) }
     {
-        if !self.is_sum(site.source, first, rest) {
+        if !self.is_sum(site.source, first, rest)? {
             return marks.miss(site.file);
         }
         match slot {
@@ -254,13 +254,14 @@ impl<'t> Variables<'t> {
         if marks.has_followed(name) || left == 0 {
             return marks.miss(file);
         }
-        match self.single(name) {
+        match self.single(name)? {
             Some(value) => {
-                let mut path = Vec::from_slice(self.alloc, value.place.path)?;
+                let mut path = Vec::new(self.alloc);
+                path.push(value.statement)?;
                 path.push(0)?;
                 marks.follow(name)?;
                 let site = Site {
-                    file: value.place.file,
+                    file: value.file,
                     source: value.source,
                     variable: Some(identifier_text(name)),
                 };

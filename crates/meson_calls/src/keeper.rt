@@ -8,8 +8,6 @@ use crate::taken::Taken;
 pub enum Keeper<'t> {
     /// The calls, assignments and loops.
     Notes(Taken<'t>),
-    /// The assignments and loops.
-    Statements(Taken<'t>),
     /// The places of the identifiers that are this variable.
     Reads { name: &'t [u8], found: Vec<CallRef> },
 }

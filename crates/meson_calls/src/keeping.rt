@@ -3,7 +3,7 @@
 ghost use Rattle.std.specs.Prelude.{◌≡◌, ◌∷◌, [], ◌++◌, IsTrue, OnOk, option_map};
 ghost use Rattle.meson_syntax.specs.View.{expr_view};
 ghost use Rattle.meson_calls.specs.declared.call.CallRef.{CallRef};
-ghost use Rattle.meson_calls.specs.Notes.{note_of, noted, taken_view, what_view, without_calls};
+ghost use Rattle.meson_calls.specs.Notes.{note_of, noted, taken_view, what_view};
 ghost use Rattle.meson_calls.specs.Parts.{parts_of_expression};
 ghost use Rattle.meson_calls.specs.Picking.{Source};
 ghost use Rattle.meson_calls.specs.Variables.{is_set};
@@ -86,7 +86,6 @@ impl<'t> Keeper<'t> {
     {
         match self {
             Keeper::Notes(_) => is_plain(expr),
-            Keeper::Statements(_) => true,
             Keeper::Reads { name: _, found: _ } => false,
         }
     }
@@ -97,7 +96,6 @@ impl<'t> Keeper<'t> {
     {
         match self {
             Keeper::Notes(found) => Some(found),
-            Keeper::Statements(found) => Some(found),
             Keeper::Reads { name: _, found: _ } => None,
         }
     }
@@ -108,7 +106,6 @@ impl<'t> Keeper<'t> {
     {
         match self {
             Keeper::Notes(_) => None,
-            Keeper::Statements(_) => None,
             Keeper::Reads { name: _, found } => Some(found),
         }
     }
@@ -155,22 +152,6 @@ impl<'t> Walk<'t> {
         Ok(())
     }
 
-    /// Keeps a note of the part at the path, if it is an assignment or a loop.
-    fn keep_statement(
-        &self,
-        path: &[usize],
-        part: Part<'t>,
-        found: &mut Taken<'t>,
-    ) -> Result<(), AllocError>
-        ensures { OnOk result (taken_view found.new
-            ≡ taken_view found.old ++ without_calls (noted (part_at self.now path.now part.entry ∷ []))) }
-    {
-        match part {
-            Part::Expression(_) => Ok(()),
-            Part::Statement(_) => self.keep_note(path, part, found),
-        }
-    }
-
     /// Keeps the place of the part at the path, if it is the variable.
     fn keep_read(
         &self,
@@ -199,7 +180,6 @@ impl<'t> Walk<'t> {
     {
         match keeper {
             Keeper::Notes(found) => self.keep_note(path, part, found),
-            Keeper::Statements(found) => self.keep_statement(path, part, found),
             Keeper::Reads { name, found } => self.keep_read(path, part, name, found),
         }
     }

@@ -91,7 +91,7 @@ fn is_unknown(
     alloc: Global,
     files: &FileSet,
     names: &HashSet<&str>,
-    note: &Note<'_>,
+    note: &Note<'_, '_>,
 ) -> Result<bool, AllocError>
     requires named { All HasFileName files.now }
     requires names { AreFileNames names.now files.now }
@@ -122,7 +122,7 @@ fn is_unknown(
 }
 
 /// Whether no call may set any variable.
-pub fn all_known(alloc: Global, files: &FileSet, notes: &[Note<'_>]) -> Result<bool, AllocError>
+pub fn all_known(alloc: Global, files: &FileSet, notes: &[Note<'_, '_>]) -> Result<bool, AllocError>
     requires named { All HasFileName files.now }
     requires good { NotesGood (note_views notes.now) }
     ensures { IfOk result (λ known. known ≡ not (has_unknown files.now (note_views notes.now))) }

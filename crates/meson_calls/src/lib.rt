@@ -20,6 +20,7 @@ pub mod loading;
 pub mod looking;
 pub mod marks;
 pub mod meeting;
+pub mod mentions;
 pub mod naming;
 pub mod note;
 pub mod noted;

@@ -18,7 +18,7 @@ use meson_syntax::Expr;
 use std::alloc::{AllocError, Global};
 
 /// Whether a note is a call of a role and a name.
-fn has_name(alloc: Global, role: Role, id: &str, note: &Note<'_>) -> Result<bool, AllocError>
+fn has_name(alloc: Global, role: Role, id: &str, note: &Note<'_, '_>) -> Result<bool, AllocError>
     requires { AreGood (note_words (note_view note.now).it) }
     ensures { IfOk result (λ b. b ≡ note_has_name role id.now (note_view note.now).it) }
 {
@@ -53,7 +53,7 @@ pub fn is_role_call(role: Role, source: &[u8], expr: &Expr) -> bool
 }
 
 /// Whether a note sets the variable to a call of a role.
-fn sets_call(role: Role, id: &str, note: &Note<'_>) -> bool
+fn sets_call(role: Role, id: &str, note: &Note<'_, '_>) -> bool
     ensures { result ≡ note_sets_call role id.now (note_view note.now).it }
 {
     match note.what {
@@ -70,7 +70,7 @@ pub fn with_name(
     alloc: Global,
     role: Role,
     id: &str,
-    notes: &[Note<'_>],
+    notes: &[Note<'_, '_>],
 ) -> Result<Vec<CallRef>, AllocError>
     requires { NotesGood (note_views notes.now) }
     ensures { IfOk result (λ found. found.items ≡ places_that (note_has_name role id.now) (note_views notes.now)) }
@@ -91,7 +91,7 @@ fn assigned_to(
     alloc: Global,
     role: Role,
     id: &str,
-    notes: &[Note<'_>],
+    notes: &[Note<'_, '_>],
 ) -> Result<Vec<CallRef>, AllocError>
     ensures { IfOk result (λ found. found.items ≡ assigned_places role id.now (note_views notes.now)) }
 {
@@ -117,7 +117,7 @@ pub fn found(
     alloc: Global,
     role: Role,
     id: &str,
-    notes: &[Note<'_>],
+    notes: &[Note<'_, '_>],
 ) -> Result<Vec<CallRef>, AllocError>
     requires { NotesGood (note_views notes.now) }
     ensures { IfOk result (λ found. found.items ≡ found_places role id.now (note_views notes.now)) }

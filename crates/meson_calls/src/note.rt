@@ -24,8 +24,8 @@ pub enum What<'t> {
 
 /// The same with its place, and the source in which it stands.
 #[derive(Clone, Copy)]
-pub struct Note<'t> {
-    pub place: Place<'t>,
+pub struct Note<'p, 't> {
+    pub place: Place<'p>,
     pub source: &'t [u8],
     pub what: What<'t>,
 }

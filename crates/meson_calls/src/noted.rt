@@ -9,5 +9,5 @@ use meson_syntax::Parsed;
 pub struct Noted<'p> {
     pub files: &'p FileSet,
     pub trees: &'p [Parsed],
-    pub notes: &'p [Note<'p>],
+    pub notes: &'p [Note<'p, 'p>],
 }

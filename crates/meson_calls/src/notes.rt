@@ -1,13 +1,12 @@
 //! The notes of a project.
 
-ghost use Rattle.std.specs.Prelude.{◌≡◌, ◌++◌, if◌then◌else◌, IfOk};
+ghost use Rattle.std.specs.Prelude.{◌≡◌, ◌++◌, if◌then◌else◌, IfOk, map};
 ghost use Rattle.meson_syntax.specs.Reads.{IsSpanned};
 ghost use Rattle.meson_syntax.specs.View.{view};
 ghost use Rattle.meson_calls.specs.Parts.{parts_of_file};
 ghost use Rattle.meson_calls.specs.Loading.{AreParsed, named_trees, views};
-ghost use Rattle.meson_calls.specs.Notes.{noted, notes, taken_view, without_calls};
+ghost use Rattle.meson_calls.specs.Notes.{noted, notes, taken_view};
 ghost use Rattle.meson_calls.specs.Spelling.{AreNotesWith, setter_words, sought_words};
-ghost use Rattle.meson_calls.specs.Walks.{keeper_view, notes_kept, statements_kept};
 
 use crate::call::Role;
 use crate::keeper::Keeper;
@@ -59,31 +58,23 @@ pub fn notes_of<'t>(
     }
 }
 
-/// What a walk keeps behind the notes so far: all notes, or those of assignments and loops.
-fn keeper_of(calls: bool, taken: Taken<'_>) -> Keeper<'_>
-    ensures { let so_far = taken_view taken.entry in keeper_view result ≡ (if calls then notes_kept so_far else statements_kept so_far) }
-{
-    if calls {
-        Keeper::Notes(taken)
-    } else {
-        Keeper::Statements(taken)
-    }
-}
-
-/// The notes so far, and behind them those of a file: all, or those of its assignments and loops.
+/// The notes so far, and behind them those of a file, if it is asked for.
 fn with_file<'t>(
     alloc: Global,
     file: usize,
     source: &'t [u8],
     parsed: &'t Parsed,
-    calls: bool,
+    asked: bool,
     taken: Taken<'t>,
 ) -> Result<Taken<'t>, AllocError>
     requires { IsSpanned source.now (view source.now parsed.now) }
-    ensures { let here = noted (parts_of_file file (view source.entry.now parsed.entry.now)) in
-        IfOk result (λ found. taken_view found ≡ taken_view taken.entry ++ (if calls then here else without_calls here)) }
+    ensures { let before = taken_view taken.entry in let here = noted (parts_of_file file (view source.entry.now parsed.entry.now)) in
+        IfOk result (λ found. taken_view found ≡ (if asked then before ++ here else before)) }
 {
-    let mut keeper = keeper_of(calls, taken);
+    if !asked {
+        return Ok(taken);
+    }
+    let mut keeper = Keeper::Notes(taken);
     walk_file(alloc, file, source, parsed, &mut keeper)?;
     match keeper.notes() {
         Some(found) => Ok(found),
@@ -91,7 +82,7 @@ fn with_file<'t>(
     }
 }
 
-/// The notes of all files, without the calls of those in which none of the words stands.
+/// The notes of all files but those in which none of the words stands.
 fn notes_with<'t>(
     alloc: Global,
     words: &Words<'_>,
@@ -104,19 +95,13 @@ fn notes_with<'t>(
     let mut taken = Taken::new(alloc);
     for i in 0..trees.len() {
         let source = files.bytes(i);
-        taken = with_file(
-            alloc,
-            i,
-            source,
-            &trees[i],
-            words.may_stand_in(source),
-            taken,
-        )?;
+        let asked = words.may_stand_in(source);
+        taken = with_file(alloc, i, source, &trees[i], asked, taken)?;
     }
     Ok(taken)
 }
 
-/// The notes by which an id is found, and what variables stand for: the calls of files that can tell nothing of either are left out.
+/// The notes by which an id is found: those of files that can tell nothing of it are left out.
 ///
 /// # Errors
 /// Memory was refused.
@@ -128,24 +113,26 @@ pub fn notes_for<'t>(
     trees: &'t [Parsed],
 ) -> Result<Taken<'t>, AllocError>
     requires { AreParsed files.now trees.now }
-    ensures { IfOk result (λ found. AreNotesWith (sought_words role id.now ++ setter_words) 0 files.now trees.now (taken_view found)) }
+    ensures { IfOk result (λ found. AreNotesWith (sought_words role id.now) 0 files.now trees.now (taken_view found)) }
 {
     let words = Words::of_id(alloc, role, id)?;
     notes_with(alloc, &words, files, trees)
 }
 
-/// The notes by which variables stand for something.
+/// The notes by which these variables stand for something: those of files that can tell nothing of them are left out.
 ///
 /// # Errors
 /// Memory was refused.
-pub fn setter_notes<'t>(
+pub fn notes_naming<'t>(
     alloc: Global,
+    names: &[&[u8]],
     files: &'t FileSet,
     trees: &'t [Parsed],
 ) -> Result<Taken<'t>, AllocError>
     requires { AreParsed files.now trees.now }
-    ensures { IfOk result (λ found. AreNotesWith setter_words 0 files.now trees.now (taken_view found)) }
+    ensures { let words = map (λ name. name.now) names.now ++ setter_words in
+        IfOk result (λ found. AreNotesWith words 0 files.now trees.now (taken_view found)) }
 {
-    let words = Words::of_setters(alloc)?;
+    let words = Words::of_names(alloc, names)?;
     notes_with(alloc, &words, files, trees)
 }

@@ -83,7 +83,7 @@ impl<'t> Values<'t> {
     }
 
     /// Forgets what a loop or a `set_variable` sets.
-    fn forget_set(&mut self, alloc: Global, note: &Note<'_>) -> Result<(), AllocError>
+    fn forget_set(&mut self, alloc: Global, note: &Note<'_, '_>) -> Result<(), AllocError>
         requires { AreGood (note_words (note_view note.now).it) }
         ensures { OnOk result ((x : Source) → value_in self.new x ≡ (if note_sets x (note_view note.now).it then None else value_in self.old x)) }
     {
@@ -101,7 +101,7 @@ impl<'t> Values<'t> {
     }
 
     /// Forgets what loops and `set_variable` set.
-    fn forget_all_set(&mut self, alloc: Global, notes: &[Note<'_>]) -> Result<(), AllocError>
+    fn forget_all_set(&mut self, alloc: Global, notes: &[Note<'_, '_>]) -> Result<(), AllocError>
         requires { NotesGood (note_views notes.now) }
         ensures { OnOk result ((x : Source) → value_in self.new x ≡ (if is_set_by x (note_views notes.now) then None else value_in self.old x)) }
     {
@@ -115,7 +115,7 @@ impl<'t> Values<'t> {
     ///
     /// # Errors
     /// Memory was refused.
-    pub fn by_notes(alloc: Global, notes: &[Note<'t>]) -> Result<Values<'t>, AllocError>
+    pub fn by_notes(alloc: Global, notes: &[Note<'_, 't>]) -> Result<Values<'t>, AllocError>
         requires { NotesGood (note_views notes.now) }
         ensures { IfOk result (λ values. (x : Source) → value_in values x
             ≡ (if is_set_by x (note_views notes.now) then None else only_value (assigned_notes x (note_views notes.now)))) }

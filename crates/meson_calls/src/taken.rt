@@ -53,7 +53,7 @@ impl<'t> Taken<'t> {
     }
 
     /// The notes, whose paths stand here.
-    pub fn all(&self, alloc: Global) -> Result<Vec<Note<'_>>, AllocError>
+    pub fn all(&self, alloc: Global) -> Result<Vec<Note<'_, 't>>, AllocError>
         ensures { IfOk result (λ all. note_views all.items ≡ taken_view self.now) }
     {
         let mut all = Vec::with_capacity(alloc, self.notes.len())?;

@@ -15,10 +15,11 @@ use meson_syntax::Expr;
 use std::alloc::{AllocError, Global};
 use std::collections::HashMap;
 
-/// The value of an assignment, with the assignment's place.
+/// The value of an assignment outside `if` and `foreach`, with the file and the number of its statement there.
 #[derive(Clone, Copy)]
 pub struct Value<'t> {
-    pub place: Place<'t>,
+    pub file: usize,
+    pub statement: usize,
     pub source: &'t [u8],
     pub value: &'t Expr,
 }
@@ -37,12 +38,13 @@ fn is_outermost(place: Place<'_>) -> bool
 }
 
 /// The value of the only assignment to a variable, where it is given with `=` outside `if` and `foreach`.
-fn outermost<'t>(note: &Note<'t>, sets: bool, value: &'t Expr) -> Option<Value<'t>>
+fn outermost<'t>(note: &Note<'_, 't>, sets: bool, value: &'t Expr) -> Option<Value<'t>>
     ensures { option_map value_view result ≡ only_value (assignment note.now sets (expr_view note.now.source.now value.now) ∷ []) }
 {
     if sets && is_outermost(note.place) {
         Some(Value {
-            place: note.place,
+            file: note.place.file,
+            statement: note.place.path[0],
             source: note.source,
             value,
         })
@@ -79,7 +81,7 @@ impl<'t> Values<'t> {
     }
 
     /// Meets what a note assigns.
-    fn meet(&mut self, note: &Note<'t>) -> Result<(), AllocError>
+    fn meet(&mut self, note: &Note<'_, 't>) -> Result<(), AllocError>
         ensures { OnOk result ((x : List ℕ) → met_in self.new x ≡ with_assigned (met_in self.old x) (chosen (note_assigned x) (note_view note.now))) }
     {
         match note.what {
@@ -94,7 +96,7 @@ impl<'t> Values<'t> {
     ///
     /// # Errors
     /// Memory was refused.
-    pub fn assigned(alloc: Global, notes: &[Note<'t>]) -> Result<Values<'t>, AllocError>
+    pub fn assigned(alloc: Global, notes: &[Note<'_, 't>]) -> Result<Values<'t>, AllocError>
         ensures { IfOk result (λ values. (x : List ℕ) → met_in values x ≡ taken (assigned_notes x (note_views notes.now))) }
     {
         let mut values = Values::new(alloc);

@@ -1,77 +1,201 @@
 //! What the variables of a project stand for.
 
+ghost use Rattle.std.specs.Prelude.{◌≡◌, ℕ, List, not, true, All, IfOk, IfSome, IsTrue, option_map};
+ghost use Rattle.meson_calls.specs.CodeVariables.{AreVariables, is_among, is_sought, project_of};
+ghost use Rattle.meson_calls.specs.Knowns.{has_unknown};
+ghost use Rattle.meson_calls.specs.Loading.{HasFileName, IsProject, loaded_from, project};
+ghost use Rattle.meson_calls.specs.Noted.{by_notes};
+ghost use Rattle.meson_calls.specs.Notes.{note_views};
+ghost use Rattle.meson_calls.specs.Strings.{NotesGood};
+ghost use Rattle.meson_calls.specs.Values.{value_in, value_view};
+ghost use Rattle.meson_calls.specs.Variables.{single};
+
+use crate::arriving::arguments_of;
+use crate::call::CallRef;
 use crate::known::all_known;
+use crate::mentions::{Mentions, is_among};
 use crate::note::Note;
-use crate::noted::Noted;
+use crate::notes::{notes_naming, notes_of};
 use crate::values::{Value, Values};
 use meson_splice::FileSet;
 use meson_syntax::Parsed;
 use std::alloc::{AllocError, Global};
 
-/// The variables of a project, with their values by name.
+/// Of which variables the values are at hand.
+#[derive(Drop)]
+pub enum Sought<'t> {
+    All,
+    These(Vec<&'t [u8]>),
+}
+
+impl<'t> Sought<'t> {
+    /// Whether a variable is one of these.
+    fn has(&self, name: &[u8]) -> bool
+        ensures { result ≡ is_sought self.now name.now }
+    {
+        match self {
+            Sought::All => true,
+            Sought::These(names) => is_among(names.as_slice(), name),
+        }
+    }
+}
+
+/// The variables of a project. The values of those that a command follows are at hand; others are looked for when they are asked for.
 #[derive(Drop)]
 pub struct Variables<'t> {
     pub alloc: Global,
     pub files: &'t FileSet,
     pub trees: &'t [Parsed],
+    sought: Sought<'t>,
     values: Values<'t>,
 }
 
-impl<'t> Variables<'t> {
-    ghost use Rattle.std.specs.Prelude.{◌≡◌, ℕ, List, not, All, IfOk, option_map};
-    ghost use Rattle.meson_calls.specs.Knowns.{has_unknown};
-    ghost use Rattle.meson_calls.specs.Loading.{HasFileName};
-    ghost use Rattle.meson_calls.specs.Noted.{by_notes};
-    ghost use Rattle.meson_calls.specs.Notes.{note_views};
-    ghost use Rattle.meson_calls.specs.Strings.{NotesGood};
-    ghost use Rattle.meson_calls.specs.Values.{value_in, value_view};
-    ghost use Rattle.meson_calls.specs.Variables.{single};
-    ghost use Rattle.meson_calls.specs.CodeVariables.{AreVariables, project_of};
-    ghost use Rattle.meson_calls.specs.NotedProjects.{IsNotedForVariables};
+/// The values by the notes of files: none where a call may set any variable.
+fn known_values<'t>(
+    alloc: Global,
+    files: &FileSet,
+    found: &[Note<'_, 't>],
+) -> Result<Values<'t>, AllocError>
+    requires named { All HasFileName files.now }
+    requires good { NotesGood (note_views found.now) }
+    ensures { IfOk result (λ values. (x : List ℕ) → value_in values x
+        ≡ by_notes x (not (has_unknown files.now (note_views found.now))) (note_views found.now)) }
+{
+    if all_known(alloc, files, found)? {
+        let values = Values::by_notes(alloc, found)?;
+        Ok(values)
+    } else {
+        Ok(Values::new(alloc))
+    }
+}
 
-    /// The values by the notes of files: none where a call may set any variable.
-    fn known_values(
+/// The values of all variables.
+fn all_values<'t>(
+    alloc: Global,
+    files: &'t FileSet,
+    trees: &'t [Parsed],
+) -> Result<Values<'t>, AllocError>
+    requires { IsProject (loaded_from files.now trees.now) }
+    ensures { IfOk result (λ values. (x : List ℕ) → value_in values x ≡ single (project (loaded_from files.now trees.now)) x) }
+{
+    let taken = notes_of(alloc, files, trees)?;
+    let notes = taken.all(alloc)?;
+    known_values(alloc, files, notes.as_slice())
+}
+
+/// The values of these variables. Of others no value is meant.
+fn some_values<'t>(
+    alloc: Global,
+    files: &'t FileSet,
+    trees: &'t [Parsed],
+    names: &[&[u8]],
+) -> Result<Values<'t>, AllocError>
+    requires { IsProject (loaded_from files.now trees.now) }
+    ensures { let p = project (loaded_from files.now trees.now) in
+        IfOk result (λ values. (x : List ℕ) → IsTrue (is_among names.now x) → value_in values x ≡ single p x) }
+{
+    let taken = notes_naming(alloc, names, files, trees)?;
+    let notes = taken.all(alloc)?;
+    known_values(alloc, files, notes.as_slice())
+}
+
+/// The variables that are followed from the arguments of the call at a place on; none where there is none.
+fn mentioned<'t>(
+    alloc: Global,
+    files: &'t FileSet,
+    trees: &'t [Parsed],
+    call: &CallRef,
+) -> Result<Mentions<'t>, AllocError>
+    requires { IsProject (loaded_from files.now trees.now) }
+{
+    let mut mentions = Mentions::new(alloc);
+    if call.file < trees.len() {
+        if let Some(expr) = trees[call.file].expr_at(&call.path) {
+            if let Some(arguments) = arguments_of(expr) {
+                mentions.meet_call(files.bytes(call.file), arguments)?;
+            }
+        }
+    }
+    Ok(mentions)
+}
+
+impl<'t> Variables<'t> {
+    /// Those of a project: the values of these variables are at hand, if they are few and name no others.
+    fn of_few(
         alloc: Global,
-        files: &FileSet,
-        found: &[Note<'t>],
-    ) -> Result<Values<'t>, AllocError>
-        requires named { All HasFileName files.now }
-        requires good { NotesGood (note_views found.now) }
-        ensures { IfOk result (λ values. (x : List ℕ) → value_in values x
-            ≡ by_notes x (not (has_unknown files.now (note_views found.now))) (note_views found.now)) }
+        files: &'t FileSet,
+        trees: &'t [Parsed],
+        mentions: &Mentions<'t>,
+    ) -> Result<Option<Variables<'t>>, AllocError>
+        requires { IsProject (loaded_from files.now trees.now) }
+        ensures holds { IfOk result (λ o. IfSome o AreVariables) }
+        ensures files { IfOk result (λ o. IfSome o (λ v. v.files.now ≡ files.now)) }
+        ensures trees { IfOk result (λ o. IfSome o (λ v. v.trees.now ≡ trees.now)) }
     {
-        if all_known(alloc, files, found)? {
-            let values = Values::by_notes(alloc, found)?;
-            Ok(values)
+        if mentions.are_many() {
+            return Ok(None);
+        }
+        let names = Vec::from_slice(alloc, mentions.names())?;
+        let values = some_values(alloc, files, trees, names.as_slice())?;
+        let mut further = Mentions::new(alloc);
+        further.meet_values(names.as_slice(), &values)?;
+        if further.names().is_empty() {
+            Ok(Some(Variables {
+                alloc,
+                files,
+                trees,
+                sought: Sought::These(names),
+                values,
+            }))
         } else {
-            Ok(Values::new(alloc))
+            Ok(None)
         }
     }
 
-    /// Those of a project with its notes.
+    /// Those of a project. The values are at hand of all variables that are followed from the arguments of a call on.
     ///
     /// # Errors
     /// Memory was refused.
-    pub fn of(alloc: Global, noted: &Noted<'t>) -> Result<Variables<'t>, AllocError>
-        requires { IsNotedForVariables noted.now }
+    pub fn near(
+        alloc: Global,
+        files: &'t FileSet,
+        trees: &'t [Parsed],
+        call: &CallRef,
+    ) -> Result<Variables<'t>, AllocError>
+        requires { IsProject (loaded_from files.now trees.now) }
         ensures holds { IfOk result AreVariables }
-        ensures files { IfOk result (λ v. v.files.now ≡ noted.now.files.now) }
-        ensures trees { IfOk result (λ v. v.trees.now ≡ noted.now.trees.now) }
+        ensures files { IfOk result (λ v. v.files.now ≡ files.now) }
+        ensures trees { IfOk result (λ v. v.trees.now ≡ trees.now) }
     {
-        let values = Self::known_values(alloc, noted.files, noted.notes)?;
-        Ok(Variables {
-            alloc,
-            files: noted.files,
-            trees: noted.trees,
-            values,
-        })
+        let mentions = mentioned(alloc, files, trees, call)?;
+        match Self::of_few(alloc, files, trees, &mentions)? {
+            Some(variables) => Ok(variables),
+            None => {
+                let values = all_values(alloc, files, trees)?;
+                Ok(Variables {
+                    alloc,
+                    files,
+                    trees,
+                    sought: Sought::All,
+                    values,
+                })
+            }
+        }
     }
 
     /// The one expression that a variable stands for.
-    pub fn single(&self, name: &[u8]) -> Option<Value<'t>>
+    ///
+    /// # Errors
+    /// Memory was refused.
+    pub fn single(&self, name: &[u8]) -> Result<Option<Value<'t>>, AllocError>
         requires { AreVariables self.now }
-        ensures { option_map value_view result ≡ single (project_of self.now) name.now }
+        ensures { IfOk result (λ found. option_map value_view found ≡ single (project_of self.now) name.now) }
     {
-        self.values.of(name)
+        if self.sought.has(name) {
+            return Ok(self.values.of(name));
+        }
+        let names = [name];
+        let values = some_values(self.alloc, self.files, self.trees, names.as_slice())?;
+        Ok(values.of(name))
     }
 }

@@ -39,7 +39,7 @@ pub(crate) struct Holdings {
 }
 
 /// Whether a note is one of a call of this function.
-fn is_call_of(function: &[u8], note: &Note<'_>) -> bool
+fn is_call_of(function: &[u8], note: &Note<'_, '_>) -> bool
     ensures { result ≡ note_calls function.now (note_view note.now).it }
 {
     match note.what {
@@ -49,7 +49,7 @@ fn is_call_of(function: &[u8], note: &Note<'_>) -> bool
 }
 
 /// The places of the calls of a function.
-fn calls_of(alloc: Global, function: &[u8], notes: &[Note<'_>]) -> Result<Vec<CallRef>, AllocError>
+fn calls_of(alloc: Global, function: &[u8], notes: &[Note<'_, '_>]) -> Result<Vec<CallRef>, AllocError>
     ensures { IfOk result (λ found. found.items ≡ places_that (note_calls function.now) (note_views notes.now)) }
 {
     let mut found = Vec::new(alloc);

@@ -4,9 +4,9 @@ ghost use Rattle.std.specs.Prelude.{◌≡◌, ◌≢◌, ◌++◌, List, ℕ, S
 ghost use Rattle.meson_splice.specs.Patch.{patched_all};
 ghost use Rattle.meson_layout.specs.Laws.{AreTexts};
 ghost use Rattle.meson_calls.specs.Loading.{IsProject, Loaded, MayNotLoad, project};
-ghost use Rattle.meson_calls.specs.NotedProjects.{IsNoted, loaded_in};
+ghost use Rattle.meson_calls.specs.NotedProjects.{IsNotedFor, loaded_in};
 ghost use Rattle.meson_calls.specs.Notes.{note_views, taken_view};
-ghost use Rattle.meson_calls.specs.Spelling.{AreNotesWith, setter_words, sought_words};
+ghost use Rattle.meson_calls.specs.Spelling.{AreNotesWith, sought_words};
 ghost use Rattle.meson_steps.specs.Done.{IsDone, MayNotBeDone};
 ghost use Rattle.meson_steps.specs.Working.{IsFresh, Restores, so_far};
 ghost use Rattle.meson_plan.specs.Performing.{KeepsUntouched, MayRefuse, Performs};
@@ -29,7 +29,7 @@ use meson_calls::looking::is_target;
 use meson_calls::naming::found;
 use meson_calls::note::Note;
 use meson_calls::noted::Noted;
-use meson_calls::notes::{notes_for, notes_of, setter_notes};
+use meson_calls::notes::{notes_for, notes_of};
 use meson_calls::picking::with_role;
 use meson_calls::taken::Taken;
 use meson_calls::variables::Variables;
@@ -129,25 +129,17 @@ impl Project {
         Ok(Project { files, trees })
     }
 
-    /// The notes by which variables stand for something.
-    fn setter_notes(&self, alloc: Global) -> Result<Taken<'_>, AllocError>
-        ensures { IfOk result (λ found. AreNotesWith setter_words 0 self.now.files self.now.parsed (taken_view found)) }
-    {
-        setter_notes(alloc, &self.files, self.trees.as_slice())
-    }
-
-    /// Those, and the notes by which an id is found.
+    /// The notes by which an id is found.
     fn notes_for(&self, alloc: Global, role: Role, id: &str) -> Result<Taken<'_>, AllocError>
-        ensures { let words = sought_words role id.now ++ setter_words in
-            IfOk result (λ found. AreNotesWith words 0 self.now.files self.now.parsed (taken_view found)) }
+        ensures { IfOk result (λ found. AreNotesWith (sought_words role id.now) 0 self.now.files self.now.parsed (taken_view found)) }
     {
         notes_for(alloc, role, id, &self.files, self.trees.as_slice())
     }
 
     /// The same project with notes of it.
-    fn noted<'p>(&'p self, all: &'p [Note<'p>]) -> Noted<'p>
-        ensures noted { (words : List (List ℕ)) → AreNotesWith (words ++ setter_words) 0 self.entry.now.files self.entry.now.parsed (note_views all.entry.now)
-            → IsNoted words result }
+    fn noted<'p>(&'p self, all: &'p [Note<'p, 'p>]) -> Noted<'p>
+        ensures noted { (role : Role) (id : List ℕ)
+            → AreNotesWith (sought_words role id) 0 self.entry.now.files self.entry.now.parsed (note_views all.entry.now) → IsNotedFor role id result }
         ensures same { loaded_in result ≡ self.entry.now }
     {
         Noted {
@@ -210,10 +202,7 @@ impl Project {
         ensures found { IfOk result (λ s. sources (project self.now) call.now ≡ Some (Ok s)) }
         ensures refused { IfErr result (λ e. e ≢ Refusal.OutOfMemory → sources (project self.now) call.now ≡ Some (Err e)) }
     {
-        let taken = self.setter_notes(alloc)?;
-        let notes = taken.all(alloc)?;
-        let noted = self.noted(notes.as_slice());
-        let variables = Variables::of(alloc, &noted)?;
+        let variables = Variables::near(alloc, &self.files, self.trees.as_slice(), call)?;
         sources_at(&variables, call)
     }
 
@@ -226,10 +215,7 @@ impl Project {
         ensures found { IfOk result (λ s. extra_files (project self.now) call.now ≡ Some (Ok s)) }
         ensures refused { IfErr result (λ e. e ≢ Refusal.OutOfMemory → extra_files (project self.now) call.now ≡ Some (Err e)) }
     {
-        let taken = self.setter_notes(alloc)?;
-        let notes = taken.all(alloc)?;
-        let noted = self.noted(notes.as_slice());
-        let variables = Variables::of(alloc, &noted)?;
+        let variables = Variables::near(alloc, &self.files, self.trees.as_slice(), call)?;
         let called = call_at(variables.files, variables.trees, call);
         extra_files_of(&variables, call, called.source, called.arguments)
     }
@@ -246,7 +232,7 @@ impl Project {
         let notes = taken.all(alloc)?;
         let noted = self.noted(notes.as_slice());
         let place = the_call(alloc, Role::Target, id, noted.notes)?;
-        let variables = Variables::of(alloc, &noted)?;
+        let variables = Variables::near(alloc, &self.files, self.trees.as_slice(), &place)?;
         details_at(&variables, place)
     }
 

@@ -46,7 +46,7 @@ fn target_steps(
     let call = the_call(alloc, Role::Target, target, noted.notes)?;
     let arguments = list_of_call(noted.trees, &call);
     let source = noted.files.bytes(call.file);
-    let variables = Variables::of(alloc, noted)?;
+    let variables = Variables::near(alloc, noted.files, noted.trees, &call)?;
     match change {
         Change::SourcesAdded => sources_added(&variables, &call, source, arguments, names),
         Change::SourcesRemoved => sources_removed(&variables, &call, source, arguments, names),

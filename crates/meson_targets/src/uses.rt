@@ -93,7 +93,7 @@ fn call_uses(
 }
 
 /// Whether a call, an assignment or a loop names the variable.
-fn note_uses(alloc: Global, note: &Note<'_>, name: &[u8]) -> Result<bool, AllocError>
+fn note_uses(alloc: Global, note: &Note<'_, '_>, name: &[u8]) -> Result<bool, AllocError>
     requires { AreGood (note_words (note_view note.now).it) }
     ensures { IfOk result (λ uses. uses ≡ note_uses name.now (note_view note.now).it) }
 {
@@ -110,7 +110,7 @@ fn note_uses(alloc: Global, note: &Note<'_>, name: &[u8]) -> Result<bool, AllocE
 /// Whether calls, assignments or loops outside a statement name the variable.
 fn is_noted_outside(
     alloc: Global,
-    notes: &[Note<'_>],
+    notes: &[Note<'_, '_>],
     line: &StatementPlace,
     name: &[u8],
 ) -> Result<bool, AllocError>

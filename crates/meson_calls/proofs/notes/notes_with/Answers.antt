@@ -3,7 +3,7 @@ use Rattle.std.specs.Prelude.{if◌then◌else◌}
 use Rattle.meson_splice.specs.Files.{bytes_at}
 use Rattle.meson_syntax.specs.Reads.{IsSpanned}
 use Rattle.meson_syntax.specs.View.{view}
-use Rattle.meson_calls.specs.Notes.{noted, taken_view, without_calls}
+use Rattle.meson_calls.specs.Notes.{noted, taken_view}
 use Rattle.meson_calls.specs.Parts.{parts_of_file}
 use Rattle.meson_calls.specs.Spelling.{HasNoneOf}
 use Rattle.meson_calls.proofs.CallsAt.{spanned_at}
@@ -30,14 +30,13 @@ loop-i-preserved c =
     let files = c.args.files.now in
     let i = c.loop-i.i in
     let within : i < length files = omega (arith, as_many files c.args.trees.now c.requires) in
-    let calls = c.may_stand_in.result in
+    let asked = c.may_stand_in-asked.result in
     let before = taken_view c.loop-i.taken in
-    next_file words files c.args.trees.now i (record { name = []; bytes = [] }) c.index-trees-i.result calls before _ within c.loop-i-test.true
-    (λ no. subst (HasNoneOf words) c.bytes-source.ensures (c.may_stand_in.ensures no))
+    next_file words files c.args.trees.now i (record { name = []; bytes = [] }) c.index-trees-i.result before within c.loop-i-test.true c.loop-i.invariant asked _
+    (λ no. subst (HasNoneOf words) c.bytes-source.ensures (c.may_stand_in-asked.ensures no))
     (c.in_ok-taken.ensures
-    ∙ ap (λ b. before ++ (if calls then noted (parts_of_file i (view b c.index-trees-i.result)) else without_calls (noted (parts_of_file i (view b c.index-trees-i.result))))) c.bytes-source.ensures
-    ∙ ap (λ t. before ++ (if calls then noted (parts_of_file i (view (bytes_at i files) t)) else without_calls (noted (parts_of_file i (view (bytes_at i files) t))))) c.index-trees-i.is)
-    c.loop-i.invariant
+    ∙ ap (λ b. if asked then before ++ noted (parts_of_file i (view b c.index-trees-i.result)) else before) c.bytes-source.ensures
+    ∙ ap (λ t. if asked then before ++ noted (parts_of_file i (view (bytes_at i files) t)) else before) c.index-trees-i.is)
 
 pub returns : goal.returns
 returns c =

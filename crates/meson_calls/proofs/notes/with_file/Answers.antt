@@ -1,10 +1,10 @@
-use Rattle.std.proofs.Common.{◌≡◌, ◌++◌, None, Some, ◌∙◌, ap}
+use Rattle.std.proofs.Common.{◌≡◌, ◌++◌, None, Some, ◌∙◌, sym, ap}
 use Rattle.std.specs.Prelude.{if◌then◌else◌}
 use Rattle.meson_syntax.specs.View.{view}
 use Rattle.meson_syntax.proofs.parsing.Steps.{some-injective}
 use Rattle.meson_calls.specs.Parts.{parts_of_file}
-use Rattle.meson_calls.specs.Notes.{noted, taken_view, without_calls}
-use Rattle.meson_calls.specs.Walks.{keeper_view, with_parts}
+use Rattle.meson_calls.specs.Notes.{noted, taken_view}
+use Rattle.meson_calls.specs.Walks.{keeper_view}
 use Rattle.meson_calls.proofs.Visits.{more_noted}
 use Rattle.meson_calls.proofs.notes.with_file.Goals as goal
 
@@ -12,13 +12,13 @@ pub unreachable-requires : goal.unreachable-requires
 unreachable-requires c =
     let ps = parts_of_file c.args.file (view c.args.source.now c.args.parsed.now) in
     let so_far = taken_view c.args.taken in
-    let none : None ≡ Some (so_far ++ (if c.args.calls then noted ps else without_calls (noted ps))) =
-    more_noted c.args.calls so_far None (keeper_view c.walk_file.new.keeper) ps c.in-None.ensures (c.in_ok-walk_file.ensures ∙ ap (λ k. with_parts k ps) c.keeper_of-keeper.ensures) in
+    let none : None ≡ Some (so_far ++ noted ps) = more_noted so_far None (keeper_view c.walk_file.new.keeper) ps c.in-None.ensures c.in_ok-walk_file.ensures in
     absurd cc
 
 pub returns : goal.returns
 returns c =
-    let ps = parts_of_file c.args.file (view c.args.source.now c.args.parsed.now) in
+    let here = noted (parts_of_file c.args.file (view c.args.source.now c.args.parsed.now)) in
+    let so_far = taken_view c.args.taken in
     some-injective _ _
-    (more_noted c.args.calls (taken_view c.args.taken) (Some (taken_view c.in-Some.found)) (keeper_view c.walk_file.new.keeper) ps c.in-Some.ensures
-    (c.in_ok-walk_file.ensures ∙ ap (λ k. with_parts k ps) c.keeper_of-keeper.ensures))
+    (more_noted so_far (Some (taken_view c.in-Some.found)) (keeper_view c.walk_file.new.keeper) (parts_of_file c.args.file (view c.args.source.now c.args.parsed.now)) c.in-Some.ensures c.in_ok-walk_file.ensures)
+    ∙ ap (λ b. if b then so_far ++ here else so_far) (sym c.if-not-asked.false)

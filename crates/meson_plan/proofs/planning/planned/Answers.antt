@@ -1,6 +1,6 @@
-use Rattle.std.proofs.Common.{◌++◌, sym, ap, ap₂, ◌∙◌, subst}
+use Rattle.std.proofs.Common.{sym, ap, ap₂, ◌∙◌, subst}
 use Rattle.meson_calls.specs.Notes.{note_views, taken_view}
-use Rattle.meson_calls.specs.Spelling.{AreNotesWith, setter_words, sought_words}
+use Rattle.meson_calls.specs.Spelling.{AreNotesWith, sought_words}
 use Rattle.meson_plan.specs.Orders.{sought}
 use Rattle.meson_plan.proofs.planning.planned.Goals as goal
 
@@ -11,6 +11,6 @@ steps_of-requires c =
     let words = sought_words (sought c.args.plan).0 (sought c.args.plan).1 in
     record {
       whole = c.requires;
-      taken = subst (AreNotesWith (words ++ setter_words) 0 files trees) (sym (ap note_views c.as_slice.ensures.value ∙ c.in_ok-notes.ensures))
-          (subst (λ ws. AreNotesWith (ws ++ setter_words) 0 files trees (taken_view c.in_ok-taken.taken)) (ap₂ sought_words c.sought-role.ensures.0 c.sought-role.ensures.1) c.in_ok-taken.ensures);
+      taken = subst (AreNotesWith words 0 files trees) (sym (ap note_views c.as_slice.ensures.value ∙ c.in_ok-notes.ensures))
+          (subst (λ ws. AreNotesWith ws 0 files trees (taken_view c.in_ok-taken.taken)) (ap₂ sought_words c.sought-role.ensures.0 c.sought-role.ensures.1) c.in_ok-taken.ensures);
     }

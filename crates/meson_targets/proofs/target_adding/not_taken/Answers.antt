@@ -3,7 +3,6 @@ use Rattle.std.proofs.lemmas.Bool.{eqb-true, eqb-false}
 use Rattle.meson_calls.specs.declared.call.Role.TheVariants as role
 use Rattle.meson_calls.specs.NotedProjects.{project_in}
 use Rattle.meson_calls.specs.Notes.{note_views}
-use Rattle.meson_calls.specs.Spelling.{setter_words}
 use Rattle.meson_targets.specs.TargetEdits.{targets_named}
 use Rattle.meson_calls.proofs.NotedCalls.{noted_good}
 use Rattle.meson_calls.proofs.NotesWith.{same_named}
@@ -19,7 +18,7 @@ returns-then-not-is_empty-clause-refused c = λ other.
     let n = c.args.noted.now in
     let p = project_in n in
     let name = c.args.name.now in
-    let are = c.in_ok-targets.ensures ∙ same_named role.Target name setter_words n.files.now n.trees.now (note_views n.notes.now) c.requires.whole.parsed c.requires.taken ∙ name_places role.Target name p in
+    let are = c.in_ok-targets.ensures ∙ same_named role.Target name n.files.now n.trees.now (note_views n.notes.now) c.requires.whole.parsed c.requires.taken ∙ name_places role.Target name p in
     is_taken (targets_named p name) c.as_slice.result.now (c.as_slice.ensures.value ∙ are) (eqb-false _ _ (sym c.is_empty.ensures ∙ c.if-not-is_empty.true))
 
 pub returns-clause-checked : goal.returns-clause-checked
@@ -27,5 +26,5 @@ returns-clause-checked c =
     let n = c.args.noted.now in
     let p = project_in n in
     let name = c.args.name.now in
-    let are = c.in_ok-targets.ensures ∙ same_named role.Target name setter_words n.files.now n.trees.now (note_views n.notes.now) c.requires.whole.parsed c.requires.taken ∙ name_places role.Target name p in
+    let are = c.in_ok-targets.ensures ∙ same_named role.Target name n.files.now n.trees.now (note_views n.notes.now) c.requires.whole.parsed c.requires.taken ∙ name_places role.Target name p in
     is_free (targets_named p name) c.as_slice.result.now (c.as_slice.ensures.value ∙ are) (eqb-true _ _ (sym c.is_empty.ensures ∙ c.if-not-is_empty.false))

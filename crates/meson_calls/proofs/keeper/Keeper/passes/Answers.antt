@@ -3,17 +3,10 @@ use Rattle.meson_syntax.specs.View.{expr_view}
 use Rattle.meson_calls.specs.Notes.{taken_view}
 use Rattle.meson_calls.specs.Parts.{parts_of_expression}
 use Rattle.meson_calls.specs.Walks.{keeper_view, with_parts}
-use Rattle.meson_calls.proofs.ExpressionNotes.{no_statements}
-use Rattle.meson_calls.proofs.Visits.{notes_stay, statements_stay}
+use Rattle.meson_calls.proofs.Visits.{notes_stay}
 use Rattle.meson_calls.proofs.keeper.Keeper.passes.Goals as goal
 
 pub returns-in-Notes : goal.returns-in-Notes
 returns-in-Notes c = λ plain source p.
     let parts = parts_of_expression p (expr_view source c.args.expr.now) in
     subst (λ k. keeper_view k ≡ with_parts (keeper_view k) parts) (sym c.in-Notes.is) (notes_stay (taken_view c.in-Notes.field-0) parts (c.is_plain.ensures plain source p))
-
-pub returns-in-Statements : goal.returns-in-Statements
-returns-in-Statements c = λ yes source p.
-    let e = expr_view source c.args.expr.now in
-    subst (λ k. keeper_view k ≡ with_parts (keeper_view k) (parts_of_expression p e)) (sym c.in-Statements.is)
-    (statements_stay (taken_view c.in-Statements.field-0) (parts_of_expression p e) (no_statements p e))

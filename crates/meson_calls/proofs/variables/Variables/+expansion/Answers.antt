@@ -201,14 +201,14 @@ expand_row-expand_operands-requires-in-None t c =
     let within : here ≤ here = omega arith in
     (lower_step c.args.left (values_rank c.args.self.now) here here 2 3 t within (omega arith) (sym c.decreases), (c.requires.holds, c.requires.good))
 
-pub expand_row-returns-then-not-is_sum-clause-all : goal.expand_row-returns-then-not-is_sum-clause-all
-expand_row-returns-then-not-is_sum-clause-all t c =
+pub expand_row-returns-then-not-branch-clause-all : goal.expand_row-returns-then-not-branch-clause-all
+expand_row-returns-then-not-branch-clause-all t c =
     let source = c.args.site.source.now in
     let p = project_of c.args.self.now in
     let e = expr_view source c.args.first.now in
     let os = operands_of (operands_view source c.args.rest.now) in
     second_of c.miss.result (gathered c.args.marks.now) (gathered c.miss.new.self) (sum_left p c.args.left e os (stand_at c.args.site c.args.path.now.items c.args.slot)) (λ f. met opaque f)
-    (are_plus os && is_list_operand p e) (sym c.is_sum.ensures ∙ c.if-not-is_sum.true) c.miss.ensures
+    (are_plus os && is_list_operand p e) (sym c.in_ok-is_sum.ensures ∙ c.if-not-branch.true) c.miss.ensures
 
 pub expand_row-returns-in_ok-expand_operands-in-Some-clause-all : goal.expand_row-returns-in_ok-expand_operands-in-Some-clause-all
 expand_row-returns-in_ok-expand_operands-in-Some-clause-all t c =
@@ -218,7 +218,7 @@ expand_row-returns-in_ok-expand_operands-in-Some-clause-all t c =
     let e = expr_view source c.args.first.now in
     let os = operands_of (operands_view source c.args.rest.now) in
     let path = c.args.path.now.items in
-    let sums : are_plus os && is_list_operand p e ≡ true = sym c.is_sum.ensures ∙ c.if-not-is_sum.false in
+    let sums : are_plus os && is_list_operand p e ≡ true = sym c.in_ok-is_sum.ensures ∙ c.if-not-branch.false in
     let s = stand_at c.args.site path (Some c.in-Some.number) in
     c.in_ok-expand_operands-in-Some.ensures.all
     ∙ ap (λ steps. expanded g (sum_left p c.args.left e os (stand_at c.args.site steps None))) c.in_ok-push-in-Some.ensures.items
@@ -235,7 +235,7 @@ expand_row-returns-in-None-clause-all t c =
     let os = operands_of (operands_view source c.args.rest.now) in
     let after = gathered c.expand_operands-in-None.new.marks in
     let path = c.args.path.now.items in
-    let sums : are_plus os && is_list_operand p e ≡ true = sym c.is_sum.ensures ∙ c.if-not-is_sum.false in
+    let sums : are_plus os && is_list_operand p e ≡ true = sym c.in_ok-is_sum.ensures ∙ c.if-not-branch.false in
     subst (λ slot. OnOk c.expand_operands-in-None.result (after ≡ expanded g (row_left p c.args.left e os (stand_at c.args.site path slot)))) (sym c.in-None.is)
     (first_of c.expand_operands-in-None.result g after (sum_left p c.args.left e os (stand_at c.args.site path None)) (λ f. met opaque f) (are_plus os && is_list_operand p e) sums c.expand_operands-in-None.ensures.all)
 
@@ -305,7 +305,7 @@ expand_operand-expand-requires t c =
 pub follow-expand-requires : goal.follow-expand-requires
 follow-expand-requires t c =
     let p = project_of c.args.self.now in
-    let is = sym c.single.ensures ∙ ap (option_map value_view) c.in-Some.is in
+    let is = sym c.in_ok-value.ensures ∙ ap (option_map value_view) c.in-Some.is in
     let fine = single_fine c.args.name.now p (value_view c.in-Some.value) c.requires.holds.good is in
     let some : 0 < c.args.left = omega arith in
     (variable_step c.args.left (values_rank c.args.self.now) _ t some fine.1 (sym c.decreases), (c.requires.holds, fine.0))
@@ -317,15 +317,15 @@ follow-returns-in_ok-follow-in-Some t c =
     let g = gathered c.args.marks.now in
     let v = c.in-Some.value in
     let k = c.args.left - 1 in
-    let is = sym c.single.ensures ∙ ap (option_map value_view) c.in-Some.is in
+    let is = sym c.in_ok-value.ensures ∙ ap (option_map value_view) c.in-Some.is in
     let new = sym c.has_followed.ensures ∙ c.if-has_followed.false in
     let one_more : suc k ≡ c.args.left = omega arith in
-    let path = c.in_ok-push-in-Some.ensures.items ∙ ap (λ xs. xs ++ 0 ∷ []) c.in_ok-path-in-Some.ensures.items in
-    let stands : List ℕ → List ℕ → Stand = λ y steps. record { place = place v.place.file steps; slot = fixed; variable = Some y } in
+    let path = c.in_ok-push-in-Some-2.ensures.items ∙ ap (λ xs. xs ++ 0 ∷ []) (c.in_ok-push-in-Some.ensures.items ∙ ap (λ xs. xs ++ v.statement ∷ []) c.new-path.ensures.items) in
+    let stands : List ℕ → List ℕ → Stand = λ y steps. record { place = place v.file steps; slot = fixed; variable = Some y } in
     let later : Gathered = record { tally = g.tally; followed = x ∷ g.followed } in
     on_ok_weaker c.expand.result (λ so. so
-    ∙ ap (λ h. expanded h (expand_left p k (value_view v).it (stands c.identifier_text.result.now c.push.new.self.items))) c.in_ok-follow-in-Some.ensures
-    ∙ ap (λ y. expanded later (expand_left p k (value_view v).it (stands y c.push.new.self.items))) c.identifier_text.ensures
+    ∙ ap (λ h. expanded h (expand_left p k (value_view v).it (stands c.identifier_text.result.now c.push-in-Some.new.self.items))) c.in_ok-follow-in-Some.ensures
+    ∙ ap (λ y. expanded later (expand_left p k (value_view v).it (stands y c.push-in-Some.new.self.items))) c.identifier_text.ensures
     ∙ ap (λ steps. expanded later (expand_left p k (value_view v).it (stands x steps))) path
     ∙ sym (followed_value p k x (value_view v) g is new)
     ∙ ap (λ n. expanded g (λ f. if one_of f x then met opaque f else follow_of p n x f)) one_more) c.expand.ensures.all

@@ -1,5 +1,6 @@
 use Rattle.std.proofs.Common.{◌≡◌, ℕ, zero, suc, ◌-◌, ◌<◌, List, ◌∙◌, refl, sym, ap, arith}
 use Rattle.std.specs.Prelude.{◌&&◌, option_map}
+use Rattle.std.proofs.lemmas.Result.{IfOk-weaker}
 use Rattle.meson_lex.specs.declared.kinds.Span.{Span}
 use Rattle.meson_syntax.specs.View.{expr_view}
 use Rattle.meson_calls.specs.Expansion.{is_operand_by, is_value_by, is_single_by, is_list_variable}
@@ -37,15 +38,16 @@ is_list_variable-returns-in-Some t c =
     let p = project_of c.args.self.now in
     let x = c.args.name.now in
     let some : 0 < c.args.left = omega arith in
-    let is = sym c.single.ensures ∙ ap (option_map value_view) c.in-Some.is in
-    c.is_list_value.ensures ∙ sym (by_single p x c.args.left some ∙ ap (is_single_by (is_operand_by (is_list_variable p (c.args.left - 1)))) is)
+    let is = sym c.in_ok-value.ensures ∙ ap (option_map value_view) c.in-Some.is in
+    let same = sym (by_single p x c.args.left some ∙ ap (is_single_by (is_operand_by (is_list_variable p (c.args.left - 1)))) is) in
+    IfOk-weaker c.is_list_value.result _ _ (λ lists so. so ∙ same) c.is_list_value.ensures
 
 pub is_list_variable-returns-in-None : goal.is_list_variable-returns-in-None
 is_list_variable-returns-in-None t c =
     let p = project_of c.args.self.now in
     let x = c.args.name.now in
     let some : 0 < c.args.left = omega arith in
-    let is = sym c.single.ensures ∙ ap (option_map value_view) c.in-None.is in
+    let is = sym c.in_ok-value.ensures ∙ ap (option_map value_view) c.in-None.is in
     sym (by_single p x c.args.left some ∙ ap (is_single_by (is_operand_by (is_list_variable p (c.args.left - 1)))) is)
 
 -- ---- a value
@@ -69,7 +71,7 @@ is_list_value-returns-then-are_plus t c =
     let e = expr_view source c.get-then-are_plus.result.now in
     let is = row_is source c.args.value.now c.in-Row.span c.in-Row.first c.get-then-are_plus.result.now c.in-Row.rest c.get.result.now c.in-Row.is c.get-then-are_plus.ensures c.get.ensures in
     let sums = sym (c.are_plus.ensures source) ∙ c.if-are_plus.true in
-    c.is_list_operand.ensures ∙ sym (ap (is_value_by lists) is ∙ ap (λ b. b && lists e) sums)
+    IfOk-weaker c.is_list_operand.result _ _ (λ b so. so ∙ sym (ap (is_value_by lists) is ∙ ap (λ a. a && lists e) sums)) c.is_list_operand.ensures
 
 pub is_list_value-returns-else-are_plus : goal.is_list_value-returns-else-are_plus
 is_list_value-returns-else-are_plus t c =

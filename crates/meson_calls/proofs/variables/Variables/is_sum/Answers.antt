@@ -1,5 +1,6 @@
 use Rattle.std.proofs.Common.{◌∙◌, sym, ap}
 use Rattle.std.specs.Prelude.{◌&&◌}
+use Rattle.std.proofs.lemmas.Result.{IfOk-weaker}
 use Rattle.meson_syntax.specs.View.{expr_view}
 use Rattle.meson_calls.specs.Expansion.{is_list_operand}
 use Rattle.meson_calls.specs.CodeVariables.{project_of}
@@ -11,7 +12,7 @@ returns-then-are_plus c =
     let source = c.args.source.now in
     let e = expr_view source c.args.first.now in
     let sums = sym (c.are_plus.ensures source) ∙ c.if-are_plus.true in
-    c.is_list_operand.ensures ∙ ap (λ x. x && is_list_operand (project_of c.args.self.now) e) (sym sums)
+    IfOk-weaker c.is_list_operand.result _ _ (λ is so. so ∙ ap (λ x. x && is_list_operand (project_of c.args.self.now) e) (sym sums)) c.is_list_operand.ensures
 
 pub returns-else-are_plus : goal.returns-else-are_plus
 returns-else-are_plus c =

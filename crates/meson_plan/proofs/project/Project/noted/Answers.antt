@@ -1,16 +1,16 @@
-use Rattle.std.proofs.Common.{◌++◌, ◌∙◌, sym, ap, subst}
+use Rattle.std.proofs.Common.{◌∙◌, sym, ap, subst}
 use Rattle.meson_calls.specs.Loading.{IsProject, Loaded, loaded_from}
 use Rattle.meson_calls.specs.Notes.{note_views}
-use Rattle.meson_calls.specs.Spelling.{AreNotesWith, setter_words}
+use Rattle.meson_calls.specs.Spelling.{AreNotesWith, sought_words}
 use Rattle.meson_plan.proofs.project.Project.noted.Goals as goal
 
 pub returns-clause-noted : goal.returns-clause-noted
-returns-clause-noted c = λ words are.
+returns-clause-noted c = λ role id are.
     let files = c.self.inside.files in
     let here = sym c.as_slice.ensures.value in
     record {
       whole = subst (λ ts. IsProject (loaded_from files ts)) here c.self.invariant;
-      taken = subst (λ (l : Loaded). AreNotesWith (words ++ setter_words) 0 l.files l.parsed (note_views c.args.all.now))
+      taken = subst (λ (l : Loaded). AreNotesWith (sought_words role id) 0 l.files l.parsed (note_views c.args.all.now))
           (sym c.self.view_is ∙ ap (loaded_from files) here) are;
     }
 

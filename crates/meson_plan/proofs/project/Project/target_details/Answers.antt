@@ -1,52 +1,46 @@
-use Rattle.std.proofs.Common.{◌∙◌, sym, ap, subst, ◌++◌}
+use Rattle.std.proofs.Common.{◌∙◌, sym, ap, ap₂, subst}
 use Rattle.std.specs.Prelude.{IsTrue, Ok}
 use Rattle.std.proofs.lemmas.Result.{IfErr-weaker, IfOk-weaker, err_from_is_err_and}
 use Rattle.meson_calls.specs.declared.call.CallRef.{CallRef}
 use Rattle.meson_calls.specs.declared.call.Role.TheVariants.{Target}
-use Rattle.meson_calls.specs.Loading.{project}
+use Rattle.meson_calls.specs.Loading.{IsProject, loaded_from, project}
 use Rattle.meson_calls.specs.Roles.{is_target}
-use Rattle.meson_calls.proofs.NotedCalls.{noted_good, same_parsed, same_project}
+use Rattle.meson_calls.proofs.NotedCalls.{noted_good}
 use Rattle.meson_plan.specs.Details.{AreDetails, NoDetails, not_found, untold}
 use Rattle.meson_plan.proofs.DetailsThere.{place_there}
 use Rattle.meson_plan.proofs.PlacesFound.{target_found}
 use Rattle.meson_calls.specs.Notes.{note_views}
-use Rattle.meson_calls.specs.Spelling.{AreNotesWith, setter_words, sought_words}
+use Rattle.meson_calls.specs.Spelling.{AreNotesWith, sought_words}
 use Rattle.meson_plan.proofs.project.Project.target_details.Goals as goal
 
 pub the_call-requires : goal.the_call-requires
 the_call-requires c = noted_good c.noted-noted.result
-    (c.noted-noted.ensures.noted (sought_words Target c.args.id.now)
-    (subst (AreNotesWith (sought_words Target c.args.id.now ++ setter_words) 0 c.args.self.now.files c.args.self.now.parsed) (sym (ap note_views c.as_slice.ensures.value ∙ c.in_ok-notes.ensures)) c.in_ok-taken.ensures))
+    (c.noted-noted.ensures.noted Target c.args.id.now
+    (subst (AreNotesWith (sought_words Target c.args.id.now) 0 c.args.self.now.files c.args.self.now.parsed) (sym (ap note_views c.as_slice.ensures.value ∙ c.in_ok-notes.ensures)) c.in_ok-taken.ensures))
 
 pub returns-in_err-place-clause-refused : goal.returns-in_err-place-clause-refused
 returns-in_err-place-clause-refused c =
     let error = err_from_is_err_and c.from_residual-in_err-place.result c.from_residual-in_err-place.ensures.1 in
     let found = place_there c.noted-noted.result Target c.args.id.now
-    (c.noted-noted.ensures.noted (sought_words Target c.args.id.now)
-    (subst (AreNotesWith (sought_words Target c.args.id.now ++ setter_words) 0 c.args.self.now.files c.args.self.now.parsed) (sym (ap note_views c.as_slice.ensures.value ∙ c.in_ok-notes.ensures)) c.in_ok-taken.ensures))
+    (c.noted-noted.ensures.noted Target c.args.id.now
+    (subst (AreNotesWith (sought_words Target c.args.id.now) 0 c.args.self.now.files c.args.self.now.parsed) (sym (ap note_views c.as_slice.ensures.value ∙ c.in_ok-notes.ensures)) c.in_ok-taken.ensures))
     c.args.self.now c.noted-noted.ensures.same in
     rw (error.1, error.2) (λ other. not_found c.in_err-place.field-0.0 (sym found ∙ c.in_err-place.ensures.refused other))
 
-pub of-requires : goal.of-requires
-of-requires c = (
-  sought_words Target c.args.id.now,
-  c.noted-noted.ensures.noted (sought_words Target c.args.id.now)
-      (subst (AreNotesWith (sought_words Target c.args.id.now ++ setter_words) 0 c.args.self.now.files c.args.self.now.parsed) (sym (ap note_views c.as_slice.ensures.value ∙ c.in_ok-notes.ensures)) c.in_ok-taken.ensures),
-)
+pub near-requires : goal.near-requires
+near-requires c = subst (λ ts. IsProject (loaded_from c.self.inside.files ts)) (sym c.as_slice-2.ensures.value) c.self.invariant
 
 pub details_at-requires-clause-parsed : goal.details_at-requires-clause-parsed
-details_at-requires-clause-parsed c =
-    same_parsed c.in_ok-variables.variables c.noted-noted.result c.in_ok-variables.ensures.files c.in_ok-variables.ensures.trees (c.noted-noted.ensures.noted (sought_words Target c.args.id.now)
-    (subst (AreNotesWith (sought_words Target c.args.id.now ++ setter_words) 0 c.args.self.now.files c.args.self.now.parsed) (sym (ap note_views c.as_slice.ensures.value ∙ c.in_ok-notes.ensures)) c.in_ok-taken.ensures)).whole.parsed
+details_at-requires-clause-parsed c = c.in_ok-variables.ensures.holds.whole.parsed
 
 pub details_at-requires-clause-target : goal.details_at-requires-clause-target
 details_at-requires-clause-target c =
     let v = c.in_ok-variables.variables in
-    let n = c.noted-noted.result in
-    let is = same_project v n c.in_ok-variables.ensures.files c.in_ok-variables.ensures.trees ∙ ap project c.noted-noted.ensures.same in
+    let here = ap (loaded_from c.self.inside.files) c.as_slice-2.ensures.value ∙ c.self.view_is in
+    let is = ap project (ap₂ loaded_from c.in_ok-variables.ensures.files c.in_ok-variables.ensures.trees ∙ here) in
     let found = place_there c.noted-noted.result Target c.args.id.now
-    (c.noted-noted.ensures.noted (sought_words Target c.args.id.now)
-    (subst (AreNotesWith (sought_words Target c.args.id.now ++ setter_words) 0 c.args.self.now.files c.args.self.now.parsed) (sym (ap note_views c.as_slice.ensures.value ∙ c.in_ok-notes.ensures)) c.in_ok-taken.ensures))
+    (c.noted-noted.ensures.noted Target c.args.id.now
+    (subst (AreNotesWith (sought_words Target c.args.id.now) 0 c.args.self.now.files c.args.self.now.parsed) (sym (ap note_views c.as_slice.ensures.value ∙ c.in_ok-notes.ensures)) c.in_ok-taken.ensures))
     c.args.self.now c.noted-noted.ensures.same in
     let place = c.in_ok-place.place in
     subst (λ q. IsTrue (is_target q place)) (sym is) (target_found c.args.self.now c.args.id.now place (sym found ∙ c.in_ok-place.ensures.found))
@@ -54,11 +48,11 @@ details_at-requires-clause-target c =
 pub returns-clause-told : goal.returns-clause-told
 returns-clause-told c =
     let v = c.in_ok-variables.variables in
-    let n = c.noted-noted.result in
-    let is = same_project v n c.in_ok-variables.ensures.files c.in_ok-variables.ensures.trees ∙ ap project c.noted-noted.ensures.same in
+    let here = ap (loaded_from c.self.inside.files) c.as_slice-2.ensures.value ∙ c.self.view_is in
+    let is = ap project (ap₂ loaded_from c.in_ok-variables.ensures.files c.in_ok-variables.ensures.trees ∙ here) in
     let found = place_there c.noted-noted.result Target c.args.id.now
-    (c.noted-noted.ensures.noted (sought_words Target c.args.id.now)
-    (subst (AreNotesWith (sought_words Target c.args.id.now ++ setter_words) 0 c.args.self.now.files c.args.self.now.parsed) (sym (ap note_views c.as_slice.ensures.value ∙ c.in_ok-notes.ensures)) c.in_ok-taken.ensures))
+    (c.noted-noted.ensures.noted Target c.args.id.now
+    (subst (AreNotesWith (sought_words Target c.args.id.now) 0 c.args.self.now.files c.args.self.now.parsed) (sym (ap note_views c.as_slice.ensures.value ∙ c.in_ok-notes.ensures)) c.in_ok-taken.ensures))
     c.args.self.now c.noted-noted.ensures.same in
     let place = c.in_ok-place.place in
     IfOk-weaker c.details_at.result _ _ (λ told are.
@@ -68,11 +62,11 @@ returns-clause-told c =
 pub returns-clause-refused : goal.returns-clause-refused
 returns-clause-refused c =
     let v = c.in_ok-variables.variables in
-    let n = c.noted-noted.result in
-    let is = same_project v n c.in_ok-variables.ensures.files c.in_ok-variables.ensures.trees ∙ ap project c.noted-noted.ensures.same in
+    let here = ap (loaded_from c.self.inside.files) c.as_slice-2.ensures.value ∙ c.self.view_is in
+    let is = ap project (ap₂ loaded_from c.in_ok-variables.ensures.files c.in_ok-variables.ensures.trees ∙ here) in
     let found = place_there c.noted-noted.result Target c.args.id.now
-    (c.noted-noted.ensures.noted (sought_words Target c.args.id.now)
-    (subst (AreNotesWith (sought_words Target c.args.id.now ++ setter_words) 0 c.args.self.now.files c.args.self.now.parsed) (sym (ap note_views c.as_slice.ensures.value ∙ c.in_ok-notes.ensures)) c.in_ok-taken.ensures))
+    (c.noted-noted.ensures.noted Target c.args.id.now
+    (subst (AreNotesWith (sought_words Target c.args.id.now) 0 c.args.self.now.files c.args.self.now.parsed) (sym (ap note_views c.as_slice.ensures.value ∙ c.in_ok-notes.ensures)) c.in_ok-taken.ensures))
     c.args.self.now c.noted-noted.ensures.same in
     let place = c.in_ok-place.place in
     IfErr-weaker c.details_at.result _ _ (λ e refused other. untold place e (sym found ∙ c.in_ok-place.ensures.found) (subst (λ q. NoDetails q place e) is (refused other))) c.details_at.ensures.refused

@@ -4,7 +4,7 @@ use Rattle.std.specs.Option.{option_flatten}
 use Rattle.meson_calls.specs.Notes.{note_views}
 use Rattle.meson_calls.specs.Noted.{assigned_notes, is_set_by, by_notes}
 use Rattle.meson_calls.specs.Variables.{only_value}
-use Rattle.meson_calls.proofs.variables.Variables.known_values.Goals as goal
+use Rattle.meson_calls.proofs.variables.known_values.Goals as goal
 
 turned : {V : Type 0} (b : Bool) (v : Option V) → (if b then None else v) ≡ (if true && not b then v else None)
 turned true v = refl
