@@ -8,3 +8,5 @@ pub mod Pieces
 pub mod Written
 pub mod Patched
 pub mod Ends
+pub mod Changes
+pub mod Order

@@ -3,6 +3,7 @@ use Rattle.std.specs.Prelude.{◌≡◌, ◌≢◌, ◌⊎◌, ℕ, List, [], �
 use Rattle.std.specs.List.{list_any}
 use Rattle.meson_splice.specs.declared.file_set.File.{File}
 use Rattle.meson_diff.specs.Alignment.{IsAlignment, KeepsEnds}
+use Rattle.meson_diff.specs.Changes.{AreChanges}
 use Rattle.meson_diff.specs.Hunks.{hunks_text}
 use Rattle.meson_diff.specs.declared.entry.Entry.{Entry}
 
@@ -14,11 +15,12 @@ name_end name = if list_any (λ b. b == 32) name then codes "\t" else []
 abbrev pub file_head : List ℕ → List ℕ
 file_head name = codes "--- a/" ++ (name ++ (name_end name ++ (codes "\n+++ b/" ++ (name ++ (name_end name ++ codes "\n")))))
 
--- the text is that of some alignment of the file's two texts which keeps the lines at both ends
+-- the text is that of some alignment of the file's two texts which keeps the lines at both ends and shows what differs as changes
 pub record IsPrinted (name old new text : List ℕ) : Type 0 where
   pub entries : List Entry
   pub aligned : IsAlignment old new entries
   pub ends : KeepsEnds entries
+  pub changes : AreChanges entries
   pub printed : text ≡ file_head name ++ hunks_text entries
 
 -- nothing where the two texts are one

@@ -3,11 +3,12 @@ use Rattle.std.specs.Prelude.{◌≡◌, ◌↔◌, ℕ, zero, suc, ◌+◌, ◌
 use Rattle.std.specs.List.{concat, list_any}
 use Rattle.meson_splice.specs.declared.file_set.File.{File}
 use Rattle.meson_diff.specs.Alignment.{IsAlignment, new_lines, old_lines}
+use Rattle.meson_diff.specs.Changes.{AreChanges}
 use Rattle.meson_diff.specs.Diff.{IsDiff}
 use Rattle.meson_diff.specs.Hunks.{begins_hunk, hunk_at, is_shown}
 use Rattle.meson_diff.specs.Lines.{lines}
 use Rattle.meson_diff.specs.declared.entry.Entry.{Entry}
-use Rattle.meson_diff.specs.declared.entry.Mark.TheVariants.{Kept}
+use Rattle.meson_diff.specs.declared.entry.Mark.TheVariants.{Kept, Gone, Come}
 
 -- Each line but the last ends with a line feed and has no other; the last may have none, and is not empty.
 pub data AreLines : List (List ℕ) → Type 0 where
@@ -23,6 +24,11 @@ LinesAreTheText = (text : List ℕ) → AreLines (lines text) × (concat (lines 
 abbrev pub TextsAreReadOff : Type 0
 TextsAreReadOff = (old new : List ℕ) (entries : List Entry) → IsAlignment old new entries
     → (concat (old_lines entries) ≡ old) × (concat (new_lines entries) ≡ new)
+
+-- no line that comes stands directly before one that goes
+abbrev pub GoneBeforeCome : Type 0
+GoneBeforeCome = (before behind : List Entry) (first second : Entry) → AreChanges (before ++ (first ∷ second ∷ behind))
+    → first.mark ≡ Come → second.mark ≡ Gone → ⊥
 
 -- a diff of files of the same names is empty exactly where no file differs
 abbrev pub EmptyMeansEqual : Type 0

@@ -2,6 +2,7 @@
 
 ghost use Rattle.std.specs.Prelude.{◌≡◌, ◌+◌, ◌++◌, ◌-◌, ◌<◌, ◌≤◌, IfOk, IfSome, OnOk, drop, false, length, take, true};
 ghost use Rattle.meson_diff.specs.Alignment.{IsMeeting, KeepsEnds, new_lines, old_lines};
+ghost use Rattle.meson_diff.specs.Changes.{AreChanges, GoOn};
 
 use crate::entry::{Entry, Mark, push_all};
 use crate::line::Line;
@@ -83,6 +84,7 @@ fn push_meeting<'a>(
     requires { IsMeeting old.now new.now at.now.gone at.now.come }
     ensures of_old { OnOk result (old_lines entries.new.items ++ drop (at.now.gone + 1) old.now ≡ old_lines entries.old.items ++ old.now) }
     ensures of_new { OnOk result (new_lines entries.new.items ++ drop (at.now.come + 1) new.now ≡ new_lines entries.old.items ++ new.now) }
+    ensures changes { OnOk result (GoOn entries.old.items → GoOn entries.new.items) }
 {
     push_all(entries, Mark::Gone, &old[..at.gone])?;
     push_all(entries, Mark::Come, &new[..at.come])?;
@@ -106,6 +108,7 @@ fn push_between<'a>(
 ) -> Result<(), AllocError>
     ensures of_old { OnOk result (old_lines entries.new.items ≡ old_lines entries.old.items ++ old.now) }
     ensures of_new { OnOk result (new_lines entries.new.items ≡ new_lines entries.old.items ++ new.now) }
+    ensures changes { OnOk result (GoOn entries.old.items → AreChanges entries.new.items) }
 {
     let mut old_left = old;
     let mut new_left = new;
@@ -129,6 +132,7 @@ pub(crate) fn aligned<'a>(
     ensures of_old { IfOk result (λ v. old_lines v.items ≡ old.now) }
     ensures of_new { IfOk result (λ v. new_lines v.items ≡ new.now) }
     ensures ends { IfOk result (λ v. KeepsEnds v.items) }
+    ensures changes { IfOk result (λ v. AreChanges v.items) }
 {
     let tail = common_tail(old, new);
     let (old_front, end) = old.split_at(old.len() - tail);

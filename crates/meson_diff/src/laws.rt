@@ -1,6 +1,6 @@
 //! Laws of diffs. The functions do nothing: what they ensure is the law.
 
-ghost use Rattle.meson_diff.specs.Laws.{EmptyMeansEqual, HiddenAreKept, HunksAreRuns, HunksHoldAll, LinesAreTheText, PatchedIsNew, TextsAreReadOff};
+ghost use Rattle.meson_diff.specs.Laws.{EmptyMeansEqual, GoneBeforeCome, HiddenAreKept, HunksAreRuns, HunksHoldAll, LinesAreTheText, PatchedIsNew, TextsAreReadOff};
 
 /// A text is its lines, one behind another; each but the last ends with a line feed, and has no other.
 pub fn lines_are_the_text()
@@ -10,6 +10,11 @@ pub fn lines_are_the_text()
 /// The lines that are kept or go are the old text, and those that are kept or come the new one.
 pub fn texts_are_read_off()
     ensures { TextsAreReadOff }
+{}
+
+/// No line that comes stands directly before one that goes.
+pub fn gone_before_come()
+    ensures { GoneBeforeCome }
 {}
 
 /// A diff is empty exactly where no file differs.

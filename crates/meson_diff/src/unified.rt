@@ -3,6 +3,7 @@
 ghost use Rattle.std.specs.Prelude.{◌≡◌, ◌==◌, IfOk, map, string_bytes};
 ghost use Rattle.std.specs.List.{list_any};
 ghost use Rattle.meson_diff.specs.Alignment.{IsAlignment, KeepsEnds};
+ghost use Rattle.meson_diff.specs.Changes.{AreChanges};
 ghost use Rattle.meson_diff.specs.Diff.{IsDiff, IsFileDiff, file_head, name_end};
 
 use crate::aligning::aligned;
@@ -38,6 +39,7 @@ fn file_head(alloc: Global, name: &str) -> Result<String, AllocError>
 fn entries_of<'a>(alloc: Global, old: &'a [u8], new: &'a [u8]) -> Result<Vec<Entry<'a>>, AllocError>
     ensures aligned { IfOk result (λ v. IsAlignment old.entry.now new.entry.now v.items) }
     ensures ends { IfOk result (λ v. KeepsEnds v.items) }
+    ensures changes { IfOk result (λ v. AreChanges v.items) }
 {
     let old_lines = lines(alloc, old)?;
     let new_lines = lines(alloc, new)?;

@@ -1,5 +1,8 @@
-use Rattle.std.proofs.Common.{◌∙◌, ◌++◌, ap, subst₂, sym}
-use Rattle.meson_diff.specs.Alignment.{BeginApart, EndApart, new_lines, old_lines}
+use Rattle.std.proofs.Common.{◌∙◌, ◌++◌, ap, subst, subst₂, sym}
+use Rattle.meson_diff.specs.Alignment.{BeginApart, EndApart, marked, new_lines, old_lines}
+use Rattle.meson_diff.specs.Changes.{AreChanges, GoOn}
+use Rattle.meson_diff.specs.declared.entry.Mark.TheVariants.{Kept}
+use Rattle.meson_diff.proofs.Changes.{kept_before, kept_behind}
 use Rattle.meson_diff.proofs.Ends.{begin_apart, end_apart, joined_ends, new_of_ends, old_of_ends, rest_apart}
 use Rattle.meson_diff.proofs.aligning.aligned.Goals as goal
 
@@ -51,3 +54,13 @@ returns-clause-ends c =
       begin_apart = subst₂ BeginApart (sym old_lines_are) (sym new_lines_are) rest_begins;
       end_apart = subst₂ EndApart (sym old_lines_are) (sym new_lines_are) rest_ends;
     }
+
+pub returns-clause-changes : goal.returns-clause-changes
+returns-clause-changes c =
+    let between = c.push_between.new.entries.items in
+    let begin = c.split_at-3.result.0.now in
+    let end = c.split_at.result.1.now in
+    let parts = joined_ends c.new-entries.result.items c.push_all.new.entries.items c.append.new.self.items c.push_all-2.new.entries.items between begin end
+    c.new-entries.ensures.items c.in_ok-push_all.ensures c.in_ok-append.ensures.items c.in_ok-push_all-2.ensures in
+    let start : GoOn c.new-between.result.items = subst GoOn (sym c.new-between.ensures.items) (λ behind changes. changes) in
+    subst AreChanges (sym parts) (kept_before begin (between ++ marked Kept end) (kept_behind between end (c.in_ok-push_between.ensures.changes start)))

@@ -1,3 +1,4 @@
+use Rattle.meson_diff.proofs.Changes.{change_last}
 use Rattle.meson_diff.proofs.Joins.{new_rest, old_rest}
 use Rattle.meson_diff.proofs.aligning.push_between.Goals as goal
 
@@ -10,3 +11,8 @@ pub returns-clause-of_new : goal.returns-clause-of_new
 returns-clause-of_new c =
     new_rest c.loop-at.entries.items c.push_all.new.entries.items c.push_all-2.new.entries.items c.loop-at.old_left.now c.loop-at.new_left.now _
     c.in_ok-push_all.ensures c.in_ok-push_all-2.ensures c.loop-at.invariant.of_new
+
+pub returns-clause-changes : goal.returns-clause-changes
+returns-clause-changes c = λ start.
+    change_last c.loop-at.entries.items c.push_all.new.entries.items c.push_all-2.new.entries.items c.loop-at.old_left.now c.loop-at.new_left.now
+    c.in_ok-push_all.ensures c.in_ok-push_all-2.ensures (c.loop-at.invariant.changes start)

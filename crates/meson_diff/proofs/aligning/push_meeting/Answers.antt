@@ -1,8 +1,9 @@
-use Rattle.std.proofs.Common.{◌+◌, ◌∙◌, ◌++◌, ap, drop, take}
+use Rattle.std.proofs.Common.{◌+◌, ◌∙◌, ◌++◌, [], ap, drop, get_or, take}
 use Rattle.std.specs.Prelude.{slice_range}
 use Rattle.meson_diff.specs.Alignment.{marked, new_lines, old_lines}
 use Rattle.meson_diff.specs.declared.entry.Mark.TheVariants.{Kept, Come}
-use Rattle.meson_diff.proofs.Joins.{new_more, old_more}
+use Rattle.meson_diff.proofs.Changes.{change_more}
+use Rattle.meson_diff.proofs.Joins.{new_more, old_more, slice_one}
 use Rattle.meson_diff.proofs.aligning.push_meeting.Goals as goal
 
 pub returns-clause-of_old : goal.returns-clause-of_old
@@ -28,3 +29,16 @@ returns-clause-of_new c =
     ∙ ap (λ es. es ++ marked Kept (slice_range old gone (gone + 1)))
     (c.in_ok-push_all-2.ensures ∙ ap (λ es. es ++ marked Come (take come new)) c.in_ok-push_all.ensures))
     ∙ new_more c.args.entries.now.items old new gone come c.requires
+
+pub returns-clause-changes : goal.returns-clause-changes
+returns-clause-changes c =
+    let old = c.args.old.now in
+    let new = c.args.new.now in
+    let gone = c.args.at.now.gone in
+    let come = c.args.at.now.come in
+    let kept = slice_range old gone (gone + 1) in
+    let parts = c.in_ok-push_all-3.ensures
+    ∙ ap (λ es. es ++ marked Kept kept)
+    (c.in_ok-push_all-2.ensures ∙ ap (λ es. es ++ marked Come (take come new)) c.in_ok-push_all.ensures) in
+    change_more c.args.entries.now.items c.push_all-3.new.entries.items (marked Kept kept) (take gone old) (take come new) (get_or old gone [])
+    parts (ap (marked Kept) (slice_one old gone c.requires.in_old))

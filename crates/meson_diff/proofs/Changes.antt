@@ -1,0 +1,51 @@
+-- Entries that are changes.
+use Rattle.std.proofs.Common.{◌≡◌, ℕ, List, [], ◌∷◌, ◌++◌, ap, subst, sym, ◌∙◌}
+use Rattle.std.proofs.lemmas.List.{append_assoc, append-nil}
+use Rattle.meson_diff.specs.Alignment.{marked}
+use Rattle.meson_diff.specs.Changes.{AreChanges, GoOn, change, last_change}
+use Rattle.meson_diff.specs.declared.entry.Entry.{Entry}
+use Rattle.meson_diff.specs.declared.entry.Mark.TheVariants.{Kept, Gone, Come}
+
+row : (a b c d e : List Entry) → (((a ++ b) ++ c) ++ d) ++ e ≡ a ++ (b ++ (c ++ (d ++ e)))
+row a b c d e = append_assoc ((a ++ b) ++ c) d e ∙ append_assoc (a ++ b) c (d ++ e) ∙ append_assoc a b (c ++ (d ++ e))
+
+-- one more change, and the line behind it
+pub change_more : (es all kept : List Entry) (gone come : List (List ℕ)) (line : List ℕ) → all ≡ ((es ++ marked Gone gone) ++ marked Come come) ++ kept
+    → kept ≡ marked Kept (line ∷ []) → GoOn es → GoOn all
+change_more es all kept gone come line are one so_far behind changes =
+    let goes = marked Gone gone in
+    let comes = marked Come come in
+    let last = marked Kept (line ∷ []) in
+    let parts = ap (λ l. l ++ behind) (are ∙ ap (λ k. ((es ++ goes) ++ comes) ++ k) one) ∙ row es goes comes last behind in
+    subst AreChanges (sym parts) (so_far (goes ++ (comes ++ (last ++ behind))) (change gone come line behind changes))
+
+-- the last one
+pub change_last : (es some all : List Entry) (gone come : List (List ℕ)) → some ≡ es ++ marked Gone gone → all ≡ some ++ marked Come come
+    → GoOn es → AreChanges all
+change_last es some all gone come goes comes so_far =
+    let parts = comes ∙ ap (λ l. l ++ marked Come come) goes ∙ append_assoc es (marked Gone gone) (marked Come come) in
+    subst AreChanges (sym parts) (so_far (marked Gone gone ++ marked Come come) (last_change gone come))
+
+-- ---- kept lines before and behind them
+
+all_kept : (lines : List (List ℕ)) → AreChanges (marked Kept lines)
+all_kept [] = last_change [] []
+all_kept (line ∷ lines) = change [] [] line (marked Kept lines) (all_kept lines)
+
+pub kept_before : (lines : List (List ℕ)) (es : List Entry) → AreChanges es → AreChanges (marked Kept lines ++ es)
+kept_before [] es changes = changes
+kept_before (line ∷ lines) es changes = change [] [] line (marked Kept lines ++ es) (kept_before lines es changes)
+
+pub kept_behind : (es : List Entry) (lines : List (List ℕ)) → AreChanges es → AreChanges (es ++ marked Kept lines)
+kept_behind _ [] (last_change gone come) =
+    subst AreChanges (sym (append-nil (marked Gone gone ++ marked Come come))) (last_change gone come)
+kept_behind _ (line ∷ lines) (last_change gone come) =
+    subst AreChanges (sym (append_assoc (marked Gone gone) (marked Come come) (marked Kept (line ∷ lines))))
+    (change gone come line (marked Kept lines) (all_kept lines))
+kept_behind _ lines (change gone come line behind changes) =
+    let goes = marked Gone gone in
+    let comes = marked Come come in
+    let last = marked Kept (line ∷ []) in
+    let end = marked Kept lines in
+    let parts = append_assoc goes (comes ++ (last ++ behind)) end ∙ ap (λ l. goes ++ l) (append_assoc comes (last ++ behind) end) in
+    subst AreChanges (sym parts) (change gone come line (behind ++ end) (kept_behind behind lines changes))
