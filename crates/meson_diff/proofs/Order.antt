@@ -61,10 +61,10 @@ kept_in_order : (line : List ℕ) (es : List Entry) → InOrder es → InOrder (
 kept_in_order line es rest = one_more (entry Kept line) es (λ comes. let no : ⊥ = cc in absurd no) rest
 
 changes_in_order : (es : List Entry) → AreChanges es → InOrder es
-changes_in_order _ (last_change gone come) =
+changes_in_order _ (last_change gone come none) =
     let ends : BeginsOtherwise [] = λ first behind is goes. let no : ⊥ = cc in no in
     gone_in_order gone (marked Come come) (subst InOrder (append-nil (marked Come come)) (come_in_order come [] ends none_in_order))
-changes_in_order _ (change gone come line behind changes) =
+changes_in_order _ (change gone come line behind none changes) =
     let rest = marked Kept (line ∷ []) ++ behind in
     gone_in_order gone (marked Come come ++ rest)
     (come_in_order come rest (kept_first line behind) (kept_in_order line behind (changes_in_order behind changes)))

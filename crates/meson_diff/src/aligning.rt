@@ -1,8 +1,8 @@
 //! The alignment of two texts: which lines are kept.
 
-ghost use Rattle.std.specs.Prelude.{◌≡◌, ◌+◌, ◌++◌, ◌-◌, ◌<◌, ◌≤◌, IfOk, IfSome, OnOk, drop, false, length, take, true};
+ghost use Rattle.std.specs.Prelude.{◌≡◌, ◌+◌, ◌++◌, ◌-◌, ◌<◌, ◌≤◌, IfNone, IfOk, IfSome, OnOk, drop, false, length, take, true};
 ghost use Rattle.meson_diff.specs.Alignment.{IsMeeting, KeepsEnds, new_lines, old_lines};
-ghost use Rattle.meson_diff.specs.Changes.{AreChanges, GoOn};
+ghost use Rattle.meson_diff.specs.Changes.{AreChanges, GoOn, NoneNearer, NoneOfBoth};
 
 use crate::entry::{Entry, Mark, push_all};
 use crate::line::Line;
@@ -28,7 +28,9 @@ fn is_meeting(old: &[Line<'_>], new: &[Line<'_>], gone: usize, come: usize) -> b
 
 /// The nearest place where both texts go on with one line: that with the fewest lines in between.
 fn next_meeting(old: &[Line<'_>], new: &[Line<'_>]) -> Option<Meeting>
-    ensures { IfSome result (λ m. IsMeeting old.now new.now m.gone m.come) }
+    ensures found { IfSome result (λ m. IsMeeting old.now new.now m.gone m.come) }
+    ensures nearest { IfSome result (λ m. NoneNearer old.now new.now (m.gone + m.come)) }
+    ensures none { IfNone result (NoneOfBoth old.now new.now) }
 {
     for distance in 0..2 * REACH + 1 {
         for gone in distance.saturating_sub(REACH)..distance.min(REACH) + 1 {
@@ -84,7 +86,7 @@ fn push_meeting<'a>(
     requires { IsMeeting old.now new.now at.now.gone at.now.come }
     ensures of_old { OnOk result (old_lines entries.new.items ++ drop (at.now.gone + 1) old.now ≡ old_lines entries.old.items ++ old.now) }
     ensures of_new { OnOk result (new_lines entries.new.items ++ drop (at.now.come + 1) new.now ≡ new_lines entries.old.items ++ new.now) }
-    ensures changes { OnOk result (GoOn entries.old.items → GoOn entries.new.items) }
+    ensures changes { OnOk result (NoneNearer old.now new.now (at.now.gone + at.now.come) → GoOn entries.old.items → GoOn entries.new.items) }
 {
     push_all(entries, Mark::Gone, &old[..at.gone])?;
     push_all(entries, Mark::Come, &new[..at.come])?;

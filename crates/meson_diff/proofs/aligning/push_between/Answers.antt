@@ -15,4 +15,4 @@ returns-clause-of_new c =
 pub returns-clause-changes : goal.returns-clause-changes
 returns-clause-changes c = λ start.
     change_last c.loop-at.entries.items c.push_all.new.entries.items c.push_all-2.new.entries.items c.loop-at.old_left.now c.loop-at.new_left.now
-    c.in_ok-push_all.ensures c.in_ok-push_all-2.ensures (c.loop-at.invariant.changes start)
+    c.in_ok-push_all.ensures c.in_ok-push_all-2.ensures c.in_default.ensures.none (c.loop-at.invariant.changes start)
