@@ -50,7 +50,7 @@ slice_one xs i h =
     let one : i + 1 - i ≡ 1 = omega arith in
     ap (λ n. take n (drop i xs)) one ∙ ap (take 1) (drop_more xs i [] h)
 
-kept_one : (xs : List (List ℕ)) (i : ℕ) → i < length xs → take i xs ++ get_or xs i [] ∷ drop (i + 1) xs ≡ xs
+pub kept_one : (xs : List (List ℕ)) (i : ℕ) → i < length xs → take i xs ++ get_or xs i [] ∷ drop (i + 1) xs ≡ xs
 kept_one xs i h = ap (λ rest. take i xs ++ rest) (sym (drop_more xs i [] h)) ∙ take-append-drop i xs
 
 -- lists in a row, the second or the third of which is empty

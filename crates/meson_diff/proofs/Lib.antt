@@ -9,4 +9,5 @@ pub mod Written
 pub mod Patched
 pub mod Ends
 pub mod Changes
+pub mod Nearest
 pub mod Order

@@ -2,8 +2,7 @@
 use Rattle.std.proofs.Common.{◌≡◌, ℕ, ◌+◌, ◌-◌, ◌<◌, ◌≤◌, List, [], ◌∷◌, get_or, length, min, drop, ap, ap₂, subst, subst₂, sym, ◌∙◌, inl, inr, arith}
 use Rattle.std.proofs.lemmas.Bool.{cases_eq}
 use Rattle.std.proofs.lemmas.List.{drop_more}
-use Rattle.meson_diff.specs.Alignment.{IsMeeting}
-use Rattle.meson_diff.specs.Changes.{NoneNearer, NoneOfBoth}
+use Rattle.meson_diff.specs.Alignment.{IsMeeting, NoneNearer, NoneOfBoth}
 
 -- both texts end with one more common line
 pub tail_more : (old new : List (List ℕ)) (n : ℕ) → n < length old → n < length new → IsMeeting old new (length old - 1 - n) (length new - 1 - n)

@@ -1,5 +1,5 @@
 -- Alignments of two texts: each line is kept, goes or comes.
-use Rattle.std.specs.Prelude.{◌≡◌, ℕ, ◌<◌, Bool, true, false, List, [], ◌∷◌, ◌++◌, filter, get_or, length, map}
+use Rattle.std.specs.Prelude.{◌≡◌, ℕ, ◌+◌, ◌<◌, Bool, true, false, List, [], ◌∷◌, ◌++◌, filter, get_or, length, map}
 use Rattle.meson_diff.specs.Lines.{lines}
 use Rattle.meson_diff.specs.declared.entry.Entry.{Entry}
 use Rattle.meson_diff.specs.declared.entry.Mark.{Mark}
@@ -57,8 +57,24 @@ BeginApart old new = (line : List ℕ) (os ns : List (List ℕ)) → old ≡ lin
 abbrev pub EndApart : List (List ℕ) → List (List ℕ) → Type 0
 EndApart old new = (line : List ℕ) (os ns : List (List ℕ)) → old ≡ os ++ line ∷ [] → new ≡ ns ++ line ∷ [] → ⊥
 
+-- of the first 65 lines of each, no line of the ones is one of the others
+abbrev pub NoneOfBoth : List (List ℕ) → List (List ℕ) → Type 0
+NoneOfBoth old new = (i j : ℕ) → i < 65 → j < 65 → IsMeeting old new i j → ⊥
+
+-- of the first 65 lines of each, none is one of both behind fewer lines in all than so many
+abbrev pub NoneNearer : List (List ℕ) → List (List ℕ) → ℕ → Type 0
+NoneNearer old new distance = (i j : ℕ) → i < 65 → j < 65 → i + j < distance → IsMeeting old new i j → ⊥
+
+-- The next line of both texts that is kept is always the nearest: of the first 65 lines of each, none is one of both behind fewer
+-- lines in all. Where none is kept any more, none of these is one of both.
+pub data KeepsNearest : List Entry → Type 0 where
+  none_left : (gone come : List (List ℕ)) → NoneOfBoth gone come → KeepsNearest (marked Gone gone ++ marked Come come)
+  nearest : (gone come : List (List ℕ)) (line : List ℕ) (behind : List Entry)
+      → NoneNearer (gone ++ line ∷ old_lines behind) (come ++ line ∷ new_lines behind) (length gone + length come) → KeepsNearest behind
+      → KeepsNearest (marked Gone gone ++ (marked Come come ++ (marked Kept (line ∷ []) ++ behind)))
+
 -- The lines with which both texts end are kept, and of those before them the ones with which both begin.
--- What stands between neither begins nor ends with one line of both.
+-- What stands between neither begins nor ends with one line of both; of its lines the nearest ones are kept.
 pub record KeepsEnds (entries : List Entry) : Type 0 where
   pub head : List (List ℕ)
   pub between : List Entry
@@ -66,3 +82,10 @@ pub record KeepsEnds (entries : List Entry) : Type 0 where
   pub parts : entries ≡ marked Kept head ++ (between ++ marked Kept tail)
   pub begin_apart : BeginApart (old_lines between) (new_lines between)
   pub end_apart : EndApart (old_lines between) (new_lines between)
+  pub nearest : KeepsNearest between
+
+-- ---- how they are kept
+
+-- with whatever entries of these lines behind them that keep the nearest ones, these entries keep them too
+abbrev pub GoOn : List (List ℕ) → List (List ℕ) → List Entry → Type 0
+GoOn old new entries = (behind : List Entry) → old_lines behind ≡ old → new_lines behind ≡ new → KeepsNearest behind → KeepsNearest (entries ++ behind)

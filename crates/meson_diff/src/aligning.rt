@@ -1,8 +1,8 @@
 //! The alignment of two texts: which lines are kept.
 
 ghost use Rattle.std.specs.Prelude.{◌≡◌, ◌+◌, ◌++◌, ◌-◌, ◌<◌, ◌≤◌, IfNone, IfOk, IfSome, OnOk, drop, false, length, take, true};
-ghost use Rattle.meson_diff.specs.Alignment.{IsMeeting, KeepsEnds, new_lines, old_lines};
-ghost use Rattle.meson_diff.specs.Changes.{AreChanges, GoOn, NoneNearer, NoneOfBoth};
+ghost use Rattle.meson_diff.specs.Alignment.{GoOn, IsMeeting, KeepsEnds, KeepsNearest, NoneNearer, NoneOfBoth, new_lines, old_lines};
+ghost use Rattle.meson_diff.specs.Changes.{AreChanges};
 
 use crate::entry::{Entry, Mark, push_all};
 use crate::line::Line;
@@ -86,7 +86,8 @@ fn push_meeting<'a>(
     requires { IsMeeting old.now new.now at.now.gone at.now.come }
     ensures of_old { OnOk result (old_lines entries.new.items ++ drop (at.now.gone + 1) old.now ≡ old_lines entries.old.items ++ old.now) }
     ensures of_new { OnOk result (new_lines entries.new.items ++ drop (at.now.come + 1) new.now ≡ new_lines entries.old.items ++ new.now) }
-    ensures changes { OnOk result (NoneNearer old.now new.now (at.now.gone + at.now.come) → GoOn entries.old.items → GoOn entries.new.items) }
+    ensures nearest { OnOk result (NoneNearer old.now new.now (at.now.gone + at.now.come) → GoOn old.now new.now entries.old.items
+        → GoOn (drop (at.now.gone + 1) old.now) (drop (at.now.come + 1) new.now) entries.new.items) }
 {
     push_all(entries, Mark::Gone, &old[..at.gone])?;
     push_all(entries, Mark::Come, &new[..at.come])?;
@@ -110,7 +111,7 @@ fn push_between<'a>(
 ) -> Result<(), AllocError>
     ensures of_old { OnOk result (old_lines entries.new.items ≡ old_lines entries.old.items ++ old.now) }
     ensures of_new { OnOk result (new_lines entries.new.items ≡ new_lines entries.old.items ++ new.now) }
-    ensures changes { OnOk result (GoOn entries.old.items → AreChanges entries.new.items) }
+    ensures nearest { OnOk result (GoOn old.now new.now entries.old.items → KeepsNearest entries.new.items) }
 {
     let mut old_left = old;
     let mut new_left = new;

@@ -60,7 +60,8 @@ fn file_diff(alloc: Global, name: &str, old: &[u8], new: &[u8]) -> Result<Vec<u8
 }
 
 /// What differs between two sets of the same files, as a unified diff with three lines of context, for `patch -p1` and
-/// `git apply`: file by file in order, and nothing of a file whose bytes are the same. A name is written as it is.
+/// `git apply`: file by file in order, and nothing of a file whose bytes are the same. A name is written as it is. Where lines
+/// go and others come in their place, those that go are first.
 ///
 /// # Errors
 /// Want of memory.

@@ -1,9 +1,10 @@
 use Rattle.std.proofs.Common.{◌∙◌, ◌++◌, ap, subst, subst₂, sym}
 use Rattle.meson_diff.specs.Alignment.{BeginApart, EndApart, marked, new_lines, old_lines}
-use Rattle.meson_diff.specs.Changes.{AreChanges, GoOn}
+use Rattle.meson_diff.specs.Changes.{AreChanges}
 use Rattle.meson_diff.specs.declared.entry.Mark.TheVariants.{Kept}
-use Rattle.meson_diff.proofs.Changes.{kept_before, kept_behind}
+use Rattle.meson_diff.proofs.Changes.{are_changes, kept_before, kept_behind}
 use Rattle.meson_diff.proofs.Ends.{begin_apart, end_apart, joined_ends, new_of_ends, old_of_ends, rest_apart}
+use Rattle.meson_diff.proofs.Nearest.{from_none}
 use Rattle.meson_diff.proofs.aligning.aligned.Goals as goal
 
 pub returns-clause-of_old : goal.returns-clause-of_old
@@ -53,6 +54,8 @@ returns-clause-ends c =
           c.new-entries.ensures.items c.in_ok-push_all.ensures c.in_ok-append.ensures.items c.in_ok-push_all-2.ensures;
       begin_apart = subst₂ BeginApart (sym old_lines_are) (sym new_lines_are) rest_begins;
       end_apart = subst₂ EndApart (sym old_lines_are) (sym new_lines_are) rest_ends;
+      nearest = from_none c.new-between.result.items between c.split_at-3.result.1.now c.split_at-4.result.1.now c.new-between.ensures.items
+          c.in_ok-push_between.ensures.nearest;
     }
 
 pub returns-clause-changes : goal.returns-clause-changes
@@ -62,5 +65,6 @@ returns-clause-changes c =
     let end = c.split_at.result.1.now in
     let parts = joined_ends c.new-entries.result.items c.push_all.new.entries.items c.append.new.self.items c.push_all-2.new.entries.items between begin end
     c.new-entries.ensures.items c.in_ok-push_all.ensures c.in_ok-append.ensures.items c.in_ok-push_all-2.ensures in
-    let start : GoOn c.new-between.result.items = subst GoOn (sym c.new-between.ensures.items) (λ behind changes. changes) in
-    subst AreChanges (sym parts) (kept_before begin (between ++ marked Kept end) (kept_behind between end (c.in_ok-push_between.ensures.changes start)))
+    let keeps = from_none c.new-between.result.items between c.split_at-3.result.1.now c.split_at-4.result.1.now c.new-between.ensures.items
+    c.in_ok-push_between.ensures.nearest in
+    subst AreChanges (sym parts) (kept_before begin (between ++ marked Kept end) (kept_behind between end (are_changes between keeps)))

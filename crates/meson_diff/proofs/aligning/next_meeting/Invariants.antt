@@ -1,4 +1,4 @@
-use Rattle.meson_diff.specs.Changes.{NoneNearer}
+use Rattle.meson_diff.specs.Alignment.{NoneNearer}
 use Rattle.meson_diff.proofs.Meetings.{NoneYet}
 use Rattle.meson_diff.proofs.aligning.next_meeting.Given as goal
 

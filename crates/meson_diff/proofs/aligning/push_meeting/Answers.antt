@@ -1,9 +1,9 @@
-use Rattle.std.proofs.Common.{◌+◌, ◌∙◌, ◌++◌, [], ap, drop, get_or, take}
+use Rattle.std.proofs.Common.{◌+◌, ◌∙◌, ◌++◌, ap, drop, take}
 use Rattle.std.specs.Prelude.{slice_range}
 use Rattle.meson_diff.specs.Alignment.{marked, new_lines, old_lines}
 use Rattle.meson_diff.specs.declared.entry.Mark.TheVariants.{Kept, Come}
-use Rattle.meson_diff.proofs.Changes.{change_more, none_before}
-use Rattle.meson_diff.proofs.Joins.{new_more, old_more, slice_one}
+use Rattle.meson_diff.proofs.Joins.{new_more, old_more}
+use Rattle.meson_diff.proofs.Nearest.{nearest_more}
 use Rattle.meson_diff.proofs.aligning.push_meeting.Goals as goal
 
 pub returns-clause-of_old : goal.returns-clause-of_old
@@ -30,15 +30,13 @@ returns-clause-of_new c =
     (c.in_ok-push_all-2.ensures ∙ ap (λ es. es ++ marked Come (take come new)) c.in_ok-push_all.ensures))
     ∙ new_more c.args.entries.now.items old new gone come c.requires
 
-pub returns-clause-changes : goal.returns-clause-changes
-returns-clause-changes c = λ none.
+pub returns-clause-nearest : goal.returns-clause-nearest
+returns-clause-nearest c =
     let old = c.args.old.now in
     let new = c.args.new.now in
     let gone = c.args.at.now.gone in
     let come = c.args.at.now.come in
-    let kept = slice_range old gone (gone + 1) in
     let parts = c.in_ok-push_all-3.ensures
-    ∙ ap (λ es. es ++ marked Kept kept)
+    ∙ ap (λ es. es ++ marked Kept (slice_range old gone (gone + 1)))
     (c.in_ok-push_all-2.ensures ∙ ap (λ es. es ++ marked Come (take come new)) c.in_ok-push_all.ensures) in
-    change_more c.args.entries.now.items c.push_all-3.new.entries.items (marked Kept kept) (take gone old) (take come new) (get_or old gone [])
-    parts (ap (marked Kept) (slice_one old gone c.requires.in_old)) (none_before old new gone come none)
+    nearest_more c.args.entries.now.items c.push_all-3.new.entries.items old new gone come c.requires parts
