@@ -71,13 +71,13 @@ no_other f g yea nay = go (bytes_eq f g) (bytes_eq-Decides f g).0
     go false same = refl
     go true same = let both : true ≡ false = sym yea ∙ ap (one_of target_functions) (same refl) ∙ nay in absurd cc
 
-target_no_files : (f : List ℕ) (l : Listing Nowhere) → one_of target_functions f ≡ true → is_files f l ≡ false
+pub target_no_files : (f : List ℕ) (l : Listing Nowhere) → one_of target_functions f ≡ true → is_files f l ≡ false
 target_no_files f (listing r trailing list) yea = ap (λ b. b && not (has_names list)) (no_other f (codes "files") yea refl)
 
-target_no_matter : (f : List ℕ) → one_of target_functions f ≡ true → matters f ≡ false
+pub target_no_matter : (f : List ℕ) → one_of target_functions f ≡ true → matters f ≡ false
 target_no_matter f yea = ap₂ (λ a b. a || b) (no_other f (codes "set_variable") yea refl) (no_other f (codes "subdir") yea refl)
 
-files_no_matter : (f : List ℕ) (l : Listing Nowhere) → is_files f l ≡ true → matters f ≡ false
+pub files_no_matter : (f : List ℕ) (l : Listing Nowhere) → is_files f l ≡ true → matters f ≡ false
 files_no_matter f (listing r trailing list) yea = go (bytes_eq f (codes "files")) (bytes_eq-Decides f (codes "files")).0 yea
   where
     go : (b : Bool) → (b ≡ true → f ≡ codes "files") → (b && not (has_names list)) ≡ true → matters f ≡ false
@@ -86,7 +86,7 @@ files_no_matter f (listing r trailing list) yea = go (bytes_eq f (codes "files")
 
 -- ---- elements with and without a name
 
-filter_every : {X : Type 0} (f : X → Bool) (xs : List X) → Every (λ x. f x ≡ true) (filter f xs)
+pub filter_every : {X : Type 0} (f : X → Bool) (xs : List X) → Every (λ x. f x ≡ true) (filter f xs)
 filter_every f [] = tt
 filter_every {X} f (x ∷ xs) = go (f x) refl (filter_every f xs)
   where
@@ -94,13 +94,13 @@ filter_every {X} f (x ∷ xs) = go (f x) refl (filter_every f xs)
     go true is all = (is, all)
     go false is all = all
 
-all_not : (xs : List (Argument Nowhere)) → Every (λ a. not_plain a ≡ true) xs → Every (λ a. is_plain a ≡ false) xs
+pub all_not : (xs : List (Argument Nowhere)) → Every (λ a. not_plain a ≡ true) xs → Every (λ a. is_plain a ≡ false) xs
 all_not [] all = tt
 all_not (plain e ∷ xs) all = let none = all.0 in absurd cc
 all_not (named s x e ∷ xs) all = (refl, all_not xs all.1)
 all_not (pair s e f ∷ xs) all = (refl, all_not xs all.1)
 
-none_by_level : (b : Bracket) → holds_names b ≡ false → holds_pairs b ≡ false → (front back : List (Argument Nowhere)) (nb : Bool) → LevelArguments (arguments_of (front ++ back)) b nb → Every (λ a. is_plain a ≡ false) back → back ≡ []
+pub none_by_level : (b : Bracket) → holds_names b ≡ false → holds_pairs b ≡ false → (front back : List (Argument Nowhere)) (nb : Bool) → LevelArguments (arguments_of (front ++ back)) b nb → Every (λ a. is_plain a ≡ false) back → back ≡ []
 none_by_level b nn np [] [] nb level all = refl
 none_by_level b nn np [] (plain e ∷ back) nb level all = let none = all.0 in absurd cc
 none_by_level b nn np [] (named s x e ∷ back) nb level all = let both : true ≡ false = sym level.0.0 ∙ nn in absurd cc
@@ -109,7 +109,7 @@ none_by_level b nn np (plain e ∷ front) back nb level all = none_by_level b nn
 none_by_level b nn np (named s x e ∷ front) back nb level all = none_by_level b nn np front back true level.1 all
 none_by_level b nn np (pair s e f ∷ front) back nb level all = none_by_level b nn np front back false level.1 all
 
-none_by_files : (front back : List (Argument Nowhere)) (nb : Bool) → LevelArguments (arguments_of (front ++ back)) bracket.Round nb → has_names (arguments_of (front ++ back)) ≡ false → Every (λ a. is_plain a ≡ false) back → back ≡ []
+pub none_by_files : (front back : List (Argument Nowhere)) (nb : Bool) → LevelArguments (arguments_of (front ++ back)) bracket.Round nb → has_names (arguments_of (front ++ back)) ≡ false → Every (λ a. is_plain a ≡ false) back → back ≡ []
 none_by_files [] [] nb level is all = refl
 none_by_files [] (plain e ∷ back) nb level is all = let none = all.0 in absurd cc
 none_by_files [] (named s x e ∷ back) nb level is all = absurd cc
@@ -118,7 +118,7 @@ none_by_files (plain e ∷ front) back nb level is all = none_by_files front bac
 none_by_files (named s x e ∷ front) back nb level is all = absurd cc
 none_by_files (pair s e f ∷ front) back nb level is all = none_by_files front back false level.1 is all
 
-files_names : (f : List ℕ) (r : Nowhere) (trailing : Bool) (list : Arguments Nowhere) → is_files f (listing r trailing list) ≡ true → has_names list ≡ false
+pub files_names : (f : List ℕ) (r : Nowhere) (trailing : Bool) (list : Arguments Nowhere) → is_files f (listing r trailing list) ≡ true → has_names list ≡ false
 files_names f r trailing list is = go (bytes_eq f (codes "files")) (has_names list) is
   where
     go : (a b : Bool) → (a && not b) ≡ true → b ≡ false
@@ -138,7 +138,7 @@ parts_first (pair s e f ∷ front) more zero y is = is
 parts_first (pair s e f ∷ front) more (suc zero) y is = is
 parts_first (pair s e f ∷ front) more (suc (suc m)) y is = parts_first front more m y is
 
-below_first : (front more : List (Argument Nowhere)) (m : ℕ) (rest : List ℕ) (y : Any Nowhere) → option_and_then (λ z. node_at z rest) (nth (arguments_parts (arguments_of (front ++ []))) m) ≡ Some y
+pub below_first : (front more : List (Argument Nowhere)) (m : ℕ) (rest : List ℕ) (y : Any Nowhere) → option_and_then (λ z. node_at z rest) (nth (arguments_parts (arguments_of (front ++ []))) m) ≡ Some y
     → option_and_then (λ z. node_at z rest) (nth (arguments_parts (arguments_of (front ++ more))) m) ≡ Some y
 below_first front more m rest y is =
     let o = and-then-some (λ z. node_at z rest) (nth (arguments_parts (arguments_of (front ++ []))) m) y is in
@@ -146,10 +146,10 @@ below_first front more m rest y is =
 
 -- ---- the form of a list
 
-listing_form : (l : Listing Nowhere) (zs : List (Argument Nowhere)) → elements l ≡ zs → (trailing : Bool) × (l ≡ listing tt trailing (arguments_of zs))
+pub listing_form : (l : Listing Nowhere) (zs : List (Argument Nowhere)) → elements l ≡ zs → (trailing : Bool) × (l ≡ listing tt trailing (arguments_of zs))
 listing_form (listing r trailing list) zs is = (trailing, ap (listing tt trailing) (sym (list-of-arguments list) ∙ ap arguments_of is))
 
-same_or_not : (p q : CallRef) → (p ≡ q) ⊎ (p ≡ q → ⊥)
+pub same_or_not : (p q : CallRef) → (p ≡ q) ⊎ (p ≡ q → ⊥)
 same_or_not p q = go (under p q)
   where
     go : ((rest : List ℕ) × (q ≡ below p rest)) ⊎ ((rest : List ℕ) → q ≡ below p rest → ⊥) → (p ≡ q) ⊎ (p ≡ q → ⊥)
@@ -160,11 +160,11 @@ same_or_not p q = go (under p q)
         by [] is = inl (sym (below_itself p) ∙ sym is)
         by (m ∷ rest) is = inr (λ same. let steps : [] ≡ m ∷ rest = below_steps p _ _ (below_itself p ∙ same ∙ is) in cc)
 
-older_there : (older newer : Any Nowhere) (path : List ℕ) (x y : Any Nowhere) → Becomes older newer path x y → node_at x path ≡ Some older
+pub older_there : (older newer : Any Nowhere) (path : List ℕ) (x y : Any Nowhere) → Becomes older newer path x y → node_at x path ≡ Some older
 older_there older newer [] x y w = ap Some w.0
 older_there older newer (n ∷ path) x y w = ap (option_and_then (λ z. node_at z path)) (differ_old w.0 w.1 w.2.parts) ∙ older_there older newer path w.0 w.1 w.3
 
-newer_there : (older newer : Any Nowhere) (path : List ℕ) (x y : Any Nowhere) → Becomes older newer path x y → node_at y path ≡ Some newer
+pub newer_there : (older newer : Any Nowhere) (path : List ℕ) (x y : Any Nowhere) → Becomes older newer path x y → node_at y path ≡ Some newer
 newer_there older newer [] x y w = ap Some w.1
 newer_there older newer (n ∷ path) x y w = ap (option_and_then (λ z. node_at z path)) (differ_new w.0 w.1 w.2.parts) ∙ newer_there older newer path w.0 w.1 w.3
 

@@ -39,17 +39,17 @@ use Rattle.meson_sources.proofs.WaysThere.{always, arguments_above, far_call}
 
 -- ---- the call, by its shape
 
-record CallOf (x : Any Nowhere) (f : List ℕ) (bs : List (Argument Nowhere)) : Type 0 where
-  r : Nowhere
-  name : Name Nowhere
-  z : Nowhere
-  trailing : Bool
-  list : Arguments Nowhere
-  is : x ≡ an_expression (call r name (listing z trailing list))
-  same_name : name.text ≡ f
-  same_blanks : blanks list ≡ bs
+pub record CallOf (x : Any Nowhere) (f : List ℕ) (bs : List (Argument Nowhere)) : Type 0 where
+  pub r : Nowhere
+  pub name : Name Nowhere
+  pub z : Nowhere
+  pub trailing : Bool
+  pub list : Arguments Nowhere
+  pub is : x ≡ an_expression (call r name (listing z trailing list))
+  pub same_name : name.text ≡ f
+  pub same_blanks : blanks list ≡ bs
 
-call_shape : (x : Any Nowhere) (f : List ℕ) (bs : List (Argument Nowhere)) → shape x ≡ a_call f bs → CallOf x f bs
+pub call_shape : (x : Any Nowhere) (f : List ℕ) (bs : List (Argument Nowhere)) → shape x ≡ a_call f bs → CallOf x f bs
 call_shape (an_expression (call r g (listing z t ys))) f bs is = record { r = r; name = g; z = z; trailing = t; list = ys; is = refl; same_name = let s : g.text ≡ f = cc in s; same_blanks = let s : blanks ys ≡ bs = cc in s }
 call_shape (an_expression (array l)) f bs is = absurd cc
 call_shape (an_expression (row r e os)) f bs is = absurd cc
@@ -88,7 +88,7 @@ module _ (old : Loaded) (h : CallRef) (file : BuildFile Span) (is_file : nth_fil
   unfolding text_or
   holder = text_or (owner (a_block (block_of file.tree)) h.path.steps)
 
-  holds_it : (x : List ℕ) (v : Placed (Expression Span)) → single (project old) x ≡ Some v → (rest : List ℕ) → h ≡ below v.place rest → x ≡ holder
+  pub holds_it : (x : List ℕ) (v : Placed (Expression Span)) → single (project old) x ≡ Some v → (rest : List ℕ) → h ≡ below v.place rest → x ≡ holder
   unfolding text_or holder
   holds_it x v is rest leads =
       let s = single_named (project old) x v is in
@@ -114,7 +114,7 @@ module _ (new_texts : List (List ℕ)) (seen : List (List ℕ) → Bool) (p : Pr
       (subst (λ (e : Expansion Nowhere). Every (Clear new_texts (IsIt h) seen) e.marks) (whole_bare p c xs) clear)
       (hidden_clear new_texts seen h (keyword kwargs_key the_call.it))) is_home other
 
-  grown_or_clear : (b : Bool) (ms ns : List (Mark Nowhere)) → Either new_texts (IsIt h) seen b ms ns → (Every (Clear new_texts (IsIt h) seen) ms → ⊥) → (b ≡ true) × Grows new_texts (gist ms) (gist ns)
+  pub grown_or_clear : (b : Bool) (ms ns : List (Mark Nowhere)) → Either new_texts (IsIt h) seen b ms ns → (Every (Clear new_texts (IsIt h) seen) ms → ⊥) → (b ≡ true) × Grows new_texts (gist ms) (gist ns)
   grown_or_clear b ms ns (as_before same clear) met = absurd (met clear)
   grown_or_clear b ms ns (grown is grows) met = (is, grows)
 

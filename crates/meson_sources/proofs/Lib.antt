@@ -74,3 +74,21 @@ mod Arrivals
 mod WholeSources
 mod NeverMet
 pub mod AllSources
+mod Losses
+mod LostMarks
+mod LostValues
+mod LostArguments
+mod PlacesAfter
+mod ShapesLeft
+mod NodesLeft
+mod ElementsLeft
+mod LossesBuilt
+mod QuietLists
+mod ItemsThere
+mod VariablesLeft
+mod NamedGone
+mod LeftSources
+mod SpotsHeld
+mod SameCalls
+mod CallLeft
+pub mod ShrunkSources

@@ -74,7 +74,7 @@ both_true : (b c : Bool) → (b && c) ≡ true → (b ≡ true) × (c ≡ true)
 both_true true c is = (refl, is)
 both_true false c is = absurd cc
 
-same_one : (s t : Spot) → same_spot s t ≡ true → s ≡ t
+pub same_one : (s t : Spot) → same_spot s t ≡ true → s ≡ t
 same_one s t is =
     let a = both_true (nat_eq s.list.file t.list.file) (is_path s.list.path.steps t.list.path.steps && nat_eq s.number t.number) is in
     let b = both_true (is_path s.list.path.steps t.list.path.steps) (nat_eq s.number t.number) a.1 in

@@ -1,7 +1,7 @@
 -- A string goes from its list: what is then at each place of the trees, and where the strings that go later stand.
-use Rattle.std.specs.Prelude.{All, ◌&&◌, ◌||◌, nat_eq, if◌then◌else◌, option_map}
+use Rattle.std.specs.Prelude.{◌⊎◌, All, ◌&&◌, ◌||◌, nat_eq, if◌then◌else◌, option_map}
 use Rattle.std.specs.List.{AllByRecursion, list_any}
-use Rattle.std.proofs.Common.{◌≡◌, ℕ, Bool, true, false, List, [], ◌∷◌, ◌++◌, append-nil, length, length-append, Option, Some, None, refl, sym, ap, ◌∙◌, arith}
+use Rattle.std.proofs.Common.{◌≡◌, ℕ, Bool, true, false, List, [], ◌∷◌, ◌++◌, append-nil, length, length-append, Option, Some, None, refl, sym, ap, ap₂, ◌∙◌, subst, arith, inl, inr}
 use Rattle.std.proofs.lemmas.Bool.{eqb-true, eq-eqb}
 use Rattle.meson_syntax.specs.Parts.{an_expression, node_at}
 use Rattle.meson_syntax.specs.Paths.{nth}
@@ -9,7 +9,7 @@ use Rattle.meson_syntax.specs.Tree.{Nowhere, Plain, Expression, string, Listing,
 use Rattle.meson_syntax.proofs.parsing.Steps.{some-injective}
 use Rattle.meson_syntax.proofs.paths.Every.{Every}
 use Rattle.meson_syntax.proofs.paths.Reaching.{map-some}
-use Rattle.meson_edit.specs.Edits.{elements}
+use Rattle.meson_edit.specs.Edits.{elements, with_elements}
 use Rattle.meson_calls.specs.declared.call.CallRef.{CallRef}
 use Rattle.meson_calls.specs.Project.{place}
 use Rattle.meson_steps.specs.ListSteps.{MayStandBetween}
@@ -20,10 +20,14 @@ use Rattle.meson_sources.specs.SourceEdits.{Spot, is_path, moved_up, path_after,
 use Rattle.meson_sources.proofs.ChildrenLeft.{at_list, clear_path, elements_left, kept, path_stays, seen, seen_left}
 use Rattle.meson_sources.proofs.ElementsThere.{root}
 use Rattle.meson_sources.proofs.OneGone.{without}
-use Rattle.meson_sources.proofs.PathsAfter.{length_after, is_same_path, same_paths}
+use Rattle.meson_sources.proofs.MarkLists as places
+use Rattle.meson_sources.proofs.PathsAfter.{length_after, is_same_path, not_there, same_paths}
+use Rattle.meson_sources.proofs.PlacesBelow.{under}
 use Rattle.meson_sources.proofs.RemovalsRename as renaming
 use Rattle.meson_sources.proofs.RemovedSpots.{Without, between, clear, level}
 use Rattle.meson_sources.proofs.RemovedSpots as removing
+use Rattle.meson_sources.proofs.Shapes.{Becomes, on_path, shape}
+use Rattle.meson_sources.proofs.ShapesLeft.{ListLost, became_new, became_old, list_lost, shape_by, shape_same}
 use Rattle.meson_sources.proofs.SpotsApart.{Apart, Clear, leads_back}
 use Rattle.meson_sources.proofs.RenamedStrings.{Node}
 use Rattle.meson_sources.proofs.StringsStay as lists
@@ -68,6 +72,9 @@ module _ (trees : List Plain) (all : All MayStandBetween trees) (s : Spot) (ther
   abbrev gone : Without trees s there
   gone = removing.goes trees all s there
 
+  lost : ListLost there.tree gone.now path k
+  lost = list_lost there.tree gone.now path k gone.is_now
+
   abbrev g : renaming.Goes there.tree gone.now path k
   g = renaming.goes there.tree gone.now (level trees all s there) path k there.it there.stands there.is_string gone.is_now
 
@@ -81,7 +88,7 @@ module _ (trees : List Plain) (all : All MayStandBetween trees) (s : Spot) (ther
     in_tree : s.list.file ≡ c.file → node_at (root there.tree) c.path.steps ≡ Some y
     in_tree file = ap (λ t. node_at (root t) c.path.steps) (some-injective _ _ (sym there.is_tree ∙ ap (nth trees) file ∙ h.is_tree)) ∙ h.is_node
 
-    clear_of : (n : ℕ) → Apart s (spot_of_child c n) → Clear s (spot_of_child c n)
+    pub clear_of : (n : ℕ) → Apart s (spot_of_child c n) → Clear s (spot_of_child c n)
     clear_of n apart = record {
       above = λ file. clear_path g.old g.new g.xs k g.loses new_other path (root there.tree) (root gone.now) g.put c.path.steps y (in_tree file) h.other;
       other = apart;
@@ -92,6 +99,7 @@ module _ (trees : List Plain) (all : All MayStandBetween trees) (s : Spot) (ther
       node : Node
       is : NodeIn (between trees all s there) there_now node
       seen_is : seen node ≡ strings
+      shape_is : shape node ≡ shape_by left (shape y)
       whole : Untouched s c → node ≡ y
       elements_are : (xs : List (Argument Nowhere)) → elements_any y ≡ Some xs → NotUnder s c → elements_any node ≡ Some (left xs)
 
@@ -107,12 +115,29 @@ module _ (trees : List Plain) (all : All MayStandBetween trees) (s : Spot) (ther
           node = g.new;
           is = record { tree = gone.now; is_tree = now_in file; is_node = ap (node_at (root gone.now)) stays ∙ at.1; other = new_other };
           seen_is = seen_left g.old g.new g.xs k g.loses new_other ∙ ap (λ x. without k (seen x)) is_old;
+          shape_is = ap shape (some-injective _ _ (sym at.1 ∙ became_new _ _ path (root there.tree) (root gone.now) lost.becomes)) ∙ lost.shapes
+              ∙ ap (λ x. shape_by (without k) (shape x)) (some-injective _ _ (sym (became_old _ _ path (root there.tree) (root gone.now) lost.becomes) ∙ at.0) ∙ is_old);
           whole = λ clear_of_it. absurd (clear_of_it [] file (same ∙ sym (append-nil c.path.steps)));
           elements_are = λ xs are not_under.
               let l = map-some elements (lists.list_any y) xs are in
               ap (option_map elements) g.is_listing
               ∙ ap Some (elements_left g.old g.new g.xs k g.loses new_other l.0 g.listing (ap lists.list_any is_old ∙ l.1) g.is_listing ∙ ap (without k) l.2);
         }
+
+    -- what is above the list keeps its shape
+    other_shape : s.list.file ≡ c.file → (path ≡ c.path.steps → ⊥) → (node : Node) → node_at (root gone.now) (path_after path k c.path.steps) ≡ Some node → (((rest : List ℕ) → s.list ≡ places.below c rest → ⊥) → node ≡ y) → shape node ≡ shape y
+    other_shape file apart node is_node whole = go (under c s.list)
+      where
+        on_way : (rest : List ℕ) → path ≡ c.path.steps ++ rest → shape node ≡ shape y
+        on_way [] leads = absurd (apart (leads ∙ append-nil c.path.steps))
+        on_way (n ∷ rest) leads =
+            let o = on_path _ _ c.path.steps (n ∷ rest) (root there.tree) (root gone.now) y (subst (λ l. Becomes (an_expression lost.older) (an_expression (lost.inner.back (with_elements lost.inner.list (without k (elements lost.inner.list))))) l (root there.tree) (root gone.now)) leads lost.becomes) (in_tree file) in
+            let stays : c.path.steps ≡ path_after path k c.path.steps = not_there path c.path.steps k (λ shorter front. let lengths = ap length leads in omega (arith, shorter, lengths, length-append c.path.steps (n ∷ rest))) in
+            ap shape (some-injective _ _ (sym is_node ∙ ap (node_at (root gone.now)) (sym stays) ∙ o.is_next)) ∙ o.further.2.shapes
+
+        go : ((rest : List ℕ) × (s.list ≡ places.below c rest)) ⊎ ((rest : List ℕ) → s.list ≡ places.below c rest → ⊥) → shape node ≡ shape y
+        go (inl w) = on_way w.0 (ap (λ (q : CallRef). q.path.steps) w.1)
+        go (inr not) = ap shape (whole not)
 
     of_other : s.list.file ≡ c.file → (path ≡ c.path.steps → ⊥) → Moved (place c.file (path_after path k c.path.steps)) (seen y) (λ xs. xs)
     of_other file apart =
@@ -121,6 +146,7 @@ module _ (trees : List Plain) (all : All MayStandBetween trees) (s : Spot) (ther
           node = r.node;
           is = record { tree = gone.now; is_tree = now_in file; is_node = r.is_node; other = r.other };
           seen_is = r.same;
+          shape_is = (other_shape file apart r.node r.is_node (λ none. r.whole (λ rest equal. none rest (ap₂ place file equal)))) ∙ sym (shape_same (λ xs. xs) (λ bs. refl) (shape y));
           whole = λ untouched. r.whole (λ rest equal. untouched rest file equal);
           elements_are = λ xs are not_under. ap elements_any (r.whole (outside apart (λ n rest equal. not_under n rest file equal))) ∙ are;
         }
@@ -134,6 +160,7 @@ module _ (trees : List Plain) (all : All MayStandBetween trees) (s : Spot) (ther
       node = y;
       is = record { tree = h.tree; is_tree = others_there trees s.list.file c.file gone.now apart ∙ h.is_tree; is_node = h.is_node; other = h.other };
       seen_is = refl;
+      shape_is = sym (shape_same (λ xs. xs) (λ bs. refl) (shape y));
       whole = λ untouched. refl;
       elements_are = λ xs are not_under. are;
     }
@@ -213,6 +240,7 @@ module _ (trees : List Plain) (all : All MayStandBetween trees) (s : Spot) (ther
         pub whole : Untouched s c → node ≡ y
         pub untouched : AllByRecursion (λ u. Untouched u c) more → AllByRecursion (λ u. Untouched u now) (spots_after s more)
         pub left : List (Argument Nowhere) → List (Argument Nowhere)
+        pub shapes : shape node ≡ shape_by left (shape y)
         pub elements_are : (xs : List (Argument Nowhere)) → elements_any y ≡ Some xs → NotUnder s c → elements_any node ≡ Some (left xs)
         pub left_are : (xs : List (Argument Nowhere)) → but (effects.goes (spots_after s more) now) (left xs) ≡ but before xs
         pub under : AllByRecursion (λ u. NotUnder u c) more → AllByRecursion (λ u. NotUnder u now) (spots_after s more)
@@ -241,6 +269,7 @@ module _ (trees : List Plain) (all : All MayStandBetween trees) (s : Spot) (ther
             whole = m.whole;
             untouched = all_untouched files more every;
             left = without k;
+            shapes = m.shape_is;
             elements_are = m.elements_are;
             left_are = but_without k (effects.goes (spots_after s more) now) before gone_here later_same;
             under = all_below files more every;
@@ -261,6 +290,7 @@ module _ (trees : List Plain) (all : All MayStandBetween trees) (s : Spot) (ther
             whole = m.whole;
             untouched = all_untouched files more every;
             left = λ xs. xs;
+            shapes = m.shape_is;
             elements_are = m.elements_are;
             left_are = but_same (effects.goes (spots_after s more) now) before later_same;
             under = all_below files more every;
@@ -280,6 +310,7 @@ module _ (trees : List Plain) (all : All MayStandBetween trees) (s : Spot) (ther
             whole = m.whole;
             untouched = elsewhere not_same more;
             left = λ xs. xs;
+            shapes = m.shape_is;
             elements_are = m.elements_are;
             left_are = but_same (effects.goes (spots_after s more) c) before later_same;
             under = all_elsewhere not_same more;

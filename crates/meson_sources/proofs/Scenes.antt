@@ -29,18 +29,18 @@ use Rattle.meson_sources.proofs.ValuePlaces.{file_names, value_place, value_plac
 
 -- ---- what all files tell
 
-abbrev SameTells : ℕ → Option Plain → Option Plain → Type 0
+abbrev pub SameTells : ℕ → Option Plain → Option Plain → Type 0
 SameTells k None None = Unit {0}
 SameTells k (Some t) (Some u) = told (parts_of_file k u) ≡ told (parts_of_file k t)
 SameTells k _ _ = ⊥
 
-file_tells : (k : ℕ) (t : Plain) → told (parts_of_file k t) ≡ of_any (place k []) (a_block (block_of t))
+pub file_tells : (k : ℕ) (t : Plain) → told (parts_of_file k t) ≡ of_any (place k []) (a_block (block_of t))
 file_tells k (file s b) = refl
 
 abbrev pub names_of : List File → List (List ℕ)
 names_of files = map (λ (f : File). f.name) files
 
-projects_tell : (fs gs : List File) → names_of gs ≡ names_of fs → (n : ℕ) (ts us : List Plain) → ((i : ℕ) → SameTells (n + i) (nth ts i) (nth us i))
+pub projects_tell : (fs gs : List File) → names_of gs ≡ names_of fs → (n : ℕ) (ts us : List Plain) → ((i : ℕ) → SameTells (n + i) (nth ts i) (nth us i))
     → (told (parts_from n (named_trees gs us)) ≡ told (parts_from n (named_trees fs ts))) × (file_names (named_trees gs us) ≡ file_names (named_trees fs ts))
 projects_tell [] [] names n ts us all = (refl, refl)
 projects_tell [] (g ∷ gs) names n ts us all = absurd cc

@@ -23,7 +23,7 @@ module _ {S : Type 0} where
   literal_erased (string s q x) = refl
   literal_erased _ = refl
 
-  first_erased : (n : ℕ) (list : Arguments S) → option_and_then literal_of (option_map (λ a. a.value) (first_of (filter_map (kept_number value_without_name) (numbered n (erase_arguments list)))))
+  pub first_erased : (n : ℕ) (list : Arguments S) → option_and_then literal_of (option_map (λ a. a.value) (first_of (filter_map (kept_number value_without_name) (numbered n (erase_arguments list)))))
       ≡ option_and_then literal_of (option_map (λ a. a.value) (first_of (filter_map (kept_number value_without_name) (numbered n list))))
   first_erased n no_arguments = refl
   first_erased n (argument (plain e) more) = literal_erased e

@@ -34,7 +34,7 @@ literal_first list = option_and_then literal_of (first_plain list)
 literal_is : (f : List ℕ) (r : Nowhere) (trailing : Bool) (list : Arguments Nowhere) → first_literal (record { function = f; arguments = listing r trailing list }) ≡ literal_first list
 literal_is f r trailing list = ap (option_and_then literal_of) (first_is 0 list)
 
-abbrev literal_any : Any Nowhere → Option (List ℕ)
+abbrev pub literal_any : Any Nowhere → Option (List ℕ)
 literal_any (an_expression e) = literal_of e
 literal_any (a_statement s) = None
 literal_any (a_block b) = None
@@ -180,7 +180,7 @@ pub array_told : (p : CallRef) (names : List (List ℕ)) (front back : List (Arg
 array_told p names front back r r2 trailing trailing2 =
     node_told p (an_expression (array (listing r2 trailing2 (arguments_of (front ++ (strings names ++ back)))))) ∙ grown_told p names front back 0 ∙ sym (node_told p (an_expression (array (listing r trailing (arguments_of (front ++ back))))))
 
-either_none : (b : Bool) → b ≡ false → (u v : Option Told) → (if b then u else None) ≡ (if b then v else None)
+pub either_none : (b : Bool) → b ≡ false → (u v : Option Told) → (if b then u else None) ≡ (if b then v else None)
 either_none true is u v = absurd cc
 either_none false is u v = refl
 

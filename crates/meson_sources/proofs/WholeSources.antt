@@ -31,7 +31,7 @@ use Rattle.meson_sources.proofs.SourceTotals.{gist_bare, whole_bare}
 
 -- ---- how many arguments have a key
 
-abbrev keyed : {S : Type 0} → List ℕ → ℕ → Arguments S → List (Numbered (Expression S))
+abbrev pub keyed : {S : Type 0} → List ℕ → ℕ → Arguments S → List (Numbered (Expression S))
 keyed key k xs = filter_map (kept_number (value_with_name key)) (numbered k xs)
 
 abbrev pub key_count : {S : Type 0} → List ℕ → Arguments S → ℕ
@@ -40,7 +40,7 @@ key_count key (argument (plain e) more) = key_count key more
 key_count key (argument (named s x e) more) = if bytes_eq x.text key then suc (key_count key more) else key_count key more
 key_count key (argument (pair s e f) more) = key_count key more
 
-key_length : {S : Type 0} (key : List ℕ) (k : ℕ) (xs : Arguments S) → length (keyed key k xs) ≡ key_count key xs
+pub key_length : {S : Type 0} (key : List ℕ) (k : ℕ) (xs : Arguments S) → length (keyed key k xs) ≡ key_count key xs
 key_length key k no_arguments = refl
 key_length key k (argument (plain e) more) = key_length key (k + 1) more
 key_length {S} key k (argument (named s x e) more) = go (bytes_eq x.text key) (key_length key (k + 1) more)
@@ -51,7 +51,7 @@ key_length {S} key k (argument (named s x e) more) = go (bytes_eq x.text key) (k
     go false is = is
 key_length key k (argument (pair s e f) more) = key_length key (k + 1) more
 
-key_bare : {S : Type 0} (key : List ℕ) (xs : Arguments S) → key_count key (erase_arguments xs) ≡ key_count key xs
+pub key_bare : {S : Type 0} (key : List ℕ) (xs : Arguments S) → key_count key (erase_arguments xs) ≡ key_count key xs
 key_bare key no_arguments = refl
 key_bare key (argument (plain e) more) = key_bare key more
 key_bare key (argument (named s x e) more) = ap (λ n. if bytes_eq x.text key then suc n else n) (key_bare key more)
@@ -80,7 +80,7 @@ key_strings key new (pair s e f ∷ front) back = key_strings key new front back
 
 -- ---- the answer by such a call
 
-once_again : {X Y A B : Type 0} (key : List ℕ) (xs : List X) (ys : List Y) (a a2 : A) (b : B) → length ys ≡ length xs → once key xs a ≡ Ok a2 → (once key ys b ≡ Ok b) × (a ≡ a2)
+pub once_again : {X Y A B : Type 0} (key : List ℕ) (xs : List X) (ys : List Y) (a a2 : A) (b : B) → length ys ≡ length xs → once key xs a ≡ Ok a2 → (once key ys b ≡ Ok b) × (a ≡ a2)
 once_again key [] [] a a2 b same is = (refl, let s : a ≡ a2 = cc in s)
 once_again key [] (y ∷ ys) a a2 b same is = absurd cc
 once_again key (x ∷ []) (y ∷ []) a a2 b same is = (refl, let s : a ≡ a2 = cc in s)
@@ -94,26 +94,27 @@ hidden_same [] (y ∷ ys) same = absurd cc
 hidden_same (x ∷ xs) [] same = absurd cc
 hidden_same (x ∷ xs) (y ∷ ys) same = refl
 
-span_tree : (files : List File) (parsed : List Parsed) (i : ℕ) (u : Plain) → nth (map erase (views files parsed)) i ≡ Some u → (f : BuildFile Span) × (nth_file (named_trees files (views files parsed)) i ≡ Some f) × (erase f.tree ≡ u)
+pub span_tree : (files : List File) (parsed : List Parsed) (i : ℕ) (u : Plain) → nth (map erase (views files parsed)) i ≡ Some u → (f : BuildFile Span) × (nth_file (named_trees files (views files parsed)) i ≡ Some f) × (erase f.tree ≡ u)
 span_tree [] parsed i u is = absurd cc
 span_tree (f ∷ files) [] i u is = absurd cc
 span_tree (f ∷ files) (t ∷ parsed) zero u is = (record { name = f.name; tree = view f.bytes t }, refl, some-injective _ _ is)
 span_tree (f ∷ files) (t ∷ parsed) (suc i) u is = span_tree files parsed i u is
 
-record CallWithSpans (e : Expression Span) (ys : Arguments Nowhere) : Type 0 where
-  s : Span
-  f : Name Span
-  z : Span
-  trailing : Bool
-  list : Arguments Span
-  is : e ≡ call s f (listing z trailing list)
-  same : erase_arguments list ≡ ys
+pub record CallWithSpans (e : Expression Span) (name : List ℕ) (ys : Arguments Nowhere) : Type 0 where
+  pub s : Span
+  pub f : Name Span
+  pub z : Span
+  pub trailing : Bool
+  pub list : Arguments Span
+  pub is : e ≡ call s f (listing z trailing list)
+  pub same : erase_arguments list ≡ ys
+  pub same_name : f.text ≡ name
 
-call_with_spans : (e : Expression Span) (r : Nowhere) (f : Name Nowhere) (z : Nowhere) (trailing : Bool) (ys : Arguments Nowhere) → erase_expression e ≡ call r f (listing z trailing ys) → CallWithSpans e ys
-call_with_spans (call s g (listing w t list)) r f z trailing ys is = record { s = s; f = g; z = w; trailing = t; list = list; is = refl; same = let e : erase_arguments list ≡ ys = cc in e }
+pub call_with_spans : (e : Expression Span) (r : Nowhere) (f : Name Nowhere) (z : Nowhere) (trailing : Bool) (ys : Arguments Nowhere) → erase_expression e ≡ call r f (listing z trailing ys) → CallWithSpans e f.text ys
+call_with_spans (call s g (listing w t list)) r f z trailing ys is = record { s = s; f = g; z = w; trailing = t; list = list; is = refl; same = let e : erase_arguments list ≡ ys = cc in e; same_name = let n : g.text ≡ f.text = cc in n }
 call_with_spans _ r f z trailing ys is = absurd cc
 
-value_texts : (is : List (Item Span)) → map (λ (i : SourceItem). i.value) (map source_item is) ≡ map (λ (i : Item Span). i.text) is
+pub value_texts : (is : List (Item Span)) → map (λ (i : SourceItem). i.value) (map source_item is) ≡ map (λ (i : Item Span). i.text) is
 value_texts [] = refl
 value_texts (i ∷ is) = ap (λ l. i.text ∷ l) (value_texts is)
 

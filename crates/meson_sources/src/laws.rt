@@ -1,7 +1,7 @@
 //! Laws of sources. The functions do nothing: what they ensure is the law.
 
 ghost use Rattle.meson_sources.specs.Effects.{ExtraIsAdded, ExtraIsRemoved, SourcesAreAdded, SourcesAreRemoved};
-ghost use Rattle.meson_sources.specs.WholeSources.{AllSourcesGrow};
+ghost use Rattle.meson_sources.specs.WholeSources.{AllSourcesGrow, AllSourcesShrink};
 
 /// The list where further sources of a target go has its elements in their order afterwards, and behind those without a name each new source once.
 pub fn sources_are_added()
@@ -29,4 +29,10 @@ pub fn sources_are_removed()
 /// The same of the extra files of a target.
 pub fn extra_is_removed()
     ensures { ExtraIsRemoved }
+{}
+
+/// After a removal all sources of the target, wherever they stand, are those that it had, in their order, but for those that are named. As many as before are not
+/// known. The target's call stands where it has moved to (a source that is gone may have stood before it in the same list), with its function and its name.
+pub fn all_sources_shrink()
+    ensures { AllSourcesShrink }
 {}

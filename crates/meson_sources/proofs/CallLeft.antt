@@ -1,0 +1,220 @@
+-- The call of a target after strings have gone from its lists of sources or of extra files.
+use Rattle.std.specs.Prelude.{All, not}
+use Rattle.std.proofs.Common.{◌≡◌, ℕ, zero, suc, ◌+◌, Bool, true, false, List, length, Some, None, refl, sym, ap, ◌∙◌, subst, arith, inl, inr}
+use Rattle.meson_lex.specs.Literals.{value}
+use Rattle.meson_lex.specs.declared.kinds.Span.{Span}
+use Rattle.meson_syntax.specs.declared.operator.StringKind.{StringKind}
+use Rattle.meson_syntax.specs.Grammar.{LevelExpression}
+use Rattle.meson_syntax.specs.Operators.{string_kind}
+use Rattle.meson_syntax.specs.Parts.{an_expression, child_nodes}
+use Rattle.meson_syntax.specs.Paths.{nth}
+use Rattle.meson_syntax.specs.Tree.{Nowhere, Plain, Name, Expression, string, call, listing, plain, named, pair, Arguments, no_arguments, argument, erase_arguments, erase_expression, erase_name}
+use Rattle.meson_syntax.proofs.paths.Every.{Every}
+use Rattle.meson_syntax.proofs.paths.Reaching.{map-some}
+use Rattle.meson_calls.specs.declared.call.CallRef.{CallRef}
+use Rattle.meson_calls.specs.Calls.{Call}
+use Rattle.meson_calls.specs.Expansion.{Item, Stand, literal_item, max_followed}
+use Rattle.meson_calls.specs.Loading.{Loaded, project}
+use Rattle.meson_calls.specs.Project.{Placed, placed, expression_at}
+use Rattle.meson_calls.specs.Roles.{one_of, target_functions}
+use Rattle.meson_calls.specs.Variables.{single}
+use Rattle.meson_steps.specs.ListSteps.{MayStandBetween}
+use Rattle.meson_steps.specs.Names.{distinct}
+use Rattle.meson_steps.specs.ResultLimits.{plain_trees}
+use Rattle.meson_steps.specs.Steps.{all_stepped}
+use Rattle.meson_sources.specs.Effects.{AreSpotsOf, goes, place_after, string_child}
+use Rattle.meson_sources.specs.SourceEdits.{Spot, distinct_spots, removal_steps}
+use Rattle.meson_sources.specs.WholeSources.{SameCall, file_names}
+use Rattle.meson_sources.proofs.AllSources.{files_no_matter, target_no_files, target_no_matter}
+use Rattle.meson_sources.proofs.Arrivals.{call_shape}
+use Rattle.meson_sources.proofs.Bares.{Values, bare_value, expand_with, values_of}
+use Rattle.meson_sources.proofs.DistinctSpots.{distinct_apart, every_distinct}
+use Rattle.meson_sources.proofs.ItemsThere.{CallFrom, FirstOf, IsSources}
+use Rattle.meson_sources.proofs.Kins.{node_level, value_in}
+use Rattle.meson_sources.proofs.LeftSources.{NamedGoes}
+use Rattle.meson_sources.proofs.Losses.{EachLoses, Loses}
+use Rattle.meson_sources.proofs.LostMarks.{Left, slot_gone}
+use Rattle.meson_sources.proofs.ElementsLeft.{Lost}
+use Rattle.meson_sources.proofs.LossesBuilt.{loses}
+use Rattle.meson_sources.proofs.LostArguments.{FirstStays}
+use Rattle.meson_sources.proofs.LostValues.{expand_left}
+use Rattle.meson_sources.proofs.NodesLeft.{NodeLeft, node_left}
+use Rattle.meson_sources.proofs.OneStringGone as kept
+use Rattle.meson_sources.proofs.QuietLists.{QuietAt, quiet, tells_left}
+use Rattle.meson_sources.proofs.RenamedStrings.{Node}
+use Rattle.meson_sources.proofs.SameCalls.{first_left, same_call}
+use Rattle.meson_sources.proofs.Scenes.{NodeIn, bare_in}
+use Rattle.meson_sources.proofs.Shapes.{shape}
+use Rattle.meson_sources.proofs.SpotsHeld.{Held, SpotHeld, all_named, each_spot, gone_held, same_there}
+use Rattle.meson_sources.proofs.StringsStay.{element_any}
+use Rattle.meson_sources.proofs.StringsThere.{StringIn}
+use Rattle.meson_sources.proofs.VariablesLeft.{values_left}
+
+-- ---- the first argument without a name
+
+-- whether it has this number, counted from k on
+abbrev pub FirstIs : ℕ → ℕ → Arguments Nowhere → Type 0
+FirstIs k n no_arguments = ⊥
+FirstIs k n (argument (plain e) more) = n ≡ k
+FirstIs k n (argument (named t x e) more) = FirstIs (k + 1) n more
+FirstIs k n (argument (pair t e f) more) = FirstIs (k + 1) n more
+
+pub first_of : (xs : Arguments Nowhere) (k : ℕ) → FirstOf (λ n. FirstIs k n xs) k xs
+first_of no_arguments k = tt
+first_of (argument (plain e) more) k = λ j is. omega (arith, is)
+first_of (argument (named t x e) more) k = first_of more (k + 1)
+first_of (argument (pair t e f) more) k = first_of more (k + 1)
+
+first_stays : (gone : CallRef → ℕ → Bool) (c : CallRef) (xs : Arguments Nowhere) (k : ℕ) → ((n : ℕ) → FirstIs k n xs → gone c n ≡ false) → FirstStays gone c k xs
+first_stays gone c no_arguments k stays = tt
+first_stays gone c (argument (plain e) more) k stays = stays k refl
+first_stays gone c (argument (named t x e) more) k stays = first_stays gone c more (k + 1) stays
+first_stays gone c (argument (pair t e f) more) k stays = first_stays gone c more (k + 1) stays
+
+-- ---- nodes
+
+quiet_other : (y : Node) → quiet (shape y) ≡ true → string_child y ≡ None
+quiet_other (an_expression (string t q x)) is = absurd cc
+quiet_other _ is = refl
+
+as_kept : (trees : List Plain) (p : CallRef) (y : Node) → NodeIn trees p y → string_child y ≡ None → kept.NodeIn trees p y
+as_kept trees p y n other = record { tree = n.tree; is_tree = n.is_tree; is_node = n.is_node; other = other }
+
+as_there : (trees : List Plain) (p : CallRef) (y : Node) → kept.NodeIn trees p y → NodeIn trees p y
+as_there trees p y n = record { tree = n.tree; is_tree = n.is_tree; is_node = n.is_node }
+
+pub literals : (values : Values) (left : ℕ) (q : StringKind) (x : List ℕ) (s : Stand) (f : List (List ℕ)) → expand_with values left (string tt q x) s f ≡ literal_item tt s f (value (string_kind q) x)
+literals values zero q x s f = refl
+literals values (suc left) q x s f = refl
+
+-- ---- the target's call
+
+module _ (old : Loaded) (stand : All MayStandBetween (plain_trees old)) (c : CallRef) (s : Span) (f : Name Span) (r : Span) (trailing : Bool) (xs : Arguments Span) (at : expression_at (project old) c ≡ Some (call s f (listing r trailing xs)))
+    (target : one_of target_functions f.text ≡ true) where
+  abbrev trees : List Plain
+  trees = plain_trees old
+
+  abbrev pub bare_xs : Arguments Nowhere
+  bare_xs = erase_arguments xs
+
+  abbrev pub call_node : Expression Nowhere
+  call_node = call tt (erase_name f) (listing tt trailing bare_xs)
+
+  pub at_call : NodeIn trees c (an_expression call_node)
+  at_call = bare_in old c _ at
+
+  pub call_level : LevelExpression call_node
+  call_level = node_level trees stand c call_node at_call
+
+  -- what holds of each list of sources: it tells nothing of variables, and if it is the call's, the element is not its first one
+  abbrev pub Fine : CallRef → ℕ → Node → Type 0
+  Fine q n y = (quiet (shape y) ≡ true) × (q ≡ c → FirstIs 0 n bare_xs → ⊥)
+
+  not_call : (q : CallRef) (y : Node) → NodeIn trees q y → q ≡ c → y ≡ an_expression call_node
+  not_call q y h same = same_there trees c (an_expression call_node) y at_call (subst (λ p. NodeIn trees p y) same h)
+
+  pub fine : (q : CallRef) (n : ℕ) (y : Node) → NodeIn trees q y → IsSources y → Fine q n y
+  fine q n y h (inl w) = (ap (λ z. quiet (shape z)) w.1, λ same first. let node = sym w.1 ∙ not_call q y h same in cc)
+  fine q n y h (inr w) = (
+    ap (λ z. quiet (shape z)) w.3 ∙ ap not (files_no_matter w.1.text w.2 w.4),
+    λ same first.
+        let node : an_expression (call w.0 w.1 w.2) ≡ an_expression call_node = sym w.3 ∙ not_call q y h same in
+        let name : w.1.text ≡ f.text = cc in
+        let none = target_no_files w.1.text w.2 (ap (one_of target_functions) name ∙ target) in
+        let both : true ≡ false = sym w.4 ∙ none in cc,
+  )
+
+  pub values_stand : (x : List ℕ) (v : Placed (Expression Nowhere)) → values_of (project old) x ≡ Some v → NodeIn trees v.place (an_expression v.it) × LevelExpression v.it
+  values_stand x v is =
+      let m = map-some bare_value (single (project old) x) v is in
+      let n = value_in old x m.0 m.0.place m.1 refl in
+      subst (λ (w : Placed (Expression Nowhere)). NodeIn trees w.place (an_expression w.it) × LevelExpression w.it) m.2 (n, node_level trees stand m.0.place (erase_expression m.0.it) n)
+
+  abbrev pub the_target : Placed (Call Span)
+  the_target = placed {X = Call Span} c (record { function = f.text; arguments = listing r trailing xs })
+
+  pub call_from : CallFrom trees Fine fine (values_of (project old)) values_stand c (an_expression call_node) at_call (λ n. FirstIs 0 n bare_xs) (λ n other. (ap not (target_no_matter f.text target), λ same. other)) bare_xs 0 false
+  call_from = record {
+    level = call_level.1;
+    children = λ j x is. let k : j ≡ 0 + j = omega arith in ap (nth (child_nodes (an_expression call_node))) (sym k) ∙ is;
+    elements_are = λ j a is. let k : j ≡ 0 + j = omega arith in ap (element_any (an_expression call_node)) (sym k) ∙ is;
+  }
+
+  -- ---- after the removal
+
+  module _ (new : Loaded) (same_names : file_names new ≡ file_names old) (names : List (List ℕ)) (is : List (Item Span)) (held : Every (Held trees Fine fine) is) (found : List Spot) (of_names : AreSpotsOf is (distinct names) found)
+      (are_found : Every (StringIn trees) found) (done : all_stepped (removal_steps (distinct_spots found)) trees ≡ Some (plain_trees new)) where
+    abbrev spots : List Spot
+    spots = distinct_spots found
+
+    abbrev after : List Plain
+    after = plain_trees new
+
+    abbrev pub gone : CallRef → ℕ → Bool
+    gone = goes spots
+
+    are : Every (StringIn trees) spots
+    are = every_distinct (StringIn trees) found are_found
+
+    left : (q : CallRef) (y : Node) → kept.NodeIn trees q y → NodeLeft (length spots) spots q y after
+    left = node_left (length spots) spots refl trees after stand are (distinct_apart found) done
+
+    held_at : (q : CallRef) (n : ℕ) → gone q n ≡ true → SpotHeld trees Fine fine names is held found of_names q n
+    held_at = gone_held trees Fine fine names is held found of_names
+
+    valued : (q : CallRef) (n : ℕ) → gone q n ≡ true → (y : Node) → kept.NodeIn trees q y → Lost spots trees after (element_any y) n
+    valued q n is y h =
+        let w = (held_at q n is).string_held in
+        let same = same_there trees q w.held.node y w.held.is (as_there trees q y h) in
+        (plain (string tt w.kind w.word), ap (λ z. element_any z n) same ∙ w.held.element_is, record { kind = w.kind; word = w.word; text = (held_at q n is).text; is_string = refl; is_value = w.is_value })
+
+    silent : Every (QuietAt trees) spots
+    silent = each_spot trees Fine fine names is held found of_names (QuietAt trees) (λ t w.
+        let held = w.string_held.held in record { node = held.node; is = as_kept trees t.list held.node held.is (quiet_other held.node held.is_fine.0); quiet_is = held.is_fine.0 })
+
+    pub first : FirstStays gone c 0 bare_xs
+    first = first_stays gone c bare_xs 0 (λ n is. go n is (gone c n) refl)
+      where
+        go : (n : ℕ) → FirstIs 0 n bare_xs → (b : Bool) → gone c n ≡ b → b ≡ false
+        go n is true has_gone = absurd ((held_at c n has_gone).string_held.held.is_fine.1 refl is)
+        go n is false stays = refl
+
+    pub record CallLeft : Type 0 where
+      pub name : Name Nowhere
+      pub same_name : name.text ≡ f.text
+      pub flag : Bool
+      pub ys : Arguments Nowhere
+      pub node : NodeIn after (place_after (length spots) spots c) (an_expression (call tt name (listing tt flag ys)))
+      pub each : EachLoses gone c 0 bare_xs ys
+
+    pub call_left : CallLeft
+    call_left =
+        let h = as_kept trees c (an_expression call_node) at_call refl in
+        let l = left c (an_expression call_node) h in
+        let w = call_shape l.node _ _ l.shapes in
+        let k = subst (kept.NodeIn after (place_after (length spots) spots c)) w.is l.is in
+        let o = loses spots trees after left valued are call_node c call_level h (call w.r w.name (listing w.z w.trailing w.list)) k in
+        let m = o.4 in
+        record {
+          name = o.0;
+          same_name = o.3;
+          flag = m.0;
+          ys = m.1;
+          node = subst (λ e. NodeIn after (place_after (length spots) spots c) (an_expression e)) (o.2 ∙ ap (call tt o.0) m.2) (as_there after (place_after (length spots) spots c) _ k);
+          each = m.3;
+        }
+
+    -- what is met in each expression then
+    pub each_left : (e now : Expression Nowhere) (u v : Stand) (g k : List (List ℕ)) → k ≡ g → slot_gone gone u.slot ≡ false → Loses gone u.place e now
+        → Left gone (expand_with (values_of (project old)) max_followed e u g) (expand_with (values_of (project new)) max_followed now v k)
+    each_left =
+        let tells = λ (i : ℕ). tells_left (length spots) spots refl trees after stand are silent (distinct_apart found) done (0 + i) i in
+        expand_left gone (values_of (project old)) (values_of (project new)) (values_left old new same_names tells stand spots left valued are) max_followed
+
+    pub are_named : Every (NamedGoes gone names) is
+    are_named = all_named trees Fine fine names is held found of_names
+
+    pub stays_call : SameCall the_target.it (project new) (place_after (length spots) spots c)
+    stays_call =
+        let k = call_left in
+        same_call new (place_after (length spots) spots c) f.text r trailing xs k.name k.flag k.ys k.node k.same_name (first_left gone c 0 0 bare_xs k.ys first k.each)

@@ -1,0 +1,100 @@
+-- The arguments of a call that hold sources after strings have gone from lists, that of the call among them.
+use Rattle.std.specs.Prelude.{if◌then◌else◌, bytes_eq, option_map}
+use Rattle.std.specs.List.{cons_option}
+use Rattle.std.proofs.Common.{◌≡◌, ℕ, suc, ◌+◌, Bool, true, false, List, [], ◌∷◌, Some, None, refl, sym, ap, ap₂, ◌∙◌, subst, inl, inr}
+use Rattle.meson_lex.specs.Literals.{value}
+use Rattle.meson_syntax.specs.declared.operator.StringKind.{StringKind}
+use Rattle.meson_syntax.specs.Operators.{string_kind}
+use Rattle.meson_syntax.specs.Tree.{Nowhere, Expression, string, plain, named, pair, Arguments, no_arguments, argument}
+use Rattle.meson_calls.specs.declared.call.CallRef.{CallRef}
+use Rattle.meson_calls.specs.Calls.{Numbered}
+use Rattle.meson_calls.specs.Expansion.{in_list, fixed, Expansion, Stand, both_expanded, literal_item}
+use Rattle.meson_calls.specs.Project.{child}
+use Rattle.meson_calls.specs.Sources.{rest, sources_key}
+use Rattle.meson_sources.proofs.CallTrees.{Expand, list_with, plains, whole}
+use Rattle.meson_sources.proofs.Losses.{Loses, EachLoses}
+use Rattle.meson_sources.proofs.LostMarks.{Left, slot_gone, nothing_left, both_left, lost_literal}
+use Rattle.meson_sources.proofs.WholeSources.{key_count, keyed}
+
+module _ (gone : CallRef → ℕ → Bool) where
+  -- the first argument without a name stays
+  abbrev pub FirstStays : CallRef → ℕ → Arguments Nowhere → Type 0
+  FirstStays c k no_arguments = Unit {0}
+  FirstStays c k (argument (plain e) more) = gone c k ≡ false
+  FirstStays c k (argument (named t x e) more) = FirstStays c (k + 1) more
+  FirstStays c k (argument (pair t e f) more) = FirstStays c (k + 1) more
+
+  -- as many arguments have a key
+  pub keys_stay : (key : List ℕ) (c : CallRef) (k : ℕ) (xs ys : Arguments Nowhere) → EachLoses gone c k xs ys → key_count key ys ≡ key_count key xs
+  keys_stay key c k no_arguments ys l = ap (key_count key) l
+  keys_stay key c k (argument a more) ys (inl l) = keys_stay key c (k + 1) more ys l.2 ∙ ap (λ b. key_count key (argument b more)) (sym l.1.is_string)
+  keys_stay key c k (argument (plain e) more) ys (inr l) = ap (key_count key) l.3 ∙ ap (λ b. key_count key (argument b l.2)) l.4.1 ∙ keys_stay key c (k + 1) more l.2 l.5
+  keys_stay key c k (argument (named t x e) more) ys (inr l) =
+      ap (key_count key) l.3 ∙ ap (λ b. key_count key (argument b l.2)) l.4.2 ∙ ap₂ (λ y n. if bytes_eq y key then suc n else n) l.4.3 (keys_stay key c (k + 1) more l.2 l.5)
+  keys_stay key c k (argument (pair t e f) more) ys (inr l) = ap (key_count key) l.3 ∙ ap (λ b. key_count key (argument b l.2)) l.4.2 ∙ keys_stay key c (k + 1) more l.2 l.5
+
+  module _ (one two : Expand) (literals : (q : StringKind) (x : List ℕ) (s : Stand) (f : List (List ℕ)) → one (string tt q x) s f ≡ literal_item tt s f (value (string_kind q) x))
+      (each : (e now : Expression Nowhere) (s t : Stand) (f g : List (List ℕ)) → g ≡ f → slot_gone gone s.slot ≡ false → Loses gone s.place e now → Left gone (one e s f) (two now t g)) (c d : CallRef) where
+    abbrev PlainsLeft : List (Numbered (Expression Nowhere)) → List (Numbered (Expression Nowhere)) → Type 0
+    PlainsLeft us vs = (f g : List (List ℕ)) → g ≡ f → Left gone (list_with one c (in_list c) us f) (list_with two d (in_list d) vs g)
+
+    abbrev KeysLeft : List (Numbered (Expression Nowhere)) → List (Numbered (Expression Nowhere)) → Type 0
+    KeysLeft us vs = (f g : List (List ℕ)) → g ≡ f → Left gone (list_with one c (λ n. fixed) us f) (list_with two d (λ n. fixed) vs g)
+
+    -- a string of the call's own list that has gone
+    plain_lost : (q : StringKind) (x text : List ℕ) → value (string_kind q) x ≡ Some text → (k : ℕ) → gone c k ≡ true → (us vs : List (Numbered (Expression Nowhere))) → PlainsLeft us vs → PlainsLeft (record { number = k; value = string tt q x } ∷ us) vs
+    plain_lost q x text is_value k is us vs more f g same =
+        let s : Stand = record { place = child c k; slot = in_list c k; variable = None } in
+        subst (λ (z : Expansion Nowhere). Left gone (both_expanded z (list_with one c (in_list c) us z.followed)) (list_with two d (in_list d) vs g)) (sym (literals q x s f))
+        (lost_literal gone s f is (value (string_kind q) x) text is_value (λ now. list_with one c (in_list c) us now) (list_with two d (in_list d) vs g) (more f g same))
+
+    plains_left : (xs ys : Arguments Nowhere) (k m : ℕ) → EachLoses gone c k xs ys → PlainsLeft (plains k xs) (plains m ys)
+    plains_left no_arguments ys k m l = subst (λ z. PlainsLeft [] (plains m z)) (sym l) (λ f g same. nothing_left gone f g same)
+    plains_left (argument a more) ys k m (inl l) =
+        subst (λ z. PlainsLeft (plains k (argument z more)) (plains m ys)) (sym l.1.is_string)
+        (plain_lost l.1.kind l.1.word l.1.text l.1.is_value k l.0 (plains (k + 1) more) (plains m ys) (plains_left more ys (k + 1) m l.2))
+    plains_left (argument (plain e) more) ys k m (inr l) =
+        subst (λ z. PlainsLeft (plains k (argument (plain e) more)) (plains m z)) (sym (l.3 ∙ ap (λ b. argument b l.2) l.4.1)) (λ f g same.
+        let o = each e l.4.0 (record { place = child c k; slot = in_list c k; variable = None }) (record { place = child d m; slot = in_list d m; variable = None }) f g same l.0 l.4.2 in
+        both_left gone _ _ _ _ o (plains_left more l.2 (k + 1) (m + 1) l.5 _ _ o.followed))
+    plains_left (argument (named t x e) more) ys k m (inr l) =
+        subst (λ z. PlainsLeft (plains (k + 1) more) (plains m z)) (sym (l.3 ∙ ap (λ b. argument b l.2) l.4.2)) (plains_left more l.2 (k + 1) (m + 1) l.5)
+    plains_left (argument (pair t e v) more) ys k m (inr l) =
+        subst (λ z. PlainsLeft (plains (k + 1) more) (plains m z)) (sym (l.3 ∙ ap (λ b. argument b l.2) l.4.2)) (plains_left more l.2 (k + 1) (m + 1) l.5)
+
+    rest_left : (xs ys : Arguments Nowhere) (k m : ℕ) → FirstStays c k xs → EachLoses gone c k xs ys → PlainsLeft (rest (plains k xs)) (rest (plains m ys))
+    rest_left no_arguments ys k m first l = subst (λ z. PlainsLeft [] (rest (plains m z))) (sym l) (λ f g same. nothing_left gone f g same)
+    rest_left (argument a more) ys k m first (inl l) =
+        let stays = subst (λ z. FirstStays c k (argument z more)) l.1.is_string first in
+        let both : true ≡ false = sym l.0 ∙ stays in absurd cc
+    rest_left (argument (plain e) more) ys k m first (inr l) =
+        subst (λ z. PlainsLeft (plains (k + 1) more) (rest (plains m z))) (sym (l.3 ∙ ap (λ b. argument b l.2) l.4.1)) (plains_left more l.2 (k + 1) (m + 1) l.5)
+    rest_left (argument (named t x e) more) ys k m first (inr l) =
+        subst (λ z. PlainsLeft (rest (plains (k + 1) more)) (rest (plains m z))) (sym (l.3 ∙ ap (λ b. argument b l.2) l.4.2)) (rest_left more l.2 (k + 1) (m + 1) first l.5)
+    rest_left (argument (pair t e v) more) ys k m first (inr l) =
+        subst (λ z. PlainsLeft (rest (plains (k + 1) more)) (rest (plains m z))) (sym (l.3 ∙ ap (λ b. argument b l.2) l.4.2)) (rest_left more l.2 (k + 1) (m + 1) first l.5)
+
+    -- with one more argument of the key, or without
+    abbrev with_key : Bool → ℕ → Expression Nowhere → List (Numbered (Expression Nowhere)) → List (Numbered (Expression Nowhere))
+    with_key z k e more = cons_option (option_map (λ y. record { number = k; value = y }) (if z then Some e else None)) more
+
+    key_left : (z : Bool) (e now : Expression Nowhere) (k m : ℕ) (us vs : List (Numbered (Expression Nowhere))) → Loses gone (child c k) e now → KeysLeft us vs → KeysLeft (with_key z k e us) (with_key z m now vs)
+    key_left true e now k m us vs l more f g same =
+        let o = each e now (record { place = child c k; slot = fixed; variable = None }) (record { place = child d m; slot = fixed; variable = None }) f g same refl l in
+        both_left gone _ _ _ _ o (more _ _ o.followed)
+    key_left false e now k m us vs l more f g same = more f g same
+
+    pub keyed_left : (key : List ℕ) (xs ys : Arguments Nowhere) (k m : ℕ) → EachLoses gone c k xs ys → KeysLeft (keyed key k xs) (keyed key m ys)
+    keyed_left key no_arguments ys k m l = subst (λ z. KeysLeft [] (keyed key m z)) (sym l) (λ f g same. nothing_left gone f g same)
+    keyed_left key (argument a more) ys k m (inl l) = subst (λ z. KeysLeft (keyed key k (argument z more)) (keyed key m ys)) (sym l.1.is_string) (keyed_left key more ys (k + 1) m l.2)
+    keyed_left key (argument (plain e) more) ys k m (inr l) = subst (λ z. KeysLeft (keyed key (k + 1) more) (keyed key m z)) (sym (l.3 ∙ ap (λ b. argument b l.2) l.4.1)) (keyed_left key more l.2 (k + 1) (m + 1) l.5)
+    keyed_left key (argument (named t x e) more) ys k m (inr l) =
+        subst (λ z. KeysLeft (keyed key k (argument (named t x e) more)) (keyed key m z)) (sym (l.3 ∙ ap (λ b. argument b l.2) l.4.2))
+        (subst (λ y. KeysLeft (with_key (bytes_eq x.text key) k e (keyed key (k + 1) more)) (with_key (bytes_eq y key) m l.4.1 (keyed key (m + 1) l.2))) (sym l.4.3)
+        (key_left (bytes_eq x.text key) e l.4.1 k m (keyed key (k + 1) more) (keyed key (m + 1) l.2) l.4.4 (keyed_left key more l.2 (k + 1) (m + 1) l.5)))
+    keyed_left key (argument (pair t e v) more) ys k m (inr l) = subst (λ z. KeysLeft (keyed key (k + 1) more) (keyed key m z)) (sym (l.3 ∙ ap (λ b. argument b l.2) l.4.2)) (keyed_left key more l.2 (k + 1) (m + 1) l.5)
+
+    pub whole_left : (xs ys : Arguments Nowhere) → FirstStays c 0 xs → EachLoses gone c 0 xs ys → (f g : List (List ℕ)) → g ≡ f → Left gone (whole one c xs f) (whole two d ys g)
+    whole_left xs ys first l f g same =
+        let o = rest_left xs ys 0 0 first l f g same in
+        both_left gone _ _ _ _ o (keyed_left sources_key xs ys 0 0 l _ _ o.followed)

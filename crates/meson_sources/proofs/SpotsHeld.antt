@@ -1,0 +1,124 @@
+-- At each spot that goes stands a source with one of the names that are removed, and each such source stands at one.
+use Rattle.std.specs.Prelude.{◌&&◌}
+use Rattle.std.specs.List.{list_any}
+use Rattle.std.proofs.Common.{◌≡◌, ℕ, Bool, true, false, List, [], ◌∷◌, ◌++◌, map, refl, sym, ap, ◌∙◌, subst}
+use Rattle.meson_lex.specs.Literals.{value}
+use Rattle.meson_lex.specs.declared.kinds.Span.{Span}
+use Rattle.meson_syntax.specs.Operators.{string_kind}
+use Rattle.meson_syntax.specs.Parts.{node_at}
+use Rattle.meson_syntax.specs.Tree.{Plain, plain, string}
+use Rattle.meson_syntax.proofs.parsing.Steps.{some-injective}
+use Rattle.meson_syntax.proofs.paths.Every.{Every}
+use Rattle.meson_calls.specs.declared.call.CallRef.{CallRef}
+use Rattle.meson_calls.specs.Expansion.{Item, Mark, known, opaque, empty, Slot, in_list, fixed}
+use Rattle.meson_calls.specs.Roles.{one_of}
+use Rattle.meson_calls.specs.Sources.{items}
+use Rattle.meson_steps.specs.Names.{distinct}
+use Rattle.meson_sources.specs.Effects.{AreSpotsOf, goes, has_one_of, is_at, spot_of_child}
+use Rattle.meson_sources.specs.SourceEdits.{Spot, distinct_spots, same_spot}
+use Rattle.meson_sources.proofs.Bares.{bare_mark}
+use Rattle.meson_sources.proofs.DistinctSpots.{every_distinct}
+use Rattle.meson_sources.proofs.ElementsThere.{root}
+use Rattle.meson_sources.proofs.ItemsThere.{Holds, IsSources, StringHeld, TextHeld}
+use Rattle.meson_sources.proofs.LeftSources.{NamedGoes}
+use Rattle.meson_sources.proofs.ListsBut.{same_one}
+use Rattle.meson_sources.proofs.LostMarks.{slot_gone}
+use Rattle.meson_sources.proofs.NamedGone.{alike, distinct_goes, distinct_named, named_distinct, some_of}
+use Rattle.meson_sources.proofs.RenamedStrings.{Node}
+use Rattle.meson_sources.proofs.Scenes.{NodeIn}
+use Rattle.meson_sources.proofs.StringsStay.{element_any}
+
+pub same_there : (trees : List Plain) (p : CallRef) (y z : Node) → NodeIn trees p y → NodeIn trees p z → z ≡ y
+same_there trees p y z m n =
+    let same_tree : n.tree ≡ m.tree = some-injective _ _ (sym n.is_tree ∙ m.is_tree) in
+    some-injective z y (sym n.is_node ∙ ap (λ t. node_at (root t) p.path.steps) same_tree ∙ m.is_node)
+
+both_true : (a b : Bool) → (a && b) ≡ true → (a ≡ true) × (b ≡ true)
+both_true true b is = (refl, is)
+both_true false b is = absurd cc
+
+no_true : (xs : List Spot) → list_any (λ s. false) xs ≡ true → ⊥
+no_true [] is = cc
+no_true (x ∷ xs) is = no_true xs is
+
+module _ (trees : List Plain) (Fine : CallRef → ℕ → Node → Type 0) (fine : (c : CallRef) (n : ℕ) (y : Node) → NodeIn trees c y → IsSources y → Fine c n y) where
+  abbrev pub Held : Item Span → Type 0
+  Held i = TextHeld trees Fine fine i.slot i.text
+
+  -- the same of the items of marks
+  pub items_held : (ms hs : List (Mark Span)) → Every (Holds trees Fine fine) (map bare_mark ms) → Every (Holds trees Fine fine) (map bare_mark hs) → Every Held (items (ms ++ hs))
+  items_held [] hs one other = items_only hs other
+    where
+      items_only : (hs : List (Mark Span)) → Every (Holds trees Fine fine) (map bare_mark hs) → Every Held (items hs)
+      items_only [] other = tt
+      items_only (known i ∷ hs) other = (other.0, items_only hs other.1)
+      items_only (opaque ∷ hs) other = items_only hs other.1
+      items_only (empty p ∷ hs) other = items_only hs other.1
+  items_held (known i ∷ ms) hs one other = (one.0, items_held ms hs one.1 other)
+  items_held (opaque ∷ ms) hs one other = items_held ms hs one.1 other
+  items_held (empty p ∷ ms) hs one other = items_held ms hs one.1 other
+
+  -- the string of an element has one value
+  pub one_text : (c : CallRef) (n : ℕ) (x y : List ℕ) → StringHeld trees Fine fine c n x → StringHeld trees Fine fine c n y → y ≡ x
+  one_text c n x y one other =
+      let node = same_there trees c one.held.node other.held.node one.held.is other.held.is in
+      let element : plain (string tt other.kind other.word) ≡ plain (string tt one.kind one.word) = some-injective _ _ (sym other.held.element_is ∙ ap (λ z. element_any z n) node ∙ one.held.element_is) in
+      let kinds : other.kind ≡ one.kind = cc in
+      let words : other.word ≡ one.word = cc in
+      some-injective y x (sym other.is_value ∙ ap (λ k. value (string_kind k) other.word) kinds ∙ ap (value (string_kind one.kind)) words ∙ one.is_value)
+
+  module _ (names : List (List ℕ)) (is : List (Item Span)) (held : Every Held is) (found : List Spot) (of_names : AreSpotsOf is (distinct names) found) where
+    abbrev spots : List Spot
+    spots = distinct_spots found
+
+    abbrev Only : Spot → Type 0
+    Only s = list_any (λ i. has_one_of (distinct names) i && is_at s i.slot) is ≡ true
+
+    -- what stands at a spot
+    pub record SpotHeld (c : CallRef) (n : ℕ) : Type 0 where
+      pub text : List ℕ
+      pub string_held : StringHeld trees Fine fine c n text
+      pub is_named : one_of names text ≡ true
+
+    spot_held : (s : Spot) → Only s → SpotHeld s.list s.number
+    spot_held s only =
+        let o = some_of (λ i. has_one_of (distinct names) i && is_at s i.slot) Held is held only in
+        let both = both_true (has_one_of (distinct names) o.it) (is_at s o.it.slot) o.is in
+        record { text = o.it.text; string_held = go o.it.slot o.it.text both.1 o.holds; is_named = distinct_named o.it.text names both.0 }
+      where
+        go : (slot : Slot) (text : List ℕ) → is_at s slot ≡ true → TextHeld trees Fine fine slot text → StringHeld trees Fine fine s.list s.number text
+        go (in_list q k) text at holds = subst (λ (u : Spot). StringHeld trees Fine fine u.list u.number text) (sym (same_one s (spot_of_child q k) at)) holds
+        go fixed text at holds = absurd cc
+
+    all_only : Every Only spots
+    all_only = every_distinct Only found of_names.only
+
+    pub each_spot : (P : Spot → Type 0) → ((s : Spot) → SpotHeld s.list s.number → P s) → Every P spots
+    each_spot P make = over spots all_only
+      where
+        over : (ts : List Spot) → Every Only ts → Every P ts
+        over [] all = tt
+        over (t ∷ ts) all = (make t (spot_held t all.0), over ts all.1)
+
+    pub gone_held : (c : CallRef) (n : ℕ) → goes spots c n ≡ true → SpotHeld c n
+    gone_held c n gone =
+        let o = some_of (λ s. same_spot s (spot_of_child c n)) Only spots all_only gone in
+        subst (λ (u : Spot). SpotHeld u.list u.number) (same_one o.it (spot_of_child c n) o.is) (spot_held o.it o.holds)
+
+    one_named : (i : Item Span) → Held i → (has_one_of (distinct names) i ≡ true → list_any (λ s. is_at s i.slot) found ≡ true) → NamedGoes (goes spots) names i
+    one_named i holds each = alike (slot_gone (goes spots) i.slot) (one_of names i.text) (forth i.slot i.text holds) (λ named. back i.slot (each (named_distinct i.text names named)))
+      where
+        forth : (slot : Slot) (text : List ℕ) → TextHeld trees Fine fine slot text → slot_gone (goes spots) slot ≡ true → one_of names text ≡ true
+        forth (in_list c n) text holds gone = let h = gone_held c n gone in ap (one_of names) (one_text c n h.text text h.string_held holds) ∙ h.is_named
+        forth fixed text holds gone = absurd cc
+
+        back : (slot : Slot) → list_any (λ s. is_at s slot) found ≡ true → slot_gone (goes spots) slot ≡ true
+        back (in_list c n) there = distinct_goes (spot_of_child c n) found there
+        back fixed there = absurd (no_true found there)
+
+    pub all_named : Every (NamedGoes (goes spots) names) is
+    all_named = over is held of_names.each
+      where
+        over : (js : List (Item Span)) → Every Held js → Every (λ i. has_one_of (distinct names) i ≡ true → list_any (λ s. is_at s i.slot) found ≡ true) js → Every (NamedGoes (goes spots) names) js
+        over [] one other = tt
+        over (j ∷ js) one other = (one_named j one.0 other.0, over js one.1 other.1)
