@@ -92,3 +92,13 @@ mod SpotsHeld
 mod SameCalls
 mod CallLeft
 pub mod ShrunkSources
+mod LeftExtras
+pub mod ShrunkExtras
+mod ExtraCalls
+mod ExtraArrivals
+mod ExtrasNeverMet
+mod GrownExtras
+mod ExtraLists
+mod ArrayFiles
+mod ExtraArguments
+pub mod AllExtras

@@ -17,7 +17,7 @@ use Rattle.meson_sources.proofs.Gists.{gist}
 use Rattle.meson_sources.proofs.Outcomes.{Clear}
 use Rattle.meson_sources.proofs.PlacesBelow.{IsIt}
 
-abbrev bare_number : Numbered (Expression Span) → Numbered (Expression Nowhere)
+abbrev pub bare_number : Numbered (Expression Span) → Numbered (Expression Nowhere)
 bare_number a = record { number = a.number; value = erase_expression a.value }
 
 plains_bare : (k : ℕ) (xs : Arguments Span) → plains k (erase_arguments xs) ≡ map bare_number (plains k xs)
@@ -42,7 +42,7 @@ rest_map f [] = refl
 rest_map f (x ∷ xs) = refl
 
 module _ (p : Project Span) (c : CallRef) where
-  list_bare : (slot : ℕ → Slot) (list : List (Numbered (Expression Span))) (f : List (List ℕ)) → list_with (expand_with (values_of p) max_followed) c slot (map bare_number list) f ≡ bare (expand_arguments p c slot list f)
+  pub list_bare : (slot : ℕ → Slot) (list : List (Numbered (Expression Span))) (f : List (List ℕ)) → list_with (expand_with (values_of p) max_followed) c slot (map bare_number list) f ≡ bare (expand_arguments p c slot list f)
   list_bare slot [] f = refl
   list_bare slot (a ∷ more) f =
       let first = expand p max_followed a.value (record { place = child c a.number; slot = slot a.number; variable = None }) f in
@@ -70,7 +70,7 @@ module _ (new : List (List ℕ)) (seen : List (List ℕ) → Bool) (h : CallRef)
   abbrev AllClear : List (Mark Nowhere) → Type 0
   AllClear ms = Every (Clear new (IsIt h) seen) ms
 
-  not_listed : {S : Type 0} (ms : List (Mark S)) → AllClear (map bare_mark ms) → first_list ms ≡ Some h → ⊥
+  pub not_listed : {S : Type 0} (ms : List (Mark S)) → AllClear (map bare_mark ms) → first_list ms ≡ Some h → ⊥
   not_listed [] all is = cc
   not_listed (known i ∷ ms) all is = go i.slot all.0 is (not_listed ms all.1)
     where
@@ -80,7 +80,7 @@ module _ (new : List (List ℕ)) (seen : List (List ℕ) → Bool) (h : CallRef)
   not_listed (opaque ∷ ms) all is = not_listed ms all.1 is
   not_listed (empty p ∷ ms) all is = not_listed ms all.1 is
 
-  not_empty : {S : Type 0} (ms : List (Mark S)) → AllClear (map bare_mark ms) → first_empty ms ≡ Some h → ⊥
+  pub not_empty : {S : Type 0} (ms : List (Mark S)) → AllClear (map bare_mark ms) → first_empty ms ≡ Some h → ⊥
   not_empty [] all is = cc
   not_empty (known i ∷ ms) all is = not_empty ms all.1 is
   not_empty (opaque ∷ ms) all is = not_empty ms all.1 is

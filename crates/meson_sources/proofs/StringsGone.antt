@@ -73,7 +73,7 @@ chained : {A B C : Type 0} (f : A → Option B) (h : B → C) (o : Option A) →
 chained f h None = refl
 chained f h (Some x) = refl
 
-elements_at : (t : Plain) (path : List ℕ) → option_map (λ (l : ListAt Nowhere). elements l.list) (list_at t path) ≡ option_and_then elements_any (node_at (root t) path)
+pub elements_at : (t : Plain) (path : List ℕ) → option_map (λ (l : ListAt Nowhere). elements l.list) (list_at t path) ≡ option_and_then elements_any (node_at (root t) path)
 elements_at t path = mapped (λ (l : ListAt Nowhere). l.list) elements (list_at t path) ∙ ap (option_map elements) (lists_there t path) ∙ chained lists.list_any elements (node_at (root t) path)
 
 a_list : (x : Node) (xs : List (Argument Nowhere)) → elements_any x ≡ Some xs → string_child x ≡ None

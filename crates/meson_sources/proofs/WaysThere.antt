@@ -42,10 +42,10 @@ module _ (new : List (List ℕ)) (h : CallRef) (older newer : Expression Nowhere
     → ((x : List ℕ) (f : List (List ℕ)) → one_of f x ≡ false → Outcome new bad seen f (follow x f) (follow2 x f)) → (s u : Stand) (f g : List (List ℕ)) → g ≡ f → seen f ≡ true
     → Along new bad seen b (expand_by (is_operand_by holds) follow older s f) (expand_by (is_operand_by holds2) follow2 newer u g)) where
   module _ (seen : List (List ℕ) → Bool) (values values2 : Values) where
-    abbrev KinV : List ℕ → Type 0
+    abbrev pub KinV : List ℕ → Type 0
     KinV x = Kin new (IsIt h) seen (Far h) (far_deeper h) (far_apart h) older newer kind value_kind h b (aside_far h h [] (sym (below_itself h))) (above_it h h [] (sym (below_itself h))) values values2 x
 
-    level_v : (kin : (x : List ℕ) → KinV x) → Level new (IsIt h) seen (Far h) (far_deeper h) (far_apart h) older newer kind value_kind h b (aside_far h h [] (sym (below_itself h))) (above_it h h [] (sym (below_itself h))) values values2 kin
+    pub level_v : (kin : (x : List ℕ) → KinV x) → Level new (IsIt h) seen (Far h) (far_deeper h) (far_apart h) older newer kind value_kind h b (aside_far h h [] (sym (below_itself h))) (above_it h h [] (sym (below_itself h))) values values2 kin
         (λ follow follow2 follows s u f g leads equal behind. base (IsIt h) seen _ _ (same_holds new (IsIt h) seen (Far h) (far_deeper h) (far_apart h) older newer kind value_kind h b (aside_far h h [] (sym (below_itself h))) (above_it h h [] (sym (below_itself h))) values values2 kin) follow follow2 follows s u f g equal behind)
         max_followed
     level_v kin = levels new (IsIt h) seen (Far h) (far_deeper h) (far_apart h) older newer kind value_kind h b (aside_far h h [] (sym (below_itself h))) (above_it h h [] (sym (below_itself h))) values values2 kin

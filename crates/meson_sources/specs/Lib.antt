@@ -5,3 +5,4 @@ pub mod CodeSpots
 pub mod Targeted
 pub mod Effects
 pub mod WholeSources
+pub mod WholeExtras

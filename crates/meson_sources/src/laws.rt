@@ -1,6 +1,7 @@
 //! Laws of sources. The functions do nothing: what they ensure is the law.
 
 ghost use Rattle.meson_sources.specs.Effects.{ExtraIsAdded, ExtraIsRemoved, SourcesAreAdded, SourcesAreRemoved};
+ghost use Rattle.meson_sources.specs.WholeExtras.{AllExtrasGrow, AllExtrasShrink};
 ghost use Rattle.meson_sources.specs.WholeSources.{AllSourcesGrow, AllSourcesShrink};
 
 /// The list where further sources of a target go has its elements in their order afterwards, and behind those without a name each new source once.
@@ -35,4 +36,15 @@ pub fn extra_is_removed()
 /// known. The target's call stands where it has moved to (a source that is gone may have stood before it in the same list), with its function and its name.
 pub fn all_sources_shrink()
     ensures { AllSourcesShrink }
+{}
+
+/// After an addition all extra files of the target are those that it had, in their order, and in one place among them each new one once: in the list of the first
+/// that stands in one, in a new argument, or in an array behind the lone one. As many as before are not known.
+pub fn all_extras_grow()
+    ensures { AllExtrasGrow }
+{}
+
+/// The law on all sources after a removal, of all extra files of the target.
+pub fn all_extras_shrink()
+    ensures { AllExtrasShrink }
 {}

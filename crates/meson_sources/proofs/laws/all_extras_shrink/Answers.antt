@@ -1,0 +1,5 @@
+use Rattle.meson_sources.proofs.ShrunkExtras.{all-extras-shrink}
+use Rattle.meson_sources.proofs.laws.all_extras_shrink.Goals as goal
+
+pub returns : goal.returns
+returns c = all-extras-shrink
