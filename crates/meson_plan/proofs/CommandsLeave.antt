@@ -23,8 +23,11 @@ use Rattle.meson_steps.specs.declared.command.Done.{Done}
 use Rattle.meson_steps.specs.ResultLimits.{plain_trees}
 use Rattle.meson_steps.specs.Steps.{Step, all_stepped}
 use Rattle.meson_sources.specs.SourceEdits.{extra_added, extra_removed, sources_added, sources_removed}
+use Rattle.meson_sources.proofs.AllExtras.{all-extras-grow}
 use Rattle.meson_sources.proofs.AllSources.{all-sources-grow}
 use Rattle.meson_sources.proofs.ExtraAdded.{extra-is-added}
+use Rattle.meson_sources.proofs.ShrunkExtras.{all-extras-shrink}
+use Rattle.meson_sources.proofs.ShrunkSources.{all-sources-shrink}
 use Rattle.meson_sources.proofs.SourcesAdded.{sources-are-added}
 use Rattle.meson_sources.proofs.SourcesGone.{extra-is-removed, sources-are-removed}
 use Rattle.meson_steps.proofs.WentWell.{then_was}
@@ -41,15 +44,20 @@ module _ (old new : Loaded) (c : Command) (done : Done) (is : IsProject old) (p 
       let after = ap (or_same (plain_trees old)) p.made.are_trees ∙ sym p.are_trees in
       subst (CallLeft old r id asked) after (requests-leave old is r id asked texts p.made.steps made)
 
+  stepped : all_stepped p.made.steps (plain_trees old) ≡ Some (plain_trees new)
+  stepped = p.made.are_trees ∙ ap Some (sym p.are_trees)
+
+  same_names : map (λ (f : File). f.name) new.files ≡ map (λ (f : File). f.name) old.files
+  same_names = ap (map (λ (f : File). f.name)) p.are_files ∙ names_kept old.files p.made.steps p.made.splices p.made.files p.made.bytes p.made.are_done
+
   sources_come : (id : List ℕ) (names : List (List ℕ)) → then_ok (the_call (project old) role.Target id) (λ k. sources_added (project old) k names) ≡ Ok p.made.steps → SourcesCome old id names new
   sources_come id names made =
       let k = then_was (the_call (project old) role.Target id) (λ k. sources_added (project old) k names) p.made.steps made in
-      let same_names = ap (map (λ (f : File). f.name)) p.are_files ∙ names_kept old.files p.made.steps p.made.splices p.made.files p.made.bytes p.made.are_done in
       record {
         call = k.0;
         is_call = k.1;
-        gets = sources-are-added old is id k.0 k.1 names p.made.steps (plain_trees new) k.2 (p.made.are_trees ∙ ap Some (sym p.are_trees));
-        whole = λ utf8. all-sources-grow old new is same_names id k.0 k.1 names utf8 p.made.steps k.2 (p.made.are_trees ∙ ap Some (sym p.are_trees));
+        gets = sources-are-added old is id k.0 k.1 names p.made.steps (plain_trees new) k.2 stepped;
+        whole = λ utf8. all-sources-grow old new is same_names id k.0 k.1 names utf8 p.made.steps k.2 stepped;
       }
 
   -- the call of a target, whose steps these are
@@ -57,23 +65,35 @@ module _ (old new : Loaded) (c : Command) (done : Done) (is : IsProject old) (p 
     abbrev one : (k : Placed (Call Span)) × (the_call (project old) role.Target id ≡ Ok k) × (meant (project old) k ≡ Ok p.made.steps)
     one = then_was (the_call (project old) role.Target id) (meant (project old)) p.made.steps made
 
-  stepped : all_stepped p.made.steps (plain_trees old) ≡ Some (plain_trees new)
-  stepped = p.made.are_trees ∙ ap Some (sym p.are_trees)
-
   sources_go : (id : List ℕ) (names : List (List ℕ)) → then_ok (the_call (project old) role.Target id) (λ k. sources_removed (project old) k names) ≡ Ok p.made.steps → SourcesGo old id names new
   sources_go id names made =
       let k = one id (λ q k. sources_removed q k names) made in
-      record { call = k.0; is_call = k.1; go = sources-are-removed old is id k.0 k.1 names p.made.steps (plain_trees new) k.2 stepped }
+      record {
+        call = k.0;
+        is_call = k.1;
+        go = sources-are-removed old is id k.0 k.1 names p.made.steps (plain_trees new) k.2 stepped;
+        whole = all-sources-shrink old new is same_names id k.0 k.1 names p.made.steps k.2 stepped;
+      }
 
   extras_come : (id : List ℕ) (names : List (List ℕ)) → then_ok (the_call (project old) role.Target id) (λ k. extra_added (project old) k names) ≡ Ok p.made.steps → ExtrasCome old id names new
   extras_come id names made =
       let k = one id (λ q k. extra_added q k names) made in
-      record { call = k.0; is_call = k.1; come = extra-is-added old is id k.0 k.1 names p.made.steps (plain_trees new) k.2 stepped }
+      record {
+        call = k.0;
+        is_call = k.1;
+        come = extra-is-added old is id k.0 k.1 names p.made.steps (plain_trees new) k.2 stepped;
+        whole = λ utf8. all-extras-grow old new is same_names id k.0 k.1 names utf8 p.made.steps k.2 stepped;
+      }
 
   extras_go : (id : List ℕ) (names : List (List ℕ)) → then_ok (the_call (project old) role.Target id) (λ k. extra_removed (project old) k names) ≡ Ok p.made.steps → ExtrasGo old id names new
   extras_go id names made =
       let k = one id (λ q k. extra_removed q k names) made in
-      record { call = k.0; is_call = k.1; go = extra-is-removed old is id k.0 k.1 names p.made.steps (plain_trees new) k.2 stepped }
+      record {
+        call = k.0;
+        is_call = k.1;
+        go = extra-is-removed old is id k.0 k.1 names p.made.steps (plain_trees new) k.2 stepped;
+        whole = all-extras-shrink old new is same_names id k.0 k.1 names p.made.steps k.2 stepped;
+      }
 
   target_goes : (id : List ℕ) → then_ok (the_call (project old) role.Target id) (λ k. target_removed (project old) k) ≡ Ok p.made.steps → TargetGoes old id new
   target_goes id made =

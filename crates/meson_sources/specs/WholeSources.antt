@@ -1,5 +1,5 @@
--- All sources of a target after an addition and after a removal, by `sources`.
-use Rattle.std.specs.Prelude.{◌≡◌, ℕ, not, List, ◌++◌, length, map, All, Some, Ok}
+-- All sources of a target after an addition and after a removal, by `sources`; what is said of them is said of its extra files too.
+use Rattle.std.specs.Prelude.{◌≡◌, ℕ, not, List, ◌++◌, length, map, All, Option, Some, Result, Ok}
 use Rattle.std.specs.List.{filter}
 use Rattle.std.specs.Str.{IsUtf8}
 use Rattle.meson_lex.specs.declared.kinds.Span.{Span}
@@ -7,7 +7,9 @@ use Rattle.meson_splice.specs.declared.file_set.File.{File}
 use Rattle.meson_calls.specs.declared.call.CallRef.{CallRef}
 use Rattle.meson_calls.specs.declared.call.Role.TheVariants as role
 use Rattle.meson_calls.specs.declared.call.Sources as found
+use Rattle.meson_calls.specs.declared.refusal.Refusal.{Refusal}
 use Rattle.meson_calls.specs.Calls.{Call, first_literal}
+use Rattle.meson_calls.specs.Expansion.{Mark}
 use Rattle.meson_calls.specs.Finding.{the_call}
 use Rattle.meson_calls.specs.Loading.{IsProject, Loaded, project}
 use Rattle.meson_calls.specs.Project.{Placed, Project, placed}
@@ -30,14 +32,21 @@ pub record TextsCome (new before after : List (List ℕ)) : Type 0 where
 abbrev pub source_texts : found.Sources → List (List ℕ)
 source_texts s = map (λ i. i.value) s.items
 
--- The sources of the target at the place are the old ones and, in one place among them, these; and as many as before are not known.
-pub record SourcesGrow (new : List (List ℕ)) (c : CallRef) (p q : Project Span) : Type 0 where
+-- what a target at a place has: its sources, or its extra files
+abbrev pub Reading : Type 0
+Reading = Project Span → CallRef → Option (Result found.Sources Refusal)
+
+-- The files of the target at the place are the old ones and, in one place among them, these; and as many as before are not known.
+pub record FilesGrow (read : Reading) (new : List (List ℕ)) (c : CallRef) (p q : Project Span) : Type 0 where
   pub before : found.Sources
-  pub were : sources p c ≡ Some (Ok before)
+  pub were : read p c ≡ Some (Ok before)
   pub after : found.Sources
-  pub are : sources q c ≡ Some (Ok after)
+  pub are : read q c ≡ Some (Ok after)
   pub come : TextsCome new (source_texts before) (source_texts after)
   pub unknown : after.opaque ≡ before.opaque
+
+abbrev pub SourcesGrow : List (List ℕ) → CallRef → Project Span → Project Span → Type 0
+SourcesGrow = FilesGrow sources
 
 abbrev pub file_names : Loaded → List (List ℕ)
 file_names l = map (λ (f : File). f.name) l.files
@@ -59,17 +68,21 @@ pub record SameCall (k : Call Span) (q : Project Span) (d : CallRef) : Type 0 wh
   pub function : call_then.function ≡ k.function
   pub first : first_literal call_then ≡ first_literal k
 
--- The sources of the target, where its call has moved to, are the old ones without these, in their order; and as many as before are not known.
-pub record SourcesShrink (gone : List (List ℕ)) (c : Placed (Call Span)) (p q : Project Span) : Type 0 where
+-- The files of the target, where its call has moved to, are the old ones without those that are gone, in their order; and as many as before are not known.
+-- Its call has moved since elements are gone that these marks told of.
+pub record FilesShrink (read : Reading) (marks : List (Mark Span)) (gone : List (List ℕ)) (c : Placed (Call Span)) (p q : Project Span) : Type 0 where
   pub spots : List Spot
-  pub are_spots : spots_named (source_marks p c) (distinct gone) ≡ Ok spots
+  pub are_spots : spots_named marks (distinct gone) ≡ Ok spots
   pub same : SameCall c.it q (moved_place spots c.place)
   pub before : found.Sources
-  pub were : sources p c.place ≡ Some (Ok before)
+  pub were : read p c.place ≡ Some (Ok before)
   pub after : found.Sources
-  pub are : sources q (moved_place spots c.place) ≡ Some (Ok after)
+  pub are : read q (moved_place spots c.place) ≡ Some (Ok after)
   pub left : source_texts after ≡ filter (λ text. not (one_of gone text)) (source_texts before)
   pub unknown : after.opaque ≡ before.opaque
+
+abbrev pub SourcesShrink : List (List ℕ) → Placed (Call Span) → Project Span → Project Span → Type 0
+SourcesShrink gone c p = FilesShrink sources (source_marks p c) gone c p
 
 -- the law: after a removal a target has the sources that it had, but none of those that are named
 abbrev pub AllSourcesShrink : Type 0
