@@ -3,7 +3,7 @@ use Rattle.std.specs.Prelude.{ℕ, zero, suc, List, [], ◌∷◌, ◌++◌, Opt
 use Rattle.meson_syntax.specs.Tree.{Expression, File}
 use Rattle.meson_syntax.specs.Paths as paths
 use Rattle.meson_calls.specs.declared.call.CallRef.{CallRef}
-use Rattle.meson_calls.specs.declared.call.Place.{Place}
+use Rattle.meson_calls.specs.declared.call.BorrowedPlace.{BorrowedPlace}
 
 pub record BuildFile (S : Type 0) : Type 0 where
   pub name : List ℕ
@@ -18,7 +18,7 @@ abbrev pub place : ℕ → List ℕ → CallRef
 place file path = record { file = file; path = record { steps = path } }
 
 -- whose path stands elsewhere
-abbrev pub place_at : Place → CallRef
+abbrev pub place_at : BorrowedPlace → CallRef
 place_at p = place p.file p.path.now
 
 -- of the n-th child of what stands there

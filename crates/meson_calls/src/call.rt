@@ -26,7 +26,7 @@ pub struct CallRef {
 
 /// The same, whose path stands elsewhere.
 #[derive(Clone, Copy)]
-pub struct Place<'t> {
+pub struct BorrowedPlace<'t> {
     pub file: usize,
     pub path: &'t [usize],
 }
@@ -35,10 +35,10 @@ impl CallRef {
     ghost use Rattle.meson_calls.specs.Project.{place_at};
 
     /// The place, with the path that stands here.
-    pub fn as_place(&self) -> Place<'_>
+    pub fn as_place(&self) -> BorrowedPlace<'_>
         ensures { place_at result ≡ self.now }
     {
-        Place {
+        BorrowedPlace {
             file: self.file,
             path: self.path.steps.get(),
         }

@@ -40,7 +40,7 @@ pub mod variables;
 pub mod walk;
 pub mod walk_statements;
 
-pub use call::{CallRef, Place, Role, SourceItem, Sources};
+pub use call::{BorrowedPlace, CallRef, Role, SourceItem, Sources};
 pub use entering::{entered_by, subdirs};
 pub use load_fault::{LoadFault, Unloaded};
 pub use loading::MAX_FILES;

@@ -1,6 +1,6 @@
 //! What all commands look at.
 
-use crate::call::Place;
+use crate::call::BorrowedPlace;
 use meson_lex::Span;
 use meson_syntax::{Expr, List};
 
@@ -25,7 +25,7 @@ pub enum What<'t> {
 /// The same with its place, and the source in which it stands.
 #[derive(Clone, Copy)]
 pub struct Note<'p, 't> {
-    pub place: Place<'p>,
+    pub place: BorrowedPlace<'p>,
     pub source: &'t [u8],
     pub what: What<'t>,
 }

@@ -3,7 +3,7 @@
 ghost use Rattle.std.specs.Prelude.{◌≡◌, IfOk};
 ghost use Rattle.meson_calls.specs.Project.{child, place, place_at};
 
-use crate::call::{CallRef, Place};
+use crate::call::{BorrowedPlace, CallRef};
 use meson_syntax::{Many, Path};
 use std::alloc::{AllocError, Global};
 
@@ -28,7 +28,11 @@ pub fn copy_place(alloc: Global, place: &CallRef) -> Result<CallRef, AllocError>
 }
 
 /// The place of the n-th child of what stands at a place.
-pub fn child_place(alloc: Global, place: Place<'_>, number: usize) -> Result<CallRef, AllocError>
+pub fn child_place(
+    alloc: Global,
+    place: BorrowedPlace<'_>,
+    number: usize,
+) -> Result<CallRef, AllocError>
     ensures { IfOk result (λ p. p ≡ child (place_at place.entry) number) }
 {
     let mut path = Vec::from_slice(alloc, place.path)?;

@@ -4,7 +4,7 @@ ghost use Rattle.std.specs.Prelude.{◌≡◌, ◌∷◌, ◌++◌, [], IfOk, On
 ghost use Rattle.meson_calls.specs.Project.{place, placed};
 ghost use Rattle.meson_calls.specs.Ranges.{AreInside};
 
-use crate::call::Place;
+use crate::call::BorrowedPlace;
 use crate::note::{Note, Ranged, What};
 use std::alloc::{AllocError, Global};
 
@@ -60,7 +60,7 @@ impl<'t> Taken<'t> {
         for i in 0..self.notes.len() {
             let note = &self.notes[i];
             all.push(Note {
-                place: Place {
+                place: BorrowedPlace {
                     file: note.file,
                     path: &self.steps[note.from..note.to],
                 },

@@ -8,7 +8,7 @@ ghost use Rattle.meson_calls.specs.Notes.{note_view, note_views};
 ghost use Rattle.meson_calls.specs.Noted.{note_assigned, assigned_notes};
 ghost use Rattle.meson_calls.specs.Values.{value_view, assignment, merged, met_in, taken, value_in, with_assigned};
 
-use crate::call::Place;
+use crate::call::BorrowedPlace;
 use crate::note::{Note, What};
 use crate::roles::text_of;
 use meson_syntax::Expr;
@@ -31,7 +31,7 @@ pub struct Values<'t> {
 }
 
 /// Whether an assignment stands outside `if` and `foreach`.
-fn is_outermost(place: Place<'_>) -> bool
+fn is_outermost(place: BorrowedPlace<'_>) -> bool
     ensures { result ≡ is_outermost place.entry.path.now }
 {
     place.path.len() == 1

@@ -84,9 +84,9 @@ Examples:
   meson_rewrite kwargs delete target harbor install x
   meson_rewrite kwargs info dependency zlib";
 
-pub(crate) const OPTIONS: &str = "Edit the default options of the project";
+pub(crate) const DEFAULT_OPTIONS: &str = "Edit the default options of the project";
 
-pub(crate) const BELOW_OPTIONS: &str = "\
+pub(crate) const BELOW_DEFAULT_OPTIONS: &str = "\
 Operations:
   set     give each option its value
   delete  remove each option, whatever value is given

@@ -140,7 +140,12 @@ fn kwargs<'h>(alloc: Global) -> Result<Command<'h>, AllocError>
 fn default_options<'h>(alloc: Global) -> Result<Command<'h>, AllocError>
     ensures { IfOk result (IsToldToClap default_options) }
 {
-    let command = described(alloc, "default-options", help::OPTIONS, help::BELOW_OPTIONS);
+    let command = described(
+        alloc,
+        "default-options",
+        help::DEFAULT_OPTIONS,
+        help::BELOW_DEFAULT_OPTIONS,
+    );
     let command = with_one(alloc, command, "OPERATION", "What is done, see below")?;
     let command = with_many(
         alloc,

@@ -139,7 +139,7 @@ fn enter_all<S: Store>(
 
 /// What a file says.
 #[derive(Drop)]
-struct Entry {
+struct ParsedFile {
     tree: Parsed,
     /// The files that it enters.
     names: Vec<String>,
@@ -159,7 +159,7 @@ fn unparsed(alloc: Global, name: &str, fault: ParseFault) -> GatherFault
 }
 
 /// The tree of one of the files, and the names that it enters.
-fn entry_at(alloc: Global, files: &NamedFiles, place: usize) -> Result<Entry, GatherFault>
+fn entry_at(alloc: Global, files: &NamedFiles, place: usize) -> Result<ParsedFile, GatherFault>
     requires within { place < length files.now }
     requires named { All HasFileName files.now }
     ensures reads { IfOk result (λ entry. IsSpanned (bytes_at place files.now) (view (bytes_at place files.now) entry.tree)) }
@@ -174,7 +174,7 @@ fn entry_at(alloc: Global, files: &NamedFiles, place: usize) -> Result<Entry, Ga
         Err(fault) => return Err(unparsed(alloc, name, fault)),
     };
     let names = entered_by(alloc, name, bytes, &tree)?;
-    Ok(Entry { tree, names })
+    Ok(ParsedFile { tree, names })
 }
 
 /// Reads the files that one of the files enters, and answers its tree.
@@ -202,7 +202,7 @@ fn look<S: Store>(
     ensures asks_at_most { OnErr result (StopsFor (S.content store.old) (named_folder folder.entry) files.old place (S.reads store.old)
         (S.reads store.new)) }
 {
-    let Entry { tree, names } = entry_at(alloc, files, place)?;
+    let ParsedFile { tree, names } = entry_at(alloc, files, place)?;
     enter_all(alloc, store, folder, files, names.as_slice())?;
     Ok(tree)
 }

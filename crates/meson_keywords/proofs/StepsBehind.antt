@@ -9,7 +9,7 @@ use Rattle.meson_syntax.specs.Tree.{Expression}
 use Rattle.meson_syntax.specs.View.{args_view}
 use Rattle.meson_edit.specs.Edits.{Remove}
 use Rattle.meson_calls.specs.declared.refusal.Refusal.{Refusal}
-use Rattle.meson_keywords.specs.declared.elements.Found.{Found}
+use Rattle.meson_keywords.specs.declared.elements.NumberedValue.{NumberedValue}
 use Rattle.meson_steps.specs.declared.step.ListStep.{ListStep}
 use Rattle.meson_calls.specs.declared.call.CallRef.{CallRef}
 use Rattle.meson_keywords.specs.declared.keys.ElementKind.{ElementKind}
@@ -57,11 +57,11 @@ all_meant whole meant before after is none b = record { steps = b.steps; is = is
 
 -- ---- the value in hand
 
-module _ (f : Option (Numbered (Expression Span)) → Result (List Step) Refusal) (key given source : List ℕ) (same : given ≡ key) (args : List Arg) (o : Option Found) (found : the_value given (args_view source args) ≡ Ok (option_map (found_argument source) o)) where
+module _ (f : Option (Numbered (Expression Span)) → Result (List Step) Refusal) (key given source : List ℕ) (same : given ≡ key) (args : List Arg) (o : Option NumberedValue) (found : the_value given (args_view source args) ≡ Ok (option_map (found_argument source) o)) where
   pub by_value : then_ok (the_value key (args_view source args)) f ≡ f (option_map (found_argument source) o)
   by_value = ap (λ k. then_ok (the_value k (args_view source args)) f) (sym same) ∙ ap (λ r. then_ok r f) found
 
-  pub by_some : (v : Found) → o ≡ Some v → then_ok (the_value key (args_view source args)) f ≡ f (Some (found_argument source v))
+  pub by_some : (v : NumberedValue) → o ≡ Some v → then_ok (the_value key (args_view source args)) f ≡ f (Some (found_argument source v))
   by_some v is = by_value ∙ ap (λ p. f (option_map (found_argument source) p)) is
 
   pub by_none : o ≡ None → then_ok (the_value key (args_view source args)) f ≡ f None

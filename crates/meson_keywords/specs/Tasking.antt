@@ -11,7 +11,7 @@ use Rattle.meson_edit.specs.Edits.{Written}
 use Rattle.meson_edit.specs.Places.{IsWritten}
 use Rattle.meson_calls.specs.declared.call.Role.{Role}
 use Rattle.meson_steps.specs.declared.command.Setting.{Setting}
-use Rattle.meson_keywords.specs.declared.elements.Found.{Found}
+use Rattle.meson_keywords.specs.declared.elements.NumberedValue.{NumberedValue}
 use Rattle.meson_keywords.specs.declared.elements.Subject.{Subject}
 use Rattle.meson_keywords.specs.declared.elements.Test.{Test}
 use Rattle.meson_keywords.specs.declared.elements.Test.TheVariants as test
@@ -19,8 +19,8 @@ use Rattle.meson_keywords.specs.declared.keys.ElementKind.{ElementKind}
 use Rattle.meson_keywords.specs.declared.keys.ElementKind.TheVariants as element
 use Rattle.meson_calls.specs.declared.refusal.Refusal.{Refusal}
 use Rattle.meson_keywords.specs.declared.request.Request.{Request}
-use Rattle.meson_keywords.specs.declared.request.Words.{Words}
-use Rattle.meson_keywords.specs.declared.request.Words.TheVariants as words
+use Rattle.meson_keywords.specs.declared.request.AskedWords.{AskedWords}
+use Rattle.meson_keywords.specs.declared.request.AskedWords.TheVariants as words
 use Rattle.meson_keywords.specs.declared.tasks.Task as code
 use Rattle.meson_keywords.specs.declared.tasks.Task.TheVariants as code_task
 use Rattle.meson_calls.specs.Calls.{Numbered}
@@ -37,7 +37,7 @@ pub data Asked : Type 0 where
   to_set_options : List (List ℕ × List ℕ) → Asked
   to_delete_options : List (List ℕ) → Asked
 
-abbrev pub asked : Words → Asked
+abbrev pub asked : AskedWords → Asked
 asked (words.Set pairs) = to_set pairs.now
 asked (words.Delete keys) = to_delete keys.now
 asked (words.Add pairs) = to_add pairs.now
@@ -56,7 +56,7 @@ asked_tasks r (to_remove pairs) = each_made (remove_entry r) pairs
 asked_tasks r (to_set_options pairs) = each_made set_option_entry pairs
 asked_tasks r (to_delete_options names) = each_made delete_option_entry names
 
-abbrev pub words_tasks : Role → Words → Result (List Task) Refusal
+abbrev pub words_tasks : Role → AskedWords → Result (List Task) Refusal
 words_tasks r w = asked_tasks r (asked w)
 
 -- ---- what may be written
@@ -124,14 +124,14 @@ pub record TasksSoFar (whole rest : Result (List Task) Refusal) (cs : List code.
 
 -- ---- elements
 
-abbrev pub found_argument : List ℕ → Found → Numbered (Expression Span)
+abbrev pub found_argument : List ℕ → NumberedValue → Numbered (Expression Span)
 found_argument source f = record { number = f.number; value = expr_view source f.value.now }
 
 -- the arguments of the call in hand, and the value of one of them
 abbrev pub args_of : Subject → List (Argument Span)
 args_of s = args_view s.source.now s.args.now
 
-abbrev pub held_value : Subject → Found → Expression Span
+abbrev pub held_value : Subject → NumberedValue → Expression Span
 held_value s f = expr_view s.source.now f.value.now
 
 abbrev pub test_of : {S : Type 0} → Test → Argument S → Bool

@@ -36,7 +36,7 @@ pub(crate) struct Subject<'t> {
 
 /// The value of an argument, with the argument's number.
 #[derive(Clone, Copy)]
-pub(crate) struct Found<'t> {
+pub(crate) struct NumberedValue<'t> {
     pub number: usize,
     pub value: &'t Expr,
 }
@@ -49,7 +49,7 @@ pub(crate) fn the_value<'t>(
     alloc: Global,
     subject: Subject<'t>,
     key: &[u8],
-) -> Result<Option<Found<'t>>, Refusal>
+) -> Result<Option<NumberedValue<'t>>, Refusal>
     requires good { GoodArgs subject.source.now subject.args.now }
     requires utf8 { IsUtf8 key.now }
     ensures good { IfOk result (λ o. MatchOption o (Unit {0}) (λ f. AreGood (expression_words (expr_view subject.entry.source.now f.value.now)))) }
@@ -67,7 +67,7 @@ pub(crate) fn the_value<'t>(
                 unreachable!();
             }
             match &args[number] {
-                Arg::Named { value, .. } => Ok(Some(Found { number, value })),
+                Arg::Named { value, .. } => Ok(Some(NumberedValue { number, value })),
                 Arg::Plain(_) => unreachable!(),
                 Arg::Pair { .. } => unreachable!(),
             }

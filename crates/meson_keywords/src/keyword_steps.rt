@@ -17,8 +17,8 @@ ghost use Rattle.meson_steps.specs.Meanings.{AreBehind, AreMeant, IfRefused};
 ghost use Rattle.meson_keywords.specs.Tasking.{args_of, held_value};
 
 use crate::elements::{
-    Found, Subject, Test, all_known, array_in, is_element, new_values, other_values, passing, says,
-    the_value,
+    NumberedValue, Subject, Test, all_known, array_in, is_element, new_values, other_values,
+    passing, says, the_value,
 };
 use crate::keys::{ElementKind, key_text};
 use crate::writing::{written_element, written_list, written_named};
@@ -184,7 +184,7 @@ pub(crate) fn once_steps(
 fn add_to_lone(
     alloc: Global,
     subject: Subject<'_>,
-    found: Found<'_>,
+    found: NumberedValue<'_>,
     key: &[u8],
     kind: ElementKind,
     values: &[&Text],
@@ -197,7 +197,7 @@ fn add_to_lone(
     ensures refused { let held = held_value subject.entry found.entry in let texts = map (λ x. x.now) values.now in
         IfRefused result (λ e. add_to_lone subject.entry.call.now found.entry.number key.now kind texts (text_in kind held) ≡ Err e) }
 {
-    let Found { number, value } = found;
+    let NumberedValue { number, value } = found;
     if !is_element(alloc, subject.source, kind, value)? {
         return Err(not_literal(alloc, key)?);
     }
@@ -214,7 +214,7 @@ fn add_to_lone(
 fn add_to_value(
     alloc: Global,
     subject: Subject<'_>,
-    found: Found<'_>,
+    found: NumberedValue<'_>,
     key: &[u8],
     kind: ElementKind,
     values: &[&Text],
@@ -304,7 +304,7 @@ fn remove_from_array(
 fn remove_from_value(
     alloc: Global,
     subject: Subject<'_>,
-    found: Found<'_>,
+    found: NumberedValue<'_>,
     key: &[u8],
     kind: ElementKind,
     text: &Text,
@@ -317,7 +317,7 @@ fn remove_from_value(
     ensures refused { let held = held_value subject.entry found.entry in let call = subject.entry.call.now in
         IfRefused result (λ e. remove_by_shape call found.entry.number key.now kind text.now (text_in kind held) (value_shape held) ≡ Err e) }
 {
-    let Found { number, value } = found;
+    let NumberedValue { number, value } = found;
     let source = subject.source;
     match array_in(value) {
         Some(elements) => {

@@ -17,8 +17,8 @@ ghost use Rattle.meson_steps.specs.Meanings.{AreBehind, AreMeant, IfRefused};
 ghost use Rattle.meson_keywords.specs.Tasking.{args_of, held_value, test_of};
 
 use crate::elements::{
-    Found, Subject, Test, all_known, array_in, entries_in, is_element, is_entry, keys_known,
-    passing, the_value,
+    NumberedValue, Subject, Test, all_known, array_in, entries_in, is_element, is_entry,
+    keys_known, passing, the_value,
 };
 use crate::keys::ElementKind;
 use crate::keyword_steps::{not_literal, push_edit, put_behind, remove_all};
@@ -86,7 +86,7 @@ fn set_in_list(
 fn set_in_lone(
     alloc: Global,
     subject: Subject<'_>,
-    found: Found<'_>,
+    found: NumberedValue<'_>,
     name: &Text,
     entry: &Text,
     steps: &mut Vec<ListStep>,
@@ -96,7 +96,7 @@ fn set_in_lone(
         OnOk result (map Some steps.new.items ≡ map Some steps.old.items ++ map bare (set_in_lone call found.entry.number entry.now same)) }
     ensures refused { IfErr result (λ e. e ≡ Refusal.OutOfMemory) }
 {
-    let Found { number, value } = found;
+    let NumberedValue { number, value } = found;
     let new = written_element(alloc, ElementKind::Text, entry)?;
     if is_entry(alloc, subject.source, name, value)? {
         push_edit(alloc, subject.call, ListEdit::Replace(number, new), steps)?;
@@ -175,7 +175,7 @@ fn only_literal_keys(alloc: Global, source: &[u8], pairs: &[Arg]) -> Result<(), 
 fn set_in_value(
     alloc: Global,
     subject: Subject<'_>,
-    found: Found<'_>,
+    found: NumberedValue<'_>,
     name: &Text,
     entry: &Text,
     steps: &mut Vec<ListStep>,
@@ -209,7 +209,7 @@ fn set_in_value(
 fn set_by_value(
     alloc: Global,
     subject: Subject<'_>,
-    found: Found<'_>,
+    found: NumberedValue<'_>,
     name: &Text,
     value: &str,
     steps: &mut Vec<ListStep>,
@@ -285,7 +285,7 @@ fn remove_passing(
 fn delete_in_value(
     alloc: Global,
     subject: Subject<'_>,
-    found: Found<'_>,
+    found: NumberedValue<'_>,
     name: &Text,
     steps: &mut Vec<ListStep>,
 ) -> Result<(), Refusal>
@@ -295,7 +295,7 @@ fn delete_in_value(
     ensures refused { let held = held_value subject.entry found.entry in
         IfRefused result (λ e. delete_by_shape subject.entry.call.now found.entry.number name.now (literal_of held) (value_shape held) ≡ Err e) }
 {
-    let Found { number, value } = found;
+    let NumberedValue { number, value } = found;
     let source = subject.source;
     match array_in(value) {
         Some(elements) => {
@@ -321,7 +321,7 @@ fn delete_in_value(
 fn delete_by_value(
     alloc: Global,
     subject: Subject<'_>,
-    found: Found<'_>,
+    found: NumberedValue<'_>,
     name: &Text,
     steps: &mut Vec<ListStep>,
 ) -> Result<(), Refusal>

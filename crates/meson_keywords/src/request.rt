@@ -6,7 +6,7 @@ use meson_steps::command::Setting;
 
 /// What is asked.
 #[derive(Clone, Copy)]
-pub enum Words<'c> {
+pub enum AskedWords<'c> {
     Set(&'c [(Text, Setting)]),
     Delete(&'c [Text]),
     Add(&'c [(Text, Setting)]),
@@ -20,5 +20,5 @@ pub enum Words<'c> {
 pub struct Request<'c> {
     pub role: Role,
     pub id: &'c str,
-    pub words: Words<'c>,
+    pub words: AskedWords<'c>,
 }

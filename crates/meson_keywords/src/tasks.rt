@@ -9,7 +9,7 @@ ghost use Rattle.meson_keywords.specs.Tasking.{AreTasks, AreTasksBehind, IsKey, 
 ghost use Rattle.meson_steps.specs.Meanings.{IfRefused};
 
 use crate::keys::{ElementKind, kind_of, list_kind};
-use crate::request::Words;
+use crate::request::AskedWords;
 use crate::writing::{list_values, written_value};
 use meson_calls::{Refusal, Role};
 use meson_splice::{Bytes, Text};
@@ -227,17 +227,17 @@ fn delete_option_tasks<'c>(alloc: Global, names: &'c [Text]) -> Result<Vec<Task<
 pub(crate) fn tasks_of<'c>(
     alloc: Global,
     role: Role,
-    words: Words<'c>,
+    words: AskedWords<'c>,
 ) -> Result<Vec<Task<'c>>, Refusal>
     ensures made { IfOk result (λ tasks. AreTasks (words_tasks role words.entry) tasks.items) }
     ensures refused { IfRefused result (λ e. words_tasks role words.entry ≡ Err e) }
 {
     match words {
-        Words::Set(pairs) => set_tasks(alloc, role, pairs),
-        Words::Delete(keys) => delete_tasks(alloc, role, keys),
-        Words::Add(pairs) => add_tasks(alloc, role, pairs),
-        Words::Remove(pairs) => remove_tasks(alloc, role, pairs),
-        Words::SetOptions(pairs) => set_option_tasks(alloc, pairs),
-        Words::DeleteOptions(names) => delete_option_tasks(alloc, names),
+        AskedWords::Set(pairs) => set_tasks(alloc, role, pairs),
+        AskedWords::Delete(keys) => delete_tasks(alloc, role, keys),
+        AskedWords::Add(pairs) => add_tasks(alloc, role, pairs),
+        AskedWords::Remove(pairs) => remove_tasks(alloc, role, pairs),
+        AskedWords::SetOptions(pairs) => set_option_tasks(alloc, pairs),
+        AskedWords::DeleteOptions(names) => delete_option_tasks(alloc, names),
     }
 }

@@ -10,9 +10,11 @@ ghost use Rattle.meson_plan.specs.Planning.{planned};
 ghost use Rattle.meson_sources.specs.Targeted.{target_steps};
 
 use meson_calls::Role;
-use meson_keywords::request::{Request, Words};
-use meson_sources::targeting::Change;
-use meson_sources::targeting::Change::{ExtraAdded, ExtraRemoved, SourcesAdded, SourcesRemoved};
+use meson_keywords::request::{AskedWords, Request};
+use meson_sources::targeting::TargetChange;
+use meson_sources::targeting::TargetChange::{
+    ExtraAdded, ExtraRemoved, SourcesAdded, SourcesRemoved,
+};
 use meson_splice::{Many, Text};
 use meson_steps::command::Command;
 use meson_targets::target_adding::NewTarget;
@@ -21,7 +23,7 @@ use meson_targets::target_adding::NewTarget;
 #[derive(Clone, Copy)]
 pub(crate) enum Plan<'c> {
     /// Names are put into a target or taken out of it.
-    OnTarget(&'c Text, Change, &'c Many<Text>),
+    OnTarget(&'c Text, TargetChange, &'c Many<Text>),
     /// A target is put at the end of its file.
     AddTarget(NewTarget<'c>),
     /// A target goes, with its statement.
@@ -55,14 +57,14 @@ pub(crate) enum Order<'c> {
 }
 
 /// A change of a target.
-fn on_target<'c>(target: &'c Text, change: Change, names: &'c Many<Text>) -> Order<'c>
+fn on_target<'c>(target: &'c Text, change: TargetChange, names: &'c Many<Text>) -> Order<'c>
     ensures { (p : Project lex.Span) → order_steps p result ≡ target_steps p target.entry.now change names.entry.now }
 {
     Order::Planned(Plan::OnTarget(target, change, names))
 }
 
 /// A change of a call.
-fn on_call<'c>(role: Role, id: &'c Text, words: Words<'c>) -> Order<'c>
+fn on_call<'c>(role: Role, id: &'c Text, words: AskedWords<'c>) -> Order<'c>
     ensures { (p : Project lex.Span) → order_steps p result ≡ request_steps p (role, id.entry.now, asked words.entry) }
 {
     Order::Changed(Request {
@@ -73,7 +75,7 @@ fn on_call<'c>(role: Role, id: &'c Text, words: Words<'c>) -> Order<'c>
 }
 
 /// A change of the call of `project`.
-fn on_project(words: Words<'_>) -> Order<'_>
+fn on_project(words: AskedWords<'_>) -> Order<'_>
     ensures { (p : Project lex.Span) → order_steps p result ≡ request_steps p (Role.Project, codes "/", asked words.entry) }
 {
     Order::Changed(Request {
@@ -106,11 +108,19 @@ pub(crate) fn order_of(command: &Command) -> Order<'_>
         Command::TargetRemove { target } => Order::Planned(Plan::RemoveTarget(target.get())),
         Command::TargetInfo { target } => Order::Planned(Plan::AskTarget(target.get())),
         Command::KwargsInfo { role, id } => Order::Planned(Plan::AskCall(*role, id.get())),
-        Command::KwargsSet { role, id, pairs } => on_call(*role, id, Words::Set(pairs.get())),
-        Command::KwargsAdd { role, id, pairs } => on_call(*role, id, Words::Add(pairs.get())),
-        Command::KwargsRemove { role, id, pairs } => on_call(*role, id, Words::Remove(pairs.get())),
-        Command::KwargsDelete { role, id, keys } => on_call(*role, id, Words::Delete(keys.get())),
-        Command::OptionsSet { pairs } => on_project(Words::SetOptions(pairs.get())),
-        Command::OptionsDelete { names } => on_project(Words::DeleteOptions(names.get())),
+        Command::KwargsSet { role, id, pairs } => on_call(*role, id, AskedWords::Set(pairs.get())),
+        Command::KwargsAdd { role, id, pairs } => on_call(*role, id, AskedWords::Add(pairs.get())),
+        Command::KwargsRemove { role, id, pairs } => on_call(
+            *role,
+            id,
+            AskedWords::Remove(pairs.get()),
+        ),
+        Command::KwargsDelete { role, id, keys } => on_call(
+            *role,
+            id,
+            AskedWords::Delete(keys.get()),
+        ),
+        Command::OptionsSet { pairs } => on_project(AskedWords::SetOptions(pairs.get())),
+        Command::OptionsDelete { names } => on_project(AskedWords::DeleteOptions(names.get())),
     }
 }

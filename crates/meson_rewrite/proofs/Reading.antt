@@ -16,7 +16,7 @@ use Rattle.meson_rewrite.specs.Lines.{status, store_fault_status, usage_status}
 use Rattle.meson_rewrite.specs.StoreReads.{MayRead, ReadsAll, ReadsAtMost, ReadsFor, ReadsProject, ReadsWithLog, file_read}
 use Rattle.meson_rewrite.specs.Requests.{AsksFor}
 use Rattle.meson_rewrite.specs.declared.request.Listing.{Listing}
-use Rattle.meson_rewrite.specs.declared.request.Request.TheVariants as request
+use Rattle.meson_rewrite.specs.declared.request.ProgramRequest.TheVariants as request
 use Rattle.meson_rewrite.specs.declared.request.Step.{Step}
 use Rattle.meson_rewrite.specs.declared.said.Said.{Said}
 use Rattle.meson_rewrite.specs.declared.stop.Stop.{Stop}

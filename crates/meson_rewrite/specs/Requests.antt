@@ -16,9 +16,9 @@ use Rattle.meson_gathering.specs.Gathering.{Told}
 use Rattle.meson_rewrite.specs.Lines.{version_line}
 use Rattle.meson_rewrite.specs.Steps.{IsTitled}
 use Rattle.meson_rewrite.specs.declared.request.NamedFile.{NamedFile}
-use Rattle.meson_rewrite.specs.declared.request.Request.{Request}
+use Rattle.meson_rewrite.specs.declared.request.ProgramRequest.{ProgramRequest}
 use Rattle.meson_rewrite.specs.declared.request.Listing.TheVariants as listing
-use Rattle.meson_rewrite.specs.declared.request.Request.TheVariants as request
+use Rattle.meson_rewrite.specs.declared.request.ProgramRequest.TheVariants as request
 use Rattle.meson_rewrite.specs.declared.request.Step.TheVariants.{Run, Tell, Undo, UndoTo, UndoChecked, Redo, ForgetOldest, ForgetAll}
 use Rattle.meson_rewrite.specs.declared.stop.Stop.{Stop}
 use Rattle.meson_rewrite.specs.declared.stop.Stop.TheVariants as stop
@@ -79,7 +79,7 @@ only_asks _ = false
 
 -- ---- the step that an action asks for, a run with this title, and that it is one
 
-abbrev pub AsksFor : List ℕ → Action → Option Content → Request → Type 0
+abbrev pub AsksFor : List ℕ → Action → Option Content → ProgramRequest → Type 0
 AsksFor title (action.Run s) held r = r ≡ request.Step (Run s title)
 AsksFor title (action.Info c) held r = r ≡ request.Step (Tell (script (c ∷ [])))
 AsksFor title (action.ScriptText text) held r = (commands : List Command) × (script_of (read text) ≡ Ok commands) × (r ≡ request.Step (Run (script commands) title))
@@ -97,7 +97,7 @@ AsksFor title (action.Help text) held r = r ≡ request.Show text
 AsksFor title action.Version held r = r ≡ request.Show version_line
 
 -- a run that is asked for has a title
-abbrev pub StepsTitled : Request → Type 0
+abbrev pub StepsTitled : ProgramRequest → Type 0
 StepsTitled (request.Step step) = IsTitled step
 StepsTitled (request.List what) = ⊤
 StepsTitled (request.Show text) = ⊤

@@ -24,7 +24,7 @@ use Rattle.meson_rewrite.specs.Requests.{AsksFor, AsksForNone, only_asks, only_s
 use Rattle.meson_rewrite.specs.Steps.{Does, MayRefuseStep, Shows, only_tells, said_of}
 use Rattle.meson_rewrite.specs.Stops.{WantsMemory}
 use Rattle.meson_rewrite.specs.declared.request.Listing.{Listing}
-use Rattle.meson_rewrite.specs.declared.request.Request.TheVariants as request
+use Rattle.meson_rewrite.specs.declared.request.ProgramRequest.TheVariants as request
 use Rattle.meson_rewrite.specs.declared.request.Step.{Step}
 use Rattle.meson_rewrite.specs.declared.said.Said.{Said}
 use Rattle.meson_rewrite.specs.declared.stop.Stop.{Stop}

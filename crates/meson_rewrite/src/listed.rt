@@ -5,7 +5,7 @@ ghost use Rattle.meson_rewrite.specs.Listed.{holdings_text, listed_text};
 ghost use Rattle.meson_rewrite.specs.Stops.{WantsMemory};
 
 use crate::changes::history_text;
-use crate::opening::Opened;
+use crate::opening::StoredSession;
 use crate::request::Listing;
 use crate::said::{Said, json_line};
 use crate::stop::Stop;
@@ -28,11 +28,11 @@ fn holdings_text(alloc: Global, project: &Project, json: bool) -> Result<Vec<u8>
 }
 
 /// What is to be told where this is listed of a session.
-pub(crate) fn listed(alloc: Global, opened: Opened, listing: Listing) -> Result<Said, Stop>
+pub(crate) fn listed(alloc: Global, opened: StoredSession, listing: Listing) -> Result<Said, Stop>
     ensures told { IfOk result (λ said. said ≡ record { out = listed_text listing opened.session; err = [] }) }
     ensures none { IfErr result WantsMemory }
 {
-    let Opened { session, log: _ } = opened;
+    let StoredSession { session, log: _ } = opened;
     let text = match listing {
         Listing::History => history_text(alloc, &session.history)?,
         Listing::Holdings { json } => holdings_text(alloc, session.project(), json)?,

@@ -79,7 +79,7 @@ fn no_changes(alloc: Global) -> Result<Log, Stop>
 
 /// A session as a store has it.
 #[derive(Drop)]
-pub(crate) struct Opened {
+pub(crate) struct StoredSession {
     pub session: Session,
     /// The text of its log.
     pub log: Vec<u8>,
@@ -90,7 +90,7 @@ pub(crate) fn open<S: Store>(
     alloc: Global,
     store: &mut S,
     dir: Option<&str>,
-) -> Result<Opened, Stop>
+) -> Result<StoredSession, Stop>
     ensures opens { IfOk result (λ o. Opens (S.content store.old) (named_folder dir.entry) o.session o.log.items) }
     ensures none { IfErr result (λ why. WantsMemory why
         ⊎ OpensNone (S.content store.old) (named_folder dir.entry) (S.failures store.old) (S.failures store.new) why) }
@@ -106,7 +106,7 @@ pub(crate) fn open<S: Store>(
         Err(fault) => return Err(Stop::from(fault)),
     };
     let log = read_history(alloc, store, dir)?;
-    Ok(Opened {
+    Ok(StoredSession {
         session: Session::of(project, log.history),
         log: log.text,
     })

@@ -14,7 +14,7 @@ ghost use Rattle.meson_store.specs.Seen.{seen_by};
 use crate::lines::tell_stop;
 use crate::listed::listed;
 use crate::opening::open;
-use crate::request::{Listing, Request, Step, request_of};
+use crate::request::{Listing, ProgramRequest, Step, request_of};
 use crate::said::Said;
 use crate::steps::{edited, shown, told};
 use crate::stop::Stop;
@@ -104,9 +104,9 @@ fn answer<S: Store>(alloc: Global, store: &mut S, asked: Asked) -> Result<Said, 
         action,
     } = asked;
     match request_of(alloc, store, action, title) {
-        Ok(Request::Show(text)) => Ok(Said::show(alloc, text)),
-        Ok(Request::Step(step)) => do_step(alloc, store, folder(&dir), &step, dry_run),
-        Ok(Request::List(listing)) => list(alloc, store, folder(&dir), listing),
+        Ok(ProgramRequest::Show(text)) => Ok(Said::show(alloc, text)),
+        Ok(ProgramRequest::Step(step)) => do_step(alloc, store, folder(&dir), &step, dry_run),
+        Ok(ProgramRequest::List(listing)) => list(alloc, store, folder(&dir), listing),
         Err(stop) => Err(stop),
     }
 }

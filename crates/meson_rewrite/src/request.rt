@@ -24,7 +24,7 @@ use std::str::from_utf8;
 
 /// What is asked for.
 #[derive(Drop)]
-pub(crate) enum Request {
+pub(crate) enum ProgramRequest {
     /// To show this text.
     Show(Text),
     /// To list something of a project, and change nothing.
@@ -140,20 +140,20 @@ fn script_of_one(alloc: Global, command: Command) -> Result<Script, Stop>
 }
 
 /// What an info command of the command line asks for.
-fn told_of(alloc: Global, command: Command) -> Result<Request, Stop>
-    ensures asks { IfOk result (λ r. r ≡ Request.Step (Step.Tell (script (command ∷ [])))) }
+fn told_of(alloc: Global, command: Command) -> Result<ProgramRequest, Stop>
+    ensures asks { IfOk result (λ r. r ≡ ProgramRequest.Step (Step.Tell (script (command ∷ [])))) }
     ensures none { IfErr result WantsMemory }
 {
     let script = script_of_one(alloc, command)?;
-    Ok(Request::Step(Step::Tell(script)))
+    Ok(ProgramRequest::Step(Step::Tell(script)))
 }
 
 /// What is asked for where the version is.
-fn version_asked(alloc: Global) -> Result<Request, Stop>
-    ensures asks { IfOk result (λ r. r ≡ Request.Show version_line) }
+fn version_asked(alloc: Global) -> Result<ProgramRequest, Stop>
+    ensures asks { IfOk result (λ r. r ≡ ProgramRequest.Show version_line) }
     ensures none { IfErr result WantsMemory }
 {
-    Ok(Request::Show(version_text(alloc)?))
+    Ok(ProgramRequest::Show(version_text(alloc)?))
 }
 
 /// What an action asks for; a run keeps its change under the title.
@@ -162,7 +162,7 @@ pub(crate) fn request_of<S: Store>(
     store: &mut S,
     action: Action,
     title: Text,
-) -> Result<Request, Stop>
+) -> Result<ProgramRequest, Stop>
     requires { is_title title ≡ true }
     ensures asks { IfOk result (λ r. AsksFor title action (S.content store.old) r) }
     ensures titled { IfOk result StepsTitled }
@@ -175,29 +175,29 @@ pub(crate) fn request_of<S: Store>(
     ensures untouched { IsTrue (only_shows action) → store.new ≡ store.old }
 {
     match action {
-        Action::Help(text) => Ok(Request::Show(text)),
+        Action::Help(text) => Ok(ProgramRequest::Show(text)),
         Action::Version => version_asked(alloc),
-        Action::Run(script) => Ok(Request::Step(Step::Run { script, title })),
+        Action::Run(script) => Ok(ProgramRequest::Step(Step::Run { script, title })),
         Action::Info(command) => told_of(alloc, command),
         Action::ScriptText(text) => {
             let script = script_from(alloc, text.get())?;
-            Ok(Request::Step(Step::Run { script, title }))
+            Ok(ProgramRequest::Step(Step::Run { script, title }))
         }
         Action::ScriptFile(name) => {
             let script = read_script(alloc, store, name)?;
-            Ok(Request::Step(Step::Run { script, title }))
+            Ok(ProgramRequest::Step(Step::Run { script, title }))
         }
-        Action::Undo => Ok(Request::Step(Step::Undo)),
-        Action::UndoTo(count) => Ok(Request::Step(Step::UndoTo(count))),
+        Action::Undo => Ok(ProgramRequest::Step(Step::Undo)),
+        Action::UndoTo(count) => Ok(ProgramRequest::Step(Step::UndoTo(count))),
         Action::UndoChecked { count, sums } => {
             let kept = read_named(alloc, store, sums)?;
-            Ok(Request::Step(Step::UndoChecked { count, kept }))
+            Ok(ProgramRequest::Step(Step::UndoChecked { count, kept }))
         }
-        Action::ForgetOldest(count) => Ok(Request::Step(Step::ForgetOldest(count))),
-        Action::ForgetAll => Ok(Request::Step(Step::ForgetAll)),
-        Action::Redo => Ok(Request::Step(Step::Redo)),
-        Action::History => Ok(Request::List(Listing::History)),
-        Action::List { json } => Ok(Request::List(Listing::Holdings { json })),
-        Action::Sums => Ok(Request::List(Listing::Sums)),
+        Action::ForgetOldest(count) => Ok(ProgramRequest::Step(Step::ForgetOldest(count))),
+        Action::ForgetAll => Ok(ProgramRequest::Step(Step::ForgetAll)),
+        Action::Redo => Ok(ProgramRequest::Step(Step::Redo)),
+        Action::History => Ok(ProgramRequest::List(Listing::History)),
+        Action::List { json } => Ok(ProgramRequest::List(Listing::Holdings { json })),
+        Action::Sums => Ok(ProgramRequest::List(Listing::Sums)),
     }
 }

@@ -10,7 +10,7 @@ ghost use Rattle.meson_rewrite.specs.Logs.{with_log};
 ghost use Rattle.meson_rewrite.specs.Steps.{Does, IsTitled, MayRefuseStep};
 ghost use Rattle.meson_rewrite.specs.Stops.{WantsMemory, undo_stop};
 
-use crate::opening::{LOG, Opened};
+use crate::opening::{LOG, StoredSession};
 use crate::request::{NamedFile, Step};
 use crate::said::Said;
 use crate::stop::Stop;
@@ -219,14 +219,14 @@ fn edit_of(alloc: Global, session: &mut Session, log: Vec<u8>, step: &Step) -> R
 }
 
 /// What a step makes of a session whose history is text.
-pub(crate) fn edited(alloc: Global, opened: Opened, step: &Step) -> Result<Edit, Stop>
+pub(crate) fn edited(alloc: Global, opened: StoredSession, step: &Step) -> Result<Edit, Stop>
     requires text { is_text_history opened.session.history ≡ true }
     requires title { IsTitled step.now }
     ensures edited { IfOk result (IsEdited opened.session opened.log.items step.now) }
     ensures same_names { IfOk result (λ edit. map (λ f. f.name) edit.before ≡ map (λ f. f.name) edit.after) }
     ensures refused { IfErr result (λ why. WantsMemory why ⊎ MayRefuseStep step.now opened.session why) }
 {
-    let Opened { mut session, log } = opened;
+    let StoredSession { mut session, log } = opened;
     let edit = edit_of(alloc, &mut session, log, step);
     // What comes is the end of the program, which lets all memory go at once.
     mem::forget(session);
@@ -234,12 +234,12 @@ pub(crate) fn edited(alloc: Global, opened: Opened, step: &Step) -> Result<Edit,
 }
 
 /// What is to be told of a step on a session.
-pub(crate) fn told(alloc: Global, opened: Opened, step: &Step) -> Result<Said, Stop>
+pub(crate) fn told(alloc: Global, opened: StoredSession, step: &Step) -> Result<Said, Stop>
     requires { IsTitled step.now }
     ensures told { IfOk result (OnlyTells opened.session step.now) }
     ensures refused { IfErr result (λ why. WantsMemory why ⊎ MayRefuseStep step.now opened.session why) }
 {
-    let Opened {
+    let StoredSession {
         mut session,
         log: _,
     } = opened;
@@ -248,12 +248,12 @@ pub(crate) fn told(alloc: Global, opened: Opened, step: &Step) -> Result<Said, S
 }
 
 /// What is to be told of a step on a session that is shown, and not done.
-pub(crate) fn shown(alloc: Global, opened: Opened, step: &Step) -> Result<Said, Stop>
+pub(crate) fn shown(alloc: Global, opened: StoredSession, step: &Step) -> Result<Said, Stop>
     requires { IsTitled step.now }
     ensures shown { IfOk result (IsShown opened.session step.now) }
     ensures refused { IfErr result (λ why. WantsMemory why ⊎ MayRefuseStep step.now opened.session why) }
 {
-    let Opened {
+    let StoredSession {
         mut session,
         log: _,
     } = opened;

@@ -6,8 +6,8 @@ use Rattle.meson_lex.specs.declared.kinds.Span.{Span}
 use Rattle.meson_calls.specs.declared.call.Role.TheVariants as role
 use Rattle.meson_calls.specs.declared.refusal.Refusal.{Refusal}
 use Rattle.meson_steps.specs.declared.step.ListStep.{ListStep}
-use Rattle.meson_sources.specs.declared.targeting.Change.{Change}
-use Rattle.meson_sources.specs.declared.targeting.Change.TheVariants.{SourcesAdded, SourcesRemoved, ExtraAdded, ExtraRemoved}
+use Rattle.meson_sources.specs.declared.targeting.TargetChange.{TargetChange}
+use Rattle.meson_sources.specs.declared.targeting.TargetChange.TheVariants.{SourcesAdded, SourcesRemoved, ExtraAdded, ExtraRemoved}
 use Rattle.meson_calls.specs.Calls.{Call}
 use Rattle.meson_steps.specs.ListSteps.{AreDoable}
 use Rattle.meson_calls.specs.Loading.{Loaded, IsProject, project}
@@ -30,7 +30,7 @@ module _ (old : Loaded) (whole : IsProject old) where
   abbrev p : Project Span
   p = project old
 
-  changed : (change : Change) (c : Placed (Call Span)) → TargetThere p c → (names : List (List ℕ)) → All IsUtf8 names → (steps : List Step) → change_steps p change names c ≡ Ok steps
+  changed : (change : TargetChange) (c : Placed (Call Span)) → TargetThere p c → (names : List (List ℕ)) → All IsUtf8 names → (steps : List Step) → change_steps p change names c ≡ Ok steps
       → AreDoable steps (plain_trees old)
   changed SourcesAdded c there names utf8 steps is = sources_may_be_added old whole.parsed c there (sources_stand old whole.parsed c there) names utf8 steps is
   changed SourcesRemoved c there names utf8 steps is = sources_may_be_removed old whole.parsed c there (sources_stand old whole.parsed c there) names utf8 steps is
@@ -38,7 +38,7 @@ module _ (old : Loaded) (whole : IsProject old) where
   changed ExtraRemoved c there names utf8 steps is = extras_may_be_removed old whole.parsed c there (extras_stand old whole.parsed c there) names utf8 steps is
 
   -- the steps on a target
-  target_means : (target : List ℕ) (change : Change) (names : List (List ℕ)) → All IsUtf8 names → (list : List ListStep) → AreMeant (target_steps p target change names) list → ArePlanned old (target_steps p target change names) list
+  target_means : (target : List ℕ) (change : TargetChange) (names : List (List ℕ)) → All IsUtf8 names → (list : List ListStep) → AreMeant (target_steps p target change names) list → ArePlanned old (target_steps p target change names) list
   target_means target change names utf8 list meant =
       let c = then_was (the_call p role.Target target) (change_steps p change names) meant.steps meant.is in
       let there = targets_stand p target c.0 c.1 in
@@ -49,7 +49,7 @@ module _ (old : Loaded) (whole : IsProject old) where
       }
 
   module _ {V : Type 0} (list : V → List ListStep) where
-    pub all_mean : (target : List ℕ) (change : Change) (names : List (List ℕ)) (r : Result V Refusal) → IfOk r (λ v. All IsUtf8 names)
+    pub all_mean : (target : List ℕ) (change : TargetChange) (names : List (List ℕ)) (r : Result V Refusal) → IfOk r (λ v. All IsUtf8 names)
         → IfOk r (λ v. AreMeant (target_steps p target change names) (list v)) → IfOk r (λ v. ArePlanned old (target_steps p target change names) (list v))
     all_mean target change names (Ok v) utf8 meant = target_means target change names utf8 (list v) meant
     all_mean target change names (Err e) utf8 meant = tt

@@ -18,7 +18,7 @@ use Rattle.meson_calls.specs.declared.call.CallRef.{CallRef}
 use Rattle.meson_calls.specs.declared.call.Role.TheVariants as role
 use Rattle.meson_calls.specs.declared.noted.Noted.{Noted}
 use Rattle.meson_calls.specs.declared.variables.Variables.{Variables}
-use Rattle.meson_sources.specs.declared.targeting.Change.{Change}
+use Rattle.meson_sources.specs.declared.targeting.TargetChange.{TargetChange}
 use Rattle.meson_calls.specs.CallPlaces.{CallIn}
 use Rattle.meson_calls.specs.Calls.{Call, call_of}
 use Rattle.meson_calls.specs.GoodLists.{GoodListing}
@@ -82,7 +82,7 @@ module _ (n : Noted) (id : List ℕ) (is : IsNotedFor role.Target id n) (place :
     arguments_good source same = subst (λ s. GoodListing (list_view s a)) (sym same) (good_list (some_tree trees place.file (call_within n role.Target id is place found)))
 
     -- the steps that are meant are those of the code's call
-    pub steps_are : (v : Variables) → v.files.now ≡ files → v.trees.now ≡ trees → (change : Change) (names : List (List ℕ)) (source : List ℕ) → source ≡ bytes
+    pub steps_are : (v : Variables) → v.files.now ≡ files → v.trees.now ≡ trees → (change : TargetChange) (names : List (List ℕ)) (source : List ℕ) → source ≡ bytes
         → change_steps (project_of v) change names (placed place (call_with function (list_view source a))) ≡ target_steps (project_in n) id change names
     unfolding function
     steps_are v fs ts change names source is_source =

@@ -6,11 +6,11 @@ use Rattle.meson_calls.specs.declared.call.SourceItem.{SourceItem}
 use Rattle.meson_calls.specs.declared.marks.Marks.{Marks}
 use Rattle.meson_calls.specs.declared.refusal.Refusal.{Refusal}
 use Rattle.meson_sources.specs.SourceEdits.{Spot, none_found, removable}
-use Rattle.meson_sources.specs.declared.removing.Spot as code
+use Rattle.meson_sources.specs.declared.removing.ElementSpot as code
 use Rattle.meson_sources.specs.Naming.{has_value}
 use Rattle.meson_calls.specs.Project.{place}
 
-abbrev pub spot_view : code.Spot → Spot
+abbrev pub spot_view : code.ElementSpot → Spot
 spot_view s = record { list = place s.file s.list.items; number = s.number }
 
 -- ---- spots of a name

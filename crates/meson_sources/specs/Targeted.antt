@@ -10,8 +10,8 @@ use Rattle.meson_calls.specs.declared.refusal.Refusal.{Refusal}
 use Rattle.meson_calls.specs.Calls.{Call, Numbered, value_with_name}
 use Rattle.meson_calls.specs.Calls as calls
 use Rattle.meson_calls.specs.Expansion.{fixed}
-use Rattle.meson_sources.specs.declared.targeting.Change.{Change}
-use Rattle.meson_sources.specs.declared.targeting.Change.TheVariants.{SourcesAdded, SourcesRemoved, ExtraAdded, ExtraRemoved}
+use Rattle.meson_sources.specs.declared.targeting.TargetChange.{TargetChange}
+use Rattle.meson_sources.specs.declared.targeting.TargetChange.TheVariants.{SourcesAdded, SourcesRemoved, ExtraAdded, ExtraRemoved}
 use Rattle.meson_calls.specs.declared.call.Role.TheVariants as role
 use Rattle.meson_calls.specs.Project.{Project, Placed, child}
 use Rattle.meson_calls.specs.Finding.{the_call}
@@ -26,13 +26,13 @@ abbrev pub extra_gathered : Project Span → ℕ → CallRef → List ℕ → Li
 extra_gathered p left c source args = expanded no_marks (arguments_by p left c (λ n. fixed) (kept_args source (value_with_name extra_key) 0 args))
 
 -- the steps that a change of a target means
-abbrev pub change_steps : {S : Type 0} → Project S → Change → List (List ℕ) → Placed (Call S) → Result (List Step) Refusal
+abbrev pub change_steps : {S : Type 0} → Project S → TargetChange → List (List ℕ) → Placed (Call S) → Result (List Step) Refusal
 change_steps p SourcesAdded names c = sources_added p c names
 change_steps p SourcesRemoved names c = sources_removed p c names
 change_steps p ExtraAdded names c = extra_added p c names
 change_steps p ExtraRemoved names c = extra_removed p c names
 
-abbrev pub target_steps : {S : Type 0} → Project S → List ℕ → Change → List (List ℕ) → Result (List Step) Refusal
+abbrev pub target_steps : {S : Type 0} → Project S → List ℕ → TargetChange → List (List ℕ) → Result (List Step) Refusal
 target_steps p target change names = then_ok (the_call p role.Target target) (change_steps p change names)
 
 -- ---- extra files where no list is met

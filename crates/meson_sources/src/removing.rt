@@ -19,7 +19,7 @@ use std::alloc::{AllocError, Global};
 
 /// An element of a list: the list's file and path, and the element's number.
 #[derive(Debug, Drop)]
-pub(crate) struct Spot {
+pub(crate) struct ElementSpot {
     pub file: usize,
     pub list: Vec<usize>,
     pub number: usize,
@@ -43,7 +43,7 @@ fn renumber(path: &mut [usize], list: &[usize], gone: usize)
 }
 
 /// A spot after another element has gone.
-fn rename(gone: &Spot, spot: &mut Spot)
+fn rename(gone: &ElementSpot, spot: &mut ElementSpot)
     ensures { spot_view spot.new ≡ spot_after (spot_view gone.now) (spot_view spot.old) }
 {
     if gone.file == spot.file {
@@ -55,7 +55,7 @@ fn rename(gone: &Spot, spot: &mut Spot)
 }
 
 /// A spot after each of these has gone, one after the other.
-fn rename_after(done: &[Spot], spot: &mut Spot)
+fn rename_after(done: &[ElementSpot], spot: &mut ElementSpot)
     ensures { spot_view spot.new ≡ after_each spot_after (map spot_view done.now) (spot_view spot.old) }
 {
     for i in 0..done.len() {
@@ -63,11 +63,11 @@ fn rename_after(done: &[Spot], spot: &mut Spot)
     }
 }
 
-fn copy_spot(alloc: Global, spot: &Spot) -> Result<Spot, AllocError>
+fn copy_spot(alloc: Global, spot: &ElementSpot) -> Result<ElementSpot, AllocError>
     ensures { IfOk result (λ copy. spot_view copy ≡ spot_view spot.now) }
 {
     let list = Vec::from_slice(alloc, spot.list.as_slice())?;
-    Ok(Spot {
+    Ok(ElementSpot {
         file: spot.file,
         list,
         number: spot.number,
@@ -75,7 +75,7 @@ fn copy_spot(alloc: Global, spot: &Spot) -> Result<Spot, AllocError>
 }
 
 /// Whether two spots are one.
-fn is_same(spot: &Spot, other: &Spot) -> bool
+fn is_same(spot: &ElementSpot, other: &ElementSpot) -> bool
     ensures { result ≡ same_spot (spot_view spot.now) (spot_view other.now) }
 {
     spot.file == other.file
@@ -83,7 +83,7 @@ fn is_same(spot: &Spot, other: &Spot) -> bool
 }
 
 /// Whether a spot is one of these.
-fn is_among(others: &[&Spot], spot: &Spot) -> bool
+fn is_among(others: &[&ElementSpot], spot: &ElementSpot) -> bool
     ensures { result ≡ list_any (same_spot (spot_view spot.now)) (map (λ x. spot_view x.now) others.now) }
 {
     for i in 0..others.len() {
@@ -95,7 +95,10 @@ fn is_among(others: &[&Spot], spot: &Spot) -> bool
 }
 
 /// Each spot once, where it comes first.
-fn distinct_spots<'s>(alloc: Global, found: &'s [Spot]) -> Result<Vec<&'s Spot>, AllocError>
+fn distinct_spots<'s>(
+    alloc: Global,
+    found: &'s [ElementSpot],
+) -> Result<Vec<&'s ElementSpot>, AllocError>
     ensures { IfOk result (λ all. map (λ x. spot_view x.now) all.items ≡ distinct_spots (map spot_view found.now)) }
 {
     let mut all = Vec::new(alloc);
@@ -108,7 +111,7 @@ fn distinct_spots<'s>(alloc: Global, found: &'s [Spot]) -> Result<Vec<&'s Spot>,
 }
 
 /// The steps by which elements go one after the other, each from where it stands then.
-fn removals(alloc: Global, spots: &[&Spot]) -> Result<Vec<ListStep>, AllocError>
+fn removals(alloc: Global, spots: &[&ElementSpot]) -> Result<Vec<ListStep>, AllocError>
     ensures { IfOk result (λ steps. map Some steps.items ≡ map bare (removal_steps (map (λ x. spot_view x.now) spots.now))) }
 {
     let mut done = Vec::new(alloc);
@@ -125,7 +128,7 @@ fn removals(alloc: Global, spots: &[&Spot]) -> Result<Vec<ListStep>, AllocError>
 }
 
 /// The steps by which the elements at these spots go, each once.
-pub(crate) fn removed(alloc: Global, spots: &[Spot]) -> Result<Vec<ListStep>, AllocError>
+pub(crate) fn removed(alloc: Global, spots: &[ElementSpot]) -> Result<Vec<ListStep>, AllocError>
     ensures { IfOk result (λ steps. map Some steps.items ≡ map bare (removal_steps (distinct_spots (map spot_view spots.now)))) }
 {
     let all = distinct_spots(alloc, spots)?;
@@ -137,13 +140,13 @@ fn spot_of(
     alloc: Global,
     list: &Option<CallRef>,
     number: Option<usize>,
-) -> Result<Option<Spot>, AllocError>
+) -> Result<Option<ElementSpot>, AllocError>
     ensures { IfOk result (λ spot. option_map spot_view spot ≡ spot_if_there list.now number) }
 {
     match (list, number) {
         (Some(place), Some(number)) => {
             let list = Vec::from_slice(alloc, place.path.steps.get())?;
-            Ok(Some(Spot {
+            Ok(Some(ElementSpot {
                 file: place.file,
                 list,
                 number,
@@ -153,7 +156,7 @@ fn spot_of(
     }
 }
 
-fn push_spot(spots: &mut Vec<Spot>, spot: Spot) -> Result<(), AllocError>
+fn push_spot(spots: &mut Vec<ElementSpot>, spot: ElementSpot) -> Result<(), AllocError>
     ensures { OnOk result (spots.new.items ≡ spots.old.items ++ spot ∷ []) }
 {
     spots.push(spot)?;
@@ -168,7 +171,7 @@ fn find_spots(
     alloc: Global,
     marks: &Marks<'_>,
     name: &Text,
-    spots: &mut Vec<Spot>,
+    spots: &mut Vec<ElementSpot>,
 ) -> Result<bool, Refusal>
     requires { length marks.now.numbers.items ≡ length marks.now.items.items }
     ensures found { OnOk result (before_all (map spot_view spots.old.items)
@@ -199,7 +202,7 @@ pub(crate) fn spots_of(
     alloc: Global,
     marks: &Marks<'_>,
     names: &[&Text],
-) -> Result<Vec<Spot>, Refusal>
+) -> Result<Vec<ElementSpot>, Refusal>
     requires { length marks.now.numbers.items ≡ length marks.now.items.items }
     ensures found { IfOk result (λ spots. all_spots_in marks.now (map (λ x. x.now) names.now) ≡ Ok (map spot_view spots.items)) }
     ensures refused { RefusedAs result (all_spots_in marks.now (map (λ x. x.now) names.now)) }

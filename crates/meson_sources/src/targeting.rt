@@ -20,7 +20,7 @@ use std::alloc::Global;
 
 /// What is done to the sources or the extra files of a target.
 #[derive(Clone, Copy)]
-pub enum Change {
+pub enum TargetChange {
     SourcesAdded,
     SourcesRemoved,
     ExtraAdded,
@@ -35,7 +35,7 @@ fn target_steps(
     alloc: Global,
     noted: &Noted<'_>,
     target: &str,
-    change: Change,
+    change: TargetChange,
     names: &[Text],
 ) -> Result<Vec<ListStep>, Refusal>
     requires { IsNotedFor Role.Target target.now noted.now }
@@ -48,10 +48,12 @@ fn target_steps(
     let source = noted.files.bytes(call.file);
     let variables = Variables::near(alloc, noted.files, noted.trees, &call)?;
     match change {
-        Change::SourcesAdded => sources_added(&variables, &call, source, arguments, names),
-        Change::SourcesRemoved => sources_removed(&variables, &call, source, arguments, names),
-        Change::ExtraAdded => extra_added(&variables, &call, source, arguments, names),
-        Change::ExtraRemoved => extra_removed(&variables, &call, source, arguments, names),
+        TargetChange::SourcesAdded => sources_added(&variables, &call, source, arguments, names),
+        TargetChange::SourcesRemoved => sources_removed(
+            &variables, &call, source, arguments, names,
+        ),
+        TargetChange::ExtraAdded => extra_added(&variables, &call, source, arguments, names),
+        TargetChange::ExtraRemoved => extra_removed(&variables, &call, source, arguments, names),
     }
 }
 
@@ -63,7 +65,7 @@ pub fn on_target(
     alloc: Global,
     noted: &Noted<'_>,
     target: &Text,
-    change: Change,
+    change: TargetChange,
     names: &Many<Text>,
 ) -> Result<Vec<ListStep>, Refusal>
     requires { IsNotedFor Role.Target target.now noted.now }

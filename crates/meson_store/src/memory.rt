@@ -19,15 +19,15 @@ struct Written {
 
 /// The calls of one kind: how many were made, and which are to fail.
 #[derive(Clone, Copy)]
-struct Plan {
+struct PlannedFailures {
     made: u64,
     first: u64,
     count: u64,
 }
 
-impl Plan {
+impl PlannedFailures {
     /// No call was made, and none fails.
-    const NONE: Plan = Plan {
+    const NO_FAILURE: PlannedFailures = PlannedFailures {
         made: 0,
         first: 1,
         count: 0,
@@ -50,8 +50,8 @@ pub struct Memory {
     /// What was written, the newest first.
     log: VecDeque<Written>,
     failures: u64,
-    reads: Plan,
-    replaces: Plan,
+    reads: PlannedFailures,
+    replaces: PlannedFailures,
     leaves_new: bool,
     /// A `replace` that is to fail knows that its file is as it was.
     is_sure: bool,
@@ -85,8 +85,8 @@ impl Memory {
             alloc,
             log: VecDeque::new(alloc),
             failures: 0,
-            reads: Plan::NONE,
-            replaces: Plan::NONE,
+            reads: PlannedFailures::NO_FAILURE,
+            replaces: PlannedFailures::NO_FAILURE,
             leaves_new: false,
             is_sure: false,
         }

@@ -25,7 +25,7 @@ use meson_calls::notes::notes_of;
 use meson_calls::roles::text_of;
 use meson_calls::setters::one_of;
 use meson_calls::walk_statements::walk_files;
-use meson_calls::{CallRef, Place};
+use meson_calls::{BorrowedPlace, CallRef};
 use meson_lex::Span;
 use meson_syntax::List;
 use std::alloc::{AllocError, Global};
@@ -55,7 +55,7 @@ impl StatementPlace {
     }
 
     /// Whether a place stands outside the statement.
-    fn is_outside(&self, place: Place<'_>) -> bool
+    fn is_outside(&self, place: BorrowedPlace<'_>) -> bool
         ensures { result ≡ is_outside (place_view self.now) (place_at place.entry) }
     {
         self.block.file != place.file || !self.is_on(place.path)

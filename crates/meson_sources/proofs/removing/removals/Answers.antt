@@ -2,7 +2,7 @@ use Rattle.std.proofs.Common.{◌+◌, [], ◌∷◌, ◌++◌, map, drop, get_o
 use Rattle.std.specs.Prelude.{Some}
 use Rattle.std.proofs.lemmas.List.{map-append, append_assoc}
 use Rattle.meson_steps.specs.declared.step.ListEdit.TheVariants as code
-use Rattle.meson_sources.specs.declared.removing.Spot as code_spot
+use Rattle.meson_sources.specs.declared.removing.ElementSpot as code_spot
 use Rattle.meson_calls.specs.Project.{place}
 use Rattle.meson_sources.specs.SourceEdits.{spot_after}
 use Rattle.meson_sources.specs.CodeSpots.{after_each, spot_view}
@@ -12,7 +12,7 @@ use Rattle.meson_sources.proofs.removing.removals.Goals as goal
 pub loop-i-init : goal.loop-i-init
 loop-i-init c =
     let spots = c.args.spots.now in
-    let view = λ (x : Bor code_spot.Spot). spot_view x.now in
+    let view = λ (x : Bor code_spot.ElementSpot). spot_view x.now in
     ap (λ xs. map Some xs ++ steps_left view (map spot_view c.new-done.result.items) spots) c.new-steps.ensures.items
     ∙ ap (λ xs. steps_left view (map spot_view xs) spots) c.new-done.ensures.items
     ∙ none_gone view spots
@@ -20,7 +20,7 @@ loop-i-init c =
 pub loop-i-preserved : goal.loop-i-preserved
 loop-i-preserved c =
     let spots = c.args.spots.now in
-    let view = λ (x : Bor code_spot.Spot). spot_view x.now in
+    let view = λ (x : Bor code_spot.ElementSpot). spot_view x.now in
     let i = c.loop-i.i in
     let d = c.index-spots-i.result in
     let steps = c.loop-i.steps.items in

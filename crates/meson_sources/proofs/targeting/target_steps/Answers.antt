@@ -4,7 +4,7 @@ use Rattle.std.proofs.lemmas.Result.{err_from_is_err_and}
 use Rattle.meson_splice.specs.Patch.{then_ok}
 use Rattle.meson_calls.specs.declared.call.Role.TheVariants as role
 use Rattle.meson_calls.specs.declared.refusal.Refusal.TheVariants.{OutOfMemory}
-use Rattle.meson_sources.specs.declared.targeting.Change.TheVariants as change
+use Rattle.meson_sources.specs.declared.targeting.TargetChange.TheVariants as change
 use Rattle.meson_calls.specs.NotedProjects.{project_in}
 use Rattle.meson_sources.specs.Targeted.{change_steps, target_steps}
 use Rattle.meson_steps.specs.Meanings.{AreMeant}
