@@ -1,5 +1,5 @@
 -- The one call that an id names, by its place.
-use Rattle.std.proofs.Common.{◌≡◌, ◌≢◌, ℕ, List, [], ◌∷◌, length, refl, sym, ap, ◌∙◌}
+use Rattle.std.proofs.Common.{◌≡◌, ℕ, List, [], ◌∷◌, length, refl, sym, ap, ◌∙◌}
 use Rattle.std.specs.Prelude.{false, ◌==◌}
 use Rattle.meson_lex.specs.declared.kinds.Span.{Span}
 use Rattle.meson_splice.specs.Patch.{then_ok}
@@ -14,12 +14,12 @@ use Rattle.meson_calls.specs.Project.{Project, Placed}
 use Rattle.meson_calls.specs.OnePlace.{any_place, the_place}
 use Rattle.meson_calls.specs.Roles.{found, role_calls, places}
 use Rattle.meson_calls.proofs.Picked.{role_places, found_notes}
-use Rattle.std.specs.Prelude.{Result, Ok, Err, IfErr, IfOk}
+use Rattle.std.specs.Prelude.{Result, Ok, Err, IfOk}
 use Rattle.meson_calls.specs.declared.refusal.Refusal.{Refusal}
-use Rattle.meson_calls.specs.declared.refusal.Refusal.TheVariants.{OutOfMemory}
+use Rattle.meson_calls.specs.Refusals.{RefusedAs}
 
 -- a result that is known as a whole
-pub refused_as : {X : Type 0} (r wanted : Result X Refusal) → r ≡ wanted → IfErr r (λ e. e ≢ OutOfMemory → wanted ≡ Err e)
+pub refused_as : {X : Type 0} (r wanted : Result X Refusal) → r ≡ wanted → RefusedAs r wanted
 refused_as (Ok x) wanted is = tt
 refused_as (Err e) wanted is = λ other. sym is
 
@@ -32,7 +32,7 @@ pub behind_project : (projects : List CallRef) (found : Result CallRef Refusal) 
 behind_project [] found some = absurd cc
 behind_project (p ∷ projects) found some = refl
 
-pub if_refused : {X : Type 0} (r a b : Result X Refusal) → a ≡ b → IfErr r (λ e. e ≢ OutOfMemory → b ≡ Err e) → IfErr r (λ e. e ≢ OutOfMemory → a ≡ Err e)
+pub if_refused : {X : Type 0} (r a b : Result X Refusal) → a ≡ b → RefusedAs r b → RefusedAs r a
 if_refused (Ok x) a b same h = tt
 if_refused (Err e) a b same h = λ other. same ∙ h other
 

@@ -1,11 +1,12 @@
 //! The sources of the target at a place.
 
-ghost use Rattle.std.specs.Prelude.{◌≡◌, ◌≢◌, Some, Ok, Err, IfErr, IfOk, IsTrue, option_map};
+ghost use Rattle.std.specs.Prelude.{◌≡◌, Some, Ok, Err, IfOk, IsTrue, option_map};
 ghost use Rattle.meson_syntax.specs.View.{expr_view, list_view};
 ghost use Rattle.meson_calls.specs.Calls.{call_of};
 ghost use Rattle.meson_calls.specs.Loading.{AreParsed};
 ghost use Rattle.meson_calls.specs.CodeVariables.{AreVariables, project_of};
 ghost use Rattle.meson_calls.specs.Picking.{Source};
+ghost use Rattle.meson_calls.specs.Refusals.{IfRefused};
 ghost use Rattle.meson_calls.specs.Roles.{is_target};
 ghost use Rattle.meson_calls.specs.Sources.{sources};
 
@@ -34,7 +35,7 @@ pub fn sources_at(variables: &Variables<'_>, call: &CallRef) -> Result<Sources, 
     requires parsed { AreParsed variables.now.files.now variables.now.trees.now }
     requires target { IsTrue (is_target (project_of variables.now) call.now) }
     ensures found { IfOk result (λ s. sources (project_of variables.now) call.now ≡ Some (Ok s)) }
-    ensures refused { IfErr result (λ e. e ≢ Refusal.OutOfMemory → sources (project_of variables.now) call.now ≡ Some (Err e)) }
+    ensures refused { IfRefused result (λ e. sources (project_of variables.now) call.now ≡ Some (Err e)) }
 {
     let trees = variables.trees;
     if call.file >= trees.len() {

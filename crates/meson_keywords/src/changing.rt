@@ -1,19 +1,20 @@
 //! Changes of one call, each made after the one before it.
 
-ghost use Rattle.std.specs.Prelude.{◌≡◌, Err, IfOk, List, Ok, OnOk};
+ghost use Rattle.std.specs.Prelude.{◌≡◌, IfOk, List, Ok, OnOk};
 ghost use Rattle.meson_calls.specs.Calls.{value_with_name};
 ghost use Rattle.meson_keywords.specs.Changing.{Between, CallStands, IsNextTask, TaskDone, request_steps, steps_of_task};
 ghost use Rattle.meson_calls.specs.GoodLists.{GoodArgs};
 ghost use Rattle.meson_calls.specs.Loading.{AreParsed, Loaded, named_trees, project, views};
 ghost use Rattle.meson_calls.specs.Notes.{notes};
 ghost use Rattle.meson_calls.specs.OnePlace.{the_place};
+ghost use Rattle.meson_calls.specs.Refusals.{IfRefused, RefusedAs};
 ghost use Rattle.meson_steps.specs.Done.{IsDone, MayNotBeDone};
 ghost use Rattle.meson_steps.specs.ResultLimits.{plain_trees};
 ghost use Rattle.meson_calls.specs.Sources.{not_hidden};
 ghost use Rattle.meson_calls.specs.Sourced.{kept_args};
 ghost use Rattle.meson_calls.specs.Sources.{kwargs_key};
 ghost use Rattle.meson_steps.specs.Steps as meant;
-ghost use Rattle.meson_steps.specs.Meanings.{AreMeant, IfRefused};
+ghost use Rattle.meson_steps.specs.Meanings.{AreMeant};
 ghost use Rattle.meson_steps.specs.Working.{IsFresh, Restores, so_far};
 ghost use Rattle.meson_keywords.specs.Tasking.{MayBeWritten, TaskIs, TasksAre, args_of, request_view};
 ghost use Rattle.meson_keywords.specs.Tasks as changes;
@@ -43,7 +44,7 @@ fn task_steps(alloc: Global, subject: Subject<'_>, task: Task<'_>) -> Result<Vec
     ensures meant { (t : changes.Task) → TaskIs task.entry t
         → IfOk result (λ steps. AreMeant (task_steps t subject.entry.call.now (args_of subject.entry)) steps.items) }
     ensures refused { (t : changes.Task) → TaskIs task.entry t
-        → IfRefused result (λ e. task_steps t subject.entry.call.now (args_of subject.entry) ≡ Err e) }
+        → RefusedAs result (task_steps t subject.entry.call.now (args_of subject.entry)) }
 {
     match task {
         Task::Set(key, new) => set_steps(alloc, subject, key, new),
@@ -66,7 +67,7 @@ fn do_task(alloc: Global, work: &mut Work, call: &CallRef, task: Task<'_>) -> Re
         → MayBeWritten t → OnOk result (TaskDone old call.now before t work.old work.new) }
     ensures restores { (first : Loaded) → Restores work.old first → Restores work.new first }
     ensures refused { (old : Loaded) (before : List meant.Step) (t : changes.Task) → Between old call.now before work.old → TaskIs task.entry t
-        → MayBeWritten t → IfRefused result (λ e. steps_of_task call.now t work.old ≡ Err e) }
+        → MayBeWritten t → RefusedAs result (steps_of_task call.now t work.old) }
 {
     let file = call.file;
     if file >= work.trees.len() {
@@ -135,7 +136,7 @@ fn place_named(
 ) -> Result<CallRef, Refusal>
     requires { AreParsed files.now trees.now }
     ensures found { IfOk result (λ c. the_place role id.now (notes (named_trees files.now (views files.now trees.now))) ≡ Ok c) }
-    ensures refused { IfRefused result (λ e. the_place role id.now (notes (named_trees files.now (views files.now trees.now))) ≡ Err e) }
+    ensures refused { RefusedAs result (the_place role id.now (notes (named_trees files.now (views files.now trees.now)))) }
 {
     let taken = notes_for(alloc, role, id, files, trees)?;
     let notes = taken.all(alloc)?;

@@ -1,6 +1,6 @@
 //! The keyword argument in hand, and what the elements of its value say.
 
-ghost use Rattle.std.specs.Prelude.{◌≡◌, ◌∷◌, [], ◌||◌, Err, IfOk, MatchOption, None, Ok, Some, bytes_eq, is_some, map, option_map};
+ghost use Rattle.std.specs.Prelude.{◌≡◌, ◌∷◌, [], ◌||◌, IfOk, MatchOption, None, Ok, Some, bytes_eq, is_some, map, option_map};
 ghost use Rattle.std.specs.List.{filter_map, list_any};
 ghost use Rattle.std.specs.Str.{IsUtf8};
 ghost use Rattle.meson_syntax.specs.Grammar.{argument_words, expression_words};
@@ -10,10 +10,10 @@ ghost use Rattle.meson_calls.specs.GoodLists.{GoodArgs};
 ghost use Rattle.meson_keywords.specs.KeywordEdits.{all_of_kind, an_array, element_text, name_of, no_array, passing, says, value_shape, text_in, the_value};
 ghost use Rattle.meson_keywords.specs.Options.{entries, is_entry, keys_known};
 ghost use Rattle.meson_calls.specs.Picking.{Source};
+ghost use Rattle.meson_calls.specs.Refusals.{RefusedAs};
 ghost use Rattle.meson_steps.specs.Names.{distinct_by};
 ghost use Rattle.meson_calls.specs.Strings.{AreGood};
 ghost use Rattle.meson_keywords.specs.Tasking.{args_of, found_argument, test_of};
-ghost use Rattle.meson_steps.specs.Meanings.{IfRefused};
 
 use crate::keys::{ElementKind, key_text};
 use crate::tasks::before_equals;
@@ -54,7 +54,7 @@ pub(crate) fn the_value<'t>(
     requires utf8 { IsUtf8 key.now }
     ensures good { IfOk result (λ o. MatchOption o (Unit {0}) (λ f. AreGood (expression_words (expr_view subject.entry.source.now f.value.now)))) }
     ensures found { IfOk result (λ o. the_value key.now (args_of subject.entry) ≡ Ok (option_map (found_argument subject.entry.source.now) o)) }
-    ensures refused { IfRefused result (λ e. the_value key.now (args_of subject.entry) ≡ Err e) }
+    ensures refused { RefusedAs result (the_value key.now (args_of subject.entry)) }
 {
     let args = subject.args;
     if count_named(subject.source, args, key) > 1 {

@@ -1,11 +1,11 @@
 //! The keyword arguments that may be changed, and the kinds of their values.
 
-ghost use Rattle.std.specs.Prelude.{◌≡◌, ◌∷◌, [], Err, IfOk, Ok, map, true};
+ghost use Rattle.std.specs.Prelude.{◌≡◌, ◌∷◌, [], IfOk, Ok, map, true};
 ghost use Rattle.std.specs.Str.{IsUtf8};
 ghost use Rattle.meson_keywords.specs.Keys.{are_elements, identifier_list_keys, is_key, key_kind, list_kind, switch_keys, text_keys, text_list_keys};
+ghost use Rattle.meson_calls.specs.Refusals.{RefusedAs};
 ghost use Rattle.meson_calls.specs.Roles.{one_of};
 ghost use Rattle.meson_keywords.specs.Tasking.{AreElements, IsKey};
-ghost use Rattle.meson_steps.specs.Meanings.{IfRefused};
 
 use meson_calls::{Refusal, Role};
 use meson_splice::Text;
@@ -116,7 +116,7 @@ pub fn is_key(role: Role, key: &[u8]) -> bool
 pub(crate) fn kind_of(role: Role, key: &Text) -> Result<ValueKind, Refusal>
     ensures found { IfOk result (λ k. key_kind role key.now ≡ Ok k) }
     ensures key { IfOk result (λ k. IsKey key.now) }
-    ensures refused { IfRefused result (λ e. key_kind role key.now ≡ Err e) }
+    ensures refused { RefusedAs result (key_kind role key.now) }
 {
     let name = key.get().as_bytes();
     if is_text_key(role, name) {
@@ -140,7 +140,7 @@ pub(crate) fn kind_of(role: Role, key: &Text) -> Result<ValueKind, Refusal>
 /// It is none, or memory is refused.
 pub(crate) fn list_kind(key: &Text, kind: ValueKind) -> Result<ElementKind, Refusal>
     ensures found { IfOk result (λ e. list_kind key.now kind ≡ Ok e) }
-    ensures refused { IfRefused result (λ e. list_kind key.now kind ≡ Err e) }
+    ensures refused { RefusedAs result (list_kind key.now kind) }
 {
     match kind {
         ValueKind::Text => Err(Refusal::WrongKind(key_of(key)?)),

@@ -1,19 +1,20 @@
 //! The steps by which the keyword arguments of a call are changed.
 
-ghost use Rattle.std.specs.Prelude.{◌≡◌, ◌<◌, ◌^◌, ◌++◌, ◌∷◌, [], Err, IfErr, IfOk, OnOk, Some, map};
+ghost use Rattle.std.specs.Prelude.{◌≡◌, ◌<◌, ◌^◌, ◌++◌, ◌∷◌, [], IfErr, IfOk, OnOk, Some, map};
 ghost use Rattle.std.specs.Str.{IsUtf8};
 ghost use Rattle.meson_edit.specs.Edits.{Written};
 ghost use Rattle.meson_syntax.specs.Tree.{Argument, Nowhere};
 ghost use Rattle.meson_syntax.specs.Grammar.{expression_words};
 ghost use Rattle.meson_syntax.specs.View.{args_view, expr_view};
 ghost use Rattle.meson_calls.specs.GoodLists.{GoodArgs};
+ghost use Rattle.meson_calls.specs.Refusals.{RefusedAs};
 ghost use Rattle.meson_keywords.specs.KeywordEdits.{add_by_shape, add_steps, add_to_lone, all_behind, all_of_kind, behind_all, delete_steps, once_steps};
 ghost use Rattle.meson_keywords.specs.KeywordEdits.{passing, remove_by_shape, remove_equal, remove_steps, removed_from, says, set_steps, value_shape, text_in};
 ghost use Rattle.meson_keywords.specs.Keys.{written_element};
 ghost use Rattle.meson_steps.specs.ListSteps.{bare};
 ghost use Rattle.meson_steps.specs.WrittenValues.{WrittenFor, value_written};
 ghost use Rattle.meson_calls.specs.Strings.{AreGood};
-ghost use Rattle.meson_steps.specs.Meanings.{AreBehind, AreMeant, IfRefused};
+ghost use Rattle.meson_steps.specs.Meanings.{AreBehind, AreMeant};
 ghost use Rattle.meson_keywords.specs.Tasking.{args_of, held_value};
 
 use crate::elements::{
@@ -120,7 +121,7 @@ pub(crate) fn set_steps(
     ensures meant { let args = args_of subject.entry in (w : WrittenFor new) →
         IfOk result (λ steps. AreMeant (set_steps subject.entry.call.now args key.now (value_written new w)) steps.items) }
     ensures refused { let args = args_of subject.entry in (w : WrittenFor new) →
-        IfRefused result (λ e. set_steps subject.entry.call.now args key.now (value_written new w) ≡ Err e) }
+        RefusedAs result (set_steps subject.entry.call.now args key.now (value_written new w)) }
 {
     let key = key.get().as_bytes();
     let found = the_value(alloc, subject, key)?;
@@ -149,7 +150,7 @@ pub(crate) fn delete_steps(
 ) -> Result<Vec<ListStep>, Refusal>
     requires { GoodArgs subject.source.now subject.args.now }
     ensures meant { IfOk result (λ steps. AreMeant (delete_steps subject.entry.call.now (args_of subject.entry) key.now) steps.items) }
-    ensures refused { IfRefused result (λ e. delete_steps subject.entry.call.now (args_of subject.entry) key.now ≡ Err e) }
+    ensures refused { RefusedAs result (delete_steps subject.entry.call.now (args_of subject.entry) key.now) }
 {
     let found = the_value(alloc, subject, key.get().as_bytes())?;
     let mut steps = Vec::new(alloc);
@@ -171,7 +172,7 @@ pub(crate) fn once_steps(
 ) -> Result<Vec<ListStep>, Refusal>
     requires { GoodArgs subject.source.now subject.args.now }
     ensures meant { IfOk result (λ steps. AreMeant (once_steps (args_of subject.entry) key.now) steps.items) }
-    ensures refused { IfRefused result (λ e. once_steps (args_of subject.entry) key.now ≡ Err e) }
+    ensures refused { RefusedAs result (once_steps (args_of subject.entry) key.now) }
 {
     the_value(alloc, subject, key.get().as_bytes())?;
     Ok(Vec::new(alloc))
@@ -195,7 +196,7 @@ fn add_to_lone(
     ensures done { let held = held_value subject.entry found.entry in let texts = map (λ x. x.now) values.now in OnOk result (AreBehind
         (add_to_lone subject.entry.call.now found.entry.number key.now kind texts (text_in kind held)) steps.old.items steps.new.items) }
     ensures refused { let held = held_value subject.entry found.entry in let texts = map (λ x. x.now) values.now in
-        IfRefused result (λ e. add_to_lone subject.entry.call.now found.entry.number key.now kind texts (text_in kind held) ≡ Err e) }
+        RefusedAs result (add_to_lone subject.entry.call.now found.entry.number key.now kind texts (text_in kind held)) }
 {
     let NumberedValue { number, value } = found;
     if !is_element(alloc, subject.source, kind, value)? {
@@ -225,7 +226,7 @@ fn add_to_value(
     ensures done { let held = held_value subject.entry found.entry in let texts = map (λ x. x.now) values.now in OnOk result (AreBehind
         (add_by_shape subject.entry.call.now found.entry.number key.now kind texts (text_in kind held) (value_shape held)) steps.old.items steps.new.items) }
     ensures refused { let held = held_value subject.entry found.entry in let texts = map (λ x. x.now) values.now in
-        IfRefused result (λ e. add_by_shape subject.entry.call.now found.entry.number key.now kind texts (text_in kind held) (value_shape held) ≡ Err e) }
+        RefusedAs result (add_by_shape subject.entry.call.now found.entry.number key.now kind texts (text_in kind held) (value_shape held)) }
 {
     match array_in(found.value) {
         Some(elements) => {
@@ -252,7 +253,7 @@ pub(crate) fn add_steps(
     ensures meant { let args = args_of subject.entry in let texts = map (λ x. x.now) values.now in
         IfOk result (λ steps. AreMeant (add_steps subject.entry.call.now args key.now kind texts) steps.items) }
     ensures refused { let args = args_of subject.entry in let texts = map (λ x. x.now) values.now in
-        IfRefused result (λ e. add_steps subject.entry.call.now args key.now kind texts ≡ Err e) }
+        RefusedAs result (add_steps subject.entry.call.now args key.now kind texts) }
 {
     let key = key.get().as_bytes();
     let found = the_value(alloc, subject, key)?;
@@ -287,7 +288,7 @@ fn remove_from_array(
     ensures done { let args = args_view source.now elements.now in let equal = passing (says kind value.now) 0 args in
         OnOk result (AreBehind (remove_equal list.now key.now (all_of_kind kind args) equal) steps.old.items steps.new.items) }
     ensures refused { let args = args_view source.now elements.now in let equal = passing (says kind value.now) 0 args in
-        IfRefused result (λ e. remove_equal list.now key.now (all_of_kind kind args) equal ≡ Err e) }
+        RefusedAs result (remove_equal list.now key.now (all_of_kind kind args) equal) }
 {
     let equal = passing(alloc, source, Test::Says(kind, value), elements)?;
     if equal.as_slice().is_empty() && !all_known(alloc, source, kind, elements)? {
@@ -315,7 +316,7 @@ fn remove_from_value(
     ensures done { let held = held_value subject.entry found.entry in let call = subject.entry.call.now in OnOk result (AreBehind
         (remove_by_shape call found.entry.number key.now kind text.now (text_in kind held) (value_shape held)) steps.old.items steps.new.items) }
     ensures refused { let held = held_value subject.entry found.entry in let call = subject.entry.call.now in
-        IfRefused result (λ e. remove_by_shape call found.entry.number key.now kind text.now (text_in kind held) (value_shape held) ≡ Err e) }
+        RefusedAs result (remove_by_shape call found.entry.number key.now kind text.now (text_in kind held) (value_shape held)) }
 {
     let NumberedValue { number, value } = found;
     let source = subject.source;
@@ -349,7 +350,7 @@ pub(crate) fn remove_steps(
 ) -> Result<Vec<ListStep>, Refusal>
     requires { GoodArgs subject.source.now subject.args.now }
     ensures meant { IfOk result (λ steps. AreMeant (remove_steps subject.entry.call.now (args_of subject.entry) key.now kind value.now) steps.items) }
-    ensures refused { IfRefused result (λ e. remove_steps subject.entry.call.now (args_of subject.entry) key.now kind value.now ≡ Err e) }
+    ensures refused { RefusedAs result (remove_steps subject.entry.call.now (args_of subject.entry) key.now kind value.now) }
 {
     let key = key.get().as_bytes();
     let found = the_value(alloc, subject, key)?;

@@ -1,11 +1,12 @@
 //! The steps by which default options are set and deleted.
 
-ghost use Rattle.std.specs.Prelude.{◌≡◌, ◌++◌, ◌∷◌, [], Err, IfErr, IfOk, OnOk, Some, false, length, map, true};
+ghost use Rattle.std.specs.Prelude.{◌≡◌, ◌++◌, ◌∷◌, [], IfErr, IfOk, OnOk, Some, false, length, map, true};
 ghost use Rattle.meson_syntax.specs.Grammar.{expression_words};
 ghost use Rattle.meson_syntax.specs.View.{args_view, expr_view};
 ghost use Rattle.meson_calls.specs.Calls.{literal_of};
 ghost use Rattle.meson_calls.specs.GoodLists.{GoodArgs};
 ghost use Rattle.meson_calls.specs.Project.{child};
+ghost use Rattle.meson_calls.specs.Refusals.{IfRefused, RefusedAs};
 ghost use Rattle.meson_keywords.specs.KeywordEdits.{all_of_kind, passing, removed_from, value_shape};
 ghost use Rattle.meson_keywords.specs.Keys.{written_list, written_named};
 ghost use Rattle.meson_steps.specs.ListSteps.{bare};
@@ -13,7 +14,7 @@ ghost use Rattle.meson_keywords.specs.Options.{delete_by_shape, delete_by_value,
 ghost use Rattle.meson_keywords.specs.Options.{is_entry, is_entry_element, option_text, options_key};
 ghost use Rattle.meson_keywords.specs.Options.{set_by_shape, set_by_value, set_in_dictionary, set_in_list, set_in_lone, set_option_steps};
 ghost use Rattle.meson_calls.specs.Strings.{AreGood};
-ghost use Rattle.meson_steps.specs.Meanings.{AreBehind, AreMeant, IfRefused};
+ghost use Rattle.meson_steps.specs.Meanings.{AreBehind, AreMeant};
 ghost use Rattle.meson_keywords.specs.Tasking.{args_of, held_value, test_of};
 
 use crate::elements::{
@@ -184,7 +185,7 @@ fn set_in_value(
     ensures done { let held = held_value subject.entry found.entry in let call = subject.entry.call.now in OnOk result (AreBehind
         (set_by_shape call found.entry.number name.now entry.now (literal_of held) (value_shape held)) steps.old.items steps.new.items) }
     ensures refused { let held = held_value subject.entry found.entry in let call = subject.entry.call.now in
-        IfRefused result (λ e. set_by_shape call found.entry.number name.now entry.now (literal_of held) (value_shape held) ≡ Err e) }
+        RefusedAs result (set_by_shape call found.entry.number name.now entry.now (literal_of held) (value_shape held)) }
 {
     let source = subject.source;
     match array_in(found.value) {
@@ -218,7 +219,7 @@ fn set_by_value(
     ensures done { let held = held_value subject.entry found.entry in let call = subject.entry.call.now in
         OnOk result (AreBehind (set_by_value call found.entry.number name.now value.now held (entries held)) steps.old.items steps.new.items) }
     ensures refused { let held = held_value subject.entry found.entry in
-        IfRefused result (λ e. set_by_value subject.entry.call.now found.entry.number name.now value.now held (entries held) ≡ Err e) }
+        RefusedAs result (set_by_value subject.entry.call.now found.entry.number name.now value.now held (entries held)) }
 {
     match entries_in(found.value) {
         Some(pairs) => {
@@ -245,7 +246,7 @@ pub(crate) fn set_option_steps(
 ) -> Result<Vec<ListStep>, Refusal>
     requires { GoodArgs subject.source.now subject.args.now }
     ensures meant { IfOk result (λ steps. AreMeant (set_option_steps subject.entry.call.now (args_of subject.entry) name.now value.now) steps.items) }
-    ensures refused { IfRefused result (λ e. set_option_steps subject.entry.call.now (args_of subject.entry) name.now value.now ≡ Err e) }
+    ensures refused { RefusedAs result (set_option_steps subject.entry.call.now (args_of subject.entry) name.now value.now) }
 {
     let found = the_value(alloc, subject, OPTIONS.as_bytes())?;
     let mut steps = Vec::new(alloc);
@@ -293,7 +294,7 @@ fn delete_in_value(
     ensures done { let held = held_value subject.entry found.entry in let call = subject.entry.call.now in
         OnOk result (AreBehind (delete_by_shape call found.entry.number name.now (literal_of held) (value_shape held)) steps.old.items steps.new.items) }
     ensures refused { let held = held_value subject.entry found.entry in
-        IfRefused result (λ e. delete_by_shape subject.entry.call.now found.entry.number name.now (literal_of held) (value_shape held) ≡ Err e) }
+        RefusedAs result (delete_by_shape subject.entry.call.now found.entry.number name.now (literal_of held) (value_shape held)) }
 {
     let NumberedValue { number, value } = found;
     let source = subject.source;
@@ -329,7 +330,7 @@ fn delete_by_value(
     ensures done { let held = held_value subject.entry found.entry in
         OnOk result (AreBehind (delete_by_value subject.entry.call.now found.entry.number name.now held (entries held)) steps.old.items steps.new.items) }
     ensures refused { let held = held_value subject.entry found.entry in
-        IfRefused result (λ e. delete_by_value subject.entry.call.now found.entry.number name.now held (entries held) ≡ Err e) }
+        RefusedAs result (delete_by_value subject.entry.call.now found.entry.number name.now held (entries held)) }
 {
     match entries_in(found.value) {
         Some(pairs) => {
@@ -353,7 +354,7 @@ pub(crate) fn delete_option_steps(
 ) -> Result<Vec<ListStep>, Refusal>
     requires { GoodArgs subject.source.now subject.args.now }
     ensures meant { IfOk result (λ steps. AreMeant (delete_option_steps subject.entry.call.now (args_of subject.entry) name.now) steps.items) }
-    ensures refused { IfRefused result (λ e. delete_option_steps subject.entry.call.now (args_of subject.entry) name.now ≡ Err e) }
+    ensures refused { RefusedAs result (delete_option_steps subject.entry.call.now (args_of subject.entry) name.now) }
 {
     let found = the_value(alloc, subject, OPTIONS.as_bytes())?;
     let mut steps = Vec::new(alloc);

@@ -1,12 +1,12 @@
 //! What a command on keyword arguments or default options consists of: changes of one call, each made after the one before it.
 
-ghost use Rattle.std.specs.Prelude.{◌≡◌, ◌++◌, ◌∷◌, [], Err, IfOk, MatchOption, None, Ok, OnOk, Some};
+ghost use Rattle.std.specs.Prelude.{◌≡◌, ◌++◌, ◌∷◌, [], IfOk, MatchOption, None, Ok, OnOk, Some};
 ghost use Rattle.std.specs.Str.{IsUtf8};
+ghost use Rattle.meson_calls.specs.Refusals.{RefusedAs};
 ghost use Rattle.meson_splice.specs.Patch.{then_ok};
 ghost use Rattle.meson_keywords.specs.Keys as keys;
 ghost use Rattle.meson_keywords.specs.Tasks.{add_entry, before_equals, checked_option, delete_entry, delete_option_entry, each_made, remove_entry, set_entry, set_option_entry};
 ghost use Rattle.meson_keywords.specs.Tasking.{AreTasks, AreTasksBehind, IsKey, words_tasks};
-ghost use Rattle.meson_steps.specs.Meanings.{IfRefused};
 
 use crate::keys::{ElementKind, kind_of, list_kind};
 use crate::request::AskedWords;
@@ -52,7 +52,7 @@ fn set_tasks<'c>(
     pairs: &'c [(Text, Setting)],
 ) -> Result<Vec<Task<'c>>, Refusal>
     ensures made { IfOk result (λ tasks. AreTasks (each_made (set_entry role) pairs.entry.now) tasks.items) }
-    ensures refused { IfRefused result (λ e. each_made (set_entry role) pairs.entry.now ≡ Err e) }
+    ensures refused { RefusedAs result (each_made (set_entry role) pairs.entry.now) }
 {
     let mut tasks = Vec::new(alloc);
     for i in 0..pairs.len() {
@@ -70,7 +70,7 @@ fn set_tasks<'c>(
 /// A keyword argument is not changed in such a call, or memory is refused.
 fn delete_tasks<'c>(alloc: Global, role: Role, keys: &'c [Text]) -> Result<Vec<Task<'c>>, Refusal>
     ensures made { IfOk result (λ tasks. AreTasks (each_made (delete_entry role) keys.entry.now) tasks.items) }
-    ensures refused { IfRefused result (λ e. each_made (delete_entry role) keys.entry.now ≡ Err e) }
+    ensures refused { RefusedAs result (each_made (delete_entry role) keys.entry.now) }
 {
     let mut tasks = Vec::new(alloc);
     for i in 0..keys.len() {
@@ -88,7 +88,7 @@ fn delete_tasks<'c>(alloc: Global, role: Role, keys: &'c [Text]) -> Result<Vec<T
 fn element_kind(role: Role, key: &Text) -> Result<ElementKind, Refusal>
     ensures found { IfOk result (λ e. then_ok (keys.key_kind role key.now) (keys.list_kind key.now) ≡ Ok e) }
     ensures key { IfOk result (λ e. IsKey key.now) }
-    ensures refused { IfRefused result (λ e. then_ok (keys.key_kind role key.now) (keys.list_kind key.now) ≡ Err e) }
+    ensures refused { RefusedAs result (then_ok (keys.key_kind role key.now) (keys.list_kind key.now)) }
 {
     let kind = kind_of(role, key)?;
     list_kind(key, kind)
@@ -104,7 +104,7 @@ fn add_tasks<'c>(
     pairs: &'c [(Text, Setting)],
 ) -> Result<Vec<Task<'c>>, Refusal>
     ensures made { IfOk result (λ tasks. AreTasks (each_made (add_entry role) pairs.entry.now) tasks.items) }
-    ensures refused { IfRefused result (λ e. each_made (add_entry role) pairs.entry.now ≡ Err e) }
+    ensures refused { RefusedAs result (each_made (add_entry role) pairs.entry.now) }
 {
     let mut tasks = Vec::new(alloc);
     for i in 0..pairs.len() {
@@ -127,7 +127,7 @@ fn remove_one<'c>(
     tasks: &mut Vec<Task<'c>>,
 ) -> Result<(), Refusal>
     ensures made { OnOk result (AreTasksBehind (remove_entry role pair.entry.now) tasks.old.items tasks.new.items) }
-    ensures refused { IfRefused result (λ e. remove_entry role pair.entry.now ≡ Err e) }
+    ensures refused { RefusedAs result (remove_entry role pair.entry.now) }
 {
     let (key, setting) = pair;
     let kind = element_kind(role, key)?;
@@ -149,7 +149,7 @@ fn remove_tasks<'c>(
     pairs: &'c [(Text, Setting)],
 ) -> Result<Vec<Task<'c>>, Refusal>
     ensures made { IfOk result (λ tasks. AreTasks (each_made (remove_entry role) pairs.entry.now) tasks.items) }
-    ensures refused { IfRefused result (λ e. each_made (remove_entry role) pairs.entry.now ≡ Err e) }
+    ensures refused { RefusedAs result (each_made (remove_entry role) pairs.entry.now) }
 {
     let mut tasks = Vec::new(alloc);
     for i in 0..pairs.len() {
@@ -192,7 +192,7 @@ fn checked_option(name: &Text) -> Result<(), Refusal>
 /// A name is none of an option, or memory is refused.
 fn set_option_tasks<'c>(alloc: Global, pairs: &'c [(Text, Text)]) -> Result<Vec<Task<'c>>, Refusal>
     ensures made { IfOk result (λ tasks. AreTasks (each_made set_option_entry pairs.entry.now) tasks.items) }
-    ensures refused { IfRefused result (λ e. each_made set_option_entry pairs.entry.now ≡ Err e) }
+    ensures refused { RefusedAs result (each_made set_option_entry pairs.entry.now) }
 {
     let mut tasks = Vec::new(alloc);
     for i in 0..pairs.len() {
@@ -209,7 +209,7 @@ fn set_option_tasks<'c>(alloc: Global, pairs: &'c [(Text, Text)]) -> Result<Vec<
 /// A name is none of an option, or memory is refused.
 fn delete_option_tasks<'c>(alloc: Global, names: &'c [Text]) -> Result<Vec<Task<'c>>, Refusal>
     ensures made { IfOk result (λ tasks. AreTasks (each_made delete_option_entry names.entry.now) tasks.items) }
-    ensures refused { IfRefused result (λ e. each_made delete_option_entry names.entry.now ≡ Err e) }
+    ensures refused { RefusedAs result (each_made delete_option_entry names.entry.now) }
 {
     let mut tasks = Vec::new(alloc);
     for i in 0..names.len() {
@@ -230,7 +230,7 @@ pub(crate) fn tasks_of<'c>(
     words: AskedWords<'c>,
 ) -> Result<Vec<Task<'c>>, Refusal>
     ensures made { IfOk result (λ tasks. AreTasks (words_tasks role words.entry) tasks.items) }
-    ensures refused { IfRefused result (λ e. words_tasks role words.entry ≡ Err e) }
+    ensures refused { RefusedAs result (words_tasks role words.entry) }
 {
     match words {
         AskedWords::Set(pairs) => set_tasks(alloc, role, pairs),

@@ -1,13 +1,13 @@
 //! What is written for the value of a keyword argument.
 
-ghost use Rattle.std.specs.Prelude.{◌≡◌, ◌++◌, ◌∷◌, [], All, Err, IfErr, IfOk, Ok, OnOk, codes, map, option_map};
+ghost use Rattle.std.specs.Prelude.{◌≡◌, ◌++◌, ◌∷◌, [], All, IfErr, IfOk, Ok, OnOk, codes, map, option_map};
 ghost use Rattle.std.specs.Str.{IsUtf8};
+ghost use Rattle.meson_calls.specs.Refusals.{RefusedAs};
 ghost use Rattle.meson_lex.specs.Literals.{literal};
 ghost use Rattle.meson_keywords.specs.Keys.{element_bytes, list_values, setting_texts, truth_text, truth_of, written_value};
 ghost use Rattle.meson_steps.specs.WrittenValues.{IsSet};
 ghost use Rattle.meson_steps.specs.WrittenTexts.{comma_between};
 ghost use Rattle.meson_keywords.specs.Tasking.{AreElements};
-ghost use Rattle.meson_steps.specs.Meanings.{IfRefused};
 
 use crate::keys::{ElementKind, ValueKind, are_elements};
 use meson_calls::Refusal;
@@ -169,7 +169,7 @@ pub(crate) fn list_values<'c>(
 ) -> Result<Vec<&'c Text>, Refusal>
     ensures found { IfOk result (λ v. list_values kind key.now setting.now ≡ Ok (map (λ x. x.now) v.items)) }
     ensures good { IfOk result (λ v. AreElements kind (map (λ x. x.now) v.items)) }
-    ensures refused { IfRefused result (λ e. list_values kind key.now setting.now ≡ Err e) }
+    ensures refused { RefusedAs result (list_values kind key.now setting.now) }
 {
     let Some(texts) = texts_of(alloc, setting)? else {
         return Err(Refusal::WrongKind(key_of(key)?));
@@ -186,7 +186,7 @@ pub(crate) fn list_values<'c>(
 /// The value is no text, or memory is refused.
 fn text_value(alloc: Global, key: &Text, setting: &Setting) -> Result<Bytes, Refusal>
     ensures done { IfOk result (IsSet (written_value ValueKind.Text key.now setting.now)) }
-    ensures refused { IfRefused result (λ e. written_value ValueKind.Text key.now setting.now ≡ Err e) }
+    ensures refused { RefusedAs result (written_value ValueKind.Text key.now setting.now) }
 {
     match setting {
         Setting::Text(text) => written_text(alloc, text),
@@ -201,7 +201,7 @@ fn text_value(alloc: Global, key: &Text, setting: &Setting) -> Result<Bytes, Ref
 /// The value is neither, or memory is refused.
 fn switch_value(alloc: Global, key: &Text, setting: &Setting) -> Result<Bytes, Refusal>
     ensures done { IfOk result (IsSet (written_value ValueKind.Switch key.now setting.now)) }
-    ensures refused { IfRefused result (λ e. written_value ValueKind.Switch key.now setting.now ≡ Err e) }
+    ensures refused { RefusedAs result (written_value ValueKind.Switch key.now setting.now) }
 {
     match truth_of(setting) {
         Some(truth) => {
@@ -223,7 +223,7 @@ fn list_value(
     setting: &Setting,
 ) -> Result<Bytes, Refusal>
     ensures done { IfOk result (IsSet (written_value (ValueKind.ListOf kind) key.now setting.now)) }
-    ensures refused { IfRefused result (λ e. written_value (ValueKind.ListOf kind) key.now setting.now ≡ Err e) }
+    ensures refused { RefusedAs result (written_value (ValueKind.ListOf kind) key.now setting.now) }
 {
     let texts = list_values(alloc, kind, key, setting)?;
     written_list(alloc, kind, texts.as_slice())
@@ -240,7 +240,7 @@ pub(crate) fn written_value(
     setting: &Setting,
 ) -> Result<Bytes, Refusal>
     ensures done { IfOk result (IsSet (written_value kind key.now setting.now)) }
-    ensures refused { IfRefused result (λ e. written_value kind key.now setting.now ≡ Err e) }
+    ensures refused { RefusedAs result (written_value kind key.now setting.now) }
 {
     match kind {
         ValueKind::Text => text_value(alloc, key, setting),

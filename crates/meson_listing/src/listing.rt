@@ -1,7 +1,8 @@
 //! The listing of the one call that an id names.
 
-ghost use Rattle.std.specs.Prelude.{◌≡◌, ◌≢◌, Err, IfErr, IfOk, Ok};
+ghost use Rattle.std.specs.Prelude.{◌≡◌, IfOk, Ok};
 ghost use Rattle.serde_json.specs.View.{view};
+ghost use Rattle.meson_calls.specs.Refusals.{RefusedAs};
 ghost use Rattle.meson_listing.specs.Listing.{kwargs_listing, target_listing};
 
 use crate::objects::{call_object, target_object};
@@ -15,7 +16,7 @@ use std::alloc::Global;
 /// There is no such target or more than one, or it has `sources:` or `extra_files:` twice, or memory is refused.
 pub fn info_target(alloc: Global, project: &Project, id: &str) -> Result<Value, Refusal>
     ensures listed { IfOk result (λ v. target_listing project.now id.now ≡ Ok (view v)) }
-    ensures refused { IfErr result (λ e. e ≢ Refusal.OutOfMemory → target_listing project.now id.now ≡ Err e) }
+    ensures refused { RefusedAs result (target_listing project.now id.now) }
 {
     let TargetDetails {
         place,
@@ -33,7 +34,7 @@ pub fn info_target(alloc: Global, project: &Project, id: &str) -> Result<Value, 
 /// There is no such call or more than one, or one of these arguments is there twice, the first such in the call's order, or memory is refused.
 pub fn info_kwargs(alloc: Global, project: &Project, role: Role, id: &str) -> Result<Value, Refusal>
     ensures listed { IfOk result (λ v. kwargs_listing project.now role id.now ≡ Ok (view v)) }
-    ensures refused { IfErr result (λ e. e ≢ Refusal.OutOfMemory → kwargs_listing project.now role id.now ≡ Err e) }
+    ensures refused { RefusedAs result (kwargs_listing project.now role id.now) }
 {
     let call = project.find_one(alloc, role, id)?;
     let keywords = project.keywords(alloc, role, &call)?;

@@ -1,13 +1,12 @@
 -- What is told of a call that stands at a place.
-use Rattle.std.proofs.Common.{◌≡◌, ◌≢◌, ℕ, List, Option, Some, refl, sym, ap, ◌∙◌}
-use Rattle.std.specs.Prelude.{Result, Ok, Err, IfOk, IfErr, option_map, option_and_then}
+use Rattle.std.proofs.Common.{◌≡◌, ℕ, List, Option, Some, refl, sym, ap, ◌∙◌}
+use Rattle.std.specs.Prelude.{Result, Ok, Err, IfOk, option_map, option_and_then}
 use Rattle.meson_lex.specs.declared.kinds.Span.{Span}
 use Rattle.meson_splice.specs.Files.{bytes_at}
 use Rattle.meson_syntax.specs.Tree.{Name, Listing, call}
 use Rattle.meson_calls.specs.declared.call.CallRef.{CallRef}
 use Rattle.meson_calls.specs.declared.call.Role.{Role}
 use Rattle.meson_calls.specs.declared.refusal.Refusal.{Refusal}
-use Rattle.meson_calls.specs.declared.refusal.Refusal.TheVariants.{OutOfMemory}
 use Rattle.meson_calls.specs.declared.noted.Noted.{Noted}
 use Rattle.meson_calls.specs.Calls.{Call, call_of}
 use Rattle.meson_calls.specs.Finding.{the_call}
@@ -17,6 +16,7 @@ use Rattle.meson_calls.specs.Notes.{note_views}
 use Rattle.meson_calls.specs.OnePlace.{the_place}
 use Rattle.meson_calls.specs.Picking.{call_with}
 use Rattle.meson_calls.specs.Project.{Project, Placed, placed, expression_at}
+use Rattle.meson_calls.specs.Refusals.{IfRefused, RefusedAs}
 use Rattle.meson_sources.specs.Extras.{extra_files, extra_of_call}
 use Rattle.meson_plan.specs.Details.{keywords, keywords_of_call, place_found}
 use Rattle.meson_calls.proofs.NotedCalls.{same_place}
@@ -29,7 +29,7 @@ module _ {X : Type 0} (meant : Option (Result X Refusal)) (here : Result X Refus
   found_there (Ok x) h = is ∙ ap Some h
   found_there (Err e) h = tt
 
-  pub refused_there : {Y : Type 0} (r : Result Y Refusal) → IfErr r (λ e. e ≢ OutOfMemory → here ≡ Err e) → IfErr r (λ e. e ≢ OutOfMemory → meant ≡ Some (Err e))
+  pub refused_there : {Y : Type 0} (r : Result Y Refusal) → RefusedAs r here → IfRefused r (λ e. meant ≡ Some (Err e))
   refused_there (Ok y) h = tt
   refused_there (Err e) h = λ other. is ∙ ap Some (h other)
 

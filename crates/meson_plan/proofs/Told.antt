@@ -1,6 +1,6 @@
 -- What is there once only among the keyword arguments of a call, key by key.
-use Rattle.std.proofs.Common.{◌≡◌, ◌≢◌, ℕ, ◌+◌, ◌<◌, ◌≤◌, List, [], length, drop, get_or, sym, ap, ◌∙◌}
-use Rattle.std.specs.Prelude.{true, if◌then◌else◌, Option, Some, None, Result, Ok, Err, IfOk, IfErr, OnOk}
+use Rattle.std.proofs.Common.{◌≡◌, ℕ, ◌+◌, ◌<◌, ◌≤◌, List, [], length, drop, get_or, sym, ap, ◌∙◌}
+use Rattle.std.specs.Prelude.{true, if◌then◌else◌, Option, Some, None, Result, Ok, Err, IfOk, OnOk}
 use Rattle.std.specs.List.{filter_map, cons_option}
 use Rattle.std.proofs.lemmas.List.{at_drop_more, at_drop_all}
 use Rattle.meson_lex.specs.declared.kinds.Span.{Span}
@@ -10,7 +10,7 @@ use Rattle.meson_syntax.specs.declared.tree.List as rust
 use Rattle.meson_syntax.specs.View.{arg_view, args_view, list_view}
 use Rattle.meson_calls.specs.declared.call.Role.{Role}
 use Rattle.meson_calls.specs.declared.refusal.Refusal.{Refusal}
-use Rattle.meson_calls.specs.declared.refusal.Refusal.TheVariants.{DuplicateKeyword, OutOfMemory}
+use Rattle.meson_calls.specs.declared.refusal.Refusal.TheVariants.{DuplicateKeyword}
 use Rattle.meson_calls.specs.Calls.{Call, keyword, value_with_name}
 use Rattle.meson_keywords.specs.Keys.{is_key}
 use Rattle.meson_calls.specs.Picking.{call_with}
@@ -18,6 +18,7 @@ use Rattle.meson_plan.specs.Planning.{only_once, target_told, name_in, key_told,
 use Rattle.meson_sources.specs.SourceEdits.{extra_key}
 use Rattle.meson_calls.specs.Sourced.{kept_args}
 use Rattle.meson_calls.specs.Sources.{sources_key, once}
+use Rattle.meson_calls.specs.Refusals.{IfRefused, RefusedAs}
 use Rattle.meson_steps.specs.Steps.{Step}
 use Rattle.meson_steps.proofs.ArgumentValues.{list_elements}
 use Rattle.meson_calls.proofs.Listed.{list_is}
@@ -48,7 +49,7 @@ module _ (source : List ℕ) (l : rust.List) (function : List ℕ) where
     all_went then_ (Err e) few = tt
 
     pub one_refused : ((e : Refusal) → only_once key the_call ≡ Err e → meant ≡ Err e) → (r : Result (Unit {0}) Refusal)
-        → IfErr r (λ e. e ≢ OutOfMemory → (e ≡ DuplicateKeyword key) × (1 < kept key)) → IfErr r (λ e. e ≢ OutOfMemory → meant ≡ Err e)
+        → IfRefused r (λ e. (e ≡ DuplicateKeyword key) × (1 < kept key)) → RefusedAs r meant
     one_refused then_ (Ok u) twice = tt
     one_refused then_ (Err e) twice = λ other. then_ e (twice_there key e (twice other))
 
@@ -61,7 +62,7 @@ module _ (source : List ℕ) (l : rust.List) (function : List ℕ) where
     pub target_went : OnOk r (kept extra_key ≤ 1) → IfOk r (λ u. target_told the_call ≡ Ok [])
     target_went = all_went extra_key (target_told the_call) [] (λ is. behind_sources few ∙ ap (λ o. then_ok o (λ _. Ok [])) is) r
 
-    pub target_refused : IfErr r (λ e. e ≢ OutOfMemory → (e ≡ DuplicateKeyword extra_key) × (1 < kept extra_key)) → IfErr r (λ e. e ≢ OutOfMemory → target_told the_call ≡ Err e)
+    pub target_refused : IfRefused r (λ e. (e ≡ DuplicateKeyword extra_key) × (1 < kept extra_key)) → RefusedAs r (target_told the_call)
     target_refused = one_refused extra_key (target_told the_call) [] (λ e is. behind_sources few ∙ ap (λ o. then_ok o (λ _. Ok [])) is) r
 
   -- ---- one that commands change, in a role
@@ -74,7 +75,7 @@ module _ (source : List ℕ) (l : rust.List) (function : List ℕ) where
       pub key_went : OnOk r (kept key ≤ 1) → IfOk r (λ u. key_told role the_call key ≡ Ok tt)
       key_went = all_went key (key_told role the_call key) tt (λ once. tested key is ∙ once) r
 
-      pub key_refused : IfErr r (λ e. e ≢ OutOfMemory → (e ≡ DuplicateKeyword key) × (1 < kept key)) → IfErr r (λ e. e ≢ OutOfMemory → key_told role the_call key ≡ Err e)
+      pub key_refused : IfRefused r (λ e. (e ≡ DuplicateKeyword key) × (1 < kept key)) → RefusedAs r (key_told role the_call key)
       key_refused = one_refused key (key_told role the_call key) tt (λ e twice. tested key is ∙ twice) r
 
     -- ---- all of a call, argument by argument

@@ -1,8 +1,9 @@
 //! What is told of a call.
 
-ghost use Rattle.std.specs.Prelude.{◌≢◌, IfErr, IfOk, IsTrue};
+ghost use Rattle.std.specs.Prelude.{IfOk, IsTrue};
 ghost use Rattle.meson_calls.specs.Loading.{AreParsed};
 ghost use Rattle.meson_calls.specs.CodeVariables.{AreVariables, project_of};
+ghost use Rattle.meson_calls.specs.Refusals.{IfRefused};
 ghost use Rattle.meson_calls.specs.Roles.{is_target};
 ghost use Rattle.meson_plan.specs.Details.{AreDetails, NoDetails};
 
@@ -66,7 +67,7 @@ pub(crate) fn details_at(
     requires parsed { AreParsed variables.now.files.now variables.now.trees.now }
     requires target { IsTrue (is_target (project_of variables.now) place) }
     ensures told { IfOk result (AreDetails (project_of variables.now) place) }
-    ensures refused { IfErr result (λ e. e ≢ Refusal.OutOfMemory → NoDetails (project_of variables.now) place e) }
+    ensures refused { IfRefused result (NoDetails (project_of variables.now) place) }
 {
     let sources = sources_at(variables, &place)?;
     let called = call_at(variables.files, variables.trees, &place);

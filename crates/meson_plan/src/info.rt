@@ -1,9 +1,10 @@
 //! What an info command asks of its call. It changes nothing; but what it tells of may be there once only.
 
-ghost use Rattle.std.specs.Prelude.{◌≡◌, ◌≢◌, [], Err, IfErr, IfOk, Ok, option_map};
+ghost use Rattle.std.specs.Prelude.{◌≡◌, [], IfOk, Ok, option_map};
 ghost use Rattle.meson_syntax.specs.View.{arg_view, list_view};
 ghost use Rattle.meson_calls.specs.NotedProjects.{IsNotedFor, loaded_in, project_in};
 ghost use Rattle.meson_calls.specs.Picking.{Source, call_with};
+ghost use Rattle.meson_calls.specs.Refusals.{RefusedAs};
 ghost use Rattle.meson_plan.specs.Planning.{call_info, call_told, key_told, name_in, target_info, target_told};
 ghost use Rattle.meson_steps.specs.Plans.{ArePlanned};
 
@@ -23,8 +24,7 @@ use std::alloc::Global;
 /// It has, or memory is refused.
 fn target_told(alloc: Global, source: &[u8], arguments: &List) -> Result<(), Refusal>
     ensures told { (function : Source) → IfOk result (λ u. target_told (call_with function (list_view source.now arguments.now)) ≡ Ok []) }
-    ensures refused { (function : Source) → IfErr result (λ e. e ≢ Refusal.OutOfMemory
-        → target_told (call_with function (list_view source.now arguments.now)) ≡ Err e) }
+    ensures refused { (function : Source) → RefusedAs result (target_told (call_with function (list_view source.now arguments.now))) }
 {
     match at_most_once(alloc, source, arguments, b"sources".as_slice()) {
         Ok(()) => at_most_once(alloc, source, arguments, b"extra_files".as_slice()),
@@ -63,8 +63,7 @@ fn key_told(
     key: &[u8],
 ) -> Result<(), Refusal>
     ensures told { (function : Source) → IfOk result (λ u. key_told role (call_with function (list_view source.now arguments.now)) key.now ≡ Ok u) }
-    ensures refused { (function : Source) → IfErr result (λ e. e ≢ Refusal.OutOfMemory
-        → key_told role (call_with function (list_view source.now arguments.now)) key.now ≡ Err e) }
+    ensures refused { (function : Source) → RefusedAs result (key_told role (call_with function (list_view source.now arguments.now)) key.now) }
 {
     if is_key(role, key) {
         at_most_once(alloc, source, arguments, key)
@@ -84,8 +83,7 @@ pub(crate) fn call_told(
     role: Role,
 ) -> Result<(), Refusal>
     ensures told { (function : Source) → IfOk result (λ u. call_told role (call_with function (list_view source.now arguments.now)) ≡ Ok []) }
-    ensures refused { (function : Source) → IfErr result (λ e. e ≢ Refusal.OutOfMemory
-        → call_told role (call_with function (list_view source.now arguments.now)) ≡ Err e) }
+    ensures refused { (function : Source) → RefusedAs result (call_told role (call_with function (list_view source.now arguments.now))) }
 {
     let args = arguments.items.get();
     for i in 0..args.len() {
@@ -108,7 +106,7 @@ pub(crate) fn target_info(
 ) -> Result<Vec<ListStep>, Refusal>
     requires { IsNotedFor Role.Target target.now noted.now }
     ensures plan { IfOk result (λ steps. ArePlanned (loaded_in noted.now) (target_info (project_in noted.now) target.now) steps.items) }
-    ensures refused { IfErr result (λ e. e ≢ Refusal.OutOfMemory → target_info (project_in noted.now) target.now ≡ Err e) }
+    ensures refused { RefusedAs result (target_info (project_in noted.now) target.now) }
 {
     let call = the_call(alloc, Role::Target, target, noted.notes)?;
     let source = noted.files.bytes(call.file);
@@ -128,7 +126,7 @@ pub(crate) fn call_info(
 ) -> Result<Vec<ListStep>, Refusal>
     requires { IsNotedFor role id.now noted.now }
     ensures plan { IfOk result (λ steps. ArePlanned (loaded_in noted.now) (call_info (project_in noted.now) role id.now) steps.items) }
-    ensures refused { IfErr result (λ e. e ≢ Refusal.OutOfMemory → call_info (project_in noted.now) role id.now ≡ Err e) }
+    ensures refused { RefusedAs result (call_info (project_in noted.now) role id.now) }
 {
     let call = the_call(alloc, role, id, noted.notes)?;
     let source = noted.files.bytes(call.file);

@@ -1,9 +1,9 @@
 //! What steps that are all known at once are, or why there are none.
 
-ghost use Rattle.std.specs.Prelude.{◌≡◌, ◌≢◌, Err, IfErr, IfOk};
-ghost use Rattle.meson_calls.specs.declared.refusal.Refusal.TheVariants.{OutOfMemory};
+ghost use Rattle.std.specs.Prelude.{IfOk};
 ghost use Rattle.meson_calls.specs.Loading.{IsProject, loaded_from, project};
 ghost use Rattle.meson_calls.specs.NotedProjects.{IsNotedFor, loaded_in, project_in};
+ghost use Rattle.meson_calls.specs.Refusals.{RefusedAs};
 ghost use Rattle.meson_plan.specs.Orders.{plan_steps, sought};
 ghost use Rattle.meson_steps.specs.Plans.{ArePlanned};
 
@@ -33,7 +33,7 @@ pub(crate) fn planned(
     requires { IsProject (loaded_from files.now trees.now) }
     ensures plan { let old = loaded_from files.now trees.now in
         IfOk result (λ steps. ArePlanned old (plan_steps (project old) plan.entry) steps.items) }
-    ensures refused { IfErr result (λ e. e ≢ OutOfMemory → plan_steps (project (loaded_from files.now trees.now)) plan.entry ≡ Err e) }
+    ensures refused { RefusedAs result (plan_steps (project (loaded_from files.now trees.now)) plan.entry) }
 {
     let (role, id) = plan.sought();
     let taken = notes_for(alloc, role, id, files, trees)?;
@@ -53,7 +53,7 @@ pub(crate) fn planned(
 fn steps_of(alloc: Global, noted: &Noted<'_>, plan: Plan<'_>) -> Result<Vec<ListStep>, Refusal>
     requires { IsNotedFor (sought plan).0 (sought plan).1 noted.now }
     ensures plan { IfOk result (λ steps. ArePlanned (loaded_in noted.now) (plan_steps (project_in noted.now) plan.entry) steps.items) }
-    ensures refused { IfErr result (λ e. e ≢ OutOfMemory → plan_steps (project_in noted.now) plan.entry ≡ Err e) }
+    ensures refused { RefusedAs result (plan_steps (project_in noted.now) plan.entry) }
 {
     match plan {
         Plan::OnTarget(target, change, names) => on_target(alloc, noted, target, change, names),

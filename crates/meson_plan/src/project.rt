@@ -1,6 +1,6 @@
 //! A project: its files, and the tree of each.
 
-ghost use Rattle.std.specs.Prelude.{◌≡◌, ◌≢◌, ◌++◌, List, ℕ, Some, Ok, Err, IfErr, IfOk, IsTrue, OnErr, OnOk};
+ghost use Rattle.std.specs.Prelude.{◌≡◌, ◌++◌, List, ℕ, Some, Ok, Err, IfErr, IfOk, IsTrue, OnErr, OnOk};
 ghost use Rattle.meson_splice.specs.Patch.{patched_all};
 ghost use Rattle.meson_layout.specs.Laws.{AreTexts};
 ghost use Rattle.meson_calls.specs.Loading.{IsProject, Loaded, MayNotLoad, project};
@@ -13,6 +13,7 @@ ghost use Rattle.meson_plan.specs.Performing.{KeepsUntouched, MayRefuse, Perform
 ghost use Rattle.meson_plan.specs.Planning.{planned};
 ghost use Rattle.meson_calls.specs.Roles.{targets, found, is_target, places};
 ghost use Rattle.meson_calls.specs.Finding.{the_call};
+ghost use Rattle.meson_calls.specs.Refusals.{IfRefused, RefusedAs};
 ghost use Rattle.meson_calls.specs.Sources.{sources};
 ghost use Rattle.meson_plan.specs.Details.{AreDetails, NoTarget, head, is_call, keywords, place_found, target_place};
 ghost use Rattle.meson_sources.specs.Extras.{extra_files};
@@ -178,7 +179,7 @@ impl Project {
     /// There is no project, no such call or more than one, or memory is refused.
     pub fn find_one(&self, alloc: Global, role: Role, id: &str) -> Result<CallRef, Refusal>
         ensures found { IfOk result (λ c. place_found (the_call (project self.now) role id.now) ≡ Ok c) }
-        ensures refused { IfErr result (λ e. e ≢ Refusal.OutOfMemory → place_found (the_call (project self.now) role id.now) ≡ Err e) }
+        ensures refused { RefusedAs result (place_found (the_call (project self.now) role id.now)) }
     {
         let taken = self.notes_for(alloc, role, id)?;
         let notes = taken.all(alloc)?;
@@ -200,7 +201,7 @@ impl Project {
     pub fn sources(&self, alloc: Global, call: &CallRef) -> Result<Sources, Refusal>
         requires { IsTrue (is_target (project self.now) call.now) }
         ensures found { IfOk result (λ s. sources (project self.now) call.now ≡ Some (Ok s)) }
-        ensures refused { IfErr result (λ e. e ≢ Refusal.OutOfMemory → sources (project self.now) call.now ≡ Some (Err e)) }
+        ensures refused { IfRefused result (λ e. sources (project self.now) call.now ≡ Some (Err e)) }
     {
         let variables = Variables::near(alloc, &self.files, self.trees.as_slice(), call)?;
         sources_at(&variables, call)
@@ -213,7 +214,7 @@ impl Project {
     pub fn extra_files(&self, alloc: Global, call: &CallRef) -> Result<Sources, Refusal>
         requires { IsTrue (is_target (project self.now) call.now) }
         ensures found { IfOk result (λ s. extra_files (project self.now) call.now ≡ Some (Ok s)) }
-        ensures refused { IfErr result (λ e. e ≢ Refusal.OutOfMemory → extra_files (project self.now) call.now ≡ Some (Err e)) }
+        ensures refused { IfRefused result (λ e. extra_files (project self.now) call.now ≡ Some (Err e)) }
     {
         let variables = Variables::near(alloc, &self.files, self.trees.as_slice(), call)?;
         let called = call_at(variables.files, variables.trees, call);
@@ -226,7 +227,7 @@ impl Project {
     /// There is no such target or more than one, or it has `sources:` or `extra_files:` twice, or memory is refused.
     pub fn target_details(&self, alloc: Global, id: &str) -> Result<TargetDetails, Refusal>
         ensures told { IfOk result (λ told. (target_place (project self.now) id.now ≡ Ok told.place) × AreDetails (project self.now) told.place told) }
-        ensures refused { IfErr result (λ e. e ≢ Refusal.OutOfMemory → NoTarget (project self.now) id.now e) }
+        ensures refused { IfRefused result (NoTarget (project self.now) id.now) }
     {
         let taken = self.notes_for(alloc, Role::Target, id)?;
         let notes = taken.all(alloc)?;
@@ -270,7 +271,7 @@ impl Project {
     ) -> Result<Vec<(Text, Shown)>, Refusal>
         requires { IsTrue (is_call (project self.now) call.now) }
         ensures told { IfOk result (λ pairs. keywords self.now role call.now ≡ Some (Ok pairs.items)) }
-        ensures refused { IfErr result (λ e. e ≢ Refusal.OutOfMemory → keywords self.now role call.now ≡ Some (Err e)) }
+        ensures refused { IfRefused result (λ e. keywords self.now role call.now ≡ Some (Err e)) }
     {
         let called = call_at(&self.files, self.trees.as_slice(), call);
         keywords_of(alloc, role, called.source, called.arguments)
@@ -285,7 +286,7 @@ impl Project {
         ensures untouched { IfOk result (λ done. KeepsUntouched self.old command.now self.new) }
         ensures patched { IfOk result (λ done. patched_all self.old.files done.change.splices ≡ Ok self.new.files) }
         ensures texts { IfOk result (λ done. AreTexts done.change.splices) }
-        ensures refused { IfErr result (λ e. e ≢ Refusal.OutOfMemory → MayRefuse self.old command.now e) }
+        ensures refused { IfRefused result (MayRefuse self.old command.now) }
         ensures kept { OnErr result (self.new ≡ self.old) }
         // Each tree is that of its file, whatever came of the command.
         ensures project { IsProject self.new }
@@ -330,8 +331,7 @@ fn performed(alloc: Global, work: &mut Work, command: &Command) -> Result<(), Re
     requires { IsFresh work.old }
     ensures done { OnOk result (IsDone (so_far work.old) (planned (project (so_far work.old)) command.now) work.new) }
     ensures restores { (first : Loaded) → Restores work.old first → Restores work.new first }
-    ensures refused { IfErr result (λ e. e ≢ Refusal.OutOfMemory
-        → MayNotBeDone (so_far work.old) (planned (project (so_far work.old)) command.now) e) }
+    ensures refused { IfRefused result (MayNotBeDone (so_far work.old) (planned (project (so_far work.old)) command.now)) }
 {
     match order_of(command) {
         Order::Planned(plan) => {

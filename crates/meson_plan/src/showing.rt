@@ -1,6 +1,6 @@
 //! The head of a call, and the values of its keyword arguments.
 
-ghost use Rattle.std.specs.Prelude.{◌≡◌, ◌≢◌, Err, IfErr, IfOk, Ok, Some};
+ghost use Rattle.std.specs.Prelude.{◌≡◌, IfOk, Ok, Some};
 ghost use Rattle.std.specs.List.{filter_map};
 ghost use Rattle.std.specs.Str.{IsUtf8};
 ghost use Rattle.meson_lex.specs.Kinds.{IsIdentifier};
@@ -9,6 +9,7 @@ ghost use Rattle.meson_syntax.specs.View.{arg_view, args_view, expr_view, list_v
 ghost use Rattle.meson_calls.specs.Calls.{first_literal};
 ghost use Rattle.meson_calls.specs.GoodLists.{GoodArgs, GoodListing};
 ghost use Rattle.meson_calls.specs.Picking.{Source, call_with};
+ghost use Rattle.meson_calls.specs.Refusals.{RefusedAs};
 ghost use Rattle.meson_calls.specs.Strings.{AreGood};
 ghost use Rattle.meson_plan.specs.Called.{called_view};
 ghost use Rattle.meson_plan.specs.Details.{head_of, is_hidden, keywords_of_call, literal_in, of_each, shown_argument, shown_list, shown_value, source_text, variable_in};
@@ -247,7 +248,7 @@ pub(crate) fn keywords_of(
     ensures shown { (function : Source) → let call = call_with function (list_view source.now arguments.now) in
         IfOk result (λ pairs. keywords_of_call source.now role call ≡ Ok pairs.items) }
     ensures refused { (function : Source) → let call = call_with function (list_view source.now arguments.now) in
-        IfErr result (λ e. e ≢ Refusal.OutOfMemory → keywords_of_call source.now role call ≡ Err e) }
+        RefusedAs result (keywords_of_call source.now role call) }
 {
     call_told(alloc, source, arguments, role)?;
     let pairs = shown_arguments(alloc, source, role, arguments.items.get())?;

@@ -1,10 +1,11 @@
 //! The commands of a script, one after another.
 
-ghost use Rattle.std.specs.Prelude.{◌≡◌, ◌≢◌, ◌+◌, ◌++◌, Err, IfErr, IfOk, Ok, OnErr, OnOk, map, option_to_list};
+ghost use Rattle.std.specs.Prelude.{◌≡◌, ◌≢◌, ◌+◌, ◌++◌, IfErr, IfOk, Ok, OnErr, OnOk, map, option_to_list};
 ghost use Rattle.serde_json.specs.View.{view};
 ghost use Rattle.meson_steps.specs.ResultLimits.{saturated};
 ghost use Rattle.meson_calls.specs.declared.refusal.Refusal.TheVariants.{OutOfMemory};
 ghost use Rattle.meson_calls.specs.Loading.{IsProject};
+ghost use Rattle.meson_calls.specs.Refusals.{IfRefused, RefusedAs};
 ghost use Rattle.meson_plan.specs.Performing.{MayRefuse, Performs};
 ghost use Rattle.meson_script.specs.Running.{MayStop, Reaches, Runs, told};
 
@@ -45,7 +46,7 @@ impl Ran {
 /// What a command tells of the project as it stands.
 fn told(alloc: Global, project: &Project, command: &Command) -> Result<Option<Value>, Refusal>
     ensures told { IfOk result (λ v. told project.now command.now ≡ Ok (map view (option_to_list v))) }
-    ensures refused { IfErr result (λ e. e ≢ OutOfMemory → told project.now command.now ≡ Err e) }
+    ensures refused { RefusedAs result (told project.now command.now) }
 {
     match command {
         Command::TargetInfo { target } => Ok(Some(info_target(alloc, project, target.get())?)),
@@ -63,7 +64,7 @@ pub(crate) fn listed(
     command: &Command,
 ) -> Result<Vec<Value>, Refusal>
     ensures told { IfOk result (λ v. told project.now command.now ≡ Ok (map view v.items)) }
-    ensures refused { IfErr result (λ e. e ≢ OutOfMemory → told project.now command.now ≡ Err e) }
+    ensures refused { RefusedAs result (told project.now command.now) }
 {
     let mut listings = Vec::new(alloc);
     if let Some(listing) = told(alloc, project, command)? {
@@ -85,7 +86,7 @@ pub(crate) fn performed(
 ) -> Result<Done, Refusal>
     requires { told project.old command.now ≡ Ok (map view listings.now) }
     ensures done { IfOk result (λ done. Performs project.old command.now done project.new) }
-    ensures refused { IfErr result (λ e. e ≢ OutOfMemory → MayRefuse project.old command.now e) }
+    ensures refused { IfRefused result (MayRefuse project.old command.now) }
     ensures kept { OnErr result (project.new ≡ project.old) }
     ensures project { IsProject project.new }
 {

@@ -1,6 +1,6 @@
 //! The steps of commands on the sources of a target.
 
-ghost use Rattle.std.specs.Prelude.{◌≡◌, ◌≢◌, ◌<◌, ◌≤◌, ◌^◌, All, IfErr, IfOk, OnOk, Some, length, map};
+ghost use Rattle.std.specs.Prelude.{◌≡◌, ◌<◌, ◌≤◌, ◌^◌, All, IfErr, IfOk, OnOk, Some, length, map};
 ghost use Rattle.std.specs.Str.{IsUtf8};
 ghost use Rattle.std.specs.List.{filter};
 ghost use Rattle.meson_syntax.specs.View.{args_view, list_view};
@@ -9,7 +9,7 @@ ghost use Rattle.meson_calls.specs.GoodLists.{GoodListing};
 ghost use Rattle.meson_calls.specs.Loading.{AreParsed};
 ghost use Rattle.meson_calls.specs.CodeVariables.{AreVariables, project_of};
 ghost use Rattle.meson_calls.specs.Picking.{Source, placed_call};
-ghost use Rattle.meson_calls.specs.Refusals.{RefusedAs};
+ghost use Rattle.meson_calls.specs.Refusals.{IfRefused, RefusedAs};
 ghost use Rattle.meson_sources.specs.SourceEdits.{insertion_steps, is_plain, plain_len, sources_added, sources_removed};
 ghost use Rattle.meson_calls.specs.Sourced.{kept_args};
 ghost use Rattle.meson_steps.specs.ListSteps.{bare};
@@ -90,7 +90,7 @@ pub fn at_most_once(
 ) -> Result<(), Refusal>
     requires { IsUtf8 key.now }
     ensures few { OnOk result (length (kept_args source.now (value_with_name key.now) 0 arguments.now.items) ≤ 1) }
-    ensures twice { IfErr result (λ e. e ≢ Refusal.OutOfMemory → (e ≡ Refusal.DuplicateKeyword key.now)
+    ensures twice { IfRefused result (λ e. (e ≡ Refusal.DuplicateKeyword key.now)
         × (1 < length (kept_args source.now (value_with_name key.now) 0 arguments.now.items))) }
 {
     if count_named(source, arguments.items.get(), key) > 1 {

@@ -1,8 +1,8 @@
 //! Items taken out of their lists.
 
-ghost use Rattle.std.specs.Prelude.{◌≡◌, ◌≢◌, ◌++◌, ◌∷◌, [], Err, IfErr, IfOk, None, Ok, OnOk, Some, true, length, map, option_map};
+ghost use Rattle.std.specs.Prelude.{◌≡◌, ◌++◌, ◌∷◌, [], IfOk, None, Ok, OnOk, Some, true, length, map, option_map};
 ghost use Rattle.std.specs.List.{list_any};
-ghost use Rattle.meson_calls.specs.Refusals.{RefusedAs};
+ghost use Rattle.meson_calls.specs.Refusals.{IfRefused, RefusedAs};
 ghost use Rattle.meson_steps.specs.ListSteps.{bare};
 ghost use Rattle.meson_steps.specs.Meanings.{AreMeant};
 ghost use Rattle.meson_steps.specs.Names.{distinct};
@@ -177,8 +177,8 @@ fn find_spots(
     ensures found { OnOk result (before_all (map spot_view spots.old.items)
         (all_there (spots_in marks.now name.now)) ≡ Some (map spot_view spots.new.items)) }
     ensures some { IfOk result (λ b. b ≡ is_some_there (spots_in marks.now name.now)) }
-    ensures refused { IfErr result (λ e. e ≢ Refusal.OutOfMemory → (e ≡ Refusal.NotRemovable) × (all_there (spots_in marks.now name.now) ≡ None)) }
-    ensures there { IfErr result (λ e. e ≢ Refusal.OutOfMemory → is_some_there (spots_in marks.now name.now) ≡ true) }
+    ensures refused { IfRefused result (λ e. (e ≡ Refusal.NotRemovable) × (all_there (spots_in marks.now name.now) ≡ None)) }
+    ensures there { IfRefused result (λ e. is_some_there (spots_in marks.now name.now) ≡ true) }
 {
     let mut found = false;
     for i in 0..marks.items.len() {

@@ -1,9 +1,9 @@
 //! The steps of commands on the sources and the extra files of a target.
 
-ghost use Rattle.std.specs.Prelude.{◌≡◌, ◌≢◌, All, Err, IfErr, IfOk};
+ghost use Rattle.std.specs.Prelude.{All, IfOk};
 ghost use Rattle.std.specs.Str.{IsUtf8};
-ghost use Rattle.meson_calls.specs.declared.refusal.Refusal.TheVariants.{OutOfMemory};
 ghost use Rattle.meson_calls.specs.NotedProjects.{IsNotedFor, loaded_in, project_in};
+ghost use Rattle.meson_calls.specs.Refusals.{RefusedAs};
 ghost use Rattle.meson_steps.specs.Plans.{ArePlanned};
 ghost use Rattle.meson_sources.specs.Targeted.{target_steps};
 ghost use Rattle.meson_steps.specs.Meanings.{AreMeant};
@@ -40,7 +40,7 @@ fn target_steps(
 ) -> Result<Vec<ListStep>, Refusal>
     requires { IsNotedFor Role.Target target.now noted.now }
     ensures meant { IfOk result (λ steps. AreMeant (target_steps (project_in noted.now) target.now change names.now) steps.items) }
-    ensures refused { IfErr result (λ e. e ≢ Refusal.OutOfMemory → target_steps (project_in noted.now) target.now change names.now ≡ Err e) }
+    ensures refused { RefusedAs result (target_steps (project_in noted.now) target.now change names.now) }
     ensures utf8 { IfOk result (λ steps. All IsUtf8 names.now) }
 {
     let call = the_call(alloc, Role::Target, target, noted.notes)?;
@@ -71,7 +71,7 @@ pub fn on_target(
     requires { IsNotedFor Role.Target target.now noted.now }
     ensures plan { IfOk result (λ steps.
         ArePlanned (loaded_in noted.now) (target_steps (project_in noted.now) target.now change names.now) steps.items) }
-    ensures refused { IfErr result (λ e. e ≢ OutOfMemory → target_steps (project_in noted.now) target.now change names.now ≡ Err e) }
+    ensures refused { RefusedAs result (target_steps (project_in noted.now) target.now change names.now) }
 {
     target_steps(alloc, noted, target.get(), change, names.get())
 }

@@ -1,10 +1,11 @@
 //! The steps by which a target is put at the end of a build file.
 
-ghost use Rattle.std.specs.Prelude.{◌≡◌, ◌≢◌, ◌∷◌, [], All, Err, IfErr, IfOk, Ok, map};
+ghost use Rattle.std.specs.Prelude.{◌≡◌, ◌∷◌, [], All, IfErr, IfOk, Ok, map};
 ghost use Rattle.std.specs.Str.{IsUtf8};
 ghost use Rattle.meson_calls.specs.Loading.{IsProject};
 ghost use Rattle.meson_calls.specs.NotedProjects.{IsNotedFor, loaded_in, project_in};
 ghost use Rattle.meson_calls.specs.Project.{place};
+ghost use Rattle.meson_calls.specs.Refusals.{RefusedAs};
 ghost use Rattle.meson_steps.specs.Names.{checked_names};
 ghost use Rattle.meson_targets.specs.TargetEdits.{checked_kind, is_target_kind, not_taken, number_in, targets_named, written_target};
 ghost use Rattle.meson_targets.specs.TargetViews.{new_target};
@@ -44,7 +45,7 @@ fn is_target_kind(kind: &[u8]) -> bool
 /// The function says not what is built, or memory is refused.
 fn checked_kind(alloc: Global, kind: &Text) -> Result<(), Refusal>
     ensures checked { IfOk result (λ u. checked_kind kind.now ≡ Ok tt) }
-    ensures refused { IfErr result (λ e. e ≢ Refusal.OutOfMemory → checked_kind kind.now ≡ Err e) }
+    ensures refused { RefusedAs result (checked_kind kind.now) }
 {
     if is_target_kind(kind.get().as_bytes()) {
         return Ok(());
@@ -60,7 +61,7 @@ fn checked_kind(alloc: Global, kind: &Text) -> Result<(), Refusal>
 fn not_taken(alloc: Global, noted: &Noted<'_>, name: &str) -> Result<(), Refusal>
     requires { IsNotedFor Role.Target name.now noted.now }
     ensures checked { IfOk result (λ u. not_taken (targets_named (project_in noted.now) name.now) ≡ Ok tt) }
-    ensures refused { IfErr result (λ e. e ≢ Refusal.OutOfMemory → not_taken (targets_named (project_in noted.now) name.now) ≡ Err e) }
+    ensures refused { RefusedAs result (not_taken (targets_named (project_in noted.now) name.now)) }
 {
     let targets = with_name(alloc, Role::Target, name, noted.notes)?;
     if !targets.as_slice().is_empty() {
@@ -76,7 +77,7 @@ fn not_taken(alloc: Global, noted: &Noted<'_>, name: &str) -> Result<(), Refusal
 fn number_in(alloc: Global, noted: &Noted<'_>, folder: &str) -> Result<usize, Refusal>
     requires { IsProject (loaded_in noted.now) }
     ensures found { IfOk result (λ n. number_in (project_in noted.now) folder.now ≡ Ok n) }
-    ensures refused { IfErr result (λ e. e ≢ Refusal.OutOfMemory → number_in (project_in noted.now) folder.now ≡ Err e) }
+    ensures refused { RefusedAs result (number_in (project_in noted.now) folder.now) }
 {
     if folder.is_empty() {
         return match noted.files.find("meson.build") {
@@ -140,7 +141,7 @@ pub fn target_added(
 ) -> Result<Vec<ListStep>, Refusal>
     requires { IsNotedFor Role.Target new.name.now noted.now }
     ensures meant { IfOk result (λ steps. AreMeant (new_target (project_in noted.now) new.entry) steps.items) }
-    ensures refused { IfErr result (λ e. e ≢ Refusal.OutOfMemory → new_target (project_in noted.now) new.entry ≡ Err e) }
+    ensures refused { RefusedAs result (new_target (project_in noted.now) new.entry) }
     ensures utf8 { IfOk result (λ steps. All IsUtf8 (new.entry.name.now ∷ new.entry.sources.now)) }
 {
     checked_kind(alloc, new.kind)?;

@@ -1,8 +1,9 @@
 //! The steps by which a target is taken out, with its whole statement.
 
-ghost use Rattle.std.specs.Prelude.{◌≡◌, ◌≢◌, ◌∷◌, [], Err, IfErr, IfOk, Ok};
+ghost use Rattle.std.specs.Prelude.{◌≡◌, ◌∷◌, [], IfErr, IfOk, Ok};
 ghost use Rattle.meson_calls.specs.Loading.{IsProject};
 ghost use Rattle.meson_calls.specs.NotedProjects.{IsNotedFor, loaded_in, project_in};
+ghost use Rattle.meson_calls.specs.Refusals.{RefusedAs};
 ghost use Rattle.meson_steps.specs.Meanings.{AreMeant};
 ghost use Rattle.meson_targets.specs.TargetEdits.{named_removed, not_in_use, call_removed};
 ghost use Rattle.meson_targets.specs.TargetViews.{IsNamed, held_view, place_view};
@@ -30,8 +31,7 @@ fn not_in_use(
     requires project { IsProject (loaded_in noted.now) }
     requires named { IsNamed held }
     ensures checked { IfOk result (λ u. not_in_use (project_in noted.now) (place_view line.now) (held_view held.entry) ≡ Ok tt) }
-    ensures refused { IfErr result (λ e. e ≢ Refusal.OutOfMemory
-        → not_in_use (project_in noted.now) (place_view line.now) (held_view held.entry) ≡ Err e) }
+    ensures refused { RefusedAs result (not_in_use (project_in noted.now) (place_view line.now) (held_view held.entry)) }
 {
     match held {
         Held::Alone => Ok(()),
@@ -63,7 +63,7 @@ fn statement_removed(alloc: Global, line: StatementPlace) -> Result<Vec<ListStep
 fn call_removed(alloc: Global, noted: &Noted<'_>, call: &CallRef) -> Result<Vec<ListStep>, Refusal>
     requires { IsProject (loaded_in noted.now) }
     ensures meant { IfOk result (λ steps. AreMeant (call_removed (project_in noted.now) call.now) steps.items) }
-    ensures refused { IfErr result (λ e. e ≢ Refusal.OutOfMemory → call_removed (project_in noted.now) call.now ≡ Err e) }
+    ensures refused { RefusedAs result (call_removed (project_in noted.now) call.now) }
 {
     let Some(holder) = holder_of(alloc, noted.files, noted.trees, call)? else {
         return Err(Refusal::NotStatement);
@@ -84,7 +84,7 @@ pub fn target_removed(
 ) -> Result<Vec<ListStep>, Refusal>
     requires { IsNotedFor Role.Target target.now noted.now }
     ensures meant { IfOk result (λ steps. AreMeant (named_removed (project_in noted.now) target.now) steps.items) }
-    ensures refused { IfErr result (λ e. e ≢ Refusal.OutOfMemory → named_removed (project_in noted.now) target.now ≡ Err e) }
+    ensures refused { RefusedAs result (named_removed (project_in noted.now) target.now) }
 {
     let call = the_call(alloc, Role::Target, target, noted.notes)?;
     call_removed(alloc, noted, &call)

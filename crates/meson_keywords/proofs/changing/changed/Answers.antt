@@ -1,9 +1,8 @@
 -- What a request means is done on its call, task by task, or it is refused as is meant.
 use Rattle.std.proofs.Common.{◌<◌, ◌≡◌, length, sym, ap, ◌∙◌, subst, arith}
-use Rattle.std.specs.Prelude.{◌≢◌, IfErr, OnOk}
+use Rattle.std.specs.Prelude.{OnOk}
 use Rattle.std.proofs.lemmas.Result.{err_from_is_err_and}
 use Rattle.meson_splice.specs.Files.{bytes_at}
-use Rattle.meson_calls.specs.declared.refusal.Refusal.TheVariants.{OutOfMemory}
 use Rattle.meson_calls.specs.Calls.{value_with_name}
 use Rattle.meson_calls.specs.Loading.{IsProject, named_trees, project, views}
 use Rattle.meson_steps.specs.Done.{IsDone, MayNotBeDone, unmeant}
@@ -12,6 +11,7 @@ use Rattle.meson_steps.specs.Working.{so_far}
 use Rattle.meson_calls.specs.Sources.{not_hidden}
 use Rattle.meson_calls.specs.Sourced.{kept_args}
 use Rattle.meson_calls.specs.Sources.{kwargs_key}
+use Rattle.meson_calls.specs.Refusals.{IfRefused}
 use Rattle.meson_keywords.specs.Changing.{CallStands, request_steps}
 use Rattle.meson_keywords.specs.Tasking.{asked}
 use Rattle.meson_keywords.specs.TaskSteps.{tasks_steps}
@@ -142,4 +142,4 @@ returns-clause-refused c =
     let same = of_trees (λ l. tasks_steps place t.tasks (plain_trees l) ≡ request_steps (project l) (r, id, words)) files c.as_slice-trees.ensures.value
     (task_by_task files trees r id words place found t.tasks t.is bytes list arguments hidden) in
     let old = so_far c.args.work.now in
-    subst (λ m. IfErr c.tasks_done.result (λ e. e ≢ OutOfMemory → MayNotBeDone old m e)) same (c.tasks_done.ensures.refused t.tasks t.are)
+    subst (λ m. IfRefused c.tasks_done.result (MayNotBeDone old m)) same (c.tasks_done.ensures.refused t.tasks t.are)

@@ -1,7 +1,7 @@
-use Rattle.std.proofs.Common.{◌≡◌, ◌≢◌, map, sym, subst}
-use Rattle.std.specs.Prelude.{Err, IfErr, IfOk}
+use Rattle.std.proofs.Common.{map, sym, subst}
+use Rattle.meson_calls.specs.Refusals.{RefusedAs}
+use Rattle.std.specs.Prelude.{IfOk}
 use Rattle.meson_syntax.specs.View.{args_view}
-use Rattle.meson_calls.specs.declared.refusal.Refusal.TheVariants.{OutOfMemory}
 use Rattle.meson_keywords.specs.KeywordEdits.{add_steps}
 use Rattle.meson_steps.specs.Meanings.{AreMeant}
 use Rattle.meson_keywords.specs.Tasking.{TaskIs}
@@ -18,12 +18,12 @@ pub returns-in-Set-clause-refused : goal.returns-in-Set-clause-refused
 returns-in-Set-clause-refused c = λ t is.
     let s = c.args.subject in
     let it = subst (λ k. TaskIs k t) c.in-Set.is is in
-    subst (λ u. IfErr c.set_steps.result (λ e. e ≢ OutOfMemory → task_steps u s.call.now (args_view s.source.now s.args.now) ≡ Err e)) (sym it.1) (c.set_steps.ensures.refused it.0)
+    subst (λ u. RefusedAs c.set_steps.result (task_steps u s.call.now (args_view s.source.now s.args.now))) (sym it.1) (c.set_steps.ensures.refused it.0)
 
 pub returns-in-Add-clause-refused : goal.returns-in-Add-clause-refused
 returns-in-Add-clause-refused c = λ t is.
     let s = c.args.subject in
     let it = subst (λ k. TaskIs k t) c.in-Add.is is in
     let xs = args_view s.source.now s.args.now in
-    subst (λ u. IfErr c.add_steps.result (λ e. e ≢ OutOfMemory → task_steps u s.call.now xs ≡ Err e)) (sym it)
-    (subst (λ vs. IfErr c.add_steps.result (λ e. e ≢ OutOfMemory → add_steps s.call.now xs c.in-Add.key.now c.in-Add.kind (map (λ x. x.now) vs) ≡ Err e)) c.as_slice.ensures.value c.add_steps.ensures.refused)
+    subst (λ u. RefusedAs c.add_steps.result (task_steps u s.call.now xs)) (sym it)
+    (subst (λ vs. RefusedAs c.add_steps.result (add_steps s.call.now xs c.in-Add.key.now c.in-Add.kind (map (λ x. x.now) vs))) c.as_slice.ensures.value c.add_steps.ensures.refused)

@@ -1,11 +1,11 @@
 use Rattle.std.proofs.Common.{◌≡◌, List, ℕ, length, map, sym, ap, ◌∙◌, subst}
-use Rattle.std.specs.Prelude.{◌≢◌, Err, IfErr, Ok, OnOk}
+use Rattle.std.specs.Prelude.{Ok, OnOk}
 use Rattle.std.proofs.lemmas.List.{length-map}
 use Rattle.meson_syntax.specs.View.{arg_view, args_view, expr_view}
-use Rattle.meson_calls.specs.declared.refusal.Refusal.TheVariants.{OutOfMemory}
 use Rattle.meson_keywords.specs.Keys.{written_element}
 use Rattle.meson_keywords.specs.KeywordEdits.{add_by_shape, all_behind, text_in}
 use Rattle.meson_calls.specs.Project.{child}
+use Rattle.meson_calls.specs.Refusals.{RefusedAs}
 use Rattle.meson_steps.specs.Meanings.{AreBehind}
 use Rattle.meson_keywords.proofs.StepsBehind.{behind_result}
 use Rattle.meson_keywords.proofs.keyword_steps.add_to_value.Goals as goal
@@ -45,4 +45,4 @@ returns-in-None-clause-refused c =
     let k = c.args.kind in
     let values : List (List ℕ) = map (λ x. x.now) c.args.values.now in
     let is = ap (add_by_shape c.args.subject.call.now c.args.found.number c.args.key.now k values (text_in k (expr_view source c.args.found.value.now))) (sym (c.in-None.ensures.shape source)) in
-    subst (λ m. IfErr c.add_to_lone.result (λ e. e ≢ OutOfMemory → m ≡ Err e)) is c.add_to_lone.ensures.refused
+    subst (λ m. RefusedAs c.add_to_lone.result m) is c.add_to_lone.ensures.refused

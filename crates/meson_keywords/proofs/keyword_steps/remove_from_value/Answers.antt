@@ -1,7 +1,7 @@
-use Rattle.std.proofs.Common.{◌≡◌, ◌≢◌, refl, sym, ap, ◌∙◌, subst}
-use Rattle.std.specs.Prelude.{OnOk, IfErr, Err}
+use Rattle.std.proofs.Common.{refl, sym, ap, ◌∙◌, subst}
+use Rattle.meson_calls.specs.Refusals.{RefusedAs}
+use Rattle.std.specs.Prelude.{OnOk, Err}
 use Rattle.meson_syntax.specs.View.{args_view, expr_view}
-use Rattle.meson_calls.specs.declared.refusal.Refusal.TheVariants.{OutOfMemory}
 use Rattle.meson_keywords.specs.KeywordEdits.{all_of_kind, passing, remove_by_shape, remove_equal, says, text_in}
 use Rattle.meson_edit.specs.Edits.{Remove}
 use Rattle.meson_steps.specs.Steps.{step_in}
@@ -44,7 +44,7 @@ returns-in_ok-list-in-Some-clause-refused c =
     let text = c.args.text.now in
     let is = ap (λ l. remove_equal l key (all_of_kind k xs) (passing (says k text) 0 xs)) c.in_ok-list-in-Some.ensures
     ∙ ap (remove_by_shape c.args.subject.call.now c.args.found.number key k text o) (sym (c.in-Some.ensures.shape source)) in
-    subst (λ m. IfErr c.remove_from_array.result (λ e. e ≢ OutOfMemory → m ≡ Err e)) is c.remove_from_array.ensures.refused
+    subst (λ m. RefusedAs c.remove_from_array.result m) is c.remove_from_array.ensures.refused
 
 pub returns-after-branch-clause-done : goal.returns-after-branch-clause-done
 returns-after-branch-clause-done c =

@@ -1,9 +1,9 @@
 use Rattle.std.proofs.Common.{sym, ap, ◌∙◌, subst}
 use Rattle.std.proofs.lemmas.Result.{err_from_is_err_and}
-use Rattle.std.specs.Prelude.{Err, IfErr, OnOk, ◌≢◌, ◌≡◌}
+use Rattle.std.specs.Prelude.{Err, OnOk}
 use Rattle.meson_syntax.specs.View.{args_view, expr_view}
-use Rattle.meson_calls.specs.declared.refusal.Refusal.TheVariants.{OutOfMemory}
 use Rattle.meson_calls.specs.Project.{child}
+use Rattle.meson_calls.specs.Refusals.{RefusedAs}
 use Rattle.meson_steps.specs.Meanings.{AreBehind}
 use Rattle.meson_keywords.specs.KeywordEdits.{passing, removed_from}
 use Rattle.meson_keywords.specs.Options.{delete_by_value, has_key, keys_known}
@@ -51,4 +51,4 @@ pub returns-in-None-clause-refused : goal.returns-in-None-clause-refused
 returns-in-None-clause-refused c =
     let v = expr_view c.args.subject.source.now c.args.found.value.now in
     let is = ap (delete_by_value c.args.subject.call.now c.args.found.number c.args.name.now v) (sym (c.in-None.ensures.entries c.args.subject.source.now)) in
-    subst (λ m. IfErr c.delete_in_value.result (λ e. e ≢ OutOfMemory → m ≡ Err e)) is c.delete_in_value.ensures.refused
+    subst (λ m. RefusedAs c.delete_in_value.result m) is c.delete_in_value.ensures.refused

@@ -1,11 +1,11 @@
 use Rattle.std.proofs.Common.{length, sym, ap, ap₂, ◌∙◌, subst}
 use Rattle.std.proofs.lemmas.Result.{err_from_is_err_and}
-use Rattle.std.specs.Prelude.{Err, IfErr, Ok, OnOk, ◌≢◌, ◌≡◌}
+use Rattle.std.specs.Prelude.{Err, Ok, OnOk}
 use Rattle.std.proofs.lemmas.List.{length-map}
 use Rattle.meson_syntax.specs.View.{arg_view, args_view, expr_view}
-use Rattle.meson_calls.specs.declared.refusal.Refusal.TheVariants.{OutOfMemory}
 use Rattle.meson_calls.specs.Calls.{literal_of}
 use Rattle.meson_calls.specs.Project.{child}
+use Rattle.meson_calls.specs.Refusals.{RefusedAs}
 use Rattle.meson_steps.specs.Meanings.{AreBehind}
 use Rattle.meson_keywords.specs.KeywordEdits.{passing, value_shape}
 use Rattle.meson_keywords.specs.Options.{has_key, keys_known, set_by_shape, set_by_value, set_in_dictionary}
@@ -62,4 +62,4 @@ returns-in_ok-entry-in-None-clause-refused c =
     let n = c.args.found.number in
     let v = expr_view source c.args.found.value.now in
     let is = ap (λ x. set_by_shape call n c.args.name.now x (literal_of v) (value_shape v)) c.in_ok-entry-in-None.ensures ∙ ap (set_by_value call n c.args.name.now c.args.value.now v) (sym (c.in-None.ensures.entries source)) in
-    subst (λ m. IfErr c.set_in_value.result (λ e. e ≢ OutOfMemory → m ≡ Err e)) is c.set_in_value.ensures.refused
+    subst (λ m. RefusedAs c.set_in_value.result m) is c.set_in_value.ensures.refused

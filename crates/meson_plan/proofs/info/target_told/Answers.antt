@@ -1,9 +1,10 @@
 -- A target whose sources and extra files are there once is told of.
-use Rattle.std.proofs.Common.{◌≡◌, ◌≢◌, ◌<◌, ◌≤◌, length, sym, subst}
-use Rattle.std.specs.Prelude.{OnOk, IfErr}
-use Rattle.meson_calls.specs.declared.refusal.Refusal.TheVariants.{OutOfMemory, DuplicateKeyword}
+use Rattle.std.proofs.Common.{◌≡◌, ◌<◌, ◌≤◌, length, sym, subst}
+use Rattle.std.specs.Prelude.{OnOk}
+use Rattle.meson_calls.specs.declared.refusal.Refusal.TheVariants.{DuplicateKeyword}
 use Rattle.meson_calls.specs.Calls.{value_with_name}
 use Rattle.meson_calls.specs.Sourced.{kept_args}
+use Rattle.meson_calls.specs.Refusals.{IfRefused}
 use Rattle.std.specs.Str.{IsUtf8}
 use Rattle.meson_sources.proofs.KeyTexts.{sources_text, extra_text}
 use Rattle.meson_plan.proofs.Told.{target_went, target_refused}
@@ -30,4 +31,4 @@ returns-in-Ok-clause-refused c = λ function.
     let few = subst (λ k. length (kept_args source (value_with_name k) 0 l.items) ≤ 1) c.as_slice.ensures c.in-Ok.ensures.few in
     let r = c.at_most_once-in-Ok.result in
     target_refused source l function few r
-    (subst (λ k. IfErr r (λ e. e ≢ OutOfMemory → (e ≡ DuplicateKeyword k) × (1 < length (kept_args source (value_with_name k) 0 l.items)))) c.as_slice-in-Ok.ensures c.at_most_once-in-Ok.ensures.twice)
+    (subst (λ k. IfRefused r (λ e. (e ≡ DuplicateKeyword k) × (1 < length (kept_args source (value_with_name k) 0 l.items)))) c.as_slice-in-Ok.ensures c.at_most_once-in-Ok.ensures.twice)

@@ -1,8 +1,7 @@
 -- What each plan means.
-use Rattle.std.proofs.Common.{◌≡◌, ◌≢◌, sym, ap, subst}
-use Rattle.std.specs.Prelude.{Err, IfErr}
-use Rattle.meson_calls.specs.declared.refusal.Refusal.TheVariants.{OutOfMemory}
+use Rattle.std.proofs.Common.{sym, ap, subst}
 use Rattle.meson_calls.specs.NotedProjects.{loaded_in, project_in}
+use Rattle.meson_calls.specs.Refusals.{RefusedAs}
 use Rattle.meson_plan.specs.Orders.{plan_steps}
 use Rattle.meson_targets.proofs.TargetsDoable.{addition_means, removal_means}
 use Rattle.meson_plan.proofs.planning.steps_of.Goals as goal
@@ -22,4 +21,4 @@ returns-in-RemoveTarget-clause-plan c =
 
 pub returns-in-AskCall-clause-refused : goal.returns-in-AskCall-clause-refused
 returns-in-AskCall-clause-refused c =
-    subst (λ meant. IfErr c.call_info.result (λ e. e ≢ OutOfMemory → meant ≡ Err e)) (sym (ap (plan_steps (project_in c.args.noted.now)) c.in-AskCall.is)) c.call_info.ensures.refused
+    subst (λ meant. RefusedAs c.call_info.result meant) (sym (ap (plan_steps (project_in c.args.noted.now)) c.in-AskCall.is)) c.call_info.ensures.refused

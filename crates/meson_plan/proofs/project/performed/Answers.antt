@@ -1,11 +1,11 @@
 -- What a command orders is what it means: its steps are planned and done, or its call is changed.
-use Rattle.std.proofs.Common.{◌≡◌, ◌≢◌, List, sym, subst, ◌∙◌}
-use Rattle.std.specs.Prelude.{Err, IfErr, OnOk}
+use Rattle.std.proofs.Common.{◌≡◌, List, sym, subst, ◌∙◌}
+use Rattle.std.specs.Prelude.{Err, OnOk}
 use Rattle.std.proofs.lemmas.Result.{err_from_is_err_and}
 use Rattle.meson_splice.specs.declared.file_set.File.{File}
 use Rattle.meson_syntax.specs.declared.tree.Parsed.{Parsed}
-use Rattle.meson_calls.specs.declared.refusal.Refusal.TheVariants.{OutOfMemory}
 use Rattle.meson_calls.specs.Loading.{IsProject, Loaded, project}
+use Rattle.meson_calls.specs.Refusals.{IfRefused}
 use Rattle.meson_steps.specs.Done.{IsDone, MayNotBeDone, Meaning, unmeant}
 use Rattle.meson_steps.specs.declared.step.ListStep.{ListStep}
 use Rattle.meson_steps.specs.Plans.{ArePlanned}
@@ -63,4 +63,4 @@ returns-in-Changed-clause-done c =
 pub returns-in-Changed-clause-refused : goal.returns-in-Changed-clause-refused
 returns-in-Changed-clause-refused c =
     let old = so_far c.args.work.now in
-    subst (λ m. IfErr c.changed.result (λ e. e ≢ OutOfMemory → MayNotBeDone old m e)) (c.in-Changed.ensures (project old)) c.changed.ensures.refused
+    subst (λ m. IfRefused c.changed.result (MayNotBeDone old m)) (c.in-Changed.ensures (project old)) c.changed.ensures.refused

@@ -1,8 +1,8 @@
-use Rattle.std.proofs.Common.{◌≡◌, ◌<◌, length, map, sym, ◌∙◌, subst, arith}
-use Rattle.std.specs.Prelude.{OnOk, IfErr, Err, ◌≢◌}
-use Rattle.meson_calls.specs.declared.refusal.Refusal.TheVariants.{OutOfMemory}
+use Rattle.std.proofs.Common.{◌<◌, length, map, sym, ◌∙◌, subst, arith}
+use Rattle.std.specs.Prelude.{OnOk}
 use Rattle.std.proofs.lemmas.List.{length-map}
 use Rattle.meson_calls.specs.Keywords.{IsFirstNamed}
+use Rattle.meson_calls.specs.Refusals.{RefusedAs}
 use Rattle.meson_steps.specs.Meanings.{AreBehind}
 use Rattle.meson_sources.proofs.ExtrasAdded.{lone}
 use Rattle.meson_calls.proofs.FirstValue.{not_a_name, pair_no_name}
@@ -37,4 +37,4 @@ returns-in-Named-clause-refused c =
     let first = subst (λ k. IsFirstNamed c.args.source.now k c.args.args.now c.in-Some.number) c.as_slice.ensures c.in-Some.ensures in
     let some : 0 < length names = omega (arith, length-map c.args.names.now (λ x. x.now)) in
     let is = lone c.args.source.now _ c.args.args.now c.in-Some.number c.index-args-number.result c.if-number-args.false first c.args.call.now names some c.in-Named.span c.in-Named.name c.in-Named.value (sym c.index-args-number.is ∙ c.in-Named.is) in
-    subst (λ r. IfErr c.behind_value.result (λ e. e ≢ OutOfMemory → r ≡ Err e)) is c.behind_value.ensures.refused
+    subst (λ r. RefusedAs c.behind_value.result r) is c.behind_value.ensures.refused

@@ -1,8 +1,8 @@
-use Rattle.std.proofs.Common.{◌≡◌, ◌≢◌, subst}
-use Rattle.std.specs.Prelude.{Err, IfErr, IfOk}
-use Rattle.meson_calls.specs.declared.refusal.Refusal.TheVariants.{OutOfMemory}
+use Rattle.std.proofs.Common.{subst}
+use Rattle.std.specs.Prelude.{IfOk}
 use Rattle.meson_calls.specs.Loading.{project}
 use Rattle.meson_calls.specs.NotedProjects.{loaded_in}
+use Rattle.meson_calls.specs.Refusals.{RefusedAs}
 use Rattle.meson_steps.specs.Plans.{ArePlanned}
 use Rattle.meson_sources.specs.Targeted.{target_steps}
 use Rattle.meson_sources.proofs.Planned.{all_mean}
@@ -24,5 +24,5 @@ returns-clause-refused c =
     let r = c.target_steps.result in
     let change = c.args.change in
     let t = c.get.result.now in
-    subst (λ t. IfErr r (λ e. e ≢ OutOfMemory → target_steps (project old) t change c.args.names.now ≡ Err e)) c.get.ensures
-    (subst (λ ns. IfErr r (λ e. e ≢ OutOfMemory → target_steps (project old) t change ns ≡ Err e)) c.get-2.ensures c.target_steps.ensures.refused)
+    subst (λ t. RefusedAs r (target_steps (project old) t change c.args.names.now)) c.get.ensures
+    (subst (λ ns. RefusedAs r (target_steps (project old) t change ns)) c.get-2.ensures c.target_steps.ensures.refused)

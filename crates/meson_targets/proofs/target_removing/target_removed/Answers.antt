@@ -1,10 +1,10 @@
 use Rattle.std.proofs.Common.{ap, ◌∙◌, subst}
-use Rattle.std.specs.Prelude.{◌≡◌, ◌≢◌, Err, IfErr, IfOk}
+use Rattle.std.specs.Prelude.{IfOk}
 use Rattle.std.proofs.lemmas.Result.{err_from_is_err_and}
 use Rattle.meson_splice.specs.Patch.{then_ok}
 use Rattle.meson_calls.specs.declared.call.Role.TheVariants as role
-use Rattle.meson_calls.specs.declared.refusal.Refusal.TheVariants.{OutOfMemory}
 use Rattle.meson_calls.specs.NotedProjects.{project_in}
+use Rattle.meson_calls.specs.Refusals.{RefusedAs}
 use Rattle.meson_steps.specs.Meanings.{AreMeant}
 use Rattle.meson_targets.specs.TargetEdits.{target_removed}
 use Rattle.meson_calls.proofs.NotedCalls.{none_noted, noted_good, same_place}
@@ -26,7 +26,7 @@ returns-clause-refused c =
     let n = c.args.noted.now in
     let id = c.args.target.now in
     let same = named_at (project_in n) id c.in_ok-call.call (same_place n role.Target id c.requires ∙ c.in_ok-call.ensures.found) in
-    subst (λ m. IfErr c.call_removed.result (λ e. e ≢ OutOfMemory → m ≡ Err e)) same c.call_removed.ensures.refused
+    subst (λ m. RefusedAs c.call_removed.result m) same c.call_removed.ensures.refused
 
 pub returns-in_err-call-clause-refused : goal.returns-in_err-call-clause-refused
 returns-in_err-call-clause-refused c =

@@ -1,11 +1,11 @@
-use Rattle.std.proofs.Common.{◌≡◌, ◌≢◌, Some, ◌∙◌, ap, ap₂, subst, sym}
-use Rattle.std.specs.Prelude.{Ok, Err, IfOk, IfErr}
+use Rattle.std.proofs.Common.{◌≡◌, Some, ◌∙◌, ap, ap₂, subst, sym}
+use Rattle.std.specs.Prelude.{Ok, Err, IfOk}
 use Rattle.meson_syntax.specs.View.{list_view, name_at, text_at}
-use Rattle.meson_calls.specs.declared.refusal.Refusal.TheVariants.{OutOfMemory}
 use Rattle.meson_calls.specs.Loading.{IsProject, loaded_from, project}
 use Rattle.meson_calls.specs.CodeVariables.{project_of}
 use Rattle.meson_calls.specs.Picking.{call_with}
 use Rattle.meson_calls.specs.Project.{placed}
+use Rattle.meson_calls.specs.Refusals.{IfRefused}
 use Rattle.meson_sources.specs.Extras.{extra_files, extra_of_call}
 use Rattle.meson_plan.proofs.DetailsThere.{extra_there, found_there, refused_there}
 use Rattle.meson_plan.proofs.project.Project.extra_files.Goals as goal
@@ -42,4 +42,4 @@ returns-clause-refused c =
     let there = extra_there call called.span (name_at called.source.now called.name) list (project_of v) c.call_at-called.ensures.at in
     let r = c.extra_files_of.result in
     let refused = refused_there (extra_files (project_of v) call) (extra_of_call (project_of v) (placed call (call_with text list))) there r (c.extra_files_of.ensures.refused text) in
-    subst (λ q. IfErr r (λ e. e ≢ OutOfMemory → extra_files q call ≡ Some (Err e))) is refused
+    subst (λ q. IfRefused r (λ e. extra_files q call ≡ Some (Err e))) is refused

@@ -1,9 +1,9 @@
-use Rattle.std.proofs.Common.{◌≡◌, ◌≢◌, Some, ◌∙◌, sym, ap, ap₂, subst}
-use Rattle.std.specs.Prelude.{Ok, Err, IfOk, IfErr, IsTrue}
-use Rattle.meson_calls.specs.declared.refusal.Refusal.TheVariants.{OutOfMemory}
+use Rattle.std.proofs.Common.{◌≡◌, Some, ◌∙◌, sym, ap, ap₂, subst}
+use Rattle.std.specs.Prelude.{Ok, Err, IfOk, IsTrue}
 use Rattle.meson_calls.specs.Loading.{IsProject, loaded_from, project}
 use Rattle.meson_calls.specs.Roles.{is_target}
 use Rattle.meson_calls.specs.Sources.{sources}
+use Rattle.meson_calls.specs.Refusals.{IfRefused}
 use Rattle.meson_plan.proofs.project.Project.sources.Goals as goal
 
 pub near-requires : goal.near-requires
@@ -31,4 +31,4 @@ returns-clause-refused c =
     let v = c.in_ok-variables.variables in
     let here = ap (loaded_from c.self.inside.files) c.as_slice.ensures.value ∙ c.self.view_is in
     let is = ap project (ap₂ loaded_from c.in_ok-variables.ensures.files c.in_ok-variables.ensures.trees ∙ here) in
-    subst (λ q. IfErr c.sources_at.result (λ e. e ≢ OutOfMemory → sources q c.args.call.now ≡ Some (Err e))) is c.sources_at.ensures.refused
+    subst (λ q. IfRefused c.sources_at.result (λ e. sources q c.args.call.now ≡ Some (Err e))) is c.sources_at.ensures.refused
