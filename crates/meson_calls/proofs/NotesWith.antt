@@ -3,7 +3,6 @@ use Rattle.std.proofs.Common.{◌≡◌, ℕ, ◌+◌, List, [], ◌∷◌, ◌+
 use Rattle.std.specs.Prelude.{◌||◌, Bool, true, bytes_eq, map, option_map, if◌then◌else◌}
 use Rattle.std.proofs.lemmas.Slice.Eq.{bytes_eq-Decides}
 use Rattle.std.proofs.lemmas.List.Elements.{All-head, All-tail}
-use Rattle.meson_lex.specs.declared.kinds.Span.{Span}
 use Rattle.meson_splice.specs.Patch.{then_ok}
 use Rattle.meson_splice.specs.declared.file_set.File.{File}
 use Rattle.meson_syntax.specs.declared.tree.Parsed.{Parsed}
@@ -16,11 +15,11 @@ use Rattle.meson_calls.specs.Finding.{only_one}
 use Rattle.meson_calls.specs.Knowns.{has_unknown, is_unknown_in}
 use Rattle.meson_calls.specs.Loading.{AreParsed, named_trees, views}
 use Rattle.meson_calls.specs.Noted.{assigned_notes, is_set_by, note_assigned, note_sets}
-use Rattle.meson_calls.specs.Notes.{Note, noted, notes}
+use Rattle.meson_calls.specs.Notes.{noted, notes}
 use Rattle.meson_calls.specs.OnePlace.{any_place, the_place}
 use Rattle.meson_calls.specs.Parts.{parts_of_file}
 use Rattle.meson_calls.specs.Picking.{assigned_places, found_places, note_has_name, note_has_role, note_sets_call, places_that, places_with_role}
-use Rattle.meson_calls.specs.Project.{Placed, child, placed}
+use Rattle.meson_calls.specs.Project.{child, placed}
 use Rattle.meson_calls.specs.Roles.{one_of, or_else, project_ids}
 use Rattle.meson_calls.specs.Spelling.{HasNone, HasNoneOf, AreNotesOf, whole, passed, AreNotesWith, setter_words, sought_words}
 use Rattle.meson_calls.specs.Strings.{NotesGood}

@@ -21,7 +21,8 @@ HasNoneOf words bytes = All (λ word. HasNone word bytes) words
 -- ---- notes
 
 -- Notes begin with those of a file; or it has none of the words, and they have none of its.
-pub data AreNotesOf (words : List (List ℕ)) (n : ℕ) (f : File) (t : Parsed) (Further : List (Placed (Note Span)) → Type 0) (ns : List (Placed (Note Span))) : Type 0 where
+pub data AreNotesOf (words : List (List ℕ)) (n : ℕ) (f : File) (t : Parsed)
+    (Further : List (Placed (Note Span)) → Type 0) (ns : List (Placed (Note Span))) : Type 0 where
   whole : (more : List (Placed (Note Span))) → Further more → ns ≡ noted (parts_of_file n (view f.bytes t)) ++ more → AreNotesOf words n f t Further ns
   passed : HasNoneOf words f.bytes → Further ns → AreNotesOf words n f t Further ns
 

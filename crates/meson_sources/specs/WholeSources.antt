@@ -53,8 +53,10 @@ file_names l = map (λ (f : File). f.name) l.files
 
 -- the law: after an addition a target has the sources that it had and those that are added and were none of it, each once
 abbrev pub AllSourcesGrow : Type 0
-AllSourcesGrow = (old new : Loaded) → IsProject old → file_names new ≡ file_names old → (id : List ℕ) (c : Placed (Call Span)) → the_call (project old) role.Target id ≡ Ok c
-    → (names : List (List ℕ)) → All IsUtf8 names → (steps : List Step) → sources_added (project old) c names ≡ Ok steps → all_stepped steps (plain_trees old) ≡ Some (plain_trees new)
+AllSourcesGrow = (old new : Loaded) → IsProject old → file_names new ≡ file_names old
+    → (id : List ℕ) (c : Placed (Call Span)) → the_call (project old) role.Target id ≡ Ok c
+    → (names : List (List ℕ)) → All IsUtf8 names → (steps : List Step) → sources_added (project old) c names ≡ Ok steps
+    → all_stepped steps (plain_trees old) ≡ Some (plain_trees new)
     → SourcesGrow (new_names (source_marks (project old) c) names) c.place (project old) (project new)
 
 -- where a place is after the elements at these spots have gone

@@ -1,4 +1,4 @@
-use Rattle.std.proofs.Common.{◌<◌, ◌≤◌, List, length, subst, arith}
+use Rattle.std.proofs.Common.{◌<◌, ◌≤◌, length, subst, arith}
 use Rattle.std.specs.Prelude.{All}
 use Rattle.std.proofs.lemmas.List.{take_all}
 use Rattle.meson_calls.specs.Spelling.{HasNone}

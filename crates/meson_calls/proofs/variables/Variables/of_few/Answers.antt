@@ -1,4 +1,4 @@
-use Rattle.std.proofs.Common.{◌≡◌, ℕ, List, ◌∙◌, sym, ap, subst}
+use Rattle.std.proofs.Common.{◌≡◌, sym, subst}
 use Rattle.std.specs.Prelude.{true}
 use Rattle.meson_calls.specs.CodeVariables.{is_among}
 use Rattle.meson_calls.proofs.GoodNotes.{project_good}

@@ -1,7 +1,6 @@
 use Rattle.std.proofs.Common.{◌∙◌, ap, sym, subst}
 use Rattle.meson_calls.specs.Loading.{project}
 use Rattle.meson_calls.specs.NotedProjects.{project_in}
-use Rattle.meson_calls.specs.Picking.{found_places}
 use Rattle.meson_calls.specs.Roles.{found, places}
 use Rattle.meson_calls.proofs.NotedCalls.{noted_good}
 use Rattle.meson_calls.proofs.Picked.{found_notes}
