@@ -36,7 +36,12 @@ fn only_one(calls: Vec<CallRef>) -> Result<CallRef, Refusal>
 }
 
 /// The only call of those that an id names.
-fn only_found(alloc: Global, role: Role, id: &str, notes: &[Note<'_, '_>]) -> Result<CallRef, Refusal>
+fn only_found(
+    alloc: Global,
+    role: Role,
+    id: &str,
+    notes: &[Note<'_, '_>],
+) -> Result<CallRef, Refusal>
     requires { NotesGood (note_views notes.now) }
     ensures found { IfOk result (λ c. only_one (found_places role id.now (note_views notes.now)) ≡ Ok c) }
     ensures refused { RefusedAs result (only_one (found_places role id.now (note_views notes.now))) }
@@ -49,7 +54,12 @@ fn only_found(alloc: Global, role: Role, id: &str, notes: &[Note<'_, '_>]) -> Re
 ///
 /// # Errors
 /// There is none, or more than one, or no project; or memory is refused.
-pub fn the_call(alloc: Global, role: Role, id: &str, notes: &[Note<'_, '_>]) -> Result<CallRef, Refusal>
+pub fn the_call(
+    alloc: Global,
+    role: Role,
+    id: &str,
+    notes: &[Note<'_, '_>],
+) -> Result<CallRef, Refusal>
     requires { NotesGood (note_views notes.now) }
     ensures found { IfOk result (λ c. the_place role id.now (note_views notes.now) ≡ Ok c) }
     ensures refused { RefusedAs result (the_place role id.now (note_views notes.now)) }

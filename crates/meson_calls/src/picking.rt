@@ -11,7 +11,11 @@ use crate::roles::note_has_role;
 use std::alloc::{AllocError, Global};
 
 /// The places of the calls of a role.
-pub fn with_role(alloc: Global, role: Role, notes: &[Note<'_, '_>]) -> Result<Vec<CallRef>, AllocError>
+pub fn with_role(
+    alloc: Global,
+    role: Role,
+    notes: &[Note<'_, '_>],
+) -> Result<Vec<CallRef>, AllocError>
     ensures { IfOk result (λ found. found.items ≡ places_with_role role (note_views notes.now)) }
 {
     let mut found = Vec::new(alloc);

@@ -92,12 +92,7 @@ impl<'t> Variables<'t> {
     }
 
     #[cycle(operands)]
-    fn is_list_value(
-        &self,
-        left: usize,
-        source: &[u8],
-        value: &Expr,
-    ) -> Result<bool, AllocError>
+    fn is_list_value(&self, left: usize, source: &[u8], value: &Expr) -> Result<bool, AllocError>
         requires { AreVariables self.now }
         ensures { IfOk result (λ is. is
             ≡ is_value_by (is_operand_by (is_list_variable (project_of self.now) left)) (expr_view source.now value.now)) }

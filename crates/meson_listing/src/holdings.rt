@@ -49,7 +49,11 @@ fn is_call_of(function: &[u8], note: &Note<'_, '_>) -> bool
 }
 
 /// The places of the calls of a function.
-fn calls_of(alloc: Global, function: &[u8], notes: &[Note<'_, '_>]) -> Result<Vec<CallRef>, AllocError>
+fn calls_of(
+    alloc: Global,
+    function: &[u8],
+    notes: &[Note<'_, '_>],
+) -> Result<Vec<CallRef>, AllocError>
     ensures { IfOk result (λ found. found.items ≡ places_that (note_calls function.now) (note_views notes.now)) }
 {
     let mut found = Vec::new(alloc);
