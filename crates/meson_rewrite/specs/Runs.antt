@@ -1,5 +1,5 @@
 -- How a run of the program ends: what it says, and what the store then holds.
-use Rattle.std.specs.Prelude.{◌≡◌, ◌⊎◌, ◌||◌, ⊤, Bool, IsTrue, false, true, ℕ, List, [], Option, Some, None, Result, Ok, Err, IfErr}
+use Rattle.std.specs.Prelude.{◌≡◌, ◌≢◌, ◌⊎◌, ◌||◌, ⊤, Bool, IsTrue, false, true, ℕ, List, [], Option, Some, None, Result, Ok, Err, IfErr}
 use Rattle.std.specs.FinMap.{get}
 use Rattle.std.specs.List.{Contains}
 use Rattle.meson_calls.specs.Loading.{IsProject}
@@ -142,9 +142,13 @@ abbrev pub Says : Result Said Stop → Heard → Heard → Heard → Heard → T
 Says (Ok said) out out' err err' = Gets out out' said.out × Gets err err' said.err
 Says (Err stop) out out' err err' = Gets err err' (stop_lines stop) × (out' ≡ out)
 
--- one of these writers failed
+-- a writer failed that was to get something
+abbrev pub CannotGet : Heard → Heard → List ℕ → Type 0
+CannotGet old new bytes = (bytes ≢ []) × Fails old new
+
+-- one of these writers failed, which was to get something
 abbrev pub CannotSay : Result Said Stop → Heard → Heard → Heard → Heard → Type 0
-CannotSay (Ok said) out out' err err' = (Fails err err' × (out' ≡ out)) ⊎ (Gets err err' said.err × Fails out out')
+CannotSay (Ok said) out out' err err' = (CannotGet err err' said.err × (out' ≡ out)) ⊎ (Gets err err' said.err × CannotGet out out' said.out)
 CannotSay (Err stop) out out' err err' = Fails err err' × (out' ≡ out)
 
 -- the status and the lines of the ending, or status 3 where a writer failed

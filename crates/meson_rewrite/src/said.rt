@@ -5,9 +5,9 @@ ghost use Rattle.serde_json.specs.Find.{as_array};
 ghost use Rattle.serde_json.specs.View.{view};
 ghost use Rattle.serde_json.specs.Written.{compact_text, has_float};
 ghost use Rattle.meson_rewrite.specs.Lines.{line};
-ghost use Rattle.meson_rewrite.specs.Runs.{CannotSay, Says};
+ghost use Rattle.meson_rewrite.specs.Runs.{CannotGet, CannotSay, Says};
 ghost use Rattle.meson_rewrite.specs.Steps.{is_empty_array, listing_line, said_of};
-ghost use Rattle.meson_store.specs.Output.{Fails, Gets};
+ghost use Rattle.meson_store.specs.Output.{Gets};
 
 use crate::lines::{all_forgotten_text, done_text, forgotten_text, step_text};
 use crate::request::Step;
@@ -118,7 +118,7 @@ impl Said {
 #[tactic(auto, using(crate::proofs::Telling::gets_nothing))]
 fn tell_bytes<O: Output>(to: &mut O, bytes: &[u8]) -> io::Result<()>
     ensures { MatchResult result (λ _. Gets (O.heard to.old) (O.heard to.new) bytes.now)
-        (λ _. Fails (O.heard to.old) (O.heard to.new)) }
+        (λ _. CannotGet (O.heard to.old) (O.heard to.new) bytes.now) }
 {
     if bytes.is_empty() {
         return Ok(());
