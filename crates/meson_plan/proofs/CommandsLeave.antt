@@ -26,8 +26,7 @@ use Rattle.meson_sources.specs.SourceEdits.{extra_added, extra_removed, sources_
 use Rattle.meson_sources.proofs.AllExtras.{all-extras-grow}
 use Rattle.meson_sources.proofs.AllSources.{all-sources-grow}
 use Rattle.meson_sources.proofs.ExtraAdded.{extra-is-added}
-use Rattle.meson_sources.proofs.ShrunkExtras.{all-extras-shrink}
-use Rattle.meson_sources.proofs.ShrunkSources.{all-sources-shrink}
+use Rattle.meson_sources.proofs.ShrunkFiles.{all-extras-shrink, all-sources-shrink}
 use Rattle.meson_sources.proofs.SourcesAdded.{sources-are-added}
 use Rattle.meson_sources.proofs.SourcesGone.{extra-is-removed, sources-are-removed}
 use Rattle.meson_steps.proofs.WentWell.{then_was}

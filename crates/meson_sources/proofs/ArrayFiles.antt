@@ -13,10 +13,9 @@ use Rattle.meson_calls.specs.Project.{child}
 use Rattle.meson_sources.specs.Effects.{array_holding, extra_argument, strings}
 use Rattle.meson_sources.specs.SourceEdits.{extra_key}
 use Rattle.meson_sources.proofs.Bares.{Values, expand_with}
-use Rattle.meson_sources.proofs.CallTrees.{list_with}
+use Rattle.meson_sources.proofs.CallTrees.{keyed, list_with}
 use Rattle.meson_sources.proofs.Gists.{Gist, all_known, gist, gist_append, gist_within}
 use Rattle.meson_sources.proofs.GrownLists.{name_met}
-use Rattle.meson_sources.proofs.WholeSources.{keyed}
 
 -- ---- strings
 

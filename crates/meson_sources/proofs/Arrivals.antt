@@ -1,40 +1,39 @@
--- The sources of a call after another list has got strings.
-use Rattle.std.specs.Prelude.{◌⊎◌, All, option_and_then}
+-- The sources or extra files of a call after another list has got strings.
+use Rattle.std.specs.Prelude.{◌⊎◌, All}
 use Rattle.std.proofs.Common.{◌≡◌, ℕ, Bool, true, false, List, [], ◌∷◌, ◌++◌, Option, Some, None, refl, sym, ap, ◌∙◌, subst, inl, inr}
 use Rattle.std.proofs.lemmas.Slice.Eq.{bytes_eq-Decides}
 use Rattle.meson_lex.specs.declared.kinds.Span.{Span}
 use Rattle.meson_syntax.specs.Parts.{Any, an_expression, a_statement, a_block, child_nodes, node_at, arguments_parts}
 use Rattle.meson_syntax.specs.Paths.{nth, block_of}
 use Rattle.meson_syntax.specs.Paths as paths
-use Rattle.meson_syntax.specs.Tree.{Nowhere, Plain, Name, Expression, identifier, string, array, row, call, listing, Argument, Arguments, assign, iteration, erase_name, erase_arguments}
+use Rattle.meson_syntax.specs.Tree.{Nowhere, Plain, Name, Expression, identifier, string, array, row, call, listing, Argument, Arguments, assign, iteration, erase_name}
 use Rattle.meson_syntax.proofs.parsing.Steps.{some-injective}
 use Rattle.meson_syntax.proofs.paths.Every.{Every}
 use Rattle.meson_syntax.proofs.paths.Reaching.{and-then-some}
 use Rattle.meson_calls.specs.declared.call.CallRef.{CallRef}
-use Rattle.meson_calls.specs.Calls.{Call, keyword}
-use Rattle.meson_calls.specs.Expansion.{Mark, Expansion, Stand, in_list, fixed, is_files, is_operand_by, is_value_by, max_followed, expand_by, then_expand}
+use Rattle.meson_calls.specs.Expansion.{Mark, Expansion, Stand, is_files, is_operand_by, is_value_by, expand_by}
 use Rattle.meson_calls.specs.Loading.{Loaded, project}
-use Rattle.meson_calls.specs.Project.{BuildFile, Placed, Project, placed, child, expression_at, nth_file}
+use Rattle.meson_calls.specs.Project.{BuildFile, Placed, child, expression_at, nth_file}
 use Rattle.meson_calls.specs.Roles.{one_of}
-use Rattle.meson_calls.specs.Sources.{expand_arguments, hidden, home, kwargs_key, rest, source_marks}
 use Rattle.meson_calls.specs.Variables.{single}
 use Rattle.meson_steps.specs.ListSteps.{MayStandBetween}
 use Rattle.meson_steps.specs.ResultLimits.{plain_trees}
-use Rattle.meson_sources.proofs.Bares.{expand_with, values_of}
-use Rattle.meson_sources.proofs.CallTrees.{keys, plains, whole}
+use Rattle.meson_sources.proofs.Bares.{values_of}
+use Rattle.meson_sources.proofs.CallForms.{CallIn, CallNode, bare_arguments, bare_form, called, stands_bare}
 use Rattle.meson_sources.proofs.ErasedNodes.{expression_node}
+use Rattle.meson_sources.proofs.FileKinds.{FileKind, GoesTo, met_in, not_clear}
 use Rattle.meson_sources.proofs.Gists.{gist, Grows}
 use Rattle.meson_sources.proofs.MarkLists.{below, below_child, below_itself}
 use Rattle.meson_sources.proofs.Kins.{node_level, placed_of}
 use Rattle.meson_sources.proofs.Outcomes.{Clear, Either, as_before, grown, How, stays, comes, Outcome, Along}
 use Rattle.meson_sources.proofs.Owners.{no_statement, node_between, owner, owner_is, single_named}
-use Rattle.meson_sources.proofs.PartsPut.{Differ, differ_new, differ_old}
+use Rattle.meson_sources.proofs.PartsPut.{Differ}
 use Rattle.meson_sources.proofs.PathTrees.{files_alike}
 use Rattle.meson_sources.proofs.PlacesBelow.{Far, IsIt, far_deeper, far_apart, aside_far, above_it, under, without_last}
 use Rattle.meson_sources.proofs.SceneKins.{kin_v, kin_c}
-use Rattle.meson_sources.proofs.Scenes.{NodeIn, bare_in, names_of, node_above, next_in, node_away}
+use Rattle.meson_sources.proofs.Scenes.{NodeIn, names_of, node_above, next_in, node_away}
 use Rattle.meson_sources.proofs.Shapes.{a_call, shape, Becomes, blanks}
-use Rattle.meson_sources.proofs.SourceTotals.{first_clear, hidden_clear, no_home, whole_bare}
+use Rattle.meson_sources.proofs.ShapesLeft.{became_new, became_old}
 use Rattle.meson_sources.proofs.WaysThere.{always, arguments_above, far_call}
 
 -- ---- the call, by its shape
@@ -100,38 +99,16 @@ module _ (old : Loaded) (h : CallRef) (file : BuildFile Span) (is_file : nth_fil
       let name : holder ≡ a.name.text = ap text_or (ap (owner (a_block (block_of file.tree))) (ap (λ (q : CallRef). q.path.steps) to) ∙ owned) in
       sym ((bytes_eq-Decides a.name.text x).0 a.is_name) ∙ sym name
 
--- ---- where further sources go is met
-
-module _ (new_texts : List (List ℕ)) (seen : List (List ℕ) → Bool) (p : Project Span) (c h : CallRef) (function : List ℕ) (r : Span) (trailing : Bool) (xs : Arguments Span) where
-  abbrev the_call : Placed (Call Span)
-  the_call = placed c (record { function = function; arguments = listing r trailing xs })
-
-  pub not_clear : (is_home : home c (source_marks p the_call) ≡ h) → (c ≡ h → ⊥) → Every (Clear new_texts (IsIt h) seen) (whole (expand_with (values_of p) max_followed) c (erase_arguments xs) []).marks → ⊥
-  not_clear is_home other clear =
-      let found = then_expand (expand_arguments p c (in_list c) (rest (plains 0 xs)) []) (λ now. expand_arguments p c (λ n. fixed) (keys 0 xs) now) in
-      no_home new_texts seen h c (source_marks p the_call)
-      (first_clear new_texts seen h found.marks (hidden (keyword kwargs_key the_call.it))
-      (subst (λ (e : Expansion Nowhere). Every (Clear new_texts (IsIt h) seen) e.marks) (whole_bare p c xs) clear)
-      (hidden_clear new_texts seen h (keyword kwargs_key the_call.it))) is_home other
-
-  pub grown_or_clear : (b : Bool) (ms ns : List (Mark Nowhere)) → Either new_texts (IsIt h) seen b ms ns → (Every (Clear new_texts (IsIt h) seen) ms → ⊥) → (b ≡ true) × Grows new_texts (gist ms) (gist ns)
-  grown_or_clear b ms ns (as_before same clear) met = absurd (met clear)
-  grown_or_clear b ms ns (grown is grows) met = (is, grows)
-
 -- ---- after the addition
 
--- the call at the place, with the new sources
-pub record CallGrows (new_texts : List (List ℕ)) (old new : Loaded) (c : CallRef) (f : List ℕ) (xs : Arguments Nowhere) : Type 0 where
-  pub r : Nowhere
-  pub name : Name Nowhere
-  pub z : Nowhere
-  pub trailing : Bool
+-- the call at the place, with the new files
+pub record CallGrows (what : FileKind) (new_texts : List (List ℕ)) (old new : Loaded) (c : CallRef) (xs : Arguments Nowhere) : Type 0 where
   pub list : Arguments Nowhere
-  pub node : NodeIn (plain_trees new) c (an_expression (call r name (listing z trailing list)))
+  pub node : CallNode (plain_trees new) c list
   pub same_blanks : blanks list ≡ blanks xs
-  pub grows : Grows new_texts (gist (whole (expand_with (values_of (project old)) max_followed) c xs []).marks) (gist (whole (expand_with (values_of (project new)) max_followed) c list []).marks)
+  pub grows : Grows new_texts (gist (met_in what (project old) c xs).marks) (gist (met_in what (project new) c list).marks)
 
-module _ (new_texts : List (List ℕ)) (old new : Loaded) (names : names_of new.files ≡ names_of old.files) (h : CallRef) (tree now : Plain) (was : nth (plain_trees old) h.file ≡ Some tree) (is_now : nth (plain_trees new) h.file ≡ Some now)
+module _ (what : FileKind) (new_texts : List (List ℕ)) (old new : Loaded) (names : names_of new.files ≡ names_of old.files) (h : CallRef) (tree now : Plain) (was : nth (plain_trees old) h.file ≡ Some tree) (is_now : nth (plain_trees new) h.file ≡ Some now)
     (others : (i : ℕ) → (h.file ≡ i → ⊥) → nth (plain_trees new) i ≡ nth (plain_trees old) i) (older newer : Expression Nowhere)
     (becomes : Becomes (an_expression older) (an_expression newer) h.path.steps (a_block (block_of tree)) (a_block (block_of now))) (stand : All MayStandBetween (plain_trees old))
     (places : (x : List ℕ) → placed_of (single (project new) x) ≡ placed_of (single (project old) x)) (file : BuildFile Span) (is_file : nth_file (project old) h.file ≡ Some file)
@@ -140,37 +117,31 @@ module _ (new_texts : List (List ℕ)) (old new : Loaded) (names : names_of new.
     → ((x : List ℕ) (f : List (List ℕ)) → one_of f x ≡ false → Outcome new_texts bad seen f (follow x f) (follow2 x f)) → (s u : Stand) (f g : List (List ℕ)) → g ≡ f → seen f ≡ true
     → Along new_texts bad seen true (expand_by (is_operand_by holds) follow older s f) (expand_by (is_operand_by holds2) follow2 newer u g))
     (stays_below : (m : ℕ) (rest : List ℕ) (y : Any Nowhere) → node_at (an_expression older) (m ∷ rest) ≡ Some y → node_at (an_expression newer) (m ∷ rest) ≡ Some y)
-    (c : CallRef) (other : c ≡ h → ⊥) (s : Span) (f : Name Span) (r : Span) (trailing : Bool) (xs : Arguments Span) (at : expression_at (project old) c ≡ Some (call s f (listing r trailing xs)))
-    (no_files : is_files f.text (listing tt trailing (erase_arguments xs)) ≡ false) (is_home : home c (source_marks (project old) (placed c (record { function = f.text; arguments = listing r trailing xs }))) ≡ h) where
+    (c : CallRef) (other : c ≡ h → ⊥) (t : CallIn (project old) c) (no_files : is_files t.name.text (listing tt t.trailing (bare_arguments t)) ≡ false) (goes : GoesTo what (project old) (called t) h) where
   abbrev ts : List Plain
   ts = plain_trees old
 
   abbrev us : List Plain
   us = plain_trees new
 
+  abbrev xs : Arguments Nowhere
+  xs = bare_arguments t
+
   abbrev call_node : Expression Nowhere
-  call_node = call tt (erase_name f) (listing tt trailing (erase_arguments xs))
+  call_node = bare_form t
 
   abbrev before : Expansion Nowhere
-  before = whole (expand_with (values_of (project old)) max_followed) c (erase_arguments xs) []
-
-  abbrev after : Arguments Nowhere → Expansion Nowhere
-  after ys = whole (expand_with (values_of (project new)) max_followed) c ys []
+  before = met_in what (project old) c xs
 
   here : NodeIn ts c (an_expression call_node)
-  here = bare_in old c _ at
-
-  newer_there : (path : List ℕ) (x y : Any Nowhere) → Becomes (an_expression older) (an_expression newer) path x y → node_at y path ≡ Some (an_expression newer)
-  newer_there [] x y w = ap Some w.1
-  newer_there (n ∷ path) x y w = ap (option_and_then (λ z. node_at z path)) (differ_new w.0 w.1 w.2.parts) ∙ newer_there path w.0 w.1 w.3
-
-  older_there : (path : List ℕ) (x y : Any Nowhere) → Becomes (an_expression older) (an_expression newer) path x y → node_at x path ≡ Some (an_expression older)
-  older_there [] x y w = ap Some w.0
-  older_there (n ∷ path) x y w = ap (option_and_then (λ z. node_at z path)) (differ_old w.0 w.1 w.2.parts) ∙ older_there path w.0 w.1 w.3
+  here = stands_bare old c t
 
   grows_by : (seen : List (List ℕ) → Bool) (e : Expansion Nowhere) → Either new_texts (IsIt h) seen true before.marks e.marks → Grows new_texts (gist before.marks) (gist e.marks)
-  grows_by seen e either =
-      (grown_or_clear new_texts seen (project old) c h f.text r trailing xs true before.marks e.marks either (not_clear new_texts seen (project old) c h f.text r trailing xs is_home other)).1
+  grows_by seen e either = go before.marks e.marks either (not_clear what (project old) c t new_texts seen h goes)
+    where
+      go : (ms ns : List (Mark Nowhere)) → Either new_texts (IsIt h) seen true ms ns → (Every (Clear new_texts (IsIt h) seen) ms → ⊥) → Grows new_texts (gist ms) (gist ns)
+      go ms ns (as_before same clear) met = absurd (met clear)
+      go ms ns (grown is grows) met = grows
 
   -- ---- by a variable
 
@@ -193,60 +164,57 @@ module _ (new_texts : List (List ℕ)) (old new : Loaded) (names : names_of new.
               let same_tree : here.tree ≡ tree = some-injective _ _ (sym here.is_tree ∙ ap (nth ts) same_file ∙ was) in
               let was_there : node_at (a_block (block_of tree)) (h.path.steps ++ m ∷ rest) ≡ Some (an_expression call_node) =
               ap (node_at (a_block (block_of tree))) (sym steps) ∙ ap (λ t. node_at (a_block (block_of t)) c.path.steps) (sym same_tree) ∙ here.is_node in
-              let old_there = older_there h.path.steps (a_block (block_of tree)) (a_block (block_of now)) becomes in
+              let old_there = became_old (an_expression older) (an_expression newer) h.path.steps (a_block (block_of tree)) (a_block (block_of now)) becomes in
+              let new_there = became_new (an_expression older) (an_expression newer) h.path.steps (a_block (block_of tree)) (a_block (block_of now)) becomes in
               let inner = sym (node_between h.path.steps (m ∷ rest) (a_block (block_of tree)) (an_expression older) old_there) ∙ was_there in
               record {
                 tree = now;
                 is_tree = ap (nth us) same_file ∙ is_now;
-                is_node =
-                    ap (node_at (a_block (block_of now))) steps ∙ node_between h.path.steps (m ∷ rest) (a_block (block_of now)) (an_expression newer) (newer_there h.path.steps (a_block (block_of tree)) (a_block (block_of now)) becomes)
-                    ∙ stays_below m rest (an_expression call_node) inner;
+                is_node = ap (node_at (a_block (block_of now))) steps ∙ node_between h.path.steps (m ∷ rest) (a_block (block_of now)) (an_expression newer) new_there ∙ stays_below m rest (an_expression call_node) inner;
               }
 
-  by_variable : Far h c → CallGrows new_texts old new c f.text (erase_arguments xs)
+  by_variable : Far h c → CallGrows what new_texts old new c xs
   by_variable far =
       let x0 = holder old h file is_file in
       let seen = λ (g : List (List ℕ)). one_of g x0 in
       let kin = kin_v new_texts old new names h tree now was is_now others older newer becomes stand places kind value_kind x0 (holds_it old h file is_file) in
-      let o = far_call new_texts h older newer kind value_kind true base seen (values_of (project old)) (values_of (project new)) kin c far (erase_arguments xs) in
+      let o = far_call new_texts h older newer kind value_kind true base seen (values_of (project old)) (values_of (project new)) kin c far (what.look xs) in
       record {
-        r = tt;
-        name = erase_name f;
-        z = tt;
-        trailing = trailing;
-        list = erase_arguments xs;
-        node = call_stays far;
+        list = xs;
+        node = record { name = erase_name t.name; trailing = t.trailing; node = call_stays far };
         same_blanks = refl;
-        grows = grows_by seen (after (erase_arguments xs)) (how_either seen [] _ _ _ o.how);
+        grows = grows_by seen (met_in what (project new) c xs) (how_either seen [] _ _ _ o.how);
       }
 
   -- ---- in an argument
 
-  in_argument : (m : ℕ) (path : List ℕ) → h ≡ below c (m ∷ path) → CallGrows new_texts old new c f.text (erase_arguments xs)
+  in_argument : (m : ℕ) (path : List ℕ) → h ≡ below c (m ∷ path) → CallGrows what new_texts old new c xs
   in_argument m path leads =
       let on = node_above old new names h tree now was is_now others older newer becomes c (m ∷ path) leads (an_expression call_node) here in
       let w = on.further in
-      let k = call_shape on.next f.text (blanks (erase_arguments xs)) w.2.shapes in
+      let k = call_shape on.next t.name.text (blanks xs) w.2.shapes in
       let next_node = next_in old new names h tree now was is_now others older newer becomes c (m ∷ path) leads (an_expression call_node) here in
       let at_c2 : NodeIn us c (an_expression (call k.r k.name (listing k.z k.trailing k.list))) = subst (NodeIn us c) k.is next_node in
-      let no_files2 : is_files k.name.text (listing k.z k.trailing k.list) ≡ false = files_alike f.text k.name.text (listing tt trailing (erase_arguments xs)) (listing k.z k.trailing k.list) k.same_name k.same_blanks ∙ no_files in
+      let no_files2 : is_files k.name.text (listing k.z k.trailing k.list) ≡ false = files_alike t.name.text k.name.text (listing tt t.trailing xs) (listing k.z k.trailing k.list) k.same_name k.same_blanks ∙ no_files in
       let aside = aside_far h c (m ∷ path) leads in
       let above = above_it h c (m ∷ path) leads in
-      let kin = kin_c new_texts old new names h tree now was is_now others older newer becomes stand places (IsIt h) (Far h) (far_deeper h) (far_apart h) (λ p far. far) tt k.r (erase_name f) k.name
-      (listing tt trailing (erase_arguments xs)) (listing k.z k.trailing k.list) no_files no_files2 c aside above here at_c2 (m ∷ path) leads (outside old c _ at) in
+      let kin = kin_c new_texts old new names h tree now was is_now others older newer becomes stand places (IsIt h) (Far h) (far_deeper h) (far_apart h) (λ p far. far) tt k.r (erase_name t.name) k.name
+      (listing tt t.trailing xs) (listing k.z k.trailing k.list) no_files no_files2 c aside above here at_c2 (m ∷ path) leads (outside old c _ t.at) in
       let level = node_level ts stand c call_node here in
-      let a = arguments_above new_texts (IsIt h) (Far h) (far_deeper h) (far_apart h) tt k.r (erase_name f) k.name (listing tt trailing (erase_arguments xs)) (listing k.z k.trailing k.list) no_files no_files2 c aside above
+      let differ : Differ w.0 w.1 m (arguments_parts xs) (arguments_parts k.list) = subst (λ x. Differ w.0 w.1 m (arguments_parts xs) (child_nodes x)) k.is w.2.parts in
+      let a = arguments_above new_texts (IsIt h) (Far h) (far_deeper h) (far_apart h) tt k.r (erase_name t.name) k.name (listing tt t.trailing xs) (listing k.z k.trailing k.list) no_files no_files2 c aside above
       (values_of (project old)) (values_of (project new)) kin h older newer kind (base (IsIt h)) (aside_far h h [] (sym (below_itself h))) (above_it h h [] (sym (below_itself h)))
-      m path leads w.0 w.1 w.3 (erase_arguments xs) k.list k.same_blanks (subst (λ x. Differ w.0 w.1 m (arguments_parts (erase_arguments xs)) (child_nodes x)) k.is w.2.parts) level.1 in
-      record { r = k.r; name = k.name; z = k.z; trailing = k.trailing; list = k.list; node = at_c2; same_blanks = k.same_blanks; grows = grows_by always (after k.list) a.marks }
+      m path leads w.0 w.1 w.3 (what.look xs) (what.look k.list) (what.same_blanks xs k.list k.same_blanks)
+      (subst (λ ps. Differ w.0 w.1 m ps (arguments_parts (what.look k.list))) (sym (what.same_parts xs)) (subst (Differ w.0 w.1 m (arguments_parts xs)) (sym (what.same_parts k.list)) differ)) (what.level xs level.1) in
+      record { list = k.list; node = record { name = k.name; trailing = k.trailing; node = at_c2 }; same_blanks = k.same_blanks; grows = grows_by always (met_in what (project new) c k.list) a.marks }
 
-  pub arrives : CallGrows new_texts old new c f.text (erase_arguments xs)
+  pub arrives : CallGrows what new_texts old new c xs
   arrives = go (under c h)
     where
-      go : ((rest : List ℕ) × (h ≡ below c rest)) ⊎ ((rest : List ℕ) → h ≡ below c rest → ⊥) → CallGrows new_texts old new c f.text (erase_arguments xs)
+      go : ((rest : List ℕ) × (h ≡ below c rest)) ⊎ ((rest : List ℕ) → h ≡ below c rest → ⊥) → CallGrows what new_texts old new c xs
       go (inr not) = by_variable (λ rest is. not rest is)
       go (inl w) = by w.0 w.1
         where
-          by : (rest : List ℕ) → h ≡ below c rest → CallGrows new_texts old new c f.text (erase_arguments xs)
+          by : (rest : List ℕ) → h ≡ below c rest → CallGrows what new_texts old new c xs
           by [] is = absurd (other (sym (below_itself c) ∙ sym is))
           by (m ∷ path) is = in_argument m path is

@@ -8,14 +8,13 @@ use Rattle.meson_syntax.specs.Grammar.{LevelExpression}
 use Rattle.meson_syntax.specs.Operators.{string_kind}
 use Rattle.meson_syntax.specs.Parts.{an_expression, child_nodes}
 use Rattle.meson_syntax.specs.Paths.{nth}
-use Rattle.meson_syntax.specs.Tree.{Nowhere, Plain, Name, Expression, string, call, listing, plain, named, pair, Arguments, no_arguments, argument, erase_arguments, erase_expression, erase_name}
+use Rattle.meson_syntax.specs.Tree.{Nowhere, Plain, Expression, string, call, listing, plain, named, pair, Arguments, no_arguments, argument, erase_expression}
 use Rattle.meson_syntax.proofs.paths.Every.{Every}
 use Rattle.meson_syntax.proofs.paths.Reaching.{map-some}
 use Rattle.meson_calls.specs.declared.call.CallRef.{CallRef}
-use Rattle.meson_calls.specs.Calls.{Call}
 use Rattle.meson_calls.specs.Expansion.{Item, Stand, literal_item, max_followed}
 use Rattle.meson_calls.specs.Loading.{Loaded, project}
-use Rattle.meson_calls.specs.Project.{Placed, placed, expression_at}
+use Rattle.meson_calls.specs.Project.{Placed}
 use Rattle.meson_calls.specs.Roles.{one_of, target_functions}
 use Rattle.meson_calls.specs.Variables.{single}
 use Rattle.meson_steps.specs.ListSteps.{MayStandBetween}
@@ -25,13 +24,14 @@ use Rattle.meson_steps.specs.Steps.{all_stepped}
 use Rattle.meson_sources.specs.Effects.{AreSpotsOf, goes, place_after, string_child}
 use Rattle.meson_sources.specs.SourceEdits.{Spot, distinct_spots, removal_steps}
 use Rattle.meson_sources.specs.WholeSources.{SameCall, file_names}
-use Rattle.meson_sources.proofs.AllSources.{files_no_matter, target_no_files, target_no_matter}
 use Rattle.meson_sources.proofs.Arrivals.{call_shape}
 use Rattle.meson_sources.proofs.Bares.{Values, bare_value, expand_with, values_of}
+use Rattle.meson_sources.proofs.CallForms.{CallIn, CallNode, bare_arguments, bare_form, called, stands_bare}
 use Rattle.meson_sources.proofs.DistinctSpots.{distinct_apart, every_distinct}
+use Rattle.meson_sources.proofs.Functions.{files_no_matter, target_no_files, target_no_matter}
 use Rattle.meson_sources.proofs.ItemsThere.{CallFrom, FirstOf, IsSources}
 use Rattle.meson_sources.proofs.Kins.{node_level, value_in}
-use Rattle.meson_sources.proofs.LeftSources.{NamedGoes}
+use Rattle.meson_sources.proofs.LeftFiles.{NamedGoes}
 use Rattle.meson_sources.proofs.Losses.{EachLoses, Loses}
 use Rattle.meson_sources.proofs.LostMarks.{Left, slot_gone}
 use Rattle.meson_sources.proofs.ElementsLeft.{Lost}
@@ -43,7 +43,7 @@ use Rattle.meson_sources.proofs.OneStringGone as kept
 use Rattle.meson_sources.proofs.QuietLists.{QuietAt, quiet, tells_left}
 use Rattle.meson_sources.proofs.RenamedStrings.{Node}
 use Rattle.meson_sources.proofs.SameCalls.{first_left, same_call}
-use Rattle.meson_sources.proofs.Scenes.{NodeIn, bare_in}
+use Rattle.meson_sources.proofs.Scenes.{NodeIn}
 use Rattle.meson_sources.proofs.Shapes.{shape}
 use Rattle.meson_sources.proofs.SpotsHeld.{Held, SpotHeld, all_named, each_spot, gone_held, same_there}
 use Rattle.meson_sources.proofs.StringsStay.{element_any}
@@ -89,21 +89,20 @@ literals values (suc left) q x s f = refl
 
 -- ---- the target's call
 
-module _ (old : Loaded) (stand : All MayStandBetween (plain_trees old)) (c : CallRef) (s : Span) (f : Name Span) (r : Span) (trailing : Bool) (xs : Arguments Span) (at : expression_at (project old) c ≡ Some (call s f (listing r trailing xs)))
-    (target : one_of target_functions f.text ≡ true) where
+module _ (old : Loaded) (stand : All MayStandBetween (plain_trees old)) (c : CallRef) (t : CallIn (project old) c) (target : one_of target_functions t.name.text ≡ true) where
   abbrev trees : List Plain
   trees = plain_trees old
 
-  abbrev pub bare_xs : Arguments Nowhere
-  bare_xs = erase_arguments xs
+  abbrev bare_xs : Arguments Nowhere
+  bare_xs = bare_arguments t
 
-  abbrev pub call_node : Expression Nowhere
-  call_node = call tt (erase_name f) (listing tt trailing bare_xs)
+  abbrev call_node : Expression Nowhere
+  call_node = bare_form t
 
   pub at_call : NodeIn trees c (an_expression call_node)
-  at_call = bare_in old c _ at
+  at_call = stands_bare old c t
 
-  pub call_level : LevelExpression call_node
+  call_level : LevelExpression call_node
   call_level = node_level trees stand c call_node at_call
 
   -- what holds of each list of sources: it tells nothing of variables, and if it is the call's, the element is not its first one
@@ -119,7 +118,7 @@ module _ (old : Loaded) (stand : All MayStandBetween (plain_trees old)) (c : Cal
     ap (λ z. quiet (shape z)) w.3 ∙ ap not (files_no_matter w.1.text w.2 w.4),
     λ same first.
         let node : an_expression (call w.0 w.1 w.2) ≡ an_expression call_node = sym w.3 ∙ not_call q y h same in
-        let name : w.1.text ≡ f.text = cc in
+        let name : w.1.text ≡ t.name.text = cc in
         let none = target_no_files w.1.text w.2 (ap (one_of target_functions) name ∙ target) in
         let both : true ≡ false = sym w.4 ∙ none in cc,
   )
@@ -130,10 +129,7 @@ module _ (old : Loaded) (stand : All MayStandBetween (plain_trees old)) (c : Cal
       let n = value_in old x m.0 m.0.place m.1 refl in
       subst (λ (w : Placed (Expression Nowhere)). NodeIn trees w.place (an_expression w.it) × LevelExpression w.it) m.2 (n, node_level trees stand m.0.place (erase_expression m.0.it) n)
 
-  abbrev pub the_target : Placed (Call Span)
-  the_target = placed {X = Call Span} c (record { function = f.text; arguments = listing r trailing xs })
-
-  pub call_from : CallFrom trees Fine fine (values_of (project old)) values_stand c (an_expression call_node) at_call (λ n. FirstIs 0 n bare_xs) (λ n other. (ap not (target_no_matter f.text target), λ same. other)) bare_xs 0 false
+  pub call_from : CallFrom trees Fine fine (values_of (project old)) values_stand c (an_expression call_node) at_call (λ n. FirstIs 0 n bare_xs) (λ n other. (ap not (target_no_matter t.name.text target), λ same. other)) bare_xs 0 false
   call_from = record {
     level = call_level.1;
     children = λ j x is. let k : j ≡ 0 + j = omega arith in ap (nth (child_nodes (an_expression call_node))) (sym k) ∙ is;
@@ -180,11 +176,9 @@ module _ (old : Loaded) (stand : All MayStandBetween (plain_trees old)) (c : Cal
         go n is false stays = refl
 
     pub record CallLeft : Type 0 where
-      pub name : Name Nowhere
-      pub same_name : name.text ≡ f.text
-      pub flag : Bool
       pub ys : Arguments Nowhere
-      pub node : NodeIn after (place_after (length spots) spots c) (an_expression (call tt name (listing tt flag ys)))
+      pub node : CallNode after (place_after (length spots) spots c) ys
+      pub same_name : node.name.text ≡ t.name.text
       pub each : EachLoses gone c 0 bare_xs ys
 
     pub call_left : CallLeft
@@ -195,14 +189,9 @@ module _ (old : Loaded) (stand : All MayStandBetween (plain_trees old)) (c : Cal
         let k = subst (kept.NodeIn after (place_after (length spots) spots c)) w.is l.is in
         let o = loses spots trees after left valued are call_node c call_level h (call w.r w.name (listing w.z w.trailing w.list)) k in
         let m = o.4 in
-        record {
-          name = o.0;
-          same_name = o.3;
-          flag = m.0;
-          ys = m.1;
-          node = subst (λ e. NodeIn after (place_after (length spots) spots c) (an_expression e)) (o.2 ∙ ap (call tt o.0) m.2) (as_there after (place_after (length spots) spots c) _ k);
-          each = m.3;
-        }
+        let at : NodeIn after (place_after (length spots) spots c) (an_expression (call tt o.0 (listing tt m.0 m.1))) =
+        subst (λ e. NodeIn after (place_after (length spots) spots c) (an_expression e)) (o.2 ∙ ap (call tt o.0) m.2) (as_there after (place_after (length spots) spots c) _ k) in
+        record { ys = m.1; node = record { name = o.0; trailing = m.0; node = at }; same_name = o.3; each = m.3 }
 
     -- what is met in each expression then
     pub each_left : (e now : Expression Nowhere) (u v : Stand) (g k : List (List ℕ)) → k ≡ g → slot_gone gone u.slot ≡ false → Loses gone u.place e now
@@ -214,7 +203,7 @@ module _ (old : Loaded) (stand : All MayStandBetween (plain_trees old)) (c : Cal
     pub are_named : Every (NamedGoes gone names) is
     are_named = all_named trees Fine fine names is held found of_names
 
-    pub stays_call : SameCall the_target.it (project new) (place_after (length spots) spots c)
+    pub stays_call : SameCall (called t).it (project new) (place_after (length spots) spots c)
     stays_call =
         let k = call_left in
-        same_call new (place_after (length spots) spots c) f.text r trailing xs k.name k.flag k.ys k.node k.same_name (first_left gone c 0 0 bare_xs k.ys first k.each)
+        same_call new c t (place_after (length spots) spots c) k.ys k.node k.same_name (first_left gone c 0 0 bare_xs k.ys first k.each)

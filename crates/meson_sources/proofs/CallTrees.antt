@@ -30,8 +30,11 @@ list_with expand c slot (a ∷ more) f =
 abbrev pub plains : {S : Type 0} → ℕ → Arguments S → List (Numbered (Expression S))
 plains k xs = filter_map (kept_number value_without_name) (numbered k xs)
 
+abbrev pub keyed : {S : Type 0} → List ℕ → ℕ → Arguments S → List (Numbered (Expression S))
+keyed key k xs = filter_map (kept_number (value_with_name key)) (numbered k xs)
+
 abbrev pub keys : {S : Type 0} → ℕ → Arguments S → List (Numbered (Expression S))
-keys k xs = filter_map (kept_number (value_with_name sources_key)) (numbered k xs)
+keys k xs = keyed sources_key k xs
 
 -- the sources of a call with these arguments
 abbrev pub whole : Expand → CallRef → Arguments Nowhere → List (List ℕ) → Expansion Nowhere

@@ -11,9 +11,8 @@ use Rattle.meson_calls.specs.declared.call.CallRef.{CallRef}
 use Rattle.meson_calls.specs.Expansion.{fixed, in_list, both_expanded}
 use Rattle.meson_calls.specs.Sources.{rest, sources_key}
 use Rattle.meson_sources.specs.SourceEdits.{extra_key}
-use Rattle.meson_sources.proofs.CallTrees.{Expand, keys, list_with, plains, whole}
+use Rattle.meson_sources.proofs.CallTrees.{Expand, keyed, keys, list_with, plains, whole}
 use Rattle.meson_sources.proofs.Shapes.{blank, blanks}
-use Rattle.meson_sources.proofs.WholeSources.{keyed}
 
 abbrev other_key : Bool → Name Nowhere
 other_key b = bare_name (if b then sources_key else [])

@@ -115,12 +115,14 @@ module _ (old : Loaded) (are : AreParsed old.files old.parsed) (c : Placed (Call
       let same : inserted_in (project old) l (name ∷ more) ≡ steps = cc in
       subst (λ s. AreDoable s (plain_trees old)) same (home_doable old are l (found l refl) (name ∷ more) utf8)
 
-pub checked_marks : (p : Project Span) (c : Placed (Call Span)) (names : List (List ℕ)) (ms : List (Mark Span)) → checked_extra p c names ≡ Ok ms → extra_marks p c ≡ ms
-checked_marks p c names ms is =
+pub extra_once : (p : Project Span) (c : Placed (Call Span)) (names : List (List ℕ)) (ms : List (Mark Span)) → checked_extra p c names ≡ Ok ms → once extra_key (keyword extra_key c.it) (extra_marks p c) ≡ Ok ms
+extra_once p c names ms is =
     let marks = once extra_key (keyword extra_key c.it) (extra_marks p c) in
     let a = then_was (checked_names names) (λ _. then_ok (not_hidden (keyword kwargs_key c.it)) (λ _. marks)) ms is in
-    let b = then_was (not_hidden (keyword kwargs_key c.it)) (λ _. marks) ms a.2 in
-    once_was extra_key (keyword extra_key c.it) (extra_marks p c) ms b.2
+    (then_was (not_hidden (keyword kwargs_key c.it)) (λ _. marks) ms a.2).2
+
+pub checked_marks : (p : Project Span) (c : Placed (Call Span)) (names : List (List ℕ)) (ms : List (Mark Span)) → checked_extra p c names ≡ Ok ms → extra_marks p c ≡ ms
+checked_marks p c names ms is = once_was extra_key (keyword extra_key c.it) (extra_marks p c) ms (extra_once p c names ms is)
 
 pub extras_may_be_added : ExtrasMayBeAdded
 extras_may_be_added old are c t stand names utf8 steps is =

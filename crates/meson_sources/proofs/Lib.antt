@@ -71,7 +71,6 @@ mod SourceTotals
 mod WaysThere
 mod SceneKins
 mod Arrivals
-mod WholeSources
 mod NeverMet
 pub mod AllSources
 mod Losses
@@ -87,18 +86,19 @@ mod QuietLists
 mod ItemsThere
 mod VariablesLeft
 mod NamedGone
-mod LeftSources
 mod SpotsHeld
 mod SameCalls
 mod CallLeft
-pub mod ShrunkSources
-mod LeftExtras
-pub mod ShrunkExtras
+pub mod ShrunkFiles
 mod ExtraCalls
-mod ExtraArrivals
-mod ExtrasNeverMet
-mod GrownExtras
-mod ExtraLists
 mod ArrayFiles
 mod ExtraArguments
 pub mod AllExtras
+mod CallForms
+mod FileKinds
+mod FilesCome
+mod Functions
+mod GrownFiles
+mod KeyCounts
+mod LeftFiles
+mod ListTurns

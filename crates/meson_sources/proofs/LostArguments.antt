@@ -11,10 +11,10 @@ use Rattle.meson_calls.specs.Calls.{Numbered}
 use Rattle.meson_calls.specs.Expansion.{in_list, fixed, Expansion, Stand, both_expanded, literal_item}
 use Rattle.meson_calls.specs.Project.{child}
 use Rattle.meson_calls.specs.Sources.{rest, sources_key}
-use Rattle.meson_sources.proofs.CallTrees.{Expand, list_with, plains, whole}
+use Rattle.meson_sources.proofs.CallTrees.{Expand, keyed, list_with, plains, whole}
+use Rattle.meson_sources.proofs.KeyCounts.{key_count}
 use Rattle.meson_sources.proofs.Losses.{Loses, EachLoses}
 use Rattle.meson_sources.proofs.LostMarks.{Left, slot_gone, nothing_left, both_left, lost_literal}
-use Rattle.meson_sources.proofs.WholeSources.{key_count, keyed}
 
 module _ (gone : CallRef → ℕ → Bool) where
   -- the first argument without a name stays

@@ -1,23 +1,19 @@
 -- The call of a target stays the same after strings have gone from lists: its function, and the literal that is its first argument.
 use Rattle.std.specs.Prelude.{option_and_then, option_map}
-use Rattle.std.proofs.Common.{◌≡◌, ℕ, ◌+◌, Bool, true, false, Option, Some, None, List, refl, sym, ap, ◌∙◌, subst, inl, inr}
+use Rattle.std.proofs.Common.{◌≡◌, ℕ, ◌+◌, Bool, true, false, Option, None, List, refl, sym, ap, ◌∙◌, subst, inl, inr}
 use Rattle.meson_lex.specs.declared.kinds.Span.{Span}
-use Rattle.meson_syntax.specs.Parts.{an_expression, a_block, node_at}
-use Rattle.meson_syntax.specs.Paths.{block_of, expression_on_path}
-use Rattle.meson_syntax.specs.Tree.{Nowhere, Name, Expression, identifier, string, array, call, row, listing, plain, named, pair, Arguments, no_arguments, argument, erase_arguments}
+use Rattle.meson_syntax.specs.Tree.{Nowhere, Expression, identifier, string, array, call, row, plain, named, pair, Arguments, no_arguments, argument}
 use Rattle.meson_calls.specs.declared.call.CallRef.{CallRef}
 use Rattle.meson_calls.specs.Calls.{call_of, first_of, literal_of}
 use Rattle.meson_calls.specs.Loading.{Loaded, project}
-use Rattle.meson_calls.specs.Project.{BuildFile, child, expression_at, placed}
+use Rattle.meson_calls.specs.Project.{Project, child, placed}
+use Rattle.meson_sources.proofs.TellsErased.{first_erased}
 use Rattle.meson_steps.specs.ResultLimits.{plain_trees}
 use Rattle.meson_sources.specs.WholeSources.{SameCall}
+use Rattle.meson_sources.proofs.CallForms.{CallIn, CallNode, bare_arguments, call_again, called}
 use Rattle.meson_sources.proofs.CallTrees.{plains}
-use Rattle.meson_sources.proofs.ErasedNodes.{node_with_spans}
 use Rattle.meson_sources.proofs.Losses.{EachLoses, Loses, holds_none}
 use Rattle.meson_sources.proofs.LostArguments.{FirstStays}
-use Rattle.meson_sources.proofs.Scenes.{NodeIn}
-use Rattle.meson_sources.proofs.TellsErased.{first_erased}
-use Rattle.meson_sources.proofs.WholeSources.{call_with_spans, span_tree}
 
 -- the literal that is the first argument without a name
 abbrev pub first_text : {S : Type 0} → ℕ → Arguments S → Option (List ℕ)
@@ -45,17 +41,13 @@ module _ (gone : CallRef → ℕ → Bool) where
   first_left c k m (argument (named t x e) more) ys first (inr l) = ap (first_text m) (l.3 ∙ ap (λ b. argument b l.2) l.4.2) ∙ first_left c (k + 1) (m + 1) more l.2 first l.5
   first_left c k m (argument (pair t e f) more) ys first (inr l) = ap (first_text m) (l.3 ∙ ap (λ b. argument b l.2) l.4.2) ∙ first_left c (k + 1) (m + 1) more l.2 first l.5
 
-pub same_call : (new : Loaded) (d : CallRef) (f : List ℕ) (r : Span) (trailing : Bool) (xs : Arguments Span) (name : Name Nowhere) (t : Bool) (list : Arguments Nowhere) → NodeIn (plain_trees new) d (an_expression (call tt name (listing tt t list)))
-    → name.text ≡ f → first_text 0 list ≡ first_text 0 (erase_arguments xs) → SameCall (record { function = f; arguments = listing r trailing xs }) (project new) d
-same_call new d f r trailing xs name t list node same first =
-    let tree_at = span_tree new.files new.parsed d.file node.tree node.is_tree in
-    let spanned = node_with_spans tree_at.0.tree d.path.steps (call tt name (listing tt t list)) (ap (λ u. node_at (a_block (block_of u)) d.path.steps) tree_at.2 ∙ node.is_node) in
-    let k = call_with_spans spanned.0 tt name tt t list spanned.2 in
-    let at2 : expression_at (project new) d ≡ Some (call k.s k.f (listing k.z k.trailing k.list)) =
-    ap (option_and_then (λ (g : BuildFile Span). expression_on_path g.tree d.path.steps)) tree_at.1 ∙ spanned.1 ∙ ap Some k.is in
+pub same_call : {p : Project Span} (new : Loaded) (c : CallRef) (t : CallIn p c) (d : CallRef) (list : Arguments Nowhere) (n : CallNode (plain_trees new) d list)
+    → n.name.text ≡ t.name.text → first_text 0 list ≡ first_text 0 (bare_arguments t) → SameCall (called t).it (project new) d
+same_call new c t d list n same first =
+    let k = call_again new d list n in
     record {
-      call_then = record { function = k.f.text; arguments = listing k.z k.trailing k.list };
-      there = ap (λ o. option_map (placed d) (option_and_then call_of o)) at2;
+      call_then = (called k.it).it;
+      there = ap (λ o. option_map (placed d) (option_and_then call_of o)) k.it.at;
       function = k.same_name ∙ same;
-      first = sym (first_erased 0 k.list) ∙ ap (first_text 0) k.same ∙ first ∙ first_erased 0 xs;
+      first = sym (first_erased 0 k.it.arguments) ∙ ap (first_text 0) k.same ∙ first ∙ first_erased 0 t.arguments;
     }

@@ -1,7 +1,7 @@
 -- All sources of a call: without spans, and in which lists they are met.
 use Rattle.std.specs.Prelude.{if◌then◌else◌, bytes_eq, option_map}
 use Rattle.std.specs.List.{cons_option}
-use Rattle.std.proofs.Common.{◌≡◌, ℕ, ◌+◌, Bool, true, false, List, [], ◌∷◌, ◌++◌, map, Option, Some, None, refl, ap, ◌∙◌}
+use Rattle.std.proofs.Common.{◌≡◌, ℕ, ◌+◌, Bool, true, false, List, [], ◌∷◌, map, Option, Some, None, refl, ap, ◌∙◌}
 use Rattle.meson_lex.specs.declared.kinds.Span.{Span}
 use Rattle.meson_syntax.specs.Tree.{Nowhere, Expression, plain, named, pair, Arguments, no_arguments, argument, erase_expression, erase_arguments}
 use Rattle.meson_syntax.proofs.parsing.Steps.{some-injective}
@@ -10,9 +10,9 @@ use Rattle.meson_calls.specs.declared.call.CallRef.{CallRef}
 use Rattle.meson_calls.specs.Calls.{Numbered}
 use Rattle.meson_calls.specs.Expansion.{Slot, in_list, fixed, Mark, known, opaque, empty, Expansion, both_expanded, then_expand, expand, max_followed}
 use Rattle.meson_calls.specs.Project.{Project, child}
-use Rattle.meson_calls.specs.Sources.{rest, sources_key, expand_arguments, first_list, first_empty, home, hidden, list_of_slot, or_call, or_option}
+use Rattle.meson_calls.specs.Sources.{rest, sources_key, expand_arguments, first_list, first_empty, hidden, list_of_slot, or_option}
 use Rattle.meson_sources.proofs.Bares.{bare_mark, bare, both_bare, expand_with, expand_bare, values_of}
-use Rattle.meson_sources.proofs.CallTrees.{list_with, plains, keys, whole}
+use Rattle.meson_sources.proofs.CallTrees.{keyed, keys, list_with, plains, whole}
 use Rattle.meson_sources.proofs.Gists.{gist}
 use Rattle.meson_sources.proofs.Outcomes.{Clear}
 use Rattle.meson_sources.proofs.PlacesBelow.{IsIt}
@@ -26,16 +26,16 @@ plains_bare k (argument (plain e) more) = ap (λ l. record { number = k; value =
 plains_bare k (argument (named s x e) more) = plains_bare (k + 1) more
 plains_bare k (argument (pair s e f) more) = plains_bare (k + 1) more
 
-key_bare : (z : Bool) (k : ℕ) (e : Expression Span) (more : List (Numbered (Expression Nowhere))) (more2 : List (Numbered (Expression Span))) → more ≡ map bare_number more2
+one_bare : (z : Bool) (k : ℕ) (e : Expression Span) (more : List (Numbered (Expression Nowhere))) (more2 : List (Numbered (Expression Span))) → more ≡ map bare_number more2
     → cons_option (option_map (λ y. record { number = k; value = y }) (if z then Some (erase_expression e) else None)) more ≡ map bare_number (cons_option (option_map (λ y. record { number = k; value = y }) (if z then Some e else None)) more2)
-key_bare true k e more more2 is = ap (λ l. record { number = k; value = erase_expression e } ∷ l) is
-key_bare false k e more more2 is = is
+one_bare true k e more more2 is = ap (λ l. record { number = k; value = erase_expression e } ∷ l) is
+one_bare false k e more more2 is = is
 
-keys_bare : (k : ℕ) (xs : Arguments Span) → keys k (erase_arguments xs) ≡ map bare_number (keys k xs)
-keys_bare k no_arguments = refl
-keys_bare k (argument (plain e) more) = keys_bare (k + 1) more
-keys_bare k (argument (named s x e) more) = key_bare (bytes_eq x.text sources_key) k e (keys (k + 1) (erase_arguments more)) (keys (k + 1) more) (keys_bare (k + 1) more)
-keys_bare k (argument (pair s e f) more) = keys_bare (k + 1) more
+pub keyed_bare : (key : List ℕ) (k : ℕ) (xs : Arguments Span) → keyed key k (erase_arguments xs) ≡ map bare_number (keyed key k xs)
+keyed_bare key k no_arguments = refl
+keyed_bare key k (argument (plain e) more) = keyed_bare key (k + 1) more
+keyed_bare key k (argument (named s x e) more) = one_bare (bytes_eq x.text key) k e (keyed key (k + 1) (erase_arguments more)) (keyed key (k + 1) more) (keyed_bare key (k + 1) more)
+keyed_bare key k (argument (pair s e f) more) = keyed_bare key (k + 1) more
 
 rest_map : {X Y : Type 0} (f : X → Y) (xs : List X) → rest (map f xs) ≡ map f (rest xs)
 rest_map f [] = refl
@@ -55,7 +55,7 @@ module _ (p : Project Span) (c : CallRef) where
       let first = expand_arguments p c (in_list c) (rest (plains 0 xs)) [] in
       ap (λ (x : Expansion Nowhere). both_expanded x (list_with (expand_with (values_of p) max_followed) c (λ n. fixed) (keys 0 (erase_arguments xs)) x.followed))
       (ap (λ l. list_with (expand_with (values_of p) max_followed) c (in_list c) (rest l) []) (plains_bare 0 xs) ∙ ap (λ l. list_with (expand_with (values_of p) max_followed) c (in_list c) l []) (rest_map bare_number (plains 0 xs)) ∙ list_bare (in_list c) (rest (plains 0 xs)) [])
-      ∙ ap (both_expanded (bare first)) (ap (λ l. list_with (expand_with (values_of p) max_followed) c (λ n. fixed) l first.followed) (keys_bare 0 xs) ∙ list_bare (λ n. fixed) (keys 0 xs) first.followed)
+      ∙ ap (both_expanded (bare first)) (ap (λ l. list_with (expand_with (values_of p) max_followed) c (λ n. fixed) l first.followed) (keyed_bare sources_key 0 xs) ∙ list_bare (λ n. fixed) (keys 0 xs) first.followed)
       ∙ both_bare first _
 
 -- ---- marks without spans
@@ -70,7 +70,7 @@ module _ (new : List (List ℕ)) (seen : List (List ℕ) → Bool) (h : CallRef)
   abbrev AllClear : List (Mark Nowhere) → Type 0
   AllClear ms = Every (Clear new (IsIt h) seen) ms
 
-  pub not_listed : {S : Type 0} (ms : List (Mark S)) → AllClear (map bare_mark ms) → first_list ms ≡ Some h → ⊥
+  not_listed : {S : Type 0} (ms : List (Mark S)) → AllClear (map bare_mark ms) → first_list ms ≡ Some h → ⊥
   not_listed [] all is = cc
   not_listed (known i ∷ ms) all is = go i.slot all.0 is (not_listed ms all.1)
     where
@@ -80,24 +80,19 @@ module _ (new : List (List ℕ)) (seen : List (List ℕ) → Bool) (h : CallRef)
   not_listed (opaque ∷ ms) all is = not_listed ms all.1 is
   not_listed (empty p ∷ ms) all is = not_listed ms all.1 is
 
-  pub not_empty : {S : Type 0} (ms : List (Mark S)) → AllClear (map bare_mark ms) → first_empty ms ≡ Some h → ⊥
+  not_empty : {S : Type 0} (ms : List (Mark S)) → AllClear (map bare_mark ms) → first_empty ms ≡ Some h → ⊥
   not_empty [] all is = cc
   not_empty (known i ∷ ms) all is = not_empty ms all.1 is
   not_empty (opaque ∷ ms) all is = not_empty ms all.1 is
   not_empty (empty p ∷ ms) all is = all.0 p refl (some-injective p h is)
 
-  -- a list that holds none of the sources is not where further ones go
-  pub no_home : {S : Type 0} (c : CallRef) (ms : List (Mark S)) → AllClear (map bare_mark ms) → home c ms ≡ h → (c ≡ h → ⊥) → ⊥
-  no_home c ms all is other = go (first_list ms) (first_empty ms) (not_listed ms all) (not_empty ms all) is
+  -- a list that holds none of the files is not where further ones go
+  pub no_home : {S : Type 0} (ms : List (Mark S)) → AllClear (map bare_mark ms) → or_option (first_list ms) (first_empty ms) ≡ Some h → ⊥
+  no_home ms all is = go (first_list ms) (first_empty ms) (not_listed ms all) (not_empty ms all) is
     where
-      go : (o u : Option CallRef) → (o ≡ Some h → ⊥) → (u ≡ Some h → ⊥) → or_call c (or_option o u) ≡ h → ⊥
-      go (Some q) u one two found = one (ap Some found)
-      go None (Some q) one two found = two (ap Some found)
-      go None None one two found = other found
-
-  pub first_clear : {S : Type 0} (xs ys : List (Mark S)) → AllClear (map bare_mark xs) → AllClear (map bare_mark ys) → AllClear (map bare_mark (xs ++ ys))
-  first_clear [] ys one other = other
-  first_clear (x ∷ xs) ys one other = (one.0, first_clear xs ys one.1 other)
+      go : (o u : Option CallRef) → (o ≡ Some h → ⊥) → (u ≡ Some h → ⊥) → or_option o u ≡ Some h → ⊥
+      go (Some q) u one two found = one found
+      go None u one two found = two found
 
 -- ---- what may be hidden
 

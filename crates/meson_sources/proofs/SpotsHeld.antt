@@ -1,7 +1,7 @@
 -- At each spot that goes stands a source with one of the names that are removed, and each such source stands at one.
 use Rattle.std.specs.Prelude.{◌&&◌}
 use Rattle.std.specs.List.{list_any}
-use Rattle.std.proofs.Common.{◌≡◌, ℕ, Bool, true, false, List, [], ◌∷◌, ◌++◌, map, refl, sym, ap, ◌∙◌, subst}
+use Rattle.std.proofs.Common.{◌≡◌, ℕ, Bool, true, false, List, [], ◌∷◌, map, refl, sym, ap, ◌∙◌, subst}
 use Rattle.meson_lex.specs.Literals.{value}
 use Rattle.meson_lex.specs.declared.kinds.Span.{Span}
 use Rattle.meson_syntax.specs.Operators.{string_kind}
@@ -20,7 +20,7 @@ use Rattle.meson_sources.proofs.Bares.{bare_mark}
 use Rattle.meson_sources.proofs.DistinctSpots.{every_distinct}
 use Rattle.meson_sources.proofs.ElementsThere.{root}
 use Rattle.meson_sources.proofs.ItemsThere.{Holds, IsSources, StringHeld, TextHeld}
-use Rattle.meson_sources.proofs.LeftSources.{NamedGoes}
+use Rattle.meson_sources.proofs.LeftFiles.{NamedGoes}
 use Rattle.meson_sources.proofs.ListsBut.{same_one}
 use Rattle.meson_sources.proofs.LostMarks.{slot_gone}
 use Rattle.meson_sources.proofs.NamedGone.{alike, distinct_goes, distinct_named, named_distinct, some_of}
@@ -46,17 +46,11 @@ module _ (trees : List Plain) (Fine : CallRef → ℕ → Node → Type 0) (fine
   Held i = TextHeld trees Fine fine i.slot i.text
 
   -- the same of the items of marks
-  pub items_held : (ms hs : List (Mark Span)) → Every (Holds trees Fine fine) (map bare_mark ms) → Every (Holds trees Fine fine) (map bare_mark hs) → Every Held (items (ms ++ hs))
-  items_held [] hs one other = items_only hs other
-    where
-      items_only : (hs : List (Mark Span)) → Every (Holds trees Fine fine) (map bare_mark hs) → Every Held (items hs)
-      items_only [] other = tt
-      items_only (known i ∷ hs) other = (other.0, items_only hs other.1)
-      items_only (opaque ∷ hs) other = items_only hs other.1
-      items_only (empty p ∷ hs) other = items_only hs other.1
-  items_held (known i ∷ ms) hs one other = (one.0, items_held ms hs one.1 other)
-  items_held (opaque ∷ ms) hs one other = items_held ms hs one.1 other
-  items_held (empty p ∷ ms) hs one other = items_held ms hs one.1 other
+  pub items_held : (ms : List (Mark Span)) → Every (Holds trees Fine fine) (map bare_mark ms) → Every Held (items ms)
+  items_held [] all = tt
+  items_held (known i ∷ ms) all = (all.0, items_held ms all.1)
+  items_held (opaque ∷ ms) all = items_held ms all.1
+  items_held (empty p ∷ ms) all = items_held ms all.1
 
   -- the string of an element has one value
   pub one_text : (c : CallRef) (n : ℕ) (x y : List ℕ) → StringHeld trees Fine fine c n x → StringHeld trees Fine fine c n y → y ≡ x

@@ -1,4 +1,4 @@
-use Rattle.meson_sources.proofs.ShrunkExtras.{all-extras-shrink}
+use Rattle.meson_sources.proofs.ShrunkFiles.{all-extras-shrink}
 use Rattle.meson_sources.proofs.laws.all_extras_shrink.Goals as goal
 
 pub returns : goal.returns

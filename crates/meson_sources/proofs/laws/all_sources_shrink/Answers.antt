@@ -1,4 +1,4 @@
-use Rattle.meson_sources.proofs.ShrunkSources.{all-sources-shrink}
+use Rattle.meson_sources.proofs.ShrunkFiles.{all-sources-shrink}
 use Rattle.meson_sources.proofs.laws.all_sources_shrink.Goals as goal
 
 pub returns : goal.returns

@@ -1,0 +1,169 @@
+-- All files of a target after a removal.
+use Rattle.std.specs.Prelude.{All, Bool, not, Ok}
+use Rattle.std.proofs.Common.{◌≡◌, ℕ, ◌≤◌, true, false, List, [], ◌∷◌, length, map, Some, refl, sym, ap, ◌∙◌, subst}
+use Rattle.meson_lex.specs.Literals.{value}
+use Rattle.meson_lex.specs.declared.kinds.Span.{Span}
+use Rattle.meson_splice.specs.Patch.{then_ok}
+use Rattle.meson_syntax.specs.declared.operator.StringKind.{StringKind}
+use Rattle.meson_syntax.specs.Operators.{string_kind}
+use Rattle.meson_syntax.specs.Tree.{Nowhere, Expression, string, Arguments}
+use Rattle.meson_syntax.proofs.paths.Every.{Every, every-append}
+use Rattle.meson_calls.specs.declared.call.CallRef.{CallRef}
+use Rattle.meson_calls.specs.declared.call.Role.TheVariants as role
+use Rattle.meson_calls.specs.Calls.{Call, Numbered, keyword}
+use Rattle.meson_calls.specs.Expansion.{Expansion, Mark, Stand, fixed, literal_item, max_followed}
+use Rattle.meson_calls.specs.Finding.{the_call}
+use Rattle.meson_calls.specs.Loading.{IsProject, Loaded, project}
+use Rattle.meson_calls.specs.Project.{Placed}
+use Rattle.meson_calls.specs.Roles.{one_of, target_functions}
+use Rattle.meson_calls.specs.Sources.{hidden, items, once, source_marks, sources_key}
+use Rattle.meson_steps.specs.ListSteps.{MayStandBetween}
+use Rattle.meson_steps.specs.Names.{checked_names, distinct}
+use Rattle.meson_steps.specs.ResultLimits.{plain_trees}
+use Rattle.meson_steps.specs.Steps.{Step, all_stepped}
+use Rattle.meson_steps.proofs.PlainTrees.{trees_stand}
+use Rattle.meson_steps.proofs.WentWell.{once_was, then_was}
+use Rattle.meson_sources.specs.Effects.{AreSpotsOf, goes}
+use Rattle.meson_sources.specs.SourceEdits.{Spot, checked_extra, distinct_spots, extra_key, extra_marks, removal_steps, removed_at, spots_named}
+use Rattle.meson_sources.specs.WholeExtras.{AllExtrasShrink}
+use Rattle.meson_sources.specs.WholeSources.{AllSourcesShrink, FilesShrink, SameCall, file_names, moved_place}
+use Rattle.meson_sources.proofs.Bares.{bare_mark, expand_with, values_of}
+use Rattle.meson_sources.proofs.CallForms.{CallIn, bare_arguments, called, target_at}
+use Rattle.meson_sources.proofs.CallLeft.{FirstIs, Fine, are_named, at_call, call_from, call_left, each_left, fine, first, first_of, literals, stays_call, values_stand}
+use Rattle.meson_sources.proofs.CallTrees.{Expand, keyed, list_with, whole}
+use Rattle.meson_sources.proofs.ExtraCalls.{as_sources, as_whole}
+use Rattle.meson_sources.proofs.ExtrasAddable.{extra_once}
+use Rattle.meson_sources.proofs.FileKinds.{FileKind, met_in, of_extras, of_sources}
+use Rattle.meson_sources.proofs.Functions.{target_no_matter}
+use Rattle.meson_sources.proofs.ItemsThere.{Holds, keyed_hold, whole_holds}
+use Rattle.meson_sources.proofs.KeyCounts.{few_once}
+use Rattle.meson_sources.proofs.LeftFiles.{FilesStay, left_answered}
+use Rattle.meson_sources.proofs.Losses.{EachLoses, Loses}
+use Rattle.meson_sources.proofs.LostArguments.{FirstStays, keyed_left, keys_stay, whole_left}
+use Rattle.meson_sources.proofs.LostMarks.{Left, slot_gone}
+use Rattle.meson_sources.proofs.NamedSpots.{named_spots}
+use Rattle.meson_sources.proofs.RemovedSources.{named_stand}
+use Rattle.meson_sources.proofs.RemovedSpots.{all_in}
+use Rattle.meson_sources.proofs.SpotsHeld.{Held, items_held}
+use Rattle.meson_sources.proofs.Standings.{MarkStands}
+use Rattle.meson_sources.proofs.StringsThere.{StringIn}
+use Rattle.meson_sources.proofs.TargetMarks.{extras_stand, sources_stand}
+use Rattle.meson_sources.proofs.TargetsFound.{targets_stand}
+
+-- what is met of a target stands where its slots say
+abbrev pub MetHolds : FileKind → Type 0
+MetHolds what =
+    (old : Loaded) (stand : All MayStandBetween (plain_trees old)) (c : CallRef) (t : CallIn (project old) c) (target : one_of target_functions t.name.text ≡ true)
+    → Every (Holds (plain_trees old) (Fine old stand c t target) (fine old stand c t target)) (met_in what (project old) c (bare_arguments t)).marks
+
+-- what is met after strings have gone is what was met without them
+abbrev pub MetLost : FileKind → Type 0
+MetLost what =
+    (gone : CallRef → ℕ → Bool) (one two : Expand) (literals : (q : StringKind) (x : List ℕ) (s : Stand) (f : List (List ℕ)) → one (string tt q x) s f ≡ literal_item tt s f (value (string_kind q) x))
+    (each : (e now : Expression Nowhere) (s t : Stand) (f g : List (List ℕ)) → g ≡ f → slot_gone gone s.slot ≡ false → Loses gone s.place e now → Left gone (one e s f) (two now t g)) (c d : CallRef) (xs ys : Arguments Nowhere)
+    → FirstStays gone c 0 xs → EachLoses gone c 0 xs ys → Left gone (whole one c (what.look xs) []) (whole two d (what.look ys) [])
+
+module _ (what : FileKind) (holds : MetHolds what) (lost : MetLost what) where
+  module _ (old : Loaded) (stand : All MayStandBetween (plain_trees old)) (c : CallRef) (t : CallIn (project old) c) (target : one_of target_functions t.name.text ≡ true) where
+    abbrev marks : List (Mark Span)
+    marks = what.marks (project old) (called t)
+
+    all_held : Every (Held (plain_trees old) (Fine old stand c t target) (fine old stand c t target)) (items marks)
+    all_held =
+        let Fits = Holds (plain_trees old) (Fine old stand c t target) (fine old stand c t target) in
+        items_held (plain_trees old) (Fine old stand c t target) (fine old stand c t target) marks
+        (subst (Every Fits) (sym (what.are_marks (project old) c t)) (every-append Fits _ (map bare_mark (hidden (what.hide t.arguments))) (holds old stand c t target) (hidden_hold (what.hide t.arguments))))
+      where
+        hidden_hold : (ys : List (Numbered (Expression Span))) → Every (Holds (plain_trees old) (Fine old stand c t target) (fine old stand c t target)) (map bare_mark (hidden ys))
+        hidden_hold [] = tt
+        hidden_hold (y ∷ ys) = (tt, tt)
+
+    module _ (new : Loaded) (same_names : file_names new ≡ file_names old) (names : List (List ℕ)) (found : List Spot) (of_names : AreSpotsOf (items marks) (distinct names) found) (are : Every (StringIn (plain_trees old)) found)
+        (done : all_stepped (removal_steps (distinct_spots found)) (plain_trees old) ≡ Some (plain_trees new)) where
+      pub stay : length (keyed what.key 0 t.arguments) ≤ 1 → FilesStay (goes (distinct_spots found)) names what.read c (moved_place found c) (project old) (project new)
+      stay few =
+          let k = call_left old stand c t target new same_names names (items marks) all_held found of_names are done in
+          let gone = goes (distinct_spots found) in
+          left_answered gone names what old new c (moved_place found c) t few k.ys k.node (λ key. keys_stay gone key c 0 (bare_arguments t) k.ys k.each)
+          (lost gone (expand_with (values_of (project old)) max_followed) (expand_with (values_of (project new)) max_followed) (literals (values_of (project old)) max_followed)
+          (each_left old stand c t target new same_names names (items marks) all_held found of_names are done) c (moved_place found c) (bare_arguments t) k.ys
+          (first old stand c t target new same_names names (items marks) all_held found of_names are done) k.each)
+          (are_named old stand c t target new same_names names (items marks) all_held found of_names are done)
+
+      pub stays : SameCall (called t).it (project new) (moved_place found c)
+      stays = stays_call old stand c t target new same_names names (items marks) all_held found of_names are done
+
+  -- ---- the law
+
+  module _ (old new : Loaded) (is : IsProject old) (same_names : file_names new ≡ file_names old) (names : List (List ℕ)) (steps : List Step) (done : all_stepped steps (plain_trees old) ≡ Some (plain_trees new)) where
+    abbrev Shrinks : Placed (Call Span) → Type 0
+    Shrinks c =
+        All (MarkStands (project old)) (what.marks (project old) c) → (ms : List (Mark Span)) → once what.key (keyword what.key c.it) (what.marks (project old) c) ≡ Ok ms → removed_at (spots_named ms (distinct names)) ≡ Ok steps
+        → FilesShrink what.read (what.marks (project old) c) names c (project old) (project new)
+
+    of_call : (c : CallRef) (t : CallIn (project old) c) → one_of target_functions t.name.text ≡ true → Shrinks (called t)
+    of_call c t target stands ms once_is gone =
+        let p = project old in
+        let marks = what.marks p (called t) in
+        let stand = trees_stand old.files old.parsed is.parsed in
+        let key = keyed what.key 0 t.arguments in
+        let same = once_was what.key key marks ms once_is in
+        let w = then_was (spots_named marks (distinct names)) (λ spots. Ok (removal_steps (distinct_spots spots))) steps (ap (λ ms. removed_at (spots_named ms (distinct names))) same ∙ gone) in
+        let same_steps : removal_steps (distinct_spots w.0) ≡ steps = let e = w.2 in cc in
+        let of_names = named_spots marks (distinct names) w.0 w.1 in
+        let are = all_in old w.0 (named_stand p marks stands (distinct names) w.0 w.1) in
+        let made = ap (λ l. all_stepped l (plain_trees old)) same_steps ∙ done in
+        let s = stay old stand c t target new same_names names w.0 of_names are made (few_once what.key key marks ms once_is) in
+        record {
+          spots = w.0;
+          are_spots = w.1;
+          same = stays old stand c t target new same_names names w.0 of_names are made;
+          before = s.before;
+          were = s.were;
+          after = s.after;
+          are = s.are;
+          left = s.left;
+          unknown = s.unknown_is;
+        }
+
+    pub files_shrink : (id : List ℕ) (c : Placed (Call Span)) → the_call (project old) role.Target id ≡ Ok c → Shrinks c
+    files_shrink id c found = let t = target_at (project old) id c found in subst Shrinks t.is (of_call c.place t.it t.is_target)
+
+-- ---- sources
+
+sources_hold : MetHolds of_sources
+sources_hold old stand c t target =
+    whole_holds (plain_trees old) (Fine old stand c t target) (fine old stand c t target) (values_of (project old)) (values_stand old stand c t target) c _ (at_call old stand c t target)
+    (λ n. FirstIs 0 n (bare_arguments t)) (λ n other. (ap not (target_no_matter t.name.text target), λ same. other)) (bare_arguments t) (call_from old stand c t target) (first_of (bare_arguments t) 0) []
+
+sources_lost : MetLost of_sources
+sources_lost gone one two texts each c d xs ys kept loses = whole_left gone one two texts each c d xs ys kept loses [] [] refl
+
+pub all-sources-shrink : AllSourcesShrink
+all-sources-shrink old new is same_names id c found names steps made done =
+    let p = project old in
+    let marks = source_marks p c in
+    let key = keyword sources_key c.it in
+    let a = then_was (checked_names names) (λ _. then_ok (once sources_key key marks) (λ ms. removed_at (spots_named ms (distinct names)))) steps made in
+    let b = then_was (once sources_key key marks) (λ ms. removed_at (spots_named ms (distinct names))) steps a.2 in
+    files_shrink of_sources sources_hold sources_lost old new is same_names names steps done id c found (sources_stand old is.parsed c (targets_stand p id c found)) b.0 b.1 b.2
+
+-- ---- extra files
+
+pub extras_hold : MetHolds of_extras
+extras_hold old stand c t target =
+    subst (λ (e : Expansion Nowhere). Every (Holds (plain_trees old) (Fine old stand c t target) (fine old stand c t target)) e.marks) (sym (as_whole (expand_with (values_of (project old)) max_followed) c (bare_arguments t)))
+    (keyed_hold (plain_trees old) (Fine old stand c t target) (fine old stand c t target) (values_of (project old)) (values_stand old stand c t target) c _ (at_call old stand c t target)
+    (λ n. FirstIs 0 n (bare_arguments t)) (λ n other. (ap not (target_no_matter t.name.text target), λ same. other)) extra_key (bare_arguments t) 0 false (call_from old stand c t target) [])
+
+pub extras_lost : MetLost of_extras
+extras_lost gone one two texts each c d xs ys kept loses =
+    subst (λ e. Left gone e (whole two d (as_sources ys) [])) (sym (as_whole one c xs))
+    (subst (Left gone (list_with one c (λ n. fixed) (keyed extra_key 0 xs) [])) (sym (as_whole two d ys)) (keyed_left gone one two texts each c d extra_key xs ys 0 0 loses [] [] refl))
+
+pub all-extras-shrink : AllExtrasShrink
+all-extras-shrink old new is same_names id c found names steps made done =
+    let p = project old in
+    let marks = extra_marks p c in
+    let a = then_was (checked_extra p c names) (λ ms. removed_at (spots_named ms (distinct names))) steps made in
+    files_shrink of_extras extras_hold extras_lost old new is same_names names steps done id c found (extras_stand old is.parsed c (targets_stand p id c found)) a.0 (extra_once p c names a.0 a.1) a.2
