@@ -14,7 +14,7 @@ use Rattle.meson_syntax.specs.Paths.{Sort, of_expression, of_statement, of_block
 use Rattle.meson_syntax.specs.Parts.{Any, an_expression, a_statement, a_block, any_of, argument_parts, arguments_parts, listing_parts, operands_parts, tail_parts, tails_parts, expression_parts, branches_parts, otherwise_parts, statement_parts, statements_parts, block_parts, child_nodes, node_at, expression_any}
 
 module _ (S : Type 0) where
-  pub inside_of : {T : Type 0} → Hole S T → Any S
+  unfoldable pub inside_of : {T : Type 0} → Hole S T → Any S
   inside_of h = any_of S h.sort h.inside
 
   insides : {T : Type 0} → List (Hole S T) → List (Any S)
