@@ -7,7 +7,7 @@ use Rattle.meson_calls.specs.declared.call.CallRef.{CallRef}
 use Rattle.meson_calls.specs.Calls.{call_of, first_of, literal_of}
 use Rattle.meson_calls.specs.Loading.{Loaded, project}
 use Rattle.meson_calls.specs.Project.{Project, child, placed}
-use Rattle.meson_sources.proofs.TellsErased.{first_erased}
+use Rattle.meson_steps.proofs.ErasedParts.{first_alike}
 use Rattle.meson_steps.specs.ResultLimits.{plain_trees}
 use Rattle.meson_sources.specs.WholeSources.{SameCall}
 use Rattle.meson_sources.proofs.CallForms.{CallIn, CallNode, bare_arguments, call_again, called}
@@ -49,5 +49,5 @@ same_call new c t d list n same first =
       call_then = (called k.it).it;
       there = ap (λ o. option_map (placed d) (option_and_then call_of o)) k.it.at;
       function = k.same_name ∙ same;
-      first = sym (first_erased 0 k.it.arguments) ∙ ap (first_text 0) k.same ∙ first ∙ first_erased 0 t.arguments;
+      first = sym (first_alike (called k.it).it) ∙ ap (first_text 0) k.same ∙ first ∙ first_alike (called t).it;
     }

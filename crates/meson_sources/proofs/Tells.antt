@@ -4,14 +4,15 @@ use Rattle.std.specs.Prelude.{◌||◌, if◌then◌else◌, bytes_eq, codes}
 use Rattle.std.specs.List.{cons_option, filter_map}
 use Rattle.std.proofs.lemmas.List.Elements.{filter_map-append}
 use Rattle.meson_syntax.specs.declared.operator.Assignment.{Assignment}
-use Rattle.meson_syntax.specs.Tree.{Name, Expression, identifier, boolean, integer, string, paren, array, dictionary, call, unary, row, postfix, conditional, Operands, no_operands, operand, Tail, method, index, Tails, no_tails, tail, Listing, listing, Argument, plain, named, pair, Arguments, no_arguments, argument, Statement, evaluate, assign, selection, iteration, breaks, continues, Branches, no_branches, branch, Otherwise, nothing_else, otherwise, Statements, no_statements, statement, Block, block}
+use Rattle.meson_syntax.specs.Tree.{Name, Expression, identifier, boolean, integer, string, paren, array, dictionary, call, unary, row, postfix, conditional, Operands, no_operands, operand, Tail, method, index, Tails, no_tails, tail, Listing, listing, plain, named, pair, Arguments, no_arguments, argument, Statement, evaluate, assign, selection, iteration, breaks, continues, Branches, no_branches, branch, Otherwise, nothing_else, otherwise, Statements, no_statements, statement, Block, block}
 use Rattle.meson_syntax.specs.Parts.{Any, an_expression, a_statement, a_block, child_nodes}
 use Rattle.meson_syntax.specs.Parts as syntax
 use Rattle.meson_calls.specs.declared.call.CallRef.{CallRef}
 use Rattle.meson_calls.specs.Calls.{Call, call_of, first_literal}
-use Rattle.meson_calls.specs.Parts.{Part, argument_child_count, parts_of_argument, parts_of_arguments, parts_of_block, branches_child_count, parts_of_branches, parts_of_expression, parts_of_listing, parts_of_operands, parts_of_otherwise, parts_of_statement, parts_of_statements, tail_child_count, parts_of_tail, parts_of_tails}
+use Rattle.meson_calls.specs.Parts.{Part, parts_of_arguments, parts_of_block, branches_child_count, parts_of_branches, parts_of_expression, parts_of_listing, parts_of_operands, parts_of_otherwise, parts_of_statement, parts_of_statements, tail_child_count, parts_of_tail, parts_of_tails}
 use Rattle.meson_calls.specs.Parts as part
-use Rattle.meson_calls.specs.Project.{Placed, place, child}
+use Rattle.meson_calls.specs.Project.{Placed, child}
+use Rattle.meson_steps.proofs.ToldExpressions.{arguments_alike}
 
 pub data Told : Type 0 where
   -- a call in a file: its function, and its first argument if that is a literal
@@ -166,62 +167,7 @@ module _ {S : Type 0} where
 
   -- ---- of an expression the same is told wherever it stands in the file
 
-  both_alike : (xs ys us vs : List (Placed (Part S))) → told xs ≡ told us → told ys ≡ told vs → told (xs ++ ys) ≡ told (us ++ vs)
-  both_alike xs ys us vs one other = told_both xs ys ∙ ap₂ (λ l m. l ++ m) one other ∙ sym (told_both us vs)
-
-  module _ (k : ℕ) where
-    mutual
-      pub expressions_alike : (p q : List ℕ) (e : Expression S) → told (parts_of_expression (place k p) e) ≡ told (parts_of_expression (place k q) e)
-      expressions_alike p q (identifier s x) = refl
-      expressions_alike p q (boolean s b) = refl
-      expressions_alike p q (integer s x) = refl
-      expressions_alike p q (string s z x) = refl
-      expressions_alike p q (paren s e) = expressions_alike (p ++ 0 ∷ []) (q ++ 0 ∷ []) e
-      expressions_alike p q (array l) = lists_alike p q 0 0 l
-      expressions_alike p q (dictionary l) = lists_alike p q 0 0 l
-      expressions_alike p q (call s x l) = with_own (tell_call k (call_of (call s x l))) (lists_alike p q 0 0 l)
-      expressions_alike p q (unary s o e) = expressions_alike (p ++ 0 ∷ []) (q ++ 0 ∷ []) e
-      expressions_alike p q (row s e os) =
-          both_alike (parts_of_expression (child (place k p) 0) e) (parts_of_operands (place k p) 1 os) (parts_of_expression (child (place k q) 0) e) (parts_of_operands (place k q) 1 os) (expressions_alike (p ++ 0 ∷ []) (q ++ 0 ∷ []) e) (operands_alike p q 1 1 os)
-      expressions_alike p q (postfix s e ts) =
-          both_alike (parts_of_expression (child (place k p) 0) e) (parts_of_tails (place k p) 1 ts) (parts_of_expression (child (place k q) 0) e) (parts_of_tails (place k q) 1 ts) (expressions_alike (p ++ 0 ∷ []) (q ++ 0 ∷ []) e) (tails_alike p q 1 1 ts)
-      expressions_alike p q (conditional s c y n) =
-          both_alike (parts_of_expression (child (place k p) 0) c) (parts_of_expression (child (place k p) 1) y ++ parts_of_expression (child (place k p) 2) n) (parts_of_expression (child (place k q) 0) c) (parts_of_expression (child (place k q) 1) y ++ parts_of_expression (child (place k q) 2) n)
-          (expressions_alike (p ++ 0 ∷ []) (q ++ 0 ∷ []) c)
-          (both_alike (parts_of_expression (child (place k p) 1) y) (parts_of_expression (child (place k p) 2) n) (parts_of_expression (child (place k q) 1) y) (parts_of_expression (child (place k q) 2) n)
-          (expressions_alike (p ++ 1 ∷ []) (q ++ 1 ∷ []) y) (expressions_alike (p ++ 2 ∷ []) (q ++ 2 ∷ []) n))
-
-      operands_alike : (p q : List ℕ) (n m : ℕ) (os : Operands S) → told (parts_of_operands (place k p) n os) ≡ told (parts_of_operands (place k q) m os)
-      operands_alike p q n m no_operands = refl
-      operands_alike p q n m (operand o e more) =
-          both_alike (parts_of_expression (child (place k p) n) e) (parts_of_operands (place k p) (n + 1) more) (parts_of_expression (child (place k q) m) e) (parts_of_operands (place k q) (m + 1) more)
-          (expressions_alike (p ++ n ∷ []) (q ++ m ∷ []) e) (operands_alike p q (n + 1) (m + 1) more)
-
-      tail_alike : (p q : List ℕ) (n m : ℕ) (t : Tail S) → told (parts_of_tail (place k p) n t) ≡ told (parts_of_tail (place k q) m t)
-      tail_alike p q n m (method s x l) = lists_alike p q n m l
-      tail_alike p q n m (index s e) = expressions_alike (p ++ n ∷ []) (q ++ m ∷ []) e
-
-      tails_alike : (p q : List ℕ) (n m : ℕ) (ts : Tails S) → told (parts_of_tails (place k p) n ts) ≡ told (parts_of_tails (place k q) m ts)
-      tails_alike p q n m no_tails = refl
-      tails_alike p q n m (tail t more) =
-          both_alike (parts_of_tail (place k p) n t) (parts_of_tails (place k p) (n + tail_child_count t) more) (parts_of_tail (place k q) m t) (parts_of_tails (place k q) (m + tail_child_count t) more)
-          (tail_alike p q n m t) (tails_alike p q (n + tail_child_count t) (m + tail_child_count t) more)
-
-      lists_alike : (p q : List ℕ) (n m : ℕ) (l : Listing S) → told (parts_of_listing (place k p) n l) ≡ told (parts_of_listing (place k q) m l)
-      lists_alike p q n m (listing s trailing list) = arguments_alike p q n m list
-
-      argument_alike : (p q : List ℕ) (n m : ℕ) (a : Argument S) → told (parts_of_argument (place k p) n a) ≡ told (parts_of_argument (place k q) m a)
-      argument_alike p q n m (plain e) = expressions_alike (p ++ n ∷ []) (q ++ m ∷ []) e
-      argument_alike p q n m (named s x e) = expressions_alike (p ++ n ∷ []) (q ++ m ∷ []) e
-      argument_alike p q n m (pair s e f) =
-          both_alike (parts_of_expression (child (place k p) n) e) (parts_of_expression (child (place k p) (n + 1)) f) (parts_of_expression (child (place k q) m) e) (parts_of_expression (child (place k q) (m + 1)) f)
-          (expressions_alike (p ++ n ∷ []) (q ++ m ∷ []) e) (expressions_alike (p ++ (n + 1) ∷ []) (q ++ (m + 1) ∷ []) f)
-
-      pub arguments_alike : (p q : List ℕ) (n m : ℕ) (list : Arguments S) → told (parts_of_arguments (place k p) n list) ≡ told (parts_of_arguments (place k q) m list)
-      arguments_alike p q n m no_arguments = refl
-      arguments_alike p q n m (argument a more) =
-          both_alike (parts_of_argument (place k p) n a) (parts_of_arguments (place k p) (n + argument_child_count a) more) (parts_of_argument (place k q) m a) (parts_of_arguments (place k q) (m + argument_child_count a) more)
-          (argument_alike p q n m a) (arguments_alike p q (n + argument_child_count a) (m + argument_child_count a) more)
-
   pub children_alike : (p : CallRef) (n m : ℕ) (list : Arguments S) → of_children p n (syntax.arguments_parts list) ≡ of_children p m (syntax.arguments_parts list)
-  children_alike p n m list = sym (arguments_told p n list) ∙ arguments_alike p.file p.path.steps p.path.steps n m list ∙ arguments_told p m list
+  children_alike p n m list =
+      sym (arguments_told p n list)
+      ∙ arguments_alike tell (λ q r. q.file ≡ r.file) (λ q r i j same. same) (λ q r e same. ap (λ k. tell_call k (call_of e)) same) p p n m list refl ∙ arguments_told p m list

@@ -34,3 +34,5 @@ pub mod Spellings
 pub mod OneMaking
 mod OneStanding
 pub mod Keeping
+pub mod ErasedParts
+pub mod ToldExpressions

@@ -31,7 +31,7 @@ use Rattle.meson_steps.specs.Steps.{Step, all_stepped, changed_at}
 use Rattle.meson_steps.specs.WrittenTexts.{string_of}
 use Rattle.meson_targets.specs.Effects.{AddedTargetsAreNamed, call_with_texts}
 use Rattle.meson_targets.specs.TargetEdits.{append_steps, checked_kind, kind_key, not_taken, number_in, target_statement, targets_named, written_target}
-use Rattle.meson_targets.proofs.ErasedParts.{named_alike, named_among, parts_erased}
+use Rattle.meson_steps.proofs.ErasedParts.{named_alike, named_among, parts_erased}
 
 -- ---- lists that are joined
 

@@ -1,5 +1,4 @@
 pub mod AddedTargets
-mod ErasedParts
 mod ChosenParts
 mod ToldAnywhere
 mod ToldParts

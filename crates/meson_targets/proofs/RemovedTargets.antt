@@ -32,7 +32,7 @@ use Rattle.meson_steps.proofs.WentWell.{then_was}
 use Rattle.meson_targets.specs.Effects.{CallsGone, RemovedTargetsAreGone, StatementGone}
 use Rattle.meson_targets.specs.TargetEdits.{Held, Holder, StatementPlace, held_by, holder, not_in_use, some_holder, statement_of, statement_removal, statement_there, targets_named}
 use Rattle.meson_targets.proofs.ChosenParts.{chosen_its, chosen_told, nothing_left, only_it, unmapped}
-use Rattle.meson_targets.proofs.ErasedParts.{bare_call, name_alike, named_alike, named_among, parts_erased, role_alike}
+use Rattle.meson_steps.proofs.ErasedParts.{bare_call, name_alike, named_alike, named_among, parts_erased, role_alike}
 use Rattle.meson_targets.proofs.GoneStatements.{gone, made, only_step, removed}
 use Rattle.meson_targets.proofs.SetTargets.{SetAt, all_set, set_targets, set_tells, set_told, tell_set, told_alike}
 use Rattle.meson_targets.proofs.StatementTargets.{IsOf, alone, holds_it, line_of, set}

@@ -20,7 +20,7 @@ use Rattle.meson_calls.proofs.CallsReached.{InProject, every_chosen, every_part}
 use Rattle.meson_calls.proofs.Reached.{any}
 use Rattle.meson_targets.specs.TargetEdits.{StatementPlace}
 use Rattle.meson_targets.proofs.ChosenParts.{chosen_its, chosen_told}
-use Rattle.meson_targets.proofs.ErasedParts.{bare_call, bare_part, bare_placed, role_alike}
+use Rattle.meson_steps.proofs.ErasedParts.{bare_call, bare_part, bare_placed, role_alike}
 use Rattle.meson_targets.proofs.StatementTargets.{LineOf, statement_node}
 use Rattle.meson_targets.proofs.ToldAnywhere.{told}
 

@@ -155,7 +155,7 @@ module _ {S : Type 0} where
   abbrev pub bare_call : Call S → Call Nowhere
   bare_call c = record { function = c.function; arguments = erase_listing c.arguments }
 
-  call_alike : (x : Part S) → part_call (bare_part x) ≡ option_map bare_call (part_call x)
+  pub call_alike : (x : Part S) → part_call (bare_part x) ≡ option_map bare_call (part_call x)
   call_alike (an_expression (identifier s x)) = refl
   call_alike (an_expression (boolean s b)) = refl
   call_alike (an_expression (integer s x)) = refl
@@ -200,26 +200,19 @@ module _ {S : Type 0} where
       ap (λ t. if one_of target_functions c.function && t then Some (bare_call c) else None) (ap is_some (argument_alike c) ∙ is_there (first_argument c)) ∙ role_by c (has_role role.Target c)
 
   literal_alike : (e : Expression S) → literal_of (erase_expression e) ≡ literal_of e
-  literal_alike (identifier s x) = refl
-  literal_alike (boolean s b) = refl
-  literal_alike (integer s x) = refl
   literal_alike (string s q x) = refl
-  literal_alike (paren s e) = refl
-  literal_alike (array l) = refl
-  literal_alike (dictionary l) = refl
-  literal_alike (call s x l) = refl
-  literal_alike (unary s o e) = refl
-  literal_alike (row s e os) = refl
-  literal_alike (postfix s e ts) = refl
-  literal_alike (conditional s c y n) = refl
+  literal_alike _ = refl
 
   literals : (o : Option (Expression S)) → option_and_then literal_of (option_map erase_expression o) ≡ option_and_then literal_of o
   literals None = refl
   literals (Some e) = literal_alike e
 
+  pub first_alike : (c : Call S) → first_literal (bare_call c) ≡ first_literal c
+  first_alike c = ap (option_and_then literal_of) (argument_alike c) ∙ literals (first_argument c)
+
   pub name_alike : (id : List ℕ) (c : Call S) → with_name id (bare_call c) ≡ option_map bare_call (with_name id c)
   name_alike id c =
-      ap (λ t. if is id t then Some (bare_call c) else None) (ap (option_and_then literal_of) (argument_alike c) ∙ literals (first_argument c)) ∙ role_by c (is id (first_literal c))
+      ap (λ t. if is id t then Some (bare_call c) else None) (first_alike c) ∙ role_by c (is id (first_literal c))
 
 -- the calls of targets of a name
 abbrev pub named_among : {S : Type 0} → List ℕ → List (Placed (Part S)) → List (Placed (Call S))
