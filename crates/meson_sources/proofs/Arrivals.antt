@@ -6,7 +6,7 @@ use Rattle.meson_lex.specs.declared.kinds.Span.{Span}
 use Rattle.meson_syntax.specs.Parts.{Any, an_expression, a_statement, a_block, child_nodes, node_at, arguments_parts}
 use Rattle.meson_syntax.specs.Paths.{nth, block_of}
 use Rattle.meson_syntax.specs.Paths as paths
-use Rattle.meson_syntax.specs.Tree.{Nowhere, Plain, Name, Expression, identifier, string, array, row, call, listing, Argument, Arguments, assign, iteration, erase_name}
+use Rattle.meson_syntax.specs.Tree.{Nowhere, Plain, Name, Expression, call, listing, Argument, Arguments, assign, iteration, erase_name}
 use Rattle.meson_syntax.proofs.parsing.Steps.{some-injective}
 use Rattle.meson_syntax.proofs.paths.Every.{Every}
 use Rattle.meson_syntax.proofs.paths.Reaching.{and-then-some}
@@ -50,10 +50,6 @@ pub record CallOf (x : Any Nowhere) (f : List ℕ) (bs : List (Argument Nowhere)
 
 pub call_shape : (x : Any Nowhere) (f : List ℕ) (bs : List (Argument Nowhere)) → shape x ≡ a_call f bs → CallOf x f bs
 call_shape (an_expression (call r g (listing z t ys))) f bs is = record { r = r; name = g; z = z; trailing = t; list = ys; is = refl; same_name = let s : g.text ≡ f = cc in s; same_blanks = let s : blanks ys ≡ bs = cc in s }
-call_shape (an_expression (array l)) f bs is = absurd cc
-call_shape (an_expression (row r e os)) f bs is = absurd cc
-call_shape (an_expression (identifier r x)) f bs is = absurd cc
-call_shape (an_expression (string r q x)) f bs is = absurd cc
 call_shape (an_expression _) f bs is = absurd cc
 call_shape (a_statement (assign r x a e)) f bs is = absurd cc
 call_shape (a_statement (iteration r xs e b)) f bs is = absurd cc

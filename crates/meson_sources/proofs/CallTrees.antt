@@ -36,6 +36,11 @@ keyed key k xs = filter_map (kept_number (value_with_name key)) (numbered k xs)
 abbrev pub keys : {S : Type 0} → ℕ → Arguments S → List (Numbered (Expression S))
 keys k xs = keyed sources_key k xs
 
+-- those behind the first, or all
+abbrev pub but_first : {X : Type 0} → Bool → List X → List X
+but_first true xs = rest xs
+but_first false xs = xs
+
 -- the sources of a call with these arguments
 abbrev pub whole : Expand → CallRef → Arguments Nowhere → List (List ℕ) → Expansion Nowhere
 whole expand c xs f =
@@ -54,19 +59,16 @@ module _ (new : List (List ℕ)) (bad : CallRef → Type 0) (seen : List (List �
   slot_fine : (n : ℕ) → (bad c → ⊥) → (q : CallRef) → list_of_slot (in_list c n) ≡ Some q → bad q → ⊥
   slot_fine n fine q is z = let equal : c ≡ q = cc in fine (rw equal z)
 
-  pub plains_same : (xs : Arguments Nowhere) (k m : ℕ) → (bad c → ⊥) → AwayFrom k → (f g : List (List ℕ)) → g ≡ f → Out f (list_with one c (in_list c) (plains k xs) f) (list_with two c (in_list c) (plains m xs) g)
-  plains_same no_arguments k m fine all f g equal = nothing_both new bad seen f g equal
-  plains_same (argument (plain e) more) k m fine all f g equal =
+  plains_same : (some : Bool) (xs : Arguments Nowhere) (k m : ℕ) → (bad c → ⊥) → AwayFrom k → (f g : List (List ℕ)) → g ≡ f
+      → Out f (list_with one c (in_list c) (but_first some (plains k xs)) f) (list_with two c (in_list c) (but_first some (plains m xs)) g)
+  plains_same true no_arguments k m fine all f g equal = nothing_both new bad seen f g equal
+  plains_same false no_arguments k m fine all f g equal = nothing_both new bad seen f g equal
+  plains_same true (argument (plain e) more) k m fine all f g equal = plains_same false more (k + 1) (m + 1) fine (λ j le. all j (omega (arith, le))) f g equal
+  plains_same false (argument (plain e) more) k m fine all f g equal =
       let o = same e (record { place = child c k; slot = in_list c k; variable = None }) (record { place = child c m; slot = in_list c m; variable = None }) f g equal (all k (omega arith)) (slot_fine k fine) in
-      joined new bad seen f _ _ _ _ o (plains_same more (k + 1) (m + 1) fine (λ j le. all j (omega (arith, le))) _ _ o.followed)
-  plains_same (argument (named s x e) more) k m fine all f g equal = plains_same more (k + 1) (m + 1) fine (λ j le. all j (omega (arith, le))) f g equal
-  plains_same (argument (pair s e d) more) k m fine all f g equal = plains_same more (k + 1) (m + 1) fine (λ j le. all j (omega (arith, le))) f g equal
-
-  pub rest_same : (xs : Arguments Nowhere) (k m : ℕ) → (bad c → ⊥) → AwayFrom k → (f g : List (List ℕ)) → g ≡ f → Out f (list_with one c (in_list c) (rest (plains k xs)) f) (list_with two c (in_list c) (rest (plains m xs)) g)
-  rest_same no_arguments k m fine all f g equal = nothing_both new bad seen f g equal
-  rest_same (argument (plain e) more) k m fine all f g equal = plains_same more (k + 1) (m + 1) fine (λ j le. all j (omega (arith, le))) f g equal
-  rest_same (argument (named s x e) more) k m fine all f g equal = rest_same more (k + 1) (m + 1) fine (λ j le. all j (omega (arith, le))) f g equal
-  rest_same (argument (pair s e d) more) k m fine all f g equal = rest_same more (k + 1) (m + 1) fine (λ j le. all j (omega (arith, le))) f g equal
+      joined new bad seen f _ _ _ _ o (plains_same false more (k + 1) (m + 1) fine (λ j le. all j (omega (arith, le))) _ _ o.followed)
+  plains_same some (argument (named s x e) more) k m fine all f g equal = plains_same some more (k + 1) (m + 1) fine (λ j le. all j (omega (arith, le))) f g equal
+  plains_same some (argument (pair s e d) more) k m fine all f g equal = plains_same some more (k + 1) (m + 1) fine (λ j le. all j (omega (arith, le))) f g equal
 
   -- with one more argument of the key, or without
   abbrev with_key : Expand → ℕ → Bool → Expression Nowhere → List (Numbered (Expression Nowhere)) → List (List ℕ) → Expansion Nowhere
@@ -90,7 +92,7 @@ module _ (new : List (List ℕ)) (bad : CallRef → Type 0) (seen : List (List �
   keys_same (argument (pair s e d) more) k m all f g equal = keys_same more (k + 1) (m + 1) (λ j le. all j (omega (arith, le))) f g equal
 
   pub whole_same : (xs : Arguments Nowhere) → (bad c → ⊥) → AwayFrom 0 → (f g : List (List ℕ)) → g ≡ f → Out f (whole one c xs f) (whole two c xs g)
-  whole_same xs fine all f g equal = let o = rest_same xs 0 0 fine all f g equal in joined new bad seen f _ _ _ _ o (keys_same xs 0 0 all _ _ o.followed)
+  whole_same xs fine all f g equal = let o = plains_same true xs 0 0 fine all f g equal in joined new bad seen f _ _ _ _ o (keys_same xs 0 0 all _ _ o.followed)
 
   -- ---- one argument that has another node on the way
 
@@ -159,11 +161,12 @@ module _ (new : List (List ℕ)) (bad : CallRef → Type 0) (seen : List (List �
     named_before z e k ps qs us vs far (inl w) = inl (w.0, key_same z e k k us vs far w.1)
     named_before z e k ps qs us vs far (inr w) = inr (w.0, key_behind z e k us vs far w.1)
 
-    all_along : (xs ys : Arguments Nowhere) (k n : ℕ) → m ≡ k + n → blanks ys ≡ blanks xs → Differ y next n (arguments_parts xs) (arguments_parts ys) → (br : Bracket) (nb : Bool) → holds_pairs br ≡ false → LevelArguments xs br nb
-        → Ways (plains k xs) (plains k ys) (keys k xs) (keys k ys)
-    all_along no_arguments ys k n number bs d br nb none level = absurd (differ_none y next n (arguments_parts ys) d)
-    all_along (argument a xs) no_arguments k n number bs d br nb none level = absurd cc
-    all_along (argument (plain e) xs) (argument (plain e2) ys) k zero number bs d br nb none level =
+    -- all, or all but the first without a name
+    all_along : (some : Bool) (xs ys : Arguments Nowhere) (k n : ℕ) → m ≡ k + n → blanks ys ≡ blanks xs → Differ y next n (arguments_parts xs) (arguments_parts ys) → (br : Bracket) (nb : Bool) → holds_pairs br ≡ false → LevelArguments xs br nb
+        → Ways (but_first some (plains k xs)) (but_first some (plains k ys)) (keys k xs) (keys k ys)
+    all_along some no_arguments ys k n number bs d br nb none level = absurd (differ_none y next n (arguments_parts ys) d)
+    all_along some (argument a xs) no_arguments k n number bs d br nb none level = absurd cc
+    all_along false (argument (plain e) xs) (argument (plain e2) ys) k zero number bs d br nb none level =
         let h = differ_here y next (an_expression e) (an_expression e2) (arguments_parts xs) (arguments_parts ys) d in
         let tails : blanks ys ≡ blanks xs = cc in
         let at_it : m ≡ k = omega (arith, number) in
@@ -171,73 +174,48 @@ module _ (new : List (List ℕ)) (bad : CallRef → Type 0) (seen : List (List �
         (inl (
           λ f g equal behind.
               let w = way_here e e2 k (in_list c k) at_it h.0 h.1 level.0.2 f g equal behind in
-              along_first new bad seen b _ _ _ _ w (plains_same xs (k + 1) (k + 1) fine (behind_it k at_it) _ _ w.followed),
+              along_first new bad seen b _ _ _ _ w (plains_same false xs (k + 1) (k + 1) fine (behind_it k at_it) _ _ w.followed),
           keys_same xs (k + 1) (k + 1) (behind_it k at_it),
         ))
-    all_along (argument (plain e) xs) (argument (plain e2) ys) k (suc n) number bs d br nb none level =
+    all_along false (argument (plain e) xs) (argument (plain e2) ys) k (suc n) number bs d br nb none level =
         let h = differ_there y next n (an_expression e) (an_expression e2) (arguments_parts xs) (arguments_parts ys) d in
         let tails : blanks ys ≡ blanks xs = cc in
         let far = aside k (λ equal. omega (arith, number, equal)) in
         subst (λ v. Ways (plains k (argument (plain e) xs)) (plains k (argument (plain v) ys)) (keys (k + 1) xs) (keys (k + 1) ys)) (sym (same_node e e2 h.0))
-        (plain_before e k _ _ _ _ far (all_along xs ys (k + 1) n (omega (arith, number)) tails h.1 br false none level.1))
-    all_along (argument (named s x e) xs) (argument (named r z e2) ys) k zero number bs d br nb none level =
-        let h = differ_here y next (an_expression e) (an_expression e2) (arguments_parts xs) (arguments_parts ys) d in
-        let tails : blanks ys ≡ blanks xs = cc in
-        let name : z ≡ x = cc in
-        let at_it : m ≡ k = omega (arith, number) in
-        subst (λ w. Ways (plains (k + 1) xs) (plains (k + 1) ys) (keys k (argument (named s x e) xs)) (keys k (argument (named r w e2) ys))) (sym name)
-        (subst (λ zs. Ways (plains (k + 1) xs) (plains (k + 1) zs) (keys k (argument (named s x e) xs)) (keys k (argument (named r x e2) zs))) (sym (same_arguments xs ys tails h.2))
-        (inr (plains_same xs (k + 1) (k + 1) fine (behind_it k at_it), key_way (bytes_eq x.text sources_key) e e2 k (keys (k + 1) xs) (keys (k + 1) xs) at_it h.0 h.1 level.0.1 (keys_same xs (k + 1) (k + 1) (behind_it k at_it)))))
-    all_along (argument (named s x e) xs) (argument (named r z e2) ys) k (suc n) number bs d br nb none level =
-        let h = differ_there y next n (an_expression e) (an_expression e2) (arguments_parts xs) (arguments_parts ys) d in
-        let tails : blanks ys ≡ blanks xs = cc in
-        let name : z ≡ x = cc in
-        let far = aside k (λ equal. omega (arith, number, equal)) in
-        subst (λ w. Ways (plains (k + 1) xs) (plains (k + 1) ys) (keys k (argument (named s x e) xs)) (keys k (argument (named r w e2) ys))) (sym name)
-        (subst (λ v. Ways (plains (k + 1) xs) (plains (k + 1) ys) (keys k (argument (named s x e) xs)) (keys k (argument (named r x v) ys))) (sym (same_node e e2 h.0))
-        (named_before (bytes_eq x.text sources_key) e k _ _ _ _ far (all_along xs ys (k + 1) n (omega (arith, number)) tails h.1 br true none level.1)))
-    all_along (argument (pair s e v) xs) (argument a ys) k n number bs d br nb none level = let both : true ≡ false = sym level.0.0 ∙ none in absurd cc
-    all_along (argument (plain e) xs) (argument _ ys) k n number bs d br nb none level = absurd cc
-    all_along (argument (named s x e) xs) (argument _ ys) k n number bs d br nb none level = absurd cc
-
-    -- the first without a name left out
-    pub rest_along : (xs ys : Arguments Nowhere) (k n : ℕ) → m ≡ k + n → blanks ys ≡ blanks xs → Differ y next n (arguments_parts xs) (arguments_parts ys) → (br : Bracket) (nb : Bool) → holds_pairs br ≡ false → LevelArguments xs br nb
-        → Ways (rest (plains k xs)) (rest (plains k ys)) (keys k xs) (keys k ys)
-    rest_along no_arguments ys k n number bs d br nb none level = absurd (differ_none y next n (arguments_parts ys) d)
-    rest_along (argument a xs) no_arguments k n number bs d br nb none level = absurd cc
-    rest_along (argument (plain e) xs) (argument (plain e2) ys) k zero number bs d br nb none level =
+        (plain_before e k _ _ _ _ far (all_along false xs ys (k + 1) n (omega (arith, number)) tails h.1 br false none level.1))
+    all_along true (argument (plain e) xs) (argument (plain e2) ys) k zero number bs d br nb none level =
         let h = differ_here y next (an_expression e) (an_expression e2) (arguments_parts xs) (arguments_parts ys) d in
         let tails : blanks ys ≡ blanks xs = cc in
         let at_it : m ≡ k = omega (arith, number) in
         subst (λ zs. Ways (plains (k + 1) xs) (plains (k + 1) zs) (keys (k + 1) xs) (keys (k + 1) zs)) (sym (same_arguments xs ys tails h.2))
-        (inl (λ f g equal behind. along_same new bad seen b f _ _ behind (plains_same xs (k + 1) (k + 1) fine (behind_it k at_it) f g equal), keys_same xs (k + 1) (k + 1) (behind_it k at_it)))
-    rest_along (argument (plain e) xs) (argument (plain e2) ys) k (suc n) number bs d br nb none level =
+        (inl (λ f g equal behind. along_same new bad seen b f _ _ behind (plains_same false xs (k + 1) (k + 1) fine (behind_it k at_it) f g equal), keys_same xs (k + 1) (k + 1) (behind_it k at_it)))
+    all_along true (argument (plain e) xs) (argument (plain e2) ys) k (suc n) number bs d br nb none level =
         let h = differ_there y next n (an_expression e) (an_expression e2) (arguments_parts xs) (arguments_parts ys) d in
         let tails : blanks ys ≡ blanks xs = cc in
-        all_along xs ys (k + 1) n (omega (arith, number)) tails h.1 br false none level.1
-    rest_along (argument (named s x e) xs) (argument (named r z e2) ys) k zero number bs d br nb none level =
+        all_along false xs ys (k + 1) n (omega (arith, number)) tails h.1 br false none level.1
+    all_along some (argument (named s x e) xs) (argument (named r z e2) ys) k zero number bs d br nb none level =
         let h = differ_here y next (an_expression e) (an_expression e2) (arguments_parts xs) (arguments_parts ys) d in
         let tails : blanks ys ≡ blanks xs = cc in
         let name : z ≡ x = cc in
         let at_it : m ≡ k = omega (arith, number) in
-        subst (λ w. Ways (rest (plains (k + 1) xs)) (rest (plains (k + 1) ys)) (keys k (argument (named s x e) xs)) (keys k (argument (named r w e2) ys))) (sym name)
-        (subst (λ zs. Ways (rest (plains (k + 1) xs)) (rest (plains (k + 1) zs)) (keys k (argument (named s x e) xs)) (keys k (argument (named r x e2) zs))) (sym (same_arguments xs ys tails h.2))
-        (inr (rest_same xs (k + 1) (k + 1) fine (behind_it k at_it), key_way (bytes_eq x.text sources_key) e e2 k (keys (k + 1) xs) (keys (k + 1) xs) at_it h.0 h.1 level.0.1 (keys_same xs (k + 1) (k + 1) (behind_it k at_it)))))
-    rest_along (argument (named s x e) xs) (argument (named r z e2) ys) k (suc n) number bs d br nb none level =
+        subst (λ w. Ways (but_first some (plains (k + 1) xs)) (but_first some (plains (k + 1) ys)) (keys k (argument (named s x e) xs)) (keys k (argument (named r w e2) ys))) (sym name)
+        (subst (λ zs. Ways (but_first some (plains (k + 1) xs)) (but_first some (plains (k + 1) zs)) (keys k (argument (named s x e) xs)) (keys k (argument (named r x e2) zs))) (sym (same_arguments xs ys tails h.2))
+        (inr (plains_same some xs (k + 1) (k + 1) fine (behind_it k at_it), key_way (bytes_eq x.text sources_key) e e2 k (keys (k + 1) xs) (keys (k + 1) xs) at_it h.0 h.1 level.0.1 (keys_same xs (k + 1) (k + 1) (behind_it k at_it)))))
+    all_along some (argument (named s x e) xs) (argument (named r z e2) ys) k (suc n) number bs d br nb none level =
         let h = differ_there y next n (an_expression e) (an_expression e2) (arguments_parts xs) (arguments_parts ys) d in
         let tails : blanks ys ≡ blanks xs = cc in
         let name : z ≡ x = cc in
         let far = aside k (λ equal. omega (arith, number, equal)) in
-        subst (λ w. Ways (rest (plains (k + 1) xs)) (rest (plains (k + 1) ys)) (keys k (argument (named s x e) xs)) (keys k (argument (named r w e2) ys))) (sym name)
-        (subst (λ v. Ways (rest (plains (k + 1) xs)) (rest (plains (k + 1) ys)) (keys k (argument (named s x e) xs)) (keys k (argument (named r x v) ys))) (sym (same_node e e2 h.0))
-        (named_before (bytes_eq x.text sources_key) e k _ _ _ _ far (rest_along xs ys (k + 1) n (omega (arith, number)) tails h.1 br true none level.1)))
-    rest_along (argument (pair s e v) xs) (argument a ys) k n number bs d br nb none level = let both : true ≡ false = sym level.0.0 ∙ none in absurd cc
-    rest_along (argument (plain e) xs) (argument _ ys) k n number bs d br nb none level = absurd cc
-    rest_along (argument (named s x e) xs) (argument _ ys) k n number bs d br nb none level = absurd cc
+        subst (λ w. Ways (but_first some (plains (k + 1) xs)) (but_first some (plains (k + 1) ys)) (keys k (argument (named s x e) xs)) (keys k (argument (named r w e2) ys))) (sym name)
+        (subst (λ v. Ways (but_first some (plains (k + 1) xs)) (but_first some (plains (k + 1) ys)) (keys k (argument (named s x e) xs)) (keys k (argument (named r x v) ys))) (sym (same_node e e2 h.0))
+        (named_before (bytes_eq x.text sources_key) e k _ _ _ _ far (all_along some xs ys (k + 1) n (omega (arith, number)) tails h.1 br true none level.1)))
+    all_along some (argument (pair s e v) xs) (argument a ys) k n number bs d br nb none level = let both : true ≡ false = sym level.0.0 ∙ none in absurd cc
+    all_along some (argument (plain e) xs) (argument _ ys) k n number bs d br nb none level = absurd cc
+    all_along some (argument (named s x e) xs) (argument _ ys) k n number bs d br nb none level = absurd cc
 
     pub whole_along : (xs ys : Arguments Nowhere) → blanks ys ≡ blanks xs → Differ y next m (arguments_parts xs) (arguments_parts ys) → (br : Bracket) (nb : Bool) → holds_pairs br ≡ false → LevelArguments xs br nb
         → (f g : List (List ℕ)) → g ≡ f → seen f ≡ true → Way (whole one c xs f) (whole two c ys g)
-    whole_along xs ys bs d br nb none level f g equal behind = go (rest_along xs ys 0 m (omega arith) bs d br nb none level)
+    whole_along xs ys bs d br nb none level f g equal behind = go (all_along true xs ys 0 m (omega arith) bs d br nb none level)
       where
         go : Ways (rest (plains 0 xs)) (rest (plains 0 ys)) (keys 0 xs) (keys 0 ys) → Way (whole one c xs f) (whole two c ys g)
         go (inl w) = let a = w.0 f g equal behind in along_first new bad seen b _ _ _ _ a (w.1 _ _ a.followed)

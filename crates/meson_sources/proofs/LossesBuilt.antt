@@ -88,10 +88,6 @@ module _ (spots : List Spot) (trees after : List Plain) where
         lost = λ j is. valued c j is (an_expression (array l)) h;
       }),
     )
-    array_loses l c level h (call t f m) k i rest = let s = i.shapes in absurd cc
-    array_loses l c level h (row t e os) k i rest = let s = i.shapes in absurd cc
-    array_loses l c level h (identifier t x) k i rest = let s = i.shapes in absurd cc
-    array_loses l c level h (string t q x) k i rest = let s = i.shapes in absurd cc
     array_loses l c level h _ k i rest = let s = i.shapes in absurd cc
 
     call_loses : (t : Nowhere) (f : Name Nowhere) (l : Listing Nowhere) (c : CallRef) → LevelListing l bracket.Round → NodeIn trees c (an_expression (call t f l)) → (now : Expression Nowhere) → NodeIn after (then_at c) (an_expression now) → Now (call t f l) now c
@@ -111,10 +107,6 @@ module _ (spots : List Spot) (trees after : List Plain) where
         lost = λ j is. valued c j is (an_expression (call t f l)) h;
       }),
     )
-    call_loses t f l c level h (array m) k i rest = let s = i.shapes in absurd cc
-    call_loses t f l c level h (row r e os) k i rest = let s = i.shapes in absurd cc
-    call_loses t f l c level h (identifier r x) k i rest = let s = i.shapes in absurd cc
-    call_loses t f l c level h (string r q x) k i rest = let s = i.shapes in absurd cc
     call_loses t f l c level h _ k i rest = let s = i.shapes in absurd cc
 
     row_stays : (t : Nowhere) (e : Expression Nowhere) (os : Operands Nowhere) (c : CallRef) → NodeIn trees c (an_expression (row t e os)) → (k : ℕ) → gone c k ≡ false
@@ -145,10 +137,6 @@ module _ (spots : List Spot) (trees after : List Plain) where
             new = λ j x is other. let n : suc j ≡ 1 + j = omega arith in subst (λ n. NodeIn after (child (then_at c) n) x) n (child_in spots trees after after (then_at c) (an_expression (row r d ps)) x (suc j) k is other);
           }),
         )
-    row_loses t e os c level h (array m) k i rest others = let s = i.shapes in absurd cc
-    row_loses t e os c level h (call r f m) k i rest others = let s = i.shapes in absurd cc
-    row_loses t e os c level h (identifier r x) k i rest others = let s = i.shapes in absurd cc
-    row_loses t e os c level h (string r q x) k i rest others = let s = i.shapes in absurd cc
     row_loses t e os c level h _ k i rest others = let s = i.shapes in absurd cc
 
     mutual
