@@ -1,5 +1,5 @@
 -- A project with its notes: these are good, and the call that an id names in them is that of the project, and stands in its trees.
-use Rattle.std.proofs.Common.{◌≡◌, ℕ, ◌<◌, List, length, sym, ap₂, ◌∙◌, subst, arith}
+use Rattle.std.proofs.Common.{◌≡◌, ℕ, ◌<◌, List, length, sym, ap₂, ◌∙◌, arith}
 use Rattle.std.specs.Prelude.{Ok, Err}
 use Rattle.meson_lex.specs.declared.kinds.Span.{Span}
 use Rattle.meson_calls.specs.declared.call.CallRef.{CallRef}
@@ -10,7 +10,7 @@ use Rattle.meson_calls.specs.declared.variables.Variables.{Variables}
 use Rattle.meson_calls.specs.CallPlaces.{CallIn}
 use Rattle.meson_calls.specs.Calls.{Call}
 use Rattle.meson_calls.specs.Finding.{the_call}
-use Rattle.meson_calls.specs.Loading.{AreParsed, named_trees, views}
+use Rattle.meson_calls.specs.Loading.{named_trees, views}
 use Rattle.meson_calls.specs.CodeVariables.{project_of}
 use Rattle.meson_calls.specs.NotedProjects.{IsNotedFor, project_in}
 use Rattle.meson_calls.specs.Notes.{note_views}
@@ -70,6 +70,3 @@ module _ (n : Noted) (r : Role) (id : List ℕ) (is : IsNotedFor r id n) where
 module _ (v : Variables) (n : Noted) (files : v.files.now ≡ n.files.now) (trees : v.trees.now ≡ n.trees.now) where
   pub same_project : project_of v ≡ project_in n
   same_project = ap₂ (λ fs ts. named_trees fs (views fs ts)) files trees
-
-  pub same_parsed : AreParsed n.files.now n.trees.now → AreParsed v.files.now v.trees.now
-  same_parsed are = subst (λ fs. AreParsed fs v.trees.now) (sym files) (subst (AreParsed n.files.now) (sym trees) are)

@@ -28,9 +28,6 @@ tail_more old new n in_old in_new meets same =
 abbrev pub NoneYet : List (List ℕ) → List (List ℕ) → ℕ → ℕ → Type 0
 NoneYet old new distance n = (gone come : ℕ) → gone < 65 → come < 65 → gone < n → gone + come ≡ distance → IsMeeting old new gone come → ⊥
 
-pub none_at_first : (old new : List (List ℕ)) (distance : ℕ) → NoneYet old new distance (distance - 64)
-none_at_first old new distance gone come near_old near_new below sum meets = omega arith
-
 pub none_more : (old new : List (List ℕ)) (distance n : ℕ) → (IsMeeting old new n (distance - n) → ⊥) → NoneYet old new distance n → NoneYet old new distance (n + 1)
 none_more old new distance n apart so_far gone come near_old near_new below sum meets =
     elim (cases_eq gone n) as (λ _. ⊥) [

@@ -23,9 +23,6 @@ list_by values (suc left) x = is_single_by (is_operand_by (list_by values left))
 unfoldable pub lists_by : Values → Expression Nowhere → Bool
 lists_by values = is_operand_by (list_by values max_followed)
 
-abbrev pub follow_by : (Values → ℕ → Expression Nowhere → Stand → List (List ℕ) → Expansion Nowhere) → Values → ℕ → List ℕ → List (List ℕ) → Expansion Nowhere
-follow_by inner values left x followed = follow_single (inner values left) x followed (values x)
-
 abbrev pub expand_with : Values → ℕ → Expression Nowhere → Stand → List (List ℕ) → Expansion Nowhere
 expand_with values zero = expand_by (lists_by values) (λ x followed. met opaque followed)
 expand_with values (suc left) = expand_by (lists_by values) (λ x followed. follow_single (expand_with values left) x followed (values x))

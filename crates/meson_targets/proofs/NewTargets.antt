@@ -1,9 +1,9 @@
 -- A target to be: whether its name is taken, the file of its folder, and what is written.
-use Rattle.std.proofs.Common.{◌≡◌, ℕ, suc, ◌+◌, ◌<◌, ◌≤◌, List, [], ◌∷◌, ◌++◌, map, take, length, get_or, codes, Option, Some, None, refl, sym, ap, ap₂, ◌∙◌, append_assoc, arith}
+use Rattle.std.proofs.Common.{◌≡◌, ℕ, suc, ◌+◌, ◌<◌, List, [], ◌∷◌, ◌++◌, map, take, length, get_or, codes, Option, Some, None, refl, sym, ap, ap₂, ◌∙◌, append_assoc, arith}
 use Rattle.std.specs.Prelude.{All, not, cond, nat_lt, bytes_eq, option_and_then, Result, Ok, Err, IfOk, OnOk}
 use Rattle.std.specs.List.{position_or_len}
 use Rattle.std.specs.Str.{IsUtf8}
-use Rattle.std.proofs.lemmas.List.{map-append, take_more, take_all}
+use Rattle.std.proofs.lemmas.List.{map-append, take_more}
 use Rattle.std.proofs.lemmas.List.Elements.{All-cons}
 use Rattle.meson_lex.specs.declared.kinds.Span.{Span}
 use Rattle.meson_lex.specs.Literals.{literal}
@@ -11,14 +11,14 @@ use Rattle.meson_splice.specs.declared.file_set.File.{File}
 use Rattle.meson_splice.specs.Files.{position_of_file}
 use Rattle.meson_syntax.specs.declared.tree.Parsed.{Parsed}
 use Rattle.meson_calls.specs.declared.call.CallRef.{CallRef}
-use Rattle.meson_calls.specs.declared.refusal.Refusal.TheVariants.{NameTaken, NoFile}
+use Rattle.meson_calls.specs.declared.refusal.Refusal.TheVariants.{NameTaken}
 use Rattle.meson_calls.specs.Calls.{Call}
 use Rattle.meson_calls.specs.Folders.{build_file, file_in}
 use Rattle.meson_calls.specs.Loading.{named_trees, views}
 use Rattle.meson_calls.specs.Project.{BuildFile, Placed}
 use Rattle.meson_calls.specs.Roles.{places}
 use Rattle.meson_steps.specs.WrittenTexts.{comma_between}
-use Rattle.meson_targets.specs.TargetEdits.{not_taken, file_of_folder, file_number, some_file, number_in, written_target}
+use Rattle.meson_targets.specs.TargetEdits.{not_taken, file_of_folder, file_number, some_file, number_in}
 use Rattle.meson_steps.proofs.SetLiterals.{more_between}
 
 -- ---- names
@@ -65,9 +65,6 @@ module _ (files : List File) (trees : List Parsed) (many : length trees ≡ leng
   folder_file [] some = absurd (some refl)
   folder_file (c ∷ cs) some = refl
 
-  pub no_folder : (folder : List ℕ) → (length folder ≡ 0 → ⊥) → file_in build_file folder ≡ None → number_in (named_trees files (views files trees)) folder ≡ Err NoFile
-  no_folder folder some none = ap (λ o. some_file (option_and_then (file_number (named_trees files (views files trees))) o)) (folder_file folder some ∙ none)
-
   pub folder_number : (folder : List ℕ) → (length folder ≡ 0 → ⊥) → (name : List ℕ) → file_in build_file folder ≡ Some name → (o : Option ℕ) → o ≡ position_of_file name files
       → number_in (named_trees files (views files trees)) folder ≡ some_file o
   folder_number folder some name is o there =
@@ -94,10 +91,3 @@ module _ {B : Type 0} (now : B → List ℕ) (kind name : List ℕ) where
       ∙ joined (comma_between (map literal texts)) (literal (now y))
       ∙ ap (λ c. kind ++ (40 ∷ c)) (sym (more_between texts (now y) some))
       ∙ sym (ap (λ l. kind ++ (40 ∷ comma_between (map literal (name ∷ l)))) (ap (map now) (take_more ss i d within) ∙ map-append now (take i ss) (y ∷ [])))
-
-  closed : (c : List ℕ) → (kind ++ (40 ∷ c)) ++ 41 ∷ [] ≡ kind ++ (40 ∷ (c ++ 41 ∷ []))
-  closed c = simp append_assoc
-
-  pub all_sources : (ss : List B) (i : ℕ) (before after : List ℕ) → length ss ≤ i → before ≡ so_far (take i ss) → after ≡ before ++ codes ")" → after ≡ (written_target kind (name ∷ map now ss)).bytes
-  all_sources ss i before after past is close =
-      close ∙ ap (λ b. b ++ codes ")") (is ∙ ap so_far (take_all i ss past)) ∙ closed (comma_between (map literal (name ∷ map now ss)))
