@@ -22,7 +22,7 @@ use Rattle.meson_steps.specs.WrittenValues.{WrittenFor, IsSet}
 
 -- ---- one text
 
-abbrev literal_item : List ℕ → Lexeme
+abbrev pub literal_item : List ℕ → Lexeme
 literal_item t = record { kind = k.PlainString; text = literal t }
 
 pub text_new : (t : List ℕ) → IsUtf8 t → WrittenFor (literal t)
@@ -44,31 +44,33 @@ text_new t utf8 = record {
 
 -- ---- texts: the items between the brackets
 
-abbrev behind : List (List ℕ) → List Lexeme
+abbrev pub behind : List (List ℕ) → List Lexeme
 behind [] = []
 behind (t ∷ ts) = comma ∷ space ∷ literal_item t ∷ behind ts
 
-abbrev inner : List (List ℕ) → List Lexeme
+abbrev pub inner : List (List ℕ) → List Lexeme
 inner [] = []
 inner (t ∷ ts) = literal_item t ∷ behind ts
 
 abbrev all : List (List ℕ) → List Lexeme
 all ts = open_square ∷ (inner ts ++ close_square ∷ [])
 
-literal_stands : (t : List ℕ) (ts : List (List ℕ)) → IsItem (literal_item t) (joined (behind ts) ++ 93 ∷ [])
-literal_stands t [] = (literal_string t, literal_return t, λ empty. refl)
-literal_stands t (u ∷ ts) = (literal_string t, literal_return t, λ empty. refl)
+-- before a byte that may stand behind a literal
+module _ (z : ℕ) (closes : (t : List ℕ) → IsItem (literal_item t) (z ∷ [])) where
+  literal_stands : (t : List ℕ) (ts : List (List ℕ)) → IsItem (literal_item t) (joined (behind ts) ++ z ∷ [])
+  literal_stands t [] = closes t
+  literal_stands t (u ∷ ts) = (literal_string t, literal_return t, λ empty. refl)
 
-behind_items : (ts : List (List ℕ)) → AreItems (behind ts) (93 ∷ [])
-behind_items [] = tt
-behind_items (t ∷ ts) = ((refl, refl, tt), (((refl, refl), refl, refl), (literal_stands t ts, behind_items ts)))
+  behind_items : (ts : List (List ℕ)) → AreItems (behind ts) (z ∷ [])
+  behind_items [] = tt
+  behind_items (t ∷ ts) = ((refl, refl, tt), (((refl, refl), refl, refl), (literal_stands t ts, behind_items ts)))
 
-inner_items : (ts : List (List ℕ)) → AreItems (inner ts) (93 ∷ [])
-inner_items [] = tt
-inner_items (t ∷ ts) = (literal_stands t ts, behind_items ts)
+  pub inner_items : (ts : List (List ℕ)) → AreItems (inner ts) (z ∷ [])
+  inner_items [] = tt
+  inner_items (t ∷ ts) = (literal_stands t ts, behind_items ts)
 
 all_items : (ts : List (List ℕ)) → AreItems (all ts) []
-all_items ts = ((refl, refl, tt), AreItems-append (inner ts) (close_square ∷ []) [] (inner_items ts) ((refl, refl, tt), tt))
+all_items ts = ((refl, refl, tt), AreItems-append (inner ts) (close_square ∷ []) [] (inner_items 93 (λ t. (literal_string t, literal_return t, λ empty. refl)) ts) ((refl, refl, tt), tt))
 
 -- ---- their bytes
 
@@ -76,7 +78,7 @@ behind_joined : (t : List ℕ) (ts : List (List ℕ)) → literal t ++ joined (b
 behind_joined t [] = append-nil (literal t)
 behind_joined t (u ∷ ts) = ap (λ l. literal t ++ (codes ", " ++ l)) (behind_joined u ts)
 
-inner_joined : (ts : List (List ℕ)) → joined (inner ts) ≡ comma_between (map literal ts)
+pub inner_joined : (ts : List (List ℕ)) → joined (inner ts) ≡ comma_between (map literal ts)
 inner_joined [] = refl
 inner_joined (t ∷ ts) = behind_joined t ts
 
@@ -85,14 +87,14 @@ all_joined ts = ap (λ l. 91 ∷ l) (joined-append (inner ts) (close_square ∷ 
 
 -- ---- their words
 
-abbrev strings : List (List ℕ) → Arguments Nowhere
+abbrev pub strings : List (List ℕ) → Arguments Nowhere
 strings ts = arguments_of (map plain (map string_of ts))
 
 behind_words : (t : List ℕ) (ts : List (List ℕ)) (more : List Lexeme) → spoken (literal_item t ∷ (behind ts ++ more)) ≡ arguments_words (strings (t ∷ ts)) false ++ spoken more
 behind_words t [] more = refl
 behind_words t (u ∷ ts) more = ap (λ l. (k.PlainString, literal t) ∷ (k.Comma, []) ∷ l) (behind_words u ts more)
 
-inner_words : (ts : List (List ℕ)) (more : List Lexeme) → spoken (inner ts ++ more) ≡ arguments_words (strings ts) false ++ spoken more
+pub inner_words : (ts : List (List ℕ)) (more : List Lexeme) → spoken (inner ts ++ more) ≡ arguments_words (strings ts) false ++ spoken more
 inner_words [] more = refl
 inner_words (t ∷ ts) more = behind_words t ts more
 
@@ -122,7 +124,7 @@ abbrev pub Texts : List (List ℕ) → Type 0
 Texts [] = Unit {0}
 Texts (t ∷ ts) = IsUtf8 t × Texts ts
 
-texts_text : (ts : List (List ℕ)) → Texts ts → IsUtf8 (comma_between (map literal ts))
+pub texts_text : (ts : List (List ℕ)) → Texts ts → IsUtf8 (comma_between (map literal ts))
 texts_text [] are = ([], (refl, refl))
 texts_text (t ∷ []) are = literal_text t are.0
 texts_text (t ∷ u ∷ ts) are =
@@ -132,7 +134,7 @@ texts_text (t ∷ u ∷ ts) are =
 all_text : (ts : List (List ℕ)) → Texts ts → IsUtf8 (91 ∷ (comma_between (map literal ts) ++ 93 ∷ []))
 all_text ts are = IsUtf8-append (codes "[") (comma_between (map literal ts) ++ codes "]") bracket_text (IsUtf8-append (comma_between (map literal ts)) (codes "]") (texts_text ts are) close_text)
 
-flagged : (ts : List (List ℕ)) → Flagged false (strings ts)
+pub flagged : (ts : List (List ℕ)) → Flagged false (strings ts)
 flagged [] = refl
 flagged (t ∷ ts) = tt
 
@@ -140,7 +142,7 @@ strings_level : (ts : List (List ℕ)) → LevelArguments (strings ts) bracket.S
 strings_level [] = tt
 strings_level (t ∷ ts) = ((refl, refl, tt), strings_level ts)
 
-strings_flat : (ts : List (List ℕ)) → arguments_depth (strings ts) ≡ 0
+pub strings_flat : (ts : List (List ℕ)) → arguments_depth (strings ts) ≡ 0
 strings_flat [] = refl
 strings_flat (t ∷ ts) = let flat = strings_flat ts in omega (arith, flat)
 
