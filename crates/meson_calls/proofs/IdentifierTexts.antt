@@ -1,4 +1,4 @@
--- An identifier has ASCII characters alone, so it is a text.
+-- An identifier has ASCII characters alone, and so has the name of a keyword argument: they are texts.
 use Rattle.std.proofs.Common.{◌≡◌, ℕ, ◌<◌, true, List, [], ◌∷◌, arith}
 use Rattle.std.specs.List.{list_all}
 use Rattle.std.specs.Str.{IsAscii, IsUtf8}
@@ -20,6 +20,9 @@ bytes_low [] all = IsAscii-nil
 bytes_low (b ∷ bs) all =
     let both = and_parts (is_word_byte b) (list_all is_word_byte bs) all in
     IsAscii-cons b bs (byte_low b both.0) (bytes_low bs both.1)
+
+pub key_text : (bs : List ℕ) → list_all is_word_byte bs ≡ true → IsUtf8 bs
+key_text bs all = IsUtf8-from_ascii bs (bytes_low bs all)
 
 word_ascii : (t : List ℕ) → IsWord t → IsAscii t
 word_ascii [] word = absurd word

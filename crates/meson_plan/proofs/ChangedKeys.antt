@@ -9,7 +9,7 @@ use Rattle.meson_calls.specs.declared.call.Role.{Role}
 use Rattle.meson_calls.specs.declared.call.Role.TheVariants as role
 use Rattle.meson_calls.specs.Roles.{one_of}
 use Rattle.meson_keywords.specs.Keys.{text_keys, switch_keys, text_list_keys, identifier_list_keys, is_key}
-use Rattle.meson_sources.proofs.KeyTexts.{key_text}
+use Rattle.meson_calls.proofs.IdentifierTexts.{key_text}
 
 abbrev are_words : List (List ℕ) → Bool
 are_words = list_all (list_all is_word_byte)
