@@ -13,10 +13,6 @@ use Rattle.meson_plan.specs.Details.{of_each}
 abbrev pub after : {Y : Type 0} → List Y → Option (List Y) → Option (List Y)
 after done r = option_map (λ rest. done ++ rest) r
 
-pub after-nothing : {Y : Type 0} (r : Option (List Y)) → after [] r ≡ r
-after-nothing None = refl
-after-nothing (Some rest) = refl
-
 onto : {Y : Type 0} (done : List Y) (y : Y) (r : Option (List Y)) → after done (option_map (λ ys. y ∷ ys) r) ≡ after (done ++ y ∷ []) r
 onto done y None = refl
 onto done y (Some rest) = ap Some (sym (append_assoc done (y ∷ []) rest))
