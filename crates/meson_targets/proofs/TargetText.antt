@@ -15,7 +15,6 @@ use Rattle.meson_lex.proofs.Seams.{joined-append, AreItems-append}
 use Rattle.meson_lex.proofs.Written.{literal_string, literal_return}
 use Rattle.meson_syntax.specs.declared.operator.Bracket.TheVariants as bracket
 use Rattle.meson_syntax.specs.Lines.{HasNoLineEnd}
-use Rattle.meson_syntax.specs.Tree.{plain}
 use Rattle.meson_syntax.specs.Grammar.{statement_words, LevelStatement, LevelArguments, statement_depth}
 use Rattle.meson_syntax.proofs.exchange.Standing.{line-text}
 use Rattle.meson_edit.specs.Places.{IsWrittenStatement}
@@ -58,15 +57,28 @@ first_of false b is = absurd cc
 
 is_function : (kind : List ℕ) → is_target_kind kind ≡ true → IsFunction kind
 is_function kind is =
-    among target_functions
-    (function (codes "executable") (refl, refl) refl (none_of reserved (codes "executable") refl) refl refl,
-    (function (codes "static_library") (refl, refl) refl (none_of reserved (codes "static_library") refl) refl refl,
-    (function (codes "shared_library") (refl, refl) refl (none_of reserved (codes "shared_library") refl) refl refl,
-    (function (codes "shared_module") (refl, refl) refl (none_of reserved (codes "shared_module") refl) refl refl,
-    (function (codes "both_libraries") (refl, refl) refl (none_of reserved (codes "both_libraries") refl) refl refl,
-    (function (codes "library") (refl, refl) refl (none_of reserved (codes "library") refl) refl refl,
-    (function (codes "jar") (refl, refl) refl (none_of reserved (codes "jar") refl) refl refl,
-    (function (codes "build_target") (refl, refl) refl (none_of reserved (codes "build_target") refl) refl refl, tt)))))))) kind
+    among target_functions (
+      function (codes "executable") (refl, refl) refl (none_of reserved (codes "executable") refl) refl refl,
+      (
+        function (codes "static_library") (refl, refl) refl (none_of reserved (codes "static_library") refl) refl refl,
+        (
+          function (codes "shared_library") (refl, refl) refl (none_of reserved (codes "shared_library") refl) refl refl,
+          (
+            function (codes "shared_module") (refl, refl) refl (none_of reserved (codes "shared_module") refl) refl refl,
+            (
+              function (codes "both_libraries") (refl, refl) refl (none_of reserved (codes "both_libraries") refl) refl refl,
+              (
+                function (codes "library") (refl, refl) refl (none_of reserved (codes "library") refl) refl refl,
+                (
+                  function (codes "jar") (refl, refl) refl (none_of reserved (codes "jar") refl) refl refl,
+                  (function (codes "build_target") (refl, refl) refl (none_of reserved (codes "build_target") refl) refl refl, tt),
+                ),
+              ),
+            ),
+          ),
+        ),
+      ),
+    ) kind
     (first_of (one_of target_functions kind) (not (bytes_eq kind (codes "build_target"))) is)
 
 -- ---- the items
