@@ -41,7 +41,7 @@ pub record SourcesGo (old : Loaded) (id : List ℕ) (names : List (List ℕ)) (n
   pub call : Placed (Call Span)
   pub is_call : the_call (project old) role.Target id ≡ Ok call
   pub go : NamesGo (source_marks (project old) call) names (plain_trees old) (plain_trees new)
-  pub whole : SourcesShrink names call (project old) (project new)
+  pub whole : SourcesShrink names id call (project old) (project new)
 
 -- Each new extra file is there once. All extra files of the target are those that it had and these.
 pub record ExtrasCome (old : Loaded) (id : List ℕ) (names : List (List ℕ)) (new : Loaded) : Type 0 where
@@ -55,7 +55,7 @@ pub record ExtrasGo (old : Loaded) (id : List ℕ) (names : List (List ℕ)) (ne
   pub call : Placed (Call Span)
   pub is_call : the_call (project old) role.Target id ≡ Ok call
   pub go : NamesGo (extra_marks (project old) call) names (plain_trees old) (plain_trees new)
-  pub whole : ExtrasShrink names call (project old) (project new)
+  pub whole : ExtrasShrink names id call (project old) (project new)
 
 -- The target is gone with its statement, and no target has its name.
 pub record TargetGoes (old : Loaded) (id : List ℕ) (new : Loaded) : Type 0 where

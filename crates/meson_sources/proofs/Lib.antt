@@ -87,6 +87,13 @@ mod ItemsThere
 mod VariablesLeft
 mod NamedGone
 mod SpotsHeld
+mod TargetNames
+mod NamesStay
+mod NamesLeft
+mod BareNodes
+mod FoundAgain
+mod NamedAgain
+mod NamedStays
 mod SameCalls
 mod CallLeft
 pub mod ShrunkFiles

@@ -132,7 +132,7 @@ leaf_none (an_expression _) inner = refl
 leaf_none (a_statement s) inner = refl
 leaf_none (a_block b) inner = refl
 
-no_leaf : (x : Any Nowhere) (old new : Any Nowhere) (n : ℕ) (ys : List (Any Nowhere)) → Differ old new n (child_nodes x) ys → shape x ≡ a_leaf → ⊥
+pub no_leaf : (x : Any Nowhere) (old new : Any Nowhere) (n : ℕ) (ys : List (Any Nowhere)) → Differ old new n (child_nodes x) ys → shape x ≡ a_leaf → ⊥
 no_leaf (an_expression (identifier s x)) old new n ys d is = differ_none old new n ys d
 no_leaf (an_expression (string s q x)) old new n ys d is = differ_none old new n ys d
 no_leaf (an_expression _) old new n ys d is = absurd cc

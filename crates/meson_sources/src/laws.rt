@@ -32,8 +32,8 @@ pub fn extra_is_removed()
     ensures { ExtraIsRemoved }
 {}
 
-/// After a removal all sources of the target, wherever they stand, are those that it had, in their order, but for those that are named. As many as before are not
-/// known. The target's call stands where it has moved to (a source that is gone may have stood before it in the same list), with its function and its name.
+/// After a removal the id of the target names one target, by a call of the same function, and all its sources, wherever they stand, are those that it had, in their
+/// order, but for those that are named. As many as before are not known.
 pub fn all_sources_shrink()
     ensures { AllSourcesShrink }
 {}
