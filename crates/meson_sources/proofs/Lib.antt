@@ -94,6 +94,7 @@ mod BareNodes
 mod FoundAgain
 mod NamedAgain
 mod NamedStays
+mod ExtraNames
 mod SameCalls
 mod CallLeft
 pub mod ShrunkFiles

@@ -13,11 +13,13 @@ use Rattle.meson_calls.specs.declared.call.Role.TheVariants as role
 use Rattle.meson_calls.specs.Calls.{Call, call_of, first_literal}
 use Rattle.meson_calls.specs.Finding.{the_call}
 use Rattle.meson_calls.specs.Loading.{Loaded, project}
-use Rattle.meson_calls.specs.Project.{Placed, child}
+use Rattle.meson_calls.specs.Project.{Placed, child, placed}
 use Rattle.meson_calls.specs.Roles.{has_role, is_target_call}
 use Rattle.meson_calls.proofs.CallsFound.{role_found}
 use Rattle.meson_steps.specs.ResultLimits.{plain_trees}
+use Rattle.meson_sources.specs.WholeSources.{FilesGrow, Reading}
 use Rattle.meson_sources.proofs.FoundAgain.{Names}
+use Rattle.meson_sources.proofs.GrownFiles.{FilesGrown}
 use Rattle.meson_sources.proofs.MarkLists.{below, below_itself}
 use Rattle.meson_sources.proofs.NamedAgain.{SetStays, assigned_shape, named_again}
 use Rattle.meson_sources.proofs.NamesLeft.{SameNames, names_itself}
@@ -28,6 +30,22 @@ use Rattle.meson_sources.proofs.Scenes.{NodeIn, bare_in, names_of, next_in, node
 use Rattle.meson_sources.proofs.Shapes.{Becomes}
 use Rattle.meson_sources.proofs.ShapesLeft.{became_new, became_old}
 use Rattle.meson_sources.proofs.TargetNames.{a_target, a_variable, expression_erased, own, tell_call}
+
+-- each id of the call names it, where it was
+abbrev pub KeepsNames : Loaded → Loaded → Placed (Call Span) → Type 0
+KeepsNames old new c = (id : List ℕ) → the_call (project old) role.Target id ≡ Ok c → Names (project new) id c.place c.it
+
+pub files_grow : (read : Reading) (texts : List (List ℕ)) (old new : Loaded) (c : Placed (Call Span)) (id : List ℕ) → FilesGrown read texts c.place (project old) (project new) → Names (project new) id c.place c.it → FilesGrow read texts id c (project old) (project new)
+files_grow read texts old new c id g n = record {
+  named = record { call = placed c.place n.it; is_call = n.is_call; function = n.function; first = n.first };
+  stays = refl;
+  before = g.before;
+  were = g.were;
+  after = g.after;
+  are = g.are;
+  come = g.come;
+  unknown = g.unknown;
+}
 
 -- what tells of a target's call is an expression
 an_expression_tells : (z : Any Nowhere) (f : List ℕ) (literal : Option (List ℕ)) → own z ≡ Some (a_target f literal) → (e : Expression Nowhere) × (z ≡ an_expression e)
@@ -137,3 +155,11 @@ module _ (old new : Loaded) (names : names_of new.files ≡ names_of old.files) 
                 stands on.next (alike_along (an_expression older) (an_expression newer) alike w.0 (an_expression e) on.next on.further).owns
                 (next_in old new names h tree now was is_now others older newer becomes c.place w.0 w.1 (an_expression e) n)
             go (inr not) = aside (under h c.place) not
+
+-- nothing has changed
+pub same_trees_named : (old new : Loaded) (c : Placed (Call Span)) → plain_trees new ≡ plain_trees old → KeepsNames old new c
+same_trees_named old new c same id found =
+    let role_at = role_found (project old) role.Target id c found in
+    named_again old new (λ i. subst (λ ts. SameNames (nth (plain_trees old) i) (nth ts i)) (sym same) (names_itself (nth (plain_trees old) i))) id c found c.place (erase_expression role_at.at.value)
+    (subst (λ ts. NodeIn ts c.place (an_expression (erase_expression role_at.at.value))) (sym same) (bare_in old c.place role_at.at.value role_at.at.is_at)) (expression_erased role_at.at.value ∙ ap tell_call role_at.at.is_call)
+    (λ at x v is_place n. record { at = at; is_place = is_place; r = tt; name = x; value = v; node = subst (λ ts. NodeIn ts at (a_statement (assign tt x assignment.Set v))) (sym same) n; same = refl })

@@ -128,7 +128,7 @@ module _ (older newer : Any Nowhere) (same : Alike older newer) where
 
 -- ---- another list in the place of one
 
-abbrev first_in : Listing Nowhere → Option (Expression Nowhere)
+abbrev pub first_in : Listing Nowhere → Option (Expression Nowhere)
 first_in (listing r trailing list) = first_plain list
 
 -- if it is that of a call of a target, its first argument without a name is the same

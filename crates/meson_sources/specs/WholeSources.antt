@@ -33,16 +33,26 @@ source_texts s = map (λ i. i.value) s.items
 abbrev pub Reading : Type 0
 Reading = Project Span → CallRef → Option (Result found.Sources Refusal)
 
--- The files of the target at the place are the old ones and, in one place among them, these; and as many as before are not known.
-pub record FilesGrow (read : Reading) (new : List (List ℕ)) (c : CallRef) (p q : Project Span) : Type 0 where
+-- The id names one target, by a call of the function that it had, with the first argument that it had if that is a literal.
+pub record StillNamed (id : List ℕ) (c : Placed (Call Span)) (q : Project Span) : Type 0 where
+  pub call : Placed (Call Span)
+  pub is_call : the_call q role.Target id ≡ Ok call
+  pub function : call.it.function ≡ c.it.function
+  pub first : first_literal call.it ≡ first_literal c.it
+
+-- The one target that the id names stands where it stood. Its files are those that it had and, in one place among them, these.
+-- As many as before are not known.
+pub record FilesGrow (read : Reading) (new : List (List ℕ)) (id : List ℕ) (c : Placed (Call Span)) (p q : Project Span) : Type 0 where
+  pub named : StillNamed id c q
+  pub stays : named.call.place ≡ c.place
   pub before : found.Sources
-  pub were : read p c ≡ Some (Ok before)
+  pub were : read p c.place ≡ Some (Ok before)
   pub after : found.Sources
-  pub are : read q c ≡ Some (Ok after)
+  pub are : read q named.call.place ≡ Some (Ok after)
   pub come : TextsCome new (source_texts before) (source_texts after)
   pub unknown : after.opaque ≡ before.opaque
 
-abbrev pub SourcesGrow : List (List ℕ) → CallRef → Project Span → Project Span → Type 0
+abbrev pub SourcesGrow : List (List ℕ) → List ℕ → Placed (Call Span) → Project Span → Project Span → Type 0
 SourcesGrow = FilesGrow sources
 
 abbrev pub file_names : Loaded → List (List ℕ)
@@ -54,14 +64,7 @@ AllSourcesGrow = (old new : Loaded) → IsProject old → file_names new ≡ fil
     → (id : List ℕ) (c : Placed (Call Span)) → the_call (project old) role.Target id ≡ Ok c
     → (names : List (List ℕ)) → All IsUtf8 names → (steps : List Step) → sources_added (project old) c names ≡ Ok steps
     → all_stepped steps (plain_trees old) ≡ Some (plain_trees new)
-    → SourcesGrow (new_names (source_marks (project old) c) names) c.place (project old) (project new)
-
--- The id names one target, by a call of the function that it had, with the first argument that it had if that is a literal.
-pub record StillNamed (id : List ℕ) (c : Placed (Call Span)) (q : Project Span) : Type 0 where
-  pub call : Placed (Call Span)
-  pub is_call : the_call q role.Target id ≡ Ok call
-  pub function : call.it.function ≡ c.it.function
-  pub first : first_literal call.it ≡ first_literal c.it
+    → SourcesGrow (new_names (source_marks (project old) c) names) id c (project old) (project new)
 
 -- The files of the one target that the id names are those that it had without the ones that are gone, in their order; and as many as before are not known.
 pub record FilesShrink (read : Reading) (gone : List (List ℕ)) (id : List ℕ) (c : Placed (Call Span)) (p q : Project Span) : Type 0 where
