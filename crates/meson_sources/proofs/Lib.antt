@@ -83,6 +83,7 @@ mod NodesLeft
 mod ElementsLeft
 mod LossesBuilt
 mod QuietLists
+mod RemovalsKeep
 mod ItemsThere
 mod VariablesLeft
 mod NamedGone

@@ -9,22 +9,22 @@ use Rattle.meson_syntax.specs.Tree.{Nowhere, Plain, Expression, array, dictionar
 use Rattle.meson_syntax.proofs.parsing.Complete.{list-of-arguments}
 use Rattle.meson_syntax.proofs.parsing.Steps.{some-injective}
 use Rattle.meson_syntax.proofs.paths.Every.{Every}
-use Rattle.meson_syntax.proofs.paths.Reaching.{and-then-some}
-use Rattle.meson_edit.specs.Edits.{Remove, edited, elements, with_elements}
+use Rattle.meson_edit.specs.Edits.{elements, with_elements}
 use Rattle.meson_calls.specs.declared.call.CallRef.{CallRef}
 use Rattle.meson_calls.specs.Project.{place}
 use Rattle.meson_calls.specs.Roles.{one_of, target_functions}
 use Rattle.meson_steps.specs.ListSteps.{MayStandBetween}
-use Rattle.meson_steps.specs.Steps.{all_stepped, step_in, stepped}
-use Rattle.meson_steps.proofs.WithOne.{change_there, changed_there, others_there}
+use Rattle.meson_steps.specs.Steps.{all_stepped}
+use Rattle.meson_steps.proofs.WithOne.{changed_there, others_there}
 use Rattle.meson_sources.specs.SourceEdits.{Spot, moved_up, removed_by, spot_after, spots_after}
 use Rattle.meson_sources.proofs.DistinctSpots.{AreApart}
 use Rattle.meson_sources.proofs.ElementsThere.{root, stands_at}
 use Rattle.meson_sources.proofs.OneGone.{without}
-use Rattle.meson_sources.proofs.OneStringGone.{LosesOne, NodeIn, all_clear, next}
+use Rattle.meson_sources.proofs.OneStringGone.{LosesOne, NodeIn, next}
 use Rattle.meson_sources.proofs.PlacesAfter.{spot_then}
 use Rattle.meson_sources.proofs.RemovedSpots.{all_apart, all_between, between, between_stand}
 use Rattle.meson_sources.proofs.RemovedSpots as removing
+use Rattle.meson_sources.proofs.RemovalsKeep.{all_keep}
 use Rattle.meson_sources.proofs.RenamedStrings.{Node}
 use Rattle.meson_sources.proofs.Shapes.{Shape, a_call, blanks, shape}
 use Rattle.meson_sources.proofs.ShapesLeft.{became_old, list_lost, shape_by}
@@ -215,21 +215,5 @@ module _ (trees : List Plain) (all : All MayStandBetween trees) (s : Spot) (ther
 
 pub names_left : (left : ℕ) (spots : List Spot) → length spots ≡ left → (trees after : List Plain) → All MayStandBetween trees → Every (StringIn trees) spots → Every (MayGoAt trees) spots → AreApart spots
     → all_stepped (removed_by left spots) trees ≡ Some after → (i : ℕ) → SameNames (nth trees i) (nth after i)
-names_left zero [] many trees after all are may apart done i = subst (λ ts. SameNames (nth trees i) (nth ts i)) (some-injective _ _ done) (names_itself (nth trees i))
-names_left zero (s ∷ more) many trees after all are may apart done i = absurd (omega (arith, many))
-names_left (suc left) [] many trees after all are may apart done i = absurd (omega (arith, many))
-names_left (suc left) (s ∷ more) many trees after all are may apart done i =
-    let edit = Remove s.list.path.steps s.number in
-    let g = removing.goes trees all s are.0 in
-    let between_it = between trees all s are.0 in
-    let fewer : length (spots_after s more) ≡ left = omega (arith, many, as_many s more) in
-    let o = and-then-some (all_stepped (removed_by left (spots_after s more))) (stepped (step_in s.list edit) trees) after done in
-    let same : between_it ≡ o.0 = some-injective _ _ (sym (change_there (edited edit) trees s.list.file are.0.tree g.now are.0.is_tree g.is_now) ∙ o.1) in
-    let every = all_clear trees all s are.0 more are.1 apart.0 in
-    then_same (nth trees i) (nth between_it i) (nth after i) (one_tells trees all s are.0 may.0 i)
-    (names_left left (spots_after s more) fewer between_it after (between_stand trees all s are.0) (all_between trees all s are.0 more are.1 apart.0) (all_may trees all s are.0 may.0 more every more apart.0 may.1)
-    (all_apart trees all s are.0 more are.1 apart.0 apart.1) (ap (all_stepped (removed_by left (spots_after s more))) same ∙ o.2) i)
-  where
-    as_many : (s : Spot) (more : List Spot) → length (spots_after s more) ≡ length more
-    as_many s [] = refl
-    as_many s (t ∷ more) = ap suc (as_many s more)
+names_left =
+    all_keep MayGoAt (λ trees after. (i : ℕ) → SameNames (nth trees i) (nth after i)) (λ trees i. names_itself (nth trees i)) (λ a b c one other i. then_same (nth a i) (nth b i) (nth c i) (one i) (other i)) one_tells all_may
