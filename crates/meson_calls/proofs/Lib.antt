@@ -44,7 +44,7 @@ pub mod OneCall
 pub mod NotedCalls
 pub mod CallLists
 pub mod FirstValue
-mod PartsContained
+pub mod PartsContained
 mod PartsOrdered
 pub mod Spelled
 pub mod SoughtValues

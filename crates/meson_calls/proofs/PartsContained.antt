@@ -194,7 +194,7 @@ mutual
 file_has : (n : ℕ) (f : File Span) → Has (place n []) (a_block (block_of f)) (parts_of_file n f)
 file_has n (file s b) = block_has (place n []) b
 
-all_has : (n i : ℕ) (p : Project Span) (g : BuildFile Span) (path : List ℕ) (y : Part Span) → nth_file p i ≡ Some g → Names (a_block (block_of g.tree)) path y → Contains (parts_from n p) (placed (place (n + i) path) y)
+pub all_has : (n i : ℕ) (p : Project Span) (g : BuildFile Span) (path : List ℕ) (y : Part Span) → nth_file p i ≡ Some g → Names (a_block (block_of g.tree)) path y → Contains (parts_from n p) (placed (place (n + i) path) y)
 all_has n i [] g path y is is_named = absurd cc
 all_has n zero (f ∷ files) g path y is is_named =
     let e : n ≡ n + 0 = omega arith in

@@ -34,28 +34,28 @@ pub record SourcesCome (old : Loaded) (id : List ℕ) (names : List (List ℕ)) 
   pub call : Placed (Call Span)
   pub is_call : the_call (project old) role.Target id ≡ Ok call
   pub gets : ListGets (home call.place (source_marks (project old) call)) (new_names (source_marks (project old) call) names) (plain_trees old) (plain_trees new)
-  pub whole : All IsUtf8 names → SourcesGrow (new_names (source_marks (project old) call) names) call.place (project old) (project new)
+  pub whole : All IsUtf8 names → SourcesGrow (new_names (source_marks (project old) call) names) id call (project old) (project new)
 
 -- Of the sources those that are named are gone, and of all sources of the target no others.
 pub record SourcesGo (old : Loaded) (id : List ℕ) (names : List (List ℕ)) (new : Loaded) : Type 0 where
   pub call : Placed (Call Span)
   pub is_call : the_call (project old) role.Target id ≡ Ok call
   pub go : NamesGo (source_marks (project old) call) names (plain_trees old) (plain_trees new)
-  pub whole : SourcesShrink names call (project old) (project new)
+  pub whole : SourcesShrink names id call (project old) (project new)
 
 -- Each new extra file is there once. All extra files of the target are those that it had and these.
 pub record ExtrasCome (old : Loaded) (id : List ℕ) (names : List (List ℕ)) (new : Loaded) : Type 0 where
   pub call : Placed (Call Span)
   pub is_call : the_call (project old) role.Target id ≡ Ok call
   pub come : ExtraComes call (extra_home (project old) call) (new_names (extra_marks (project old) call) names) (plain_trees old) (plain_trees new)
-  pub whole : All IsUtf8 names → ExtrasGrow (new_names (extra_marks (project old) call) names) call.place (project old) (project new)
+  pub whole : All IsUtf8 names → ExtrasGrow (new_names (extra_marks (project old) call) names) id call (project old) (project new)
 
 -- Of the extra files those that are named are gone, and of all extra files of the target no others.
 pub record ExtrasGo (old : Loaded) (id : List ℕ) (names : List (List ℕ)) (new : Loaded) : Type 0 where
   pub call : Placed (Call Span)
   pub is_call : the_call (project old) role.Target id ≡ Ok call
   pub go : NamesGo (extra_marks (project old) call) names (plain_trees old) (plain_trees new)
-  pub whole : ExtrasShrink names call (project old) (project new)
+  pub whole : ExtrasShrink names id call (project old) (project new)
 
 -- The target is gone with its statement, and no target has its name.
 pub record TargetGoes (old : Loaded) (id : List ℕ) (new : Loaded) : Type 0 where

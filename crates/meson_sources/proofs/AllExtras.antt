@@ -20,8 +20,9 @@ use Rattle.meson_steps.specs.Steps.{Step, all_stepped}
 use Rattle.meson_steps.proofs.PlainTrees.{trees_stand}
 use Rattle.meson_steps.proofs.WentWell.{once_was, then_was}
 use Rattle.meson_sources.specs.Effects.{AreSpotsOf, ArgumentHolds, ExtraComes, has_one_of, is_at}
+use Rattle.meson_sources.specs.Extras.{extra_files}
 use Rattle.meson_sources.specs.SourceEdits.{behind_value, checked_extra, extra_added, extra_inserted, extra_key, extra_marks, new_names, without_home}
-use Rattle.meson_sources.specs.WholeExtras.{AllExtrasGrow, ExtrasGrow}
+use Rattle.meson_sources.specs.WholeExtras.{AllExtrasGrow}
 use Rattle.meson_sources.specs.WholeSources.{file_names, source_texts}
 use Rattle.meson_sources.proofs.CallForms.{CallIn, called, target_at}
 use Rattle.meson_sources.proofs.CallTrees.{keyed}
@@ -30,10 +31,12 @@ use Rattle.meson_sources.proofs.ExtraArguments.{grown_argument, new_argument}
 use Rattle.meson_sources.proofs.ExtrasAddable.{extra_once}
 use Rattle.meson_sources.proofs.FileKinds.{of_extras}
 use Rattle.meson_sources.proofs.FilesCome.{files_come}
+use Rattle.meson_sources.proofs.GrownFiles.{FilesGrown}
 use Rattle.meson_sources.proofs.GrownLists.{every_of}
 use Rattle.meson_sources.proofs.Homes.{Home, marked_home}
 use Rattle.meson_sources.proofs.KeyCounts.{few_once}
 use Rattle.meson_sources.proofs.ListTurns.{list_turns}
+use Rattle.meson_sources.proofs.NamedStays.{KeepsNames, files_grow, same_trees_named}
 use Rattle.meson_sources.proofs.NeverMet.{extras_elsewhere}
 use Rattle.meson_sources.proofs.ShrunkFiles.{extras_hold, extras_lost, stay}
 use Rattle.meson_sources.proofs.SourcesAddable.{new_texts}
@@ -64,7 +67,10 @@ module _ (old new : Loaded) (is : IsProject old) (same_names : file_names new �
   abbrev marks : List (Mark Span)
   marks = extra_marks (project old) (called t)
 
-  nothing_new : plain_trees new ≡ plain_trees old → ExtrasGrow [] c (project old) (project new)
+  abbrev Answer : List (List ℕ) → Type 0
+  Answer new_t = FilesGrown extra_files new_t c (project old) (project new) × KeepsNames old new (called t)
+
+  nothing_new : plain_trees new ≡ plain_trees old → FilesGrown extra_files [] c (project old) (project new)
   nothing_new same =
       let s = stay of_extras extras_hold extras_lost old (trees_stand old.files old.parsed is.parsed) c t target new same_names [] [] (no_spots (items marks)) tt (ap Some (sym same)) few in
       record {
@@ -77,23 +83,26 @@ module _ (old new : Loaded) (is : IsProject old) (same_names : file_names new �
       }
 
   without_list : (values : List (Numbered (Expression Span))) → keyed extra_key 0 t.arguments ≡ values → (name : List ℕ) (more : List (List ℕ)) → Every IsUtf8 (name ∷ more) → (steps : List Step)
-      → without_home (project old) c values (name ∷ more) ≡ Ok steps → ArgumentHolds c values (name ∷ more) (plain_trees old) (plain_trees new) → ExtrasGrow (name ∷ more) c (project old) (project new)
-  without_list [] there name more utf8 steps made holds = new_argument old new c t few (name ∷ more) utf8 there holds
+      → without_home (project old) c values (name ∷ more) ≡ Ok steps → ArgumentHolds c values (name ∷ more) (plain_trees old) (plain_trees new) → Answer (name ∷ more)
+  without_list [] there name more utf8 steps made holds = new_argument old new same_names c t few (name ∷ more) utf8 there holds
   without_list (v ∷ others) there name more utf8 steps made holds =
       let l = literal_value c v.number (literal_of v.value) (name ∷ more) steps made in
-      grown_argument old new c t few (name ∷ more) utf8 v others l.0 there l.1 holds
+      grown_argument old new same_names c t few (name ∷ more) utf8 v others l.0 there l.1 holds
 
   extras_come : (list : Option CallRef) → or_option (first_list marks) (first_empty marks) ≡ list → ((h : CallRef) → list ≡ Some h → Home (project old) h) → (new_t : List (List ℕ)) → Every IsUtf8 new_t
-      → (steps : List Step) → extra_inserted (project old) (called t) list new_t ≡ Ok steps → ExtraComes (called t) list new_t (plain_trees old) (plain_trees new) → ExtrasGrow new_t c (project old) (project new)
-  extras_come list is_list homes [] utf8 steps made comes = nothing_new comes
+      → (steps : List Step) → extra_inserted (project old) (called t) list new_t ≡ Ok steps → ExtraComes (called t) list new_t (plain_trees old) (plain_trees new) → Answer new_t
+  extras_come list is_list homes [] utf8 steps made comes = (nothing_new comes, same_trees_named old new (called t) comes)
   extras_come None is_list homes (name ∷ more) utf8 steps made comes = without_list (keyed extra_key 0 t.arguments) refl name more utf8 steps made comes
   extras_come (Some h) is_list homes (name ∷ more) utf8 steps made comes =
       let other = extras_elsewhere old (trees_stand old.files old.parsed is.parsed) c t target h is_list in
       files_come of_extras old new is same_names (name ∷ more) utf8 h (list_turns old new is h (homes h refl) (name ∷ more) comes) c t target few is_list other
 
+abbrev Grown : Loaded → Loaded → List (List ℕ) → Placed (Call Span) → Type 0
+Grown old new names c = FilesGrown extra_files (new_names (extra_marks (project old) c) names) c.place (project old) (project new) × KeepsNames old new c
+
 of_call : (old new : Loaded) → IsProject old → file_names new ≡ file_names old → (id : List ℕ) (names : List (List ℕ)) → All IsUtf8 names → (steps : List Step) → all_stepped steps (plain_trees old) ≡ Some (plain_trees new)
     → (c : CallRef) (t : CallIn (project old) c) → one_of target_functions t.name.text ≡ true → the_call (project old) role.Target id ≡ Ok (called t) → extra_added (project old) (called t) names ≡ Ok steps
-    → ExtrasGrow (new_names (extra_marks (project old) (called t)) names) c (project old) (project new)
+    → Grown old new names (called t)
 of_call old new is same_names id names utf8 steps done c t target found made =
     let p = project old in
     let ms = extra_marks p (called t) in
@@ -107,9 +116,14 @@ of_call old new is same_names id names utf8 steps done c t target found made =
     (λ h home. marked_home p ms h (extras_stand old is.parsed (called t) (targets_stand p id (called t) found)) home)
     (new_names ms names) (every_of IsUtf8 (new_names ms names) (new_texts ms names utf8)) steps inserted (extra-is-added old is id (called t) found names steps (plain_trees new) made done)
 
-pub all-extras-grow : AllExtrasGrow
-all-extras-grow old new is same_names id c found names utf8 steps made done =
+both : (old new : Loaded) → IsProject old → file_names new ≡ file_names old → (id : List ℕ) (c : Placed (Call Span)) → the_call (project old) role.Target id ≡ Ok c → (names : List (List ℕ)) → All IsUtf8 names → (steps : List Step)
+    → extra_added (project old) c names ≡ Ok steps → all_stepped steps (plain_trees old) ≡ Some (plain_trees new) → Grown old new names c
+both old new is same_names id c found names utf8 steps made done =
     let p = project old in
     let t = target_at p id c found in
-    subst (λ (d : Placed (Call Span)). the_call p role.Target id ≡ Ok d → extra_added p d names ≡ Ok steps → ExtrasGrow (new_names (extra_marks p d) names) d.place p (project new)) t.is
+    subst (λ (d : Placed (Call Span)). the_call p role.Target id ≡ Ok d → extra_added p d names ≡ Ok steps → Grown old new names d) t.is
     (of_call old new is same_names id names utf8 steps done c.place t.it t.is_target) found made
+
+pub all-extras-grow : AllExtrasGrow
+all-extras-grow old new is same_names id c found names utf8 steps made done =
+    let grown = both old new is same_names id c found names utf8 steps made done in files_grow extra_files (new_names (extra_marks (project old) c) names) old new c id grown.0 (grown.1 id found)

@@ -1,6 +1,6 @@
 -- The law on all sources after an addition.
-use Rattle.std.specs.Prelude.{◌⊎◌, All, is_some, option_map, Ok}
-use Rattle.std.specs.List.{filter_map}
+use Rattle.std.specs.Prelude.{◌⊎◌, ◌||◌, All, is_some, option_map, Ok}
+use Rattle.std.specs.List.{filter_map, list_any}
 use Rattle.std.proofs.Common.{◌≡◌, ℕ, ◌+◌, ◌≤◌, Bool, true, false, List, [], ◌∷◌, ◌++◌, length, Option, Some, None, refl, sym, ap, ◌∙◌, subst, inl, inr, IsUtf8}
 use Rattle.meson_lex.specs.declared.kinds.Span.{Span}
 use Rattle.meson_syntax.specs.Parts.{an_expression, a_block}
@@ -15,14 +15,14 @@ use Rattle.meson_calls.specs.Finding.{the_call}
 use Rattle.meson_calls.specs.Loading.{IsProject, Loaded, project}
 use Rattle.meson_calls.specs.Project.{Placed}
 use Rattle.meson_calls.specs.Roles.{one_of, target_functions}
-use Rattle.meson_calls.specs.Sources.{first_empty, first_list, home, once, or_call, or_option, source_marks, sources_key}
+use Rattle.meson_calls.specs.Sources.{first_empty, first_list, home, once, or_call, or_option, source_marks, sources, sources_key}
 use Rattle.meson_steps.specs.Names.{checked_names}
 use Rattle.meson_steps.specs.ResultLimits.{plain_trees}
 use Rattle.meson_steps.specs.Steps.{Step, all_stepped}
 use Rattle.meson_steps.proofs.WentWell.{then_was}
 use Rattle.meson_sources.specs.Effects.{strings}
 use Rattle.meson_sources.specs.SourceEdits.{inserted_in, is_plain, new_names, sources_added}
-use Rattle.meson_sources.specs.WholeSources.{AllSourcesGrow, SourcesGrow, file_names}
+use Rattle.meson_sources.specs.WholeSources.{AllSourcesGrow, file_names}
 use Rattle.meson_sources.proofs.Arrivals.{outside}
 use Rattle.meson_sources.proofs.Bares.{expand_with, values_of}
 use Rattle.meson_sources.proofs.CallForms.{CallIn, bare_arguments, bare_form, called, stands_bare, target_at}
@@ -31,11 +31,13 @@ use Rattle.meson_sources.proofs.FileKinds.{met_in, of_sources}
 use Rattle.meson_sources.proofs.FilesCome.{files_come}
 use Rattle.meson_sources.proofs.Functions.{target_no_files, target_no_matter}
 use Rattle.meson_sources.proofs.Gists.{Grows, gist}
-use Rattle.meson_sources.proofs.GrownFiles.{answered_alike}
+use Rattle.meson_sources.proofs.GrownFiles.{FilesGrown, answered_alike}
 use Rattle.meson_sources.proofs.GrownLists.{Anywhere, Nothing, arguments_bring, every_of, name_met}
 use Rattle.meson_sources.proofs.KeyCounts.{key_count, key_strings, few_once}
 use Rattle.meson_sources.proofs.ListTurns.{ListTurns, Turn, an_array, a_call, a_dictionary, list_turns, new_list, old_list}
 use Rattle.meson_sources.proofs.MarkLists.{below, below_itself}
+use Rattle.meson_sources.proofs.NamedStays.{KeepsNames, files_grow, named_stays}
+use Rattle.meson_sources.proofs.NamesStay.{calls_alike, first_grown, grown_tells}
 use Rattle.meson_sources.proofs.PlacesBelow.{below_steps, under}
 use Rattle.meson_sources.proofs.SceneKins.{kin_c}
 use Rattle.meson_sources.proofs.Scenes.{NodeIn, same_places}
@@ -72,6 +74,10 @@ no_first n (argument (named s x e) more) (a ∷ back) is none = let tails : eras
 no_first n (argument (pair s e f) more) [] is none = absurd cc
 no_first n (argument (pair s e f) more) (a ∷ back) is none = let tails : erase_arguments more ≡ arguments_of back = cc in no_first (n + 1) more back tails none.1
 
+some_plain : (front : List (Argument Nowhere)) → Every (λ a. is_plain a ≡ true) front → (front ≡ [] → ⊥) → list_any is_plain front ≡ true
+some_plain [] all some = absurd (some refl)
+some_plain (a ∷ front) all some = ap (λ b. b || list_any is_plain front) all.0
+
 -- where further sources go, if not into the call itself
 met_home : (c h : CallRef) (o : Option CallRef) → or_call c o ≡ h → (c ≡ h → ⊥) → o ≡ Some h
 met_home c h None is other = absurd (other is)
@@ -80,7 +86,7 @@ met_home c h (Some q) is other = ap Some is
 module _ (old new : Loaded) (is : IsProject old) (same_names : file_names new ≡ file_names old) (new_t : List (List ℕ)) (utf8 : Every IsUtf8 new_t) (h : CallRef) (l : ListTurns old new h new_t) (c : CallRef) (t : CallIn (project old) c)
     (target : one_of target_functions t.name.text ≡ true) (has_first : is_some (first_argument (called t).it) ≡ true) (few : length (keyed sources_key 0 t.arguments) ≤ 1) (is_home : home c (source_marks (project old) (called t)) ≡ h) where
   abbrev Answer : Type 0
-  Answer = SourcesGrow new_t c (project old) (project new)
+  Answer = FilesGrown sources new_t c (project old) (project new) × KeepsNames old new (called t)
 
   abbrev Turns : Expression Nowhere → Expression Nowhere → Type 0
   Turns older newer = Becomes (an_expression older) (an_expression newer) h.path.steps (a_block (block_of l.tree)) (a_block (block_of l.now))
@@ -114,9 +120,13 @@ module _ (old new : Loaded) (is : IsProject old) (same_names : file_names new �
       let same_both = same_c new_t Nothing Anywhere (λ p n a. tt) (λ p a z. z) q q x x before after no_files no_files2 c (λ p n m path leads other. tt) (λ p n path leads z. z) (values_of (project old)) (values_of (project new)) kin in
       let brings = arguments_bring new_t always (an_expression older) (an_expression newer) c (expand_with (values_of (project old)) max_followed) (expand_with (values_of (project new)) max_followed) same_both
       (λ y u z g P p. name_met y u z g P p) c l.back l.none utf8 l.front l.all_plain (λ nil. some_front nil form) [] [] refl refl in
-      answered_alike of_sources new_t old new c t few (arguments_of (l.front ++ (strings new_t ++ l.back))) (record { name = x; trailing = z2; node = at_c2 })
+      let alike = calls_alike q x before after (grown_tells new_t l.front l.back) (inr (first_grown l.front (strings new_t ++ l.back) l.back (some_plain l.front l.all_plain (λ nil. some_front nil form)))) in
+      let named : KeepsNames old new (called t) = λ id found. named_stays old new same_names h l.tree l.now l.was l.is_now l.others older newer w alike id (called t) found
+      (λ m path y leads. let none : [] ≡ m ∷ path = below_steps h [] (m ∷ path) (below_itself h ∙ sym same ∙ leads) in absurd cc) in
+      let grows = answered_alike of_sources new_t old new c t few (arguments_of (l.front ++ (strings new_t ++ l.back))) (record { name = x; trailing = z2; node = at_c2 })
       (λ key. key_strings key new_t l.front l.back ∙ ap (key_count key) (sym form))
-      (subst (λ xs. Grows new_t (gist (met_in of_sources (project old) c xs).marks) (gist (met_in of_sources (project new) c (arguments_of (l.front ++ (strings new_t ++ l.back)))).marks)) (sym form) brings.grows)
+      (subst (λ xs. Grows new_t (gist (met_in of_sources (project old) c xs).marks) (gist (met_in of_sources (project new) c (arguments_of (l.front ++ (strings new_t ++ l.back)))).marks)) (sym form) brings.grows) in
+      (grows, named)
     where
       some_front : l.front ≡ [] → bare_arguments t ≡ arguments_of (l.front ++ l.back) → ⊥
       some_front nil form =
@@ -139,9 +149,12 @@ module _ (old new : Loaded) (is : IsProject old) (same_names : file_names new �
 
 -- ---- the law
 
+abbrev Grown : Loaded → Loaded → List (List ℕ) → Placed (Call Span) → Type 0
+Grown old new names c = FilesGrown sources (new_names (source_marks (project old) c) names) c.place (project old) (project new) × KeepsNames old new c
+
 of_call : (old new : Loaded) → IsProject old → file_names new ≡ file_names old → (id : List ℕ) (names : List (List ℕ)) → All IsUtf8 names → (steps : List Step) → all_stepped steps (plain_trees old) ≡ Some (plain_trees new) → (c : CallRef) (t : CallIn (project old) c)
     → one_of target_functions t.name.text ≡ true → is_some (first_argument (called t).it) ≡ true → the_call (project old) role.Target id ≡ Ok (called t) → sources_added (project old) (called t) names ≡ Ok steps
-    → SourcesGrow (new_names (source_marks (project old) (called t)) names) c (project old) (project new)
+    → Grown old new names (called t)
 of_call old new is same_names id names utf8 steps done c t target has_first found made =
     let p = project old in
     let there = targets_stand p id (called t) found in
@@ -154,9 +167,14 @@ of_call old new is same_names id names utf8 steps done c t target has_first foun
     let checked = then_was (checked_names names) (λ _. once sources_key key (inserted_in p h new_t)) steps made in
     sources_come old new is same_names new_t (every_of IsUtf8 new_t (new_texts ms names utf8)) h (list_turns old new is h hm new_t gets) c t target has_first (few_once sources_key key (inserted_in p h new_t) steps checked.2) refl
 
-pub all-sources-grow : AllSourcesGrow
-all-sources-grow old new is same_names id c found names utf8 steps made done =
+both : (old new : Loaded) → IsProject old → file_names new ≡ file_names old → (id : List ℕ) (c : Placed (Call Span)) → the_call (project old) role.Target id ≡ Ok c → (names : List (List ℕ)) → All IsUtf8 names → (steps : List Step)
+    → sources_added (project old) c names ≡ Ok steps → all_stepped steps (plain_trees old) ≡ Some (plain_trees new) → Grown old new names c
+both old new is same_names id c found names utf8 steps made done =
     let p = project old in
     let t = target_at p id c found in
-    subst (λ (d : Placed (Call Span)). the_call p role.Target id ≡ Ok d → sources_added p d names ≡ Ok steps → SourcesGrow (new_names (source_marks p d) names) d.place p (project new)) t.is
+    subst (λ (d : Placed (Call Span)). the_call p role.Target id ≡ Ok d → sources_added p d names ≡ Ok steps → Grown old new names d) t.is
     (of_call old new is same_names id names utf8 steps done c.place t.it t.is_target t.has_first) found made
+
+pub all-sources-grow : AllSourcesGrow
+all-sources-grow old new is same_names id c found names utf8 steps made done =
+    let grown = both old new is same_names id c found names utf8 steps made done in files_grow sources (new_names (source_marks (project old) c) names) old new c id grown.0 (grown.1 id found)

@@ -96,7 +96,7 @@ new_keyed (pair s e f ∷ us) k names none = new_keyed us (k + 1) names none
 same_number : (v w : Numbered (Expression Nowhere)) (us vs : List (Numbered (Expression Nowhere))) → v ∷ us ≡ w ∷ vs → v.number ≡ w.number
 same_number v w us vs is = let same : v ≡ w = cc in ap (λ (z : Numbered (Expression Nowhere)). z.number) same
 
-same_value : (v w : Numbered (Expression Nowhere)) (us vs : List (Numbered (Expression Nowhere))) → v ∷ us ≡ w ∷ vs → v.value ≡ w.value
+pub same_value : (v w : Numbered (Expression Nowhere)) (us vs : List (Numbered (Expression Nowhere))) → v ∷ us ≡ w ∷ vs → v.value ≡ w.value
 same_value v w us vs is = let same : v ≡ w = cc in ap (λ (z : Numbered (Expression Nowhere)). z.value) same
 
 same_tail : (v w : Numbered (Expression Nowhere)) (us vs : List (Numbered (Expression Nowhere))) → v ∷ us ≡ w ∷ vs → us ≡ vs

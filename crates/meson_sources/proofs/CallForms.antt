@@ -55,7 +55,7 @@ pub record CallAgain (p : Project Span) (c : CallRef) (name : List ℕ) (list : 
   pub same : bare_arguments it ≡ list
   pub same_name : it.name.text ≡ name
 
-span_tree : (files : List File) (parsed : List Parsed) (i : ℕ) (u : Plain) → nth (map erase (views files parsed)) i ≡ Some u → (f : BuildFile Span) × (nth_file (named_trees files (views files parsed)) i ≡ Some f) × (erase f.tree ≡ u)
+pub span_tree : (files : List File) (parsed : List Parsed) (i : ℕ) (u : Plain) → nth (map erase (views files parsed)) i ≡ Some u → (f : BuildFile Span) × (nth_file (named_trees files (views files parsed)) i ≡ Some f) × (erase f.tree ≡ u)
 span_tree [] parsed i u is = absurd cc
 span_tree (f ∷ files) [] i u is = absurd cc
 span_tree (f ∷ files) (t ∷ parsed) zero u is = (record { name = f.name; tree = view f.bytes t }, refl, some-injective _ _ is)

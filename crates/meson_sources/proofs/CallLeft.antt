@@ -1,20 +1,24 @@
 -- The call of a target after strings have gone from its lists of sources or of extra files.
-use Rattle.std.specs.Prelude.{All, not}
+use Rattle.std.specs.Prelude.{All, not, Ok}
 use Rattle.std.proofs.Common.{◌≡◌, ℕ, zero, suc, ◌+◌, Bool, true, false, List, length, Some, None, refl, sym, ap, ◌∙◌, subst, arith, inl, inr}
 use Rattle.meson_lex.specs.Literals.{value}
 use Rattle.meson_lex.specs.declared.kinds.Span.{Span}
+use Rattle.meson_syntax.specs.declared.operator.Assignment.TheVariants as assignment
 use Rattle.meson_syntax.specs.declared.operator.StringKind.{StringKind}
 use Rattle.meson_syntax.specs.Grammar.{LevelExpression}
 use Rattle.meson_syntax.specs.Operators.{string_kind}
-use Rattle.meson_syntax.specs.Parts.{an_expression, child_nodes}
+use Rattle.meson_syntax.specs.Parts.{an_expression, a_statement, child_nodes}
 use Rattle.meson_syntax.specs.Paths.{nth}
-use Rattle.meson_syntax.specs.Tree.{Nowhere, Plain, Expression, string, call, listing, plain, named, pair, Arguments, no_arguments, argument, erase_expression}
+use Rattle.meson_syntax.specs.Tree.{Nowhere, Plain, Name, Expression, string, call, assign, listing, plain, named, pair, Arguments, no_arguments, argument, erase_expression}
 use Rattle.meson_syntax.proofs.paths.Every.{Every}
 use Rattle.meson_syntax.proofs.paths.Reaching.{map-some}
 use Rattle.meson_calls.specs.declared.call.CallRef.{CallRef}
 use Rattle.meson_calls.specs.Expansion.{Item, Stand, literal_item, max_followed}
+use Rattle.meson_calls.specs.declared.call.Role.TheVariants as role
+use Rattle.meson_calls.specs.Calls.{call_of}
+use Rattle.meson_calls.specs.Finding.{the_call}
 use Rattle.meson_calls.specs.Loading.{Loaded, project}
-use Rattle.meson_calls.specs.Project.{Placed}
+use Rattle.meson_calls.specs.Project.{Placed, child}
 use Rattle.meson_calls.specs.Roles.{one_of, target_functions}
 use Rattle.meson_calls.specs.Variables.{single}
 use Rattle.meson_steps.specs.ListSteps.{MayStandBetween}
@@ -23,8 +27,12 @@ use Rattle.meson_steps.specs.ResultLimits.{plain_trees}
 use Rattle.meson_steps.specs.Steps.{all_stepped}
 use Rattle.meson_sources.specs.Effects.{AreSpotsOf, goes, place_after, string_child}
 use Rattle.meson_sources.specs.SourceEdits.{Spot, distinct_spots, removal_steps}
-use Rattle.meson_sources.specs.WholeSources.{SameCall, file_names}
+use Rattle.meson_sources.specs.WholeSources.{file_names}
 use Rattle.meson_sources.proofs.Arrivals.{call_shape}
+use Rattle.meson_sources.proofs.FoundAgain.{Names}
+use Rattle.meson_sources.proofs.NamedAgain.{SetStays, assigned_shape, named_again}
+use Rattle.meson_sources.proofs.PlacesAfter.{child_after, first_after}
+use Rattle.meson_sources.proofs.TargetNames.{by_bare, call_by, call_tells, first_plain, tell_call}
 use Rattle.meson_sources.proofs.Bares.{Values, bare_value, expand_with, values_of}
 use Rattle.meson_sources.proofs.CallForms.{CallIn, CallNode, bare_arguments, bare_form, called, stands_bare}
 use Rattle.meson_sources.proofs.DistinctSpots.{distinct_apart, every_distinct}
@@ -38,17 +46,22 @@ use Rattle.meson_sources.proofs.ElementsLeft.{Lost}
 use Rattle.meson_sources.proofs.LossesBuilt.{loses}
 use Rattle.meson_sources.proofs.LostArguments.{FirstStays}
 use Rattle.meson_sources.proofs.LostValues.{expand_left}
+use Rattle.meson_sources.proofs.NamesLeft.{MayGo, MayGoAt, NotFirst, SameNames, names_left}
 use Rattle.meson_sources.proofs.NodesLeft.{NodeLeft, node_left}
 use Rattle.meson_sources.proofs.OneStringGone as kept
 use Rattle.meson_sources.proofs.QuietLists.{QuietAt, quiet, tells_left}
 use Rattle.meson_sources.proofs.RenamedStrings.{Node}
-use Rattle.meson_sources.proofs.SameCalls.{first_left, same_call}
+use Rattle.meson_sources.proofs.SameCalls.{own_left}
 use Rattle.meson_sources.proofs.Scenes.{NodeIn}
-use Rattle.meson_sources.proofs.Shapes.{shape}
+use Rattle.meson_sources.proofs.Shapes.{blanks, shape}
 use Rattle.meson_sources.proofs.SpotsHeld.{Held, SpotHeld, all_named, each_spot, gone_held, same_there}
 use Rattle.meson_sources.proofs.StringsStay.{element_any}
 use Rattle.meson_sources.proofs.StringsThere.{StringIn}
 use Rattle.meson_sources.proofs.VariablesLeft.{values_left}
+
+-- where a place is after the elements at these spots have gone
+abbrev pub moved_place : List Spot → CallRef → CallRef
+moved_place spots c = place_after (length (distinct_spots spots)) (distinct_spots spots) c
 
 -- ---- the first argument without a name
 
@@ -70,6 +83,15 @@ first_stays gone c no_arguments k stays = tt
 first_stays gone c (argument (plain e) more) k stays = stays k refl
 first_stays gone c (argument (named t x e) more) k stays = first_stays gone c more (k + 1) stays
 first_stays gone c (argument (pair t e f) more) k stays = first_stays gone c more (k + 1) stays
+
+not_first : (xs : Arguments Nowhere) (k n j : ℕ) → n ≡ k + j → (FirstIs k n xs → ⊥) → NotFirst j (blanks xs)
+not_first no_arguments k n j is other = tt
+not_first (argument (plain e) more) k n zero is other = absurd (other (omega (arith, is)))
+not_first (argument (plain e) more) k n (suc j) is other = tt
+not_first (argument (named t x e) more) k n zero is other = tt
+not_first (argument (named t x e) more) k n (suc j) is other = not_first more (k + 1) n j (omega (arith, is)) other
+not_first (argument (pair t e f) more) k n zero is other = tt
+not_first (argument (pair t e f) more) k n (suc j) is other = not_first more (k + 1) n j (omega (arith, is)) other
 
 -- ---- nodes
 
@@ -105,15 +127,15 @@ module _ (old : Loaded) (stand : All MayStandBetween (plain_trees old)) (c : Cal
   call_level : LevelExpression call_node
   call_level = node_level trees stand c call_node at_call
 
-  -- what holds of each list of sources: it tells nothing of variables, and if it is the call's, the element is not its first one
+  -- what holds of each list of sources: it tells nothing of variables, if it is the call's, the element is not its first one, and so of any call of a target
   abbrev pub Fine : CallRef → ℕ → Node → Type 0
-  Fine q n y = (quiet (shape y) ≡ true) × (q ≡ c → FirstIs 0 n bare_xs → ⊥)
+  Fine q n y = (quiet (shape y) ≡ true) × (q ≡ c → FirstIs 0 n bare_xs → ⊥) × MayGo (shape y) n
 
   not_call : (q : CallRef) (y : Node) → NodeIn trees q y → q ≡ c → y ≡ an_expression call_node
   not_call q y h same = same_there trees c (an_expression call_node) y at_call (subst (λ p. NodeIn trees p y) same h)
 
   pub fine : (q : CallRef) (n : ℕ) (y : Node) → NodeIn trees q y → IsSources y → Fine q n y
-  fine q n y h (inl w) = (ap (λ z. quiet (shape z)) w.1, λ same first. let node = sym w.1 ∙ not_call q y h same in cc)
+  fine q n y h (inl w) = (ap (λ z. quiet (shape z)) w.1, λ same first. let node = sym w.1 ∙ not_call q y h same in cc, subst (λ z. MayGo (shape z) n) (sym w.1) tt)
   fine q n y h (inr w) = (
     ap (λ z. quiet (shape z)) w.3 ∙ ap not (files_no_matter w.1.text w.2 w.4),
     λ same first.
@@ -121,7 +143,11 @@ module _ (old : Loaded) (stand : All MayStandBetween (plain_trees old)) (c : Cal
         let name : w.1.text ≡ t.name.text = cc in
         let none = target_no_files w.1.text w.2 (ap (one_of target_functions) name ∙ target) in
         let both : true ≡ false = sym w.4 ∙ none in cc,
+    subst (λ z. MayGo (shape z) n) (sym w.3) (λ yea. let none = target_no_files w.1.text w.2 yea in let both : true ≡ false = sym w.4 ∙ none in absurd cc),
   )
+
+  pub own_fine : (n : ℕ) → (FirstIs 0 n bare_xs → ⊥) → Fine c n (an_expression call_node)
+  own_fine n other = (ap not (target_no_matter t.name.text target), λ same. other, λ yea. not_first bare_xs 0 n n (omega arith) other)
 
   pub values_stand : (x : List ℕ) (v : Placed (Expression Nowhere)) → values_of (project old) x ≡ Some v → NodeIn trees v.place (an_expression v.it) × LevelExpression v.it
   values_stand x v is =
@@ -129,7 +155,7 @@ module _ (old : Loaded) (stand : All MayStandBetween (plain_trees old)) (c : Cal
       let n = value_in old x m.0 m.0.place m.1 refl in
       subst (λ (w : Placed (Expression Nowhere)). NodeIn trees w.place (an_expression w.it) × LevelExpression w.it) m.2 (n, node_level trees stand m.0.place (erase_expression m.0.it) n)
 
-  pub call_from : CallFrom trees Fine fine (values_of (project old)) values_stand c (an_expression call_node) at_call (λ n. FirstIs 0 n bare_xs) (λ n other. (ap not (target_no_matter t.name.text target), λ same. other)) bare_xs 0 false
+  pub call_from : CallFrom trees Fine fine (values_of (project old)) values_stand c (an_expression call_node) at_call (λ n. FirstIs 0 n bare_xs) own_fine bare_xs 0 false
   call_from = record {
     level = call_level.1;
     children = λ j x is. let k : j ≡ 0 + j = omega arith in ap (nth (child_nodes (an_expression call_node))) (sym k) ∙ is;
@@ -168,6 +194,13 @@ module _ (old : Loaded) (stand : All MayStandBetween (plain_trees old)) (c : Cal
     silent = each_spot trees Fine fine names is held found of_names (QuietAt trees) (λ t w.
         let held = w.string_held.held in record { node = held.node; is = as_kept trees t.list held.node held.is (quiet_other held.node held.is_fine.0); quiet_is = held.is_fine.0 })
 
+    may : Every (MayGoAt trees) spots
+    may = each_spot trees Fine fine names is held found of_names (MayGoAt trees) (λ t w.
+        let held = w.string_held.held in record { node = held.node; is = as_kept trees t.list held.node held.is (quiet_other held.node held.is_fine.0); may = held.is_fine.2 })
+
+    names_stay : (i : ℕ) → SameNames (nth trees i) (nth after i)
+    names_stay = names_left (length spots) spots refl trees after stand are may (distinct_apart found) done
+
     pub first : FirstStays gone c 0 bare_xs
     first = first_stays gone c bare_xs 0 (λ n is. go n is (gone c n) refl)
       where
@@ -203,7 +236,29 @@ module _ (old : Loaded) (stand : All MayStandBetween (plain_trees old)) (c : Cal
     pub are_named : Every (NamedGoes gone names) is
     are_named = all_named trees Fine fine names is held found of_names
 
-    pub stays_call : SameCall (called t).it (project new) (place_after (length spots) spots c)
-    stays_call =
+    -- an assignment stays where it has moved to
+    set_left : (q : CallRef) (x : Name Nowhere) (v : Expression Nowhere) → c ≡ child q 0 → NodeIn trees q (a_statement (assign tt x assignment.Set v)) → SetStays after (place_after (length spots) spots c) x.text
+    set_left q x v is_place n =
+        let l = left q _ (as_kept trees q (a_statement (assign tt x assignment.Set v)) n refl) in
+        let a = assigned_shape l.node x.text assignment.Set l.shapes in
+        record {
+          at = place_after (length spots) spots q;
+          is_place =
+              ap (place_after (length spots) spots) is_place ∙ child_after (length spots) spots q 0 ∙ ap (child (place_after (length spots) spots q)) (first_after (length spots) spots q);
+          r = a.r;
+          name = a.name;
+          value = a.value;
+          node = subst (NodeIn after (place_after (length spots) spots q)) a.is (as_there after (place_after (length spots) spots q) l.node l.is);
+          same = a.same;
+        }
+
+    -- the id of the call names it still, and it alone
+    pub named_left : (id : List ℕ) → the_call (project old) role.Target id ≡ Ok (called t) → Names (project new) id (place_after (length spots) spots c) (called t).it
+    named_left id found_call =
         let k = call_left in
-        same_call new c t (place_after (length spots) spots c) k.ys k.node k.same_name (first_left gone c 0 0 bare_xs k.ys first k.each)
+        let name = k.node.name in
+        let node = call tt name (listing tt k.node.trailing k.ys) in
+        let owns : tell_call (call_of node) ≡ tell_call (Some (called t).it) =
+        call_tells name.text tt k.node.trailing k.ys ∙ ap (λ f. call_by f (first_plain k.ys)) k.same_name ∙ own_left gone c 0 t.name.text bare_xs k.ys first k.each ∙ by_bare t.name.text t.arguments
+        ∙ sym (call_tells t.name.text t.brackets t.trailing t.arguments) in
+        named_again old new names_stay id (called t) found_call (place_after (length spots) spots c) node k.node.node owns set_left

@@ -1,6 +1,6 @@
 -- The extra files of a target after its call has got an argument for them, or an array in the place of a lone one.
 use Rattle.std.specs.Prelude.{option_and_then, option_map}
-use Rattle.std.proofs.Common.{◌≡◌, ℕ, ◌+◌, ◌≤◌, List, [], ◌∷◌, ◌++◌, append-nil, length, map, Some, refl, sym, ap, ◌∙◌, subst, arith, IsUtf8}
+use Rattle.std.proofs.Common.{◌≡◌, ℕ, ◌+◌, ◌≤◌, List, [], ◌∷◌, ◌++◌, append-nil, length, map, Some, refl, sym, ap, ◌∙◌, subst, arith, IsUtf8, None}
 use Rattle.meson_lex.specs.declared.kinds.Span.{Span}
 use Rattle.meson_syntax.specs.Parts.{an_expression}
 use Rattle.meson_syntax.specs.Paths.{ListAt, ListIn, list_at, list_in}
@@ -17,18 +17,21 @@ use Rattle.meson_calls.specs.Project.{Project}
 use Rattle.meson_steps.specs.ResultLimits.{plain_trees}
 use Rattle.meson_sources.specs.Effects.{ArgumentComes, ArgumentGrows, OnlyList, array_holding, elements_found, extra_argument, strings}
 use Rattle.meson_sources.specs.SourceEdits.{extra_key}
-use Rattle.meson_sources.specs.WholeExtras.{ExtrasGrow}
+use Rattle.meson_sources.specs.Extras.{extra_files}
+use Rattle.meson_sources.specs.WholeSources.{file_names}
 use Rattle.meson_sources.proofs.ArrayFiles.{keyed_value, lone_array, lone_literal, lone_wrapped, new_keyed, other_keyed}
 use Rattle.meson_sources.proofs.Bares.{expand_with, values_of}
-use Rattle.meson_sources.proofs.CallForms.{CallIn, CallNode, bare_arguments, bare_form, stands_bare}
+use Rattle.meson_sources.proofs.CallForms.{CallIn, CallNode, bare_arguments, bare_form, stands_bare, called}
 use Rattle.meson_sources.proofs.CallTrees.{keyed, list_with}
 use Rattle.meson_sources.proofs.ElementsThere.{root}
 use Rattle.meson_sources.proofs.ExtraCalls.{as_whole}
 use Rattle.meson_sources.proofs.FileKinds.{met_in, of_extras}
 use Rattle.meson_sources.proofs.Gists.{all_known, gist}
-use Rattle.meson_sources.proofs.GrownFiles.{answered}
+use Rattle.meson_sources.proofs.GrownFiles.{FilesGrown, answered}
 use Rattle.meson_sources.proofs.KeyCounts.{key_count, key_length}
+use Rattle.meson_sources.proofs.ExtraNames.{argument_first, argument_tells, arguments_named, grown_argument_first, grown_argument_tells}
 use Rattle.meson_sources.proofs.ListTurns.{listing_form}
+use Rattle.meson_sources.proofs.NamedStays.{KeepsNames}
 use Rattle.meson_sources.proofs.OneStringGone.{elements_any}
 use Rattle.meson_sources.proofs.RenamedStrings.{Node}
 use Rattle.meson_sources.proofs.Scenes.{NodeIn}
@@ -47,7 +50,7 @@ bare_literal : (e : Expression Span) → literal_of (erase_expression e) ≡ lit
 bare_literal (string s q x) = refl
 bare_literal _ = refl
 
-module _ (old new : Loaded) (c : CallRef) (t : CallIn (project old) c) (few : length (keyed extra_key 0 t.arguments) ≤ 1) where
+module _ (old new : Loaded) (same_names : file_names new ≡ file_names old) (c : CallRef) (t : CallIn (project old) c) (few : length (keyed extra_key 0 t.arguments) ≤ 1) where
   abbrev trees : List Plain
   trees = plain_trees old
 
@@ -92,20 +95,23 @@ module _ (old new : Loaded) (c : CallRef) (t : CallIn (project old) c) (few : le
       ap (λ (e : Expansion Nowhere). gist e.marks) (as_whole one c list) ∙ ap (λ l. gist (list_with one c (λ n. fixed) l []).marks) is
 
   module _ (names : List (List ℕ)) (utf8 : Every IsUtf8 names) where
-    pub new_argument : keyed extra_key 0 t.arguments ≡ [] → ArgumentComes c (extra_argument names) trees after → ExtrasGrow names c (project old) (project new)
+    pub new_argument : keyed extra_key 0 t.arguments ≡ [] → ArgumentComes c (extra_argument names) trees after → FilesGrown extra_files names c (project old) (project new) × KeepsNames old new (called t)
     new_argument none comes =
         let bare_none : keyed extra_key 0 (bare_arguments t) ≡ [] = keyed_bare extra_key 0 t.arguments ∙ ap (map bare_number) none in
         let k = new_keyed comes.arguments 0 names (ap (keyed extra_key 0) (were comes.arguments comes.had) ∙ bare_none) in
         let list = arguments_of (comes.arguments ++ extra_argument names ∷ []) in
-        answered of_extras names old new c t few list (then_call (comes.arguments ++ extra_argument names ∷ []) comes.has comes.only) (one_key list _ k.1) (λ ys same. refl) (record {
+        let us = comes.arguments ++ extra_argument names ∷ [] in
+        let named = arguments_named old new same_names (called t) comes.arguments us comes.had comes.has comes.only (argument_tells comes.arguments names) (argument_first comes.arguments names) in
+        let grows = answered of_extras names old new c t few list (then_call (comes.arguments ++ extra_argument names ∷ []) comes.has comes.only) (one_key list _ k.1) (λ ys same. refl) (record {
           front = [];
           back = [];
           had = met_by (project old) (bare_arguments t) [] bare_none;
           has = met_by (project new) list _ k.1 ∙ lone_array (values_of (project new)) c k.0 names utf8 ∙ sym (append-nil (all_known names));
-        })
+        }) in
+        (grows, named)
 
     pub grown_argument : (v : Numbered (Expression Span)) (others : List (Numbered (Expression Span))) (text : List ℕ) → keyed extra_key 0 t.arguments ≡ v ∷ others → literal_of v.value ≡ Some text → ArgumentGrows c v.number names trees after
-        → ExtrasGrow names c (project old) (project new)
+        → FilesGrown extra_files names c (project old) (project new) × KeepsNames old new (called t)
     grown_argument v others text is literal g =
         let alone : others ≡ [] = no_more others (let many = ap length is in omega (arith, many, few)) in
         let w = erase_expression v.value in
@@ -117,14 +123,19 @@ module _ (old new : Loaded) (c : CallRef) (t : CallIn (project old) c) (few : le
         let k = other_keyed g.front g.it g.back 0 v.number w w2 number here in
         let list = arguments_of (g.front ++ with_value w2 g.it ∷ g.back) in
         let is_literal : literal_of w ≡ Some text = bare_literal v.value ∙ literal in
-        answered of_extras names old new c t few list (then_call (g.front ++ with_value w2 g.it ∷ g.back) g.has g.only) (one_key list _ k) (λ ys same. refl) (record {
+        let no_array : w ≡ w2 → ⊥ = (λ both. let none : Some text ≡ None = sym is_literal ∙ ap literal_of both in cc) in
+        let us = g.front ++ with_value w2 g.it ∷ g.back in
+        let named = arguments_named old new same_names (called t) (g.front ++ g.it ∷ g.back) us g.had g.has g.only (grown_argument_tells g.value names g.front g.it g.back g.is_value)
+        (grown_argument_first extra_key g.front g.it g.back v.number w w2 here k no_array) in
+        let grows = answered of_extras names old new c t few list (then_call (g.front ++ with_value w2 g.it ∷ g.back) g.has g.only) (one_key list _ k) (λ ys same. refl) (record {
           front = Some text ∷ [];
           back = [];
           had = met_by (project old) (bare_arguments t) _ bare_one ∙ lone_literal (values_of (project old)) c v.number w text is_literal;
           has =
               met_by (project new) list _ k
               ∙ lone_wrapped (values_of (project new)) c v.number g.value text (ap literal_of same ∙ is_literal) names utf8 ∙ ap (λ l. Some text ∷ l) (sym (append-nil (all_known names)));
-        })
+        }) in
+        (grows, named)
       where
         no_more : (us : List (Numbered (Expression Span))) → length us ≤ 0 → us ≡ []
         no_more [] few = refl

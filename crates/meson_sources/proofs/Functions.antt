@@ -20,6 +20,13 @@ target_no_files f (listing r trailing list) yea = ap (λ b. b && not (has_names 
 pub target_no_matter : (f : List ℕ) → one_of target_functions f ≡ true → matters f ≡ false
 target_no_matter f yea = ap₂ (λ a b. a || b) (no_other f (codes "set_variable") yea refl) (no_other f (codes "subdir") yea refl)
 
+pub files_no_target : (f : List ℕ) (l : Listing Nowhere) → is_files f l ≡ true → one_of target_functions f ≡ false
+files_no_target f l files = go (one_of target_functions f) refl
+  where
+    go : (b : Bool) → one_of target_functions f ≡ b → b ≡ false
+    go true yea = sym files ∙ target_no_files f l yea
+    go false nay = refl
+
 pub files_no_matter : (f : List ℕ) (l : Listing Nowhere) → is_files f l ≡ true → matters f ≡ false
 files_no_matter f (listing r trailing list) yea = go (bytes_eq f (codes "files")) (bytes_eq-Decides f (codes "files")).0 yea
   where

@@ -1,21 +1,33 @@
 -- After an addition a target has its old files and the new ones.
+use Rattle.std.specs.Prelude.{Some, Ok}
 use Rattle.std.proofs.Common.{◌≡◌, ℕ, ◌≤◌, List, [], ◌∷◌, ◌++◌, length, map, refl, sym, ap, ap₂, ◌∙◌, arith}
 use Rattle.meson_lex.specs.declared.kinds.Span.{Span}
 use Rattle.meson_syntax.specs.Tree.{Nowhere, Expression, Arguments, erase_arguments}
 use Rattle.meson_calls.specs.declared.call.CallRef.{CallRef}
 use Rattle.meson_calls.specs.declared.call.SourceItem.{SourceItem}
+use Rattle.meson_calls.specs.declared.call.Sources as found
 use Rattle.meson_calls.specs.Calls.{Numbered}
 use Rattle.meson_calls.specs.Expansion.{Item}
 use Rattle.meson_calls.specs.Loading.{Loaded, project}
+use Rattle.meson_calls.specs.Project.{Project}
 use Rattle.meson_calls.specs.Sources.{hidden, items, source_item, sources_of_marks}
 use Rattle.meson_steps.specs.ResultLimits.{plain_trees}
-use Rattle.meson_sources.specs.WholeSources.{FilesGrow}
+use Rattle.meson_sources.specs.WholeSources.{Reading, TextsCome, source_texts}
 use Rattle.meson_sources.proofs.CallForms.{CallIn, CallNode, bare_arguments, call_again, called}
 use Rattle.meson_sources.proofs.CallTrees.{keyed}
 use Rattle.meson_sources.proofs.FileKinds.{FileKind, marks_say, met_in, read_once}
 use Rattle.meson_sources.proofs.Gists.{gist, Grows, grows_first, texts_are, texts_come, unknown_is, as_unknown}
 use Rattle.meson_sources.proofs.KeyCounts.{key_bare, key_count, key_length}
 use Rattle.meson_sources.proofs.Outcomes.{moved}
+
+-- The files at the place are the old ones and, in one place among them, these; and as many as before are not known.
+pub record FilesGrown (read : Reading) (new : List (List ℕ)) (c : CallRef) (p q : Project Span) : Type 0 where
+  pub before : found.Sources
+  pub were : read p c ≡ Some (Ok before)
+  pub after : found.Sources
+  pub are : read q c ≡ Some (Ok after)
+  pub come : TextsCome new (source_texts before) (source_texts after)
+  pub unknown : after.opaque ≡ before.opaque
 
 pub value_texts : (is : List (Item Span)) → map (λ (i : SourceItem). i.value) (map source_item is) ≡ map (λ (i : Item Span). i.text) is
 value_texts [] = refl
@@ -33,7 +45,7 @@ bare_length key xs = key_length key 0 xs ∙ sym (key_bare key xs)
 
 module _ (what : FileKind) (new_texts : List (List ℕ)) (old new : Loaded) (c : CallRef) (t : CallIn (project old) c) (few : length (keyed what.key 0 t.arguments) ≤ 1) (list : Arguments Nowhere) (node : CallNode (plain_trees new) c list) where
   pub answered : key_count what.key list ≤ 1 → ((ys : Arguments Span) → erase_arguments ys ≡ list → length (what.hide ys) ≡ length (what.hide t.arguments))
-      → Grows new_texts (gist (met_in what (project old) c (bare_arguments t)).marks) (gist (met_in what (project new) c list).marks) → FilesGrow what.read new_texts c (project old) (project new)
+      → Grows new_texts (gist (met_in what (project old) c (bare_arguments t)).marks) (gist (met_in what (project new) c list).marks) → FilesGrown what.read new_texts c (project old) (project new)
   answered few2 hides grows =
       let k = call_again new c list node in
       let marks = what.marks (project old) (called t) in
@@ -60,7 +72,7 @@ module _ (what : FileKind) (new_texts : List (List ℕ)) (old new : Loaded) (c :
 
   -- where as many arguments have each key
   pub answered_alike : ((key : List ℕ) → key_count key list ≡ key_count key (bare_arguments t))
-      → Grows new_texts (gist (met_in what (project old) c (bare_arguments t)).marks) (gist (met_in what (project new) c list).marks) → FilesGrow what.read new_texts c (project old) (project new)
+      → Grows new_texts (gist (met_in what (project old) c (bare_arguments t)).marks) (gist (met_in what (project new) c list).marks) → FilesGrown what.read new_texts c (project old) (project new)
   answered_alike counts grows =
       let same = counts what.key in
       let many = bare_length what.key t.arguments in

@@ -83,10 +83,19 @@ mod NodesLeft
 mod ElementsLeft
 mod LossesBuilt
 mod QuietLists
+mod RemovalsKeep
 mod ItemsThere
 mod VariablesLeft
 mod NamedGone
 mod SpotsHeld
+mod TargetNames
+mod NamesStay
+mod NamesLeft
+mod BareNodes
+mod FoundAgain
+mod NamedAgain
+mod NamedStays
+mod ExtraNames
 mod SameCalls
 mod CallLeft
 pub mod ShrunkFiles

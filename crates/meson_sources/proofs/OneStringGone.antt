@@ -40,6 +40,12 @@ use Rattle.meson_sources.proofs.ListsBut.{any_still, apart_not_same, but_same, b
 abbrev pub Untouched : Spot → CallRef → Type 0
 Untouched s c = (rest : List ℕ) → s.list.file ≡ c.file → s.list.path.steps ≡ c.path.steps ++ rest → ⊥
 
+-- The list of the spot is the one at the place, and loses its element; or it is another one.
+abbrev pub LosesOne : Spot → CallRef → (List (Argument Nowhere) → List (Argument Nowhere)) → Type 0
+LosesOne s c left =
+    (((xs : List (Argument Nowhere)) → left xs ≡ xs) × ((n : ℕ) → (spot_after s (spot_of_child c n)).number ≡ n))
+    ⊎ ((s.list.file ≡ c.file) × (s.list.path.steps ≡ c.path.steps) × ((xs : List (Argument Nowhere)) → left xs ≡ without s.number xs) × ((n : ℕ) → (spot_after s (spot_of_child c n)).number ≡ moved_up s.number n))
+
 -- nor in what stands there
 abbrev pub NotUnder : Spot → CallRef → Type 0
 NotUnder s c = (n : ℕ) (rest : List ℕ) → s.list.file ≡ c.file → s.list.path.steps ≡ c.path.steps ++ n ∷ rest → ⊥
@@ -240,6 +246,7 @@ module _ (trees : List Plain) (all : All MayStandBetween trees) (s : Spot) (ther
         pub whole : Untouched s c → node ≡ y
         pub untouched : AllByRecursion (λ u. Untouched u c) more → AllByRecursion (λ u. Untouched u now) (spots_after s more)
         pub left : List (Argument Nowhere) → List (Argument Nowhere)
+        pub lists : LosesOne s c left
         pub shapes : shape node ≡ shape_by left (shape y)
         pub elements_are : (xs : List (Argument Nowhere)) → elements_any y ≡ Some xs → NotUnder s c → elements_any node ≡ Some (left xs)
         pub left_are : (xs : List (Argument Nowhere)) → but (effects.goes (spots_after s more) now) (left xs) ≡ but before xs
@@ -269,6 +276,7 @@ module _ (trees : List Plain) (all : All MayStandBetween trees) (s : Spot) (ther
             whole = m.whole;
             untouched = all_untouched files more every;
             left = without k;
+            lists = inr (files, same, λ xs. refl, λ n. ap (λ (t : Spot). t.number) (moves n));
             shapes = m.shape_is;
             elements_are = m.elements_are;
             left_are = but_without k (effects.goes (spots_after s more) now) before gone_here later_same;
@@ -290,6 +298,7 @@ module _ (trees : List Plain) (all : All MayStandBetween trees) (s : Spot) (ther
             whole = m.whole;
             untouched = all_untouched files more every;
             left = λ xs. xs;
+            lists = inl (λ xs. refl, λ n. ap (λ (t : Spot). t.number) (moves n));
             shapes = m.shape_is;
             elements_are = m.elements_are;
             left_are = but_same (effects.goes (spots_after s more) now) before later_same;
@@ -310,6 +319,7 @@ module _ (trees : List Plain) (all : All MayStandBetween trees) (s : Spot) (ther
             whole = m.whole;
             untouched = elsewhere not_same more;
             left = λ xs. xs;
+            lists = inl (λ xs. refl, λ n. ap (λ b. (after_by b n).number) is);
             shapes = m.shape_is;
             elements_are = m.elements_are;
             left_are = but_same (effects.goes (spots_after s more) c) before later_same;

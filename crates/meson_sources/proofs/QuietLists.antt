@@ -1,6 +1,6 @@
 -- What the parts of trees tell of variables stays when strings go from lists of sources.
 use Rattle.std.specs.Prelude.{All, not, nat_eq, option_and_then, option_map}
-use Rattle.std.proofs.Common.{◌≡◌, ℕ, zero, suc, ◌+◌, Bool, true, false, List, [], ◌∷◌, ◌++◌, length, Option, Some, None, refl, sym, ap, ap₂, ◌∙◌, subst, arith}
+use Rattle.std.proofs.Common.{◌≡◌, ℕ, zero, suc, ◌+◌, Bool, true, false, List, [], ◌∷◌, ◌++◌, length, Option, Some, None, refl, sym, ap, ap₂, ◌∙◌, subst}
 use Rattle.std.specs.List.{cons_option}
 use Rattle.std.proofs.lemmas.Bool.{eqb-true, eq-eqb}
 use Rattle.meson_syntax.specs.declared.operator.StringKind.{StringKind}
@@ -10,21 +10,21 @@ use Rattle.meson_syntax.specs.Tree.{Nowhere, Plain, Expression, array, dictionar
 use Rattle.meson_syntax.proofs.parsing.Complete.{list-of-arguments}
 use Rattle.meson_syntax.proofs.parsing.Steps.{some-injective}
 use Rattle.meson_syntax.proofs.paths.Every.{Every}
-use Rattle.meson_syntax.proofs.paths.Reaching.{and-then-some}
-use Rattle.meson_edit.specs.Edits.{Remove, edited, elements, with_elements}
+use Rattle.meson_edit.specs.Edits.{elements, with_elements}
 use Rattle.meson_calls.specs.declared.call.CallRef.{CallRef}
 use Rattle.meson_calls.specs.Project.{child, place}
 use Rattle.meson_steps.specs.ListSteps.{MayStandBetween}
-use Rattle.meson_steps.specs.Steps.{all_stepped, step_in, stepped}
-use Rattle.meson_steps.proofs.WithOne.{change_there, changed_there, others_there}
+use Rattle.meson_steps.specs.Steps.{all_stepped}
+use Rattle.meson_steps.proofs.WithOne.{changed_there, others_there}
 use Rattle.meson_sources.specs.SourceEdits.{Spot, removed_by, spots_after}
 use Rattle.meson_sources.proofs.DistinctSpots.{AreApart}
 use Rattle.meson_sources.proofs.ElementsThere.{root, stands_at}
 use Rattle.meson_sources.proofs.OneGone.{without}
-use Rattle.meson_sources.proofs.OneStringGone.{NodeIn, all_clear, next}
+use Rattle.meson_sources.proofs.OneStringGone.{NodeIn, next}
 use Rattle.meson_sources.proofs.PlacesAfter.{spot_then}
 use Rattle.meson_sources.proofs.RemovedSpots.{all_apart, all_between, between, between_stand}
 use Rattle.meson_sources.proofs.RemovedSpots as removing
+use Rattle.meson_sources.proofs.RemovalsKeep.{all_keep}
 use Rattle.meson_sources.proofs.RenamedStrings.{Node}
 use Rattle.meson_sources.proofs.Scenes.{SameTells, file_tells}
 use Rattle.meson_sources.proofs.Shapes.{Shape, an_array, a_call, a_row, a_leaf, an_assignment, a_loop, another, shape}
@@ -158,21 +158,6 @@ module _ (trees : List Plain) (all : All MayStandBetween trees) (s : Spot) (ther
 
 pub tells_left : (left : ℕ) (spots : List Spot) → length spots ≡ left → (trees after : List Plain) → All MayStandBetween trees → Every (StringIn trees) spots → Every (QuietAt trees) spots → AreApart spots
     → all_stepped (removed_by left spots) trees ≡ Some after → (k i : ℕ) → SameTells k (nth trees i) (nth after i)
-tells_left zero [] many trees after all are silent apart done k i = subst (λ ts. SameTells k (nth trees i) (nth ts i)) (some-injective _ _ done) (tells_itself k (nth trees i))
-tells_left zero (s ∷ more) many trees after all are silent apart done k i = absurd (omega (arith, many))
-tells_left (suc left) [] many trees after all are silent apart done k i = absurd (omega (arith, many))
-tells_left (suc left) (s ∷ more) many trees after all are silent apart done k i =
-    let edit = Remove s.list.path.steps s.number in
-    let g = removing.goes trees all s are.0 in
-    let between_it = between trees all s are.0 in
-    let fewer : length (spots_after s more) ≡ left = omega (arith, many, as_many s more) in
-    let o = and-then-some (all_stepped (removed_by left (spots_after s more))) (stepped (step_in s.list edit) trees) after done in
-    let same : between_it ≡ o.0 = some-injective _ _ (sym (change_there (edited edit) trees s.list.file are.0.tree g.now are.0.is_tree g.is_now) ∙ o.1) in
-    let every = all_clear trees all s are.0 more are.1 apart.0 in
-    trans_tells k (nth trees i) (nth between_it i) (nth after i) (one_tells trees all s are.0 silent.0 k i)
-    (tells_left left (spots_after s more) fewer between_it after (between_stand trees all s are.0) (all_between trees all s are.0 more are.1 apart.0) (all_quiet trees all s are.0 silent.0 more every more silent.1)
-    (all_apart trees all s are.0 more are.1 apart.0 apart.1) (ap (all_stepped (removed_by left (spots_after s more))) same ∙ o.2) k i)
-  where
-    as_many : (s : Spot) (more : List Spot) → length (spots_after s more) ≡ length more
-    as_many s [] = refl
-    as_many s (t ∷ more) = ap suc (as_many s more)
+tells_left left spots many trees after all are silent apart done k i =
+    all_keep QuietAt (λ trees after. (k i : ℕ) → SameTells k (nth trees i) (nth after i)) (λ trees k i. tells_itself k (nth trees i)) (λ a b c one other k i. trans_tells k (nth a i) (nth b i) (nth c i) (one k i) (other k i)) one_tells
+    (λ trees all s there is_silent more every ts others quiets. all_quiet trees all s there is_silent more every ts quiets) left spots many trees after all are silent apart done k i

@@ -1,5 +1,5 @@
 -- All files of a target after a removal.
-use Rattle.std.specs.Prelude.{All, Bool, not, Ok}
+use Rattle.std.specs.Prelude.{All, Bool, Ok}
 use Rattle.std.proofs.Common.{◌≡◌, ℕ, ◌≤◌, true, false, List, [], ◌∷◌, length, map, Some, refl, sym, ap, ◌∙◌, subst}
 use Rattle.meson_lex.specs.Literals.{value}
 use Rattle.meson_lex.specs.declared.kinds.Span.{Span}
@@ -14,7 +14,7 @@ use Rattle.meson_calls.specs.Calls.{Call, Numbered, keyword}
 use Rattle.meson_calls.specs.Expansion.{Expansion, Mark, Stand, fixed, literal_item, max_followed}
 use Rattle.meson_calls.specs.Finding.{the_call}
 use Rattle.meson_calls.specs.Loading.{IsProject, Loaded, project}
-use Rattle.meson_calls.specs.Project.{Placed}
+use Rattle.meson_calls.specs.Project.{Placed, placed}
 use Rattle.meson_calls.specs.Roles.{one_of, target_functions}
 use Rattle.meson_calls.specs.Sources.{hidden, items, once, source_marks, sources_key}
 use Rattle.meson_steps.specs.ListSteps.{MayStandBetween}
@@ -26,15 +26,15 @@ use Rattle.meson_steps.proofs.WentWell.{once_was, then_was}
 use Rattle.meson_sources.specs.Effects.{AreSpotsOf, goes}
 use Rattle.meson_sources.specs.SourceEdits.{Spot, checked_extra, distinct_spots, extra_key, extra_marks, removal_steps, removed_at, spots_named}
 use Rattle.meson_sources.specs.WholeExtras.{AllExtrasShrink}
-use Rattle.meson_sources.specs.WholeSources.{AllSourcesShrink, FilesShrink, SameCall, file_names, moved_place}
+use Rattle.meson_sources.specs.WholeSources.{AllSourcesShrink, FilesShrink, file_names}
 use Rattle.meson_sources.proofs.Bares.{bare_mark, expand_with, values_of}
 use Rattle.meson_sources.proofs.CallForms.{CallIn, bare_arguments, called, target_at}
-use Rattle.meson_sources.proofs.CallLeft.{FirstIs, Fine, are_named, at_call, call_from, call_left, each_left, fine, first, first_of, literals, stays_call, values_stand}
+use Rattle.meson_sources.proofs.CallLeft.{FirstIs, Fine, are_named, at_call, call_from, call_left, each_left, fine, first, first_of, literals, moved_place, named_left, own_fine, values_stand}
 use Rattle.meson_sources.proofs.CallTrees.{Expand, keyed, list_with, whole}
 use Rattle.meson_sources.proofs.ExtraCalls.{as_sources, as_whole}
 use Rattle.meson_sources.proofs.ExtrasAddable.{extra_once}
 use Rattle.meson_sources.proofs.FileKinds.{FileKind, met_in, of_extras, of_sources}
-use Rattle.meson_sources.proofs.Functions.{target_no_matter}
+use Rattle.meson_sources.proofs.FoundAgain.{Names}
 use Rattle.meson_sources.proofs.ItemsThere.{Holds, keyed_hold, whole_holds}
 use Rattle.meson_sources.proofs.KeyCounts.{few_once}
 use Rattle.meson_sources.proofs.LeftFiles.{FilesStay, left_answered}
@@ -90,19 +90,19 @@ module _ (what : FileKind) (holds : MetHolds what) (lost : MetLost what) where
           (first old stand c t target new same_names names (items marks) all_held found of_names are done) k.each)
           (are_named old stand c t target new same_names names (items marks) all_held found of_names are done)
 
-      pub stays : SameCall (called t).it (project new) (moved_place found c)
-      stays = stays_call old stand c t target new same_names names (items marks) all_held found of_names are done
+      pub named : (id : List ℕ) → the_call (project old) role.Target id ≡ Ok (called t) → Names (project new) id (moved_place found c) (called t).it
+      named = named_left old stand c t target new same_names names (items marks) all_held found of_names are done
 
   -- ---- the law
 
-  module _ (old new : Loaded) (is : IsProject old) (same_names : file_names new ≡ file_names old) (names : List (List ℕ)) (steps : List Step) (done : all_stepped steps (plain_trees old) ≡ Some (plain_trees new)) where
+  module _ (old new : Loaded) (is : IsProject old) (same_names : file_names new ≡ file_names old) (id : List ℕ) (names : List (List ℕ)) (steps : List Step) (done : all_stepped steps (plain_trees old) ≡ Some (plain_trees new)) where
     abbrev Shrinks : Placed (Call Span) → Type 0
     Shrinks c =
-        All (MarkStands (project old)) (what.marks (project old) c) → (ms : List (Mark Span)) → once what.key (keyword what.key c.it) (what.marks (project old) c) ≡ Ok ms → removed_at (spots_named ms (distinct names)) ≡ Ok steps
-        → FilesShrink what.read (what.marks (project old) c) names c (project old) (project new)
+        the_call (project old) role.Target id ≡ Ok c → All (MarkStands (project old)) (what.marks (project old) c) → (ms : List (Mark Span)) → once what.key (keyword what.key c.it) (what.marks (project old) c) ≡ Ok ms → removed_at (spots_named ms (distinct names)) ≡ Ok steps
+        → FilesShrink what.read names id c (project old) (project new)
 
     of_call : (c : CallRef) (t : CallIn (project old) c) → one_of target_functions t.name.text ≡ true → Shrinks (called t)
-    of_call c t target stands ms once_is gone =
+    of_call c t target found stands ms once_is gone =
         let p = project old in
         let marks = what.marks p (called t) in
         let stand = trees_stand old.files old.parsed is.parsed in
@@ -114,10 +114,9 @@ module _ (what : FileKind) (holds : MetHolds what) (lost : MetLost what) where
         let are = all_in old w.0 (named_stand p marks stands (distinct names) w.0 w.1) in
         let made = ap (λ l. all_stepped l (plain_trees old)) same_steps ∙ done in
         let s = stay old stand c t target new same_names names w.0 of_names are made (few_once what.key key marks ms once_is) in
+        let n = named old stand c t target new same_names names w.0 of_names are made id found in
         record {
-          spots = w.0;
-          are_spots = w.1;
-          same = stays old stand c t target new same_names names w.0 of_names are made;
+          named = record { call = placed (moved_place w.0 c) n.it; is_call = n.is_call; function = n.function; first = n.first };
           before = s.before;
           were = s.were;
           after = s.after;
@@ -126,15 +125,15 @@ module _ (what : FileKind) (holds : MetHolds what) (lost : MetLost what) where
           unknown = s.unknown_is;
         }
 
-    pub files_shrink : (id : List ℕ) (c : Placed (Call Span)) → the_call (project old) role.Target id ≡ Ok c → Shrinks c
-    files_shrink id c found = let t = target_at (project old) id c found in subst Shrinks t.is (of_call c.place t.it t.is_target)
+    pub files_shrink : (c : Placed (Call Span)) → Shrinks c
+    files_shrink c found = let t = target_at (project old) id c found in subst Shrinks t.is (of_call c.place t.it t.is_target) found
 
 -- ---- sources
 
 sources_hold : MetHolds of_sources
 sources_hold old stand c t target =
     whole_holds (plain_trees old) (Fine old stand c t target) (fine old stand c t target) (values_of (project old)) (values_stand old stand c t target) c _ (at_call old stand c t target)
-    (λ n. FirstIs 0 n (bare_arguments t)) (λ n other. (ap not (target_no_matter t.name.text target), λ same. other)) (bare_arguments t) (call_from old stand c t target) (first_of (bare_arguments t) 0) []
+    (λ n. FirstIs 0 n (bare_arguments t)) (own_fine old stand c t target) (bare_arguments t) (call_from old stand c t target) (first_of (bare_arguments t) 0) []
 
 sources_lost : MetLost of_sources
 sources_lost gone one two texts each c d xs ys kept loses = whole_left gone one two texts each c d xs ys kept loses [] [] refl
@@ -146,7 +145,7 @@ all-sources-shrink old new is same_names id c found names steps made done =
     let key = keyword sources_key c.it in
     let a = then_was (checked_names names) (λ _. then_ok (once sources_key key marks) (λ ms. removed_at (spots_named ms (distinct names)))) steps made in
     let b = then_was (once sources_key key marks) (λ ms. removed_at (spots_named ms (distinct names))) steps a.2 in
-    files_shrink of_sources sources_hold sources_lost old new is same_names names steps done id c found (sources_stand old is.parsed c (targets_stand p id c found)) b.0 b.1 b.2
+    files_shrink of_sources sources_hold sources_lost old new is same_names id names steps done c found (sources_stand old is.parsed c (targets_stand p id c found)) b.0 b.1 b.2
 
 -- ---- extra files
 
@@ -154,7 +153,7 @@ pub extras_hold : MetHolds of_extras
 extras_hold old stand c t target =
     subst (λ (e : Expansion Nowhere). Every (Holds (plain_trees old) (Fine old stand c t target) (fine old stand c t target)) e.marks) (sym (as_whole (expand_with (values_of (project old)) max_followed) c (bare_arguments t)))
     (keyed_hold (plain_trees old) (Fine old stand c t target) (fine old stand c t target) (values_of (project old)) (values_stand old stand c t target) c _ (at_call old stand c t target)
-    (λ n. FirstIs 0 n (bare_arguments t)) (λ n other. (ap not (target_no_matter t.name.text target), λ same. other)) extra_key (bare_arguments t) 0 false (call_from old stand c t target) [])
+    (λ n. FirstIs 0 n (bare_arguments t)) (own_fine old stand c t target) extra_key (bare_arguments t) 0 false (call_from old stand c t target) [])
 
 pub extras_lost : MetLost of_extras
 extras_lost gone one two texts each c d xs ys kept loses =
@@ -166,4 +165,4 @@ all-extras-shrink old new is same_names id c found names steps made done =
     let p = project old in
     let marks = extra_marks p c in
     let a = then_was (checked_extra p c names) (λ ms. removed_at (spots_named ms (distinct names))) steps made in
-    files_shrink of_extras extras_hold extras_lost old new is same_names names steps done id c found (extras_stand old is.parsed c (targets_stand p id c found)) a.0 (extra_once p c names a.0 a.1) a.2
+    files_shrink of_extras extras_hold extras_lost old new is same_names id names steps done c found (extras_stand old is.parsed c (targets_stand p id c found)) a.0 (extra_once p c names a.0 a.1) a.2

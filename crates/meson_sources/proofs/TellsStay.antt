@@ -1,32 +1,21 @@
 -- What a node tells is the same when a list in it gets strings.
 use Rattle.std.proofs.Common.{◌≡◌, ℕ, zero, suc, ◌+◌, Bool, true, false, List, [], ◌∷◌, ◌++◌, Option, Some, None, refl, sym, ap, ap₂, ◌∙◌}
-use Rattle.std.specs.Prelude.{if◌then◌else◌, option_and_then, option_map}
-use Rattle.std.specs.List.{cons_option, filter_map}
+use Rattle.std.specs.Prelude.{if◌then◌else◌, option_and_then}
+use Rattle.std.specs.List.{cons_option}
 use Rattle.meson_syntax.specs.Parts.{Any, an_expression, a_statement, a_block, child_nodes, arguments_parts}
-use Rattle.meson_syntax.specs.Tree.{Nowhere, Name, Expression, identifier, string, array, call, listing, Argument, plain, named, pair, Arguments, no_arguments, argument, arguments_of, assign, iteration}
+use Rattle.meson_syntax.specs.Tree.{Nowhere, Name, identifier, string, array, call, listing, Argument, plain, named, pair, Arguments, no_arguments, argument, arguments_of, assign, iteration}
 use Rattle.meson_calls.specs.declared.call.CallRef.{CallRef}
-use Rattle.meson_calls.specs.Calls.{first_of, first_literal, literal_of, kept_number, numbered, value_without_name}
+use Rattle.meson_calls.specs.Calls.{first_literal, literal_of}
 use Rattle.meson_calls.specs.Project.{child}
 use Rattle.meson_sources.specs.Effects.{strings}
 use Rattle.meson_sources.proofs.PartsPut.{Differ, here, there}
 use Rattle.meson_sources.proofs.Shapes.{Shape, a_leaf, shape, blanks, Step, Becomes, differ_none, differ_here, differ_there, same_arguments}
 use Rattle.meson_sources.proofs.Shapes as shapes
+use Rattle.meson_sources.proofs.TargetNames.{first_is, first_plain}
 use Rattle.meson_sources.proofs.Tells.{Told, matters, name_texts, of_any, of_children, own, node_told, children_alike}
 use Rattle.meson_sources.proofs.Tells as tells
 
 -- ---- the first argument, if it is a literal
-
-abbrev first_plain : {S : Type 0} → Arguments S → Option (Expression S)
-first_plain no_arguments = None
-first_plain (argument (plain e) more) = Some e
-first_plain (argument (named s x e) more) = first_plain more
-first_plain (argument (pair s e f) more) = first_plain more
-
-first_is : (n : ℕ) (list : Arguments Nowhere) → option_map (λ a. a.value) (first_of (filter_map (kept_number value_without_name) (numbered n list))) ≡ first_plain list
-first_is n no_arguments = refl
-first_is n (argument (plain e) more) = refl
-first_is n (argument (named s x e) more) = first_is (n + 1) more
-first_is n (argument (pair s e f) more) = first_is (n + 1) more
 
 abbrev literal_first : Arguments Nowhere → Option (List ℕ)
 literal_first list = option_and_then literal_of (first_plain list)
@@ -132,7 +121,7 @@ leaf_none (an_expression _) inner = refl
 leaf_none (a_statement s) inner = refl
 leaf_none (a_block b) inner = refl
 
-no_leaf : (x : Any Nowhere) (old new : Any Nowhere) (n : ℕ) (ys : List (Any Nowhere)) → Differ old new n (child_nodes x) ys → shape x ≡ a_leaf → ⊥
+pub no_leaf : (x : Any Nowhere) (old new : Any Nowhere) (n : ℕ) (ys : List (Any Nowhere)) → Differ old new n (child_nodes x) ys → shape x ≡ a_leaf → ⊥
 no_leaf (an_expression (identifier s x)) old new n ys d is = differ_none old new n ys d
 no_leaf (an_expression (string s q x)) old new n ys d is = differ_none old new n ys d
 no_leaf (an_expression _) old new n ys d is = absurd cc

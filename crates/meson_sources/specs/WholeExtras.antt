@@ -2,7 +2,6 @@
 use Rattle.std.specs.Prelude.{◌≡◌, ℕ, List, All, Some, Ok}
 use Rattle.std.specs.Str.{IsUtf8}
 use Rattle.meson_lex.specs.declared.kinds.Span.{Span}
-use Rattle.meson_calls.specs.declared.call.CallRef.{CallRef}
 use Rattle.meson_calls.specs.declared.call.Role.TheVariants as role
 use Rattle.meson_calls.specs.Calls.{Call}
 use Rattle.meson_calls.specs.Finding.{the_call}
@@ -14,20 +13,20 @@ use Rattle.meson_sources.specs.Extras.{extra_files}
 use Rattle.meson_sources.specs.SourceEdits.{extra_added, extra_marks, extra_removed, new_names}
 use Rattle.meson_sources.specs.WholeSources.{FilesGrow, FilesShrink, file_names}
 
-abbrev pub ExtrasShrink : List (List ℕ) → Placed (Call Span) → Project Span → Project Span → Type 0
-ExtrasShrink gone c p = FilesShrink extra_files (extra_marks p c) gone c p
+abbrev pub ExtrasShrink : List (List ℕ) → List ℕ → Placed (Call Span) → Project Span → Project Span → Type 0
+ExtrasShrink = FilesShrink extra_files
 
 -- the law: after a removal a target has the extra files that it had, but none of those that are named
 abbrev pub AllExtrasShrink : Type 0
 AllExtrasShrink = (old new : Loaded) → IsProject old → file_names new ≡ file_names old → (id : List ℕ) (c : Placed (Call Span)) → the_call (project old) role.Target id ≡ Ok c
     → (names : List (List ℕ)) (steps : List Step) → extra_removed (project old) c names ≡ Ok steps → all_stepped steps (plain_trees old) ≡ Some (plain_trees new)
-    → ExtrasShrink names c (project old) (project new)
+    → ExtrasShrink names id c (project old) (project new)
 
-abbrev pub ExtrasGrow : List (List ℕ) → CallRef → Project Span → Project Span → Type 0
+abbrev pub ExtrasGrow : List (List ℕ) → List ℕ → Placed (Call Span) → Project Span → Project Span → Type 0
 ExtrasGrow = FilesGrow extra_files
 
 -- the law: after an addition a target has the extra files that it had and those that are added and were none of it, each once
 abbrev pub AllExtrasGrow : Type 0
 AllExtrasGrow = (old new : Loaded) → IsProject old → file_names new ≡ file_names old → (id : List ℕ) (c : Placed (Call Span)) → the_call (project old) role.Target id ≡ Ok c
     → (names : List (List ℕ)) → All IsUtf8 names → (steps : List Step) → extra_added (project old) c names ≡ Ok steps → all_stepped steps (plain_trees old) ≡ Some (plain_trees new)
-    → ExtrasGrow (new_names (extra_marks (project old) c) names) c.place (project old) (project new)
+    → ExtrasGrow (new_names (extra_marks (project old) c) names) id c (project old) (project new)

@@ -9,8 +9,8 @@ pub fn sources_are_added()
     ensures { SourcesAreAdded }
 {}
 
-/// After an addition all sources of the target, wherever they stand, are those that it had, in their order, and in one place among them each new source once. As
-/// many as before are not known.
+/// After an addition the id of the target names one target, by the call at the same place, and all its sources, wherever they stand, are those that it had, in
+/// their order, and in one place among them each new source once. As many as before are not known.
 pub fn all_sources_grow()
     ensures { AllSourcesGrow }
 {}
@@ -32,14 +32,15 @@ pub fn extra_is_removed()
     ensures { ExtraIsRemoved }
 {}
 
-/// After a removal all sources of the target, wherever they stand, are those that it had, in their order, but for those that are named. As many as before are not
-/// known. The target's call stands where it has moved to (a source that is gone may have stood before it in the same list), with its function and its name.
+/// After a removal the id of the target names one target, by a call of the same function, and all its sources, wherever they stand, are those that it had, in
+/// their order, but for those that are named. As many as before are not known.
 pub fn all_sources_shrink()
     ensures { AllSourcesShrink }
 {}
 
-/// After an addition all extra files of the target are those that it had, in their order, and in one place among them each new one once: in the list of the first
-/// that stands in one, in a new argument, or in an array behind the lone one. As many as before are not known.
+/// After an addition the id names one target, by the call at the same place, and all its extra files are those that it had, in their order, and in one place
+/// among them each new one once: in the list of the first that stands in one, in a new argument, or in an array behind the lone one. As many as before are
+/// not known.
 pub fn all_extras_grow()
     ensures { AllExtrasGrow }
 {}

@@ -1,0 +1,165 @@
+-- Where one node of a project has become another one of which the same is told, the id of a target names its call at the old place.
+use Rattle.std.specs.Prelude.{◌⊎◌, if◌then◌else◌, nat_eq, Ok}
+use Rattle.std.proofs.Common.{◌≡◌, ℕ, Bool, true, false, List, [], ◌∷◌, Option, Some, None, refl, sym, ap, ◌∙◌, subst, inl, inr}
+use Rattle.std.proofs.lemmas.Bool.{eqb-true, eq-eqb}
+use Rattle.meson_lex.specs.declared.kinds.Span.{Span}
+use Rattle.meson_syntax.specs.declared.operator.Assignment.TheVariants as assignment
+use Rattle.meson_syntax.specs.Parts.{Any, an_expression, a_statement, a_block, node_at}
+use Rattle.meson_syntax.specs.Paths.{block_of, nth}
+use Rattle.meson_syntax.specs.Tree.{Nowhere, Plain, Name, Expression, assign, erase_expression}
+use Rattle.meson_syntax.proofs.parsing.Steps.{some-injective}
+use Rattle.meson_calls.specs.declared.call.CallRef.{CallRef}
+use Rattle.meson_calls.specs.declared.call.Role.TheVariants as role
+use Rattle.meson_calls.specs.Calls.{Call, call_of, first_literal}
+use Rattle.meson_calls.specs.Finding.{the_call}
+use Rattle.meson_calls.specs.Loading.{Loaded, project}
+use Rattle.meson_calls.specs.Project.{Placed, child, placed}
+use Rattle.meson_calls.specs.Roles.{has_role, is_target_call}
+use Rattle.meson_calls.proofs.CallsFound.{role_found}
+use Rattle.meson_steps.specs.ResultLimits.{plain_trees}
+use Rattle.meson_sources.specs.WholeSources.{FilesGrow, Reading}
+use Rattle.meson_sources.proofs.FoundAgain.{Names}
+use Rattle.meson_sources.proofs.GrownFiles.{FilesGrown}
+use Rattle.meson_sources.proofs.MarkLists.{below, below_itself}
+use Rattle.meson_sources.proofs.NamedAgain.{SetStays, assigned_shape, named_again}
+use Rattle.meson_sources.proofs.NamesLeft.{SameNames, names_itself}
+use Rattle.meson_sources.proofs.NamesStay.{Alike, alike_along}
+use Rattle.meson_sources.proofs.Owners.{no_statement, node_between}
+use Rattle.meson_sources.proofs.PlacesBelow.{under}
+use Rattle.meson_sources.proofs.Scenes.{NodeIn, bare_in, names_of, next_in, node_above, node_away}
+use Rattle.meson_sources.proofs.Shapes.{Becomes}
+use Rattle.meson_sources.proofs.ShapesLeft.{became_new, became_old}
+use Rattle.meson_sources.proofs.TargetNames.{a_target, a_variable, expression_erased, own, tell_call}
+
+-- each id of the call names it, where it was
+abbrev pub KeepsNames : Loaded → Loaded → Placed (Call Span) → Type 0
+KeepsNames old new c = (id : List ℕ) → the_call (project old) role.Target id ≡ Ok c → Names (project new) id c.place c.it
+
+pub files_grow : (read : Reading) (texts : List (List ℕ)) (old new : Loaded) (c : Placed (Call Span)) (id : List ℕ) → FilesGrown read texts c.place (project old) (project new) → Names (project new) id c.place c.it → FilesGrow read texts id c (project old) (project new)
+files_grow read texts old new c id g n = record {
+  named = record { call = placed c.place n.it; is_call = n.is_call; function = n.function; first = n.first };
+  stays = refl;
+  before = g.before;
+  were = g.were;
+  after = g.after;
+  are = g.are;
+  come = g.come;
+  unknown = g.unknown;
+}
+
+-- what tells of a target's call is an expression
+an_expression_tells : (z : Any Nowhere) (f : List ℕ) (literal : Option (List ℕ)) → own z ≡ Some (a_target f literal) → (e : Expression Nowhere) × (z ≡ an_expression e)
+an_expression_tells (an_expression e) f literal is = (e, refl)
+an_expression_tells (a_statement (assign s x assignment.Set e)) f literal is = absurd (no_variable (is_target_call (Some e)) is)
+  where
+    no_variable : (b : Bool) → (if b then Some (a_variable x.text) else None) ≡ Some (a_target f literal) → ⊥
+    no_variable true same = cc
+    no_variable false same = cc
+an_expression_tells (a_statement _) f literal is = absurd cc
+an_expression_tells (a_block b) f literal is = absurd cc
+
+module _ (old new : Loaded) (names : names_of new.files ≡ names_of old.files) (h : CallRef) (tree now : Plain) (was : nth (plain_trees old) h.file ≡ Some tree) (is_now : nth (plain_trees new) h.file ≡ Some now)
+    (others : (i : ℕ) → (h.file ≡ i → ⊥) → nth (plain_trees new) i ≡ nth (plain_trees old) i) (older newer : Expression Nowhere)
+    (becomes : Becomes (an_expression older) (an_expression newer) h.path.steps (a_block (block_of tree)) (a_block (block_of now))) (alike : Alike (an_expression older) (an_expression newer)) where
+  abbrev ts : List Plain
+  ts = plain_trees old
+
+  abbrev us : List Plain
+  us = plain_trees new
+
+  same_names : (i : ℕ) → SameNames (nth ts i) (nth us i)
+  same_names i = go (nat_eq h.file i) refl
+    where
+      go : (b : Bool) → nat_eq h.file i ≡ b → SameNames (nth ts i) (nth us i)
+      go true is =
+          let same = eqb-true h.file i is in
+          subst (λ o. SameNames o (nth us i)) (sym (ap (nth ts) (sym same) ∙ was))
+          (subst (λ o. SameNames (Some tree) o) (sym (ap (nth us) (sym same) ∙ is_now)) (alike_along (an_expression older) (an_expression newer) alike h.path.steps (a_block (block_of tree)) (a_block (block_of now)) becomes).tells)
+      go false is =
+          subst (λ o. SameNames (nth ts i) o) (sym (others i (λ same. let both : true ≡ false = sym (eq-eqb h.file i same) ∙ is in cc))) (names_itself (nth ts i))
+
+  -- what stood under the node
+  within : (p : CallRef) (m : ℕ) (rest : List ℕ) → p ≡ below h (m ∷ rest) → (y : Any Nowhere) → NodeIn ts p y → node_at (an_expression older) (m ∷ rest) ≡ Some y
+  within p m rest is y n =
+      let same_tree : n.tree ≡ tree = some-injective _ _ (sym n.is_tree ∙ ap (λ (q : CallRef). nth ts q.file) is ∙ was) in
+      sym (node_between h.path.steps (m ∷ rest) (a_block (block_of tree)) (an_expression older) (became_old (an_expression older) (an_expression newer) h.path.steps (a_block (block_of tree)) (a_block (block_of now)) becomes))
+      ∙ ap (node_at (a_block (block_of tree))) (sym (ap (λ (q : CallRef). q.path.steps) is)) ∙ ap (λ t. node_at (a_block (block_of t)) p.path.steps) (sym same_tree) ∙ n.is_node
+
+  still_within : (p : CallRef) (m : ℕ) (rest : List ℕ) → p ≡ below h (m ∷ rest) → (y : Any Nowhere) → node_at (an_expression newer) (m ∷ rest) ≡ Some y → NodeIn us p y
+  still_within p m rest is y there = record {
+    tree = now;
+    is_tree = ap (λ (q : CallRef). nth us q.file) is ∙ is_now;
+    is_node =
+        ap (node_at (a_block (block_of now))) (ap (λ (q : CallRef). q.path.steps) is)
+        ∙ node_between h.path.steps (m ∷ rest) (a_block (block_of now)) (an_expression newer) (became_new (an_expression older) (an_expression newer) h.path.steps (a_block (block_of tree)) (a_block (block_of now)) becomes) ∙ there;
+  }
+
+  -- an assignment stays
+  set_stays : (d at : CallRef) (x : Name Nowhere) (v : Expression Nowhere) → d ≡ child at 0 → NodeIn ts at (a_statement (assign tt x assignment.Set v)) → SetStays us d x.text
+  set_stays d at x v is_place n = go (under at h)
+    where
+      on_way : (rest : List ℕ) → h ≡ below at rest → SetStays us d x.text
+      on_way [] leads = let on = (node_above old new names h tree now was is_now others older newer becomes at [] leads (a_statement (assign tt x assignment.Set v)) n).further in let none : a_statement (assign tt x assignment.Set v) ≡ an_expression older = on.0 in absurd cc
+      on_way (m ∷ rest) leads =
+          let on = node_above old new names h tree now was is_now others older newer becomes at (m ∷ rest) leads (a_statement (assign tt x assignment.Set v)) n in
+          let a = assigned_shape on.next x.text assignment.Set on.further.2.shapes in
+          record {
+            at = at;
+            is_place = is_place;
+            r = a.r;
+            name = a.name;
+            value = a.value;
+            node = subst (NodeIn us at) a.is (next_in old new names h tree now was is_now others older newer becomes at (m ∷ rest) leads (a_statement (assign tt x assignment.Set v)) n);
+            same = a.same;
+          }
+
+      go : ((rest : List ℕ) × (h ≡ below at rest)) ⊎ ((rest : List ℕ) → h ≡ below at rest → ⊥) → SetStays us d x.text
+      go (inl w) = on_way w.0 w.1
+      go (inr not) = record {
+        at = at;
+        is_place = is_place;
+        r = tt;
+        name = x;
+        value = v;
+        node = node_away old new names h tree now was is_now others older newer becomes at not (λ m rest is. no_statement (m ∷ rest) older _ (within at m rest is (a_statement (assign tt x assignment.Set v)) n)) (a_statement (assign tt x assignment.Set v)) n;
+        same = refl;
+      }
+
+  module _ (id : List ℕ) (c : Placed (Call Span)) (found : the_call (project old) role.Target id ≡ Ok c)
+      (stays_below : (m : ℕ) (rest : List ℕ) (y : Any Nowhere) → c.place ≡ below h (m ∷ rest) → node_at (an_expression older) (m ∷ rest) ≡ Some y → node_at (an_expression newer) (m ∷ rest) ≡ Some y) where
+    pub named_stays : Names (project new) id c.place c.it
+    named_stays =
+        let role_at = role_found (project old) role.Target id c found in
+        by role_at.is_one (erase_expression role_at.at.value) (bare_in old c.place role_at.at.value role_at.at.is_at) (expression_erased role_at.at.value ∙ ap tell_call role_at.at.is_call)
+      where
+        by : has_role role.Target c.it ≡ true → (e : Expression Nowhere) → NodeIn ts c.place (an_expression e) → tell_call (call_of e) ≡ tell_call (Some c.it) → Names (project new) id c.place c.it
+        by is_one e n owns = go (under c.place h)
+          where
+            stands : (z : Any Nowhere) → own z ≡ tell_call (call_of e) → NodeIn us c.place z → Names (project new) id c.place c.it
+            stands z same there =
+                let tells : own z ≡ tell_call (Some c.it) = same ∙ owns in
+                let w = an_expression_tells z c.it.function (first_literal c.it) (tells ∙ ap (λ b. if b then Some (a_target c.it.function (first_literal c.it)) else None) is_one) in
+                named_again old new same_names id c found c.place w.0 (subst (NodeIn us c.place) w.1 there) (sym (ap own w.1) ∙ tells) (set_stays c.place)
+
+            below_it : (rest : List ℕ) → c.place ≡ below h rest → ((rest : List ℕ) → h ≡ below c.place rest → ⊥) → Names (project new) id c.place c.it
+            below_it [] is not = absurd (not [] (sym (below_itself h) ∙ sym is ∙ sym (below_itself c.place)))
+            below_it (m ∷ rest) is not = stands (an_expression e) refl (still_within c.place m rest is (an_expression e) (stays_below m rest (an_expression e) is (within c.place m rest is (an_expression e) n)))
+
+            aside : ((rest : List ℕ) × (c.place ≡ below h rest)) ⊎ ((rest : List ℕ) → c.place ≡ below h rest → ⊥) → ((rest : List ℕ) → h ≡ below c.place rest → ⊥) → Names (project new) id c.place c.it
+            aside (inl w) not = below_it w.0 w.1 not
+            aside (inr apart) not = stands (an_expression e) refl (node_away old new names h tree now was is_now others older newer becomes c.place not (λ m rest is. apart (m ∷ rest) is) (an_expression e) n)
+
+            go : ((rest : List ℕ) × (h ≡ below c.place rest)) ⊎ ((rest : List ℕ) → h ≡ below c.place rest → ⊥) → Names (project new) id c.place c.it
+            go (inl w) =
+                let on = node_above old new names h tree now was is_now others older newer becomes c.place w.0 w.1 (an_expression e) n in
+                stands on.next (alike_along (an_expression older) (an_expression newer) alike w.0 (an_expression e) on.next on.further).owns
+                (next_in old new names h tree now was is_now others older newer becomes c.place w.0 w.1 (an_expression e) n)
+            go (inr not) = aside (under h c.place) not
+
+-- nothing has changed
+pub same_trees_named : (old new : Loaded) (c : Placed (Call Span)) → plain_trees new ≡ plain_trees old → KeepsNames old new c
+same_trees_named old new c same id found =
+    let role_at = role_found (project old) role.Target id c found in
+    named_again old new (λ i. subst (λ ts. SameNames (nth (plain_trees old) i) (nth ts i)) (sym same) (names_itself (nth (plain_trees old) i))) id c found c.place (erase_expression role_at.at.value)
+    (subst (λ ts. NodeIn ts c.place (an_expression (erase_expression role_at.at.value))) (sym same) (bare_in old c.place role_at.at.value role_at.at.is_at)) (expression_erased role_at.at.value ∙ ap tell_call role_at.at.is_call)
+    (λ at x v is_place n. record { at = at; is_place = is_place; r = tt; name = x; value = v; node = subst (λ ts. NodeIn ts at (a_statement (assign tt x assignment.Set v))) (sym same) n; same = refl })

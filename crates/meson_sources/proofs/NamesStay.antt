@@ -1,0 +1,191 @@
+-- What a tree tells of targets is the same when a node in it becomes another one that tells the same.
+use Rattle.std.specs.Prelude.{◌⊎◌, ◌&&◌, if◌then◌else◌, is_some, option_and_then, option_map}
+use Rattle.std.specs.List.{cons_option, list_any}
+use Rattle.std.proofs.Common.{◌≡◌, ℕ, Bool, true, false, List, [], ◌∷◌, ◌++◌, map, Option, Some, None, refl, sym, ap, ap₂, ◌∙◌, subst, inl, inr}
+use Rattle.meson_syntax.specs.declared.operator.Assignment.TheVariants as assignment
+use Rattle.meson_syntax.specs.Parts.{Any, an_expression, a_statement, a_block, child_nodes, arguments_parts}
+use Rattle.meson_syntax.specs.Paths.{ListIn, list_in}
+use Rattle.meson_syntax.specs.Tree.{Nowhere, Name, Expression, identifier, string, array, dictionary, call, Listing, listing, Argument, plain, named, pair, Arguments, no_arguments, argument, arguments_of, assign, iteration}
+use Rattle.meson_syntax.proofs.parsing.Steps.{some-injective}
+use Rattle.meson_calls.specs.Calls.{literal_of}
+use Rattle.meson_calls.specs.Roles.{is_target_call, one_of, target_functions}
+use Rattle.meson_sources.specs.Effects.{strings}
+use Rattle.meson_sources.specs.SourceEdits.{is_plain}
+use Rattle.meson_sources.proofs.PartsPut.{Differ, here, there}
+use Rattle.meson_sources.proofs.Shapes.{Shape, a_call, an_assignment, a_leaf, shape, blanks, Becomes}
+use Rattle.meson_sources.proofs.TargetNames.{Naming, a_target, a_variable, in_any, in_all, in_arguments, in_expression, in_listing, own, node_tells, first_plain, first_is, call_by, call_tells}
+use Rattle.meson_sources.proofs.TellsStay.{no_leaf}
+
+-- ---- what is seen of a node from above it
+
+-- its text if it is a literal, and whether it is the call of a target
+pub record Sight : Type 0 where
+  pub literal : Option (List ℕ)
+  pub target : Bool
+
+abbrev nothing : Sight
+nothing = record { literal = None; target = false }
+
+abbrev pub sight : Any Nowhere → Sight
+sight (an_expression e) = record { literal = literal_of e; target = is_target_call (Some e) }
+sight (a_statement s) = nothing
+sight (a_block b) = nothing
+
+abbrev first_sight : List (Argument Nowhere) → List Sight → Option Sight
+first_sight (plain e ∷ bs) (s ∷ ss) = Some s
+first_sight (named t x e ∷ bs) (s ∷ ss) = first_sight bs ss
+first_sight (pair t e f ∷ bs) (s ∷ z ∷ ss) = first_sight bs ss
+first_sight _ _ = None
+
+abbrev plain_sight : Option (Expression Nowhere) → Option Sight
+plain_sight first = option_map (λ e. sight (an_expression e)) first
+
+first_seen : (list : Arguments Nowhere) → plain_sight (first_plain list) ≡ first_sight (blanks list) (map sight (arguments_parts list))
+first_seen no_arguments = refl
+first_seen (argument (plain e) more) = refl
+first_seen (argument (named s x e) more) = first_seen more
+first_seen (argument (pair s e f) more) = first_seen more
+
+abbrev call_sight : List ℕ → Option Sight → Option Naming
+call_sight f first = if one_of target_functions f && is_some first then Some (a_target f (option_and_then (λ s. s.literal) first)) else None
+
+by_sight : (f : List ℕ) (first : Option (Expression Nowhere)) → call_by f first ≡ call_sight f (plain_sight first)
+by_sight f None = refl
+by_sight f (Some e) = refl
+
+some_sight : (first : Option (Expression Nowhere)) → is_some first ≡ is_some (plain_sight first)
+some_sight None = refl
+some_sight (Some e) = refl
+
+-- ---- what a node tells itself, by its shape and what is seen of its children
+
+abbrev own_by : Shape → List Sight → Option Naming
+own_by (a_call f bs) ss = call_sight f (first_sight bs ss)
+own_by (an_assignment x assignment.Set) (s ∷ ss) = if s.target then Some (a_variable x) else None
+own_by _ ss = None
+
+own_is : (x : Any Nowhere) → own x ≡ own_by (shape x) (map sight (child_nodes x))
+own_is (an_expression (call s f (listing r trailing list))) = call_tells f.text r trailing list ∙ by_sight f.text (first_plain list) ∙ ap (call_sight f.text) (first_seen list)
+own_is (an_expression _) = refl
+own_is (a_statement (assign s x assignment.Set e)) = refl
+own_is (a_statement _) = refl
+own_is (a_block b) = refl
+
+abbrev plain_seen : Bool → Sight
+plain_seen target = record { literal = None; target = target }
+
+abbrev call_seen : List ℕ → Bool → Sight
+call_seen f first = plain_seen (one_of target_functions f && first)
+
+abbrev sight_by : Shape → List Sight → Sight
+sight_by (a_call f bs) ss = call_seen f (is_some (first_sight bs ss))
+sight_by _ ss = nothing
+
+sight_is : (x : Any Nowhere) → (shape x ≡ a_leaf → ⊥) → sight x ≡ sight_by (shape x) (map sight (child_nodes x))
+sight_is (an_expression (call s f (listing r trailing list))) inner = ap (call_seen f.text) (ap is_some (first_is 0 list) ∙ some_sight (first_plain list) ∙ ap is_some (first_seen list))
+sight_is (an_expression (identifier s x)) inner = absurd (inner refl)
+sight_is (an_expression (string s q x)) inner = absurd (inner refl)
+sight_is (an_expression _) inner = refl
+sight_is (a_statement (assign s x a e)) inner = refl
+sight_is (a_statement (iteration s xs e b)) inner = refl
+sight_is (a_statement _) inner = refl
+sight_is (a_block b) inner = refl
+
+-- ---- along a path
+
+module _ (y next : Any Nowhere) where
+  children_seen : (n : ℕ) (xs ys : List (Any Nowhere)) → sight next ≡ sight y → Differ y next n xs ys → map sight ys ≡ map sight xs
+  children_seen n xs ys same (here {xs = more}) = ap (λ s. s ∷ map sight more) same
+  children_seen n xs ys same (there {x = x} {n = m} {xs = us} {ys = vs} d) = ap (λ l. sight x ∷ l) (children_seen m us vs same d)
+
+  children_tell : (n : ℕ) (xs ys : List (Any Nowhere)) → in_any next ≡ in_any y → Differ y next n xs ys → in_all ys ≡ in_all xs
+  children_tell n xs ys same (here {xs = more}) = ap (λ l. l ++ in_all more) same
+  children_tell n xs ys same (there {x = x} {n = m} {xs = us} {ys = vs} d) = ap (λ l. in_any x ++ l) (children_tell m us vs same d)
+
+-- two nodes of which the same is seen and told
+pub record Alike (older newer : Any Nowhere) : Type 0 where
+  pub seen : sight newer ≡ sight older
+  pub tells : in_any newer ≡ in_any older
+  pub owns : own newer ≡ own older
+
+module _ (older newer : Any Nowhere) (same : Alike older newer) where
+  pub alike_along : (path : List ℕ) (x now : Any Nowhere) → Becomes older newer path x now → Alike x now
+  alike_along [] x now b = record {
+    seen = ap sight b.1 ∙ same.seen ∙ sym (ap sight b.0);
+    tells = ap in_any b.1 ∙ same.tells ∙ sym (ap in_any b.0);
+    owns = ap own b.1 ∙ same.owns ∙ sym (ap own b.0);
+  }
+  alike_along (n ∷ path) x now b =
+      let inner = no_leaf x b.0 b.1 n (child_nodes now) b.2.parts in
+      let r = alike_along path b.0 b.1 b.3 in
+      let seen = children_seen b.0 b.1 n (child_nodes x) (child_nodes now) r.seen b.2.parts in
+      let owns : own now ≡ own x = own_is now ∙ ap₂ own_by b.2.shapes seen ∙ sym (own_is x) in
+      record {
+        seen = sight_is now (λ is. inner (sym b.2.shapes ∙ is)) ∙ ap₂ sight_by b.2.shapes seen ∙ sym (sight_is x inner);
+        tells = node_tells now ∙ ap₂ cons_option owns (children_tell b.0 b.1 n (child_nodes x) (child_nodes now) r.tells b.2.parts) ∙ sym (node_tells x);
+        owns = owns;
+      }
+
+-- ---- another list in the place of one
+
+abbrev pub first_in : Listing Nowhere → Option (Expression Nowhere)
+first_in (listing r trailing list) = first_plain list
+
+-- if it is that of a call of a target, its first argument without a name is the same
+abbrev pub FirstKept : Expression Nowhere → Listing Nowhere → Type 0
+FirstKept (call s f l) m = (one_of target_functions f.text ≡ false) ⊎ (first_in m ≡ first_in l)
+FirstKept _ m = Unit {0}
+
+module _ (s : Nowhere) (f : Name Nowhere) (r r2 : Nowhere) (trailing trailing2 : Bool) (xs ys : Arguments Nowhere) where
+  abbrev older : Expression Nowhere
+  older = call s f (listing r trailing xs)
+
+  abbrev newer : Expression Nowhere
+  newer = call s f (listing r2 trailing2 ys)
+
+  call_owned : FirstKept older (listing r2 trailing2 ys) → call_by f.text (first_plain ys) ≡ call_by f.text (first_plain xs)
+  call_owned (inl other) =
+      ap (λ b. if b && is_some (first_plain ys) then Some (a_target f.text (option_and_then literal_of (first_plain ys))) else None) other
+      ∙ sym (ap (λ b. if b && is_some (first_plain xs) then Some (a_target f.text (option_and_then literal_of (first_plain xs))) else None) other)
+  call_owned (inr same) = ap (call_by f.text) same
+
+  call_viewed : FirstKept older (listing r2 trailing2 ys) → call_seen f.text (is_some (first_plain ys)) ≡ call_seen f.text (is_some (first_plain xs))
+  call_viewed (inl other) = ap (λ b. plain_seen (b && is_some (first_plain ys))) other ∙ sym (ap (λ b. plain_seen (b && is_some (first_plain xs))) other)
+  call_viewed (inr same) = ap (λ o. call_seen f.text (is_some o)) same
+
+  call_alike : in_listing (listing r2 trailing2 ys) ≡ in_listing (listing r trailing xs) → FirstKept older (listing r2 trailing2 ys) → Alike (an_expression older) (an_expression newer)
+  call_alike told kept =
+      let owns : own (an_expression newer) ≡ own (an_expression older) = call_tells f.text r2 trailing2 ys ∙ call_owned kept ∙ sym (call_tells f.text r trailing xs) in
+      record {
+        seen = ap (λ o. call_seen f.text (is_some o)) (first_is 0 ys) ∙ call_viewed kept ∙ sym (ap (λ o. call_seen f.text (is_some o)) (first_is 0 xs));
+        tells = ap₂ cons_option owns told;
+        owns = owns;
+      }
+
+pub calls_alike : (s : Nowhere) (f : Name Nowhere) (l m : Listing Nowhere) → in_listing m ≡ in_listing l → FirstKept (call s f l) m → Alike (an_expression (call s f l)) (an_expression (call s f m))
+calls_alike s f (listing r trailing xs) (listing r2 trailing2 ys) told kept = call_alike s f r r2 trailing trailing2 xs ys told kept
+
+pub lists_alike : (e : Expression Nowhere) (o : ListIn Nowhere) → list_in e ≡ Some o → (m : Listing Nowhere) → in_listing m ≡ in_listing o.list → FirstKept e m → Alike (an_expression e) (an_expression (o.back m))
+lists_alike (array l) o is m told kept =
+    subst (λ (u : ListIn Nowhere). in_listing m ≡ in_listing u.list → Alike (an_expression (array l)) (an_expression (u.back m))) (some-injective _ _ is) (λ same. record { seen = refl; tells = same; owns = refl }) told
+lists_alike (dictionary l) o is m told kept =
+    subst (λ (u : ListIn Nowhere). in_listing m ≡ in_listing u.list → Alike (an_expression (dictionary l)) (an_expression (u.back m))) (some-injective _ _ is) (λ same. record { seen = refl; tells = same; owns = refl }) told
+lists_alike (call s f l) o is m told kept =
+    subst (λ (u : ListIn Nowhere). in_listing m ≡ in_listing u.list → Alike (an_expression (call s f l)) (an_expression (u.back m))) (some-injective _ _ is) (λ same. calls_alike s f l m same kept) told
+lists_alike _ o is m told kept = absurd cc
+
+-- ---- strings that come
+
+pub grown_tells : (names : List (List ℕ)) (front back : List (Argument Nowhere)) → in_arguments (arguments_of (front ++ (strings names ++ back))) ≡ in_arguments (arguments_of (front ++ back))
+grown_tells [] [] back = refl
+grown_tells (name ∷ names) [] back = grown_tells names [] back
+grown_tells names (plain e ∷ front) back = ap (λ l. (in_expression e ++ []) ++ l) (grown_tells names front back)
+grown_tells names (named s x e ∷ front) back = ap (λ l. (in_expression e ++ []) ++ l) (grown_tells names front back)
+grown_tells names (pair s e f ∷ front) back = ap (λ l. (in_expression e ++ (in_expression f ++ [])) ++ l) (grown_tells names front back)
+
+-- where an argument without a name stands before them
+pub first_grown : (front more back : List (Argument Nowhere)) → list_any is_plain front ≡ true → first_plain (arguments_of (front ++ more)) ≡ first_plain (arguments_of (front ++ back))
+first_grown [] more back is = absurd cc
+first_grown (plain e ∷ front) more back is = refl
+first_grown (named s x e ∷ front) more back is = first_grown front more back is
+first_grown (pair s e f ∷ front) more back is = first_grown front more back is
