@@ -1,13 +1,13 @@
 //! The sources of a target.
 
-ghost use Rattle.std.specs.Prelude.{◌≡◌, Ok, IfOk};
+ghost use Rattle.std.specs.Prelude.{◌≡◌, Ok, IfOk, OnOk};
 ghost use Rattle.meson_syntax.specs.View.{list_view};
 ghost use Rattle.meson_calls.specs.GoodLists.{GoodArgs, GoodListing};
 ghost use Rattle.meson_calls.specs.CodeVariables.{AreVariables, project_of};
 ghost use Rattle.meson_calls.specs.Picking.{Source, placed_call};
 ghost use Rattle.meson_calls.specs.Refusals.{RefusedAs};
 ghost use Rattle.meson_calls.specs.Sources.{or_option, or_call, sources_of_call};
-ghost use Rattle.meson_calls.specs.Tallies.{gathered};
+ghost use Rattle.meson_calls.specs.Tallies.{gathered, no_marks};
 ghost use Rattle.meson_calls.specs.Sourced.{all_gathered};
 
 use crate::arguments::{behind_first, count_named};
@@ -23,6 +23,37 @@ use std::alloc::{AllocError, Global};
 /// So many variables may be followed inside one another.
 pub const MAX_FOLLOWED: usize = 64;
 
+/// Meets what the arguments of a call hold, which has this path, where nothing was met before.
+fn meet_arguments<'t>(
+    variables: &Variables<'t>,
+    left: usize,
+    call: &CallRef,
+    source: &'t [u8],
+    args: &'t [Arg],
+    path: &mut Vec<usize>,
+    marks: &mut Marks<'t>,
+) -> Result<(), AllocError>
+    requires holds { AreVariables variables.now }
+    requires good { GoodArgs source.now args.now }
+    requires path { path.old.items ≡ call.now.path.steps }
+    requires none { gathered marks.old ≡ no_marks }
+    ensures { OnOk result (gathered marks.new ≡ all_gathered (project_of variables.now) left call.now source.entry.now args.entry.now) }
+{
+    let site = Site {
+        file: call.file,
+        source,
+        variable: None,
+    };
+    let from = behind_first(args);
+    variables.expand_plains(left, site, from, args, path, marks)?;
+    let named = b"sources".as_slice();
+    variables.expand_nameds(left, site, args, named, path, marks)?;
+    if count_named(source, args, b"kwargs".as_slice()) > 0 {
+        marks.miss(call.file)?;
+    }
+    Ok(())
+}
+
 /// What the arguments of a call hold: those without a name behind the first, `sources:`, and, not known, `kwargs:`.
 pub fn met<'t>(
     variables: &Variables<'t>,
@@ -35,26 +66,9 @@ pub fn met<'t>(
     requires good { GoodArgs source.now args.now }
     ensures { IfOk result (λ marks. gathered marks ≡ all_gathered (project_of variables.now) left call.now source.entry.now args.entry.now) }
 {
-    let site = Site {
-        file: call.file,
-        source,
-        variable: None,
-    };
     let mut path = Vec::from_slice(variables.alloc, call.path.steps.get())?;
     let mut marks = Marks::new(variables.alloc);
-    let from = behind_first(args);
-    variables.expand_plains(left, site, from, args, &mut path, &mut marks)?;
-    variables.expand_nameds(
-        left,
-        site,
-        args,
-        b"sources".as_slice(),
-        &mut path,
-        &mut marks,
-    )?;
-    if count_named(source, args, b"kwargs".as_slice()) > 0 {
-        marks.miss(call.file)?;
-    }
+    meet_arguments(variables, left, call, source, args, &mut path, &mut marks)?;
     Ok(marks)
 }
 

@@ -65,13 +65,11 @@ impl<'t> Walk<'t> {
             Expr::Unary { operand, .. } => self.in_child(0, operand.get(), path, keeper),
             Expr::Row { first, rest, .. } => {
                 self.in_child(0, first.get(), path, keeper)?;
-                self.in_operands(rest.get(), path, keeper)?;
-                Ok(())
+                self.in_operands(rest.get(), path, keeper)
             }
             Expr::Postfix { base, tails, .. } => {
                 self.in_child(0, base.get(), path, keeper)?;
-                self.in_tails(tails.get(), path, keeper)?;
-                Ok(())
+                self.in_tails(tails.get(), path, keeper)
             }
             Expr::Conditional {
                 condition,
@@ -81,8 +79,7 @@ impl<'t> Walk<'t> {
             } => {
                 self.in_child(0, condition.get(), path, keeper)?;
                 self.in_child(1, yes.get(), path, keeper)?;
-                self.in_child(2, no.get(), path, keeper)?;
-                Ok(())
+                self.in_child(2, no.get(), path, keeper)
             }
         }
     }

@@ -1,13 +1,14 @@
 -- What a project holds: the calls that make targets, and the `subdir` calls that enter none of its files.
-use Rattle.std.specs.Prelude.{ℕ, Bool, false, not, IsTrue, List, filter, if◌then◌else◌, codes, Option, Some, None, option_map}
+use Rattle.std.specs.Prelude.{◌≡◌, ℕ, Bool, false, not, IsTrue, List, filter, if◌then◌else◌, codes, Option, Some, None, option_map}
 use Rattle.std.specs.List.{filter_map}
 use Rattle.meson_splice.specs.declared.file_set.File.{File}
+use Rattle.meson_lex.specs.declared.kinds.Span.{Span}
 use Rattle.meson_calls.specs.declared.call.CallRef.{CallRef}
 use Rattle.meson_calls.specs.Calls.{Call, all_chosen, calls}
 use Rattle.meson_calls.specs.Knowns.{is_entered, meant_in}
 use Rattle.meson_calls.specs.Loading.{Loaded, project}
-use Rattle.meson_calls.specs.Notes.{Note, a_call, an_assignment, a_loop}
-use Rattle.meson_calls.specs.Project.{Project}
+use Rattle.meson_calls.specs.Notes.{Note, a_call, an_assignment, a_loop, notes}
+use Rattle.meson_calls.specs.Project.{Placed, Project}
 use Rattle.meson_calls.specs.Roles.{places, targets}
 use Rattle.meson_calls.specs.Variables.{calls_function}
 use Rattle.meson_plan.specs.Details.{head, is_call}
@@ -41,6 +42,10 @@ note_calls f (a_call c) = calls_function f c
 note_calls f (an_assignment x sets e) = false
 note_calls f (a_loop xs) = false
 
+-- these are the notes of the project
+abbrev pub AreAllNotes : Loaded → List (Placed (Note Span)) → Type 0
+AreAllNotes l ns = ns ≡ notes (project l)
+
 -- ---- what a project holds
 
 -- whether a `subdir` call enters one of the files: its folder is a plain literal, and the file that is meant is there
@@ -50,8 +55,11 @@ enters_one files c = is_entered files (meant_in files c.file c.head.name)
 abbrev pub not_entered : List File → List HeldCall → List HeldCall
 not_entered files cs = filter (λ c. not (enters_one files c)) cs
 
+abbrev pub targets_held : Loaded → List HeldCall
+targets_held l = held_calls l (targets (project l))
+
+abbrev pub subdirs_held : Loaded → List HeldCall
+subdirs_held l = not_entered l.files (held_calls l (calls_of (project l) (codes "subdir")))
+
 abbrev pub holdings : Loaded → Holdings
-holdings l = record {
-  targets = held_calls l (targets (project l));
-  not_entered = not_entered l.files (held_calls l (calls_of (project l) (codes "subdir")));
-}
+holdings l = record { targets = targets_held l; not_entered = subdirs_held l }

@@ -5,7 +5,7 @@ ghost use Rattle.meson_calls.specs.Knowns.{AreFileNames};
 ghost use Rattle.meson_calls.specs.Loading.{HasFileName};
 ghost use Rattle.meson_calls.specs.Notes.{note_view, note_views};
 ghost use Rattle.meson_calls.specs.Picking.{places_that};
-ghost use Rattle.meson_listing.specs.Holdings.{IsCall, enters_one, held_call, held_calls, holdings, not_entered, note_calls};
+ghost use Rattle.meson_listing.specs.Holdings.{AreAllNotes, IsCall, enters_one, held_call, held_calls, holdings, not_entered, note_calls, subdirs_held, targets_held};
 
 use meson_calls::file_names::{enters, names_of};
 use meson_calls::note::{Note, What};
@@ -134,20 +134,45 @@ fn not_entered(
     Ok(Many::of(left))
 }
 
+/// The calls that make targets, among the notes of a project.
+fn targets_held(
+    alloc: Global,
+    project: &Project,
+    notes: &[Note<'_, '_>],
+) -> Result<Many<HeldCall>, AllocError>
+    requires { AreAllNotes project.now (note_views notes.now) }
+    ensures { IfOk result (λ calls. calls ≡ targets_held project.now) }
+{
+    let places = with_role(alloc, Role::Target, notes)?;
+    held_calls(alloc, project, places.as_slice())
+}
+
+/// The `subdir` calls that enter none of the files, among the notes of a project.
+fn subdirs_held(
+    alloc: Global,
+    project: &Project,
+    notes: &[Note<'_, '_>],
+) -> Result<Many<HeldCall>, AllocError>
+    requires { AreAllNotes project.now (note_views notes.now) }
+    ensures { IfOk result (λ calls. calls ≡ subdirs_held project.now) }
+{
+    project.reads();
+    let places = calls_of(alloc, b"subdir".as_slice(), notes)?;
+    let calls = held_calls(alloc, project, places.as_slice())?;
+    not_entered(alloc, project.files(), calls)
+}
+
 /// What a project holds.
 pub(crate) fn holdings_of(alloc: Global, project: &Project) -> Result<Holdings, AllocError>
     ensures { IfOk result (λ held. held ≡ holdings project.now) }
 {
     project.reads();
-    let files = project.files();
-    let taken = notes_of(alloc, files, project.trees())?;
+    let taken = notes_of(alloc, project.files(), project.trees())?;
     let notes = taken.all(alloc)?;
-    let targets = with_role(alloc, Role::Target, notes.as_slice())?;
-    let subdirs = calls_of(alloc, b"subdir".as_slice(), notes.as_slice())?;
-    let targets = held_calls(alloc, project, targets.as_slice())?;
-    let subdirs = held_calls(alloc, project, subdirs.as_slice())?;
+    let targets = targets_held(alloc, project, notes.as_slice())?;
+    let not_entered = subdirs_held(alloc, project, notes.as_slice())?;
     Ok(Holdings {
         targets,
-        not_entered: not_entered(alloc, files, subdirs)?,
+        not_entered,
     })
 }

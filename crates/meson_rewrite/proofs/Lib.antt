@@ -5,6 +5,7 @@ pub mod Wants
 pub mod Names
 pub mod Listings
 pub mod Scripts
+pub mod Requests
 pub mod Endings
 pub mod Opened
 pub mod Untold

@@ -77,6 +77,12 @@ only_asks (action.List json) = true
 only_asks action.Sums = true
 only_asks _ = false
 
+-- a file is read for it: a script, or digests
+abbrev pub names_file : Action → Bool
+names_file (action.ScriptFile name) = true
+names_file (action.UndoChecked count name) = true
+names_file _ = false
+
 -- ---- the step that an action asks for, a run with this title, and that it is one
 
 abbrev pub AsksFor : List ℕ → Action → Option Content → ProgramRequest → Type 0

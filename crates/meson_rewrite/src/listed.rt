@@ -5,12 +5,13 @@ ghost use Rattle.meson_rewrite.specs.Listed.{holdings_text, listed_text};
 ghost use Rattle.meson_rewrite.specs.Stops.{WantsMemory};
 
 use crate::changes::history_text;
-use crate::opening::StoredSession;
+use crate::opening::{StoredSession, leave};
 use crate::request::Listing;
 use crate::said::{Said, json_line};
 use crate::stop::Stop;
 use meson_listing::{project_lines, project_object};
 use meson_plan::Project;
+use meson_script::Session;
 use meson_splice::Bytes;
 use meson_sums::sums;
 use std::alloc::{AllocError, Global};
@@ -27,19 +28,27 @@ fn holdings_text(alloc: Global, project: &Project, json: bool) -> Result<Vec<u8>
     Ok(lines.into_bytes())
 }
 
+/// What a listing of a session has.
+fn listing_of(alloc: Global, session: &Session, listing: Listing) -> Result<Vec<u8>, AllocError>
+    ensures { IfOk result (λ text. text.items ≡ listed_text listing session.now) }
+{
+    match listing {
+        Listing::History => history_text(alloc, &session.history),
+        Listing::Holdings { json } => holdings_text(alloc, session.project(), json),
+        Listing::Sums => sums(alloc, session.files()),
+    }
+}
+
 /// What is to be told where this is listed of a session.
 pub(crate) fn listed(alloc: Global, opened: StoredSession, listing: Listing) -> Result<Said, Stop>
     ensures told { IfOk result (λ said. said ≡ record { out = listed_text listing opened.session; err = [] }) }
     ensures none { IfErr result WantsMemory }
 {
     let StoredSession { session, log: _ } = opened;
-    let text = match listing {
-        Listing::History => history_text(alloc, &session.history)?,
-        Listing::Holdings { json } => holdings_text(alloc, session.project(), json)?,
-        Listing::Sums => sums(alloc, session.files())?,
-    };
+    let text = listing_of(alloc, &session, listing);
+    leave(session);
     Ok(Said {
-        out: Bytes::of(text),
+        out: Bytes::of(text?),
         err: Bytes::of(Vec::new(alloc)),
     })
 }

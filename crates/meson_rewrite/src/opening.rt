@@ -19,6 +19,7 @@ use meson_script::Session;
 use meson_splice::History;
 use meson_store::Store;
 use std::alloc::Global;
+use std::mem;
 
 /// The undo log of a project, beside its root file.
 pub(crate) const LOG: &str = "meson.rewrite-log";
@@ -83,6 +84,11 @@ pub(crate) struct StoredSession {
     pub session: Session,
     /// The text of its log.
     pub log: Vec<u8>,
+}
+
+/// Lets nothing of it go: what comes is the end of the program, which lets all memory go at once.
+pub(crate) fn leave<T: Drop>(it: T) {
+    mem::forget(it);
 }
 
 /// The session of the project in this folder: its files, each parsed once, and then the history that its log holds.

@@ -1,10 +1,10 @@
 //! What is asked of a project, by the words and the script file that they name.
 
-ghost use Rattle.std.specs.Prelude.{◌≡◌, ◌≤◌, ◌⊎◌, ◌∷◌, [], IfOk, IfErr, IsTrue, Ok, true, OnOk};
+ghost use Rattle.std.specs.Prelude.{◌≡◌, ◌≤◌, ◌⊎◌, ◌∷◌, [], IfOk, IfErr, IsTrue, None, Ok, false, true, OnOk};
 ghost use Rattle.serde_json.specs.Read.{read};
 ghost use Rattle.meson_json.specs.Scripts.{script_of};
 ghost use Rattle.meson_json.specs.Titles.{is_title};
-ghost use Rattle.meson_rewrite.specs.Requests.{AsksFor, AsksForNone, IsBad, IsFileOf, IsNoFile, IsNoScript, IsScriptOf, StepsTitled, only_shows, script, script_in};
+ghost use Rattle.meson_rewrite.specs.Requests.{AsksFor, AsksForNone, IsBad, IsFileOf, IsNoFile, IsNoScript, IsScriptOf, StepsTitled, names_file, only_shows, script, script_in};
 ghost use Rattle.meson_rewrite.specs.Lines.{version_line};
 ghost use Rattle.meson_rewrite.specs.StoreReads.{file_read};
 ghost use Rattle.meson_rewrite.specs.Stops.{WantsMemory};
@@ -156,6 +156,36 @@ fn version_asked(alloc: Global) -> Result<ProgramRequest, Stop>
     Ok(ProgramRequest::Show(version_text(alloc)?))
 }
 
+/// What an action asks for that names no file; a run keeps its change under the title.
+fn asked_for(alloc: Global, action: Action, title: Text) -> Result<ProgramRequest, Stop>
+    requires title { is_title title ≡ true }
+    requires no_file { names_file action ≡ false }
+    ensures asks { IfOk result (λ r. AsksFor title action None r) }
+    ensures titled { IfOk result StepsTitled }
+    ensures none { IfErr result (λ why. WantsMemory why ⊎ AsksForNone action None 0 0 why) }
+{
+    match action {
+        Action::Help(text) => Ok(ProgramRequest::Show(text)),
+        Action::Version => version_asked(alloc),
+        Action::Run(script) => Ok(ProgramRequest::Step(Step::Run { script, title })),
+        Action::Info(command) => told_of(alloc, command),
+        Action::ScriptText(text) => {
+            let script = script_from(alloc, text.get())?;
+            Ok(ProgramRequest::Step(Step::Run { script, title }))
+        }
+        Action::Undo => Ok(ProgramRequest::Step(Step::Undo)),
+        Action::UndoTo(count) => Ok(ProgramRequest::Step(Step::UndoTo(count))),
+        Action::ForgetOldest(count) => Ok(ProgramRequest::Step(Step::ForgetOldest(count))),
+        Action::ForgetAll => Ok(ProgramRequest::Step(Step::ForgetAll)),
+        Action::Redo => Ok(ProgramRequest::Step(Step::Redo)),
+        Action::History => Ok(ProgramRequest::List(Listing::History)),
+        Action::List { json } => Ok(ProgramRequest::List(Listing::Holdings { json })),
+        Action::Sums => Ok(ProgramRequest::List(Listing::Sums)),
+        Action::ScriptFile(_) => unreachable!(),
+        Action::UndoChecked { .. } => unreachable!(),
+    }
+}
+
 /// What an action asks for; a run keeps its change under the title.
 pub(crate) fn request_of<S: Store>(
     alloc: Global,
@@ -175,29 +205,14 @@ pub(crate) fn request_of<S: Store>(
     ensures untouched { IsTrue (only_shows action) → store.new ≡ store.old }
 {
     match action {
-        Action::Help(text) => Ok(ProgramRequest::Show(text)),
-        Action::Version => version_asked(alloc),
-        Action::Run(script) => Ok(ProgramRequest::Step(Step::Run { script, title })),
-        Action::Info(command) => told_of(alloc, command),
-        Action::ScriptText(text) => {
-            let script = script_from(alloc, text.get())?;
-            Ok(ProgramRequest::Step(Step::Run { script, title }))
-        }
         Action::ScriptFile(name) => {
             let script = read_script(alloc, store, name)?;
             Ok(ProgramRequest::Step(Step::Run { script, title }))
         }
-        Action::Undo => Ok(ProgramRequest::Step(Step::Undo)),
-        Action::UndoTo(count) => Ok(ProgramRequest::Step(Step::UndoTo(count))),
         Action::UndoChecked { count, sums } => {
             let kept = read_named(alloc, store, sums)?;
             Ok(ProgramRequest::Step(Step::UndoChecked { count, kept }))
         }
-        Action::ForgetOldest(count) => Ok(ProgramRequest::Step(Step::ForgetOldest(count))),
-        Action::ForgetAll => Ok(ProgramRequest::Step(Step::ForgetAll)),
-        Action::Redo => Ok(ProgramRequest::Step(Step::Redo)),
-        Action::History => Ok(ProgramRequest::List(Listing::History)),
-        Action::List { json } => Ok(ProgramRequest::List(Listing::Holdings { json })),
-        Action::Sums => Ok(ProgramRequest::List(Listing::Sums)),
+        action => asked_for(alloc, action, title),
     }
 }

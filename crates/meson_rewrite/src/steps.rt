@@ -10,7 +10,7 @@ ghost use Rattle.meson_rewrite.specs.Logs.{with_log};
 ghost use Rattle.meson_rewrite.specs.Steps.{Does, IsTitled, MayRefuseStep};
 ghost use Rattle.meson_rewrite.specs.Stops.{WantsMemory, undo_stop};
 
-use crate::opening::{LOG, StoredSession};
+use crate::opening::{LOG, StoredSession, leave};
 use crate::request::{NamedFile, Step};
 use crate::said::Said;
 use crate::stop::Stop;
@@ -23,7 +23,6 @@ use meson_sums::are_kept;
 use meson_syntax::ParseFault;
 use serde_json::Value;
 use std::alloc::{AllocError, Global};
-use std::mem;
 
 /// The file of this number would be none.
 fn unparsed(alloc: Global, files: &FileSet, place: usize, fault: ParseFault) -> Stop
@@ -228,9 +227,18 @@ pub(crate) fn edited(alloc: Global, opened: StoredSession, step: &Step) -> Resul
 {
     let StoredSession { mut session, log } = opened;
     let edit = edit_of(alloc, &mut session, log, step);
-    // What comes is the end of the program, which lets all memory go at once.
-    mem::forget(session);
+    leave(session);
     edit
+}
+
+/// What is to be told of a step on a session that is lent.
+fn told_of(alloc: Global, session: &mut Session, step: &Step) -> Result<Said, Stop>
+    requires { IsTitled step.now }
+    ensures told { IfOk result (OnlyTells session.old step.now) }
+    ensures refused { IfErr result (λ why. WantsMemory why ⊎ MayRefuseStep step.now session.old why) }
+{
+    let report = act(alloc, session, step)?;
+    Ok(Said::of(alloc, step, &report)?)
 }
 
 /// What is to be told of a step on a session.
@@ -243,8 +251,21 @@ pub(crate) fn told(alloc: Global, opened: StoredSession, step: &Step) -> Result<
         mut session,
         log: _,
     } = opened;
-    let report = act(alloc, &mut session, step)?;
-    Ok(Said::of(alloc, step, &report)?)
+    let said = told_of(alloc, &mut session, step);
+    leave(session);
+    said
+}
+
+/// What is to be told of a step on a session that is lent, and where it is shown and not done.
+fn shown_of(alloc: Global, session: &mut Session, step: &Step) -> Result<Said, Stop>
+    requires { IsTitled step.now }
+    ensures shown { IfOk result (IsShown session.old step.now) }
+    ensures refused { IfErr result (λ why. WantsMemory why ⊎ MayRefuseStep step.now session.old why) }
+{
+    let before = session.files().clone()?;
+    let report = act(alloc, session, step)?;
+    let changes = diff(alloc, &before, session.files())?;
+    Ok(Said::shown(alloc, changes, &report)?)
 }
 
 /// What is to be told of a step on a session that is shown, and not done.
@@ -257,8 +278,7 @@ pub(crate) fn shown(alloc: Global, opened: StoredSession, step: &Step) -> Result
         mut session,
         log: _,
     } = opened;
-    let before = session.files().clone()?;
-    let report = act(alloc, &mut session, step)?;
-    let changes = diff(alloc, &before, session.files())?;
-    Ok(Said::shown(alloc, changes, &report)?)
+    let said = shown_of(alloc, &mut session, step);
+    leave(session);
+    said
 }

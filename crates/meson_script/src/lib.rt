@@ -6,6 +6,7 @@ mod fault;
 pub mod laws;
 mod log;
 mod performing;
+mod preparing;
 mod session;
 mod stepping;
 

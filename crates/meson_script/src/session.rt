@@ -12,7 +12,8 @@ ghost use Rattle.meson_splice.specs.Past.{redone, undone};
 
 use crate::counting::count_differing;
 use crate::fault::{RunFault, UndoFault, Unstarted};
-use crate::performing::{listed, perform_all, performed};
+use crate::performing::{perform_all, performed};
+use crate::preparing::{Prepared, prepare, titles, unmade};
 use crate::stepping::{done_again, taken_back};
 use meson_json::Script;
 use meson_plan::{Command, Done, Project, Refusal};
@@ -41,25 +42,6 @@ pub struct Report {
     pub info: Value,
     /// What the change is for that was made, taken back or done again.
     pub title: Text,
-}
-
-/// A title for a change, and one for its report.
-fn titles(alloc: Global, title: &str) -> Result<(Text, Text), AllocError>
-    ensures { IfOk result (λ both. both ≡ (title.now, title.now)) }
-{
-    let kept = String::from_str(alloc, title)?;
-    let told = String::from_str(alloc, title)?;
-    Ok((Text::of(kept), Text::of(told)))
-}
-
-/// Want of memory before any command was done.
-fn unmade(refused: AllocError) -> RunFault
-    ensures { result ≡ record { index = 0; refusal = OutOfMemory } }
-{
-    RunFault {
-        index: 0,
-        refusal: Refusal::from(refused),
-    }
 }
 
 /// The same change with this title.
@@ -178,19 +160,16 @@ impl Session {
         ensures kept { OnErr result (self.new ≡ self.old) }
         ensures project { OnOk result (IsProject self.new.project) }
     {
-        self.project.reads();
-        let before = match self.project.files().clone() {
-            Ok(files) => files,
-            Err(refused) => return Err(unmade(refused)),
+        let prepared = match prepare(alloc, &self.project, command, title) {
+            Ok(prepared) => prepared,
+            Err(fault) => return Err(fault),
         };
-        let listings = match listed(alloc, &self.project, command) {
-            Ok(listings) => listings,
-            Err(refusal) => return Err(RunFault { index: 0, refusal }),
-        };
-        let (kept, told) = match titles(alloc, title) {
-            Ok(both) => both,
-            Err(refused) => return Err(unmade(refused)),
-        };
+        let Prepared {
+            before,
+            listings,
+            kept,
+            told,
+        } = prepared;
         let mut past = mem::replace(&mut self.history.past, Many::new(alloc)).take();
         if let Err(refused) = past.reserve(1) {
             self.history.past = Many::of(past);

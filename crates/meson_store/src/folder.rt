@@ -219,6 +219,11 @@ impl Names {
                 return Ok(self.path.push_str(link.path.as_str())?);
             }
         }
+        self.follow_new(rt, name)
+    }
+
+    /// The same of a link that was not followed before.
+    fn follow_new<R: Files>(&mut self, rt: &R, name: &str) -> io::Result<()> {
         let path = rt.canonicalize(self.alloc, name)?.into_string();
         self.path.push_str(path.as_str())?;
         let name = String::from_str(self.alloc, name)?;

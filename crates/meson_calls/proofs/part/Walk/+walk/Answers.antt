@@ -1,12 +1,10 @@
-use Rattle.std.proofs.Common.{rules, ◌≡◌, ℕ, ◌+◌, List, ◌∙◌, sym, ap, refl, get_or, arith}
-use Rattle.meson_lex.specs.declared.kinds.Span.{Span}
-use Rattle.meson_syntax.specs.declared.tree.Expr.{Expr}
+use Rattle.std.proofs.Common.{rules, ◌≡◌, ◌+◌, ◌∙◌, sym, ap, refl, get_or, arith}
 use Rattle.meson_syntax.specs.View.{expr_view, arg_view}
-use Rattle.meson_calls.specs.Project.{Placed, place, child}
-use Rattle.meson_calls.specs.Parts.{Part, parts_of_expression, parts_of_argument}
-use Rattle.meson_calls.specs.Walks.{keeper_view, with_parts, parts_within}
-use Rattle.meson_calls.proofs.Visits.{two_parts, three_parts, turn, count_turn, count_ended}
-use Rattle.meson_calls.proofs.Parted.{operand_value, row_view, postfix_view, conditional_view, pair_view}
+use Rattle.meson_calls.specs.Project.{place, child}
+use Rattle.meson_calls.specs.Parts.{parts_of_expression, parts_of_argument}
+use Rattle.meson_calls.specs.Walks.{keeper_view, with_parts}
+use Rattle.meson_calls.proofs.Visits.{two_parts, turn, count_turn, count_ended}
+use Rattle.meson_calls.proofs.Parted.{operand_value, pair_view}
 use Rattle.meson_calls.proofs.ListTurns.{args_parts, args_part, args_size, args_count, row_parts, row_part, tail_list_parts, tail_part, tail_size}
 use Rattle.meson_calls.proofs.WalkedWords.{arg_some, pair_some, expr_count, array_fits, dictionary_fits, call_fits, tails_fit, operand_fits, method_fits, args_width, arg_count, args_more, arg_size_fits, tails_width, tail_count, tails_more, tail_size_fits, next_turn}
 use Rattle.meson_syntax.specs.declared.tree.Arg.TheFolds.{the_lemmas}
@@ -62,57 +60,6 @@ in_operands-loop-i-preserved t c =
       turn (row_parts source p) (row_part source p) (λ y. 1) (λ n y ys. refl) c.args.operands.now c.loop-i.i c.index-operands-i.result n (n + 1)
           (keeper_view c.loop-i.keeper) (keeper_view c.in_child.new.keeper) _ found c.loop-i-test.true c.in_ok-in_child.ensures.all here refl c.loop-i.invariant.1,
     )
-
-pub in_expr-returns-in_ok-in_operands-in-Row-clause-all : goal.in_expr-returns-in_ok-in_operands-in-Row-clause-all
-in_expr-returns-in_ok-in_operands-in-Row-clause-all t c =
-    let source = c.args.self.now.source.now in
-    let file = c.args.self.now.file in
-    let p = place file c.args.path.now.items in
-    let before = keeper_view c.args.keeper.now in
-    let middle = keeper_view c.in_child-in-Row.new.keeper in
-    two_parts before middle _ (parts_of_expression (child p 0) (expr_view source c.in-Row.first)) (row_parts source p 1 c.in-Row.rest)
-    (c.in_ok-in_child-in-Row.ensures.all ∙ ap (λ x. with_parts before (parts_of_expression (child p 0) (expr_view source x))) c.get-in-Row.ensures)
-    (c.in_ok-in_operands-in-Row.ensures.all
-    ∙ ap (λ path. with_parts middle (row_parts source (place file path) 1 c.get-in-Row-2.result.now)) c.in_ok-in_child-in-Row.ensures.back
-    ∙ ap (λ xs. with_parts middle (row_parts source p 1 xs)) c.get-in-Row-2.ensures)
-    ∙ ap (with_parts before) (sym (ap (parts_within p) (row_view source c.in-Row.span c.in-Row.first c.in-Row.rest)))
-    ∙ ap (λ x. with_parts before (parts_within p (expr_view source x))) (sym c.in-Row.is)
-
-pub in_expr-returns-in_ok-in_tails-in-Postfix-clause-all : goal.in_expr-returns-in_ok-in_tails-in-Postfix-clause-all
-in_expr-returns-in_ok-in_tails-in-Postfix-clause-all t c =
-    let source = c.args.self.now.source.now in
-    let file = c.args.self.now.file in
-    let p = place file c.args.path.now.items in
-    let before = keeper_view c.args.keeper.now in
-    let middle = keeper_view c.in_child-in-Postfix.new.keeper in
-    two_parts before middle _ (parts_of_expression (child p 0) (expr_view source c.in-Postfix.base)) (tail_list_parts source p 1 c.in-Postfix.tails)
-    (c.in_ok-in_child-in-Postfix.ensures.all ∙ ap (λ x. with_parts before (parts_of_expression (child p 0) (expr_view source x))) c.get-in-Postfix.ensures)
-    (c.in_ok-in_tails-in-Postfix.ensures.all
-    ∙ ap (λ path. with_parts middle (tail_list_parts source (place file path) 1 c.get-in-Postfix-2.result.now)) c.in_ok-in_child-in-Postfix.ensures.back
-    ∙ ap (λ xs. with_parts middle (tail_list_parts source p 1 xs)) c.get-in-Postfix-2.ensures)
-    ∙ ap (with_parts before) (sym (ap (parts_within p) (postfix_view source c.in-Postfix.span c.in-Postfix.base c.in-Postfix.tails)))
-    ∙ ap (λ x. with_parts before (parts_within p (expr_view source x))) (sym c.in-Postfix.is)
-
-pub in_expr-returns-in_ok-in_child-in-Conditional-3-clause-all : goal.in_expr-returns-in_ok-in_child-in-Conditional-3-clause-all
-in_expr-returns-in_ok-in_child-in-Conditional-3-clause-all t c =
-    let source = c.args.self.now.source.now in
-    let file = c.args.self.now.file in
-    let p = place file c.args.path.now.items in
-    let before = keeper_view c.args.keeper.now in
-    let middle = keeper_view c.in_child-in-Conditional.new.keeper in
-    let later = keeper_view c.in_child-in-Conditional-2.new.keeper in
-    let back = c.in_ok-in_child-in-Conditional-2.ensures.back ∙ c.in_ok-in_child-in-Conditional.ensures.back in
-    let part : ℕ → Expr → List (Placed (Part Span)) = λ n x. parts_of_expression (child p n) (expr_view source x) in
-    three_parts before middle later _ (part 0 c.in-Conditional.condition) (part 1 c.in-Conditional.yes) (part 2 c.in-Conditional.no)
-    (c.in_ok-in_child-in-Conditional.ensures.all ∙ ap (λ x. with_parts before (parts_of_expression (child p 0) (expr_view source x))) c.get-in-Conditional.ensures)
-    (c.in_ok-in_child-in-Conditional-2.ensures.all
-    ∙ ap (λ path. with_parts middle (parts_of_expression (child (place file path) 1) (expr_view source c.get-in-Conditional-2.result.now))) c.in_ok-in_child-in-Conditional.ensures.back
-    ∙ ap (λ x. with_parts middle (parts_of_expression (child p 1) (expr_view source x))) c.get-in-Conditional-2.ensures)
-    (c.in_ok-in_child-in-Conditional-3.ensures.all
-    ∙ ap (λ path. with_parts later (parts_of_expression (child (place file path) 2) (expr_view source c.get-in-Conditional-3.result.now))) back
-    ∙ ap (λ x. with_parts later (parts_of_expression (child p 2) (expr_view source x))) c.get-in-Conditional-3.ensures)
-    ∙ ap (with_parts before) (sym (ap (parts_within p) (conditional_view source c.in-Conditional.span c.in-Conditional.condition c.in-Conditional.yes c.in-Conditional.no)))
-    ∙ ap (λ x. with_parts before (parts_within p (expr_view source x))) (sym c.in-Conditional.is)
 
 pub in_arg-returns-in_ok-in_child-in-Pair-2-clause-all : goal.in_arg-returns-in_ok-in_child-in-Pair-2-clause-all
 in_arg-returns-in_ok-in_child-in-Pair-2-clause-all t c =

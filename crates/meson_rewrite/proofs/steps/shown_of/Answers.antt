@@ -4,11 +4,11 @@ use Rattle.meson_script.proofs.RunFacts.{names}
 use Rattle.meson_rewrite.proofs.Listings.{does-plain}
 use Rattle.meson_rewrite.proofs.Names.{step-names}
 use Rattle.meson_rewrite.specs.declared.said.Said.{Said}
-use Rattle.meson_rewrite.proofs.steps.shown.Goals as goal
+use Rattle.meson_rewrite.proofs.steps.shown_of.Goals as goal
 
 pub diff-requires : goal.diff-requires
 diff-requires c =
-    let old = c.args.opened.session in
+    let old = c.args.session.now in
     let new = c.act.new.session in
     record {
       same_files = ap names (c.in_ok-before.ensures.cases ∙ c.files.ensures)
@@ -17,7 +17,7 @@ diff-requires c =
     }
 
 pub shown-requires : goal.shown-requires
-shown-requires c = does-plain c.args.step.now c.args.opened.session c.act.new.session c.in_ok-report.report c.in_ok-report.ensures.does
+shown-requires c = does-plain c.args.step.now c.args.session.now c.act.new.session c.in_ok-report.report c.in_ok-report.ensures.does
 
 pub returns-clause-shown : goal.returns-clause-shown
 returns-clause-shown c =
@@ -29,7 +29,7 @@ returns-clause-shown c =
       report = c.in_ok-report.report;
       does = c.in_ok-report.ensures.does;
       shows = record {
-        is_diff = subst (IsDiff c.args.opened.session.project.files new.project.files) (sym (ap (λ (said : Said). said.out) c.in_ok-shown.ensures)) read;
+        is_diff = subst (IsDiff c.args.session.now.project.files new.project.files) (sym (ap (λ (said : Said). said.out) c.in_ok-shown.ensures)) read;
         is_listing = ap (λ (said : Said). said.err) c.in_ok-shown.ensures;
       };
     }
