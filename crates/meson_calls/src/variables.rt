@@ -5,16 +5,19 @@ ghost use Rattle.meson_calls.specs.CodeVariables.{AreVariables, is_among, is_sou
 ghost use Rattle.meson_calls.specs.Knowns.{has_unknown};
 ghost use Rattle.meson_calls.specs.Loading.{HasFileName, IsProject, loaded_from, project};
 ghost use Rattle.meson_calls.specs.Noted.{by_notes};
+ghost use Rattle.meson_calls.specs.NotedProjects.{IsNotedFor, project_in};
 ghost use Rattle.meson_calls.specs.Notes.{note_views};
 ghost use Rattle.meson_calls.specs.Strings.{NotesGood};
 ghost use Rattle.meson_calls.specs.Values.{value_in, value_view};
 ghost use Rattle.meson_calls.specs.Variables.{single};
+ghost use Rattle.meson_calls.specs.declared.call.Role.{Role};
 
 use crate::arriving::arguments_of;
 use crate::call::CallRef;
 use crate::known::all_known;
 use crate::mentions::{Mentions, is_among};
 use crate::note::Note;
+use crate::noted::Noted;
 use crate::notes::{notes_naming, notes_of};
 use crate::values::{Value, Values};
 use meson_splice::FileSet;
@@ -81,6 +84,19 @@ fn all_values<'t>(
     let taken = notes_of(alloc, files, trees)?;
     let notes = taken.all(alloc)?;
     known_values(alloc, files, notes.as_slice())
+}
+
+/// The values of all variables by notes of a project, where these are all of them. Of a file all notes are taken or none, so
+/// those of a project of one file are all where there is one.
+fn noted_values<'t>(alloc: Global, noted: &Noted<'t>) -> Result<Option<Values<'t>>, AllocError>
+    requires { (role : Role) × (id : List ℕ) × IsNotedFor role id noted.now }
+    ensures { IfOk result (λ o. IfSome o (λ values. (x : List ℕ) → value_in values x ≡ single (project_in noted.now) x)) }
+{
+    if noted.files.len() != 1 || noted.notes.is_empty() {
+        return Ok(None);
+    }
+    let values = known_values(alloc, noted.files, noted.notes)?;
+    Ok(Some(values))
 }
 
 /// The values of these variables. Of others no value is meant.
@@ -152,6 +168,33 @@ impl<'t> Variables<'t> {
         }
     }
 
+    /// Those of a project. The values of these variables are at hand, and of those that they lead to.
+    fn mentioning(
+        alloc: Global,
+        files: &'t FileSet,
+        trees: &'t [Parsed],
+        mentions: &Mentions<'t>,
+    ) -> Result<Variables<'t>, AllocError>
+        requires { IsProject (loaded_from files.now trees.now) }
+        ensures holds { IfOk result AreVariables }
+        ensures files { IfOk result (λ v. v.files.now ≡ files.now) }
+        ensures trees { IfOk result (λ v. v.trees.now ≡ trees.now) }
+    {
+        match Self::of_few(alloc, files, trees, mentions)? {
+            Some(variables) => Ok(variables),
+            None => {
+                let values = all_values(alloc, files, trees)?;
+                Ok(Variables {
+                    alloc,
+                    files,
+                    trees,
+                    sought: Sought::All,
+                    values,
+                })
+            }
+        }
+    }
+
     /// Those of a project. The values are at hand of all variables that are followed from the arguments of a call on.
     ///
     /// # Errors
@@ -168,19 +211,36 @@ impl<'t> Variables<'t> {
         ensures trees { IfOk result (λ v. v.trees.now ≡ trees.now) }
     {
         let mentions = mentioned(alloc, files, trees, call)?;
-        match Self::of_few(alloc, files, trees, &mentions)? {
-            Some(variables) => Ok(variables),
-            None => {
-                let values = all_values(alloc, files, trees)?;
-                Ok(Variables {
+        Self::mentioning(alloc, files, trees, &mentions)
+    }
+
+    /// The same of a project with notes of it, which serve again where they are all.
+    ///
+    /// # Errors
+    /// Memory was refused.
+    pub fn near_noted(
+        alloc: Global,
+        noted: &Noted<'t>,
+        call: &CallRef,
+    ) -> Result<Variables<'t>, AllocError>
+        requires { (role : Role) × (id : List ℕ) × IsNotedFor role id noted.now }
+        ensures holds { IfOk result AreVariables }
+        ensures files { IfOk result (λ v. v.files.now ≡ noted.now.files.now) }
+        ensures trees { IfOk result (λ v. v.trees.now ≡ noted.now.trees.now) }
+    {
+        let mentions = mentioned(alloc, noted.files, noted.trees, call)?;
+        if !mentions.names().is_empty() {
+            if let Some(values) = noted_values(alloc, noted)? {
+                return Ok(Variables {
                     alloc,
-                    files,
-                    trees,
+                    files: noted.files,
+                    trees: noted.trees,
                     sought: Sought::All,
                     values,
-                })
+                });
             }
         }
+        Self::mentioning(alloc, noted.files, noted.trees, &mentions)
     }
 
     /// The one expression that a variable stands for.

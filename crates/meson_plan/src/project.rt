@@ -233,7 +233,7 @@ impl Project {
         let notes = taken.all(alloc)?;
         let noted = self.noted(notes.as_slice());
         let place = the_call(alloc, Role::Target, id, noted.notes)?;
-        let variables = Variables::near(alloc, &self.files, self.trees.as_slice(), &place)?;
+        let variables = Variables::near_noted(alloc, &noted, &place)?;
         details_at(&variables, place)
     }
 

@@ -46,7 +46,7 @@ fn target_steps(
     let call = the_call(alloc, Role::Target, target, noted.notes)?;
     let arguments = list_of_call(noted.trees, &call);
     let source = noted.files.bytes(call.file);
-    let variables = Variables::near(alloc, noted.files, noted.trees, &call)?;
+    let variables = Variables::near_noted(alloc, noted, &call)?;
     match change {
         TargetChange::SourcesAdded => sources_added(&variables, &call, source, arguments, names),
         TargetChange::SourcesRemoved => sources_removed(

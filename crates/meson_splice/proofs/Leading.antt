@@ -14,7 +14,7 @@ use Rattle.meson_splice.proofs.Sets.{nobody, patched_in-at}
 
 -- ---- the files with other bytes in one of them
 
-length-with_bytes : (files : List File) (i : ℕ) (b : List ℕ) → length (with_bytes i b files) ≡ length files
+pub length-with_bytes : (files : List File) (i : ℕ) (b : List ℕ) → length (with_bytes i b files) ≡ length files
 length-with_bytes [] i b = refl
 length-with_bytes (f ∷ files) zero b = refl
 length-with_bytes (f ∷ files) (suc i) b = ap suc (length-with_bytes files i b)

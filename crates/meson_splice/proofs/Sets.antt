@@ -6,7 +6,6 @@ use Rattle.std.proofs.lemmas.List.Quantifiers.{all_pairs_push, position-Some}
 use Rattle.std.proofs.lemmas.Slice.Eq.{bytes_eq-Decides}
 use Rattle.meson_splice.specs.Files.{IsDistinct, bytes_at, position_of_file, with_bytes}
 use Rattle.meson_splice.specs.Patch.{patched, patched_in, then_ok}
-use Rattle.meson_splice.specs.declared.fault.SpliceFault.{SpliceFault}
 use Rattle.meson_splice.specs.declared.fault.SpliceFault.TheVariants.{NoFile}
 use Rattle.meson_splice.specs.declared.file_set.File.{File}
 use Rattle.meson_splice.specs.declared.splice.Splice.{Splice}
@@ -59,16 +58,13 @@ nobody = record { name = []; bytes = [] }
 pub found-within : (name : List ℕ) (files : List File) (i : ℕ) → position_of_file name files ≡ Some i → i < length files
 found-within name files i h = (position-Some (λ f. bytes_eq f.name name) files i nobody h).0
 
-patched_in-found : (files : List File) (s : Splice) (i : ℕ) → position_of_file s.file files ≡ Some i → patched_in files s ≡ then_ok (patched (bytes_at i files) s) (λ b. Ok (with_bytes i b files))
+pub patched_in-found : (files : List File) (s : Splice) (i : ℕ) → position_of_file s.file files ≡ Some i → patched_in files s ≡ then_ok (patched (bytes_at i files) s) (λ b. Ok (with_bytes i b files))
 patched_in-found files s i h =
     let at = position-Some (λ f. bytes_eq f.name s.file) files i nobody h in
     patched_in-at files s i nobody at.0 at.1 at.2
 
 pub patched_in-done : (files : List File) (s : Splice) (i : ℕ) (b : List ℕ) → position_of_file s.file files ≡ Some i → patched (bytes_at i files) s ≡ Ok b → patched_in files s ≡ Ok (with_bytes i b files)
 patched_in-done files s i b h done = patched_in-found files s i h ∙ ap (λ r. then_ok r (λ c. Ok (with_bytes i c files))) done
-
-pub patched_in-refused : (files : List File) (s : Splice) (i : ℕ) (e : SpliceFault) → position_of_file s.file files ≡ Some i → patched (bytes_at i files) s ≡ Err e → patched_in files s ≡ Err e
-patched_in-refused files s i e h refused = patched_in-found files s i h ∙ ap (λ r. then_ok r (λ c. Ok (with_bytes i c files))) refused
 
 pub patched_in-none : (files : List File) (s : Splice) → position_of_file s.file files ≡ None → patched_in files s ≡ Err (NoFile s.file)
 patched_in-none [] s none = refl

@@ -1,17 +1,18 @@
 //! Changes: splices one after another, all or none of them.
 
-ghost use Rattle.std.specs.Prelude.{◌≡◌, ◌≢◌, ◌<◌, ◌≤◌, [], Err, IfErr, IfOk, Ok, OnErr, OnOk, drop, length};
-ghost use Rattle.meson_splice.specs.Files.{with_bytes};
+ghost use Rattle.std.specs.Prelude.{◌≡◌, ◌≢◌, ◌<◌, ◌≤◌, ℕ, List, [], Err, IfErr, IfOk, Ok, OnErr, OnOk, Some, drop, length};
+ghost use Rattle.meson_splice.specs.Borrowed.{splice_of};
+ghost use Rattle.meson_splice.specs.Files.{position_of_file, with_bytes};
 ghost use Rattle.meson_splice.specs.Gap.{LeadsTo, StopsBy};
 ghost use Rattle.meson_splice.specs.Ordered.{ordered};
-ghost use Rattle.meson_splice.specs.Patch.{inverses_of, patched_all};
+ghost use Rattle.meson_splice.specs.Patch.{inverses_of, patched_all, patched_in};
 ghost use Rattle.meson_splice.specs.Saved.{bytes_saved, bytes_put_back};
 ghost use Rattle.meson_splice.specs.declared.fault.SpliceFault.TheVariants.{OutOfMemory};
 
 use crate::fault::SpliceFault;
 use crate::file_set::FileSet;
 use crate::gap_text::GapText;
-use crate::splice::Splice;
+use crate::splice::{Borrowed, Splice};
 use crate::way::Way;
 use meson_values::{Bytes, Many, Text};
 use std::alloc::{AllocError, Global};
@@ -98,6 +99,30 @@ fn patched_on(
     Ok((text.close()?, next))
 }
 
+/// The place of a splice's file, and that file's bytes after the splice. Where bytes of it are saved, they are made of its own,
+/// of which it has none then.
+fn patched_at(
+    alloc: Global,
+    files: &mut FileSet,
+    saved: &[SavedBytes],
+    splice: Borrowed<'_>,
+) -> Result<(usize, Bytes), SpliceFault>
+    ensures place { IfOk result (λ r. (position_of_file splice.entry.file.now files.old ≡ Some r.0) × (r.0 < length files.new)) }
+    ensures done { IfOk result (λ r. patched_in files.old (splice_of splice.entry) ≡ Ok (with_bytes r.0 r.1 files.old)) }
+    ensures others { IfOk result (λ r. (b : List ℕ) → with_bytes r.0 b files.new ≡ with_bytes r.0 b files.old) }
+    ensures refused { IfErr result (λ e. e ≢ OutOfMemory → patched_in files.old (splice_of splice.entry) ≡ Err e) }
+    ensures saved { bytes_put_back saved.now files.new ≡ bytes_put_back saved.now files.old }
+{
+    let place = splice.place_in(files)?;
+    if is_saved(saved, place) {
+        let own = files.exchange(place, Bytes::of(Vec::new(alloc)));
+        let bytes = splice.patched_in_place(own)?;
+        return Ok((place, bytes));
+    }
+    let bytes = splice.patched(alloc, files.bytes(place))?;
+    Ok((place, bytes))
+}
+
 /// Does the splice behind the first `done`, and those behind it up to the first that is at another file. Gives how many
 /// are done then.
 fn step(
@@ -116,7 +141,7 @@ fn step(
     ensures saved { bytes_put_back saved.new.items files.new ≡ bytes_put_back saved.old.items files.old }
 {
     let splice = way.at(splices, done);
-    let (place, bytes) = splice.patched_in(alloc, files)?;
+    let (place, bytes) = patched_at(alloc, files, saved.as_slice(), splice)?;
     let (bytes, next) = patched_on(alloc, splice.file, bytes, way, splices, done + 1)?;
     exchange(files, saved, place, bytes)?;
     Ok(next)

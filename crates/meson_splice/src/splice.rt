@@ -1,9 +1,9 @@
 //! One splice: bytes of a file that become other bytes.
 
-ghost use Rattle.std.specs.Prelude.{◌≡◌, ◌≢◌, ◌<◌, ◌++◌, Err, IfErr, IfOk, Ok, OnErr, OnOk, Some, length};
+ghost use Rattle.std.specs.Prelude.{◌≡◌, ◌≢◌, ◌+◌, ◌<◌, ◌≤◌, ◌++◌, Err, IfErr, IfOk, Ok, OnErr, OnOk, Some, drop, length, take};
 ghost use Rattle.meson_splice.specs.Borrowed.{splice_of};
-ghost use Rattle.meson_splice.specs.Files.{position_of_file, with_bytes};
-ghost use Rattle.meson_splice.specs.Patch.{inverse_of, patched, patched_in};
+ghost use Rattle.meson_splice.specs.Files.{bytes_at, position_of_file, with_bytes};
+ghost use Rattle.meson_splice.specs.Patch.{inverse_of, patched, patched_in, then_ok};
 ghost use Rattle.meson_splice.specs.declared.fault.SpliceFault.TheVariants.{OutOfMemory};
 
 use crate::fault::SpliceFault;
@@ -45,6 +45,22 @@ fn replaced(alloc: Global, front: &[u8], new: &[u8], rest: &[u8]) -> Result<Byte
     Ok(Bytes::of(bytes))
 }
 
+/// Puts other bytes in the place of those between two offsets. What stands behind these is moved once, and what stands before
+/// them not at all.
+fn replace_between(
+    bytes: &mut Vec<u8>,
+    from: usize,
+    to: usize,
+    new: &[u8],
+) -> Result<(), AllocError>
+    requires order { from ≤ to }
+    requires inside { to ≤ length bytes.old.items }
+    ensures { OnOk result (bytes.new.items ≡ take from bytes.old.items ++ new.now ++ drop to bytes.old.items) }
+{
+    bytes.splice(from..to, new.iter().copied())?;
+    Ok(())
+}
+
 /// A splice that is lent, as it is or taken back.
 #[derive(Clone, Copy)]
 pub(crate) struct Borrowed<'a> {
@@ -77,9 +93,11 @@ impl<'a> Borrowed<'a> {
         }
     }
 
-    /// The file's bytes after the splice.
-    fn patched(self, alloc: Global, bytes: &[u8]) -> Result<Bytes, SpliceFault>
-        ensures done { IfOk result (λ c. patched bytes.now (splice_of self.entry) ≡ Ok c) }
+    /// The offset behind the old bytes, where these stand.
+    fn end_in(self, bytes: &[u8]) -> Result<usize, SpliceFault>
+        ensures inside { IfOk result (λ end. (self.entry.at ≤ end) × (end ≤ length bytes.now)) }
+        ensures done { let s = splice_of self.entry in
+            IfOk result (λ end. patched bytes.now s ≡ Ok (take s.at bytes.now ++ s.now ++ drop end bytes.now)) }
         ensures refused { IfErr result (λ e. e ≢ OutOfMemory → patched bytes.now (splice_of self.entry) ≡ Err e) }
     {
         if self.at > bytes.len() || self.old.len() > bytes.len() - self.at {
@@ -89,24 +107,40 @@ impl<'a> Borrowed<'a> {
         if &bytes[self.at..end] != self.old {
             return Err(SpliceFault::Stale(self.file.clone()?, self.at));
         }
+        Ok(end)
+    }
+
+    /// The file's bytes after the splice, beside those before it.
+    pub(crate) fn patched(self, alloc: Global, bytes: &[u8]) -> Result<Bytes, SpliceFault>
+        ensures done { IfOk result (λ c. patched bytes.now (splice_of self.entry) ≡ Ok c) }
+        ensures refused { IfErr result (λ e. e ≢ OutOfMemory → patched bytes.now (splice_of self.entry) ≡ Err e) }
+    {
+        let end = self.end_in(bytes)?;
         Ok(replaced(alloc, &bytes[..self.at], self.new, &bytes[end..])?)
     }
 
-    /// The place of the splice's file, and that file's bytes after the splice.
-    pub(crate) fn patched_in(
-        self,
-        alloc: Global,
-        files: &FileSet,
-    ) -> Result<(usize, Bytes), SpliceFault>
-        ensures place { IfOk result (λ r. (position_of_file self.entry.file.now files.now ≡ Some r.0) × (r.0 < length files.now)) }
-        ensures done { IfOk result (λ r. patched_in files.now (splice_of self.entry) ≡ Ok (with_bytes r.0 r.1 files.now)) }
+    /// The file's bytes after the splice, in the place of those before it.
+    pub(crate) fn patched_in_place(self, bytes: Bytes) -> Result<Bytes, SpliceFault>
+        ensures done { IfOk result (λ c. patched bytes (splice_of self.entry) ≡ Ok c) }
+        ensures refused { IfErr result (λ e. e ≢ OutOfMemory → patched bytes (splice_of self.entry) ≡ Err e) }
+    {
+        let end = self.end_in(bytes.get())?;
+        let mut bytes = bytes.take();
+        replace_between(&mut bytes, self.at, end, self.new)?;
+        Ok(Bytes::of(bytes))
+    }
+
+    /// The place of the splice's file.
+    pub(crate) fn place_in(self, files: &FileSet) -> Result<usize, SpliceFault>
+        ensures place { IfOk result (λ i. (position_of_file self.entry.file.now files.now ≡ Some i) × (i < length files.now)) }
+        ensures does { let s = splice_of self.entry in
+            IfOk result (λ i. patched_in files.now s ≡ then_ok (patched (bytes_at i files.now) s) (λ b. Ok (with_bytes i b files.now))) }
         ensures refused { IfErr result (λ e. e ≢ OutOfMemory → patched_in files.now (splice_of self.entry) ≡ Err e) }
     {
-        let Some(place) = files.find(self.file.get()) else {
-            return Err(SpliceFault::NoFile(self.file.clone()?));
-        };
-        let bytes = self.patched(alloc, files.bytes(place))?;
-        Ok((place, bytes))
+        match files.find(self.file.get()) {
+            Some(place) => Ok(place),
+            None => Err(SpliceFault::NoFile(self.file.clone()?)),
+        }
     }
 }
 
@@ -116,7 +150,9 @@ pub fn apply(alloc: Global, files: &mut FileSet, splice: &Splice) -> Result<(), 
     ensures refused { IfErr result (λ e. e ≢ OutOfMemory → patched_in files.old splice.entry.now ≡ Err e) }
     ensures kept { OnErr result (files.new ≡ files.old) }
 {
-    let (place, bytes) = Borrowed::forward(splice).patched_in(alloc, files)?;
+    let splice = Borrowed::forward(splice);
+    let place = splice.place_in(files)?;
+    let bytes = splice.patched(alloc, files.bytes(place))?;
     files.exchange(place, bytes);
     Ok(())
 }

@@ -29,8 +29,8 @@ list_of_call-arguments-requires c = call_in c.args.noted.now role.Target c.args.
 pub bytes-source-requires : goal.bytes-source-requires
 bytes-source-requires c = call_file c.args.noted.now role.Target c.args.target.now c.requires c.in_ok-call.call c.in_ok-call.ensures.found
 
-pub near-requires : goal.near-requires
-near-requires c = c.requires.whole
+pub near_noted-requires : goal.near_noted-requires
+near_noted-requires c = (role.Target, c.args.target.now, c.requires)
 
 pub sources_added-requires-clause-good : goal.sources_added-requires-clause-good
 sources_added-requires-clause-good c = arguments_good c.args.noted.now c.args.target.now c.requires c.in_ok-call.call c.in_ok-call.ensures.found c.list_of_call-arguments.result.now c.list_of_call-arguments.ensures c.bytes-source.result.now c.bytes-source.ensures

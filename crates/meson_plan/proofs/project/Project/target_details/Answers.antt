@@ -3,7 +3,7 @@ use Rattle.std.specs.Prelude.{IsTrue, Ok}
 use Rattle.std.proofs.lemmas.Result.{IfErr-weaker, IfOk-weaker, err_from_is_err_and}
 use Rattle.meson_calls.specs.declared.call.CallRef.{CallRef}
 use Rattle.meson_calls.specs.declared.call.Role.TheVariants.{Target}
-use Rattle.meson_calls.specs.Loading.{IsProject, loaded_from, project}
+use Rattle.meson_calls.specs.Loading.{loaded_from, project}
 use Rattle.meson_calls.specs.Roles.{is_target}
 use Rattle.meson_calls.proofs.NotedCalls.{noted_good}
 use Rattle.meson_plan.specs.Details.{AreDetails, NoDetails, not_found, untold}
@@ -27,8 +27,13 @@ returns-in_err-place-clause-refused c =
     c.args.self.now c.noted-noted.ensures.same in
     rw (error.1, error.2) (λ other. not_found c.in_err-place.field-0.0 (sym found ∙ c.in_err-place.ensures.refused other))
 
-pub near-requires : goal.near-requires
-near-requires c = subst (λ ts. IsProject (loaded_from c.self.inside.files ts)) (sym c.as_slice-2.ensures.value) c.self.invariant
+pub near_noted-requires : goal.near_noted-requires
+near_noted-requires c = (
+  Target,
+  c.args.id.now,
+  c.noted-noted.ensures.noted Target c.args.id.now
+      (subst (AreNotesWith (sought_words Target c.args.id.now) 0 c.args.self.now.files c.args.self.now.parsed) (sym (ap note_views c.as_slice.ensures.value ∙ c.in_ok-notes.ensures)) c.in_ok-taken.ensures),
+)
 
 pub details_at-requires-clause-parsed : goal.details_at-requires-clause-parsed
 details_at-requires-clause-parsed c = c.in_ok-variables.ensures.holds.whole.parsed
@@ -36,8 +41,7 @@ details_at-requires-clause-parsed c = c.in_ok-variables.ensures.holds.whole.pars
 pub details_at-requires-clause-target : goal.details_at-requires-clause-target
 details_at-requires-clause-target c =
     let v = c.in_ok-variables.variables in
-    let here = ap (loaded_from c.self.inside.files) c.as_slice-2.ensures.value ∙ c.self.view_is in
-    let is = ap project (ap₂ loaded_from c.in_ok-variables.ensures.files c.in_ok-variables.ensures.trees ∙ here) in
+    let is = ap project (ap₂ loaded_from c.in_ok-variables.ensures.files c.in_ok-variables.ensures.trees ∙ c.noted-noted.ensures.same) in
     let found = place_there c.noted-noted.result Target c.args.id.now
     (c.noted-noted.ensures.noted Target c.args.id.now
     (subst (AreNotesWith (sought_words Target c.args.id.now) 0 c.args.self.now.files c.args.self.now.parsed) (sym (ap note_views c.as_slice.ensures.value ∙ c.in_ok-notes.ensures)) c.in_ok-taken.ensures))
@@ -48,8 +52,7 @@ details_at-requires-clause-target c =
 pub returns-clause-told : goal.returns-clause-told
 returns-clause-told c =
     let v = c.in_ok-variables.variables in
-    let here = ap (loaded_from c.self.inside.files) c.as_slice-2.ensures.value ∙ c.self.view_is in
-    let is = ap project (ap₂ loaded_from c.in_ok-variables.ensures.files c.in_ok-variables.ensures.trees ∙ here) in
+    let is = ap project (ap₂ loaded_from c.in_ok-variables.ensures.files c.in_ok-variables.ensures.trees ∙ c.noted-noted.ensures.same) in
     let found = place_there c.noted-noted.result Target c.args.id.now
     (c.noted-noted.ensures.noted Target c.args.id.now
     (subst (AreNotesWith (sought_words Target c.args.id.now) 0 c.args.self.now.files c.args.self.now.parsed) (sym (ap note_views c.as_slice.ensures.value ∙ c.in_ok-notes.ensures)) c.in_ok-taken.ensures))
@@ -62,8 +65,7 @@ returns-clause-told c =
 pub returns-clause-refused : goal.returns-clause-refused
 returns-clause-refused c =
     let v = c.in_ok-variables.variables in
-    let here = ap (loaded_from c.self.inside.files) c.as_slice-2.ensures.value ∙ c.self.view_is in
-    let is = ap project (ap₂ loaded_from c.in_ok-variables.ensures.files c.in_ok-variables.ensures.trees ∙ here) in
+    let is = ap project (ap₂ loaded_from c.in_ok-variables.ensures.files c.in_ok-variables.ensures.trees ∙ c.noted-noted.ensures.same) in
     let found = place_there c.noted-noted.result Target c.args.id.now
     (c.noted-noted.ensures.noted Target c.args.id.now
     (subst (AreNotesWith (sought_words Target c.args.id.now) 0 c.args.self.now.files c.args.self.now.parsed) (sym (ap note_views c.as_slice.ensures.value ∙ c.in_ok-notes.ensures)) c.in_ok-taken.ensures))
