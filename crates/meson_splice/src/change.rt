@@ -238,11 +238,12 @@ pub fn apply_all(alloc: Global, files: &mut FileSet, change: &Change) -> Result<
     Ok(())
 }
 
-/// Does all splices of a change, first to last, and saves the bytes of each file of which none are saved. Splices at one file
-/// that follow one another copy it once.
+/// Does all splices of a change, first to last, and saves the bytes of each file of which none are saved. That copies the file
+/// once; where its bytes are saved already, its own are changed in place.
 ///
 /// # Errors
-/// A splice can't be done, or memory is refused. Splices in front of it may be done then. What is saved takes them back.
+/// A splice can't be done, or memory is refused. Splices in front of it may be done then, and the file may have lost its bytes,
+/// where they are saved. What is saved gives all of it back.
 pub fn apply_saving(
     alloc: Global,
     files: &mut FileSet,
