@@ -8,7 +8,7 @@ use Rattle.meson_layout.specs.Layout.{layout_of}
 use Rattle.meson_layout.specs.Laws.{AreTexts, AreUtf8, WritesUtf8}
 use Rattle.meson_layout.specs.Edited.{patched_by}
 use Rattle.meson_layout.proofs.Coding as layout
-use Rattle.meson_syntax.proofs.exchange.Cuts.{utf8-cut}
+use Rattle.meson_edit.proofs.exchange.Cuts.{utf8-cut}
 
 -- a text in UTF-8 has items in UTF-8
 all-coded : (items : List Lexeme) → AreItems items [] → IsUtf8 (joined items) → AreUtf8 items

@@ -7,3 +7,7 @@ pub mod sequences
 pub mod Fitting
 pub mod DeepViews
 pub mod Keeping
+pub mod borders
+pub mod exchange
+pub mod kept
+pub mod places

@@ -7,3 +7,4 @@ pub mod DeepLists
 pub mod Shallow
 pub mod PutBack
 pub mod ExchangedTrees
+pub mod Erased

@@ -9,7 +9,7 @@ use Rattle.meson_syntax.specs.Reads.{ReadsWithin, IsSpannedWithin}
 use Rattle.meson_syntax.specs.ReadsList.{IsSpannedListWithin}
 use Rattle.meson_syntax.specs.Paths.{ListAt, list_at, list_span}
 use Rattle.meson_syntax.specs.View.{list_view, view}
-use Rattle.meson_syntax.specs.Moves.{moved}
+use Rattle.meson_syntax.specs.Moving.{moved}
 use Rattle.meson_syntax.specs.MovedCode.{moved_list, moved_parsed}
 use Rattle.meson_syntax.specs.ListPut.{list_exchanged}
 

@@ -12,7 +12,7 @@ use Rattle.meson_layout.specs.FileLaws.{IsItsLineEnd}
 use Rattle.meson_syntax.specs.declared.source.Limits.{Limits}
 use Rattle.meson_syntax.specs.Tree.{Plain, Expression, File, erase}
 use Rattle.meson_syntax.specs.Paths.{ListAt, list_at, ElementAt, element_at, value_of}
-use Rattle.meson_syntax.specs.Places.{argument_span, ListStands, ElementStands, ValueStands, ListPlaces}
+use Rattle.meson_edit.specs.Standing.{argument_span, ListStands, ElementStands, ValueStands, ListPlaces}
 use Rattle.meson_syntax.specs.Reads.{IsSpannedWithin}
 use Rattle.meson_edit.specs.Edits.{Edit, First, After, Remove, Replace, Wrap, RemoveStatement, Append, edited}
 use Rattle.meson_edit.specs.Places.{primitive_of, Writes, span_of_statement}

@@ -12,8 +12,7 @@ use Rattle.meson_syntax.specs.declared.source.Limits.{Limits}
 use Rattle.meson_syntax.specs.Tree.{Nowhere, Plain, Listing, Argument, Expression, Statement, File, erase}
 use Rattle.meson_syntax.specs.Grammar.{LevelFile, file_depth}
 use Rattle.meson_syntax.specs.Paths.{ListAt, list_at, list_span, inner_words}
-use Rattle.meson_syntax.specs.Exchange.{IsListText}
-use Rattle.meson_syntax.specs.ReadsList.{ReadsListWithin}
+use Rattle.meson_syntax.specs.ReadsList.{IsListText, ReadsListWithin}
 use Rattle.meson_syntax.specs.Reads.{Spells, IsSpannedWithin}
 use Rattle.meson_edit.specs.Edits.{Written, Edit, First, After, Remove, Replace, Wrap, RemoveStatement, Append, edited}
 use Rattle.meson_edit.specs.Places.{primitive_of, Writes}

@@ -7,3 +7,16 @@ pub mod Depths
 pub mod Kept
 pub mod PutBack
 pub mod ExchangedTrees
+pub mod Borders
+pub mod Exchange
+pub mod ExchangeStatements
+pub mod ExchangedTokens
+pub mod Holes
+pub mod KeptLists
+pub mod Lines
+pub mod MappedPaths
+pub mod MovedTrees
+pub mod Moves
+pub mod PutLists
+pub mod Standing
+pub mod Swap

@@ -6,7 +6,8 @@ use Rattle.meson_syntax.specs.Tree.{Listing, File}
 use Rattle.meson_syntax.specs.Reads.{IsSpannedWithin}
 use Rattle.meson_syntax.specs.ReadsList.{IsSpannedListWithin}
 use Rattle.meson_syntax.specs.Paths.{ListAt, list_at, list_span}
-use Rattle.meson_syntax.specs.Moves.{each_file, each_listing, span_by, moved}
+use Rattle.meson_edit.specs.Moves.{each_file, each_listing}
+use Rattle.meson_syntax.specs.Moving.{span_by, moved}
 
 -- Where a list was exchanged for another one and is read again from its old bytes, the tree with it in its old place, with the borders behind it
 -- moved back, is the tree that was there before, to the last border.

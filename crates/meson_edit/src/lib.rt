@@ -3,5 +3,6 @@
 
 mod depth;
 pub mod laws;
+pub mod trees;
 
 pub use depth::nests_within;

@@ -6,7 +6,7 @@ use Rattle.meson_splice.specs.declared.file_set.File.{File}
 use Rattle.meson_splice.specs.Files.{bytes_at}
 use Rattle.meson_syntax.specs.declared.tree.Parsed.{Parsed}
 use Rattle.meson_syntax.specs.Grammar.{file_words, listing_words}
-use Rattle.meson_syntax.specs.Laws.{ListFront, list_front, erase_list_front}
+use Rattle.meson_edit.specs.Holes.{ListFront, list_front, erase_list_front}
 use Rattle.meson_syntax.specs.Paths.{ListAt, list_at, nth}
 use Rattle.meson_syntax.specs.Reads.{of_files, wide}
 use Rattle.meson_syntax.specs.Tree as tree
@@ -14,7 +14,7 @@ use Rattle.meson_syntax.specs.Tree.{Nowhere, Plain, erase, erase_argument, erase
 use Rattle.meson_syntax.specs.View.{view}
 use Rattle.meson_syntax.proofs.parsing.FileErased.{file-words-erased}
 use Rattle.meson_syntax.proofs.parsing.Steps.{some-injective}
-use Rattle.meson_syntax.proofs.paths.Erased.{lists-erase}
+use Rattle.meson_edit.proofs.paths.Erased.{lists-erase}
 use Rattle.meson_syntax.proofs.paths.Reaching.{list-fits, map-some}
 use Rattle.meson_edit.specs.Edits.{elements}
 use Rattle.meson_calls.specs.declared.call.CallRef.{CallRef}

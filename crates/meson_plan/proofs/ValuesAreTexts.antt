@@ -11,12 +11,12 @@ use Rattle.meson_syntax.specs.declared.tree.Arg.TheFolds.{the_lemmas}
 use Rattle.meson_syntax.specs.declared.tree.List as rust
 use Rattle.meson_syntax.specs.Tree.{Name, Expression, call, Argument, plain, named, pair, Arguments, no_arguments, argument, arguments_of, Listing, listing, File}
 use Rattle.meson_syntax.specs.Paths.{nth, expression_on_path, list_at, ListAt, ElementAt, elements_at, element_at, value_of}
-use Rattle.meson_syntax.specs.Places.{expression_span, ListStands, PartStands}
+use Rattle.meson_edit.specs.Standing.{expression_span, ListStands, PartStands}
 use Rattle.meson_syntax.specs.Reads.{IsSpanned, of_files}
 use Rattle.meson_syntax.specs.View.{text_at, arg_view, args_view, list_view}
 use Rattle.meson_syntax.proofs.Slices.{slice_range-part}
-use Rattle.meson_syntax.proofs.exchange.Cuts.{utf8-cut}
-use Rattle.meson_syntax.proofs.places.Standing.{lists-stand}
+use Rattle.meson_edit.proofs.exchange.Cuts.{utf8-cut}
+use Rattle.meson_edit.proofs.places.Standing.{lists-stand}
 use Rattle.meson_calls.proofs.ListNodes.{list_of}
 use Rattle.meson_steps.proofs.PlainTrees.{nth_map}
 use Rattle.meson_plan.specs.Details.{source_text}

@@ -6,7 +6,7 @@ use Rattle.meson_lex.specs.declared.kinds.Span.{Span}
 use Rattle.meson_splice.specs.Files.{bytes_at}
 use Rattle.meson_splice.specs.Patch.{then_ok}
 use Rattle.meson_syntax.specs.Operators.{string_kind}
-use Rattle.meson_syntax.specs.Places.{expression_span}
+use Rattle.meson_edit.specs.Standing.{expression_span}
 use Rattle.meson_syntax.specs.Tree.{Expression, identifier, boolean, string, array, call, Argument, plain, named, pair}
 use Rattle.meson_syntax.specs.View.{text_at}
 use Rattle.meson_edit.specs.Edits.{elements}

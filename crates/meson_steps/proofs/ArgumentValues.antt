@@ -7,7 +7,7 @@ use Rattle.meson_syntax.specs.declared.tree.Arg.TheVariants as arg
 use Rattle.meson_syntax.specs.declared.tree.Expr.{Expr}
 use Rattle.meson_syntax.specs.declared.tree.List as rust
 use Rattle.meson_syntax.specs.Paths.{nth, value_of}
-use Rattle.meson_syntax.specs.Places.{expression_span}
+use Rattle.meson_edit.specs.Standing.{expression_span}
 use Rattle.meson_syntax.specs.Tree.{Expression, Argument, plain, named, pair, arguments_of, argument_list}
 use Rattle.meson_syntax.specs.View.{arg_view, args_view, expr_view, list_view}
 use Rattle.meson_calls.specs.Calls.{value_with_name}

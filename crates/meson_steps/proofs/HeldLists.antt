@@ -13,7 +13,7 @@ use Rattle.meson_syntax.specs.Reads.{IsSpannedWithin, ReadsWithin, wide}
 use Rattle.meson_syntax.specs.ReadsList.{IsSpannedListWithin}
 use Rattle.meson_syntax.specs.Tree.{Listing, Nowhere, erase, erase_listing}
 use Rattle.meson_syntax.specs.View.{list_view, view}
-use Rattle.meson_syntax.proofs.exchange.Lists.{same-cut}
+use Rattle.meson_syntax.proofs.lists.Cuts.{same-cut}
 use Rattle.meson_syntax.proofs.parsing.Steps.{some-injective}
 use Rattle.meson_edit.specs.ExchangedTrees.{tree_with}
 use Rattle.meson_edit.proofs.paths.ExchangedTrees.{FoundNew, new-list-found, new-tree-bare}

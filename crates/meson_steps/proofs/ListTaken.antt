@@ -8,23 +8,22 @@ use Rattle.meson_syntax.specs.declared.operator.Bracket.{Bracket}
 use Rattle.meson_syntax.specs.declared.source.Limits.{Limits}
 use Rattle.meson_syntax.specs.declared.tree.List as rust
 use Rattle.meson_syntax.specs.declared.tree.Parsed.{Parsed}
-use Rattle.meson_syntax.specs.Exchange.{IsListText}
+use Rattle.meson_syntax.specs.ReadsList.{IsListText, IsSpannedListWithin, list_items}
 use Rattle.meson_syntax.specs.Furthest.{furthest_list}
 use Rattle.meson_syntax.specs.Grammar.{listing_depth}
 use Rattle.meson_syntax.specs.ListPut.{list_exchanged}
 use Rattle.meson_syntax.specs.MovedCode.{moved_list, moved_parsed}
-use Rattle.meson_syntax.specs.Moves.{moved}
+use Rattle.meson_syntax.specs.Moving.{moved}
 use Rattle.meson_syntax.specs.Paths.{ListAt, list_at, list_span}
 use Rattle.meson_syntax.specs.Reads.{IsSpannedWithin, wide}
-use Rattle.meson_syntax.specs.ReadsList.{IsSpannedListWithin, list_items}
 use Rattle.meson_syntax.specs.Tree.{File}
 use Rattle.meson_syntax.specs.View.{list_view, view}
-use Rattle.meson_syntax.proofs.borders.Files.{trees-end}
-use Rattle.meson_syntax.proofs.borders.Tokens.{spots-within}
-use Rattle.meson_syntax.proofs.borders.Trees.{at_most, listing-ends}
-use Rattle.meson_syntax.proofs.kept.ListsAlone.{lists-alone}
-use Rattle.meson_syntax.proofs.kept.Told.{list_told}
-use Rattle.meson_syntax.proofs.kept.Tokens.{open-long}
+use Rattle.meson_edit.proofs.borders.Files.{trees-end}
+use Rattle.meson_edit.proofs.borders.Tokens.{spots-within}
+use Rattle.meson_edit.proofs.borders.Trees.{at_most, listing-ends}
+use Rattle.meson_edit.proofs.kept.ListsAlone.{lists-alone}
+use Rattle.meson_syntax.proofs.Told.{list_told}
+use Rattle.meson_edit.proofs.kept.Tokens.{open-long}
 use Rattle.meson_edit.specs.ExchangedTrees.{tree_with}
 use Rattle.meson_edit.proofs.paths.ExchangedTrees.{old-lists-look, trees-exchange, trees-exchange-back}
 use Rattle.meson_steps.specs.declared.journal.SavedList.{SavedList}

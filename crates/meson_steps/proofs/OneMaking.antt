@@ -18,7 +18,7 @@ use Rattle.meson_syntax.proofs.parsing.CompleteFiles.{whole-complete}
 use Rattle.meson_edit.specs.Places.{primitive_of}
 use Rattle.meson_calls.specs.Loading.{name_of_file}
 use Rattle.meson_steps.specs.Steps.{Step, StepsMake, none, step, Laid, effective, read_again}
-use Rattle.meson_syntax.proofs.kept.WithinFiles.{other_limits}
+use Rattle.meson_syntax.proofs.parsing.WithinFiles.{other_limits}
 
 -- ---- one tree, within whatever limits
 

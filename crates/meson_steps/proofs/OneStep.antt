@@ -23,8 +23,8 @@ use Rattle.meson_syntax.specs.ReadsList.{ReadsListWithin}
 use Rattle.meson_syntax.specs.Tree as tree
 use Rattle.meson_syntax.specs.Tree.{Plain, erase}
 use Rattle.meson_syntax.specs.View.{view}
-use Rattle.meson_syntax.proofs.exchange.Standing.{spelled-reads}
-use Rattle.meson_syntax.proofs.kept.WithinFiles.{other_limits}
+use Rattle.meson_edit.proofs.exchange.Standing.{spelled-reads}
+use Rattle.meson_syntax.proofs.parsing.WithinFiles.{other_limits}
 use Rattle.meson_syntax.proofs.parsing.Answers.{reads-found}
 use Rattle.meson_syntax.proofs.parsing.Steps.{some-injective}
 use Rattle.meson_edit.specs.Edits.{Edit, edited, edited_list}

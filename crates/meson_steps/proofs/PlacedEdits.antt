@@ -5,7 +5,7 @@ use Rattle.meson_lex.specs.declared.kinds.Span.{Span}
 use Rattle.meson_layout.specs.declared.primitive.Primitive.{Primitive}
 use Rattle.meson_layout.specs.declared.primitive.Primitive.TheVariants as layout
 use Rattle.meson_syntax.specs.Paths.{ListAt, list_at, list_span, value_of}
-use Rattle.meson_syntax.specs.Places.{argument_span, expression_span}
+use Rattle.meson_edit.specs.Standing.{argument_span, expression_span}
 use Rattle.meson_syntax.specs.Tree.{File, Listing}
 use Rattle.meson_edit.specs.Places.{element_there}
 use Rattle.meson_steps.specs.declared.step.ListEdit.{ListEdit}

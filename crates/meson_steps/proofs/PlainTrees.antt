@@ -6,12 +6,12 @@ use Rattle.meson_lex.specs.declared.kinds.Span.{Span}
 use Rattle.meson_splice.specs.declared.file_set.File as files
 use Rattle.meson_syntax.specs.declared.tree.Parsed.{Parsed}
 use Rattle.meson_syntax.specs.Grammar.{file_depth}
-use Rattle.meson_syntax.specs.Laws.{ListFront, list_front, erase_list_front}
+use Rattle.meson_edit.specs.Holes.{ListFront, list_front, erase_list_front}
 use Rattle.meson_syntax.specs.Paths.{ListAt, list_at, nth, value_of}
 use Rattle.meson_syntax.specs.Reads.{max_depth}
 use Rattle.meson_syntax.specs.Tree.{Nowhere, Plain, Expression, Listing, listing, Arguments, no_arguments, argument, Argument, plain, named, pair, argument_list, File, erase, erase_expression, erase_argument, erase_arguments, erase_listing}
 use Rattle.meson_syntax.specs.View.{view}
-use Rattle.meson_syntax.proofs.paths.Erased.{lists-erase}
+use Rattle.meson_edit.proofs.paths.Erased.{lists-erase}
 use Rattle.meson_syntax.proofs.paths.Reaching.{map-some}
 use Rattle.meson_edit.specs.Edits.{elements}
 use Rattle.meson_steps.specs.ListSteps.{MayStandBetween}

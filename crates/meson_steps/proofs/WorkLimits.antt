@@ -12,7 +12,7 @@ use Rattle.meson_syntax.specs.Tree as tree
 use Rattle.meson_syntax.specs.Tree.{Plain, erase}
 use Rattle.meson_syntax.specs.View.{view}
 use Rattle.meson_syntax.proofs.parsing.FileErased.{file-depth-erased}
-use Rattle.meson_syntax.proofs.kept.WithinFiles.{other_limits}
+use Rattle.meson_syntax.proofs.parsing.WithinFiles.{other_limits}
 use Rattle.meson_calls.specs.Loading.{AreParsed, views}
 use Rattle.meson_calls.proofs.Loads.{nth_bytes}
 use Rattle.meson_steps.specs.declared.journal.Saved.{Saved}

@@ -17,7 +17,7 @@ use Rattle.meson_syntax.specs.Tree as tree
 use Rattle.meson_syntax.specs.Reads.{IsSpannedWithin, ReadsWithin, of_files, wide, max_depth, max_len}
 use Rattle.meson_syntax.specs.ReadsList.{ReadsListWithin}
 use Rattle.meson_syntax.specs.Paths.{ListAt, ListIn, list_at, list_span, nth, value_of}
-use Rattle.meson_syntax.specs.Places.{argument_span, expression_span}
+use Rattle.meson_edit.specs.Standing.{argument_span, expression_span}
 use Rattle.meson_syntax.specs.View.{view}
 use Rattle.meson_edit.specs.Edits.{elements}
 use Rattle.meson_edit.specs.Places.{bracket_offset, element_span, value_span, span_of_statement}

@@ -4,7 +4,7 @@ ghost use Rattle.std.specs.Prelude.{◌+◌, ◌<◌, ◌≡◌, OnOk, Some, len
 ghost use Rattle.meson_lex.specs.declared.kinds.Span.{Span};
 ghost use Rattle.meson_syntax.specs.ListPut.{list_exchanged};
 ghost use Rattle.meson_syntax.specs.MovedCode.{moved_parsed};
-ghost use Rattle.meson_syntax.specs.Moves.{moved};
+ghost use Rattle.meson_syntax.specs.Moving.{moved};
 ghost use Rattle.meson_syntax.specs.Paths.{ListAt, list_at};
 ghost use Rattle.meson_syntax.specs.View.{list_view, view};
 ghost use Rattle.meson_calls.specs.Picking.{Source};

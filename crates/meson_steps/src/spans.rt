@@ -2,7 +2,7 @@
 
 ghost use Rattle.std.specs.Prelude.{◌≡◌, option_and_then, option_map};
 ghost use Rattle.meson_syntax.specs.Paths.{list_at, list_in, nth, value_of};
-ghost use Rattle.meson_syntax.specs.Places.{argument_span, expression_span};
+ghost use Rattle.meson_edit.specs.Standing.{argument_span, expression_span};
 ghost use Rattle.meson_syntax.specs.View.{arg_view, expr_view, list_view, view};
 ghost use Rattle.meson_edit.specs.Edits.{elements};
 ghost use Rattle.meson_calls.specs.Picking.{Source};

@@ -16,7 +16,7 @@ pub mod Gathered
 pub mod parsing
 pub mod paths
 pub mod places
-pub mod kept
-pub mod exchange
 pub mod lists
-pub mod borders
+pub mod Told
+pub mod ToldFiles
+pub mod texts

@@ -21,3 +21,6 @@ pub mod FilePlacing
 pub mod Answers
 pub mod Unique
 pub mod Refusals
+pub mod OneSpanned
+pub mod WithinExpressions
+pub mod WithinFiles

@@ -3,4 +3,3 @@ pub mod Fits
 pub mod Children
 pub mod StatementChildren
 pub mod Reaching
-pub mod Erased

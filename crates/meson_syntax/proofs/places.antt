@@ -1,12 +1,5 @@
-pub mod SameEnds
-pub mod Joined
-pub mod Inside
-pub mod InExpressions
-pub mod InStatements
 pub mod Spots
-pub mod Owned
-pub mod Bounds
 pub mod Spoken
 pub mod Elements
-pub mod Values
-pub mod Standing
+pub mod Covers
+pub mod Pairs

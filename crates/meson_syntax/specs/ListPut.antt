@@ -6,7 +6,7 @@ use Rattle.meson_syntax.specs.declared.tree.Parsed.{Parsed}
 use Rattle.meson_syntax.specs.Tree.{Listing, File}
 use Rattle.meson_syntax.specs.View.{list_view, view}
 use Rattle.meson_syntax.specs.Codes.{code_file}
-use Rattle.meson_syntax.specs.Moves.{moved}
+use Rattle.meson_syntax.specs.Moving.{moved}
 use Rattle.meson_syntax.specs.MovedCode.{moved_parsed}
 use Rattle.meson_syntax.specs.Paths.{ListAt, list_at}
 

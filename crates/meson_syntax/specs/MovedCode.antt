@@ -17,7 +17,7 @@ use Rattle.meson_syntax.specs.declared.tree.Stmt.TheVariants as stmt
 use Rattle.meson_syntax.specs.declared.tree.Branch.{Branch, fold-Branch}
 use Rattle.meson_syntax.specs.declared.tree.Block.{Block, fold-Block}
 use Rattle.meson_syntax.specs.declared.tree.Parsed.{Parsed}
-use Rattle.meson_syntax.specs.Moves.{span_by}
+use Rattle.meson_syntax.specs.Moving.{span_by}
 
 -- ---- trees with their borders exchanged
 

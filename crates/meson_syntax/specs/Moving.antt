@@ -1,7 +1,16 @@
 -- What a move makes of a border.
-use Rattle.std.specs.Prelude.{ℕ, ◌+◌, ◌-◌, ◌^◌, ◌<◌}
+use Rattle.std.specs.Prelude.{ℕ, ◌+◌, ◌-◌, ◌^◌, ◌<◌, nat_le, if◌then◌else◌}
 use Rattle.meson_syntax.specs.declared.moving.Move.{Move}
-use Rattle.meson_syntax.specs.Moves.{moved}
+use Rattle.meson_lex.specs.declared.kinds.Span.{Span}
+
+-- ---- borders
+
+abbrev pub span_by : (ℕ → ℕ) → Span → Span
+span_by g s = record { from = g s.from; to = g s.to }
+
+-- where a border stands once the `was` bytes before `end` became `now` bytes: one at `end` or behind it moves by the difference
+abbrev pub moved : (end was now : ℕ) → ℕ → ℕ
+moved end was now n = if nat_le end n then (n - was) + now else n
 
 abbrev pub border_by : Move → ℕ → ℕ
 border_by by = moved by.end by.was by.now

@@ -1,8 +1,8 @@
 -- What it means that a text is one list, from its opening bracket to its closing one, and nothing else.
-use Rattle.std.specs.Prelude.{ℕ, ◌≤◌, List, [], ◌∷◌, ◌++◌, None}
+use Rattle.std.specs.Prelude.{ℕ, ◌≤◌, List, [], ◌∷◌, ◌++◌, None, ◌≡◌}
 use Rattle.std.specs.Str.{IsUtf8}
 use Rattle.meson_lex.specs.declared.kinds.Span.{Span}
-use Rattle.meson_lex.specs.Items.{Lexeme}
+use Rattle.meson_lex.specs.Items.{Lexeme, IsItemList}
 use Rattle.meson_lex.specs.Significant.{Word, start}
 use Rattle.meson_lex.specs.Located.{spots}
 use Rattle.meson_syntax.specs.declared.fault.ParseFault.{ParseFault}
@@ -13,12 +13,23 @@ use Rattle.meson_syntax.specs.Tree.{Nowhere, Listing, erase_listing}
 use Rattle.meson_syntax.specs.Grammar.{LevelListing, listing_depth}
 use Rattle.meson_syntax.specs.Spelling.{SpellsListing}
 use Rattle.meson_syntax.specs.Paths.{inner_words}
-use Rattle.meson_syntax.specs.Exchange.{IsListText}
 use Rattle.meson_syntax.specs.Reads.{max_depth, IsUnreadableWithin}
+use Rattle.meson_syntax.specs.Operators.{opens, closes}
+use Rattle.meson_lex.specs.Words.{spoken}
 
 -- the limits of a list of at most this depth: it may have any length, and its depth counts from its own bracket
 abbrev pub of_lists_within : ℕ → Limits
 of_lists_within most = record { len = None; depth = most }
+
+-- The text is a list from its opening bracket to its closing one, with these words between them.
+pub record IsListText (text : List ℕ) (b : Bracket) (words : List Word) : Type 0 where
+  pub open_item : Lexeme
+  pub inner : List Lexeme
+  pub close_item : Lexeme
+  pub are_items : IsItemList text (open_item ∷ (inner ++ close_item ∷ []))
+  pub is_open : open_item.kind ≡ opens b
+  pub is_close : close_item.kind ≡ closes b
+  pub is_inner : spoken inner ≡ words
 
 -- The text is the list, in which so many constructs stand inside one another at most: an opening bracket, the words of the list's
 -- elements, and a closing bracket.

@@ -1,9 +1,15 @@
 -- A tree with its texts read off a source: that of a node at its span, that of a name at its place.
 use Rattle.std.specs.Prelude.{◌≡◌, ℕ, List, [], ◌∷◌, map, slice_range, ⊤}
 use Rattle.meson_lex.specs.declared.kinds.Span.{Span}
-use Rattle.meson_lex.specs.Located.{Token}
+use Rattle.meson_lex.specs.Located.{Token, located}
 use Rattle.meson_syntax.specs.Tree.{Name, Expression, identifier, boolean, integer, string, paren, array, dictionary, call, unary, row, postfix, conditional, Operands, no_operands, operand, Tail, method, index, Tails, no_tails, tail, Listing, listing, Argument, plain, named, pair, Arguments, no_arguments, argument, Statement, evaluate, assign, selection, iteration, breaks, continues, Branches, no_branches, branch, Otherwise, nothing_else, otherwise, Statements, no_statements, statement, Block, block, File, file}
 use Rattle.meson_syntax.specs.View.{text_at, name_at}
+use Rattle.meson_lex.specs.Items.{Lexeme, IsItemList}
+use Rattle.meson_syntax.specs.declared.operator.Bracket.{Bracket}
+use Rattle.meson_syntax.specs.declared.source.Limits.{Limits}
+use Rattle.meson_syntax.specs.Spelling.{SpellsFile, SpellsListing}
+use Rattle.meson_syntax.specs.Reads.{IsSpannedWithin}
+use Rattle.meson_syntax.specs.ReadsList.{IsSpannedList}
 
 module _ (source : List ℕ) where
   abbrev pub texts_of_name : Name Span → Name Span
@@ -79,3 +85,25 @@ module _ (source : List ℕ) where
 abbrev pub AreSlices : List ℕ → List Token → Type 0
 AreSlices source [] = ⊤
 AreSlices source (t ∷ ts) = (t.text ≡ slice_range source t.from t.to) × AreSlices source ts
+
+-- ---- texts
+
+-- The tokens of a text are slices of it.
+abbrev pub TokensAreSlices : Type 0
+TokensAreSlices = (source : List ℕ) (items : List Lexeme) → IsItemList source items → AreSlices source (located items)
+
+-- A tree that slices of a source spell has the texts that stand there at its spans.
+abbrev pub SpelledTexts : Type 0
+SpelledTexts = (source : List ℕ) (f : File Span) (len depth : ℕ) (ts : List Token) → AreSlices source ts → SpellsFile f len depth ts
+    → texts_of source f ≡ f
+
+abbrev pub ListSpelledTexts : Type 0
+ListSpelledTexts = (source : List ℕ) (l : Listing Span) (b : Bracket) (depth : ℕ) (ts : List Token) → AreSlices source ts → SpellsListing l b depth ts
+    → texts_of_listing source l ≡ l
+
+-- So has a tree that stands in a text, and a list that is one.
+abbrev pub SpannedTexts : Type 0
+SpannedTexts = (limits : Limits) (bytes : List ℕ) (f : File Span) → IsSpannedWithin limits bytes f → texts_of bytes f ≡ f
+
+abbrev pub ListSpannedTexts : Type 0
+ListSpannedTexts = (b : Bracket) (bytes : List ℕ) (l : Listing Span) → IsSpannedList b bytes l → texts_of_listing bytes l ≡ l

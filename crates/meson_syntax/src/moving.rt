@@ -16,7 +16,7 @@ pub(crate) struct Move {
 impl Move {
     ghost use Rattle.std.specs.Prelude.{◌≡◌};
     ghost use Rattle.meson_syntax.specs.Furthest.{furthest_span};
-    ghost use Rattle.meson_syntax.specs.Moves.{span_by};
+    ghost use Rattle.meson_syntax.specs.Moving.{span_by};
     ghost use Rattle.meson_syntax.specs.Moving.{MayMove, border_by};
 
     /// Where a border stands.

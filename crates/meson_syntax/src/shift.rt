@@ -3,8 +3,7 @@
 ghost use Rattle.std.specs.Prelude.{◌≡◌, ◌<◌, ◌≤◌, ◌+◌, ◌-◌, ◌^◌, map, option_map};
 ghost use Rattle.meson_syntax.specs.Furthest.{furthest, furthest_arg, furthest_args, furthest_block, furthest_branch, furthest_branches, furthest_expr, furthest_list, furthest_operand, furthest_operands, furthest_otherwise, furthest_spans, furthest_stmt, furthest_stmts, furthest_tail, furthest_tails};
 ghost use Rattle.meson_syntax.specs.MovedCode.{moved_arg, moved_block, moved_branch, moved_expr, moved_list, moved_operand, moved_parsed, moved_stmt, moved_tail};
-ghost use Rattle.meson_syntax.specs.Moves.{moved, span_by};
-ghost use Rattle.meson_syntax.specs.Moving.{MayMove, border_by};
+ghost use Rattle.meson_syntax.specs.Moving.{moved, span_by, MayMove, border_by};
 
 use crate::moving::Move;
 use crate::tree::{Arg, Block, Branch, Expr, List, Operand, Parsed, Stmt, Tail};

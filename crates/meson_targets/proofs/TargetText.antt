@@ -14,9 +14,9 @@ use Rattle.meson_lex.specs.Words.{IsTight}
 use Rattle.meson_lex.proofs.Seams.{joined-append, AreItems-append}
 use Rattle.meson_lex.proofs.Written.{literal_string, literal_return}
 use Rattle.meson_syntax.specs.declared.operator.Bracket.TheVariants as bracket
-use Rattle.meson_syntax.specs.Lines.{HasNoLineEnd}
+use Rattle.meson_edit.specs.Lines.{HasNoLineEnd}
 use Rattle.meson_syntax.specs.Grammar.{statement_words, LevelStatement, LevelArguments, statement_depth}
-use Rattle.meson_syntax.proofs.exchange.Standing.{line-text}
+use Rattle.meson_edit.proofs.exchange.Standing.{line-text}
 use Rattle.meson_edit.specs.Places.{IsWrittenStatement}
 use Rattle.meson_calls.specs.Roles.{one_of, target_functions}
 use Rattle.meson_steps.specs.WrittenTexts.{comma_between}

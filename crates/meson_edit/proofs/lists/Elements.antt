@@ -20,10 +20,10 @@ use Rattle.meson_syntax.specs.Tree.{Nowhere, Plain, Listing, listing, Argument, 
 use Rattle.meson_syntax.specs.Grammar.{argument_words, LevelListing}
 use Rattle.meson_syntax.specs.Reads.{IsSpannedWithin}
 use Rattle.meson_syntax.specs.Paths.{nth, list_span, inner_words}
-use Rattle.meson_syntax.specs.Places.{argument_span, ElementStands, ListPlaces}
+use Rattle.meson_edit.specs.Standing.{argument_span, ElementStands, ListPlaces}
 use Rattle.meson_syntax.proofs.parsing.Steps.{some-injective}
 use Rattle.meson_syntax.proofs.paths.Reaching.{map-some, list-fits}
-use Rattle.meson_syntax.proofs.places.Standing.{lists-stand}
+use Rattle.meson_edit.proofs.places.Standing.{lists-stand}
 use Rattle.meson_edit.specs.Edits.{Written, Edit, First, After, Remove, elements, with_elements, first_element, element_added, element_removed}
 use Rattle.meson_edit.specs.Places.{element_span, IsWritten}
 use Rattle.meson_edit.proofs.lists.Cuts.{CutAt, cut-at}

@@ -4,9 +4,9 @@ use Rattle.std.specs.Prelude.{option_map, option_and_then}
 use Rattle.meson_lex.specs.declared.kinds.Span.{Span}
 use Rattle.meson_syntax.specs.Tree.{Nowhere, Plain, Expression, Listing, Argument, plain, named, pair, File, erase, erase_expression, erase_argument, erase_listing}
 use Rattle.meson_syntax.specs.Paths.{ListAt, list_at, nth, value_of}
-use Rattle.meson_syntax.specs.Laws.{ListFront, list_front, erase_list_front}
+use Rattle.meson_edit.specs.Holes.{ListFront, list_front, erase_list_front}
 use Rattle.meson_syntax.proofs.parsing.Steps.{some-injective}
-use Rattle.meson_syntax.proofs.paths.Erased.{lists-erase}
+use Rattle.meson_edit.proofs.paths.Erased.{lists-erase}
 use Rattle.meson_syntax.proofs.paths.Reaching.{map-some, and-then-some}
 use Rattle.meson_edit.specs.Edits.{Edit, elements, with_elements, with_value, edited_elements, edited_list, exchanged}
 

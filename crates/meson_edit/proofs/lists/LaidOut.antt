@@ -16,13 +16,13 @@ use Rattle.meson_syntax.specs.Tree.{Plain, File, erase}
 use Rattle.meson_syntax.specs.Grammar.{LevelFile}
 use Rattle.meson_syntax.specs.Reads.{Spells, IsSpannedWithin}
 use Rattle.meson_syntax.specs.Paths.{ListAt, list_at, list_span, inner_words}
-use Rattle.meson_syntax.specs.Places.{ListPlaces}
-use Rattle.meson_syntax.specs.Exchange.{IsListText}
+use Rattle.meson_edit.specs.Standing.{ListPlaces}
+use Rattle.meson_syntax.specs.ReadsList.{IsListText}
 use Rattle.meson_syntax.proofs.parsing.Steps.{some-injective}
-use Rattle.meson_syntax.proofs.exchange.Brackets.{open-bracket, close-bracket}
-use Rattle.meson_syntax.proofs.exchange.Cuts.{utf8-cut}
-use Rattle.meson_syntax.proofs.exchange.Items.{listed, exchanged-items}
-use Rattle.meson_syntax.proofs.exchange.Lists.{joined-list, lists-exchange}
+use Rattle.meson_syntax.proofs.lists.Brackets.{open-bracket, close-bracket}
+use Rattle.meson_edit.proofs.exchange.Cuts.{utf8-cut}
+use Rattle.meson_syntax.proofs.lists.Items.{listed, exchanged-items}
+use Rattle.meson_edit.proofs.exchange.Lists.{joined-list, lists-exchange}
 use Rattle.meson_edit.specs.Edits.{Edit, edited}
 use Rattle.meson_edit.specs.Places.{primitive_of, Writes}
 use Rattle.meson_edit.specs.Laws.{MakesText, Spelled, WritesList}

@@ -12,9 +12,9 @@ use Rattle.meson_layout.proofs.Ends.{spoken-append}
 use Rattle.meson_syntax.specs.Tree.{Arguments, no_arguments, argument, Listing, listing}
 use Rattle.meson_syntax.specs.Grammar.{comma_words, argument_words}
 use Rattle.meson_syntax.specs.Paths.{nth, ListAt, ElementAt, elements_at, element_at, words_ahead}
-use Rattle.meson_syntax.specs.Places.{argument_span, ListStands, ElementStands}
+use Rattle.meson_edit.specs.Standing.{argument_span, ListStands, ElementStands}
 use Rattle.meson_syntax.proofs.parsing.Steps.{some-injective}
-use Rattle.meson_syntax.proofs.places.Elements.{element-words}
+use Rattle.meson_edit.proofs.places.Elements.{element-words}
 use Rattle.meson_edit.specs.Edits.{Edit, First, After, Remove, Replace, Wrap, RemoveStatement, Append}
 use Rattle.meson_edit.specs.Kept.{Touches, KeepsList, IsBefore, IsBehind, SameUpTo, SameFrom}
 use Rattle.meson_edit.proofs.lists.LastWords.{EndsWell, argument-ends}

@@ -8,8 +8,8 @@ use Rattle.meson_layout.specs.Edited.{ListOfItems, PartIn}
 use Rattle.meson_layout.specs.Layout.{IsSpanOf, IsBracketOf}
 use Rattle.meson_layout.proofs.Texts.{joined_three}
 use Rattle.meson_syntax.specs.Paths.{ListAt, list_span}
-use Rattle.meson_syntax.specs.Places.{ListStands, PartStands}
-use Rattle.meson_syntax.proofs.exchange.Brackets.{open-bracket, close-bracket}
+use Rattle.meson_edit.specs.Standing.{ListStands, PartStands}
+use Rattle.meson_syntax.proofs.lists.Brackets.{open-bracket, close-bracket}
 
 module _ (items : List Lexeme) (p : ListAt Span) (l : ListStands items p) where
   abbrev pub list_among : ListOfItems items

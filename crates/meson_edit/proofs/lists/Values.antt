@@ -17,9 +17,9 @@ use Rattle.meson_syntax.specs.Tree.{Nowhere, Plain, Expression, Argument, plain,
 use Rattle.meson_syntax.specs.Grammar.{expression_words, argument_words}
 use Rattle.meson_syntax.specs.Reads.{IsSpannedWithin}
 use Rattle.meson_syntax.specs.Paths.{ElementAt, element_at, value_of, words_ahead, inner_words}
-use Rattle.meson_syntax.specs.Places.{expression_span, ValueStands, ListPlaces}
+use Rattle.meson_edit.specs.Standing.{expression_span, ValueStands, ListPlaces}
 use Rattle.meson_syntax.proofs.parsing.Erased.{expression-words-erased}
-use Rattle.meson_syntax.proofs.places.Standing.{lists-stand}
+use Rattle.meson_edit.proofs.places.Standing.{lists-stand}
 use Rattle.meson_edit.specs.Edits.{Written, Edit, Replace, Wrap, elements, with_elements, with_value, array_of}
 use Rattle.meson_edit.specs.Places.{value_span}
 use Rattle.meson_edit.proofs.lists.Cuts.{cut-at}

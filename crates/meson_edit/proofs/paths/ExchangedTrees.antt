@@ -11,20 +11,20 @@ use Rattle.meson_syntax.specs.Reads.{ReadsWithin, IsSpannedWithin}
 use Rattle.meson_syntax.specs.Paths.{ListAt, list_at, list_span}
 use Rattle.meson_syntax.specs.View.{list_view, view}
 use Rattle.meson_syntax.specs.Texts.{texts_of, texts_of_listing}
-use Rattle.meson_syntax.specs.Moves.{each_file, each_listing, span_by, moved}
+use Rattle.meson_edit.specs.Moves.{each_file, each_listing}
+use Rattle.meson_syntax.specs.Moving.{span_by, moved}
 use Rattle.meson_syntax.specs.MovedCode.{moved_list, moved_parsed}
 use Rattle.meson_syntax.specs.ListPut.{with_list}
-use Rattle.meson_syntax.specs.PutLists.{with_span}
-use Rattle.meson_syntax.proofs.kept.Each.{in-other, lists-map}
-use Rattle.meson_syntax.proofs.kept.EachErased.{listing-each}
-use Rattle.meson_syntax.proofs.kept.EachNothing.{lists-put-erase}
-use Rattle.meson_syntax.proofs.kept.Elements.{elements-stay}
-use Rattle.meson_syntax.proofs.kept.Kept.{lists-kept, moved-place}
-use Rattle.meson_syntax.proofs.kept.ListsAlone.{lists-alone}
-use Rattle.meson_syntax.proofs.kept.PutLists.{put-lists-look, found-lists-look, lists-texts}
-use Rattle.meson_syntax.proofs.kept.Spanned.{spanned-texts}
-use Rattle.meson_syntax.proofs.kept.ToldFiles.{views-tell}
-use Rattle.meson_syntax.proofs.kept.Views.{views-move, list-views-move}
+use Rattle.meson_edit.specs.PutLists.{with_span}
+use Rattle.meson_edit.proofs.kept.Each.{in-other, lists-map}
+use Rattle.meson_edit.proofs.kept.EachErased.{listing-each}
+use Rattle.meson_edit.proofs.kept.EachNothing.{lists-put-erase}
+use Rattle.meson_edit.proofs.kept.Elements.{elements-stay}
+use Rattle.meson_edit.proofs.kept.Kept.{lists-kept, moved-place}
+use Rattle.meson_edit.proofs.kept.ListsAlone.{lists-alone}
+use Rattle.meson_edit.proofs.kept.PutLists.{put-lists-look, found-lists-look, lists-texts}
+use Rattle.meson_syntax.proofs.texts.Spanned.{spanned-texts}
+use Rattle.meson_edit.proofs.kept.Views.{views-tell, views-move, list-views-move}
 use Rattle.meson_edit.specs.ExchangedTrees.{IsExchange, tree_with, TreesExchange, OldListsLook, TreesExchangeBack}
 use Rattle.meson_edit.specs.Sequences.{StaysThere}
 use Rattle.meson_edit.proofs.paths.PutBack.{lists-put-back}

@@ -6,13 +6,14 @@ use Rattle.meson_syntax.specs.Grammar.{listing_depth}
 use Rattle.meson_syntax.specs.Reads.{ReadsWithin, IsSpannedWithin}
 use Rattle.meson_syntax.specs.ReadsList.{IsSpannedListWithin}
 use Rattle.meson_syntax.specs.Paths.{ListAt, list_at, list_span}
-use Rattle.meson_syntax.specs.Moves.{each_file, each_listing, span_by, moved}
+use Rattle.meson_edit.specs.Moves.{each_file, each_listing}
+use Rattle.meson_syntax.specs.Moving.{span_by, moved}
 use Rattle.meson_syntax.proofs.paths.Reaching.{list-fits}
-use Rattle.meson_syntax.proofs.kept.Each.{in-both, in-other, lists-map}
-use Rattle.meson_syntax.proofs.kept.EachNothing.{listing-nothing, lists-without, lists-put-erase}
-use Rattle.meson_syntax.proofs.kept.Kept.{moved-place, lists-kept}
-use Rattle.meson_syntax.proofs.kept.ListsAlone.{lists-alone}
-use Rattle.meson_syntax.proofs.kept.OneSpanned.{one-spanned-within, one-spanned-list}
+use Rattle.meson_edit.proofs.kept.Each.{in-both, in-other, lists-map}
+use Rattle.meson_edit.proofs.kept.EachNothing.{listing-nothing, lists-without, lists-put-erase}
+use Rattle.meson_edit.proofs.kept.Kept.{moved-place, lists-kept}
+use Rattle.meson_edit.proofs.kept.ListsAlone.{lists-alone}
+use Rattle.meson_syntax.proofs.parsing.OneSpanned.{one-spanned-within, one-spanned-list}
 use Rattle.meson_edit.specs.PutBack.{ListsPutBack}
 use Rattle.meson_edit.proofs.paths.PutThere.{lists-there}
 

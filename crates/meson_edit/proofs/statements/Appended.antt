@@ -7,8 +7,8 @@ use Rattle.meson_layout.proofs.AppendLaws.{append-law}
 use Rattle.meson_syntax.specs.Tree.{erase}
 use Rattle.meson_syntax.specs.Grammar.{statement_words, file_words}
 use Rattle.meson_syntax.proofs.parsing.Steps.{some-injective}
-use Rattle.meson_syntax.proofs.exchange.Appended.{file-last-words}
-use Rattle.meson_syntax.proofs.exchange.Standing.{file-end, statement-end}
+use Rattle.meson_edit.proofs.exchange.Appended.{file-last-words}
+use Rattle.meson_edit.proofs.exchange.Standing.{file-end, statement-end}
 use Rattle.meson_edit.specs.Laws.{AppendedSpell}
 use Rattle.meson_edit.proofs.Coding.{coding-law, texts-law}
 

@@ -15,11 +15,11 @@ use Rattle.meson_syntax.specs.declared.source.Limits.{Limits}
 use Rattle.meson_syntax.specs.Reads.{IsSpannedWithin}
 use Rattle.meson_syntax.specs.Tree.{Nowhere, Plain, Statement, File, erase}
 use Rattle.meson_syntax.specs.Grammar.{statement_words}
-use Rattle.meson_syntax.specs.Places.{statement_span}
-use Rattle.meson_syntax.specs.Lines.{LineStands}
-use Rattle.meson_syntax.specs.ExchangeStatements.{statement_in}
+use Rattle.meson_edit.specs.Standing.{statement_span}
+use Rattle.meson_edit.specs.Lines.{LineStands}
+use Rattle.meson_edit.specs.ExchangeStatements.{statement_in}
 use Rattle.meson_syntax.proofs.parsing.Steps.{some-injective}
-use Rattle.meson_syntax.proofs.exchange.Standing.{file-end, line-stands, statement-end}
+use Rattle.meson_edit.proofs.exchange.Standing.{file-end, line-stands, statement-end}
 use Rattle.meson_edit.specs.Edits.{Written, RemoveStatement, Append, edited}
 use Rattle.meson_edit.specs.Places.{primitive_of, span_of_statement, Writes}
 use Rattle.meson_edit.specs.Kept.{EditKeeps}

@@ -25,7 +25,7 @@ use Rattle.meson_syntax.proofs.parsing.Levels.{listing-level}
 use Rattle.meson_syntax.proofs.parsing.Erased.{arguments-words-erased, listing-level-erased, listing-depth-erased}
 use Rattle.meson_syntax.proofs.parsing.Answers.{readable}
 use Rattle.meson_syntax.proofs.parsing.Refusals.{Stopped, one-unreadable}
-use Rattle.meson_syntax.proofs.exchange.Brackets.{open-bracket}
+use Rattle.meson_syntax.proofs.lists.Brackets.{open-bracket}
 use Rattle.meson_syntax.proofs.lists.Sound.{whole_list-sound, all-items}
 use Rattle.meson_syntax.proofs.lists.Complete.{whole_list-complete}
 

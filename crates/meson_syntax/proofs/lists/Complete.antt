@@ -15,19 +15,18 @@ use Rattle.meson_syntax.specs.Input.{Input, sees}
 use Rattle.meson_syntax.specs.Spelling.{end_of, Covers, SpellsListing}
 use Rattle.meson_syntax.specs.Paths.{list_span, inner_words}
 use Rattle.meson_lex.specs.Words.{spoken}
-use Rattle.meson_syntax.specs.Exchange.{IsListText}
-use Rattle.meson_syntax.specs.ReadsList.{ReadsListWithin, list_items}
+use Rattle.meson_syntax.specs.ReadsList.{IsListText, ReadsListWithin, list_items}
 use Rattle.meson_syntax.specs.ReadingLists.{bracketed, list_read, whole_list}
 use Rattle.meson_syntax.proofs.parsing.Steps.{Passes, end_of-append}
 use Rattle.meson_syntax.proofs.parsing.Splits.{yes-at, yes-sees}
 use Rattle.meson_syntax.proofs.parsing.Firsts.{first-listing}
 use Rattle.meson_syntax.proofs.parsing.CompleteRows.{complete-listed}
 use Rattle.meson_syntax.proofs.parsing.Placing.{place-listing}
-use Rattle.meson_syntax.proofs.places.Bounds.{listing-covers, covers-from, covers-end}
-use Rattle.meson_syntax.proofs.exchange.Brackets.{open-bracket, close-bracket}
-use Rattle.meson_syntax.proofs.exchange.Nesting.{nest, inner-flat, opens-role, closes-role}
-use Rattle.meson_syntax.proofs.exchange.Items.{list-emitted}
-use Rattle.meson_syntax.proofs.exchange.Lists.{listing-inner}
+use Rattle.meson_syntax.proofs.places.Covers.{listing-covers, covers-from, covers-end}
+use Rattle.meson_syntax.proofs.lists.Brackets.{open-bracket, close-bracket}
+use Rattle.meson_syntax.proofs.lists.Nesting.{nest, inner-flat, opens-role, closes-role}
+use Rattle.meson_syntax.proofs.lists.Items.{list-emitted}
+use Rattle.meson_syntax.proofs.lists.Cuts.{listing-inner}
 
 -- ---- where the tokens of items end
 

@@ -20,12 +20,11 @@ use Rattle.meson_lex.proofs.Seams.{AreItems-split}
 use Rattle.meson_syntax.specs.ReadingLists.{bracketed, covers_all, list_read, whole_list}
 use Rattle.meson_syntax.proofs.parsing.Steps.{Passes, chosen_at, some-injective}
 use Rattle.meson_syntax.proofs.parsing.SoundRows.{listed-sound}
-use Rattle.meson_syntax.proofs.places.Bounds.{opens-own, closes-own, covers-from, covers-to}
+use Rattle.meson_syntax.proofs.places.Covers.{opens-own, closes-own, covers-from, covers-to}
 use Rattle.meson_syntax.proofs.places.Elements.{list-spelled}
-use Rattle.meson_syntax.proofs.places.Owned.{cut-pair}
+use Rattle.meson_syntax.proofs.places.Pairs.{cut-pair, silent-closing, joined-lengths}
 use Rattle.meson_syntax.proofs.places.Spoken.{spoken-is, inner-no-line}
-use Rattle.meson_syntax.proofs.places.Standing.{silent-closing, joined-lengths}
-use Rattle.meson_syntax.proofs.exchange.Lists.{same-cut}
+use Rattle.meson_syntax.proofs.lists.Cuts.{same-cut}
 
 -- ---- what was read
 

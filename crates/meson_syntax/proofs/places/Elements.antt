@@ -1,17 +1,16 @@
 -- The tokens of a list and of its elements.
-use Rattle.std.proofs.Common.{◌≡◌, ℕ, Bool, false, List, [], ◌∷◌, ◌++◌, map, Some, refl, ap, subst, ◌∙◌, append_assoc}
+use Rattle.std.proofs.Common.{◌≡◌, ℕ, Bool, false, List, [], ◌∷◌, ◌++◌, map, Some, refl, ap, ◌∙◌, append_assoc}
 use Rattle.meson_lex.specs.declared.kinds.Span.{Span}
 use Rattle.meson_lex.specs.Located.{Token, words}
 use Rattle.meson_syntax.specs.declared.operator.Bracket.{Bracket}
 use Rattle.meson_syntax.specs.Operators.{opens, closes}
-use Rattle.meson_syntax.specs.Tree.{Expression, array, dictionary, call, Listing, listing, Argument, is_named, Arguments, no_arguments, argument}
-use Rattle.meson_syntax.specs.Grammar.{comma_words, argument_words, arguments_words}
-use Rattle.meson_syntax.specs.Spelling.{Covers, One, SpellsExpression, SpellsListing, SpellsArguments, SpellsArgument}
-use Rattle.meson_syntax.specs.Paths.{ListIn, list_in, list_span, inner_words, ElementAt, elements_at, element_at}
-use Rattle.meson_syntax.proofs.parsing.Steps.{some-injective}
-use Rattle.meson_syntax.proofs.parsing.Words.{name-words, then-words, comma-words, argument-words, arguments-words}
+use Rattle.meson_syntax.specs.Tree.{Listing, listing, Argument, is_named, Arguments, no_arguments, argument}
+use Rattle.meson_syntax.specs.Grammar.{comma_words, argument_words}
+use Rattle.meson_syntax.specs.Spelling.{Covers, One, SpellsListing, SpellsArguments, SpellsArgument}
+use Rattle.meson_syntax.specs.Paths.{list_span, inner_words, ElementAt, elements_at, element_at}
+use Rattle.meson_syntax.proofs.parsing.Words.{then-words, comma-words, argument-words, arguments-words}
 use Rattle.meson_syntax.proofs.paths.Every.{Every, every-nth}
-use Rattle.meson_syntax.proofs.places.Inside.{join-words}
+use Rattle.meson_syntax.proofs.places.Pairs.{join-words}
 
 -- the tokens of an element, where those between the brackets of its list are ts
 pub record ElementSpelled (b : Bracket) (d : ℕ) (ts : List Token) (e : ElementAt Span) : Type 0 where
@@ -24,7 +23,7 @@ pub record ElementSpelled (b : Bracket) (d : ℕ) (ts : List Token) (e : Element
   pub is_back : words back ≡ e.behind
   pub spelled : SpellsArgument e.element b seen d own
 
-push-group : {A : Type 0} (a b c d : List A) → a ++ (b ++ (c ++ d)) ≡ (a ++ (b ++ c)) ++ d
+pub push-group : {A : Type 0} (a b c d : List A) → a ++ (b ++ (c ++ d)) ≡ (a ++ (b ++ c)) ++ d
 push-group a b c d = simp append_assoc
 
 abbrev later : Argument Span → Arguments Span → Bool → ElementAt Span → ElementAt Span
@@ -96,39 +95,3 @@ list-spelled (listing s trailing list) b d ts h =
       is_inner = arguments-words list trailing b false d q.front q.first;
       elements = λ n e found. every-nth (ElementSpelled b d q.front) (elements_at list trailing) n e (elements-spelled list trailing b false d q.front q.first) found;
     }
-
--- The tokens of the list of an array, a dictionary or a call.
-pub record ListInside (l : ListIn Span) (d : ℕ) (ts : List Token) : Type 0 where
-  pub front : List Token
-  pub own : List Token
-  pub parts : ts ≡ front ++ own
-  pub is_front : words front ≡ l.ahead
-  pub spelled : SpellsListing l.list l.bracket d own
-
-pub list-inside : (x : Expression Span) (l : ListIn Span) (d : ℕ) (ts : List Token) → list_in x ≡ Some l → SpellsExpression x d ts → ListInside l d ts
-list-inside (array m) l d ts h sp = subst (λ l. ListInside l d ts) (some-injective _ _ h) (record { front = []; own = ts; parts = refl; is_front = refl; spelled = sp })
-list-inside (dictionary m) l d ts h sp = subst (λ l. ListInside l d ts) (some-injective _ _ h) (record { front = []; own = ts; parts = refl; is_front = refl; spelled = sp })
-list-inside (call s x m) l d ts h sp =
-    let p = sp.1 in
-    subst (λ l. ListInside l d ts) (some-injective _ _ h) (record { front = p.front; own = p.back; parts = p.joined; is_front = name-words x p.front p.first; spelled = p.second })
-list-inside _ l d ts h sp = absurd cc
-
--- ---- the words of an element and those around it are the words of its list
-
-pub record ElementWords (S : Type 0) (list : Arguments S) (trailing : Bool) (e : ElementAt S) : Type 0 where
-  pub all : arguments_words list trailing ≡ e.before ++ (argument_words e.element ++ e.behind)
-
-words-later : (S : Type 0) (a : Argument S) (more : Arguments S) (trailing : Bool) (es : List (ElementAt S)) → Every (ElementWords S more trailing) es
-    → Every (ElementWords S (argument a more) trailing) (map (λ p. record { element = p.element; before = argument_words a ++ (comma_words more trailing ++ p.before); behind = p.behind }) es)
-words-later S a more trailing [] h = tt
-words-later S a more trailing (e ∷ es) h = (
-  record { all = ap (λ z. argument_words a ++ (comma_words more trailing ++ z)) h.0.all ∙ push-group (argument_words a) (comma_words more trailing) e.before (argument_words e.element ++ e.behind) },
-  words-later S a more trailing es h.1,
-)
-
-elements-words : (S : Type 0) (list : Arguments S) (trailing : Bool) → Every (ElementWords S list trailing) (elements_at list trailing)
-elements-words S no_arguments trailing = tt
-elements-words S (argument a more) trailing = (record { all = refl }, words-later S a more trailing (elements_at more trailing) (elements-words S more trailing))
-
-pub element-words : (S : Type 0) (l : Listing S) (n : ℕ) (e : ElementAt S) → element_at l n ≡ Some e → inner_words l ≡ e.before ++ (argument_words e.element ++ e.behind)
-element-words S (listing s trailing list) n e h = let w = every-nth (ElementWords S list trailing) (elements_at list trailing) n e (elements-words S list trailing) h in w.all

@@ -14,7 +14,7 @@ use Rattle.meson_syntax.specs.Tree.{Expression, identifier, boolean, integer, st
 use Rattle.meson_syntax.specs.Grammar.{mark, comma_words, operator_words, expression_words, operands_words, tail_words, tails_words, listing_words, argument_words, arguments_words}
 use Rattle.meson_syntax.specs.Paths.{inner_words}
 use Rattle.meson_lex.specs.Words.{spoken_by, spoken}
-use Rattle.meson_syntax.proofs.places.Bounds.{IsOwnKind, string-own, boolean-own, unary-own, opens-own, closes-own}
+use Rattle.meson_syntax.proofs.places.Covers.{IsOwnKind, string-own, boolean-own, unary-own, opens-own, closes-own}
 
 -- none of the words is a line end
 abbrev pub NoLine : List Word → Type 0

@@ -1,5 +1,5 @@
 use Rattle.std.proofs.Common.{arith}
-use Rattle.meson_syntax.proofs.borders.Files.{lists-end}
+use Rattle.meson_edit.proofs.borders.Files.{lists-end}
 use Rattle.meson_language_cases.proofs.moved.put_moved.Goals as goal
 
 pub move_by-requires : goal.move_by-requires

@@ -1,5 +1,5 @@
 use Rattle.meson_syntax.specs.Reads.{of_files}
-use Rattle.meson_syntax.proofs.borders.Files.{trees-end}
+use Rattle.meson_edit.proofs.borders.Files.{trees-end}
 use Rattle.meson_language_cases.proofs.moved.shifted.Goals as goal
 
 pub shift-requires-clause-ends : goal.shift-requires-clause-ends

@@ -4,7 +4,7 @@ use Rattle.meson_lex.specs.declared.kinds.Span.{Span}
 use Rattle.meson_syntax.specs.declared.tree.List as rust
 use Rattle.meson_syntax.specs.ListPut.{list_exchanged}
 use Rattle.meson_syntax.specs.MovedCode.{moved_parsed}
-use Rattle.meson_syntax.specs.Moves.{moved}
+use Rattle.meson_syntax.specs.Moving.{moved}
 use Rattle.meson_syntax.specs.Paths.{ListAt, list_at}
 use Rattle.meson_syntax.specs.View.{list_view, view}
 use Rattle.meson_steps.specs.declared.journal.Saved.TheVariants as saved

@@ -1,5 +1,5 @@
 use Rattle.std.proofs.Common.{ap, ◌∙◌, sym}
-use Rattle.meson_syntax.specs.Places.{argument_span}
+use Rattle.meson_edit.specs.Standing.{argument_span}
 use Rattle.meson_syntax.specs.View.{arg_view}
 use Rattle.meson_calls.proofs.ArgumentViews.{plain_view}
 use Rattle.meson_steps.proofs.spans.span_of_element.Goals as goal

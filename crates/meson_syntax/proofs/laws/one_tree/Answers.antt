@@ -1,5 +1,5 @@
 use Rattle.meson_syntax.proofs.parsing.Unique.{one-tree, has-spans, one-spanned}
-use Rattle.meson_syntax.proofs.kept.OneSpanned.{one-spanned-within, one-spanned-list}
+use Rattle.meson_syntax.proofs.parsing.OneSpanned.{one-spanned-within, one-spanned-list}
 use Rattle.meson_syntax.proofs.laws.one_tree.Goals as goal
 
 pub returns : goal.returns

@@ -1,6 +1,6 @@
-use Rattle.meson_syntax.proofs.kept.Spelled.{spelled-texts, list-spelled-texts}
-use Rattle.meson_syntax.proofs.kept.TokenSlices.{tokens-slices}
-use Rattle.meson_syntax.proofs.kept.Spanned.{spanned-texts, list-spanned-texts}
+use Rattle.meson_syntax.proofs.texts.Spelled.{spelled-texts, list-spelled-texts}
+use Rattle.meson_syntax.proofs.texts.TokenSlices.{tokens-slices}
+use Rattle.meson_syntax.proofs.texts.Spanned.{spanned-texts, list-spanned-texts}
 use Rattle.meson_syntax.proofs.laws.texts.Goals as goal
 
 pub returns : goal.returns

@@ -1,8 +1,7 @@
 use Rattle.std.proofs.Common.{rules, ◌≡◌, ◌<◌, length, get_or, ap, ◌∙◌, arith}
 use Rattle.meson_lex.specs.declared.kinds.Span.{Span}
 use Rattle.meson_syntax.specs.Furthest.{furthest_span}
-use Rattle.meson_syntax.specs.Moves.{span_by}
-use Rattle.meson_syntax.specs.Moving.{border_by}
+use Rattle.meson_syntax.specs.Moving.{span_by, border_by}
 use Rattle.meson_syntax.proofs.InPlace.{at_most_greatest, next_exchanged, still_there}
 use Rattle.meson_syntax.proofs.shift.shift_spans.Goals as goal
 

@@ -1,6 +1,5 @@
 use Rattle.std.proofs.Common.{◌≡◌}
-use Rattle.meson_syntax.specs.Moves.{span_by}
-use Rattle.meson_syntax.specs.Moving.{border_by}
+use Rattle.meson_syntax.specs.Moving.{span_by, border_by}
 use Rattle.meson_syntax.proofs.InPlace.{exchanged}
 use Rattle.meson_syntax.proofs.shift.shift_spans.Given as goal
 

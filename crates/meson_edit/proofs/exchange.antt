@@ -1,0 +1,15 @@
+pub mod AmongStatements
+pub mod Appended
+pub mod Begun
+pub mod Cuts
+pub mod Ends
+pub mod FirstBytes
+pub mod Gone
+pub mod LineWords
+pub mod LinedHoles
+pub mod Lists
+pub mod ReadAgain
+pub mod Removed
+pub mod Standing
+pub mod StatementLines
+pub mod States

@@ -1,0 +1,131 @@
+-- A statement among those of its block, and the block in its file: the words before and behind it, and where its tokens stand.
+use Rattle.std.proofs.Common.{◌≡◌, ℕ, zero, suc, List, [], ◌∷◌, ◌++◌, Some, refl, ap, subst, ◌∙◌, append_assoc}
+use Rattle.std.proofs.lemmas.List.{append-nil}
+use Rattle.meson_lex.specs.declared.kinds.Kind.TheVariants as k
+use Rattle.meson_lex.specs.declared.kinds.Span.{Span}
+use Rattle.meson_lex.specs.Significant.{Word, new_line}
+use Rattle.meson_lex.specs.Located.{Token}
+use Rattle.meson_syntax.specs.Tree.{Statement, Statements, no_statements, statement, statement_list, Block, block, File}
+use Rattle.meson_syntax.specs.Grammar.{statement_words, statements_words, block_words, file_words, LevelStatements, LevelBlock, LevelFile}
+use Rattle.meson_syntax.specs.Spelling.{SpellsStatements, SpellsBlock, SpellsFile}
+use Rattle.meson_syntax.specs.Paths.{Sort, of_expression, of_statement, of_block, Node, nth, reach, block_of}
+use Rattle.meson_edit.specs.ExchangeStatements.{BlockAt, block_of_node, block_at, statement_in, all_but, block_without}
+use Rattle.meson_syntax.proofs.parsing.Steps.{some-injective}
+use Rattle.meson_syntax.proofs.parsing.Words.{one-words, then-words}
+use Rattle.meson_syntax.proofs.parsing.FileWords.{statement-words, statements-words}
+use Rattle.meson_syntax.proofs.paths.Reaching.{Reaches, and-then-some, reach-fits, with-words, with-level, of-level}
+use Rattle.meson_edit.proofs.places.Inside.{Inside, inside-part}
+use Rattle.meson_syntax.proofs.places.Pairs.{join-words}
+use Rattle.meson_edit.proofs.places.InExpressions.{third-of}
+use Rattle.meson_edit.proofs.places.InStatements.{reach-inside}
+use Rattle.meson_edit.proofs.places.Standing.{block-spelled}
+use Rattle.meson_edit.proofs.exchange.States.{Lines, no-lines, lines-append, line-more}
+use Rattle.meson_edit.proofs.exchange.StatementLines.{statement-flat}
+use Rattle.meson_edit.proofs.exchange.LinedHoles.{IsLined, reach-lined}
+
+-- ---- statements
+
+record Among (list : Statements Span) (n : ℕ) (x : Statement Span) : Type 0 where
+  earlier : List Word
+  later : List Word
+  lines : Lines earlier
+  others : statements_words (all_but list n) ≡ earlier ++ later
+  spelled : (d : ℕ) (ts : List Token) → SpellsStatements list d ts → Inside of_statement x earlier (new_line ∷ later) ts
+
+among-first : (s : Statement Span) (more : Statements Span) → Among (statement s more) zero s
+among-first s more = record {
+  earlier = [];
+  later = statements_words more;
+  lines = no-lines;
+  others = refl;
+  spelled = λ d ts h. let q = h.second in record {
+    depth = d;
+    last = 0;
+    front = [];
+    own = h.front;
+    back = h.back;
+    parts = h.joined;
+    is_front = refl;
+    is_back = then-words _ _ h.back _ _ q (one-words k.LineEnd q.front (λ x. refl) q.first) (statements-words more d q.back q.second);
+    spelled = h.first;
+  };
+}
+
+among-more : (s : Statement Span) (more : Statements Span) (n : ℕ) (x : Statement Span) → Among more n x → Among (statement s more) (suc n) x
+among-more s more n x r =
+    let line = statement_words s ++ new_line ∷ [] in
+    record {
+      earlier = line ++ r.earlier;
+      later = r.later;
+      lines = lines-append line r.earlier (line-more (statement_words s) [] (statement-flat Span s) no-lines) r.lines;
+      others = ap (λ w. statement_words s ++ (new_line ∷ w)) r.others ∙ shift (statement_words s) r.earlier r.later;
+      spelled = λ d ts h.
+          let q = h.second in
+          let end = one-words k.LineEnd q.front (λ x. refl) q.first in
+          subst (λ w. Inside of_statement x (line ++ r.earlier) w ts) (append-nil (new_line ∷ r.later))
+          (inside-part of_statement x r.earlier (new_line ∷ r.later) line [] ts (h.front ++ q.front) q.back [] (third-of ts h.front h.back q.front q.back h.joined q.joined)
+          (join-words h.front q.front (statement_words s) (new_line ∷ []) (statement-words s d h.front h.first) end) refl (r.spelled d q.back q.second));
+    }
+  where
+    shift : (a b c : List Word) → a ++ (new_line ∷ (b ++ c)) ≡ ((a ++ new_line ∷ []) ++ b) ++ c
+    shift a b c = simp append_assoc
+
+among : (list : Statements Span) (n : ℕ) (x : Statement Span) → nth (statement_list list) n ≡ Some x → Among list n x
+among no_statements n x e = absurd cc
+among (statement s more) zero x e = subst (Among (statement s more) zero) (some-injective s x e) (among-first s more)
+among (statement s more) (suc n) x e = among-more s more n x (among more n x e)
+
+pub record InBlock (b : Block Span) (n : ℕ) (x : Statement Span) : Type 0 where
+  pub earlier : List Word
+  pub later : List Word
+  pub lines : Lines earlier
+  pub others : block_words (block_without b n) ≡ earlier ++ later
+  pub spelled : (d last : ℕ) (ts : List Token) → SpellsBlock b d last ts → Inside of_statement x earlier (new_line ∷ later) ts
+
+pub in-block : (b : Block Span) (n : ℕ) (x : Statement Span) → statement_in b n ≡ Some x → InBlock b n x
+in-block (block s list) n x e =
+    let r = among list n x e in
+    record { earlier = r.earlier; later = r.later; lines = r.lines; others = r.others; spelled = λ d last ts h. r.spelled d ts h.1 }
+
+-- ---- levels
+
+all-but-level : {S : Type 0} (list : Statements S) (n : ℕ) → LevelStatements list → LevelStatements (all_but list n)
+all-but-level no_statements n l = tt
+all-but-level (statement s more) zero l = l.1
+all-but-level (statement s more) (suc n) l = (l.0, all-but-level more n l.1)
+
+pub without-level : {S : Type 0} (b : Block S) (n : ℕ) → LevelBlock b → LevelBlock (block_without b n)
+without-level (block s list) n l = all-but-level list n l
+
+-- ---- the block in its file
+
+pub record BlockFits (f : File Span) (b : BlockAt Span) : Type 0 where
+  pub before : List Word
+  pub behind : List Word
+  pub put : (other : Block Span) → file_words (b.back other) ≡ before ++ (block_words other ++ behind)
+  pub level : LevelFile f → LevelBlock b.inside
+  pub outside : LevelFile f → (other : Block Span) → LevelBlock other → LevelFile (b.back other)
+  pub lines : Lines before
+  pub spelled : (len d : ℕ) (ts : List Token) → SpellsFile f len d ts → Inside of_block b.inside before behind ts
+
+node-block-fits : (f : File Span) (sort : Sort) (x : Node sort Span) (before behind : List Word) (back : Node sort Span → Block Span) (b : BlockAt Span)
+    → Reaches Span of_block (block_of f) (record { sort = sort; inside = x; before = before; behind = behind; back = back }) → IsLined Span sort before
+    → ((len d : ℕ) (ts : List Token) → SpellsFile f len d ts → Inside sort x before behind ts) → block_of_node Span sort x f back ≡ Some b → BlockFits f b
+node-block-fits f of_expression x before behind back b r l i is = absurd cc
+node-block-fits f of_statement x before behind back b r l i is = absurd cc
+node-block-fits f of_block x before behind back b r l i is = subst (BlockFits f) (some-injective _ _ is) (record {
+  before = before;
+  behind = behind;
+  put = λ other. with-words Span f (back other) ∙ r.put other;
+  level = λ g. r.inside (of-level Span f g);
+  outside = λ g other lo. with-level Span f (back other) (r.outside (of-level Span f g) other tt lo);
+  lines = l;
+  spelled = i;
+})
+
+pub block-fits-file : (f : File Span) (path : List ℕ) (b : BlockAt Span) → block_at f path ≡ Some b → BlockFits f b
+block-fits-file f path b is =
+    let o = and-then-some (λ h. block_of_node Span h.sort h.inside f h.back) (reach Span of_block (block_of f) path) b is in
+    let h = o.0 in
+    node-block-fits f h.sort h.inside h.before h.behind h.back b (reach-fits Span of_block (block_of f) path h o.1) (reach-lined Span (block_of f) path h o.1)
+    (λ len d ts sp. reach-inside of_block (block_of f) path d 0 ts h o.1 (block-spelled f len d ts sp)) o.2

@@ -1,0 +1,16 @@
+pub mod Each
+pub mod EachChildren
+pub mod EachErased
+pub mod EachNothing
+pub mod Elements
+pub mod Kept
+pub mod ListsAlone
+pub mod Moved
+pub mod MovedCodes
+pub mod PutLists
+pub mod Spots
+pub mod Swap
+pub mod Texts
+pub mod TextsChildren
+pub mod Tokens
+pub mod Views

@@ -1,0 +1,10 @@
+pub mod Bounds
+pub mod Elements
+pub mod InExpressions
+pub mod InStatements
+pub mod Inside
+pub mod Joined
+pub mod Owned
+pub mod SameEnds
+pub mod Standing
+pub mod Values

@@ -1,6 +1,0 @@
-use Rattle.meson_syntax.proofs.kept.Moved.{files-move, lists-move}
-use Rattle.meson_syntax.proofs.kept.Views.{views-move, list-views-move}
-use Rattle.meson_syntax.proofs.laws.moving.Goals as goal
-
-pub returns : goal.returns
-returns c = record { files_move = files-move; lists_move = lists-move; views_move = views-move; list_views_move = list-views-move }

@@ -1,5 +1,0 @@
-use Rattle.meson_syntax.proofs.places.Standing.{nodes-stand, lists-stand}
-use Rattle.meson_syntax.proofs.laws.places.Goals as goal
-
-pub returns : goal.returns
-returns c = record { nodes_stand = nodes-stand; lists_stand = lists-stand }

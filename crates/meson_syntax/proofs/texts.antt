@@ -1,0 +1,3 @@
+pub mod Spanned
+pub mod Spelled
+pub mod TokenSlices
