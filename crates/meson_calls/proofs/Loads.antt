@@ -12,7 +12,7 @@ use Rattle.meson_syntax.specs.View.{view}
 use Rattle.meson_calls.specs.declared.load_fault.LoadFault.{LoadFault}
 use Rattle.meson_calls.specs.declared.load_fault.LoadFault.TheVariants.{TooManyFiles, BadFileName, Parse, OutOfMemory}
 use Rattle.meson_calls.specs.Loading.{name_of_file, AreParsed, HasTree, IsFirstUnread}
-use Rattle.meson_calls.specs.Loads.{TellsFault, MayNotParse}
+use Rattle.meson_calls.specs.inside.Loads.{TellsFault, MayNotParse}
 
 pub take_more : {X : Type 0} (xs : List X) (i : ℕ) (d : X) → i < length xs → take (i + 1) xs ≡ take i xs ++ get_or xs i d ∷ []
 take_more xs i d within = let step : i + 1 ≡ suc i = omega arith in ap (λ k. take k xs) step ∙ take-suc xs i d within

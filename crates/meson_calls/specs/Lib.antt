@@ -8,7 +8,6 @@ pub mod Subdirs
 pub mod Expansion
 pub mod Sources
 pub mod Loading
-pub mod Loads
 pub mod Ranges
 pub mod Notes
 pub mod Walks
@@ -30,3 +29,4 @@ pub mod CallPlaces
 pub mod Messages
 pub mod AllParts
 pub mod Spelling
+pub mod inside

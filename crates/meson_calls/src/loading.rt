@@ -2,7 +2,7 @@
 
 ghost use Rattle.std.specs.Prelude.{◌≡◌, IfErr, IfOk, MatchOption, All};
 ghost use Rattle.meson_calls.specs.Loading.{IsProject, MayNotLoad, HasFileName, IsFirstBadName, AreParsed};
-ghost use Rattle.meson_calls.specs.Loads.{MayNotParse, TellsFault};
+ghost use Rattle.meson_calls.specs.inside.Loads.{MayNotParse, TellsFault};
 
 use crate::folders::is_file_name;
 use crate::load_fault::LoadFault;

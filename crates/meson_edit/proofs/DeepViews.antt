@@ -21,7 +21,7 @@ use Rattle.meson_syntax.specs.declared.tree.Stmt.TheFolds.{the_lemmas as stateme
 use Rattle.meson_syntax.specs.Tree.{operands_of, tails_of, arguments_of, branches_of, statements_of}
 use Rattle.meson_syntax.specs.Grammar.{expression_depth, operands_depth, tail_depth, tails_depth, listing_depth, argument_depth, arguments_depth, statement_depth, branches_depth, otherwise_depth, statements_depth, block_depth}
 use Rattle.meson_syntax.specs.View.{expr_view, operand_view, operands_view, tail_view, tails_view, arg_view, list_view, args_view, stmt_view, stmts_view, block_view, branch_view, branches_view, otherwise_view}
-use Rattle.meson_edit.specs.Depths.{branch_depth}
+use Rattle.meson_edit.specs.inside.Depths.{branch_depth}
 
 module _ (source : List ℕ) where
   pub deep_paren : (s : Span) (e : Expr) → expression_depth (expr_view source (expr.Paren s e)) ≡ suc (expression_depth (expr_view source e))

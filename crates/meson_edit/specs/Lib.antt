@@ -3,7 +3,6 @@ pub mod Edits
 pub mod Places
 pub mod Laws
 pub mod Sequences
-pub mod Depths
 pub mod Kept
 pub mod PutBack
 pub mod ExchangedTrees
@@ -20,3 +19,4 @@ pub mod Moves
 pub mod PutLists
 pub mod Standing
 pub mod Swap
+pub mod inside

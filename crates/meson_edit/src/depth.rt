@@ -1,11 +1,10 @@
 //! How deep the constructs of a tree nest.
 
 ghost use Rattle.std.specs.Prelude.{◌≡◌, nat_le};
-ghost use Rattle.meson_edit.specs.Depths.{branch_depth};
-ghost use Rattle.meson_syntax.specs.Cursor.{Bytes};
+ghost use Rattle.meson_edit.specs.inside.Depths.{branch_depth};
+ghost use Rattle.meson_syntax.specs.View.{Bytes, expr_view, operands_view, tail_view, tails_view, list_view, arg_view, args_view, stmt_view, branch_view, stmts_view, branches_view, otherwise_view, block_view, view};
 ghost use Rattle.meson_syntax.specs.Grammar.{expression_depth, operands_depth, tail_depth, tails_depth, listing_depth, argument_depth, arguments_depth, statement_depth, branches_depth, otherwise_depth, statements_depth, block_depth, file_depth};
 ghost use Rattle.meson_syntax.specs.Tree.{operands_of, tails_of, arguments_of, branches_of, statements_of};
-ghost use Rattle.meson_syntax.specs.View.{expr_view, operands_view, tail_view, tails_view, list_view, arg_view, args_view, stmt_view, branch_view, stmts_view, branches_view, otherwise_view, block_view, view};
 
 use meson_syntax::{Arg, Block, Branch, Expr, List, Operand, Parsed, Stmt, Tail};
 

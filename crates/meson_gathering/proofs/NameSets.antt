@@ -9,7 +9,7 @@ use Rattle.std.proofs.lemmas.List.Folds.{list_any-append}
 use Rattle.std.proofs.lemmas.Slice.Eq.{bytes_eq-Decides}
 use Rattle.meson_splice.specs.Files.{position_of_file}
 use Rattle.meson_splice.specs.declared.file_set.File.{File}
-use Rattle.meson_gathering.specs.Names.{AreNames}
+use Rattle.meson_gathering.specs.inside.Names.{AreNames}
 
 -- ---- a file is found where one has the name
 

@@ -1,4 +1,4 @@
 pub mod Gathering
-pub mod Names
 pub mod Gathered
 pub mod Reading
+pub mod inside

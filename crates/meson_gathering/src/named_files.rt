@@ -20,7 +20,7 @@ pub(crate) struct NamedFiles {
 impl Model for NamedFiles {
     ghost use Rattle.std.specs.Prelude.{List};
     ghost use Rattle.meson_splice.specs.declared.file_set.File.{File};
-    ghost use Rattle.meson_gathering.specs.Names.{AreNames};
+    ghost use Rattle.meson_gathering.specs.inside.Names.{AreNames};
 
     ghost Value = { List File };
 

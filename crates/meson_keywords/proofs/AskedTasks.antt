@@ -27,7 +27,7 @@ use Rattle.meson_keywords.proofs.TasksSoFar.{value_may}
 use Rattle.meson_keywords.proofs.WrittenElements.{elements_are, list_level, list_shallow, list_written, switch_is}
 use Rattle.meson_steps.proofs.StepsDoable.{text_written}
 use Rattle.meson_steps.proofs.WentWell.{then_was}
-use Rattle.meson_steps.specs.WrittenValues.{value_written}
+use Rattle.meson_steps.specs.inside.WrittenValues.{value_written}
 
 abbrev pub MayAll : List Task → Type 0
 MayAll ts = AllByRecursion MayBeWritten ts

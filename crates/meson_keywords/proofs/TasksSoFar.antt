@@ -16,7 +16,7 @@ use Rattle.meson_keywords.specs.declared.keys.ValueKind.{ValueKind}
 use Rattle.meson_calls.specs.declared.refusal.Refusal.{Refusal}
 use Rattle.meson_keywords.specs.declared.tasks.Task as code
 use Rattle.meson_keywords.specs.Keys.{key_kind, list_kind, list_values, written_value}
-use Rattle.meson_steps.specs.WrittenValues.{WrittenFor, value_written}
+use Rattle.meson_steps.specs.inside.WrittenValues.{WrittenFor, value_written}
 use Rattle.meson_keywords.specs.Options.{option_text}
 use Rattle.meson_keywords.specs.Tasks.{Task, set, delete, add, remove, once, set_option, delete_option, checked_option, each_made, set_entry, delete_entry, add_entry, remove_entry, set_option_entry, delete_option_entry}
 use Rattle.meson_keywords.specs.Tasking.{TaskIs, MayBeWritten, IsValue, TasksAre, none, one, AreTasksBehind, TasksSoFar}

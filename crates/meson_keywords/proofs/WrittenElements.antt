@@ -33,7 +33,7 @@ use Rattle.meson_keywords.proofs.IdentifierTexts.{identifier_true}
 use Rattle.meson_calls.specs.Roles.{one_of}
 use Rattle.meson_steps.specs.WrittenTexts.{comma_between}
 use Rattle.meson_steps.specs.Names.{distinct_by}
-use Rattle.meson_steps.specs.WrittenValues.{WrittenFor, IsSet}
+use Rattle.meson_steps.specs.inside.WrittenValues.{WrittenFor, IsSet}
 use Rattle.meson_keywords.specs.Tasking.{IsElement, AreElements}
 use Rattle.meson_calls.proofs.Loads.{take_more}
 

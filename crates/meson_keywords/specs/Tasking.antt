@@ -26,7 +26,7 @@ use Rattle.meson_keywords.specs.declared.tasks.Task.TheVariants as code_task
 use Rattle.meson_calls.specs.Calls.{Numbered}
 use Rattle.meson_keywords.specs.KeywordEdits.{says}
 use Rattle.meson_keywords.specs.Options.{has_key, is_entry_element}
-use Rattle.meson_steps.specs.WrittenValues.{WrittenFor, value_written}
+use Rattle.meson_steps.specs.inside.WrittenValues.{WrittenFor, value_written}
 use Rattle.meson_keywords.specs.Tasks.{Task, set, delete, add, remove, once, set_option, delete_option, each_made, set_entry, delete_entry, add_entry, remove_entry, set_option_entry, delete_option_entry}
 
 -- ---- what a command asks

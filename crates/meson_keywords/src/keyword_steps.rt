@@ -12,7 +12,7 @@ ghost use Rattle.meson_keywords.specs.KeywordEdits.{add_by_shape, add_steps, add
 ghost use Rattle.meson_keywords.specs.KeywordEdits.{passing, remove_by_shape, remove_equal, remove_steps, removed_from, says, set_steps, value_shape, text_in};
 ghost use Rattle.meson_keywords.specs.Keys.{written_element};
 ghost use Rattle.meson_steps.specs.ListSteps.{bare};
-ghost use Rattle.meson_steps.specs.WrittenValues.{WrittenFor, value_written};
+ghost use Rattle.meson_steps.specs.inside.WrittenValues.{WrittenFor, value_written};
 ghost use Rattle.meson_calls.specs.Strings.{AreGood};
 ghost use Rattle.meson_steps.specs.Meanings.{AreBehind, AreMeant};
 ghost use Rattle.meson_keywords.specs.Tasking.{args_of, held_value};

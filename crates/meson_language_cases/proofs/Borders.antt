@@ -13,7 +13,7 @@ use Rattle.meson_lex.specs.Items.{Lexeme, joined, IsItemList}
 use Rattle.meson_lex.specs.Lexed.{with_spans, IsLexed}
 use Rattle.meson_lex.specs.Significant.{Opens, role}
 use Rattle.meson_layout.specs.Layout.{IsSpanOf, IsBracketOf}
-use Rattle.meson_language_cases.specs.Opening.{is_open}
+use Rattle.meson_language_cases.specs.inside.Opening.{is_open}
 
 -- no fault is among the results
 abbrev pub is_clean : List (Result Item LexFault) → Bool

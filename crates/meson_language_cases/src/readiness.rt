@@ -3,7 +3,7 @@ ghost use Rattle.std.specs.Bool.{OnTrue};
 ghost use Rattle.std.specs.Prelude.{◌≡◌, List};
 ghost use Rattle.meson_lex.specs.Items.{IsItemList, Lexeme};
 ghost use Rattle.meson_layout.specs.Layout.{IsBracketOf, IsReady, IsSpanOf};
-ghost use Rattle.meson_language_cases.specs.Opening.{is_open};
+ghost use Rattle.meson_language_cases.specs.inside.Opening.{is_open};
 
 use meson_layout::Primitive;
 use meson_lex::{Kind, Span, items};

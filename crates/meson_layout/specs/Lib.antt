@@ -6,8 +6,8 @@ pub mod Insertion
 pub mod Removal
 pub mod Statements
 pub mod Layout
-pub mod Places
 pub mod Words
 pub mod Edited
 pub mod Laws
 pub mod FileLaws
+pub mod inside

@@ -6,7 +6,7 @@ ghost use Rattle.meson_lex.specs.Items.{Lexeme};
 ghost use Rattle.meson_layout.specs.Layout.{FirstFits, IsReady, before_len, end_of_look, layout_of, split_at_span, replaced, wrapped};
 ghost use Rattle.meson_layout.specs.Insertion.{first};
 ghost use Rattle.meson_layout.specs.Pieces.{as_one, splices};
-ghost use Rattle.meson_layout.specs.Places.{PlaceFits, at_place};
+ghost use Rattle.meson_layout.specs.inside.Places.{PlaceFits, at_place};
 ghost use Rattle.meson_splice.specs.declared.fault.SpliceFault.TheVariants.{OutOfMemory};
 
 use crate::lexemes::{Lexeme, lexemes};

@@ -4,7 +4,7 @@ ghost use Rattle.std.specs.Prelude.{◌≡◌, ◌++◌, ◌∷◌, [], OnOk, �
 ghost use Rattle.meson_lex.specs.Items.{joined};
 ghost use Rattle.meson_layout.specs.Insertion.{before_bracket, first, inserted, plain_insertion, with_comma, without_comma};
 ghost use Rattle.meson_layout.specs.Pieces.{as_one, splices};
-ghost use Rattle.meson_layout.specs.Places.{PlaceFits, at_place};
+ghost use Rattle.meson_layout.specs.inside.Places.{PlaceFits, at_place};
 ghost use Rattle.meson_splice.specs.declared.fault.SpliceFault.TheVariants.{OutOfMemory};
 
 use crate::lexemes::Lexeme;

@@ -2,7 +2,7 @@
 
 ghost use Rattle.std.specs.Prelude.{◌≡◌, ◌+◌, ◌<◌, ◌^◌, ◌++◌, ◌∷◌, [], IfErr, IfOk, OnErr, OnOk, length};
 ghost use Rattle.meson_lex.specs.Items.{joined};
-ghost use Rattle.meson_layout.specs.Places.{PlaceFits};
+ghost use Rattle.meson_layout.specs.inside.Places.{PlaceFits};
 ghost use Rattle.meson_splice.specs.declared.fault.SpliceFault.TheVariants.{OutOfMemory};
 
 use crate::lexemes::Lexeme;

@@ -5,7 +5,7 @@ ghost use Rattle.meson_layout.specs.Looks.{gap_len, last_few};
 ghost use Rattle.meson_lex.specs.Items.{joined};
 ghost use Rattle.meson_layout.specs.Removal.{comma_before, comma_behind, comma_len, gone, grown, no_comma_behind, one_range, removed, two_ranges};
 ghost use Rattle.meson_layout.specs.Pieces.{splices};
-ghost use Rattle.meson_layout.specs.Places.{PlaceFits, at_place};
+ghost use Rattle.meson_layout.specs.inside.Places.{PlaceFits, at_place};
 ghost use Rattle.meson_splice.specs.declared.fault.SpliceFault.TheVariants.{OutOfMemory};
 
 use crate::lexemes::Lexeme;

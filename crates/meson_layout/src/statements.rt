@@ -3,7 +3,7 @@
 ghost use Rattle.std.specs.Prelude.{◌≡◌, ◌+◌, ◌<◌, ◌≤◌, ◌^◌, ◌++◌, IfErr, IfOk, length};
 ghost use Rattle.meson_lex.specs.Items.{joined};
 ghost use Rattle.meson_layout.specs.Pieces.{as_one, splices};
-ghost use Rattle.meson_layout.specs.Places.{PlaceFits, at_place};
+ghost use Rattle.meson_layout.specs.inside.Places.{PlaceFits, at_place};
 ghost use Rattle.meson_layout.specs.Statements.{appended, line_end_of, statement_gone, statement_removed};
 ghost use Rattle.meson_splice.specs.declared.fault.SpliceFault.TheVariants.{OutOfMemory};
 

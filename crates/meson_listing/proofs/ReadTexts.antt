@@ -13,7 +13,7 @@ use Rattle.meson_lex.proofs.ScanLexed.{scan_only}
 use Rattle.meson_splice.specs.declared.file_set.File.{File}
 use Rattle.meson_syntax.specs.declared.tree.Parsed.{Parsed}
 use Rattle.meson_syntax.specs.Reads.{IsSpanned, max_depth}
-use Rattle.meson_syntax.specs.ReadingFiles.{whole}
+use Rattle.meson_syntax.specs.inside.ReadingFiles.{whole}
 use Rattle.meson_syntax.specs.Tree as tree
 use Rattle.meson_syntax.specs.View.{view}
 use Rattle.meson_syntax.proofs.parsing.CompleteFiles.{whole-complete}

@@ -20,7 +20,7 @@ use Rattle.meson_edit.proofs.places.Standing.{lists-stand}
 use Rattle.meson_calls.proofs.ListNodes.{list_of}
 use Rattle.meson_steps.proofs.PlainTrees.{nth_map}
 use Rattle.meson_plan.specs.Details.{source_text}
-use Rattle.meson_plan.specs.ValueTexts.{HasText, HaveTexts, ListHasTexts, ArgsHaveTexts}
+use Rattle.meson_plan.specs.inside.ValueTexts.{HasText, HaveTexts, ListHasTexts, ArgsHaveTexts}
 
 -- ---- what stands between items
 

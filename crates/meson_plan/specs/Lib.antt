@@ -1,7 +1,5 @@
 pub mod Planning
 pub mod Performing
-pub mod Called
 pub mod Details
-pub mod ValueTexts
-pub mod Orders
 pub mod Effects
+pub mod inside

@@ -10,9 +10,9 @@ ghost use Rattle.meson_calls.specs.Loading.{AreParsed, named_trees, views};
 ghost use Rattle.meson_calls.specs.Project.{expression_at};
 ghost use Rattle.meson_calls.specs.Strings.{AreGood};
 ghost use Rattle.meson_syntax.specs.Grammar.{listing_words};
-ghost use Rattle.meson_plan.specs.Called.{called_view};
+ghost use Rattle.meson_plan.specs.inside.Called.{called_view};
 ghost use Rattle.meson_plan.specs.Details.{is_call};
-ghost use Rattle.meson_plan.specs.ValueTexts.{ListHasTexts};
+ghost use Rattle.meson_plan.specs.inside.ValueTexts.{ListHasTexts};
 
 use meson_calls::CallRef;
 use meson_lex::Span;

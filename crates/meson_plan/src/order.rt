@@ -5,7 +5,7 @@ ghost use Rattle.meson_lex.specs.declared.kinds.Span as lex;
 ghost use Rattle.meson_calls.specs.Project.{Project};
 ghost use Rattle.meson_keywords.specs.Changing.{request_steps};
 ghost use Rattle.meson_keywords.specs.Tasking.{asked};
-ghost use Rattle.meson_plan.specs.Orders.{order_steps, sought};
+ghost use Rattle.meson_plan.specs.inside.Orders.{order_steps, sought};
 ghost use Rattle.meson_plan.specs.Planning.{planned};
 ghost use Rattle.meson_sources.specs.Targeted.{target_steps};
 

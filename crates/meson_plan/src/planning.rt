@@ -4,7 +4,7 @@ ghost use Rattle.std.specs.Prelude.{IfOk};
 ghost use Rattle.meson_calls.specs.Loading.{IsProject, loaded_from, project};
 ghost use Rattle.meson_calls.specs.NotedProjects.{IsNotedFor, loaded_in, project_in};
 ghost use Rattle.meson_calls.specs.Refusals.{RefusedAs};
-ghost use Rattle.meson_plan.specs.Orders.{plan_steps, sought};
+ghost use Rattle.meson_plan.specs.inside.Orders.{plan_steps, sought};
 ghost use Rattle.meson_steps.specs.Plans.{ArePlanned};
 
 use crate::info::{call_info, target_info};

@@ -11,9 +11,9 @@ ghost use Rattle.meson_calls.specs.GoodLists.{GoodArgs, GoodListing};
 ghost use Rattle.meson_calls.specs.Picking.{Source, call_with};
 ghost use Rattle.meson_calls.specs.Refusals.{RefusedAs};
 ghost use Rattle.meson_calls.specs.Strings.{AreGood};
-ghost use Rattle.meson_plan.specs.Called.{called_view};
+ghost use Rattle.meson_plan.specs.inside.Called.{called_view};
 ghost use Rattle.meson_plan.specs.Details.{head_of, is_hidden, keywords_of_call, literal_in, of_each, shown_argument, shown_list, shown_value, source_text, variable_in};
-ghost use Rattle.meson_plan.specs.ValueTexts.{ArgsHaveTexts, HasText, ListHasTexts};
+ghost use Rattle.meson_plan.specs.inside.ValueTexts.{ArgsHaveTexts, HasText, ListHasTexts};
 
 use crate::called::Called;
 use crate::details::{Head, Shown};

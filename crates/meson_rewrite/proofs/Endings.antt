@@ -16,7 +16,7 @@ use Rattle.meson_store.specs.declared.store_fault.StoreFault.{StoreFault}
 use Rattle.meson_store.specs.declared.store_fault.StoreFault.TheVariants as store
 use Rattle.meson_gathering.proofs.Stopping.{rose_before, stops_within}
 use Rattle.meson_gathering.specs.Gathering.{Finds, file_of}
-use Rattle.meson_rewrite.specs.Edited.{IsEdited, IsShown, OnlyTells}
+use Rattle.meson_rewrite.specs.inside.Edited.{IsEdited, IsShown, OnlyTells}
 use Rattle.meson_rewrite.specs.Lines.{status, stop_status, store_fault_status, usage_status, version_line}
 use Rattle.meson_rewrite.proofs.Holding.{IsHeld, held-collected}
 use Rattle.meson_rewrite.specs.Listed.{listed_text}

@@ -21,7 +21,7 @@ use Rattle.meson_script.specs.declared.session.Report.{Report}
 use Rattle.meson_script.specs.declared.session.Session.{Session}
 use Rattle.meson_gathering.specs.Gathering.{file_of}
 use Rattle.meson_rewrite.specs.Logs.{log_name, with_log}
-use Rattle.meson_rewrite.specs.Edited.{IsWithin}
+use Rattle.meson_rewrite.specs.inside.Edited.{IsWithin}
 use Rattle.meson_rewrite.specs.Steps.{Does, StopsStep, StopsStepsBack}
 use Rattle.meson_rewrite.specs.Stops.{undo_stop}
 use Rattle.meson_rewrite.specs.declared.stop.Stop.{Stop}

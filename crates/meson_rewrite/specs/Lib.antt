@@ -6,7 +6,7 @@ pub mod Listed
 pub mod Steps
 pub mod Requests
 pub mod Opening
-pub mod Edited
 pub mod Runs
 pub mod StoreReads
 pub mod Laws
+pub mod inside

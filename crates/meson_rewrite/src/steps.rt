@@ -5,7 +5,7 @@ ghost use Rattle.serde_json.specs.Data.{array, no_items};
 ghost use Rattle.serde_json.specs.View.{view};
 ghost use Rattle.meson_calls.specs.Loading.{IsProject, name_of_file};
 ghost use Rattle.meson_json.specs.Log.{is_text_history, log_of};
-ghost use Rattle.meson_rewrite.specs.Edited.{IsEdited, IsShown, OnlyTells, IsWithin};
+ghost use Rattle.meson_rewrite.specs.inside.Edited.{IsEdited, IsShown, OnlyTells, IsWithin};
 ghost use Rattle.meson_rewrite.specs.Logs.{with_log};
 ghost use Rattle.meson_rewrite.specs.Steps.{Does, IsTitled, MayRefuseStep};
 ghost use Rattle.meson_rewrite.specs.Stops.{WantsMemory, undo_stop};

@@ -16,7 +16,7 @@ use Rattle.meson_calls.specs.Calls.{Call, Numbered, keyword, value_with_name, li
 use Rattle.meson_calls.specs.Expansion.{max_followed}
 use Rattle.meson_calls.specs.Keywords.{IsFirstNamed}
 use Rattle.meson_steps.specs.ListSteps.{bare}
-use Rattle.meson_sources.specs.Naming.{new_among}
+use Rattle.meson_sources.specs.inside.Naming.{new_among}
 use Rattle.meson_calls.specs.Picking.{placed_call}
 use Rattle.meson_calls.specs.Project.{Project, Placed}
 use Rattle.meson_calls.specs.Sourced.{kept_args}

@@ -12,7 +12,7 @@ use Rattle.meson_calls.specs.Project.{Project, Placed}
 use Rattle.meson_calls.specs.Calls.{Call, keyword, value_with_name}
 use Rattle.meson_calls.specs.Expansion.{Mark, fixed, max_followed}
 use Rattle.meson_calls.specs.Picking.{placed_call}
-use Rattle.meson_sources.specs.CodeSpots.{spots_of_names}
+use Rattle.meson_sources.specs.inside.CodeSpots.{spots_of_names}
 use Rattle.meson_calls.specs.Sources.{kwargs_key, once, expand_arguments}
 use Rattle.meson_calls.specs.Sourced.{kept_args}
 use Rattle.meson_sources.specs.SourceEdits.{extra_key, extra_marks, checked_extra, spots_named, removed_at, extra_removed}

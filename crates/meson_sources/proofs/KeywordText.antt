@@ -14,7 +14,7 @@ use Rattle.meson_syntax.specs.Tree.{Nowhere, Expression}
 use Rattle.meson_syntax.specs.Grammar.{argument_words, expression_words}
 use Rattle.meson_edit.specs.Edits.{Written}
 use Rattle.meson_edit.specs.Places.{IsWritten}
-use Rattle.meson_steps.specs.WrittenValues.{IsSet}
+use Rattle.meson_steps.specs.inside.WrittenValues.{IsSet}
 use Rattle.meson_steps.specs.WrittenTexts.{written_texts}
 use Rattle.meson_sources.specs.SourceEdits.{extra_key, array_with, written_keyword}
 use Rattle.meson_steps.proofs.Spellings.{differs, none_of}

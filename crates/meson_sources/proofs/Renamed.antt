@@ -8,7 +8,7 @@ use Rattle.meson_steps.specs.declared.step.ListStep.{ListStep}
 use Rattle.meson_steps.specs.ListSteps.{bare}
 use Rattle.meson_steps.specs.Steps.{step_in}
 use Rattle.meson_sources.specs.SourceEdits.{Spot, spot_after, spots_after, removal_steps, removed_by}
-use Rattle.meson_sources.specs.CodeSpots.{after_each}
+use Rattle.meson_sources.specs.inside.CodeSpots.{after_each}
 
 pub after_more : (gone : List Spot) (g s : Spot) → after_each spot_after (gone ++ g ∷ []) s ≡ spot_after g (after_each spot_after gone s)
 after_more [] g s = refl

@@ -12,9 +12,9 @@ use Rattle.meson_calls.specs.Project.{Project, Placed}
 use Rattle.meson_calls.specs.Calls.{Call, keyword, value_with_name}
 use Rattle.meson_calls.specs.Expansion.{Mark, max_followed}
 use Rattle.meson_steps.specs.ListSteps.{bare}
-use Rattle.meson_sources.specs.Naming.{new_among}
+use Rattle.meson_sources.specs.inside.Naming.{new_among}
 use Rattle.meson_calls.specs.Picking.{placed_call}
-use Rattle.meson_sources.specs.CodeSpots.{spots_of_names}
+use Rattle.meson_sources.specs.inside.CodeSpots.{spots_of_names}
 use Rattle.meson_calls.specs.Sources.{sources_key, source_marks, home, once, or_call, or_option, first_list}
 use Rattle.meson_calls.specs.Sourced.{kept_args, all_gathered}
 use Rattle.meson_sources.specs.SourceEdits.{new_names, insertion_steps, plain_len, spots_named, removed_at, sources_added, sources_removed}

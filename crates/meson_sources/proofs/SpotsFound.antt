@@ -7,8 +7,8 @@ use Rattle.meson_splice.specs.Patch.{then_ok}
 use Rattle.meson_calls.specs.declared.call.SourceItem.{SourceItem}
 use Rattle.meson_calls.specs.declared.refusal.Refusal.{Refusal}
 use Rattle.meson_sources.specs.SourceEdits.{Spot, removable}
-use Rattle.meson_sources.specs.Naming.{has_value}
-use Rattle.meson_sources.specs.CodeSpots.{spot_if_there, spots_at, all_there, spots_from, before_all, joined_spots, is_some_there}
+use Rattle.meson_sources.specs.inside.Naming.{has_value}
+use Rattle.meson_sources.specs.inside.CodeSpots.{spot_if_there, spots_at, all_there, spots_from, before_all, joined_spots, is_some_there}
 
 module _ (name : List ℕ) (items : List SourceItem) (numbers : List (Option ℕ)) (i : ℕ) (d : SourceItem) (e : Option ℕ) (within : i < length items) (also : i < length numbers) where
   abbrev item : SourceItem

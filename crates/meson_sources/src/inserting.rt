@@ -3,7 +3,7 @@
 ghost use Rattle.std.specs.Prelude.{◌≡◌, ◌<◌, ◌^◌, ◌++◌, IfErr, IfOk, OnOk, Some, map};
 ghost use Rattle.std.specs.List.{list_any};
 ghost use Rattle.meson_steps.specs.ListSteps.{bare};
-ghost use Rattle.meson_sources.specs.Naming.{has_value, new_among};
+ghost use Rattle.meson_sources.specs.inside.Naming.{has_value, new_among};
 ghost use Rattle.meson_sources.specs.SourceEdits.{insertion_steps};
 ghost use Rattle.meson_steps.specs.Names.{distinct};
 

@@ -6,7 +6,7 @@ ghost use Rattle.meson_calls.specs.Refusals.{IfRefused, RefusedAs};
 ghost use Rattle.meson_steps.specs.ListSteps.{bare};
 ghost use Rattle.meson_steps.specs.Meanings.{AreMeant};
 ghost use Rattle.meson_steps.specs.Names.{distinct};
-ghost use Rattle.meson_sources.specs.CodeSpots.{after_each, all_spots_in, all_there, before_all, is_some_there, spot_if_there, spot_view, spots_in};
+ghost use Rattle.meson_sources.specs.inside.CodeSpots.{after_each, all_spots_in, all_there, before_all, is_some_there, spot_if_there, spot_view, spots_in};
 ghost use Rattle.meson_sources.specs.SourceEdits.{distinct_spots, moved_up, path_after, removal_steps, removed_at, same_spot, spot_after};
 
 use meson_calls::marks::Marks;

@@ -4,7 +4,7 @@ use Rattle.std.specs.Prelude.{bytes_eq}
 use Rattle.std.proofs.lemmas.List.Quantifiers.{position-Some}
 use Rattle.std.proofs.lemmas.Slice.Eq.{bytes_eq-Decides}
 use Rattle.meson_splice.specs.Files.{bytes_at, position_of_file, with_bytes}
-use Rattle.meson_splice.specs.Gap.{LeadsTo, StopsBy}
+use Rattle.meson_splice.specs.inside.Gap.{LeadsTo, StopsBy}
 use Rattle.meson_splice.specs.Patch.{patched, patched_all, patched_in, then_ok}
 use Rattle.meson_splice.specs.declared.fault.SpliceFault.{SpliceFault}
 use Rattle.meson_splice.specs.declared.file_set.File.{File}

@@ -1,9 +1,7 @@
 pub mod Files
 pub mod Patch
-pub mod Borrowed
-pub mod Ordered
-pub mod Gap
 pub mod Saved
 pub mod Past
 pub mod Messages
 pub mod Laws
+pub mod inside

@@ -1,10 +1,10 @@
 //! Changes: splices one after another, all or none of them.
 
 ghost use Rattle.std.specs.Prelude.{◌≡◌, ◌≢◌, ◌<◌, ◌≤◌, ℕ, List, [], Err, IfErr, IfOk, Ok, OnErr, OnOk, Some, drop, length};
-ghost use Rattle.meson_splice.specs.Borrowed.{splice_of};
+ghost use Rattle.meson_splice.specs.inside.Borrowed.{splice_of};
 ghost use Rattle.meson_splice.specs.Files.{position_of_file, with_bytes};
-ghost use Rattle.meson_splice.specs.Gap.{LeadsTo, StopsBy};
-ghost use Rattle.meson_splice.specs.Ordered.{ordered};
+ghost use Rattle.meson_splice.specs.inside.Gap.{LeadsTo, StopsBy};
+ghost use Rattle.meson_splice.specs.inside.Ordered.{ordered};
 ghost use Rattle.meson_splice.specs.Patch.{inverses_of, patched_all, patched_in};
 ghost use Rattle.meson_splice.specs.Saved.{bytes_saved, bytes_put_back};
 ghost use Rattle.meson_splice.specs.declared.fault.SpliceFault.TheVariants.{OutOfMemory};

@@ -1,8 +1,8 @@
 //! A text that is open at one place, where bytes are cut off and put in.
 
 ghost use Rattle.std.specs.Prelude.{◌≡◌, ◌≢◌, ◌≤◌, ◌++◌, Err, IfErr, IfOk, Ok, OnOk, length, reverse};
-ghost use Rattle.meson_splice.specs.Borrowed.{splice_of};
-ghost use Rattle.meson_splice.specs.Gap.{gap_text};
+ghost use Rattle.meson_splice.specs.inside.Borrowed.{splice_of};
+ghost use Rattle.meson_splice.specs.inside.Gap.{gap_text};
 ghost use Rattle.meson_splice.specs.Patch.{patched};
 ghost use Rattle.meson_splice.specs.declared.fault.SpliceFault.TheVariants.{OutOfMemory};
 

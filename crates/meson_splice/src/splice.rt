@@ -1,7 +1,7 @@
 //! One splice: bytes of a file that become other bytes.
 
 ghost use Rattle.std.specs.Prelude.{◌≡◌, ◌≢◌, ◌+◌, ◌<◌, ◌≤◌, ◌++◌, Err, IfErr, IfOk, Ok, OnErr, OnOk, Some, drop, length, take};
-ghost use Rattle.meson_splice.specs.Borrowed.{splice_of};
+ghost use Rattle.meson_splice.specs.inside.Borrowed.{splice_of};
 ghost use Rattle.meson_splice.specs.Files.{bytes_at, position_of_file, with_bytes};
 ghost use Rattle.meson_splice.specs.Patch.{inverse_of, patched, patched_in, then_ok};
 ghost use Rattle.meson_splice.specs.declared.fault.SpliceFault.TheVariants.{OutOfMemory};

@@ -1,8 +1,8 @@
 //! Which way a change is gone through.
 
 ghost use Rattle.std.specs.Prelude.{◌+◌, ◌<◌, ◌∷◌, ◌≡◌, drop, length};
-ghost use Rattle.meson_splice.specs.Borrowed.{splice_of};
-ghost use Rattle.meson_splice.specs.Ordered.{ordered};
+ghost use Rattle.meson_splice.specs.inside.Borrowed.{splice_of};
+ghost use Rattle.meson_splice.specs.inside.Ordered.{ordered};
 
 use crate::splice::{Borrowed, Splice};
 

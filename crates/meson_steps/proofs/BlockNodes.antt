@@ -5,7 +5,7 @@ use Rattle.meson_syntax.specs.Tree.{Expression, identifier, boolean, integer, st
 use Rattle.meson_syntax.specs.Paths.{Sort, of_expression, of_statement, of_block, Node, Hole, nth, reach, block_of}
 use Rattle.meson_edit.specs.ExchangeStatements.{BlockAt, block_of_node, block_at}
 use Rattle.meson_syntax.specs.Parts.{Any, an_expression, a_statement, a_block, any_of, argument_parts, arguments_parts, listing_parts, operands_parts, tail_parts, tails_parts, expression_parts, branches_parts, otherwise_parts, statement_parts, statements_parts, node_at}
-use Rattle.meson_steps.specs.Layers.{block_any, next_layer}
+use Rattle.meson_steps.specs.inside.Layers.{block_any, next_layer}
 use Rattle.meson_syntax.proofs.PathNodes.{inside_of, reached}
 
 module _ (S : Type 0) where

@@ -24,7 +24,7 @@ use Rattle.meson_steps.specs.declared.held.HeldList.{HeldList}
 use Rattle.meson_steps.specs.declared.journal.SavedList.{SavedList}
 use Rattle.meson_steps.specs.declared.spans.ListSpot.{ListSpot}
 use Rattle.meson_steps.specs.declared.work.Work.{Work}
-use Rattle.meson_steps.specs.Held.{IsHeldOf, IsReadAgain}
+use Rattle.meson_steps.specs.inside.Held.{IsHeldOf, IsReadAgain}
 use Rattle.meson_steps.specs.Journal.{MayTakeMoved, settled_tree}
 use Rattle.meson_steps.specs.ListSteps.{wide_depth}
 use Rattle.meson_steps.specs.Steps.{bytes_again}

@@ -20,9 +20,9 @@ use Rattle.meson_steps.specs.declared.spans.ListSpot.{ListSpot}
 use Rattle.meson_steps.specs.declared.step.ListEdit.{ListEdit}
 use Rattle.meson_steps.specs.declared.step.ListStep.{ListStep}
 use Rattle.meson_steps.specs.declared.work.Work.{Work}
-use Rattle.meson_steps.specs.Held.{IsHeld, settled}
+use Rattle.meson_steps.specs.inside.Held.{IsHeld, settled}
 use Rattle.meson_steps.specs.Journal.{settled_tree}
-use Rattle.meson_steps.specs.Laying.{AreLaid}
+use Rattle.meson_steps.specs.inside.Laying.{AreLaid}
 use Rattle.meson_steps.specs.ListSteps.{bare, edits_list}
 use Rattle.meson_steps.specs.Steps.{Step, effective}
 use Rattle.meson_steps.specs.Working.{HasReached, IsChanged, MayChangeList, Standing, list_again, looked_at, placed_edit, placed_in}

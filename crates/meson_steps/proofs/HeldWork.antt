@@ -18,7 +18,7 @@ use Rattle.meson_steps.specs.declared.journal.Saved.{Saved}
 use Rattle.meson_steps.specs.declared.journal.Saved.TheVariants as saved
 use Rattle.meson_steps.specs.declared.spans.ListSpot.{ListSpot}
 use Rattle.meson_steps.specs.declared.work.Work.{Work}
-use Rattle.meson_steps.specs.Held.{IsHeldOf, IsReadAgain, IsSettled, settled}
+use Rattle.meson_steps.specs.inside.Held.{IsHeldOf, IsReadAgain, IsSettled, settled}
 use Rattle.meson_steps.specs.Journal.{IsSavedToo, changed_tree, saved_file, is_saved, settled_tree}
 use Rattle.meson_steps.specs.ListSteps.{AreDoable}
 use Rattle.meson_steps.specs.ResultLimits.{plain_trees, saturated}

@@ -18,7 +18,7 @@ use Rattle.meson_syntax.specs.Tree.{Nowhere, Arguments, plain, arguments_of}
 use Rattle.meson_syntax.specs.Grammar.{arguments_words, LevelArguments, Flagged, arguments_depth}
 use Rattle.meson_calls.specs.declared.refusal.Refusal.{Refusal}
 use Rattle.meson_steps.specs.WrittenTexts.{string_of, array_of_values, comma_between, written_text, written_texts}
-use Rattle.meson_steps.specs.WrittenValues.{WrittenFor, IsSet}
+use Rattle.meson_steps.specs.inside.WrittenValues.{WrittenFor, IsSet}
 
 -- ---- one text
 

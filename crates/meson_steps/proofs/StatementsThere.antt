@@ -15,7 +15,7 @@ use Rattle.meson_syntax.specs.Parts.{Any, rust_branches_parts}
 use Rattle.meson_syntax.specs.Paths.{nth}
 use Rattle.meson_syntax.specs.View.{expr_view, stmt_view, stmts_view, block_view}
 use Rattle.meson_syntax.proofs.PartsOf.{view-block}
-use Rattle.meson_steps.specs.Layers.{block_any}
+use Rattle.meson_steps.specs.inside.Layers.{block_any}
 use Rattle.meson_calls.proofs.StatementParts.{branch_block}
 
 -- ---- the blocks of a selection

@@ -18,7 +18,7 @@ use Rattle.meson_steps.specs.declared.step.ListStep.{ListStep}
 use Rattle.meson_steps.specs.ListSteps.{bare, bare_edit, edits_list, path_of}
 use Rattle.meson_calls.specs.Loading.{Loaded, name_of_file}
 use Rattle.meson_calls.specs.Project.{place}
-use Rattle.meson_steps.specs.Laying.{AreLaid}
+use Rattle.meson_steps.specs.inside.Laying.{AreLaid}
 use Rattle.meson_steps.specs.Steps.{Step, bytes_again, effective}
 use Rattle.meson_steps.specs.Working.{HasReached, IsChanged, MayBeLaid, MayChange, MayChangeList, Standing, list_again, looked_at, placed_edit}
 use Rattle.meson_steps.proofs.SameRead.{same_read}

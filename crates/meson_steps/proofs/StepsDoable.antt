@@ -10,7 +10,7 @@ use Rattle.meson_syntax.specs.Paths.{nth}
 use Rattle.meson_edit.specs.Edits.{Written, edited}
 use Rattle.meson_edit.specs.Places.{IsWritten, Writes}
 use Rattle.meson_steps.specs.ListSteps.{MayStandBetween, AreDoable, one}
-use Rattle.meson_steps.specs.WrittenValues.{IsSet}
+use Rattle.meson_steps.specs.inside.WrittenValues.{IsSet}
 use Rattle.meson_steps.specs.WrittenTexts.{string_of, written_text}
 use Rattle.meson_steps.specs.Steps.{Step}
 use Rattle.meson_steps.proofs.SetLiterals.{text_set}

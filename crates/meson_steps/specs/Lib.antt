@@ -7,10 +7,7 @@ pub mod Plans
 pub mod Done
 pub mod Working
 pub mod OneStanding
-pub mod Held
-pub mod Laying
-pub mod Layers
-pub mod WrittenValues
 pub mod Meanings
 pub mod Names
 pub mod WrittenTexts
+pub mod inside

@@ -4,9 +4,9 @@ ghost use Rattle.std.specs.Prelude.{◌<◌, ◌≡◌, IfErr, IfOk, OnOk, Some,
 ghost use Rattle.meson_splice.specs.Saved.{bytes_put_back};
 ghost use Rattle.meson_syntax.specs.declared.tree.Parsed.{Parsed};
 ghost use Rattle.meson_calls.specs.Loading.{Loaded};
-ghost use Rattle.meson_steps.specs.Held.{DoesStep, IsHeld, IsHeldThen, IsReadAgain, IsSettled, MayHold, settled};
+ghost use Rattle.meson_steps.specs.inside.Held.{DoesStep, IsHeld, IsHeldThen, IsReadAgain, IsSettled, MayHold, settled};
 ghost use Rattle.meson_steps.specs.Journal.{settled_tree};
-ghost use Rattle.meson_steps.specs.Laying.{AreLaid};
+ghost use Rattle.meson_steps.specs.inside.Laying.{AreLaid};
 ghost use Rattle.meson_steps.specs.ListSteps.{edits_list};
 ghost use Rattle.meson_steps.specs.Working.{IsNext, MayChangeList, MayReadList, Restores, standing, tree_of};
 

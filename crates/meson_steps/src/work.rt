@@ -8,11 +8,11 @@ ghost use Rattle.meson_splice.specs.Saved.{bytes_put_back};
 ghost use Rattle.meson_steps.specs.Done.{IsDone, MayNotBeDone, Meaning};
 ghost use Rattle.meson_calls.specs.Loading.{IsProject, Loaded};
 ghost use Rattle.meson_calls.specs.Refusals.{IfRefused};
-ghost use Rattle.meson_steps.specs.Laying.{AreLaid};
+ghost use Rattle.meson_steps.specs.inside.Laying.{AreLaid};
 ghost use Rattle.meson_steps.specs.Plans.{ArePlanned};
 ghost use Rattle.meson_steps.specs.Steps as meant;
 ghost use Rattle.meson_steps.specs.Working.{AreShallowSoFar, HasDeep, HasLarge, IsChanged, IsFresh, IsNext, IsUnderWay, MayChange, Reached, Restores, so_far, standing, tree_of};
-ghost use Rattle.meson_steps.specs.Held.{DoesStep, MayHold, settled};
+ghost use Rattle.meson_steps.specs.inside.Held.{DoesStep, MayHold, settled};
 
 use crate::held::HeldList;
 use crate::journal::{Saved, exchange, is_saved};

@@ -7,7 +7,7 @@ use Rattle.meson_store.specs.Calls.{counted, one_more}
 use Rattle.meson_store.specs.Content.{Content, content_with}
 use Rattle.meson_store.specs.declared.committing.Planned.{Planned}
 use Rattle.meson_store.specs.Commit.{Put, path_in, put_at, puts, put_all, names_of}
-use Rattle.meson_store.specs.Planned.{put_of}
+use Rattle.meson_store.specs.inside.Planned.{put_of}
 
 -- the bytes that a file gets at that path, and those that it held
 abbrev put : List ℕ → List ℕ → List ℕ → List ℕ → Put

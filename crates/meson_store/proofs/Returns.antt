@@ -4,7 +4,7 @@ use Rattle.std.proofs.lemmas.List.{length-map, map-append, reverse-append, take-
 use Rattle.std.proofs.Math.Seq.{get_or-append_seam, take-append-add, take-append_seam}
 use Rattle.std.specs.Prelude.{slice_index_or, string_bytes}
 use Rattle.meson_store.specs.Commit.{GoBack, Put, Stops, all_back, is_back, is_lost, names_of, to_go_back, tries}
-use Rattle.meson_store.specs.Planned.{put_of}
+use Rattle.meson_store.specs.inside.Planned.{put_of}
 use Rattle.meson_store.specs.Seen.{IsNotReplaced, IsReplaced, Seen}
 use Rattle.meson_store.specs.declared.committing.Planned.{Planned}
 use Rattle.meson_store.specs.declared.store.StoreError.{StoreError}

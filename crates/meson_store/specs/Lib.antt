@@ -2,8 +2,8 @@ pub mod Content
 pub mod Calls
 pub mod Seen
 pub mod Commit
-pub mod Planned
 pub mod MemoryStore
 pub mod Output
 pub mod Messages
 pub mod Laws
+pub mod inside

@@ -4,7 +4,7 @@ ghost use Rattle.std.specs.Prelude.{◌≡◌, ◌≤◌, ◌<◌, ◌+◌, ◌^
 ghost use Rattle.std.specs.Prelude.{IfOk, IfErr, OnOk, string_bytes};
 ghost use Rattle.meson_store.specs.Commit.{AreReplaced, CommitFails, GoBack, Stops, TakesBack, fault_of, names_of, path_in, puts, tries};
 ghost use Rattle.meson_store.specs.Seen.{seen_by};
-ghost use Rattle.meson_store.specs.Planned.{put_of};
+ghost use Rattle.meson_store.specs.inside.Planned.{put_of};
 
 use crate::{Store, StoreError, StoreFault};
 use meson_splice::{FileSet, Many, Text};

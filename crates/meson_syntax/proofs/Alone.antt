@@ -5,10 +5,10 @@ use Rattle.meson_lex.specs.declared.kinds.Kind.TheVariants as k
 use Rattle.meson_lex.specs.declared.kinds.Span.{Span}
 use Rattle.meson_lex.specs.Located.{Token}
 use Rattle.meson_syntax.specs.declared.operator.StringKind.TheVariants as quotes
-use Rattle.meson_syntax.specs.Input.{Input, Parser, and_then, from, kind, left, name_next, next, sees, span_from, text_ahead}
-use Rattle.meson_syntax.specs.Reading.{answered, choice, identified, number, postfixed, primary, quoted, row_at, row_of, tails, tails_from, truth, unaried, unary_by, unary_of, with_tails}
-use Rattle.meson_syntax.specs.Rows.{row_with}
-use Rattle.meson_syntax.specs.Alone.{begins_alone, ends_expression, is_alone, is_single, tailed}
+use Rattle.meson_syntax.specs.inside.Input.{Input, Parser, and_then, from, kind, left, name_next, next, sees, span_from, text_ahead}
+use Rattle.meson_syntax.specs.inside.Reading.{answered, choice, identified, number, postfixed, primary, quoted, row_at, row_of, tails, tails_from, truth, unaried, unary_by, unary_of, with_tails}
+use Rattle.meson_syntax.specs.inside.Rows.{row_with}
+use Rattle.meson_syntax.specs.inside.Alone.{begins_alone, ends_expression, is_alone, is_single, tailed}
 use Rattle.meson_syntax.specs.Tree.{Expression, boolean, identifier, integer, string}
 use Rattle.meson_syntax.proofs.Rows.{row_at-with, row_with-none}
 use Rattle.meson_syntax.proofs.parsing.Splits.{bind-is, not-sees}

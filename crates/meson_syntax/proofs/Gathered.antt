@@ -10,7 +10,7 @@ use Rattle.meson_lex.specs.Lexed.{with_spans, IsLexed, Tiles}
 use Rattle.meson_lex.specs.Significant.{Role, Gap, Ends, Opens, Closes, Other, role, State, step, step_by, after}
 use Rattle.meson_lex.specs.Located.{Token, spot_by, end_by, spots, end_after, located}
 use Rattle.meson_syntax.specs.View.{text_at}
-use Rattle.meson_syntax.specs.Gathering.{GatheredTokens, no_tokens, spot_for, end_for, gathered_with, gathered_tokens, IsFaulty, AreTokens}
+use Rattle.meson_syntax.specs.inside.Gathering.{GatheredTokens, no_tokens, spot_for, end_for, gathered_with, gathered_tokens, IsFaulty, AreTokens}
 use Rattle.meson_syntax.proofs.Slices.{slice_range-part}
 
 pred-below : (n : ℕ) → pred n ≤ suc n

@@ -17,7 +17,7 @@ use Rattle.meson_syntax.specs.Tree.{Expression, Listing, listing, Argument, plai
 use Rattle.meson_syntax.specs.Grammar.{mark, comma_words, operator_words, expression_words, tail_words, tails_words, argument_words, arguments_words}
 use Rattle.meson_syntax.specs.Paths.{of_expression, all_around, argument_children, arguments_children, listing_children, operands_children, tail_children, tails_children}
 use Rattle.meson_syntax.specs.Parts.{argument_parts, tail_parts}
-use Rattle.meson_syntax.specs.Putting.{put_among, put_in, ahead, IsSpot, operand_child}
+use Rattle.meson_syntax.specs.inside.Putting.{put_among, put_in, ahead, IsSpot, operand_child}
 use Rattle.meson_syntax.specs.View.{arg_view, args_view, tail_view, tails_view, operand_view, operands_view, expr_view, list_view}
 use Rattle.meson_syntax.proofs.PathNodes.{tail-count}
 use Rattle.meson_syntax.proofs.Putting.{made, put-around, put-first, put-later, put-at, put-past, with-all}

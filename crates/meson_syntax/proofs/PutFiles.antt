@@ -4,7 +4,7 @@ use Rattle.std.proofs.Common.{◌≡◌, ℕ, List, [], ◌∷◌, Option, Some,
 use Rattle.meson_lex.specs.Significant.{Word}
 use Rattle.meson_syntax.specs.Tree.{Listing, Block, File}
 use Rattle.meson_syntax.specs.Paths.{Sort, of_expression, of_statement, of_block, Node, Hole, around, nth_hole, reach, block_of, with_block, ListIn, list_in, ListAt, list_within, list_of_node, list_at}
-use Rattle.meson_syntax.specs.Putting.{put_own, put_here, in_hole, put_in}
+use Rattle.meson_syntax.specs.inside.Putting.{put_own, put_here, in_hole, put_in}
 use Rattle.meson_syntax.proofs.parsing.Steps.{some-injective}
 use Rattle.meson_syntax.proofs.paths.Reaching.{map-some, and-then-some, reach-fits}
 use Rattle.meson_syntax.proofs.paths.StatementChildren.{child-fits}

@@ -18,7 +18,7 @@ use Rattle.meson_syntax.specs.LendsItems.{with_all}
 use Rattle.meson_syntax.specs.Tree.{Expression, Listing, Statement, evaluate, assign, selection, iteration, Statements, statement, Branches, branch, Otherwise, otherwise, Block, block, branches_of, statements_of}
 use Rattle.meson_syntax.specs.Grammar.{mark, expression_words, statement_words, block_words, branches_words, otherwise_words}
 use Rattle.meson_syntax.specs.Paths.{of_expression, of_statement, of_block, all_around, around, branches_children, otherwise_children, statement_children, statements_children, block_children}
-use Rattle.meson_syntax.specs.Putting.{put_among, put_in, ahead, statement_child, branch_child}
+use Rattle.meson_syntax.specs.inside.Putting.{put_among, put_in, ahead, statement_child, branch_child}
 use Rattle.meson_syntax.specs.View.{name_at, names_at, expr_view, stmt_view, stmts_view, block_view, branch_view, branches_view, otherwise_view}
 use Rattle.meson_syntax.proofs.PartsOf.{view-block}
 use Rattle.meson_syntax.proofs.Putting.{made, put-around, put-first, put-later, put-at, put-past, with-all}

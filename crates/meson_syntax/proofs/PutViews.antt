@@ -16,7 +16,7 @@ use Rattle.meson_syntax.specs.declared.tree.Operand.{Operand}
 use Rattle.meson_syntax.specs.declared.operator.UnaryOperator.{UnaryOperator}
 use Rattle.meson_syntax.specs.Tree.{Expression, paren, array, dictionary, call, unary, row, postfix, conditional, operands_of, tails_of, Listing, plain, named, pair, method, index}
 use Rattle.meson_syntax.specs.Paths.{Sort, of_expression, Node, Hole, children, all_around, expression_in, listing_children}
-use Rattle.meson_syntax.specs.Putting.{put_among, put_here, put_in, only_child}
+use Rattle.meson_syntax.specs.inside.Putting.{put_among, put_here, put_in, only_child}
 use Rattle.meson_syntax.specs.View.{name_at, expr_view, arg_view, tail_view, list_view, operands_view, tails_view}
 use Rattle.meson_syntax.proofs.Putting.{made, put-around, put-only, put-past-holes}
 

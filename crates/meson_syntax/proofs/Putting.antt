@@ -5,7 +5,7 @@ use Rattle.meson_syntax.specs.Tree.{Listing, Expression}
 use Rattle.meson_syntax.specs.Paths.{Hole, all_around, expression_in}
 use Rattle.meson_syntax.specs.LendsItems.{with_all}
 use Rattle.meson_syntax.specs.Parts.{Found, found, left, look}
-use Rattle.meson_syntax.specs.Putting.{put_among, ahead, only_child}
+use Rattle.meson_syntax.specs.inside.Putting.{put_among, ahead, only_child}
 
 -- the answer in a part, with the part in its place
 abbrev pub made : {S T U : Type 0} → (T → U) → Listing S × T → Listing S × U

@@ -3,9 +3,9 @@ use Rattle.std.proofs.Common.{◌≡◌, ℕ, zero, suc, ◌+◌, ◌-◌, ◌<�
 use Rattle.std.proofs.lemmas.Bool.{cases_lt}
 use Rattle.std.proofs.lemmas.Grind.{common_steps}
 use Rattle.meson_lex.specs.declared.kinds.Span.{Span}
-use Rattle.meson_syntax.specs.Input.{Input, Outcome, Parser, and_then, from, kind, left, span_from}
-use Rattle.meson_syntax.specs.Reading.{operands_from, row_at, row_of, unaried, with_operands}
-use Rattle.meson_syntax.specs.Rows.{operands, row_with}
+use Rattle.meson_syntax.specs.inside.Input.{Input, Outcome, Parser, and_then, from, kind, left, span_from}
+use Rattle.meson_syntax.specs.inside.Reading.{operands_from, row_at, row_of, unaried, with_operands}
+use Rattle.meson_syntax.specs.inside.Rows.{operands, row_with}
 use Rattle.meson_syntax.specs.Tree.{Expression}
 
 and_then-pure : {A : Type 0} (o : Outcome A) → and_then o (λ a i. Some (a, i)) ≡ o

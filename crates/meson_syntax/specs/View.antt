@@ -152,3 +152,6 @@ module _ (source : List ℕ) where
 
   abbrev pub view : Parsed → File Span
   view p = file p.span (block_view p.block)
+
+abbrev pub Bytes : Type 0
+Bytes = List ℕ

@@ -3,12 +3,12 @@
 //! The rules are those of the Syntax page of the Meson manual.
 
 ghost use Rattle.std.specs.Prelude.{◌≡◌, ◌+◌, ◌<◌, ◌^◌, IfErr, IfOk, length, suc};
-ghost use Rattle.meson_syntax.specs.Cursor.{input};
-ghost use Rattle.meson_syntax.specs.Input.{GivesAll};
-ghost use Rattle.meson_syntax.specs.Nests.{IsGrammatical, NestsBlocks, Proceeds, AnswersAs};
-ghost use Rattle.meson_syntax.specs.Reading.{expression};
-ghost use Rattle.meson_syntax.specs.ReadingFiles as spec;
-ghost use Rattle.meson_syntax.specs.Tokens.{tokens_of};
+ghost use Rattle.meson_syntax.specs.inside.Cursor.{input};
+ghost use Rattle.meson_syntax.specs.inside.Input.{GivesAll};
+ghost use Rattle.meson_syntax.specs.inside.Nests.{IsGrammatical, NestsBlocks, Proceeds, AnswersAs};
+ghost use Rattle.meson_syntax.specs.inside.Reading.{expression};
+ghost use Rattle.meson_syntax.specs.inside.ReadingFiles as spec;
+ghost use Rattle.meson_syntax.specs.inside.Tokens.{tokens_of};
 ghost use Rattle.meson_syntax.specs.View.{block_view, expr_view, stmt_view, stmts_view, view};
 
 use crate::expression::read_expression;
@@ -21,7 +21,7 @@ use meson_lex::{Kind, Span};
 use std::alloc::Global;
 
 /// The tree of the file whose significant tokens these are, in which at most `depth` constructs stand inside one another.
-#[tactic(auto, unfolding(crate::specs::ReadingFiles::whole, crate::specs::Cursor::input))]
+#[tactic(auto, unfolding(crate::specs::inside::ReadingFiles::whole, crate::specs::inside::Cursor::input))]
 pub(crate) fn read_tokens(
     alloc: Global,
     source: &[u8],
@@ -94,7 +94,7 @@ impl<'a, F> Grammar<'a, F> {
     }
 
     /// The span of a block of these statements that are read and that began at `start`: from the first to the last, or empty.
-    #[tactic(auto, unfolding(crate::specs::Input::span_from))]
+    #[tactic(auto, unfolding(crate::specs::inside::Input::span_from))]
     fn block_span(&self, tokens: &Cursor<'_>, start: usize, statements: &[Stmt]) -> Span
         ensures { result ≡ spec.block_span start (stmts_view self.now.source.now statements.now) (input self.now.source.now tokens.now) }
     {
@@ -107,7 +107,7 @@ impl<'a, F> Grammar<'a, F> {
 
 impl<'a, F: Fn(Global, &[u8], &mut Cursor<'_>, usize) -> Result<Block, ParseFault>> Grammar<'a, F> {
     /// A block of a construct that stands here, behind a line end.
-    #[tactic(auto, unfolding(crate::specs::ReadingFiles::bodied))]
+    #[tactic(auto, unfolding(crate::specs::inside::ReadingFiles::bodied))]
     pub(crate) fn bodied(&self, tokens: &mut Cursor<'_>) -> Result<Block, ParseFault>
         requires { NestsBlocks self.now.depth (F.pre self.now.deeper) (F.post self.now.deeper) }
         ensures { Proceeds spec.bodied block_view self.now.source.now self.now.depth tokens.old result tokens.new }
@@ -131,7 +131,7 @@ impl<'a, F: Fn(Global, &[u8], &mut Cursor<'_>, usize) -> Result<Block, ParseFaul
     }
 
     /// The statements up to the end of their block, from the first to the last.
-    #[tactic(auto, unfolding(crate::specs::ReadingFiles::blocked))]
+    #[tactic(auto, unfolding(crate::specs::inside::ReadingFiles::blocked))]
     fn block(&self, tokens: &mut Cursor<'_>) -> Result<Block, ParseFault>
         requires { NestsBlocks self.now.depth (F.pre self.now.deeper) (F.post self.now.deeper) }
         ensures { Proceeds spec.blocked block_view self.now.source.now self.now.depth tokens.old result tokens.new }
@@ -143,7 +143,7 @@ impl<'a, F: Fn(Global, &[u8], &mut Cursor<'_>, usize) -> Result<Block, ParseFaul
     }
 
     /// The statements up to the end of their block, each with its line end.
-    #[tactic(auto, unfolding(crate::specs::ReadingFiles::statement_lines))]
+    #[tactic(auto, unfolding(crate::specs::inside::ReadingFiles::statement_lines))]
     fn lines(&self, tokens: &mut Cursor<'_>) -> Result<Many<Stmt>, ParseFault>
         requires { NestsBlocks self.now.depth (F.pre self.now.deeper) (F.post self.now.deeper) }
         ensures { Proceeds spec.statement_lines stmts_view self.now.source.now self.now.depth tokens.old result tokens.new }
@@ -160,7 +160,7 @@ impl<'a, F: Fn(Global, &[u8], &mut Cursor<'_>, usize) -> Result<Block, ParseFaul
     }
 
     /// A statement and its line end.
-    #[tactic(auto, unfolding(crate::specs::ReadingFiles::statement_line))]
+    #[tactic(auto, unfolding(crate::specs::inside::ReadingFiles::statement_line))]
     fn line(&self, tokens: &mut Cursor<'_>) -> Result<Stmt, ParseFault>
         requires { NestsBlocks self.now.depth (F.pre self.now.deeper) (F.post self.now.deeper) }
         ensures { Proceeds spec.statement_line stmt_view self.now.source.now self.now.depth tokens.old result tokens.new }

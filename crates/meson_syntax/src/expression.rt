@@ -2,8 +2,8 @@
 //!
 //! The rules are those of the Syntax page of the Meson manual.
 
-ghost use Rattle.meson_syntax.specs.Nests.{Follows, Nests, AnswersAs};
-ghost use Rattle.meson_syntax.specs.Reading as spec;
+ghost use Rattle.meson_syntax.specs.inside.Nests.{Follows, Nests, AnswersAs};
+ghost use Rattle.meson_syntax.specs.inside.Reading as spec;
 ghost use Rattle.meson_syntax.specs.View.{expr_view};
 
 use crate::boxed::Boxed;
@@ -68,7 +68,7 @@ impl<'a, F: Fn(Global, &[u8], &mut Cursor<'_>, usize) -> Result<Expr, ParseFault
 
     /// A conditional, or a tighter expression, of any length.
     #[inline(never)]
-    #[tactic(auto, unfolding(crate::specs::Reading::choice))]
+    #[tactic(auto, unfolding(crate::specs::inside::Reading::choice))]
     fn joined(&self, tokens: &mut Cursor<'_>) -> Result<Expr, ParseFault>
         requires { Nests self.now.depth (F.pre self.now.deeper) (F.post self.now.deeper) }
         ensures { Follows spec.choice expr_view self.now.source.now self.now.depth tokens.old result tokens.new }
@@ -82,7 +82,7 @@ impl<'a, F: Fn(Global, &[u8], &mut Cursor<'_>, usize) -> Result<Expr, ParseFault
     }
 
     /// A conditional, from the question mark behind its condition, which comes next; the condition began at `start`.
-    #[tactic(auto, unfolding(crate::specs::Reading::answered))]
+    #[tactic(auto, unfolding(crate::specs::inside::Reading::answered))]
     fn answered(
         &self,
         tokens: &mut Cursor<'_>,

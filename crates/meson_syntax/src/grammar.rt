@@ -1,13 +1,13 @@
 //! What the rules of the grammar stand on: the tokens that are left of a source, and the steps that each rule is made of.
 
 ghost use Rattle.std.specs.Prelude.{◌≡◌, IfErr, IfOk, length};
-ghost use Rattle.meson_syntax.specs.Alone as alone;
-ghost use Rattle.meson_syntax.specs.Cursor.{Bytes, input, place_of};
-ghost use Rattle.meson_syntax.specs.Input as spec;
-ghost use Rattle.meson_syntax.specs.Input.{Gives};
-ghost use Rattle.meson_syntax.specs.Nests.{IsGrammatical};
-ghost use Rattle.meson_syntax.specs.Tokens.{tokens_of};
-ghost use Rattle.meson_syntax.specs.View.{name_at, text_at};
+ghost use Rattle.meson_syntax.specs.inside.Alone as alone;
+ghost use Rattle.meson_syntax.specs.View.{Bytes, name_at, text_at};
+ghost use Rattle.meson_syntax.specs.inside.Cursor.{input, place_of};
+ghost use Rattle.meson_syntax.specs.inside.Input as spec;
+ghost use Rattle.meson_syntax.specs.inside.Input.{Gives};
+ghost use Rattle.meson_syntax.specs.inside.Nests.{IsGrammatical};
+ghost use Rattle.meson_syntax.specs.inside.Tokens.{tokens_of};
 
 use crate::fault::ParseFault;
 use crate::token::Token;
@@ -23,7 +23,7 @@ pub(crate) struct Cursor<'a> {
 }
 
 impl<'a> Model for Cursor<'a> {
-    ghost use Rattle.meson_syntax.specs.Cursor.{Cursor};
+    ghost use Rattle.meson_syntax.specs.inside.Cursor.{Cursor};
 
     ghost Value = { Cursor };
 
@@ -73,7 +73,7 @@ pub(crate) struct Grammar<'a, F> {
 }
 
 /// Whether the two are one kind.
-#[tactic(auto, unfolding(crate::specs::Input::same_kind))]
+#[tactic(auto, unfolding(crate::specs::inside::Input::same_kind))]
 fn same_kind(kind: Kind, other: Kind) -> bool
     ensures { result ≡ spec.same_kind kind other }
 {
@@ -120,7 +120,7 @@ fn begins_end(tokens: &[Token]) -> bool
 
 impl<'a, F> Grammar<'a, F> {
     /// The kind of the next token.
-    #[tactic(auto, unfolding(crate::specs::Input::kind, crate::specs::Cursor::input))]
+    #[tactic(auto, unfolding(crate::specs::inside::Input::kind, crate::specs::inside::Cursor::input))]
     pub(crate) fn peek(&self, tokens: &Cursor<'_>) -> Option<Kind>
         ensures { result ≡ spec.kind (input self.now.source.now tokens.now) }
     {
@@ -131,7 +131,7 @@ impl<'a, F> Grammar<'a, F> {
     }
 
     /// Where the next token begins.
-    #[tactic(auto, unfolding(crate::specs::Input::from, crate::specs::Cursor::input))]
+    #[tactic(auto, unfolding(crate::specs::inside::Input::from, crate::specs::inside::Cursor::input))]
     pub(crate) fn from(&self, tokens: &Cursor<'_>) -> usize
         ensures { result ≡ spec.from (input self.now.source.now tokens.now) }
     {
@@ -142,7 +142,7 @@ impl<'a, F> Grammar<'a, F> {
     }
 
     /// From a place to the end of the last token.
-    #[tactic(auto, unfolding(crate::specs::Input::span_from, crate::specs::Cursor::input))]
+    #[tactic(auto, unfolding(crate::specs::inside::Input::span_from, crate::specs::inside::Cursor::input))]
     pub(crate) fn since(&self, tokens: &Cursor<'_>, from: usize) -> Span
         ensures { result ≡ spec.span_from from (input self.now.source.now tokens.now) }
     {
@@ -153,7 +153,7 @@ impl<'a, F> Grammar<'a, F> {
     }
 
     /// How many tokens are left.
-    #[tactic(auto, unfolding(crate::specs::Input::left, crate::specs::Cursor::input))]
+    #[tactic(auto, unfolding(crate::specs::inside::Input::left, crate::specs::inside::Cursor::input))]
     pub(crate) fn left(&self, tokens: &Cursor<'_>) -> usize
         ensures { result ≡ spec.left (input self.now.source.now tokens.now) }
     {
@@ -161,7 +161,7 @@ impl<'a, F> Grammar<'a, F> {
     }
 
     /// Where the last token ended.
-    #[tactic(auto, unfolding(crate::specs::Cursor::input))]
+    #[tactic(auto, unfolding(crate::specs::inside::Cursor::input))]
     pub(crate) fn last(&self, tokens: &Cursor<'_>) -> usize
         ensures { result ≡ (input self.now.source.now tokens.now).last }
     {
@@ -169,7 +169,7 @@ impl<'a, F> Grammar<'a, F> {
     }
 
     /// Whether a token of this kind comes next.
-    #[tactic(auto, unfolding(crate::specs::Input::sees, crate::specs::Cursor::input))]
+    #[tactic(auto, unfolding(crate::specs::inside::Input::sees, crate::specs::inside::Cursor::input))]
     pub(crate) fn sees(&self, tokens: &Cursor<'_>, kind: Kind) -> bool
         ensures { result ≡ spec.sees kind (input self.now.source.now tokens.now) }
     {
@@ -177,7 +177,7 @@ impl<'a, F> Grammar<'a, F> {
     }
 
     /// Whether tokens of these two kinds come next.
-    #[tactic(auto, unfolding(crate::specs::Input::sees_two, crate::specs::Cursor::input))]
+    #[tactic(auto, unfolding(crate::specs::inside::Input::sees_two, crate::specs::inside::Cursor::input))]
     pub(crate) fn sees_two(&self, tokens: &Cursor<'_>, kind: Kind, second: Kind) -> bool
         ensures { result ≡ spec.sees_two kind second (input self.now.source.now tokens.now) }
     {
@@ -188,7 +188,7 @@ impl<'a, F> Grammar<'a, F> {
     }
 
     /// Whether the next token is an expression by itself, and none goes on with the one behind it.
-    #[tactic(auto, unfolding(crate::specs::Alone::is_alone, crate::specs::Cursor::input))]
+    #[tactic(auto, unfolding(crate::specs::inside::Alone::is_alone, crate::specs::inside::Cursor::input))]
     pub(crate) fn is_alone(&self, tokens: &Cursor<'_>) -> bool
         ensures { result ≡ alone.is_alone (input self.now.source.now tokens.now) }
     {
@@ -199,7 +199,7 @@ impl<'a, F> Grammar<'a, F> {
     }
 
     /// Takes the next token, and gives its span.
-    #[tactic(auto, unfolding(crate::specs::Input::text_ahead, crate::specs::Input::next, crate::specs::Input::from, crate::specs::Input::span_from, crate::specs::Input::name_next, crate::specs::Cursor::input))]
+    #[tactic(auto, unfolding(crate::specs::inside::Input::text_ahead, crate::specs::inside::Input::next, crate::specs::inside::Input::from, crate::specs::inside::Input::span_from, crate::specs::inside::Input::name_next, crate::specs::inside::Cursor::input))]
     pub(crate) fn take(&self, tokens: &mut Cursor<'_>) -> Span
         ensures text { text_at self.now.source.now result ≡ spec.text_ahead (input self.now.source.now tokens.old) }
         ensures name { name_at self.now.source.now result ≡ spec.name_next (input self.now.source.now tokens.old) }
@@ -220,7 +220,7 @@ impl<'a, F> Grammar<'a, F> {
     }
 
     /// Takes the next token if it is of this kind, and says whether it was.
-    #[tactic(auto, unfolding(crate::specs::Input::after_kind))]
+    #[tactic(auto, unfolding(crate::specs::inside::Input::after_kind))]
     pub(crate) fn eat(&self, tokens: &mut Cursor<'_>, kind: Kind) -> bool
         ensures found { result ≡ spec.sees kind (input self.now.source.now tokens.old) }
         ensures after { input self.now.source.now tokens.new ≡ spec.after_kind kind (input self.now.source.now tokens.old) }
@@ -233,7 +233,7 @@ impl<'a, F> Grammar<'a, F> {
     }
 
     /// Takes the next token, which has to be of this kind.
-    #[tactic(auto, unfolding(crate::specs::Input::expect))]
+    #[tactic(auto, unfolding(crate::specs::inside::Input::expect))]
     pub(crate) fn expect(&self, tokens: &mut Cursor<'_>, kind: Kind) -> Result<(), ParseFault>
         ensures gives { Gives (λ u. u) (spec.expect kind (input self.now.source.now tokens.old)) result (input self.now.source.now tokens.new) }
         ensures grammatical { IfErr result IsGrammatical }

@@ -3,12 +3,11 @@
 //! The rules are those of the Syntax page of the Meson manual.
 
 ghost use Rattle.std.specs.Prelude.{◌≡◌};
-ghost use Rattle.meson_syntax.specs.Cursor.{Bytes};
-ghost use Rattle.meson_syntax.specs.Nests.{Follows, Nests, elements_view};
+ghost use Rattle.meson_syntax.specs.View.{Bytes, arg_view, list_view};
+ghost use Rattle.meson_syntax.specs.inside.Nests.{Follows, Nests, elements_view};
 ghost use Rattle.meson_syntax.specs.Operators as operators;
-ghost use Rattle.meson_syntax.specs.Reading as spec;
+ghost use Rattle.meson_syntax.specs.inside.Reading as spec;
 ghost use Rattle.meson_syntax.specs.Tree.{is_named};
-ghost use Rattle.meson_syntax.specs.View.{arg_view, list_view};
 
 use crate::fault::ParseFault;
 use crate::grammar::{Cursor, Grammar};
@@ -53,7 +52,7 @@ fn is_named(element: &Arg) -> bool
 
 impl<'a, F: Fn(Global, &[u8], &mut Cursor<'_>, usize) -> Result<Expr, ParseFault>> Grammar<'a, F> {
     /// A list from its opening bracket, which comes next, to the closing one.
-    #[tactic(auto, unfolding(crate::specs::Reading::listed))]
+    #[tactic(auto, unfolding(crate::specs::inside::Reading::listed))]
     pub(crate) fn listed(
         &self,
         tokens: &mut Cursor<'_>,
@@ -83,7 +82,7 @@ impl<'a, F: Fn(Global, &[u8], &mut Cursor<'_>, usize) -> Result<Expr, ParseFault
     }
 
     /// The elements up to the closing bracket and that, with whether a comma stands before it.
-    #[tactic(auto, unfolding(crate::specs::Reading::listed_elements))]
+    #[tactic(auto, unfolding(crate::specs::inside::Reading::listed_elements))]
     fn elements(
         &self,
         tokens: &mut Cursor<'_>,
@@ -112,7 +111,7 @@ impl<'a, F: Fn(Global, &[u8], &mut Cursor<'_>, usize) -> Result<Expr, ParseFault
     }
 
     /// An element; `seen` says whether one with a name came before.
-    #[tactic(auto, unfolding(crate::specs::Reading::listed_element))]
+    #[tactic(auto, unfolding(crate::specs::inside::Reading::listed_element))]
     fn element(
         &self,
         tokens: &mut Cursor<'_>,
@@ -137,7 +136,7 @@ impl<'a, F: Fn(Global, &[u8], &mut Cursor<'_>, usize) -> Result<Expr, ParseFault
     }
 
     /// An argument with a name, which comes next with its colon.
-    #[tactic(auto, unfolding(crate::specs::Reading::named_argument))]
+    #[tactic(auto, unfolding(crate::specs::inside::Reading::named_argument))]
     fn with_name(&self, tokens: &mut Cursor<'_>) -> Result<Arg, ParseFault>
         requires { Nests self.now.depth (F.pre self.now.deeper) (F.post self.now.deeper) }
         ensures { Follows spec.named_argument arg_view self.now.source.now self.now.depth tokens.old result tokens.new }
@@ -151,7 +150,7 @@ impl<'a, F: Fn(Global, &[u8], &mut Cursor<'_>, usize) -> Result<Expr, ParseFault
     }
 
     /// An element without a name; `seen` says whether one with a name came before.
-    #[tactic(auto, unfolding(crate::specs::Reading::without_name))]
+    #[tactic(auto, unfolding(crate::specs::inside::Reading::without_name))]
     fn without_name(&self, tokens: &mut Cursor<'_>, seen: bool) -> Result<Arg, ParseFault>
         requires { Nests self.now.depth (F.pre self.now.deeper) (F.post self.now.deeper) }
         ensures { Follows (λ room inner. spec.without_name room inner seen) arg_view self.now.source.now self.now.depth tokens.old result tokens.new }
@@ -163,7 +162,7 @@ impl<'a, F: Fn(Global, &[u8], &mut Cursor<'_>, usize) -> Result<Expr, ParseFault
     }
 
     /// A key, a colon and a value.
-    #[tactic(auto, unfolding(crate::specs::Reading::paired))]
+    #[tactic(auto, unfolding(crate::specs::inside::Reading::paired))]
     fn paired(&self, tokens: &mut Cursor<'_>) -> Result<Arg, ParseFault>
         requires { Nests self.now.depth (F.pre self.now.deeper) (F.post self.now.deeper) }
         ensures { Follows spec.paired arg_view self.now.source.now self.now.depth tokens.old result tokens.new }

@@ -1,12 +1,12 @@
 //! A text that is one list.
 
 ghost use Rattle.std.specs.Prelude.{◌≡◌, ◌+◌, ◌<◌, ◌^◌, IfErr, IfOk, length};
-ghost use Rattle.meson_syntax.specs.Input.{GivesAll};
-ghost use Rattle.meson_syntax.specs.Nests.{IsGrammatical};
+ghost use Rattle.meson_syntax.specs.inside.Input.{GivesAll};
+ghost use Rattle.meson_syntax.specs.inside.Nests.{IsGrammatical};
 ghost use Rattle.meson_syntax.specs.Reads.{Is, IsUnreadableWithin, Refuses};
 ghost use Rattle.meson_syntax.specs.ReadsList.{IsSpannedList, IsSpannedListWithin, MayRefuseList, MayRefuseListWithin, ReadsList, ReadsListWithin, of_lists, of_lists_within};
-ghost use Rattle.meson_syntax.specs.ReadingLists as spec;
-ghost use Rattle.meson_syntax.specs.Tokens.{tokens_of};
+ghost use Rattle.meson_syntax.specs.inside.ReadingLists as spec;
+ghost use Rattle.meson_syntax.specs.inside.Tokens.{tokens_of};
 ghost use Rattle.meson_syntax.specs.Tree.{Listing, Nowhere, erase_listing};
 ghost use Rattle.meson_syntax.specs.View.{list_view};
 ghost use Rattle.meson_syntax.specs.declared.fault.ParseFault.{ParseFault};
@@ -57,7 +57,7 @@ pub fn parse_list_within(
 }
 
 /// The list that is all of the source, whose significant tokens these are.
-#[tactic(auto, unfolding(crate::specs::ReadingLists::whole_list, crate::specs::ReadingLists::bracketed, crate::specs::Cursor::input))]
+#[tactic(auto, unfolding(crate::specs::inside::ReadingLists::whole_list, crate::specs::inside::ReadingLists::bracketed, crate::specs::inside::Cursor::input))]
 fn read_list(
     alloc: Global,
     source: &[u8],

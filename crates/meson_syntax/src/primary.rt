@@ -2,8 +2,8 @@
 //!
 //! The rules are those of the Syntax page of the Meson manual.
 
-ghost use Rattle.meson_syntax.specs.Nests.{Follows, Nests};
-ghost use Rattle.meson_syntax.specs.Reading as spec;
+ghost use Rattle.meson_syntax.specs.inside.Nests.{Follows, Nests};
+ghost use Rattle.meson_syntax.specs.inside.Reading as spec;
 ghost use Rattle.meson_syntax.specs.View.{expr_view};
 
 use crate::fault::ParseFault;
@@ -15,7 +15,7 @@ use std::alloc::Global;
 
 impl<'a, F: Fn(Global, &[u8], &mut Cursor<'_>, usize) -> Result<Expr, ParseFault>> Grammar<'a, F> {
     /// An expression whose kind its first token tells.
-    #[tactic(auto, unfolding(crate::specs::Reading::primary))]
+    #[tactic(auto, unfolding(crate::specs::inside::Reading::primary))]
     pub(crate) fn primary(&self, tokens: &mut Cursor<'_>) -> Result<Expr, ParseFault>
         requires { Nests self.now.depth (F.pre self.now.deeper) (F.post self.now.deeper) }
         ensures { Follows spec.primary expr_view self.now.source.now self.now.depth tokens.old result tokens.new }
@@ -37,7 +37,7 @@ impl<'a, F: Fn(Global, &[u8], &mut Cursor<'_>, usize) -> Result<Expr, ParseFault
     }
 
     /// A variable or a call, from its identifier, which comes next.
-    #[tactic(auto, unfolding(crate::specs::Reading::identified))]
+    #[tactic(auto, unfolding(crate::specs::inside::Reading::identified))]
     fn identified(&self, tokens: &mut Cursor<'_>) -> Result<Expr, ParseFault>
         requires { Nests self.now.depth (F.pre self.now.deeper) (F.post self.now.deeper) }
         ensures { Follows spec.identified expr_view self.now.source.now self.now.depth tokens.old result tokens.new }
@@ -56,7 +56,7 @@ impl<'a, F: Fn(Global, &[u8], &mut Cursor<'_>, usize) -> Result<Expr, ParseFault
     }
 
     /// `true` or `false`, as `value` says, which comes next.
-    #[tactic(auto, unfolding(crate::specs::Reading::truth))]
+    #[tactic(auto, unfolding(crate::specs::inside::Reading::truth))]
     fn truth(&self, tokens: &mut Cursor<'_>, value: bool) -> Result<Expr, ParseFault>
         ensures { Follows (λ room inner. spec.truth room inner value) expr_view self.now.source.now self.now.depth tokens.old result tokens.new }
     {
@@ -65,7 +65,7 @@ impl<'a, F: Fn(Global, &[u8], &mut Cursor<'_>, usize) -> Result<Expr, ParseFault
     }
 
     /// A number, which comes next.
-    #[tactic(auto, unfolding(crate::specs::Reading::number))]
+    #[tactic(auto, unfolding(crate::specs::inside::Reading::number))]
     fn number(&self, tokens: &mut Cursor<'_>) -> Result<Expr, ParseFault>
         ensures { Follows spec.number expr_view self.now.source.now self.now.depth tokens.old result tokens.new }
     {
@@ -73,7 +73,7 @@ impl<'a, F: Fn(Global, &[u8], &mut Cursor<'_>, usize) -> Result<Expr, ParseFault
     }
 
     /// A string of this kind, which comes next.
-    #[tactic(auto, unfolding(crate::specs::Reading::quoted))]
+    #[tactic(auto, unfolding(crate::specs::inside::Reading::quoted))]
     fn quoted(&self, tokens: &mut Cursor<'_>, kind: StringKind) -> Result<Expr, ParseFault>
         ensures { Follows (λ room inner. spec.quoted room inner kind) expr_view self.now.source.now self.now.depth tokens.old result tokens.new }
     {
@@ -82,7 +82,7 @@ impl<'a, F: Fn(Global, &[u8], &mut Cursor<'_>, usize) -> Result<Expr, ParseFault
     }
 
     /// An expression in round brackets, the first of which comes next.
-    #[tactic(auto, unfolding(crate::specs::Reading::parenthesized))]
+    #[tactic(auto, unfolding(crate::specs::inside::Reading::parenthesized))]
     fn parenthesized(&self, tokens: &mut Cursor<'_>) -> Result<Expr, ParseFault>
         requires { Nests self.now.depth (F.pre self.now.deeper) (F.post self.now.deeper) }
         ensures { Follows spec.parenthesized expr_view self.now.source.now self.now.depth tokens.old result tokens.new }

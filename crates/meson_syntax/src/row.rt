@@ -3,9 +3,9 @@
 //! The rules are those of the Syntax page of the Meson manual.
 
 ghost use Rattle.std.specs.Prelude.{◌≡◌, ◌≤◌, Some, IfOk};
-ghost use Rattle.meson_syntax.specs.Nests.{Follows, Nests, AnswersAs, operator_view};
-ghost use Rattle.meson_syntax.specs.Reading as spec;
-ghost use Rattle.meson_syntax.specs.Rows.{longer, operands, row_with};
+ghost use Rattle.meson_syntax.specs.inside.Nests.{Follows, Nests, AnswersAs, operator_view};
+ghost use Rattle.meson_syntax.specs.inside.Reading as spec;
+ghost use Rattle.meson_syntax.specs.inside.Rows.{longer, operands, row_with};
 ghost use Rattle.meson_syntax.specs.View.{expr_view, operand_view, operands_view};
 
 use crate::boxed::Boxed;
@@ -108,7 +108,7 @@ impl<'a, F: Fn(Global, &[u8], &mut Cursor<'_>, usize) -> Result<Expr, ParseFault
 
     /// The operands of a row of this level behind its first, each with the operator before it.
     #[cycle(row)]
-    #[tactic(auto, unfolding(crate::specs::Reading::operands_from))]
+    #[tactic(auto, unfolding(crate::specs::inside::Reading::operands_from))]
     fn operands(&self, tokens: &mut Cursor<'_>, level: u8) -> Result<Many<Operand>, ParseFault>
         requires nests { Nests self.now.depth (F.pre self.now.deeper) (F.post self.now.deeper) }
         requires at_least { 1 ≤ level }
@@ -129,7 +129,7 @@ impl<'a, F: Fn(Global, &[u8], &mut Cursor<'_>, usize) -> Result<Expr, ParseFault
     }
 
     /// An expression with an operator before it, or without one.
-    #[tactic(auto, unfolding(crate::specs::Reading::unaried))]
+    #[tactic(auto, unfolding(crate::specs::inside::Reading::unaried))]
     fn unaried(&self, tokens: &mut Cursor<'_>) -> Result<Expr, ParseFault>
         requires { Nests self.now.depth (F.pre self.now.deeper) (F.post self.now.deeper) }
         ensures { Follows spec.unaried expr_view self.now.source.now self.now.depth tokens.old result tokens.new }
@@ -169,7 +169,7 @@ impl<'a, F> Grammar<'a, F> {
     }
 
     /// The row of these operands; the first itself where it is the only one.
-    #[tactic(auto, unfolding(crate::specs::Reading::with_operands))]
+    #[tactic(auto, unfolding(crate::specs::inside::Reading::with_operands))]
     fn with_operands(
         &self,
         span: Span,
@@ -189,7 +189,7 @@ impl<'a, F> Grammar<'a, F> {
     }
 
     /// The operator between two operands that comes next.
-    #[tactic(auto, unfolding(crate::specs::Reading::operator))]
+    #[tactic(auto, unfolding(crate::specs::inside::Reading::operator))]
     fn operator(&self, tokens: &mut Cursor<'_>) -> Result<Operator, ParseFault>
         ensures { AnswersAs spec.operator operator_view self.now.source.now tokens.old result tokens.new }
     {

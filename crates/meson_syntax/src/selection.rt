@@ -3,8 +3,8 @@
 //! The rules are those of the Syntax page of the Meson manual.
 
 ghost use Rattle.std.specs.Prelude.{◌≡◌};
-ghost use Rattle.meson_syntax.specs.Nests.{NestsBlocks, Proceeds};
-ghost use Rattle.meson_syntax.specs.ReadingFiles as spec;
+ghost use Rattle.meson_syntax.specs.inside.Nests.{NestsBlocks, Proceeds};
+ghost use Rattle.meson_syntax.specs.inside.ReadingFiles as spec;
 ghost use Rattle.meson_syntax.specs.View.{block_view, branch_view, branches_view, expr_view, otherwise_view, stmt_view};
 
 use crate::fault::ParseFault;
@@ -25,7 +25,7 @@ impl<'a, F> Grammar<'a, F> {
 
 impl<'a, F: Fn(Global, &[u8], &mut Cursor<'_>, usize) -> Result<Block, ParseFault>> Grammar<'a, F> {
     /// From `if`, which comes next, to `endif`.
-    #[tactic(auto, unfolding(crate::specs::ReadingFiles::selected))]
+    #[tactic(auto, unfolding(crate::specs::inside::ReadingFiles::selected))]
     pub(crate) fn selected(&self, tokens: &mut Cursor<'_>) -> Result<Stmt, ParseFault>
         requires { NestsBlocks self.now.depth (F.pre self.now.deeper) (F.post self.now.deeper) }
         ensures { Proceeds spec.selected stmt_view self.now.source.now self.now.depth tokens.old result tokens.new }
@@ -46,7 +46,7 @@ impl<'a, F: Fn(Global, &[u8], &mut Cursor<'_>, usize) -> Result<Block, ParseFaul
     }
 
     /// The branches of `if`, which comes next, and of each `elif`.
-    #[tactic(auto, unfolding(crate::specs::ReadingFiles::branches))]
+    #[tactic(auto, unfolding(crate::specs::inside::ReadingFiles::branches))]
     fn branches(&self, tokens: &mut Cursor<'_>) -> Result<Many<Branch>, ParseFault>
         requires { NestsBlocks self.now.depth (F.pre self.now.deeper) (F.post self.now.deeper) }
         ensures { Proceeds spec.branches branches_view self.now.source.now self.now.depth tokens.old result tokens.new }
@@ -66,7 +66,7 @@ impl<'a, F: Fn(Global, &[u8], &mut Cursor<'_>, usize) -> Result<Block, ParseFaul
     }
 
     /// A condition and its block, from `if` or `elif`, which comes next.
-    #[tactic(auto, unfolding(crate::specs::ReadingFiles::branched))]
+    #[tactic(auto, unfolding(crate::specs::inside::ReadingFiles::branched))]
     fn branched(&self, tokens: &mut Cursor<'_>) -> Result<Branch, ParseFault>
         requires { NestsBlocks self.now.depth (F.pre self.now.deeper) (F.post self.now.deeper) }
         ensures { Proceeds spec.branched branch_view self.now.source.now self.now.depth tokens.old result tokens.new }
@@ -78,7 +78,7 @@ impl<'a, F: Fn(Global, &[u8], &mut Cursor<'_>, usize) -> Result<Block, ParseFaul
     }
 
     /// `else` and its block, if they come next.
-    #[tactic(auto, unfolding(crate::specs::ReadingFiles::otherwised))]
+    #[tactic(auto, unfolding(crate::specs::inside::ReadingFiles::otherwised))]
     fn otherwised(&self, tokens: &mut Cursor<'_>) -> Result<Option<Block>, ParseFault>
         requires { NestsBlocks self.now.depth (F.pre self.now.deeper) (F.post self.now.deeper) }
         ensures { Proceeds spec.otherwised otherwise_view self.now.source.now self.now.depth tokens.old result tokens.new }

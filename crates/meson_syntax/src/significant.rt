@@ -2,8 +2,8 @@
 
 ghost use Rattle.std.specs.Prelude.{◌≡◌, ◌+◌, ◌≢◌, ◌≤◌, ◌<◌, ◌^◌, IfErr, IfOk, OnOk, List, map, length};
 ghost use Rattle.meson_lex.specs.declared.fault.LexFault.{LexFault};
-ghost use Rattle.meson_syntax.specs.Gathering.{AreTokens, IsFaulty, closed, line_ended, no_tokens, pushed, gathered_with};
-ghost use Rattle.meson_syntax.specs.Tokens.{tokens_of};
+ghost use Rattle.meson_syntax.specs.inside.Gathering.{AreTokens, IsFaulty, closed, line_ended, no_tokens, pushed, gathered_with};
+ghost use Rattle.meson_syntax.specs.inside.Tokens.{tokens_of};
 
 use crate::fault::ParseFault;
 use crate::token::Token;
@@ -29,8 +29,8 @@ struct Gathered<'a> {
 
 impl<'a> Model for Gathered<'a> {
     ghost use Rattle.std.specs.Prelude.{map};
-    ghost use Rattle.meson_syntax.specs.Gathering.{GatheredTokens};
-    ghost use Rattle.meson_syntax.specs.Tokens.{token_of};
+    ghost use Rattle.meson_syntax.specs.inside.Gathering.{GatheredTokens};
+    ghost use Rattle.meson_syntax.specs.inside.Tokens.{token_of};
 
     ghost Value = { GatheredTokens };
 
@@ -57,7 +57,7 @@ impl<'a> Gathered<'a> {
     }
 
     /// Takes the item that comes next.
-    #[tactic(auto, unfolding(crate::specs::Gathering::gathered_with))]
+    #[tactic(auto, unfolding(crate::specs::inside::Gathering::gathered_with))]
     fn take(&mut self, item: Item) -> Result<(), AllocError>
         requires { self.old.state.depth + 1 < 2 ^ 64 }
         ensures { OnOk result (self.new ≡ gathered_with self.old item) }

@@ -2,8 +2,8 @@
 //!
 //! The rules are those of the Syntax page of the Meson manual.
 
-ghost use Rattle.meson_syntax.specs.Nests.{NestsBlocks, Proceeds, AnswersAs};
-ghost use Rattle.meson_syntax.specs.ReadingFiles as spec;
+ghost use Rattle.meson_syntax.specs.inside.Nests.{NestsBlocks, Proceeds, AnswersAs};
+ghost use Rattle.meson_syntax.specs.inside.ReadingFiles as spec;
 ghost use Rattle.meson_syntax.specs.View.{stmt_view, name_at, names_at};
 
 use crate::fault::ParseFault;
@@ -16,7 +16,7 @@ use std::alloc::Global;
 
 impl<'a, F: Fn(Global, &[u8], &mut Cursor<'_>, usize) -> Result<Block, ParseFault>> Grammar<'a, F> {
     /// A statement whose kind its first token tells.
-    #[tactic(auto, unfolding(crate::specs::ReadingFiles::stmt))]
+    #[tactic(auto, unfolding(crate::specs::inside::ReadingFiles::stmt))]
     pub(crate) fn statement(&self, tokens: &mut Cursor<'_>) -> Result<Stmt, ParseFault>
         requires { NestsBlocks self.now.depth (F.pre self.now.deeper) (F.post self.now.deeper) }
         ensures { Proceeds spec.stmt stmt_view self.now.source.now self.now.depth tokens.old result tokens.new }
@@ -31,7 +31,7 @@ impl<'a, F: Fn(Global, &[u8], &mut Cursor<'_>, usize) -> Result<Block, ParseFaul
     }
 
     /// An assignment, or an expression by itself.
-    #[tactic(auto, unfolding(crate::specs::ReadingFiles::simple))]
+    #[tactic(auto, unfolding(crate::specs::inside::ReadingFiles::simple))]
     fn simple(&self, tokens: &mut Cursor<'_>) -> Result<Stmt, ParseFault>
         requires { NestsBlocks self.now.depth (F.pre self.now.deeper) (F.post self.now.deeper) }
         ensures { Proceeds spec.simple stmt_view self.now.source.now self.now.depth tokens.old result tokens.new }
@@ -46,7 +46,7 @@ impl<'a, F: Fn(Global, &[u8], &mut Cursor<'_>, usize) -> Result<Block, ParseFaul
     }
 
     /// An assignment, from its variable, which comes next with its sign.
-    #[tactic(auto, unfolding(crate::specs::ReadingFiles::assigned))]
+    #[tactic(auto, unfolding(crate::specs::inside::ReadingFiles::assigned))]
     fn assigned(&self, tokens: &mut Cursor<'_>, assignment: Assignment) -> Result<Stmt, ParseFault>
         requires { NestsBlocks self.now.depth (F.pre self.now.deeper) (F.post self.now.deeper) }
         ensures { Proceeds (λ room expr inner body. spec.assigned room expr inner body assignment)
@@ -66,7 +66,7 @@ impl<'a, F: Fn(Global, &[u8], &mut Cursor<'_>, usize) -> Result<Block, ParseFaul
     }
 
     /// An expression by itself.
-    #[tactic(auto, unfolding(crate::specs::ReadingFiles::evaluated))]
+    #[tactic(auto, unfolding(crate::specs::inside::ReadingFiles::evaluated))]
     fn evaluated(&self, tokens: &mut Cursor<'_>) -> Result<Stmt, ParseFault>
         requires { NestsBlocks self.now.depth (F.pre self.now.deeper) (F.post self.now.deeper) }
         ensures { Proceeds spec.evaluated stmt_view self.now.source.now self.now.depth tokens.old result tokens.new }
@@ -75,7 +75,7 @@ impl<'a, F: Fn(Global, &[u8], &mut Cursor<'_>, usize) -> Result<Block, ParseFaul
     }
 
     /// A loop, from `foreach`, which comes next.
-    #[tactic(auto, unfolding(crate::specs::ReadingFiles::iterated))]
+    #[tactic(auto, unfolding(crate::specs::inside::ReadingFiles::iterated))]
     fn iterated(&self, tokens: &mut Cursor<'_>) -> Result<Stmt, ParseFault>
         requires { NestsBlocks self.now.depth (F.pre self.now.deeper) (F.post self.now.deeper) }
         ensures { Proceeds spec.iterated stmt_view self.now.source.now self.now.depth tokens.old result tokens.new }
@@ -100,7 +100,7 @@ impl<'a, F: Fn(Global, &[u8], &mut Cursor<'_>, usize) -> Result<Block, ParseFaul
     }
 
     /// `break`, which comes next.
-    #[tactic(auto, unfolding(crate::specs::ReadingFiles::broken))]
+    #[tactic(auto, unfolding(crate::specs::inside::ReadingFiles::broken))]
     fn broken(&self, tokens: &mut Cursor<'_>) -> Result<Stmt, ParseFault>
         ensures { Proceeds spec.broken stmt_view self.now.source.now self.now.depth tokens.old result tokens.new }
     {
@@ -108,7 +108,7 @@ impl<'a, F: Fn(Global, &[u8], &mut Cursor<'_>, usize) -> Result<Block, ParseFaul
     }
 
     /// `continue`, which comes next.
-    #[tactic(auto, unfolding(crate::specs::ReadingFiles::continued))]
+    #[tactic(auto, unfolding(crate::specs::inside::ReadingFiles::continued))]
     fn continued(&self, tokens: &mut Cursor<'_>) -> Result<Stmt, ParseFault>
         ensures { Proceeds spec.continued stmt_view self.now.source.now self.now.depth tokens.old result tokens.new }
     {
@@ -118,7 +118,7 @@ impl<'a, F: Fn(Global, &[u8], &mut Cursor<'_>, usize) -> Result<Block, ParseFaul
 
 impl<'a, F> Grammar<'a, F> {
     /// Identifiers with commas between them.
-    #[tactic(auto, unfolding(crate::specs::ReadingFiles::names))]
+    #[tactic(auto, unfolding(crate::specs::inside::ReadingFiles::names))]
     fn names(&self, tokens: &mut Cursor<'_>) -> Result<Many<Span>, ParseFault>
         ensures { AnswersAs spec.names names_at self.now.source.now tokens.old result tokens.new }
     {
@@ -137,7 +137,7 @@ impl<'a, F> Grammar<'a, F> {
     }
 
     /// An identifier.
-    #[tactic(auto, unfolding(crate::specs::ReadingFiles::name))]
+    #[tactic(auto, unfolding(crate::specs::inside::ReadingFiles::name))]
     fn name(&self, tokens: &mut Cursor<'_>) -> Result<Span, ParseFault>
         ensures { AnswersAs spec.name name_at self.now.source.now tokens.old result tokens.new }
     {

@@ -3,9 +3,9 @@
 //! The rules are those of the Syntax page of the Meson manual.
 
 ghost use Rattle.std.specs.Prelude.{◌≡◌, IfOk};
-ghost use Rattle.meson_syntax.specs.Alone as alone;
-ghost use Rattle.meson_syntax.specs.Nests.{Follows, Nests};
-ghost use Rattle.meson_syntax.specs.Reading as spec;
+ghost use Rattle.meson_syntax.specs.inside.Alone as alone;
+ghost use Rattle.meson_syntax.specs.inside.Nests.{Follows, Nests};
+ghost use Rattle.meson_syntax.specs.inside.Reading as spec;
 ghost use Rattle.meson_syntax.specs.View.{expr_view, tail_view, tails_view};
 
 use crate::boxed::Boxed;
@@ -19,7 +19,7 @@ use std::alloc::{AllocError, Global};
 
 impl<'a, F> Grammar<'a, F> {
     /// The expression with these tails; the expression itself where there is none.
-    #[tactic(auto, unfolding(crate::specs::Reading::with_tails))]
+    #[tactic(auto, unfolding(crate::specs::inside::Reading::with_tails))]
     fn with_tails(&self, span: Span, base: Expr, tails: Many<Tail>) -> Result<Expr, AllocError>
         ensures { IfOk result (λ e. expr_view self.now.source.now e
             ≡ spec.with_tails span (expr_view self.now.source.now base) (tails_view self.now.source.now tails)) }
@@ -36,7 +36,7 @@ impl<'a, F> Grammar<'a, F> {
 
 impl<'a, F: Fn(Global, &[u8], &mut Cursor<'_>, usize) -> Result<Expr, ParseFault>> Grammar<'a, F> {
     /// An expression with the method calls and indexes behind it.
-    #[tactic(auto, unfolding(crate::specs::Reading::postfixed, crate::specs::Alone::tailed))]
+    #[tactic(auto, unfolding(crate::specs::inside::Reading::postfixed, crate::specs::inside::Alone::tailed))]
     pub(crate) fn postfixed(&self, tokens: &mut Cursor<'_>) -> Result<Expr, ParseFault>
         requires { Nests self.now.depth (F.pre self.now.deeper) (F.post self.now.deeper) }
         ensures { Follows spec.postfixed expr_view self.now.source.now self.now.depth tokens.old result tokens.new }
@@ -51,7 +51,7 @@ impl<'a, F: Fn(Global, &[u8], &mut Cursor<'_>, usize) -> Result<Expr, ParseFault
 
     /// The expression that is read and began at `start`, with the method calls and indexes that come next.
     #[inline(never)]
-    #[tactic(auto, unfolding(crate::specs::Alone::tailed))]
+    #[tactic(auto, unfolding(crate::specs::inside::Alone::tailed))]
     fn tailed(&self, tokens: &mut Cursor<'_>, start: usize, base: Expr) -> Result<Expr, ParseFault>
         requires { Nests self.now.depth (F.pre self.now.deeper) (F.post self.now.deeper) }
         ensures { Follows (λ room inner. alone.tailed room inner start (expr_view self.now.source.now base))
@@ -77,7 +77,7 @@ impl<'a, F: Fn(Global, &[u8], &mut Cursor<'_>, usize) -> Result<Expr, ParseFault
     }
 
     /// The method calls and indexes that come next.
-    #[tactic(auto, unfolding(crate::specs::Reading::tails))]
+    #[tactic(auto, unfolding(crate::specs::inside::Reading::tails))]
     fn tails(&self, tokens: &mut Cursor<'_>) -> Result<Many<Tail>, ParseFault>
         requires { Nests self.now.depth (F.pre self.now.deeper) (F.post self.now.deeper) }
         ensures { Follows spec.tails tails_view self.now.source.now self.now.depth tokens.old result tokens.new }
@@ -97,7 +97,7 @@ impl<'a, F: Fn(Global, &[u8], &mut Cursor<'_>, usize) -> Result<Expr, ParseFault
     }
 
     /// A method call, from its dot, which comes next.
-    #[tactic(auto, unfolding(crate::specs::Reading::method_call))]
+    #[tactic(auto, unfolding(crate::specs::inside::Reading::method_call))]
     fn method(&self, tokens: &mut Cursor<'_>) -> Result<Tail, ParseFault>
         requires { Nests self.now.depth (F.pre self.now.deeper) (F.post self.now.deeper) }
         ensures { Follows spec.method_call tail_view self.now.source.now self.now.depth tokens.old result tokens.new }
@@ -120,7 +120,7 @@ impl<'a, F: Fn(Global, &[u8], &mut Cursor<'_>, usize) -> Result<Expr, ParseFault
     }
 
     /// An index, from its opening bracket, which comes next.
-    #[tactic(auto, unfolding(crate::specs::Reading::indexed))]
+    #[tactic(auto, unfolding(crate::specs::inside::Reading::indexed))]
     fn index(&self, tokens: &mut Cursor<'_>) -> Result<Tail, ParseFault>
         requires { Nests self.now.depth (F.pre self.now.deeper) (F.post self.now.deeper) }
         ensures { Follows spec.indexed tail_view self.now.source.now self.now.depth tokens.old result tokens.new }

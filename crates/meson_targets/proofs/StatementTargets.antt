@@ -14,7 +14,7 @@ use Rattle.meson_syntax.proofs.paths.Reaching.{and-then-some, map-some}
 use Rattle.meson_calls.specs.declared.call.CallRef.{CallRef}
 use Rattle.meson_calls.specs.Project.{place}
 use Rattle.meson_calls.proofs.ListNodes.{node_below}
-use Rattle.meson_steps.specs.Layers.{block_any}
+use Rattle.meson_steps.specs.inside.Layers.{block_any}
 use Rattle.meson_steps.proofs.BlockNodes.{block_reached}
 use Rattle.meson_targets.specs.TargetEdits.{Held, StatementPlace, held_by, statement_of, statement_path}
 

@@ -20,7 +20,7 @@ use Rattle.meson_calls.specs.declared.call.CallRef.{CallRef}
 use Rattle.meson_calls.specs.Loading.{named_trees}
 use Rattle.meson_calls.specs.Parts.{Part, a_statement, parts_of_block, branches_child_count, parts_of_branches, parts_of_expression, parts_of_file, parts_of_otherwise, parts_from, parts_of_statement, parts_of_statements}
 use Rattle.meson_calls.specs.Project.{BuildFile, Project, child, nth_file, place}
-use Rattle.meson_steps.specs.Layers.{block_any}
+use Rattle.meson_steps.specs.inside.Layers.{block_any}
 use Rattle.meson_steps.specs.Steps.{changed_at}
 use Rattle.meson_steps.proofs.BlockNodes.{no_block_reached}
 use Rattle.meson_targets.specs.TargetEdits.{StatementPlace}

@@ -11,7 +11,7 @@ use Rattle.meson_calls.specs.Notes.{Note, note_of, noted, notes}
 use Rattle.meson_calls.specs.Variables.{one_of_names}
 use Rattle.meson_targets.specs.TargetEdits.{StatementPlace, call_uses, part_uses, is_used_outside}
 use Rattle.meson_calls.specs.Walks.{part_reads, read_in}
-use Rattle.meson_targets.specs.Uses.{is_outside, is_noted_outside, is_read_outside}
+use Rattle.meson_targets.specs.inside.Uses.{is_outside, is_noted_outside, is_read_outside}
 
 -- ---- tests joined
 

@@ -1,4 +1,4 @@
 pub mod Effects
 pub mod TargetEdits
 pub mod TargetViews
-pub mod Uses
+pub mod inside

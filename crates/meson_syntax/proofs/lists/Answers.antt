@@ -13,11 +13,11 @@ use Rattle.meson_syntax.specs.declared.operator.Bracket.TheVariants as bracket
 use Rattle.meson_syntax.specs.declared.tree.List as rust
 use Rattle.meson_syntax.specs.Tree.{Nowhere, Listing, listing, erase_listing}
 use Rattle.meson_syntax.specs.View.{list_view}
-use Rattle.meson_syntax.specs.Input.{GivesAll}
-use Rattle.meson_syntax.specs.Nests.{IsGrammatical}
+use Rattle.meson_syntax.specs.inside.Input.{GivesAll}
+use Rattle.meson_syntax.specs.inside.Nests.{IsGrammatical}
 use Rattle.meson_syntax.specs.Spelling.{SpellsListing}
 use Rattle.meson_syntax.specs.Paths.{inner_words}
-use Rattle.meson_syntax.specs.ReadingLists.{whole_list}
+use Rattle.meson_syntax.specs.inside.ReadingLists.{whole_list}
 use Rattle.meson_syntax.specs.Reads.{mark_bytes, IsSourceWithin, IsUnreadableWithin, Is, Refuses}
 use Rattle.meson_syntax.specs.ReadsList.{of_lists_within, ReadsListWithin, IsSpannedListWithin, HasNoListWithin, MayRefuseListWithin}
 use Rattle.meson_syntax.proofs.parsing.Steps.{some-injective}

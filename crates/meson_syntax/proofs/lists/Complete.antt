@@ -11,12 +11,12 @@ use Rattle.meson_syntax.specs.declared.operator.Bracket.{Bracket}
 use Rattle.meson_syntax.specs.Operators.{opens, closes}
 use Rattle.meson_syntax.specs.Tree.{Nowhere, Listing, erase_listing}
 use Rattle.meson_syntax.specs.Grammar.{mark, listing_words}
-use Rattle.meson_syntax.specs.Input.{Input, sees}
+use Rattle.meson_syntax.specs.inside.Input.{Input, sees}
 use Rattle.meson_syntax.specs.Spelling.{end_of, Covers, SpellsListing}
 use Rattle.meson_syntax.specs.Paths.{list_span, inner_words}
 use Rattle.meson_lex.specs.Words.{spoken}
 use Rattle.meson_syntax.specs.ReadsList.{IsListText, ReadsListWithin, list_items}
-use Rattle.meson_syntax.specs.ReadingLists.{bracketed, list_read, whole_list}
+use Rattle.meson_syntax.specs.inside.ReadingLists.{bracketed, list_read, whole_list}
 use Rattle.meson_syntax.proofs.parsing.Steps.{Passes, end_of-append}
 use Rattle.meson_syntax.proofs.parsing.Splits.{yes-at, yes-sees}
 use Rattle.meson_syntax.proofs.parsing.Firsts.{first-listing}

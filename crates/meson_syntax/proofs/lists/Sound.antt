@@ -12,12 +12,12 @@ use Rattle.meson_lex.specs.Kinds.{OfKind}
 use Rattle.meson_syntax.specs.declared.operator.Bracket.{Bracket}
 use Rattle.meson_syntax.specs.Operators.{opens, closes}
 use Rattle.meson_syntax.specs.Tree.{Listing}
-use Rattle.meson_syntax.specs.Input.{Input, Outcome, sees}
+use Rattle.meson_syntax.specs.inside.Input.{Input, Outcome, sees}
 use Rattle.meson_syntax.specs.Spelling.{SpellsListing}
 use Rattle.meson_syntax.specs.Paths.{list_span, inner_words}
 use Rattle.meson_lex.specs.Words.{spoken}
 use Rattle.meson_lex.proofs.Seams.{AreItems-split}
-use Rattle.meson_syntax.specs.ReadingLists.{bracketed, covers_all, list_read, whole_list}
+use Rattle.meson_syntax.specs.inside.ReadingLists.{bracketed, covers_all, list_read, whole_list}
 use Rattle.meson_syntax.proofs.parsing.Steps.{Passes, chosen_at, some-injective}
 use Rattle.meson_syntax.proofs.parsing.SoundRows.{listed-sound}
 use Rattle.meson_syntax.proofs.places.Covers.{opens-own, closes-own, covers-from, covers-to}

@@ -17,9 +17,9 @@ use Rattle.meson_syntax.specs.declared.fault.ParseFault.TheVariants.{TooLarge, N
 use Rattle.meson_syntax.specs.declared.tree.Parsed.{Parsed}
 use Rattle.meson_syntax.specs.Tree.{File, Plain, erase}
 use Rattle.meson_syntax.specs.View.{view}
-use Rattle.meson_syntax.specs.Input.{GivesAll}
-use Rattle.meson_syntax.specs.Nests.{IsGrammatical}
-use Rattle.meson_syntax.specs.ReadingFiles.{whole}
+use Rattle.meson_syntax.specs.inside.Input.{GivesAll}
+use Rattle.meson_syntax.specs.inside.Nests.{IsGrammatical}
+use Rattle.meson_syntax.specs.inside.ReadingFiles.{whole}
 use Rattle.meson_syntax.specs.Spelling.{SpellsFile}
 use Rattle.meson_syntax.specs.Grammar.{file_words}
 use Rattle.meson_syntax.specs.Reads.{Fits, Exceeds, IsSourceWithin, ReadsWithin, IsSpannedWithin, IsUnreadableWithin, HasNoTreeWithin, MayRefuseWithin, Is, Refuses}

@@ -9,8 +9,8 @@ use Rattle.meson_syntax.specs.declared.operator.Bracket.TheVariants as bracket
 use Rattle.meson_syntax.specs.Operators.{string_kind, boolean_kind, opens, closes}
 use Rattle.meson_syntax.specs.Tree.{Expression, identifier, boolean, integer, string, paren, array, dictionary, call, unary, row, postfix, conditional, method, index, Listing, listing, Argument, plain, named, pair, is_named, Arguments, no_arguments, argument, arguments_of, argument_list, Name}
 use Rattle.meson_syntax.specs.Grammar.{looseness}
-use Rattle.meson_syntax.specs.Input.{Input, kind, next, sees, sees_two, after_kind, expect, left}
-use Rattle.meson_syntax.specs.Reading.{room, named_argument, without_name, paired, listed_element, elements_from, listed_elements, listed, identified, truth, number, quoted, parenthesized, primary_by, primary, method_call, indexed, expression}
+use Rattle.meson_syntax.specs.inside.Input.{Input, kind, next, sees, sees_two, after_kind, expect, left}
+use Rattle.meson_syntax.specs.inside.Reading.{room, named_argument, without_name, paired, listed_element, elements_from, listed_elements, listed, identified, truth, number, quoted, parenthesized, primary_by, primary, method_call, indexed, expression}
 use Rattle.meson_syntax.specs.Spelling.{One, Then, Deeper, Nothing, SpellsExpression, SpellsTail, SpellsListing, SpellsArguments, SpellsArgument, SaysName}
 use Rattle.meson_syntax.proofs.parsing.Steps.{Passes, part, nothing-same, some-injective}
 use Rattle.meson_syntax.proofs.parsing.Splits.{bind-is, yes-at, no-at, passes-split, says-read, one-read, yes-sees, not-sees, yes-two, not-two, expect-is, after-is, after-not, covered, falls, name-read, name-text}

@@ -10,9 +10,9 @@ use Rattle.meson_syntax.specs.declared.operator.Assignment.TheVariants as assign
 use Rattle.meson_syntax.specs.Operators.{assignment_kind}
 use Rattle.meson_syntax.specs.Tree.{Expression, Statement, evaluate, assign, selection, iteration, breaks, continues, Branches, no_branches, branch, branches_of, branch_list, Otherwise, nothing_else, otherwise, Statements, no_statements, statement, statements_of, statement_list, Block, block, File, file, Name}
 use Rattle.meson_syntax.specs.Grammar.{HasBranch}
-use Rattle.meson_syntax.specs.Input.{Input, kind, from, next, sees, sees_two, after_kind, expect, span_from, left}
-use Rattle.meson_syntax.specs.Reading.{room, expression}
-use Rattle.meson_syntax.specs.ReadingFiles.{ends_block, block_span, name, names_from, names, assigned, evaluated, simple, bodied, branched, branches_from, branches, otherwised, selected, iterated, broken, continued, stmt_by, stmt, statement_line, lines_from, statement_lines, blocked, block_at, file_of_block, whole}
+use Rattle.meson_syntax.specs.inside.Input.{Input, kind, from, next, sees, sees_two, after_kind, expect, span_from, left}
+use Rattle.meson_syntax.specs.inside.Reading.{room, expression}
+use Rattle.meson_syntax.specs.inside.ReadingFiles.{ends_block, block_span, name, names_from, names, assigned, evaluated, simple, bodied, branched, branches_from, branches, otherwised, selected, iterated, broken, continued, stmt_by, stmt, statement_line, lines_from, statement_lines, blocked, block_at, file_of_block, whole}
 use Rattle.meson_syntax.specs.Spelling.{end_of, Covers, CoversBlock, One, Then, Deeper, NewLine, SaysMoreNames, SaysNames, SpellsExpression, SpellsStatement, SpellsBranches, SpellsOtherwise, SpellsStatements, SpellsBlock, SpellsFile, SaysName}
 use Rattle.meson_syntax.proofs.parsing.Steps.{Passes, part, nothing-same}
 use Rattle.meson_syntax.proofs.parsing.Splits.{bind-is, yes-at, no-at, passes-split, one-read, yes-sees, not-sees, yes-two, not-two, expect-is, after-is, after-not, covered, falls, name-read}

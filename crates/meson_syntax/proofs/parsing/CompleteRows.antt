@@ -14,8 +14,8 @@ use Rattle.meson_syntax.specs.declared.operator.Bracket.{Bracket}
 use Rattle.meson_syntax.specs.Operators.{operator_kind, operator_rest, unary_kind}
 use Rattle.meson_syntax.specs.Tree.{Expression, unary, row, postfix, conditional, Operands, no_operands, operand, operands_of, operand_list, Tail, method, index, Tails, no_tails, tail, tails_of, tail_list, Listing}
 use Rattle.meson_syntax.specs.Grammar.{looseness, row_level, HasOperand, HasTail}
-use Rattle.meson_syntax.specs.Input.{Input, kind, from, next, sees, expect, span_from, left}
-use Rattle.meson_syntax.specs.Reading.{room, row_of, operator_by, operator, with_tails, with_operands, listed, primary, method_call, indexed, tails_from, tails, postfixed, unaried, operands_from, row_at, answered, choice, expression}
+use Rattle.meson_syntax.specs.inside.Input.{Input, kind, from, next, sees, expect, span_from, left}
+use Rattle.meson_syntax.specs.inside.Reading.{room, row_of, operator_by, operator, with_tails, with_operands, listed, primary, method_call, indexed, tails_from, tails, postfixed, unaried, operands_from, row_at, answered, choice, expression}
 use Rattle.meson_syntax.specs.Spelling.{One, Then, Deeper, Nothing, Each, SpellsExpression, SpellsOperands, SpellsTail, SpellsTails, SpellsListing}
 use Rattle.meson_syntax.proofs.parsing.Steps.{Passes, part, passes-nothing, nothing-same}
 use Rattle.meson_syntax.proofs.parsing.Splits.{bind-is, yes-at, no-at, passes-split, one-read, yes-sees, not-sees, expect-is, covered, falls}

@@ -15,8 +15,8 @@ use Rattle.meson_syntax.specs.declared.operator.Bracket.TheVariants as bracket
 use Rattle.meson_syntax.specs.Operators.{operator_kind, unary_kind, string_kind, boolean_kind, opens, closes, level}
 use Rattle.meson_syntax.specs.Tree.{Expression, identifier, boolean, integer, string, paren, array, dictionary, call, unary, row, postfix, conditional, Operands, no_operands, operand, Tail, method, index, Tails, no_tails, tail, Listing, listing, Argument, plain, named, pair, Name}
 use Rattle.meson_syntax.specs.Grammar.{looseness, row_level, HasOperand, HasTail}
-use Rattle.meson_syntax.specs.Input.{Input, kind, next}
-use Rattle.meson_syntax.specs.Reading.{row_of, unary_of}
+use Rattle.meson_syntax.specs.inside.Input.{Input, kind, next}
+use Rattle.meson_syntax.specs.inside.Reading.{row_of, unary_of}
 use Rattle.meson_syntax.specs.Spelling.{One, Then, SpellsExpression, SpellsOperands, SpellsTail, SpellsTails, SpellsListing, SpellsArgument, SaysName}
 use Rattle.meson_syntax.proofs.parsing.Steps.{Passes, part, nothing-same}
 use Rattle.meson_syntax.proofs.parsing.Splits.{passes-split, says-read, one-read, name-read}

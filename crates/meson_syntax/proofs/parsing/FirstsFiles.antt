@@ -6,8 +6,8 @@ use Rattle.meson_lex.specs.declared.kinds.Span.{Span}
 use Rattle.meson_lex.specs.Located.{Token}
 use Rattle.meson_syntax.specs.Tree.{Statement, evaluate, assign, selection, iteration, breaks, continues, Branches, no_branches, branch, Otherwise, nothing_else, otherwise}
 use Rattle.meson_syntax.specs.Grammar.{HasBranch}
-use Rattle.meson_syntax.specs.Input.{Input, kind}
-use Rattle.meson_syntax.specs.ReadingFiles.{ends_block}
+use Rattle.meson_syntax.specs.inside.Input.{Input, kind}
+use Rattle.meson_syntax.specs.inside.ReadingFiles.{ends_block}
 use Rattle.meson_syntax.specs.Spelling.{end_of, One, NewLine, SpellsStatement, SpellsBranches, SpellsOtherwise}
 use Rattle.meson_syntax.proofs.parsing.Steps.{Passes, part, nothing-same}
 use Rattle.meson_syntax.proofs.parsing.Splits.{passes-split, one-read}

@@ -8,7 +8,7 @@ use Rattle.meson_lex.proofs.OneList.{one_list}
 use Rattle.meson_syntax.specs.declared.operator.Bracket.{Bracket}
 use Rattle.meson_syntax.specs.declared.source.Limits.{Limits}
 use Rattle.meson_syntax.specs.Tree.{Listing, File}
-use Rattle.meson_syntax.specs.Input.{Input}
+use Rattle.meson_syntax.specs.inside.Input.{Input}
 use Rattle.meson_syntax.specs.Spelling.{end_of, SpellsListing, SpellsFile}
 use Rattle.meson_syntax.specs.Reads.{IsSpannedWithin}
 use Rattle.meson_syntax.specs.ReadsList.{IsSpannedListWithin, list_items}

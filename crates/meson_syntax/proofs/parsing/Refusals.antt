@@ -11,10 +11,10 @@ use Rattle.meson_syntax.specs.declared.fault.ParseFault.TheVariants.{TooLarge, N
 use Rattle.meson_syntax.specs.declared.tree.Parsed.{Parsed}
 use Rattle.meson_syntax.specs.Tree.{Plain, erase}
 use Rattle.meson_syntax.specs.View.{view}
-use Rattle.meson_syntax.specs.Gathering.{IsFaulty}
-use Rattle.meson_syntax.specs.Input.{GivesAll}
-use Rattle.meson_syntax.specs.Nests.{IsGrammatical}
-use Rattle.meson_syntax.specs.ReadingFiles.{whole}
+use Rattle.meson_syntax.specs.inside.Gathering.{IsFaulty}
+use Rattle.meson_syntax.specs.inside.Input.{GivesAll}
+use Rattle.meson_syntax.specs.inside.Nests.{IsGrammatical}
+use Rattle.meson_syntax.specs.inside.ReadingFiles.{whole}
 use Rattle.meson_syntax.specs.Reads.{IsSourceWithin, ReadsWithin, IsUnreadableWithin, HasNoTreeWithin, MayRefuseWithin, Is, Refuses}
 use Rattle.meson_syntax.specs.declared.source.Limits.{Limits}
 use Rattle.meson_syntax.specs.Reads.{too_large, not_utf8, marked, lexical}

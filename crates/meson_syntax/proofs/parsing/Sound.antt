@@ -10,8 +10,8 @@ use Rattle.meson_syntax.specs.declared.operator.Bracket.{Bracket}
 use Rattle.meson_syntax.specs.declared.operator.Bracket.TheVariants as bracket
 use Rattle.meson_syntax.specs.Operators.{string_kind, boolean_kind, opens, closes, holds_values}
 use Rattle.meson_syntax.specs.Tree.{Expression, Listing, listing, Argument, is_named, arguments_of}
-use Rattle.meson_syntax.specs.Input.{same_kind, Input, kind, text_ahead, from, next, sees, sees_two, after_kind, expect, span_from, left, name_next}
-use Rattle.meson_syntax.specs.Reading.{room, named_argument, without_name, paired, listed_element, elements_from, listed_elements, listed, identified, truth, number, quoted, parenthesized, primary, primary_by, expression}
+use Rattle.meson_syntax.specs.inside.Input.{same_kind, Input, kind, text_ahead, from, next, sees, sees_two, after_kind, expect, span_from, left, name_next}
+use Rattle.meson_syntax.specs.inside.Reading.{room, named_argument, without_name, paired, listed_element, elements_from, listed_elements, listed, identified, truth, number, quoted, parenthesized, primary, primary_by, expression}
 use Rattle.meson_syntax.specs.Grammar.{looseness}
 use Rattle.meson_syntax.specs.Spelling.{One, IsOneToken, Then, Deeper, Nothing, SpellsExpression, SpellsListing, SpellsArguments, SpellsArgument, SaysName}
 use Rattle.meson_syntax.proofs.parsing.Steps.{Passes, part, passes-then, passes-nothing, and_then_some, chosen_at, some-injective, passes-at, passes-from, node, sees-says, sees-one, expect-one, eat-one, eat-none, two-both, kind-sees, sees-name}

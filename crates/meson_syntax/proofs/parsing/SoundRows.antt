@@ -14,8 +14,8 @@ use Rattle.meson_syntax.specs.declared.operator.Bracket.{Bracket}
 use Rattle.meson_syntax.specs.declared.operator.Bracket.TheVariants as bracket
 use Rattle.meson_syntax.specs.Operators.{operator_kind, operator_rest, unary_kind, opens, level}
 use Rattle.meson_syntax.specs.Tree.{Expression, Tail, tails_of, operands_of, Listing}
-use Rattle.meson_syntax.specs.Input.{same_kind, Input, kind, from, next, sees, sees_two, expect, span_from, left, name_next}
-use Rattle.meson_syntax.specs.Reading.{room, row_of, one_token, operator, operator_by, unary_of, with_tails, with_operands, listed, primary, method_call, indexed, tails_from, tails, postfixed, unary_by, unaried, operands_from, row_at, answered, choice, expression}
+use Rattle.meson_syntax.specs.inside.Input.{same_kind, Input, kind, from, next, sees, sees_two, expect, span_from, left, name_next}
+use Rattle.meson_syntax.specs.inside.Reading.{room, row_of, one_token, operator, operator_by, unary_of, with_tails, with_operands, listed, primary, method_call, indexed, tails_from, tails, postfixed, unary_by, unaried, operands_from, row_at, answered, choice, expression}
 use Rattle.meson_syntax.specs.Grammar.{looseness}
 use Rattle.meson_syntax.specs.Spelling.{One, Then, Each, Deeper, SpellsExpression, SpellsOperands, SpellsTail, SpellsTails, SpellsListing, SaysName}
 use Rattle.meson_syntax.proofs.parsing.Steps.{Passes, part, passes-then, passes-nothing, nothing-same, and_then_some, chosen_at, some-injective, passes-at, node, sees-one, expect-one, two-both, kind-sees, sees-name}

@@ -5,7 +5,7 @@ use Rattle.meson_lex.specs.declared.kinds.Kind.TheVariants as k
 use Rattle.meson_lex.specs.contracts.kinds.Kind.{the_type}
 use Rattle.meson_lex.specs.declared.kinds.Kind.{Kind}
 use Rattle.meson_lex.specs.Located.{Token}
-use Rattle.meson_syntax.specs.Input.{same_kind, Input, Outcome, Parser, and_then, kind_of, text_of, from_of, next_of, begins_with, begins_with_two, kind, text_ahead, from, next, sees, sees_two, after_kind, expect, span_from, name_next}
+use Rattle.meson_syntax.specs.inside.Input.{same_kind, Input, Outcome, Parser, and_then, kind_of, text_of, from_of, next_of, begins_with, begins_with_two, kind, text_ahead, from, next, sees, sees_two, after_kind, expect, span_from, name_next}
 use Rattle.meson_syntax.specs.Spelling.{end_of, Covers, One, IsOneToken, Then, Nothing, SaysName}
 use Rattle.meson_syntax.proofs.parsing.NonEmpty.{says-some}
 

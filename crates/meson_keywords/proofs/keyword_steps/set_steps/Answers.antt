@@ -11,7 +11,7 @@ use Rattle.meson_syntax.specs.View.{arg_view, args_view}
 use Rattle.meson_edit.specs.Edits.{Replace, Written}
 use Rattle.meson_keywords.specs.Keys.{written_named}
 use Rattle.meson_keywords.specs.KeywordEdits.{behind_all, set_there}
-use Rattle.meson_steps.specs.WrittenValues.{value_written}
+use Rattle.meson_steps.specs.inside.WrittenValues.{value_written}
 use Rattle.meson_steps.specs.Steps.{step_in}
 use Rattle.meson_steps.specs.Meanings.{AreBehind}
 use Rattle.meson_keywords.proofs.StepsBehind.{all_meant, behind_is, by_none, by_some, one_more}

@@ -4,13 +4,13 @@ use Rattle.meson_splice.specs.Files.{bytes_at}
 use Rattle.meson_syntax.specs.Paths as paths
 use Rattle.meson_syntax.specs.View.{expr_view, list_view, name_at, view}
 use Rattle.meson_calls.specs.Calls.{call_of}
-use Rattle.meson_plan.specs.Called.{called_view}
+use Rattle.meson_plan.specs.inside.Called.{called_view}
 use Rattle.meson_calls.proofs.CallsAt.{listing_good, spanned_at}
 use Rattle.meson_calls.proofs.Loads.{as_many}
 use Rattle.meson_plan.proofs.CalledNames.{called_named}
 use Rattle.meson_plan.proofs.CallsThere.{contrary, past_files, no_expression, other_expression, stands}
 use Rattle.meson_plan.proofs.GoodWords.{list_words}
-use Rattle.meson_plan.specs.ValueTexts.{ListHasTexts}
+use Rattle.meson_plan.specs.inside.ValueTexts.{ListHasTexts}
 use Rattle.meson_plan.proofs.ValuesAreTexts.{call_texts}
 use Rattle.meson_plan.proofs.called.call_at.Goals as goal
 

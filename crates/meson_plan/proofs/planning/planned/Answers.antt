@@ -1,7 +1,7 @@
 use Rattle.std.proofs.Common.{sym, ap, ap₂, ◌∙◌, subst}
 use Rattle.meson_calls.specs.Notes.{note_views, taken_view}
 use Rattle.meson_calls.specs.Spelling.{AreNotesWith, sought_words}
-use Rattle.meson_plan.specs.Orders.{sought}
+use Rattle.meson_plan.specs.inside.Orders.{sought}
 use Rattle.meson_plan.proofs.planning.planned.Goals as goal
 
 pub steps_of-requires : goal.steps_of-requires

@@ -2,7 +2,7 @@
 use Rattle.std.proofs.Common.{sym, ap, subst}
 use Rattle.meson_calls.specs.NotedProjects.{loaded_in, project_in}
 use Rattle.meson_calls.specs.Refusals.{RefusedAs}
-use Rattle.meson_plan.specs.Orders.{plan_steps}
+use Rattle.meson_plan.specs.inside.Orders.{plan_steps}
 use Rattle.meson_targets.proofs.TargetsDoable.{addition_means, removal_means}
 use Rattle.meson_plan.proofs.planning.steps_of.Goals as goal
 

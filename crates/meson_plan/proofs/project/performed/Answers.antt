@@ -11,7 +11,7 @@ use Rattle.meson_steps.specs.declared.step.ListStep.{ListStep}
 use Rattle.meson_steps.specs.Plans.{ArePlanned}
 use Rattle.meson_steps.specs.Working.{so_far}
 use Rattle.meson_plan.specs.declared.order.Plan.{Plan}
-use Rattle.meson_plan.specs.Orders.{plan_steps}
+use Rattle.meson_plan.specs.inside.Orders.{plan_steps}
 use Rattle.meson_plan.specs.Planning.{planned}
 use Rattle.meson_plan.proofs.project.performed.Goals as goal
 

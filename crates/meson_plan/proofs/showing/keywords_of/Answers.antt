@@ -7,7 +7,7 @@ use Rattle.meson_syntax.specs.View.{args_view, list_view}
 use Rattle.meson_edit.specs.Edits.{elements}
 use Rattle.meson_steps.proofs.ArgumentValues.{list_elements}
 use Rattle.meson_plan.specs.Details.{shown_argument}
-use Rattle.meson_plan.specs.ValueTexts.{ArgsHaveTexts}
+use Rattle.meson_plan.specs.inside.ValueTexts.{ArgsHaveTexts}
 use Rattle.meson_plan.proofs.ValuesAreTexts.{args_texts}
 use Rattle.meson_plan.proofs.showing.keywords_of.Goals as goal
 

@@ -4,7 +4,7 @@ use Rattle.meson_syntax.specs.Grammar.{argument_words}
 use Rattle.meson_syntax.specs.View.{arg_view}
 use Rattle.meson_calls.specs.Strings.{AreGood}
 use Rattle.meson_calls.proofs.ArgumentViews.{named_view}
-use Rattle.meson_plan.specs.ValueTexts.{HasText}
+use Rattle.meson_plan.specs.inside.ValueTexts.{HasText}
 use Rattle.meson_plan.proofs.showing.shown_argument.Goals as goal
 
 pub name_text-requires : goal.name_text-requires

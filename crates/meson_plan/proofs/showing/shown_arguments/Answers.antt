@@ -6,7 +6,7 @@ use Rattle.meson_calls.specs.Strings.{AreGood}
 use Rattle.meson_calls.proofs.Nested.{good_arg}
 use Rattle.meson_plan.specs.Details.{shown_argument}
 use Rattle.meson_plan.proofs.EachShown.{kept_more, kept_none}
-use Rattle.meson_plan.specs.ValueTexts.{HasText}
+use Rattle.meson_plan.specs.inside.ValueTexts.{HasText}
 use Rattle.meson_plan.proofs.ValuesAreTexts.{arg_text}
 use Rattle.meson_plan.proofs.showing.shown_arguments.Goals as goal
 use Rattle.meson_plan.proofs.showing.shown_arguments.Goals.{in-Some+in_ok-push, in_default}

@@ -3,7 +3,7 @@ use Rattle.std.proofs.lemmas.Result.{err_from_is_err_and}
 use Rattle.std.specs.Prelude.{IfErr, IfOk}
 use Rattle.meson_rewrite.proofs.Endings.{done-ends, dry-ends, failed-ends, stopped-acting, stopped-opening, told-ends}
 use Rattle.meson_rewrite.proofs.Reading.{on_ok, with-log-all, with-log-at-most}
-use Rattle.meson_rewrite.specs.Edited.{IsShown, OnlyTells}
+use Rattle.meson_rewrite.specs.inside.Edited.{IsShown, OnlyTells}
 use Rattle.meson_rewrite.specs.Opening.{Opens}
 use Rattle.meson_rewrite.specs.Runs.{StepEnds}
 use Rattle.meson_rewrite.specs.Steps.{MayRefuseStep, only_tells}

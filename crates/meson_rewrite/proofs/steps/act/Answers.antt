@@ -3,7 +3,7 @@ use Rattle.std.specs.Prelude.{IfErr}
 use Rattle.meson_splice.specs.Past.{redone, undone}
 use Rattle.meson_rewrite.proofs.Checking.{may-refuse}
 use Rattle.meson_rewrite.proofs.Names.{redo-within, stops-step, undo-within}
-use Rattle.meson_rewrite.specs.Edited.{IsWithin}
+use Rattle.meson_rewrite.specs.inside.Edited.{IsWithin}
 use Rattle.meson_rewrite.specs.Steps.{MayRefuseStep}
 use Rattle.meson_rewrite.specs.Stops.{WantsMemory}
 use Rattle.meson_rewrite.specs.declared.request.Step.TheVariants.{ForgetOldest, UndoTo}

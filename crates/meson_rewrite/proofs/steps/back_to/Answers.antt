@@ -1,6 +1,6 @@
 use Rattle.std.proofs.Common.{length, subst, sym}
 use Rattle.meson_rewrite.proofs.Names.{stops-steps, undo-within}
-use Rattle.meson_rewrite.specs.Edited.{IsWithin}
+use Rattle.meson_rewrite.specs.inside.Edited.{IsWithin}
 use Rattle.meson_rewrite.proofs.steps.back_to.Goals as goal
 
 pub undo_stop-requires : goal.undo_stop-requires

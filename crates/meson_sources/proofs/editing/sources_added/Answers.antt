@@ -7,7 +7,7 @@ use Rattle.meson_calls.specs.Calls.{value_with_name}
 use Rattle.meson_calls.specs.Expansion.{max_followed}
 use Rattle.meson_steps.specs.ListSteps.{bare}
 use Rattle.meson_calls.specs.CodeVariables.{project_of}
-use Rattle.meson_sources.specs.Naming.{new_among}
+use Rattle.meson_sources.specs.inside.Naming.{new_among}
 use Rattle.meson_calls.specs.Sources.{or_call, or_option}
 use Rattle.meson_calls.specs.Sourced.{kept_args, all_gathered}
 use Rattle.meson_sources.specs.SourceEdits.{insertion_steps, plain_len}

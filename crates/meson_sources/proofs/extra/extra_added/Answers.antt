@@ -3,7 +3,7 @@ use Rattle.std.proofs.lemmas.Result.{err_from_is_err_and}
 use Rattle.meson_calls.specs.Calls.{value_with_name}
 use Rattle.meson_steps.specs.ListSteps.{bare}
 use Rattle.meson_calls.specs.CodeVariables.{project_of}
-use Rattle.meson_sources.specs.Naming.{new_among}
+use Rattle.meson_sources.specs.inside.Naming.{new_among}
 use Rattle.meson_calls.specs.Sources.{or_option}
 use Rattle.meson_calls.specs.Sourced.{kept_args}
 use Rattle.meson_sources.specs.SourceEdits.{extra_key, insertion_steps, plain_len}

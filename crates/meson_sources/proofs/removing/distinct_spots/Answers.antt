@@ -3,7 +3,7 @@ use Rattle.std.specs.Prelude.{reverse, true, false}
 use Rattle.std.specs.List.{list_any}
 use Rattle.std.proofs.lemmas.List.{map-append}
 use Rattle.meson_sources.specs.SourceEdits.{same_spot, distinct_spots_by}
-use Rattle.meson_sources.specs.CodeSpots.{spot_view}
+use Rattle.meson_sources.specs.inside.CodeSpots.{spot_view}
 use Rattle.meson_steps.proofs.SameRead.{same_read}
 use Rattle.meson_sources.proofs.SpotsOnce.{once_more, not_again}
 use Rattle.meson_sources.proofs.removing.distinct_spots.Goals as goal

@@ -1,7 +1,7 @@
 use Rattle.std.proofs.Common.{◌≡◌, ◌++◌, drop, map}
 use Rattle.std.specs.Prelude.{reverse}
 use Rattle.meson_sources.specs.SourceEdits.{distinct_spots, distinct_spots_by}
-use Rattle.meson_sources.specs.CodeSpots.{spot_view}
+use Rattle.meson_sources.specs.inside.CodeSpots.{spot_view}
 use Rattle.meson_sources.proofs.removing.distinct_spots.Given as goal
 
 abbrev pub invariant-loop-i : goal.invariant-loop-i

@@ -5,7 +5,7 @@ use Rattle.meson_steps.specs.declared.step.ListEdit.TheVariants as code
 use Rattle.meson_sources.specs.declared.removing.ElementSpot as code_spot
 use Rattle.meson_calls.specs.Project.{place}
 use Rattle.meson_sources.specs.SourceEdits.{spot_after}
-use Rattle.meson_sources.specs.CodeSpots.{after_each, spot_view}
+use Rattle.meson_sources.specs.inside.CodeSpots.{after_each, spot_view}
 use Rattle.meson_sources.proofs.Renamed.{removal, steps_left, none_gone, one_gone}
 use Rattle.meson_sources.proofs.removing.removals.Goals as goal
 

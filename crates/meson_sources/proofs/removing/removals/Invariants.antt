@@ -2,7 +2,7 @@ use Rattle.std.proofs.Common.{◌≡◌, ◌++◌, drop, map, length}
 use Rattle.std.specs.Prelude.{Some}
 use Rattle.meson_steps.specs.ListSteps.{bare}
 use Rattle.meson_sources.specs.SourceEdits.{removal_steps, removed_by, spot_after}
-use Rattle.meson_sources.specs.CodeSpots.{after_each, spot_view}
+use Rattle.meson_sources.specs.inside.CodeSpots.{after_each, spot_view}
 use Rattle.meson_sources.proofs.removing.removals.Given as goal
 
 abbrev pub invariant-loop-i : goal.invariant-loop-i

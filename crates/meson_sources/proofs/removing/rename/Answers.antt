@@ -6,7 +6,7 @@ use Rattle.std.specs.Prelude.{true, false, nat_eq, if◌then◌else◌}
 use Rattle.std.specs.Vec.{with_items}
 use Rattle.meson_sources.specs.declared.removing.ElementSpot as code
 use Rattle.meson_sources.specs.SourceEdits.{moved_up, path_after, is_path}
-use Rattle.meson_sources.specs.CodeSpots.{spot_view}
+use Rattle.meson_sources.specs.inside.CodeSpots.{spot_view}
 use Rattle.meson_sources.proofs.PathsAfter.{renamed, pointwise_is, length_after}
 use Rattle.meson_sources.proofs.removing.rename.Goals as goal
 use Rattle.meson_sources.proofs.removing.rename.Goals.{then-eq, else-eq}

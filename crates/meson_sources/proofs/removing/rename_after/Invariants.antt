@@ -1,6 +1,6 @@
 use Rattle.std.proofs.Common.{◌≡◌, drop, map}
 use Rattle.meson_sources.specs.SourceEdits.{spot_after}
-use Rattle.meson_sources.specs.CodeSpots.{after_each, spot_view}
+use Rattle.meson_sources.specs.inside.CodeSpots.{after_each, spot_view}
 use Rattle.meson_sources.proofs.removing.rename_after.Given as goal
 
 abbrev pub invariant-loop-i : goal.invariant-loop-i

@@ -1,5 +1,5 @@
 use Rattle.std.proofs.Common.{◌≡◌, ◌-◌, drop, length}
-use Rattle.meson_splice.specs.Ordered.{ordered}
+use Rattle.meson_splice.specs.inside.Ordered.{ordered}
 use Rattle.meson_splice.specs.Patch.{patched_all}
 use Rattle.meson_splice.specs.Saved.{bytes_put_back}
 use Rattle.meson_splice.proofs.change.all_done.Given as goal

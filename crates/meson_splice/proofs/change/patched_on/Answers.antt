@@ -1,8 +1,8 @@
 use Rattle.std.proofs.Common.{◌≤◌, ◌+◌, drop, arith}
 use Rattle.std.proofs.lemmas.Result.{err_from_is_err_and}
-use Rattle.meson_splice.specs.Borrowed.{splice_of}
-use Rattle.meson_splice.specs.Gap.{gap_text}
-use Rattle.meson_splice.specs.Ordered.{ordered}
+use Rattle.meson_splice.specs.inside.Borrowed.{splice_of}
+use Rattle.meson_splice.specs.inside.Gap.{gap_text}
+use Rattle.meson_splice.specs.inside.Ordered.{ordered}
 use Rattle.meson_splice.proofs.Leading.{leads-more, leads-refused, same_name}
 use Rattle.meson_splice.proofs.change.patched_on.Goals as goal
 

@@ -1,6 +1,6 @@
 use Rattle.std.proofs.Common.{◌-◌, ◌≤◌, drop, length}
-use Rattle.meson_splice.specs.Gap.{LeadsTo, gap_text}
-use Rattle.meson_splice.specs.Ordered.{ordered}
+use Rattle.meson_splice.specs.inside.Gap.{LeadsTo, gap_text}
+use Rattle.meson_splice.specs.inside.Ordered.{ordered}
 use Rattle.meson_splice.proofs.change.patched_on.Given as goal
 
 -- the splices do what those that are left do where the file has the text

@@ -1,6 +1,6 @@
 use Rattle.std.proofs.Common.{◌∙◌, map, ap, inr, subst}
 use Rattle.meson_store.specs.Commit.{CommitFails}
-use Rattle.meson_store.specs.Planned.{put_of}
+use Rattle.meson_store.specs.inside.Planned.{put_of}
 use Rattle.meson_store.specs.Seen.{seen}
 use Rattle.meson_store.proofs.Returns.{stopped-counts}
 use Rattle.meson_store.proofs.committing.commit.Goals as goal

@@ -1,6 +1,6 @@
 use Rattle.std.proofs.Common.{◌≡◌, ◌<◌, ◌∙◌, length, map, ap, sym, arith}
 use Rattle.std.proofs.lemmas.List.{length-map, map-append}
-use Rattle.meson_store.specs.Planned.{put_of}
+use Rattle.meson_store.specs.inside.Planned.{put_of}
 use Rattle.meson_store.proofs.Commits.{plan-more, plan-kept}
 use Rattle.meson_store.proofs.committing.differing.Goals.{then-ne+in_ok-path+in_ok-push, else-ne}
 use Rattle.meson_store.proofs.committing.differing.Goals as goal

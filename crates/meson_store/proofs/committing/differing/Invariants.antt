@@ -1,6 +1,6 @@
 use Rattle.std.proofs.Common.{◌≡◌, ◌++◌, map, option_map, drop}
 use Rattle.meson_store.specs.Commit.{puts}
-use Rattle.meson_store.specs.Planned.{put_of}
+use Rattle.meson_store.specs.inside.Planned.{put_of}
 use Rattle.meson_store.proofs.committing.differing.Given as goal
 
 -- the plan so far, and what the files that are left come to

@@ -2,7 +2,7 @@ use Rattle.std.proofs.Common.{◌≡◌, ◌∙◌, refl, ◌<◌, ◌≤◌, �
 use Rattle.std.proofs.lemmas.List.{length-map, take_all, drop_all}
 use Rattle.std.specs.Prelude.{slice_index_or}
 use Rattle.meson_store.specs.Commit.{GoBack, all_back, names_of}
-use Rattle.meson_store.specs.Planned.{put_of}
+use Rattle.meson_store.specs.inside.Planned.{put_of}
 use Rattle.meson_store.specs.Seen.{Seen, seen}
 use Rattle.meson_store.specs.declared.committing.Planned.{Planned}
 use Rattle.meson_store.proofs.Returns.{back-more, last-name, names-before, one-back, one-lost}

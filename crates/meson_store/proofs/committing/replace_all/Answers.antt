@@ -1,7 +1,7 @@
 use Rattle.std.proofs.Common.{◌∙◌, map, take, drop, suc, ap, sym, subst, List, ℕ, arith}
 use Rattle.meson_store.specs.Content.{content_with}
 use Rattle.meson_store.specs.Commit.{put_all}
-use Rattle.meson_store.specs.Planned.{put_of}
+use Rattle.meson_store.specs.inside.Planned.{put_of}
 use Rattle.meson_store.specs.Seen.{IsNotReplaced, seen}
 use Rattle.meson_store.proofs.Commits.{count_one, cut-at, put-more}
 use Rattle.meson_store.proofs.committing.replace_all.Goals as goal

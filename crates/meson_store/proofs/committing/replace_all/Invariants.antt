@@ -1,6 +1,6 @@
 use Rattle.std.proofs.Common.{◌≡◌, map, take}
 use Rattle.meson_store.specs.Commit.{AreReplaced}
-use Rattle.meson_store.specs.Planned.{put_of}
+use Rattle.meson_store.specs.inside.Planned.{put_of}
 use Rattle.meson_store.specs.Seen.{seen}
 use Rattle.meson_store.proofs.committing.replace_all.Given as goal
 

@@ -1,6 +1,6 @@
 use Rattle.std.proofs.Common.{◌≡◌, ap, arith}
-use Rattle.meson_syntax.specs.ReadingFiles.{block_at}
-use Rattle.meson_syntax.specs.Cursor.{input}
+use Rattle.meson_syntax.specs.inside.ReadingFiles.{block_at}
+use Rattle.meson_syntax.specs.inside.Cursor.{input}
 use Rattle.meson_syntax.proofs.Turns.{deeper}
 use Rattle.meson_syntax.proofs.block.+read_block.Goals as goal
 

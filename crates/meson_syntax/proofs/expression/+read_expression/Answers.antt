@@ -1,6 +1,6 @@
 use Rattle.std.proofs.Common.{◌≡◌, ap, arith}
-use Rattle.meson_syntax.specs.Reading.{expression}
-use Rattle.meson_syntax.specs.Cursor.{input}
+use Rattle.meson_syntax.specs.inside.Reading.{expression}
+use Rattle.meson_syntax.specs.inside.Cursor.{input}
 use Rattle.meson_syntax.proofs.Turns.{deeper}
 use Rattle.meson_syntax.proofs.expression.+read_expression.Goals as goal
 

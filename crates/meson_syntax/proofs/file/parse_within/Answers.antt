@@ -1,9 +1,9 @@
 use Rattle.std.proofs.Common.{◌∙◌, List, ap, subst, length}
 use Rattle.std.proofs.lemmas.Result.{err_from_is_err_and}
 use Rattle.meson_lex.specs.Located.{Token, located}
-use Rattle.meson_syntax.specs.Input.{GivesAll}
-use Rattle.meson_syntax.specs.ReadingFiles.{whole}
-use Rattle.meson_syntax.specs.Tokens.{tokens_of}
+use Rattle.meson_syntax.specs.inside.Input.{GivesAll}
+use Rattle.meson_syntax.specs.inside.ReadingFiles.{whole}
+use Rattle.meson_syntax.specs.inside.Tokens.{tokens_of}
 use Rattle.meson_syntax.specs.View.{view}
 use Rattle.meson_syntax.proofs.parsing.Answers.{gives-finds, gives-reads, gives-unreadable}
 use Rattle.meson_syntax.proofs.parsing.Refusals.{Stopped, gives-says, refused-finds, refused-unreadable, stopped-finds, stopped-from, stopped-says, stopped-unreadable}

@@ -5,7 +5,7 @@ use Rattle.meson_syntax.specs.Grammar.{mark}
 use Rattle.meson_syntax.specs.declared.operator.Bracket.TheVariants as bracket
 use Rattle.meson_syntax.specs.declared.tree.Arg.TheFolds.{the_lemmas}
 use Rattle.meson_syntax.specs.Paths.{of_expression, argument_children, expression_children, operands_children, tail_children, tails_children}
-use Rattle.meson_syntax.specs.Putting.{only_child, put_among}
+use Rattle.meson_syntax.specs.inside.Putting.{only_child, put_among}
 use Rattle.meson_syntax.specs.Tree.{paren, array, dictionary, call, unary, row, postfix, conditional, plain, named, pair, method, index, operands_of, tails_of}
 use Rattle.meson_syntax.specs.View.{arg_view, expr_view, list_view, name_at, operands_view, tail_view, tails_view}
 use Rattle.meson_syntax.proofs.PutViews.{paren-view, array-view, dictionary-view, call-view, unary-view, row-view, postfix-view, conditional-view, plain-view, named-view, pair-view, method-view, index-view, put-one, put-list, put-head, put-second, put-last, put-behind, put-end, put-step}

@@ -1,7 +1,7 @@
 use Rattle.std.proofs.Common.{◌≡◌, rules, ◌∷◌, Ok, Err, ap, sym, ◌∙◌, refl}
 use Rattle.meson_lex.specs.declared.kinds.Item.{Item}
-use Rattle.meson_syntax.specs.Gathering.{gathered_tokens, no_tokens, gathered_with}
-use Rattle.meson_syntax.specs.Tokens.{tokens_of}
+use Rattle.meson_syntax.specs.inside.Gathering.{gathered_tokens, no_tokens, gathered_with}
+use Rattle.meson_syntax.specs.inside.Tokens.{tokens_of}
 use Rattle.meson_syntax.proofs.Gathered.{within_step, folded_step, stepped_source, whole_from, faulty_from}
 use Rattle.meson_syntax.proofs.significant.tokens.Goals as goal
 

@@ -1,6 +1,6 @@
 use Rattle.std.proofs.Common.{◌≡◌, ◌≤◌, ℕ, length}
 use Rattle.meson_lex.specs.Lexed.{Tiles}
-use Rattle.meson_syntax.specs.Gathering.{gathered_tokens}
+use Rattle.meson_syntax.specs.inside.Gathering.{gathered_tokens}
 use Rattle.meson_syntax.proofs.significant.tokens.Given as goal
 
 -- what is gathered in the end stays the same, and each open bracket has a byte before the next item

@@ -3,7 +3,7 @@ use Rattle.std.specs.Prelude.{bytes_eq, string_bytes}
 use Rattle.std.specs.HashSet.{contains_text}
 use Rattle.std.proofs.lemmas.Map.Text.{hash_set_updates_text}
 use Rattle.meson_gathering.specs.Gathering.{file_of}
-use Rattle.meson_gathering.specs.Names.{AreNames}
+use Rattle.meson_gathering.specs.inside.Names.{AreNames}
 use Rattle.meson_gathering.proofs.NameSets.{names_back, names_more}
 use Rattle.meson_gathering.proofs.named_files.NamedFiles.push.Goals as goal
 

@@ -1,5 +1,5 @@
 use Rattle.std.proofs.Common.{◌≡◌, ◌∙◌, Some, None, Err, ap, sym}
-use Rattle.meson_splice.specs.Borrowed.{splice_of}
+use Rattle.meson_splice.specs.inside.Borrowed.{splice_of}
 use Rattle.meson_splice.specs.Files.{position_of_file}
 use Rattle.meson_splice.specs.declared.fault.SpliceFault.TheVariants.{NoFile}
 use Rattle.meson_splice.proofs.Sets.{patched_in-found, patched_in-none}

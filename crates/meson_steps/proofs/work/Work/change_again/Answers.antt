@@ -1,6 +1,6 @@
 use Rattle.std.proofs.Common.{◌<◌, get_or, length, subst, sym}
 use Rattle.meson_splice.specs.Files.{bytes_at}
-use Rattle.meson_steps.specs.Held.{IsHeldOf}
+use Rattle.meson_steps.specs.inside.Held.{IsHeldOf}
 use Rattle.meson_steps.specs.Working.{spot_at}
 use Rattle.meson_steps.proofs.HeldLists.{again_of, again_spot, held_spot}
 use Rattle.meson_steps.proofs.HeldWork.{again_changed, then_held}

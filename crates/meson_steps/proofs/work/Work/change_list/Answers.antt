@@ -4,7 +4,7 @@ use Rattle.meson_steps.proofs.HeldWork.{first_changed, now_held}
 use Rattle.meson_steps.proofs.ListChanged.{at_spot, no_spot, ordered, spot_there}
 use Rattle.meson_steps.proofs.SameRead.{same_read}
 use Rattle.meson_splice.specs.Files.{bytes_at}
-use Rattle.meson_steps.specs.Held.{IsHeldOf}
+use Rattle.meson_steps.specs.inside.Held.{IsHeldOf}
 use Rattle.meson_steps.specs.Working.{spot_at}
 use Rattle.meson_steps.proofs.work.Work.change_list.Goals as goal
 

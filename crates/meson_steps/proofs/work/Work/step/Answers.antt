@@ -1,5 +1,5 @@
 use Rattle.std.proofs.Common.{◌∷◌, subst}
-use Rattle.meson_steps.specs.Held.{settled}
+use Rattle.meson_steps.specs.inside.Held.{settled}
 use Rattle.meson_steps.specs.Working.{HasReached}
 use Rattle.meson_steps.proofs.HeldWork.{settled_reached}
 use Rattle.meson_steps.proofs.work.Work.step.Goals as goal

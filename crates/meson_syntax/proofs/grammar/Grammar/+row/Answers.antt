@@ -1,9 +1,9 @@
 use Rattle.std.proofs.Common.{◌≡◌, ◌==◌, ◌+◌, ◌<◌, false, refl, arith, ◌-◌, Some}
 use Rattle.std.proofs.lemmas.Grind.{common_steps}
-use Rattle.meson_syntax.specs.Cursor.{input}
-use Rattle.meson_syntax.specs.Input.{kind}
-use Rattle.meson_syntax.specs.Reading.{operands_from, row_at, row_of, expression, room}
-use Rattle.meson_syntax.specs.Rows.{operands, row_with}
+use Rattle.meson_syntax.specs.inside.Cursor.{input}
+use Rattle.meson_syntax.specs.inside.Input.{kind}
+use Rattle.meson_syntax.specs.inside.Reading.{operands_from, row_at, row_of, expression, room}
+use Rattle.meson_syntax.specs.inside.Rows.{operands, row_with}
 use Rattle.meson_syntax.specs.View.{expr_view, operands_view}
 use Rattle.meson_syntax.proofs.Rows.{row_at-with, row_with-fails, row_with-longer, row_with-none, row_with-same}
 use Rattle.meson_syntax.proofs.Turns.{one_more}

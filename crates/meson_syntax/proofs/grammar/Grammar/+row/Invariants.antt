@@ -1,7 +1,7 @@
 use Rattle.std.proofs.Common.{◌≡◌, ◌-◌, ◌+◌, ◌*◌, Some}
-use Rattle.meson_syntax.specs.Cursor.{input}
-use Rattle.meson_syntax.specs.Reading.{operands_from, row_at, expression, room}
-use Rattle.meson_syntax.specs.Rows.{operands, row_with}
+use Rattle.meson_syntax.specs.inside.Cursor.{input}
+use Rattle.meson_syntax.specs.inside.Reading.{operands_from, row_at, expression, room}
+use Rattle.meson_syntax.specs.inside.Rows.{operands, row_with}
 use Rattle.meson_syntax.specs.View.{expr_view, operands_view}
 use Rattle.meson_syntax.proofs.grammar.Grammar.+row.Given as goal
 

@@ -1,7 +1,7 @@
 use Rattle.std.proofs.Common.{◌≡◌, suc, ◌-◌}
-use Rattle.meson_syntax.specs.Cursor.{input}
-use Rattle.meson_syntax.specs.Reading.{room, expression}
-use Rattle.meson_syntax.specs.ReadingFiles.{branches, branches_from, block_at}
+use Rattle.meson_syntax.specs.inside.Cursor.{input}
+use Rattle.meson_syntax.specs.inside.Reading.{room, expression}
+use Rattle.meson_syntax.specs.inside.ReadingFiles.{branches, branches_from, block_at}
 use Rattle.meson_syntax.specs.View.{branches_view}
 use Rattle.meson_syntax.proofs.grammar.Grammar.branches.Given as goal
 

@@ -1,5 +1,5 @@
-use Rattle.meson_syntax.specs.Cursor.{input}
-use Rattle.meson_syntax.specs.Reading.{expression, room}
+use Rattle.meson_syntax.specs.inside.Cursor.{input}
+use Rattle.meson_syntax.specs.inside.Reading.{expression, room}
 use Rattle.std.proofs.Common.{sym, ◌∙◌}
 use Rattle.meson_syntax.proofs.Alone.{chosen-alone}
 use Rattle.meson_syntax.proofs.grammar.Grammar.chosen.Goals as goal

@@ -1,6 +1,6 @@
 use Rattle.std.proofs.Common.{◌≡◌, ◌-◌}
-use Rattle.meson_syntax.specs.Reading.{listed_elements, elements_from, expression, room}
-use Rattle.meson_syntax.specs.Cursor.{input}
+use Rattle.meson_syntax.specs.inside.Reading.{listed_elements, elements_from, expression, room}
+use Rattle.meson_syntax.specs.inside.Cursor.{input}
 use Rattle.meson_syntax.specs.View.{args_view}
 use Rattle.meson_syntax.proofs.grammar.Grammar.elements.Given as goal
 

@@ -1,8 +1,8 @@
 use Rattle.std.proofs.Common.{arith, suc}
 use Rattle.std.proofs.lemmas.Grind.{common_steps}
-use Rattle.meson_syntax.specs.Cursor.{input}
-use Rattle.meson_syntax.specs.Reading.{room, expression}
-use Rattle.meson_syntax.specs.ReadingFiles.{lines_from, block_at}
+use Rattle.meson_syntax.specs.inside.Cursor.{input}
+use Rattle.meson_syntax.specs.inside.Reading.{room, expression}
+use Rattle.meson_syntax.specs.inside.ReadingFiles.{lines_from, block_at}
 use Rattle.meson_syntax.specs.View.{stmts_view}
 use Rattle.meson_syntax.proofs.Turns.{one_more, no_more}
 use Rattle.meson_syntax.proofs.Views.{stmts_view-push}

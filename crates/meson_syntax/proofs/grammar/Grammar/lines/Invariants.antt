@@ -1,7 +1,7 @@
 use Rattle.std.proofs.Common.{◌≡◌, suc, ◌-◌}
-use Rattle.meson_syntax.specs.Cursor.{input}
-use Rattle.meson_syntax.specs.Reading.{room, expression}
-use Rattle.meson_syntax.specs.ReadingFiles.{statement_lines, lines_from, block_at}
+use Rattle.meson_syntax.specs.inside.Cursor.{input}
+use Rattle.meson_syntax.specs.inside.Reading.{room, expression}
+use Rattle.meson_syntax.specs.inside.ReadingFiles.{statement_lines, lines_from, block_at}
 use Rattle.meson_syntax.specs.View.{stmts_view}
 use Rattle.meson_syntax.proofs.grammar.Grammar.lines.Given as goal
 

@@ -1,7 +1,7 @@
 use Rattle.std.proofs.Common.{arith}
 use Rattle.std.proofs.lemmas.Grind.{common_steps}
-use Rattle.meson_syntax.specs.Cursor.{input}
-use Rattle.meson_syntax.specs.ReadingFiles.{names_from}
+use Rattle.meson_syntax.specs.inside.Cursor.{input}
+use Rattle.meson_syntax.specs.inside.ReadingFiles.{names_from}
 use Rattle.meson_syntax.specs.View.{names_at}
 use Rattle.meson_syntax.proofs.Turns.{one_more, no_more}
 use Rattle.meson_syntax.proofs.Views.{names_at-push}

@@ -1,6 +1,6 @@
 use Rattle.std.proofs.Common.{◌≡◌, ◌-◌}
-use Rattle.meson_syntax.specs.Cursor.{input}
-use Rattle.meson_syntax.specs.ReadingFiles.{names, names_from}
+use Rattle.meson_syntax.specs.inside.Cursor.{input}
+use Rattle.meson_syntax.specs.inside.ReadingFiles.{names, names_from}
 use Rattle.meson_syntax.specs.View.{names_at}
 use Rattle.meson_syntax.proofs.grammar.Grammar.names.Given as goal
 

@@ -1,8 +1,8 @@
 use Rattle.std.proofs.Common.{arith}
 use Rattle.std.proofs.lemmas.Grind.{common_steps}
-use Rattle.meson_syntax.specs.Alone.{tailed}
-use Rattle.meson_syntax.specs.Cursor.{input}
-use Rattle.meson_syntax.specs.Reading.{expression, postfixed, room}
+use Rattle.meson_syntax.specs.inside.Alone.{tailed}
+use Rattle.meson_syntax.specs.inside.Cursor.{input}
+use Rattle.meson_syntax.specs.inside.Reading.{expression, postfixed, room}
 use Rattle.meson_syntax.specs.View.{expr_view}
 use Rattle.meson_syntax.proofs.Alone.{tailed-none}
 use Rattle.meson_syntax.proofs.grammar.Grammar.postfixed.Goals as goal

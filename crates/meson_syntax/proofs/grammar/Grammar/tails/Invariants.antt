@@ -1,6 +1,6 @@
 use Rattle.std.proofs.Common.{◌≡◌, ◌-◌}
-use Rattle.meson_syntax.specs.Reading.{tails, tails_from, expression, room}
-use Rattle.meson_syntax.specs.Cursor.{input}
+use Rattle.meson_syntax.specs.inside.Reading.{tails, tails_from, expression, room}
+use Rattle.meson_syntax.specs.inside.Cursor.{input}
 use Rattle.meson_syntax.specs.View.{tails_view}
 use Rattle.meson_syntax.proofs.grammar.Grammar.tails.Given as goal
 

@@ -5,7 +5,7 @@ use Rattle.meson_syntax.specs.ListPut.{put_there}
 use Rattle.meson_syntax.specs.Tree.{Listing}
 use Rattle.meson_syntax.specs.declared.tree.Parsed.{Parsed}
 use Rattle.meson_syntax.specs.Paths.{ListAt, list_at, of_block, with_block}
-use Rattle.meson_syntax.specs.Putting.{put_in}
+use Rattle.meson_syntax.specs.inside.Putting.{put_in}
 use Rattle.meson_syntax.specs.View.{block_view, list_view, view}
 use Rattle.meson_syntax.proofs.ToldFiles.{file_told}
 use Rattle.meson_syntax.proofs.PutFiles.{list-put, none-put, told}

@@ -5,9 +5,9 @@ use Rattle.meson_lex.specs.Located.{Token}
 use Rattle.meson_syntax.specs.declared.operator.Bracket.{Bracket}
 use Rattle.meson_syntax.specs.Operators.{opens}
 use Rattle.meson_syntax.specs.Tree.{Listing}
-use Rattle.meson_syntax.specs.Input.{Outcome, Parser, ◌>>=◌, refuse, saw}
+use Rattle.meson_syntax.specs.inside.Input.{Outcome, Parser, ◌>>=◌, refuse, saw}
 use Rattle.meson_syntax.specs.Paths.{list_span}
-use Rattle.meson_syntax.specs.Reading.{room, expression, listed}
+use Rattle.meson_syntax.specs.inside.Reading.{room, expression, listed}
 
 -- a list in these brackets, where at most depth constructs stand inside one another
 unfoldable pub bracketed : ℕ → Bracket → Parser (Listing Span)

@@ -7,7 +7,7 @@ use Rattle.meson_calls.specs.declared.marks.Marks.{Marks}
 use Rattle.meson_calls.specs.declared.refusal.Refusal.{Refusal}
 use Rattle.meson_sources.specs.SourceEdits.{Spot, none_found, removable}
 use Rattle.meson_sources.specs.declared.removing.ElementSpot as code
-use Rattle.meson_sources.specs.Naming.{has_value}
+use Rattle.meson_sources.specs.inside.Naming.{has_value}
 use Rattle.meson_calls.specs.Project.{place}
 
 abbrev pub spot_view : code.ElementSpot → Spot

@@ -9,12 +9,12 @@ use Rattle.meson_syntax.specs.declared.operator.Operator.{Operator}
 use Rattle.meson_syntax.specs.declared.tree.Arg.{Arg}
 use Rattle.meson_syntax.specs.declared.tree.Block as rust
 use Rattle.meson_syntax.specs.declared.tree.Expr.{Expr}
-use Rattle.meson_syntax.specs.Cursor.{Bytes, Cursor, input}
-use Rattle.meson_syntax.specs.Input.{Parser, Gives}
-use Rattle.meson_syntax.specs.Reading.{room, expression}
-use Rattle.meson_syntax.specs.ReadingFiles.{block_at}
+use Rattle.meson_syntax.specs.View.{Bytes, args_view, block_view, expr_view}
+use Rattle.meson_syntax.specs.inside.Cursor.{Cursor, input}
+use Rattle.meson_syntax.specs.inside.Input.{Parser, Gives}
+use Rattle.meson_syntax.specs.inside.Reading.{room, expression}
+use Rattle.meson_syntax.specs.inside.ReadingFiles.{block_at}
 use Rattle.meson_syntax.specs.Tree.{Argument, Block, Expression}
-use Rattle.meson_syntax.specs.View.{args_view, block_view, expr_view}
 
 -- a fault by which a token is refused, or want of memory
 abbrev pub IsGrammatical : ParseFault → Type 0

@@ -1,11 +1,9 @@
 -- The tokens that are left of a source.
 use Rattle.std.specs.Prelude.{ℕ, List, [], ◌∷◌}
 use Rattle.meson_syntax.specs.declared.token.Token.{Token}
-use Rattle.meson_syntax.specs.Input.{Input}
-use Rattle.meson_syntax.specs.Tokens.{tokens_of}
-
-abbrev pub Bytes : Type 0
-Bytes = List ℕ
+use Rattle.meson_syntax.specs.inside.Input.{Input}
+use Rattle.meson_syntax.specs.inside.Tokens.{tokens_of}
+use Rattle.meson_syntax.specs.View.{Bytes}
 
 -- where the last token ended, and those that are left
 pub record Cursor : Type 0 where

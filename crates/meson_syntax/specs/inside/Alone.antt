@@ -4,8 +4,8 @@ use Rattle.meson_lex.specs.declared.kinds.Kind.{Kind}
 use Rattle.meson_lex.specs.declared.kinds.Kind.TheVariants as k
 use Rattle.meson_lex.specs.declared.kinds.Span.{Span}
 use Rattle.meson_lex.specs.Located.{Token}
-use Rattle.meson_syntax.specs.Input.{Input, Parser, ◌>>=◌, pure, since}
-use Rattle.meson_syntax.specs.Reading.{tails, with_tails}
+use Rattle.meson_syntax.specs.inside.Input.{Input, Parser, ◌>>=◌, pure, since}
+use Rattle.meson_syntax.specs.inside.Reading.{tails, with_tails}
 use Rattle.meson_syntax.specs.Tree.{Expression}
 
 -- a token of this kind is an expression, where no bracket follows

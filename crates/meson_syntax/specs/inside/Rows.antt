@@ -2,8 +2,8 @@
 use Rattle.std.specs.Prelude.{ℕ, zero, suc, ◌-◌, Bool, List, [], Some}
 use Rattle.meson_lex.specs.declared.kinds.Span.{Span}
 use Rattle.meson_syntax.specs.declared.operator.Operator.{Operator}
-use Rattle.meson_syntax.specs.Input.{Parser, ◌>>=◌, and_then, pure, since, span_from, left}
-use Rattle.meson_syntax.specs.Reading.{operands_from, row_at, with_operands}
+use Rattle.meson_syntax.specs.inside.Input.{Parser, ◌>>=◌, and_then, pure, since, span_from, left}
+use Rattle.meson_syntax.specs.inside.Reading.{operands_from, row_at, with_operands}
 use Rattle.meson_syntax.specs.Tree.{Expression}
 
 module _ (room : Bool) (inner : Parser (Expression Span)) where

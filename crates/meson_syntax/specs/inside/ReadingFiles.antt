@@ -7,8 +7,8 @@ use Rattle.meson_lex.specs.Located.{Token}
 use Rattle.meson_syntax.specs.declared.operator.Assignment.{Assignment}
 use Rattle.meson_syntax.specs.declared.operator.Assignment.TheVariants as assigns
 use Rattle.meson_syntax.specs.Tree.{Name, Expression, Statement, evaluate, assign, selection, iteration, breaks, continues, branches_of, Otherwise, nothing_else, otherwise, Block, block, File, file, statements_of}
-use Rattle.meson_syntax.specs.Input.{Input, Outcome, Parser, ◌>>=◌, ◌>>◌, pure, refuse, peek, saw, saw_two, take_token, take_name, here, since, eat, expect, left}
-use Rattle.meson_syntax.specs.Reading.{room, expression}
+use Rattle.meson_syntax.specs.inside.Input.{Input, Outcome, Parser, ◌>>=◌, ◌>>◌, pure, refuse, peek, saw, saw_two, take_token, take_name, here, since, eat, expect, left}
+use Rattle.meson_syntax.specs.inside.Reading.{room, expression}
 
 -- whether a block ends before a token of this kind, or at the end
 abbrev pub ends_block : Option Kind → Bool

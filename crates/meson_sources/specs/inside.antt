@@ -1,0 +1,2 @@
+pub mod CodeSpots
+pub mod Naming

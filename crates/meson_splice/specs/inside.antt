@@ -1,0 +1,3 @@
+pub mod Borrowed
+pub mod Gap
+pub mod Ordered

@@ -1,0 +1,4 @@
+pub mod Held
+pub mod Layers
+pub mod Laying
+pub mod WrittenValues

@@ -1,0 +1,11 @@
+pub mod Alone
+pub mod Cursor
+pub mod Gathering
+pub mod Input
+pub mod Nests
+pub mod Putting
+pub mod Reading
+pub mod ReadingFiles
+pub mod ReadingLists
+pub mod Rows
+pub mod Tokens
