@@ -18,20 +18,10 @@ pub mod GoodParts
 pub mod GoodTexts
 pub mod GoodLiterals
 pub mod GoodNotes
-pub mod Anys
-pub mod Singles
-pub mod Assignments
-pub mod FollowedNames
 pub mod Listed
-pub mod Measures
 pub mod Nested
-pub mod Gathers
-pub mod Vacant
 pub mod Kept
-pub mod Answered
-pub mod MetAll
 pub mod SubdirNames
-pub mod KnownCalls
 pub mod CallsAt
 pub mod ArgumentViews
 pub mod FirstNamed
@@ -47,12 +37,12 @@ pub mod FirstValue
 pub mod PartsContained
 mod PartsOrdered
 pub mod Spelled
-pub mod SoughtValues
 pub mod NoteTurns
 mod SpelledLiterals
 mod StandingParts
-mod StandingNotes
+pub mod StandingNotes
 mod NothingRead
-mod NoteReadings
+pub mod NoteReadings
 pub mod NotesWith
 mod NoSubdirs
+pub mod KeywordArguments

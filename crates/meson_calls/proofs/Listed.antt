@@ -1,32 +1,10 @@
--- Elements of a list, one after another: whether they have names.
-use Rattle.std.proofs.Common.{rules, ◌≡◌, ℕ, ◌+◌, ◌<◌, ◌≤◌, List, length, drop, get_or, sym, ap, ◌∙◌}
-use Rattle.std.specs.Prelude.{Bool, true, false, if◌then◌else◌}
-use Rattle.std.proofs.lemmas.List.{at_drop_more, at_drop_all}
-use Rattle.meson_syntax.specs.declared.tree.Arg.{Arg}
+-- The view of a list, by its elements.
+use Rattle.std.proofs.Common.{rules, ◌≡◌, ℕ, List}
 use Rattle.meson_syntax.specs.declared.tree.Arg.TheFolds.{the_lemmas}
 use Rattle.meson_syntax.specs.declared.tree.List as rust
-use Rattle.meson_syntax.specs.Tree.{listing, is_named, arguments_of}
-use Rattle.meson_syntax.specs.View.{arg_view, args_view, list_view}
-use Rattle.meson_calls.specs.Expansion.{has_names, are_named}
+use Rattle.meson_syntax.specs.Tree.{listing, arguments_of}
+use Rattle.meson_syntax.specs.View.{args_view, list_view}
 
 module _ (source : List ℕ) where
   pub list_is : (l : rust.List) → list_view source l ≡ listing (rust.out-List l).span (rust.out-List l).trailing (arguments_of (args_view source (rust.out-List l).items))
   list_is l = search (rules, the_lemmas)
-
-  abbrev pub names_left : List Arg → Bool
-  names_left args = has_names (arguments_of (args_view source args))
-
-  pub names_of_list : (l : rust.List) → are_named (list_view source l) ≡ names_left (rust.out-List l).items
-  names_of_list l = ap are_named (list_is l)
-
-  names_here : (args : List Arg) (i : ℕ) (d : Arg) → i < length args → names_left (drop i args) ≡ (if is_named (arg_view source (get_or args i d)) then true else names_left (drop (i + 1) args))
-  names_here args i d within = at_drop_more names_left args i d within
-
-  pub name_found : (args : List Arg) (i : ℕ) (d : Arg) → i < length args → is_named (arg_view source (get_or args i d)) ≡ true → names_left (drop i args) ≡ true
-  name_found args i d within is = names_here args i d within ∙ ap (λ b. if b then true else names_left (drop (i + 1) args)) is
-
-  pub name_skipped : (args : List Arg) (i : ℕ) (d : Arg) → i < length args → is_named (arg_view source (get_or args i d)) ≡ false → names_left (drop (i + 1) args) ≡ names_left (drop i args)
-  name_skipped args i d within is = sym (names_here args i d within ∙ ap (λ b. if b then true else names_left (drop (i + 1) args)) is)
-
-  pub names_ended : (args : List Arg) (i : ℕ) → length args ≤ i → names_left (drop i args) ≡ false
-  names_ended args i past = at_drop_all names_left args i past

@@ -1,5 +1,5 @@
--- Elements of lists and operands of rows: their rank, their strings, and what the code's nodes stand for.
-use Rattle.std.proofs.Common.{rules, ◌≡◌, ℕ, zero, suc, ◌<◌, ◌≤◌, List, [], ◌∷◌, ◌++◌, length, get_or, ap, subst, arith}
+-- Elements of lists and operands of rows: their strings, and what the code's nodes stand for.
+use Rattle.std.proofs.Common.{rules, ◌≡◌, ℕ, zero, suc, ◌<◌, List, [], ◌∷◌, ◌++◌, length, get_or, subst, arith}
 use Rattle.std.specs.Prelude.{Bool}
 use Rattle.meson_lex.specs.declared.kinds.Span.{Span}
 use Rattle.meson_syntax.specs.declared.operator.Bracket.{Bracket}
@@ -11,10 +11,9 @@ use Rattle.meson_syntax.specs.declared.tree.Expr.{Expr}
 use Rattle.meson_syntax.specs.declared.tree.Expr.TheVariants as expr
 use Rattle.meson_syntax.specs.declared.tree.Operand.{Operand}
 use Rattle.meson_syntax.specs.declared.tree.List as rust
-use Rattle.meson_syntax.specs.Tree.{identifier, array, call, Listing, listing, plain, Arguments, no_arguments, argument, arguments_of, operands_of}
+use Rattle.meson_syntax.specs.Tree.{identifier, array, call, Listing, listing, plain, Arguments, no_arguments, argument, operands_of}
 use Rattle.meson_syntax.specs.Grammar.{mark, operator_words, expression_words, operands_words, argument_words, arguments_words, comma_words, listing_words}
-use Rattle.meson_syntax.specs.View.{name_at, text_at, expr_view, list_view, arg_view, args_view, operand_view, operands_view}
-use Rattle.meson_calls.specs.Noted.{rank, operands_rank, argument_rank, arguments_rank, listing_rank}
+use Rattle.meson_syntax.specs.View.{name_at, text_at, expr_view, list_view, arg_view, operand_view, operands_view}
 use Rattle.meson_calls.specs.Strings.{AreGood}
 use Rattle.meson_calls.specs.GoodLists.{GoodArguments, GoodListing, GoodArgs}
 use Rattle.meson_calls.proofs.GoodParts.{good_left, good_right}
@@ -65,28 +64,3 @@ module _ (source : List ℕ) where
       let more = operands_words (operands_of (operands_view source rest)) in
       let below : i < length rest = omega arith in
       good_operand rest i d below (good_right (expression_words v.1) more (good_right (operator_words v.0) (expression_words v.1 ++ more) good))
-
-  -- ---- rank
-
-  pub args_rank : (l : rust.List) → listing_rank (list_view source l) ≡ suc (arguments_rank (arguments_of (args_view source (rust.out-List l).items)))
-  args_rank l = ap listing_rank (list_is source l)
-
-  pub arg_rank : (args : List Arg) (i : ℕ) (d : Arg) → i < length args → argument_rank (arg_view source (get_or args i d)) < suc (arguments_rank (arguments_of (args_view source args)))
-  arg_rank [] i d within = absurd (omega arith)
-  arg_rank (a ∷ args) zero d within = let x = argument_rank (arg_view source a) in let y = arguments_rank (arguments_of (args_view source args)) in omega arith
-  arg_rank (a ∷ args) (suc i) d within =
-      let below : i < length args = omega arith in
-      let more = arg_rank args i d below in
-      omega arith
-
-  pub operand_rank : (rest : List Operand) (i : ℕ) (d : Operand) → i < length rest → rank (expr_view source (get_or rest i d).value) ≤ operands_rank (operands_of (operands_view source rest))
-  operand_rank [] i d within = absurd (omega arith)
-  operand_rank (o ∷ rest) zero d within =
-      let same = ap rank (operand_value source o) in
-      let x = rank (operand_view source o).1 in
-      let y = operands_rank (operands_of (operands_view source rest)) in
-      omega arith
-  operand_rank (o ∷ rest) (suc i) d within =
-      let below : i < length rest = omega arith in
-      let more = operand_rank rest i d below in
-      omega arith

@@ -1,17 +1,14 @@
 -- A project with its notes: these are good, and the call that an id names in them is that of the project, and stands in its trees.
-use Rattle.std.proofs.Common.{◌≡◌, ℕ, ◌<◌, List, length, sym, ap₂, ◌∙◌, arith}
+use Rattle.std.proofs.Common.{◌≡◌, ℕ, ◌<◌, List, length, sym, ◌∙◌, arith}
 use Rattle.std.specs.Prelude.{Ok, Err}
 use Rattle.meson_lex.specs.declared.kinds.Span.{Span}
 use Rattle.meson_calls.specs.declared.call.CallRef.{CallRef}
 use Rattle.meson_calls.specs.declared.call.Role.{Role}
 use Rattle.meson_calls.specs.declared.noted.Noted.{Noted}
 use Rattle.meson_calls.specs.declared.refusal.Refusal.{Refusal}
-use Rattle.meson_calls.specs.declared.variables.Variables.{Variables}
 use Rattle.meson_calls.specs.CallPlaces.{CallIn}
 use Rattle.meson_calls.specs.Calls.{Call}
 use Rattle.meson_calls.specs.Finding.{the_call}
-use Rattle.meson_calls.specs.Loading.{named_trees, views}
-use Rattle.meson_calls.specs.CodeVariables.{project_of}
 use Rattle.meson_calls.specs.NotedProjects.{IsNotedFor, project_in}
 use Rattle.meson_calls.specs.Notes.{note_views}
 use Rattle.meson_calls.specs.OnePlace.{the_place}
@@ -64,9 +61,3 @@ module _ (n : Noted) (r : Role) (id : List ℕ) (is : IsNotedFor r id n) where
 
     pub call_file : place.file < length n.files.now
     call_file = let within = call_within in let many = trees_as_many n is in omega (arith, within, many)
-
--- ---- the variables of its files and trees
-
-module _ (v : Variables) (n : Noted) (files : v.files.now ≡ n.files.now) (trees : v.trees.now ≡ n.trees.now) where
-  pub same_project : project_of v ≡ project_in n
-  same_project = ap₂ (λ fs ts. named_trees fs (views fs ts)) files trees

@@ -1,7 +1,6 @@
 -- What is read off notes without the files in which none of some words stands is what is read off all notes.
-use Rattle.std.proofs.Common.{◌≡◌, ℕ, ◌+◌, List, [], ◌∷◌, ◌++◌, Bor, false, codes, refl, sym, ap, ap₂, subst}
-use Rattle.std.specs.Prelude.{◌||◌, Bool, true, bytes_eq, map, option_map, if◌then◌else◌}
-use Rattle.std.proofs.lemmas.Slice.Eq.{bytes_eq-Decides}
+use Rattle.std.proofs.Common.{◌≡◌, ℕ, ◌+◌, List, [], ◌∷◌, ◌++◌, codes, sym, ap, ap₂, subst}
+use Rattle.std.specs.Prelude.{if◌then◌else◌}
 use Rattle.std.proofs.lemmas.List.Elements.{All-head, All-tail}
 use Rattle.meson_splice.specs.Patch.{then_ok}
 use Rattle.meson_splice.specs.declared.file_set.File.{File}
@@ -9,22 +8,18 @@ use Rattle.meson_syntax.specs.declared.tree.Parsed.{Parsed}
 use Rattle.meson_syntax.specs.View.{view}
 use Rattle.meson_calls.specs.declared.call.Role.{Role}
 use Rattle.meson_calls.specs.declared.call.Role.TheVariants as role
-use Rattle.meson_calls.specs.Calls.{chosen}
-use Rattle.meson_calls.specs.CodeVariables.{is_among}
 use Rattle.meson_calls.specs.Finding.{only_one}
-use Rattle.meson_calls.specs.Knowns.{has_unknown, is_unknown_in}
 use Rattle.meson_calls.specs.Loading.{AreParsed, named_trees, views}
-use Rattle.meson_calls.specs.Noted.{assigned_notes, is_set_by, note_assigned, note_sets}
 use Rattle.meson_calls.specs.Notes.{noted, notes}
 use Rattle.meson_calls.specs.OnePlace.{any_place, the_place}
 use Rattle.meson_calls.specs.Parts.{parts_of_file}
 use Rattle.meson_calls.specs.Picking.{assigned_places, found_places, note_has_name, note_has_role, note_sets_call, places_that, places_with_role}
-use Rattle.meson_calls.specs.Project.{child, placed}
+use Rattle.meson_calls.specs.Project.{child}
 use Rattle.meson_calls.specs.Roles.{one_of, or_else, project_ids}
-use Rattle.meson_calls.specs.Spelling.{HasNone, HasNoneOf, AreNotesOf, whole, passed, AreNotesWith, setter_words, sought_words}
+use Rattle.meson_calls.specs.Spelling.{HasNone, HasNoneOf, AreNotesOf, whole, passed, AreNotesWith, sought_words}
 use Rattle.meson_calls.specs.Strings.{NotesGood}
-use Rattle.meson_calls.proofs.NoteReadings.{Notes, notes_from, notes_after, same_read, any_gathers, none_passes, chosen_gathers, none_chosen, picked_gathers, none_picked}
-use Rattle.meson_calls.proofs.NothingRead.{assigned_none, names_nothing, no_project, sets_none, unknown_none, value_unnamed}
+use Rattle.meson_calls.proofs.NoteReadings.{Notes, notes_from, notes_after, same_read, picked_gathers, none_picked}
+use Rattle.meson_calls.proofs.NothingRead.{names_nothing, no_project, value_unnamed}
 
 -- ---- good notes
 
@@ -60,59 +55,11 @@ module _ (words : List (List ℕ)) where
 
 -- ---- words of a list
 
-first_word : (bytes w : List ℕ) (ws : List (List ℕ)) → HasNoneOf (w ∷ ws) bytes → HasNone w bytes
+pub first_word : (bytes w : List ℕ) (ws : List (List ℕ)) → HasNoneOf (w ∷ ws) bytes → HasNone w bytes
 first_word bytes w ws none = All-head (λ word. HasNone word bytes) w ws none
 
-further_words : (bytes w : List ℕ) (ws : List (List ℕ)) → HasNoneOf (w ∷ ws) bytes → HasNoneOf ws bytes
+pub further_words : (bytes w : List ℕ) (ws : List (List ℕ)) → HasNoneOf (w ∷ ws) bytes → HasNoneOf ws bytes
 further_words bytes w ws none = All-tail (λ word. HasNone word bytes) w ws none
-
-last_words : (bytes : List ℕ) (ws vs : List (List ℕ)) → HasNoneOf (ws ++ vs) bytes → HasNoneOf vs bytes
-last_words bytes [] vs none = none
-last_words bytes (w ∷ ws) vs none = last_words bytes ws vs (further_words bytes w (ws ++ vs) none)
-
--- a word of the code's names
-named_word : (bytes : List ℕ) (names : List (Bor (List ℕ))) (vs : List (List ℕ)) (x : List ℕ) → HasNoneOf (map (λ name. name.now) names ++ vs) bytes → is_among names x ≡ true → HasNone x bytes
-named_word bytes [] vs x none among = absurd cc
-named_word bytes (y ∷ ys) vs x none among =
-    by (bytes_eq y.now x) (bytes_eq-Decides y.now x).0 among
-    (λ more. named_word bytes ys vs x (further_words bytes y.now (map (λ name. name.now) ys ++ vs) none) more)
-  where
-    by : (b : Bool) → (b ≡ true → y.now ≡ x) → (b || is_among ys x) ≡ true → (is_among ys x ≡ true → HasNone x bytes) → HasNone x bytes
-    by true same either more = subst (λ w. HasNone w bytes) (same refl) (first_word bytes y.now (map (λ name. name.now) ys ++ vs) none)
-    by false same either more = more either
-
--- ---- what sets a variable
-
-module _ (ws : List (List ℕ)) (bytes : List ℕ) (none : HasNoneOf (ws ++ setter_words) bytes) where
-  no_subdir : HasNone (codes "subdir") bytes
-  no_subdir = first_word bytes (codes "subdir") (codes "set_variable" ∷ []) (last_words bytes ws setter_words none)
-
-  no_setter : HasNone (codes "set_variable") bytes
-  no_setter = first_word bytes (codes "set_variable") [] (further_words bytes (codes "subdir") (codes "set_variable" ∷ []) (last_words bytes ws setter_words none))
-
-module _ (names : List (Bor (List ℕ))) (files : List File) (parsed : List Parsed) (ns : Notes) (parses : AreParsed files parsed)
-    (are : AreNotesWith (map (λ name. name.now) names ++ setter_words) 0 files parsed ns) where
-  abbrev those : List (List ℕ)
-  those = map (λ (name : Bor (List ℕ)). name.now) names
-
-  pub same_set : (x : List ℕ) → is_among names x ≡ true → is_set_by x ns ≡ is_set_by x (notes (named_trees files (views files parsed)))
-  same_set x among =
-      same_read (those ++ setter_words) (is_set_by x) (λ a b. a || b) false (any_gathers (λ m. note_sets x m.it))
-      (λ bytes none n stands. none_passes (λ k. note_sets x k.it) n (sets_none bytes x (named_word bytes names setter_words x none among) (no_setter those bytes none) n.it stands))
-      0 files parsed ns parses are
-
-  pub same_assigned : (x : List ℕ) → is_among names x ≡ true → assigned_notes x ns ≡ assigned_notes x (notes (named_trees files (views files parsed)))
-  same_assigned x among =
-      same_read (those ++ setter_words) (assigned_notes x) (λ a b. a ++ b) [] (chosen_gathers (chosen (note_assigned x)))
-      (λ bytes none n stands.
-      none_chosen (chosen (note_assigned x)) n (ap (option_map (placed n.place)) (assigned_none bytes x (named_word bytes names setter_words x none among) n.it stands)))
-      0 files parsed ns parses are
-
-  pub same_unknown : (fs : List File) → has_unknown fs ns ≡ has_unknown fs (notes (named_trees files (views files parsed)))
-  same_unknown fs =
-      same_read (those ++ setter_words) (has_unknown fs) (λ a b. a || b) false (any_gathers (λ m. is_unknown_in fs m.place m.it))
-      (λ bytes none n stands. none_passes (λ k. is_unknown_in fs k.place k.it) n (unknown_none bytes fs (no_subdir those bytes none) (no_setter those bytes none) n.place n.it stands))
-      0 files parsed ns parses are
 
 -- ---- what an id names
 

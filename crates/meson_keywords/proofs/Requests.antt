@@ -17,15 +17,13 @@ use Rattle.meson_steps.specs.ResultLimits.{plain_trees}
 use Rattle.meson_calls.specs.Picking.{call_with}
 use Rattle.meson_calls.specs.Finding.{the_call}
 use Rattle.meson_calls.specs.Project.{Project, Placed}
-use Rattle.meson_calls.specs.Sources.{not_hidden}
-use Rattle.meson_calls.specs.Sourced.{kept_args}
-use Rattle.meson_calls.specs.Sources.{kwargs_key}
+use Rattle.meson_calls.specs.Keywords.{not_hidden, kept_args, kwargs_key}
 use Rattle.meson_calls.specs.CallPlaces.{CallIn}
 use Rattle.meson_steps.specs.Steps.{Step}
 use Rattle.meson_keywords.specs.Tasking.{Asked, asked_tasks}
 use Rattle.meson_keywords.specs.Tasks.{Task}
 use Rattle.meson_keywords.specs.TaskSteps.{call_changed, tasks_steps, trees_of}
-use Rattle.meson_calls.proofs.Answered.{keyword_is}
+use Rattle.meson_calls.proofs.KeywordArguments.{keyword_is}
 use Rattle.meson_keywords.proofs.CallRoom.{stands_there, trees_are}
 use Rattle.meson_calls.proofs.CallsFound.{calls_stand}
 use Rattle.meson_calls.proofs.OneCall.{placed_at, call_there, call_refused}
@@ -97,7 +95,7 @@ module _ (files : List File) (trees : List Parsed) (r : Role) (id : List ℕ) (a
         by_arguments =
             by_words
             ∙ ap (λ a. behind (not_hidden (keyword kwargs_key (call_with the_one.it.function a)))) (sym arguments_are)
-            ∙ ap (λ ks. behind (not_hidden ks)) (keyword_is p place source l the_one.it.function kwargs_key)
+            ∙ ap (λ ks. behind (not_hidden ks)) (keyword_is source l the_one.it.function kwargs_key)
 
         -- arguments that may be hidden
         pub hides : (e : Refusal) → hidden ≡ Err e → meant ≡ Err e

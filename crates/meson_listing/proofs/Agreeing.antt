@@ -13,13 +13,14 @@ use Rattle.meson_syntax.specs.Reads.{max_len}
 use Rattle.meson_syntax.specs.Tree.{Expression, call, Plain}
 use Rattle.meson_calls.specs.declared.call.Role.{Role}
 use Rattle.meson_calls.specs.declared.call.Role.TheVariants as role
-use Rattle.meson_calls.specs.declared.call.Sources.{Sources}
+use Rattle.meson_variables.specs.declared.source.Sources.{Sources}
 use Rattle.meson_calls.specs.declared.refusal.Refusal.{Refusal}
 use Rattle.meson_calls.specs.Calls.{Call, call_of, keyword}
 use Rattle.meson_calls.specs.Finding.{the_call}
 use Rattle.meson_calls.specs.Loading.{Loaded, AreParsed, IsProject, project}
 use Rattle.meson_calls.specs.Project.{Project, Placed, placed}
-use Rattle.meson_calls.specs.Sources.{sources_of_marks, call_at, once, source_marks, sources, sources_key, sources_of_call}
+use Rattle.meson_variables.specs.Sources.{sources_of_marks, call_at, source_marks, sources, sources_of_call}
+use Rattle.meson_calls.specs.Keywords.{once, sources_key}
 use Rattle.meson_sources.specs.Extras.{extra_files, extra_of_call}
 use Rattle.meson_sources.specs.SourceEdits.{extra_key, extra_marks}
 use Rattle.meson_steps.specs.declared.command.Command.{Command}

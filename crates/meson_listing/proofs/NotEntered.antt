@@ -10,7 +10,7 @@ use Rattle.meson_calls.specs.Loading.{Loaded, project}
 use Rattle.meson_calls.specs.Project.{Project, Placed, placed, nth_file}
 use Rattle.meson_calls.specs.Roles.{places}
 use Rattle.meson_calls.specs.Variables.{calls_function, enters_unknown, is_there, meant_file, sets_unknown}
-use Rattle.meson_calls.proofs.KnownCalls.{enters_alike}
+use Rattle.meson_variables.proofs.KnownCalls.{enters_alike}
 use Rattle.meson_calls.proofs.Loads.{as_many}
 use Rattle.meson_listing.specs.Holdings.{enters_one, held_calls, not_entered, with_function}
 use Rattle.meson_listing.specs.Laws.{NotEnteredMeansUnknown, TellsWhyUnknown}

@@ -3,8 +3,8 @@ use Rattle.std.specs.Prelude.{ℕ, List, [], ◌∷◌, map, codes, Option, Some
 use Rattle.serde_json.specs.Data.{Data, null, boolean, number, unsigned, string, array, object, Members, no_members, member, put}
 use Rattle.serde_json.specs.View.{items_of}
 use Rattle.meson_splice.specs.declared.file_set.File.{File}
-use Rattle.meson_calls.specs.declared.call.SourceItem.{SourceItem}
-use Rattle.meson_calls.specs.declared.call.Sources.{Sources}
+use Rattle.meson_variables.specs.declared.source.SourceItem.{SourceItem}
+use Rattle.meson_variables.specs.declared.source.Sources.{Sources}
 use Rattle.meson_calls.specs.Loading.{name_of_file}
 use Rattle.meson_plan.specs.declared.details.Head.{Head}
 use Rattle.meson_plan.specs.declared.details.Shown.{Shown}

@@ -16,8 +16,7 @@ use Rattle.meson_keywords.specs.Keys.{is_key}
 use Rattle.meson_calls.specs.Picking.{call_with}
 use Rattle.meson_plan.specs.Planning.{only_once, target_told, name_in, key_told, keys_told, call_told}
 use Rattle.meson_sources.specs.SourceEdits.{extra_key}
-use Rattle.meson_calls.specs.Sourced.{kept_args}
-use Rattle.meson_calls.specs.Sources.{sources_key, once}
+use Rattle.meson_calls.specs.Keywords.{kept_args, sources_key, once}
 use Rattle.meson_calls.specs.Refusals.{IfRefused, RefusedAs}
 use Rattle.meson_steps.specs.Steps.{Step}
 use Rattle.meson_steps.proofs.ArgumentValues.{list_elements}

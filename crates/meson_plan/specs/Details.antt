@@ -13,14 +13,15 @@ use Rattle.meson_edit.specs.Edits.{elements}
 use Rattle.meson_calls.specs.declared.call.CallRef.{CallRef}
 use Rattle.meson_calls.specs.declared.call.Role.{Role}
 use Rattle.meson_calls.specs.declared.call.Role.TheVariants.{Target}
-use Rattle.meson_calls.specs.declared.call.Sources.{Sources}
+use Rattle.meson_variables.specs.declared.source.Sources.{Sources}
 use Rattle.meson_calls.specs.declared.refusal.Refusal.{Refusal}
 use Rattle.meson_calls.specs.Calls.{Call, first_of, first_literal, keyword, literal_of, value_without_name}
 use Rattle.meson_calls.specs.Loading.{Loaded, project}
 use Rattle.meson_calls.specs.Picking.{call_with}
 use Rattle.meson_calls.specs.Project.{Project, Placed, expression_at}
 use Rattle.meson_calls.specs.Finding.{the_call}
-use Rattle.meson_calls.specs.Sources.{call_at, kwargs_key, sources}
+use Rattle.meson_variables.specs.Sources.{call_at, sources}
+use Rattle.meson_calls.specs.Keywords.{kwargs_key}
 use Rattle.meson_keywords.specs.KeywordEdits.{name_of}
 use Rattle.meson_keywords.specs.Keys.{is_key}
 use Rattle.meson_sources.specs.Extras.{extra_files}

@@ -12,7 +12,7 @@ use Rattle.meson_calls.specs.declared.refusal.Refusal.{Refusal}
 use Rattle.meson_calls.specs.Project.{Project}
 use Rattle.meson_calls.specs.Calls.{Call, keyword}
 use Rattle.meson_calls.specs.Finding.{the_call}
-use Rattle.meson_calls.specs.Sources.{sources_key, once}
+use Rattle.meson_calls.specs.Keywords.{sources_key, once}
 use Rattle.meson_keywords.specs.Keys.{is_key}
 use Rattle.meson_sources.specs.SourceEdits.{extra_key, sources_added, sources_removed, extra_added, extra_removed}
 use Rattle.meson_targets.specs.TargetEdits.{target_added, target_removed}

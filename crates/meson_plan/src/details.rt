@@ -2,18 +2,19 @@
 
 ghost use Rattle.std.specs.Prelude.{IfOk, IsTrue};
 ghost use Rattle.meson_calls.specs.Loading.{AreParsed};
-ghost use Rattle.meson_calls.specs.CodeVariables.{AreVariables, project_of};
+ghost use Rattle.meson_variables.specs.CodeVariables.{AreVariables, project_of};
 ghost use Rattle.meson_calls.specs.Refusals.{IfRefused};
 ghost use Rattle.meson_calls.specs.Roles.{is_target};
 ghost use Rattle.meson_plan.specs.Details.{AreDetails, NoDetails};
 
 use crate::called::call_at;
 use crate::showing::head_of;
-use meson_calls::arriving::sources_at;
-use meson_calls::variables::Variables;
-use meson_calls::{CallRef, Refusal, Sources};
+use meson_calls::{CallRef, Refusal};
 use meson_sources::extras::extra_files_of;
 use meson_splice::{Many, Text};
+use meson_variables::Sources;
+use meson_variables::arriving::sources_at;
+use meson_variables::variables::Variables;
 
 /// A call without its arguments, and its name.
 #[derive(Debug, Drop)]

@@ -11,8 +11,7 @@ mod project;
 mod showing;
 
 pub use details::{Head, Shown, TargetDetails};
-pub use meson_calls::{
-    CallRef, LoadFault, MAX_FILES, Refusal, Role, SourceItem, Sources, Unloaded, subdirs,
-};
+pub use meson_calls::{CallRef, LoadFault, MAX_FILES, Refusal, Role, Unloaded, subdirs};
 pub use meson_steps::command::{Command, Done, Setting};
+pub use meson_variables::{SourceItem, Sources};
 pub use project::Project;

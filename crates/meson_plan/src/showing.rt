@@ -20,13 +20,13 @@ use crate::details::{Head, Shown};
 use crate::info::call_told;
 use meson_calls::arguments::count_named;
 use meson_calls::literals::{first_literal, literal};
-use meson_calls::marks::text_of_name;
 use meson_calls::roles::{identifier_text, text_of};
 use meson_calls::{Refusal, Role};
 use meson_keywords::keys::is_key;
 use meson_splice::{Many, Text};
 use meson_steps::spans::span_of;
 use meson_syntax::{Arg, Bracket, Expr, List};
+use meson_variables::marks::text_of_name;
 use std::alloc::{AllocError, Global};
 
 /// The text of an identifier.

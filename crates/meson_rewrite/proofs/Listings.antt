@@ -11,12 +11,12 @@ use Rattle.meson_splice.specs.declared.splice.Splice.{Splice}
 use Rattle.meson_splice.specs.Patch.{then_ok}
 use Rattle.meson_calls.specs.declared.call.Role.{Role}
 use Rattle.meson_calls.specs.declared.call.Role.TheVariants as role
-use Rattle.meson_calls.specs.declared.call.SourceItem.{SourceItem}
-use Rattle.meson_calls.specs.declared.call.Sources.{Sources}
+use Rattle.meson_variables.specs.declared.source.SourceItem.{SourceItem}
+use Rattle.meson_variables.specs.declared.source.Sources.{Sources}
 use Rattle.meson_calls.specs.declared.refusal.Refusal.{Refusal}
 use Rattle.meson_calls.specs.Finding.{the_call}
 use Rattle.meson_calls.specs.Loading.{Loaded, project}
-use Rattle.meson_calls.specs.Sources.{sources}
+use Rattle.meson_variables.specs.Sources.{sources}
 use Rattle.meson_sources.specs.Extras.{extra_files}
 use Rattle.meson_steps.specs.declared.command.Command.{Command}
 use Rattle.meson_steps.specs.declared.command.Command.TheVariants as command

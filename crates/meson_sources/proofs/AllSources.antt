@@ -10,12 +10,13 @@ use Rattle.meson_syntax.proofs.paths.Every.{Every}
 use Rattle.meson_calls.specs.declared.call.CallRef.{CallRef}
 use Rattle.meson_calls.specs.declared.call.Role.TheVariants as role
 use Rattle.meson_calls.specs.Calls.{Call, Numbered, first_argument, first_of, keyword, kept_number, numbered, value_without_name}
-use Rattle.meson_calls.specs.Expansion.{max_followed}
+use Rattle.meson_variables.specs.Expansion.{max_followed}
 use Rattle.meson_calls.specs.Finding.{the_call}
 use Rattle.meson_calls.specs.Loading.{IsProject, Loaded, project}
 use Rattle.meson_calls.specs.Project.{Placed}
 use Rattle.meson_calls.specs.Roles.{one_of, target_functions}
-use Rattle.meson_calls.specs.Sources.{first_empty, first_list, home, once, or_call, or_option, source_marks, sources, sources_key}
+use Rattle.meson_variables.specs.Sources.{first_empty, first_list, home, or_call, or_option, source_marks, sources}
+use Rattle.meson_calls.specs.Keywords.{once, sources_key}
 use Rattle.meson_steps.specs.Names.{checked_names}
 use Rattle.meson_steps.specs.ResultLimits.{plain_trees}
 use Rattle.meson_steps.specs.Steps.{Step, all_stepped}

@@ -8,7 +8,7 @@ use Rattle.meson_syntax.proofs.paths.Every.{Every}
 use Rattle.meson_edit.specs.Edits.{with_value}
 use Rattle.meson_calls.specs.declared.call.CallRef.{CallRef}
 use Rattle.meson_calls.specs.Calls.{Numbered, literal_of}
-use Rattle.meson_calls.specs.Expansion.{literal_item, Expansion, Stand, both_expanded, element, expand_by, expand_each, fixed, known, max_followed, met}
+use Rattle.meson_variables.specs.Expansion.{literal_item, Expansion, Stand, both_expanded, element, expand_by, expand_each, fixed, known, max_followed, met}
 use Rattle.meson_calls.specs.Project.{child}
 use Rattle.meson_sources.specs.Effects.{array_holding, extra_argument, strings}
 use Rattle.meson_sources.specs.SourceEdits.{extra_key}

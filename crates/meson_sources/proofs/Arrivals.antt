@@ -11,7 +11,7 @@ use Rattle.meson_syntax.proofs.parsing.Steps.{some-injective}
 use Rattle.meson_syntax.proofs.paths.Every.{Every}
 use Rattle.meson_syntax.proofs.paths.Reaching.{and-then-some}
 use Rattle.meson_calls.specs.declared.call.CallRef.{CallRef}
-use Rattle.meson_calls.specs.Expansion.{Mark, Expansion, Stand, is_files, is_operand_by, is_value_by, expand_by}
+use Rattle.meson_variables.specs.Expansion.{Mark, Expansion, Stand, is_files, is_operand_by, is_value_by, expand_by}
 use Rattle.meson_calls.specs.Loading.{Loaded, project}
 use Rattle.meson_calls.specs.Project.{BuildFile, Placed, child, expression_at, nth_file}
 use Rattle.meson_calls.specs.Roles.{one_of}

@@ -13,7 +13,7 @@ use Rattle.meson_syntax.specs.Tree.{Nowhere, Plain, Name, Expression, string, ca
 use Rattle.meson_syntax.proofs.paths.Every.{Every}
 use Rattle.meson_syntax.proofs.paths.Reaching.{map-some}
 use Rattle.meson_calls.specs.declared.call.CallRef.{CallRef}
-use Rattle.meson_calls.specs.Expansion.{Item, Stand, literal_item, max_followed}
+use Rattle.meson_variables.specs.Expansion.{Item, Stand, literal_item, max_followed}
 use Rattle.meson_calls.specs.declared.call.Role.TheVariants as role
 use Rattle.meson_calls.specs.Calls.{call_of}
 use Rattle.meson_calls.specs.Finding.{the_call}

@@ -9,9 +9,10 @@ use Rattle.meson_syntax.specs.Parts.{Any, an_expression, arguments_parts}
 use Rattle.meson_syntax.specs.Tree.{Nowhere, Expression, plain, named, pair, Arguments, no_arguments, argument}
 use Rattle.meson_calls.specs.declared.call.CallRef.{CallRef}
 use Rattle.meson_calls.specs.Calls.{Numbered, kept_number, numbered, value_without_name, value_with_name}
-use Rattle.meson_calls.specs.Expansion.{Slot, in_list, fixed, Expansion, Stand, both_expanded, nothing_met}
+use Rattle.meson_variables.specs.Expansion.{Slot, in_list, fixed, Expansion, Stand, both_expanded, nothing_met}
 use Rattle.meson_calls.specs.Project.{child}
-use Rattle.meson_calls.specs.Sources.{list_of_slot, rest, sources_key}
+use Rattle.meson_variables.specs.Sources.{list_of_slot}
+use Rattle.meson_calls.specs.Keywords.{rest, sources_key}
 use Rattle.meson_sources.proofs.MarkLists.{below, below_child}
 use Rattle.meson_sources.proofs.Outcomes.{Outcome, Along, joined, nothing_both, still, along_same, along_first, along_behind}
 use Rattle.meson_sources.proofs.PartsPut.{Differ}

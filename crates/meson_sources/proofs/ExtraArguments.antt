@@ -11,7 +11,7 @@ use Rattle.meson_syntax.proofs.paths.Every.{Every}
 use Rattle.meson_edit.specs.Edits.{elements, with_value}
 use Rattle.meson_calls.specs.declared.call.CallRef.{CallRef}
 use Rattle.meson_calls.specs.Calls.{Numbered, literal_of}
-use Rattle.meson_calls.specs.Expansion.{Expansion, fixed, max_followed}
+use Rattle.meson_variables.specs.Expansion.{Expansion, fixed, max_followed}
 use Rattle.meson_calls.specs.Loading.{Loaded, project}
 use Rattle.meson_calls.specs.Project.{Project}
 use Rattle.meson_steps.specs.ResultLimits.{plain_trees}

@@ -13,19 +13,18 @@ use Rattle.meson_calls.specs.declared.call.CallRef.{CallRef}
 use Rattle.meson_calls.specs.declared.refusal.Refusal.{Refusal}
 use Rattle.meson_steps.specs.declared.step.ListStep.{ListStep}
 use Rattle.meson_calls.specs.Calls.{Call, Numbered, keyword, value_with_name, literal_of}
-use Rattle.meson_calls.specs.Expansion.{max_followed}
-use Rattle.meson_calls.specs.Keywords.{IsFirstNamed}
+use Rattle.meson_variables.specs.Expansion.{max_followed}
+use Rattle.meson_calls.specs.Keywords.{IsFirstNamed, kept_args}
 use Rattle.meson_steps.specs.ListSteps.{bare}
 use Rattle.meson_sources.specs.inside.Naming.{new_among}
 use Rattle.meson_calls.specs.Picking.{placed_call}
 use Rattle.meson_calls.specs.Project.{Project, Placed}
-use Rattle.meson_calls.specs.Sourced.{kept_args}
-use Rattle.meson_calls.specs.Sources.{or_option, first_list, first_empty}
+use Rattle.meson_variables.specs.Sources.{or_option, first_list, first_empty}
 use Rattle.meson_sources.specs.SourceEdits.{extra_key, checked_extra, extra_added, extra_inserted, without_home, into_new_list, behind_value, insertion_steps, inserted_in, plain_len, elements_there, new_names}
-use Rattle.meson_calls.specs.Tallies.{Tally}
+use Rattle.meson_variables.specs.Tallies.{Tally}
 use Rattle.meson_sources.specs.Targeted.{extra_gathered, lone_or_new, new_list_steps}
 use Rattle.meson_steps.specs.Meanings.{AreMeant, AreBehind}
-use Rattle.meson_calls.proofs.Answered.{keyword_is}
+use Rattle.meson_calls.proofs.KeywordArguments.{keyword_is}
 use Rattle.meson_calls.proofs.FirstValue.{value_is}
 use Rattle.meson_sources.proofs.Marked.{new_are}
 use Rattle.meson_sources.proofs.ExtrasMeant.{extras, extra_fields}
@@ -88,7 +87,7 @@ module _ (p : Project Span) (c : CallRef) (source : List ℕ) (l : rust.List) (f
       by_call =
           by_home ∙ ap (λ o. extra_inserted p it o new) none ∙ nowhere new
           ∙ ap (λ k. lone_or_new c k (keyword extra_key it.it) new) (sym there)
-          ∙ ap (λ vs. lone_or_new c (length (rust.out-List l).items) vs new) (keyword_is p c source l function extra_key)
+          ∙ ap (λ vs. lone_or_new c (length (rust.out-List l).items) vs new) (keyword_is source l function extra_key)
 
       pub call_meant : (steps : List ListStep) → AreBehind (lone_or_new c (length (rust.out-List l).items) (kept_args source (value_with_name extra_key) 0 (rust.out-List l).items) new) [] steps → AreMeant (extra_added p it names) steps
       call_meant steps b = record { steps = b.steps; is = by_call ∙ b.is; bare = sym b.bare }

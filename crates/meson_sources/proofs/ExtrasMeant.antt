@@ -10,19 +10,19 @@ use Rattle.meson_calls.specs.declared.refusal.Refusal.TheVariants.{DuplicateKeyw
 use Rattle.meson_steps.specs.declared.step.ListStep.{ListStep}
 use Rattle.meson_calls.specs.Project.{Project, Placed}
 use Rattle.meson_calls.specs.Calls.{Call, keyword, value_with_name}
-use Rattle.meson_calls.specs.Expansion.{Mark, fixed, max_followed}
+use Rattle.meson_variables.specs.Expansion.{Mark, fixed, max_followed}
 use Rattle.meson_calls.specs.Picking.{placed_call}
 use Rattle.meson_sources.specs.inside.CodeSpots.{spots_of_names}
-use Rattle.meson_calls.specs.Sources.{kwargs_key, once, expand_arguments}
-use Rattle.meson_calls.specs.Sourced.{kept_args}
+use Rattle.meson_calls.specs.Keywords.{kwargs_key, once, kept_args, not_hidden}
+use Rattle.meson_variables.specs.Sources.{expand_arguments}
 use Rattle.meson_sources.specs.SourceEdits.{extra_key, extra_marks, checked_extra, spots_named, removed_at, extra_removed}
 use Rattle.meson_steps.specs.Names.{checked_names, distinct}
-use Rattle.meson_calls.specs.Sources.{not_hidden}
 use Rattle.meson_steps.specs.Steps.{Step}
-use Rattle.meson_calls.specs.Tallies.{Tally, all_marked, no_marks}
+use Rattle.meson_variables.specs.Tallies.{Tally, all_marked, no_marks}
 use Rattle.meson_sources.specs.Targeted.{extra_gathered}
 use Rattle.meson_steps.specs.Meanings.{AreMeant}
-use Rattle.meson_calls.proofs.Answered.{keyword_is, arguments_are}
+use Rattle.meson_calls.proofs.KeywordArguments.{keyword_is}
+use Rattle.meson_variables.proofs.Answered.{arguments_are}
 use Rattle.meson_sources.proofs.Marked.{Told, told, told_spots}
 use Rattle.meson_sources.proofs.SourcesMeant.{once_few, once_twice}
 
@@ -43,7 +43,7 @@ module _ (p : Project Span) (c : CallRef) (source : List ℕ) (l : rust.List) (f
   marks_are : (extra_gathered p max_followed c source (rust.out-List l).items).tally ≡ all_marked no_marks.tally extras
   marks_are =
       ap (λ e. all_marked no_marks.tally e.marks) (arguments_are p c (λ n. fixed) (kept_args source (value_with_name extra_key) 0 (rust.out-List l).items) [])
-      ∙ ap (λ ks. all_marked no_marks.tally (expand_arguments p c (λ n. fixed) ks []).marks) (sym (keyword_is p c source l function extra_key))
+      ∙ ap (λ ks. all_marked no_marks.tally (expand_arguments p c (λ n. fixed) ks []).marks) (sym (keyword_is source l function extra_key))
 
   pub extra_fields : (t : Tally) → t ≡ (extra_gathered p max_followed c source (rust.out-List l).items).tally → Told t extras
   extra_fields t is = told t extras (is ∙ marks_are)
@@ -58,9 +58,9 @@ module _ (p : Project Span) (c : CallRef) (source : List ℕ) (l : rust.List) (f
     module _ (none : count kwargs_key ≤ 0) where
       by_hidden : checked_extra p it names ≡ once extra_key (kept_args source (value_with_name extra_key) 0 (rust.out-List l).items) extras
       by_hidden =
-          by_names ∙ ap (λ xs. after_hidden (not_hidden xs)) (keyword_is p c source l function kwargs_key)
+          by_names ∙ ap (λ xs. after_hidden (not_hidden xs)) (keyword_is source l function kwargs_key)
           ∙ ap after_hidden (none_hidden (kept_args source (value_with_name kwargs_key) 0 (rust.out-List l).items) none)
-          ∙ ap (λ xs. once extra_key xs extras) (keyword_is p c source l function extra_key)
+          ∙ ap (λ xs. once extra_key xs extras) (keyword_is source l function extra_key)
 
       pub extra_twice : 1 < count extra_key → checked_extra p it names ≡ Err (DuplicateKeyword extra_key)
       extra_twice many = by_hidden ∙ once_twice extra_key (kept_args source (value_with_name extra_key) 0 (rust.out-List l).items) extras many

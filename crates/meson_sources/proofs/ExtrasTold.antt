@@ -4,20 +4,20 @@ use Rattle.std.specs.Prelude.{Option, Ok, Err}
 use Rattle.meson_lex.specs.declared.kinds.Span.{Span}
 use Rattle.meson_syntax.specs.declared.tree.List as rust
 use Rattle.meson_calls.specs.declared.call.CallRef.{CallRef}
-use Rattle.meson_calls.specs.declared.call.SourceItem.{SourceItem}
-use Rattle.meson_calls.specs.declared.call.Sources.{Sources}
+use Rattle.meson_variables.specs.declared.source.SourceItem.{SourceItem}
+use Rattle.meson_variables.specs.declared.source.Sources.{Sources}
 use Rattle.meson_calls.specs.declared.refusal.Refusal.TheVariants.{DuplicateKeyword}
 use Rattle.meson_calls.specs.Calls.{value_with_name}
-use Rattle.meson_calls.specs.Expansion.{Mark, max_followed}
+use Rattle.meson_variables.specs.Expansion.{Mark, max_followed}
 use Rattle.meson_calls.specs.Picking.{placed_call}
 use Rattle.meson_calls.specs.Project.{Project}
-use Rattle.meson_calls.specs.Sourced.{kept_args}
-use Rattle.meson_calls.specs.Sources.{sources_of_marks, first_empty, first_list, once, opaque_count, or_call, or_option}
-use Rattle.meson_calls.specs.Tallies.{Tally}
+use Rattle.meson_calls.specs.Keywords.{kept_args, once}
+use Rattle.meson_variables.specs.Sources.{sources_of_marks, first_empty, first_list, opaque_count, or_call, or_option}
+use Rattle.meson_variables.specs.Tallies.{Tally}
 use Rattle.meson_sources.specs.Extras.{extra_of_call}
 use Rattle.meson_sources.specs.SourceEdits.{extra_key, extra_marks}
 use Rattle.meson_sources.specs.Targeted.{extra_gathered}
-use Rattle.meson_calls.proofs.Answered.{keyword_is}
+use Rattle.meson_calls.proofs.KeywordArguments.{keyword_is}
 use Rattle.meson_sources.proofs.ExtrasMeant.{extra_fields}
 use Rattle.meson_sources.proofs.Marked.{Told}
 use Rattle.meson_sources.proofs.SourcesMeant.{once_few, once_twice}
@@ -43,10 +43,10 @@ module _ (p : Project Span) (c : CallRef) (source : List ℕ) (l : rust.List) (f
   marks = extra_marks p (placed_call c function source l)
 
   pub told_twice : 1 < values → extra_of_call p (placed_call c function source l) ≡ Err (DuplicateKeyword extra_key)
-  told_twice many = ap (λ xs. once extra_key xs (sources_of_marks c marks)) (keyword_is p c source l function extra_key) ∙ once_twice extra_key _ (sources_of_marks c marks) many
+  told_twice many = ap (λ xs. once extra_key xs (sources_of_marks c marks)) (keyword_is source l function extra_key) ∙ once_twice extra_key _ (sources_of_marks c marks) many
 
   pub told_once : values ≤ 1 → (t : Tally) → t ≡ (extra_gathered p max_followed c source (rust.out-List l).items).tally
       → extra_of_call p (placed_call c function source l) ≡ Ok (sources_by c t)
   told_once few t is =
-      ap (λ xs. once extra_key xs (sources_of_marks c marks)) (keyword_is p c source l function extra_key) ∙ once_few extra_key _ (sources_of_marks c marks) few
+      ap (λ xs. once extra_key xs (sources_of_marks c marks)) (keyword_is source l function extra_key) ∙ once_few extra_key _ (sources_of_marks c marks) few
       ∙ ap Ok (answered c marks t (extra_fields p c source l function [] t is))

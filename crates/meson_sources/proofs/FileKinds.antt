@@ -10,9 +10,10 @@ use Rattle.meson_syntax.specs.Tree.{Nowhere, Expression, Arguments}
 use Rattle.meson_syntax.proofs.paths.Every.{Every, every-append}
 use Rattle.meson_calls.specs.declared.call.CallRef.{CallRef}
 use Rattle.meson_calls.specs.Calls.{Call, Numbered, call_of}
-use Rattle.meson_calls.specs.Expansion.{Expansion, Mark, fixed, in_list, max_followed, then_expand}
+use Rattle.meson_variables.specs.Expansion.{Expansion, Mark, fixed, in_list, max_followed, then_expand}
 use Rattle.meson_calls.specs.Project.{Placed, Project, placed}
-use Rattle.meson_calls.specs.Sources.{expand_arguments, first_empty, first_list, hidden, kwargs_key, once, or_option, rest, source_marks, sources, sources_key, sources_of_call, sources_of_marks}
+use Rattle.meson_variables.specs.Sources.{expand_arguments, first_empty, first_list, hidden, or_option, source_marks, sources, sources_of_call, sources_of_marks}
+use Rattle.meson_calls.specs.Keywords.{kwargs_key, once, rest, sources_key}
 use Rattle.meson_sources.specs.Extras.{extra_files, extra_of_call}
 use Rattle.meson_sources.specs.SourceEdits.{extra_key, extra_marks}
 use Rattle.meson_sources.specs.WholeSources.{Reading}

@@ -7,7 +7,7 @@ use Rattle.meson_syntax.specs.Paths.{block_of}
 use Rattle.meson_syntax.specs.Tree.{Nowhere, Name, Expression, array, call, dictionary, Listing, listing, Argument, arguments_of}
 use Rattle.meson_syntax.proofs.paths.Every.{Every}
 use Rattle.meson_calls.specs.declared.call.CallRef.{CallRef}
-use Rattle.meson_calls.specs.Expansion.{is_files, is_operand_by}
+use Rattle.meson_variables.specs.Expansion.{is_files, is_operand_by}
 use Rattle.meson_calls.specs.Loading.{IsProject, Loaded, project}
 use Rattle.meson_calls.specs.Roles.{one_of, target_functions}
 use Rattle.meson_steps.specs.ListSteps.{MayStandBetween}

@@ -5,10 +5,10 @@ use Rattle.meson_syntax.specs.Grammar.{LevelExpression}
 use Rattle.meson_syntax.specs.Parts.{Any, an_expression, operands_parts}
 use Rattle.meson_syntax.specs.Tree.{Nowhere, Expression, identifier, string, array, call, row}
 use Rattle.meson_calls.specs.declared.call.CallRef.{CallRef}
-use Rattle.meson_calls.specs.Expansion.{Mark, opaque, Expansion, Stand, met, are_plus, is_operand_by, is_value_by, is_single_by, max_followed, expand_by, follow_single, of_variable}
+use Rattle.meson_variables.specs.Expansion.{Mark, opaque, Expansion, Stand, met, are_plus, is_operand_by, is_value_by, is_single_by, max_followed, expand_by, follow_single, of_variable}
 use Rattle.meson_calls.specs.Project.{Placed, child}
 use Rattle.meson_calls.specs.Roles.{one_of}
-use Rattle.meson_calls.specs.Sources.{list_of_slot}
+use Rattle.meson_variables.specs.Sources.{list_of_slot}
 use Rattle.meson_sources.proofs.Bares.{Values, list_by, lists_by, expand_with}
 use Rattle.meson_sources.proofs.MarkLists.{below}
 use Rattle.meson_sources.proofs.Outcomes.{Either, as_before, grown, How, stays, comes, Outcome, Along, opaque_both}

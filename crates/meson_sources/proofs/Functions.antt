@@ -3,7 +3,7 @@ use Rattle.std.specs.Prelude.{◌||◌, not, ◌&&◌, bytes_eq, codes}
 use Rattle.std.proofs.Common.{◌≡◌, ℕ, Bool, true, false, List, refl, sym, ap, ap₂, ◌∙◌}
 use Rattle.std.proofs.lemmas.Slice.Eq.{bytes_eq-Decides}
 use Rattle.meson_syntax.specs.Tree.{Nowhere, Listing, listing, Arguments}
-use Rattle.meson_calls.specs.Expansion.{is_files, has_names}
+use Rattle.meson_variables.specs.Expansion.{is_files, has_names}
 use Rattle.meson_calls.specs.Roles.{one_of, target_functions}
 use Rattle.meson_sources.proofs.Tells.{matters}
 

@@ -4,13 +4,13 @@ use Rattle.std.proofs.Common.{◌≡◌, ℕ, ◌≤◌, List, [], ◌∷◌, �
 use Rattle.meson_lex.specs.declared.kinds.Span.{Span}
 use Rattle.meson_syntax.specs.Tree.{Nowhere, Expression, Arguments, erase_arguments}
 use Rattle.meson_calls.specs.declared.call.CallRef.{CallRef}
-use Rattle.meson_calls.specs.declared.call.SourceItem.{SourceItem}
-use Rattle.meson_calls.specs.declared.call.Sources as found
+use Rattle.meson_variables.specs.declared.source.SourceItem.{SourceItem}
+use Rattle.meson_variables.specs.declared.source.Sources as found
 use Rattle.meson_calls.specs.Calls.{Numbered}
-use Rattle.meson_calls.specs.Expansion.{Item}
+use Rattle.meson_variables.specs.Expansion.{Item}
 use Rattle.meson_calls.specs.Loading.{Loaded, project}
 use Rattle.meson_calls.specs.Project.{Project}
-use Rattle.meson_calls.specs.Sources.{hidden, items, source_item, sources_of_marks}
+use Rattle.meson_variables.specs.Sources.{hidden, items, source_item, sources_of_marks}
 use Rattle.meson_steps.specs.ResultLimits.{plain_trees}
 use Rattle.meson_sources.specs.WholeSources.{Reading, TextsCome, source_texts}
 use Rattle.meson_sources.proofs.CallForms.{CallIn, CallNode, bare_arguments, call_again, called}

@@ -12,7 +12,7 @@ use Rattle.meson_syntax.proofs.parsing.Steps.{some-injective}
 use Rattle.meson_syntax.proofs.paths.Fits.{LevelNode}
 use Rattle.meson_syntax.proofs.paths.Reaching.{and-then-some, reach-fits}
 use Rattle.meson_calls.specs.declared.call.CallRef.{CallRef}
-use Rattle.meson_calls.specs.Expansion.{is_operand_by, is_value_by}
+use Rattle.meson_variables.specs.Expansion.{is_operand_by, is_value_by}
 use Rattle.meson_calls.specs.Loading.{Loaded, project}
 use Rattle.meson_calls.specs.Project.{Placed, child, expression_at}
 use Rattle.meson_calls.specs.Variables.{single}

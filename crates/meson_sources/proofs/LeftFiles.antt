@@ -6,13 +6,13 @@ use Rattle.meson_lex.specs.declared.kinds.Span.{Span}
 use Rattle.meson_syntax.specs.Tree.{Nowhere, Expression, Arguments}
 use Rattle.meson_syntax.proofs.paths.Every.{Every}
 use Rattle.meson_calls.specs.declared.call.CallRef.{CallRef}
-use Rattle.meson_calls.specs.declared.call.Sources as found
+use Rattle.meson_variables.specs.declared.source.Sources as found
 use Rattle.meson_calls.specs.Calls.{Numbered}
-use Rattle.meson_calls.specs.Expansion.{Item, Mark, known, opaque, empty}
+use Rattle.meson_variables.specs.Expansion.{Item, Mark, known, opaque, empty}
 use Rattle.meson_calls.specs.Loading.{Loaded, project}
 use Rattle.meson_calls.specs.Project.{Project}
 use Rattle.meson_calls.specs.Roles.{one_of}
-use Rattle.meson_calls.specs.Sources.{hidden, items, opaque_count, sources_of_marks}
+use Rattle.meson_variables.specs.Sources.{hidden, items, opaque_count, sources_of_marks}
 use Rattle.meson_steps.specs.ResultLimits.{plain_trees}
 use Rattle.meson_sources.specs.WholeSources.{Reading, source_texts}
 use Rattle.meson_sources.proofs.Bares.{bare_mark}

@@ -17,7 +17,7 @@ use Rattle.meson_syntax.proofs.paths.Reaching.{and-then-some, list-fits}
 use Rattle.meson_edit.specs.Edits.{elements}
 use Rattle.meson_edit.proofs.paths.PutThere.{lists-stay}
 use Rattle.meson_calls.specs.declared.call.CallRef.{CallRef}
-use Rattle.meson_calls.specs.Expansion.{has_names}
+use Rattle.meson_variables.specs.Expansion.{has_names}
 use Rattle.meson_calls.specs.Loading.{IsProject, Loaded, project}
 use Rattle.meson_calls.specs.Project.{BuildFile, nth_file}
 use Rattle.meson_calls.proofs.ListNodes.{values_no_pairs}

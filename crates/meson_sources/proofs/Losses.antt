@@ -6,7 +6,7 @@ use Rattle.meson_syntax.specs.declared.operator.StringKind.{StringKind}
 use Rattle.meson_syntax.specs.Operators.{string_kind}
 use Rattle.meson_syntax.specs.Tree.{Nowhere, Name, Expression, identifier, string, array, call, row, Operands, no_operands, operand, Listing, listing, Argument, plain, named, pair, Arguments, no_arguments, argument}
 use Rattle.meson_calls.specs.declared.call.CallRef.{CallRef}
-use Rattle.meson_calls.specs.Expansion.{Expansion, Stand, met, opaque, has_names, is_files, is_operand_by, is_plus, is_value_by, are_plus, expand_by}
+use Rattle.meson_variables.specs.Expansion.{Expansion, Stand, met, opaque, has_names, is_files, is_operand_by, is_plus, is_value_by, are_plus, expand_by}
 use Rattle.meson_calls.specs.Project.{child}
 
 -- a string that has a value

@@ -8,9 +8,9 @@ use Rattle.meson_syntax.specs.Operators.{string_kind}
 use Rattle.meson_syntax.specs.Tree.{Nowhere, Expression, string, plain, named, pair, Arguments, no_arguments, argument}
 use Rattle.meson_calls.specs.declared.call.CallRef.{CallRef}
 use Rattle.meson_calls.specs.Calls.{Numbered}
-use Rattle.meson_calls.specs.Expansion.{in_list, fixed, Expansion, Stand, both_expanded, literal_item}
+use Rattle.meson_variables.specs.Expansion.{in_list, fixed, Expansion, Stand, both_expanded, literal_item}
 use Rattle.meson_calls.specs.Project.{child}
-use Rattle.meson_calls.specs.Sources.{rest, sources_key}
+use Rattle.meson_calls.specs.Keywords.{rest, sources_key}
 use Rattle.meson_sources.proofs.CallTrees.{Expand, keyed, list_with, plains, whole}
 use Rattle.meson_sources.proofs.KeyCounts.{key_count}
 use Rattle.meson_sources.proofs.Losses.{Loses, EachLoses}

@@ -5,7 +5,7 @@ use Rattle.meson_lex.specs.Literals.{value}
 use Rattle.meson_syntax.specs.Operators.{string_kind}
 use Rattle.meson_syntax.specs.Tree.{Nowhere, Expression, identifier, string, array, call, row, Operands, no_operands, operand, Listing, listing, Argument, plain, named, pair, Arguments, no_arguments, argument}
 use Rattle.meson_calls.specs.declared.call.CallRef.{CallRef}
-use Rattle.meson_calls.specs.Expansion.{Slot, in_list, fixed, Mark, known, opaque, empty, Expansion, Stand, both_expanded, met, element, operand_at, or_empty, within, is_files, are_plus, is_operand_by, literal_item, expand_by, expand_operands, expand_listing, expand_each, expand_argument}
+use Rattle.meson_variables.specs.Expansion.{Slot, in_list, fixed, Mark, known, opaque, empty, Expansion, Stand, both_expanded, met, element, operand_at, or_empty, within, is_files, are_plus, is_operand_by, literal_item, expand_by, expand_operands, expand_listing, expand_each, expand_argument}
 use Rattle.meson_calls.specs.Project.{child}
 use Rattle.meson_calls.specs.Roles.{one_of}
 use Rattle.meson_sources.proofs.Gists.{Gist, gist, gist_append, gist_within}

@@ -3,7 +3,7 @@ use Rattle.std.specs.Prelude.{◌⊎◌}
 use Rattle.std.proofs.Common.{◌≡◌, ℕ, zero, suc, Bool, false, List, ◌∷◌, Some, None, refl, sym, ap, ◌∙◌, subst, inl, inr}
 use Rattle.meson_syntax.specs.Tree.{Nowhere, Expression}
 use Rattle.meson_calls.specs.declared.call.CallRef.{CallRef}
-use Rattle.meson_calls.specs.Expansion.{Stand, met, opaque, is_operand_by, is_single_by, max_followed, follow_single, of_variable}
+use Rattle.meson_variables.specs.Expansion.{Stand, met, opaque, is_operand_by, is_single_by, max_followed, follow_single, of_variable}
 use Rattle.meson_calls.specs.Project.{Placed}
 use Rattle.meson_sources.proofs.Bares.{Values, list_by, lists_by, expand_with}
 use Rattle.meson_sources.proofs.Losses.{Loses, value_stays}

@@ -5,15 +5,15 @@ use Rattle.std.specs.List.{filter, list_any}
 use Rattle.std.proofs.lemmas.List.{length-map}
 use Rattle.meson_lex.specs.declared.kinds.Span.{Span}
 use Rattle.meson_splice.specs.Patch.{then_ok}
-use Rattle.meson_calls.specs.Expansion.{Slot, in_list, fixed, Item, Mark}
+use Rattle.meson_variables.specs.Expansion.{Slot, in_list, fixed, Item, Mark}
 use Rattle.meson_sources.specs.inside.CodeSpots.{spot_if_there, spots_at, all_there, spots_from, spots_of_names}
-use Rattle.meson_calls.specs.Sources.{items, opaque_count, first_list, first_empty, list_of_slot, source_item}
+use Rattle.meson_variables.specs.Sources.{items, opaque_count, first_list, first_empty, list_of_slot, source_item}
 use Rattle.meson_sources.specs.SourceEdits.{new_names, has_text, is_known, items_of, Spot, spot_of, spots_of, spots_by, spots_named, removable}
 use Rattle.meson_steps.specs.Names.{distinct}
 use Rattle.meson_sources.specs.inside.Naming.{has_value, new_among}
-use Rattle.meson_calls.specs.Tallies.{Tally, number_of_slot, all_marked, no_marks}
-use Rattle.meson_calls.proofs.Answered.{tally_is}
-use Rattle.meson_calls.proofs.Anys.{any-map}
+use Rattle.meson_variables.specs.Tallies.{Tally, number_of_slot, all_marked, no_marks}
+use Rattle.meson_variables.proofs.Answered.{tally_is}
+use Rattle.meson_variables.proofs.Anys.{any-map}
 
 -- ---- the fields of a tally of marks
 

@@ -11,7 +11,7 @@ use Rattle.meson_syntax.specs.Tree.{Expression, identifier, string, array, call,
 use Rattle.meson_syntax.proofs.paths.Every.{Every, every-append}
 use Rattle.meson_edit.specs.Edits.{elements}
 use Rattle.meson_calls.specs.declared.call.CallRef.{CallRef}
-use Rattle.meson_calls.specs.Expansion.{Slot, in_list, fixed, Mark, opaque, Expansion, Stand, both_expanded, element, operand_at, or_empty, within, is_files, are_plus, literal_item, expand_by, expand_operands, expand_listing, expand_each, expand_argument}
+use Rattle.meson_variables.specs.Expansion.{Slot, in_list, fixed, Mark, opaque, Expansion, Stand, both_expanded, element, operand_at, or_empty, within, is_files, are_plus, literal_item, expand_by, expand_operands, expand_listing, expand_each, expand_argument}
 use Rattle.meson_calls.specs.Project.{Project, child, expression_at}
 use Rattle.meson_calls.specs.Roles.{one_of}
 use Rattle.meson_calls.specs.CallPlaces.{ListThere}

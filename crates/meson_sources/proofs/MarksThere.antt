@@ -7,11 +7,11 @@ use Rattle.meson_syntax.specs.Tree.{Name, Expression, Statement, assign}
 use Rattle.meson_syntax.proofs.paths.Every.{Every, every-append}
 use Rattle.meson_calls.specs.declared.call.CallRef.{CallRef}
 use Rattle.meson_calls.specs.Calls.{Numbered}
-use Rattle.meson_calls.specs.Expansion.{Slot, opaque, Stand, Expansion, is_list_operand, of_variable, follow_single, expand, max_followed}
+use Rattle.meson_variables.specs.Expansion.{Slot, opaque, Stand, Expansion, is_list_operand, of_variable, follow_single, expand, max_followed}
 use Rattle.meson_calls.specs.Parts.{Part, parts}
 use Rattle.meson_calls.specs.Parts as part
 use Rattle.meson_calls.specs.Project.{Project, Placed, placed, child, expression_at}
-use Rattle.meson_calls.specs.Sources.{expand_arguments}
+use Rattle.meson_variables.specs.Sources.{expand_arguments}
 use Rattle.meson_sources.proofs.Standings.{MarkStands}
 use Rattle.meson_calls.specs.Variables.{Assigned, is_set, assigned_by, part_assigned, assignments, is_outermost, only_value, all_known, is_set_otherwise, single}
 use Rattle.meson_calls.proofs.CallsReached.{every_chosen, InProject, every_part}

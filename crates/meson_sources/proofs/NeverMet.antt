@@ -5,7 +5,7 @@ use Rattle.meson_syntax.specs.Parts.{an_expression}
 use Rattle.meson_syntax.specs.Tree.{Nowhere, Expression, erase_name, listing}
 use Rattle.meson_syntax.proofs.paths.Every.{Every}
 use Rattle.meson_calls.specs.declared.call.CallRef.{CallRef}
-use Rattle.meson_calls.specs.Expansion.{Mark, Expansion, Stand, met, fixed, opaque, is_operand_by, is_value_by, max_followed, expand_by}
+use Rattle.meson_variables.specs.Expansion.{Mark, Expansion, Stand, met, fixed, opaque, is_operand_by, is_value_by, max_followed, expand_by}
 use Rattle.meson_calls.specs.Loading.{Loaded, project}
 use Rattle.meson_calls.specs.Project.{child}
 use Rattle.meson_calls.specs.Roles.{one_of, target_functions}

@@ -3,7 +3,7 @@ use Rattle.std.proofs.Common.{◌≡◌, ℕ, Bool, true, false, List, [], ◌�
 use Rattle.meson_syntax.specs.Tree.{Nowhere}
 use Rattle.meson_syntax.proofs.paths.Every.{Every, every-append}
 use Rattle.meson_calls.specs.declared.call.CallRef.{CallRef}
-use Rattle.meson_calls.specs.Expansion.{Mark, opaque, Expansion, both_expanded, met, or_empty, within}
+use Rattle.meson_variables.specs.Expansion.{Mark, opaque, Expansion, both_expanded, met, or_empty, within}
 use Rattle.meson_sources.proofs.Gists.{Gist, gist, gist_append, gist_within, Grows, grows_first, grows_behind}
 use Rattle.meson_sources.proofs.MarkLists.{list_of_mark}
 

@@ -9,16 +9,16 @@ use Rattle.meson_syntax.proofs.parsing.Steps.{some-injective}
 use Rattle.meson_syntax.proofs.paths.Reaching.{map-some, and-then-some}
 use Rattle.meson_calls.specs.declared.refusal.Refusal.{Refusal}
 use Rattle.meson_calls.specs.Calls.{Call}
-use Rattle.meson_calls.specs.Expansion.{Slot, in_list, fixed, Item, Mark, known, opaque, empty}
+use Rattle.meson_variables.specs.Expansion.{Slot, in_list, fixed, Item, Mark, known, opaque, empty}
 use Rattle.meson_calls.specs.Loading.{Loaded, AreParsed, project}
 use Rattle.meson_steps.specs.ListSteps.{AreDoable}
 use Rattle.meson_steps.specs.ResultLimits.{plain_trees}
 use Rattle.meson_calls.specs.Project.{Project, Placed}
-use Rattle.meson_calls.specs.Sources.{items, opaque_count, once, source_marks, sources_key, kwargs_key}
+use Rattle.meson_variables.specs.Sources.{items, opaque_count, source_marks}
+use Rattle.meson_calls.specs.Keywords.{once, sources_key, kwargs_key, not_hidden}
 use Rattle.meson_calls.specs.Calls as calls
 use Rattle.meson_sources.specs.SourceEdits.{Spot, spot_of, spots_of, spots_by, spots_named, removable, items_of, has_text, distinct_spots, removal_steps, removed_at, extra_marks, extra_key, checked_extra}
 use Rattle.meson_steps.specs.Names.{distinct, checked_names}
-use Rattle.meson_calls.specs.Sources.{not_hidden}
 use Rattle.meson_sources.proofs.Standings.{SlotStands, MarkStands, SpotStands, SourcesMayBeRemoved, ExtrasMayBeRemoved}
 use Rattle.meson_steps.specs.Steps.{Step}
 use Rattle.meson_sources.proofs.RemovedSpots.{removals_doable}

@@ -5,10 +5,10 @@ use Rattle.meson_lex.specs.Literals.{value}
 use Rattle.meson_syntax.specs.Operators.{string_kind}
 use Rattle.meson_syntax.specs.Tree.{Nowhere, Expression, identifier, string, array, call, row, Operands, no_operands, operand, Listing, listing, Argument, plain, named, pair, Arguments, no_arguments, argument}
 use Rattle.meson_calls.specs.declared.call.CallRef.{CallRef}
-use Rattle.meson_calls.specs.Expansion.{Slot, in_list, opaque, Expansion, Stand, both_expanded, met, element, operand_at, is_files, are_plus, literal_item, expand_by, expand_operands, expand_listing, expand_each, expand_argument}
+use Rattle.meson_variables.specs.Expansion.{Slot, in_list, opaque, Expansion, Stand, both_expanded, met, element, operand_at, is_files, are_plus, literal_item, expand_by, expand_operands, expand_listing, expand_each, expand_argument}
 use Rattle.meson_calls.specs.Project.{child}
 use Rattle.meson_calls.specs.Roles.{one_of}
-use Rattle.meson_calls.specs.Sources.{list_of_slot}
+use Rattle.meson_variables.specs.Sources.{list_of_slot}
 use Rattle.meson_sources.proofs.Outcomes.{Outcome, stays, joined, nothing_both, opaque_both, outcome_within}
 
 -- a place from which no bad list is met

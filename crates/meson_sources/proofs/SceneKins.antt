@@ -8,7 +8,7 @@ use Rattle.meson_syntax.specs.Paths.{nth, block_of}
 use Rattle.meson_syntax.specs.Tree.{Nowhere, Plain, Name, Expression, call, Listing, erase_expression}
 use Rattle.meson_syntax.proofs.parsing.Steps.{some-injective}
 use Rattle.meson_calls.specs.declared.call.CallRef.{CallRef}
-use Rattle.meson_calls.specs.Expansion.{is_files, is_operand_by, is_value_by}
+use Rattle.meson_variables.specs.Expansion.{is_files, is_operand_by, is_value_by}
 use Rattle.meson_calls.specs.Loading.{Loaded, project}
 use Rattle.meson_calls.specs.Project.{Placed, place, child}
 use Rattle.meson_calls.specs.Roles.{one_of}

@@ -11,12 +11,13 @@ use Rattle.meson_syntax.proofs.paths.Every.{Every, every-append}
 use Rattle.meson_calls.specs.declared.call.CallRef.{CallRef}
 use Rattle.meson_calls.specs.declared.call.Role.TheVariants as role
 use Rattle.meson_calls.specs.Calls.{Call, Numbered, keyword}
-use Rattle.meson_calls.specs.Expansion.{Expansion, Mark, Stand, fixed, literal_item, max_followed}
+use Rattle.meson_variables.specs.Expansion.{Expansion, Mark, Stand, fixed, literal_item, max_followed}
 use Rattle.meson_calls.specs.Finding.{the_call}
 use Rattle.meson_calls.specs.Loading.{IsProject, Loaded, project}
 use Rattle.meson_calls.specs.Project.{Placed, placed}
 use Rattle.meson_calls.specs.Roles.{one_of, target_functions}
-use Rattle.meson_calls.specs.Sources.{hidden, items, once, source_marks, sources_key}
+use Rattle.meson_variables.specs.Sources.{hidden, items, source_marks}
+use Rattle.meson_calls.specs.Keywords.{once, sources_key}
 use Rattle.meson_steps.specs.ListSteps.{MayStandBetween}
 use Rattle.meson_steps.specs.Names.{checked_names, distinct}
 use Rattle.meson_steps.specs.ResultLimits.{plain_trees}

@@ -8,14 +8,15 @@ use Rattle.meson_syntax.specs.Tree.{Expression, Listing, listing, plain, named, 
 use Rattle.meson_edit.specs.Edits.{elements}
 use Rattle.meson_calls.specs.declared.call.CallRef.{CallRef}
 use Rattle.meson_calls.specs.Calls.{Call, numbered, kept_number, value_without_name, first_of, first_argument, keyword}
-use Rattle.meson_calls.specs.Expansion.{Mark}
+use Rattle.meson_variables.specs.Expansion.{Mark}
 use Rattle.meson_steps.specs.ListSteps.{AreDoable}
 use Rattle.meson_calls.specs.Loading.{project}
 use Rattle.meson_steps.specs.ResultLimits.{plain_trees}
 use Rattle.meson_calls.specs.Project.{Project, Placed}
 use Rattle.meson_sources.specs.SourceEdits.{is_known, new_names, inserted_in}
 use Rattle.meson_steps.specs.Names.{checked_names, distinct}
-use Rattle.meson_calls.specs.Sources.{sources_key, source_marks, first_list, first_empty, or_option, or_call, home, once}
+use Rattle.meson_calls.specs.Keywords.{sources_key, once}
+use Rattle.meson_variables.specs.Sources.{source_marks, first_list, first_empty, or_option, or_call, home}
 use Rattle.meson_sources.proofs.Standings.{MarkStands, TargetThere, SourcesMayBeAdded}
 use Rattle.meson_sources.proofs.Homes.{Home, marked_home, home_doable}
 use Rattle.meson_sources.proofs.PlainCounts.{plain_count}

@@ -6,9 +6,10 @@ use Rattle.meson_splice.specs.Patch.{then_ok}
 use Rattle.meson_syntax.specs.Tree.{Plain}
 use Rattle.meson_calls.specs.declared.refusal.Refusal.{Refusal}
 use Rattle.meson_calls.specs.Calls as calls
-use Rattle.meson_calls.specs.Expansion.{Mark}
+use Rattle.meson_variables.specs.Expansion.{Mark}
 use Rattle.meson_calls.specs.Loading.{IsProject, Loaded, project}
-use Rattle.meson_calls.specs.Sources.{once, source_marks, sources_key}
+use Rattle.meson_calls.specs.Keywords.{once, sources_key}
+use Rattle.meson_variables.specs.Sources.{source_marks}
 use Rattle.meson_steps.specs.Names.{checked_names, distinct}
 use Rattle.meson_steps.specs.ResultLimits.{plain_trees}
 use Rattle.meson_steps.specs.Steps.{Step, all_stepped}

@@ -10,18 +10,20 @@ use Rattle.meson_calls.specs.declared.refusal.Refusal.TheVariants.{DuplicateKeyw
 use Rattle.meson_steps.specs.declared.step.ListStep.{ListStep}
 use Rattle.meson_calls.specs.Project.{Project, Placed}
 use Rattle.meson_calls.specs.Calls.{Call, keyword, value_with_name}
-use Rattle.meson_calls.specs.Expansion.{Mark, max_followed}
+use Rattle.meson_variables.specs.Expansion.{Mark, max_followed}
 use Rattle.meson_steps.specs.ListSteps.{bare}
 use Rattle.meson_sources.specs.inside.Naming.{new_among}
 use Rattle.meson_calls.specs.Picking.{placed_call}
 use Rattle.meson_sources.specs.inside.CodeSpots.{spots_of_names}
-use Rattle.meson_calls.specs.Sources.{sources_key, source_marks, home, once, or_call, or_option, first_list}
-use Rattle.meson_calls.specs.Sourced.{kept_args, all_gathered}
+use Rattle.meson_calls.specs.Keywords.{sources_key, once, kept_args}
+use Rattle.meson_variables.specs.Sources.{source_marks, home, or_call, or_option, first_list}
+use Rattle.meson_variables.specs.Sourced.{all_gathered}
 use Rattle.meson_sources.specs.SourceEdits.{new_names, insertion_steps, plain_len, spots_named, removed_at, sources_added, sources_removed}
 use Rattle.meson_steps.specs.Names.{checked_names, distinct}
-use Rattle.meson_calls.specs.Tallies.{Tally}
+use Rattle.meson_variables.specs.Tallies.{Tally}
 use Rattle.meson_steps.specs.Meanings.{AreMeant}
-use Rattle.meson_calls.proofs.Answered.{keyword_is, gathered_marks}
+use Rattle.meson_calls.proofs.KeywordArguments.{keyword_is}
+use Rattle.meson_variables.proofs.Answered.{gathered_marks}
 use Rattle.meson_sources.proofs.Marked.{Told, told, new_are, told_spots}
 
 pub once_few : {X Y : Type 0} (key : List ℕ) (xs : List X) (y : Y) → length xs ≤ 1 → once key xs y ≡ Ok y
@@ -48,10 +50,10 @@ module _ (p : Project Span) (c : CallRef) (source : List ℕ) (l : rust.List) (f
   fields t is = told t ms (is ∙ gathered_marks p c source l function)
 
   few_are : {Y : Type 0} (y : Y) → args ≤ 1 → once sources_key (keyword sources_key it.it) y ≡ Ok y
-  few_are y few = ap (λ xs. once sources_key xs y) (keyword_is p c source l function sources_key) ∙ once_few sources_key (kept_args source (value_with_name sources_key) 0 (rust.out-List l).items) y few
+  few_are y few = ap (λ xs. once sources_key xs y) (keyword_is source l function sources_key) ∙ once_few sources_key (kept_args source (value_with_name sources_key) 0 (rust.out-List l).items) y few
 
   many_are : {Y : Type 0} (y : Y) → 1 < args → once sources_key (keyword sources_key it.it) y ≡ Err (DuplicateKeyword sources_key)
-  many_are y many = ap (λ xs. once sources_key xs y) (keyword_is p c source l function sources_key) ∙ once_twice sources_key (kept_args source (value_with_name sources_key) 0 (rust.out-List l).items) y many
+  many_are y many = ap (λ xs. once sources_key xs y) (keyword_is source l function sources_key) ∙ once_twice sources_key (kept_args source (value_with_name sources_key) 0 (rust.out-List l).items) y many
 
   module _ (checked : checked_names names ≡ Ok tt) where
     pub added_twice : 1 < args → sources_added p it names ≡ Err (DuplicateKeyword sources_key)

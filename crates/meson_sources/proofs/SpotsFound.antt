@@ -4,7 +4,7 @@ use Rattle.std.specs.Prelude.{Bool, true, false, ◌||◌, Option, Some, None, o
 use Rattle.std.proofs.Math.Seq.{drop-cons}
 use Rattle.std.proofs.lemmas.List.{append_assoc}
 use Rattle.meson_splice.specs.Patch.{then_ok}
-use Rattle.meson_calls.specs.declared.call.SourceItem.{SourceItem}
+use Rattle.meson_variables.specs.declared.source.SourceItem.{SourceItem}
 use Rattle.meson_calls.specs.declared.refusal.Refusal.{Refusal}
 use Rattle.meson_sources.specs.SourceEdits.{Spot, removable}
 use Rattle.meson_sources.specs.inside.Naming.{has_value}

@@ -17,12 +17,12 @@ use Rattle.meson_edit.specs.Edits.{elements}
 use Rattle.meson_calls.specs.declared.call.CallRef.{CallRef}
 use Rattle.meson_calls.specs.declared.call.Role.TheVariants as role
 use Rattle.meson_calls.specs.declared.noted.Noted.{Noted}
-use Rattle.meson_calls.specs.declared.variables.Variables.{Variables}
+use Rattle.meson_variables.specs.declared.variables.Variables.{Variables}
 use Rattle.meson_sources.specs.declared.targeting.TargetChange.{TargetChange}
 use Rattle.meson_calls.specs.CallPlaces.{CallIn}
 use Rattle.meson_calls.specs.Calls.{Call, call_of}
 use Rattle.meson_calls.specs.GoodLists.{GoodListing}
-use Rattle.meson_calls.specs.CodeVariables.{project_of}
+use Rattle.meson_variables.specs.CodeVariables.{project_of}
 use Rattle.meson_calls.specs.NotedProjects.{IsNotedFor, project_in}
 use Rattle.meson_calls.specs.Notes.{note_views}
 use Rattle.meson_calls.specs.OnePlace.{the_place}
@@ -33,7 +33,8 @@ use Rattle.meson_sources.specs.Targeted.{change_steps, target_steps}
 use Rattle.meson_steps.proofs.ArgumentValues.{list_elements}
 use Rattle.meson_calls.proofs.CallsAt.{listing_good}
 use Rattle.meson_calls.proofs.CallsFound.{CallAt, role_found}
-use Rattle.meson_calls.proofs.NotedCalls.{call_in, call_within, one_at, one_is, same_project, the_one, trees_as_many}
+use Rattle.meson_calls.proofs.NotedCalls.{call_in, call_within, one_at, one_is, the_one, trees_as_many}
+use Rattle.meson_variables.proofs.NotedVariables.{same_project}
 use Rattle.meson_calls.proofs.Standing.{nth_there}
 
 call_elements : (e : Expression Span) (k : Call Span) → call_of e ≡ Some k → elements_of (list_in e) ≡ elements k.arguments

@@ -10,11 +10,12 @@ use Rattle.meson_syntax.specs.Tree.{Expression, Listing, listing, Argument, plai
 use Rattle.meson_syntax.proofs.paths.Every.{Every, every-append}
 use Rattle.meson_edit.specs.Edits.{elements}
 use Rattle.meson_calls.specs.Calls.{Call, Numbered, numbered, numbered_arguments, value_without_name, value_with_name, kept_number, positional, keyword}
-use Rattle.meson_calls.specs.Expansion.{in_list, fixed}
+use Rattle.meson_variables.specs.Expansion.{in_list, fixed}
 use Rattle.meson_calls.specs.Loading.{project}
 use Rattle.meson_calls.specs.Project.{Project, BuildFile, Placed, child, expression_at}
 use Rattle.meson_sources.specs.SourceEdits.{extra_key, extra_marks}
-use Rattle.meson_calls.specs.Sources.{sources_key, kwargs_key, expand_arguments, rest, hidden, source_marks}
+use Rattle.meson_calls.specs.Keywords.{sources_key, kwargs_key, rest}
+use Rattle.meson_variables.specs.Sources.{expand_arguments, hidden, source_marks}
 use Rattle.meson_sources.proofs.Standings.{TargetThere, MarkStands, SourcesStand, ExtrasStand}
 use Rattle.meson_sources.proofs.ElementsAt.{AreLevel, value_stands, parsed_level}
 use Rattle.meson_steps.proofs.ArgumentValues.{named_value}

@@ -2,11 +2,12 @@
 use Rattle.std.specs.Prelude.{Option, option_map, Result}
 use Rattle.meson_lex.specs.declared.kinds.Span.{Span}
 use Rattle.meson_calls.specs.declared.call.CallRef.{CallRef}
-use Rattle.meson_calls.specs.declared.call.Sources.{Sources}
+use Rattle.meson_variables.specs.declared.source.Sources.{Sources}
 use Rattle.meson_calls.specs.declared.refusal.Refusal.{Refusal}
 use Rattle.meson_calls.specs.Project.{Project, Placed}
 use Rattle.meson_calls.specs.Calls.{Call, keyword}
-use Rattle.meson_calls.specs.Sources.{sources_of_marks, call_at, once}
+use Rattle.meson_variables.specs.Sources.{sources_of_marks, call_at}
+use Rattle.meson_calls.specs.Keywords.{once}
 use Rattle.meson_sources.specs.SourceEdits.{extra_key, extra_marks}
 
 -- A call with the keyword twice is refused. Where no list is met, a further file goes into the call.

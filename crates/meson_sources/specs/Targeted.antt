@@ -9,7 +9,7 @@ use Rattle.meson_calls.specs.declared.call.CallRef.{CallRef}
 use Rattle.meson_calls.specs.declared.refusal.Refusal.{Refusal}
 use Rattle.meson_calls.specs.Calls.{Call, Numbered, value_with_name}
 use Rattle.meson_calls.specs.Calls as calls
-use Rattle.meson_calls.specs.Expansion.{fixed}
+use Rattle.meson_variables.specs.Expansion.{fixed}
 use Rattle.meson_sources.specs.declared.targeting.TargetChange.{TargetChange}
 use Rattle.meson_sources.specs.declared.targeting.TargetChange.TheVariants.{SourcesAdded, SourcesRemoved, ExtraAdded, ExtraRemoved}
 use Rattle.meson_calls.specs.declared.call.Role.TheVariants as role
@@ -17,9 +17,10 @@ use Rattle.meson_calls.specs.Project.{Project, Placed, child}
 use Rattle.meson_calls.specs.Finding.{the_call}
 use Rattle.meson_steps.specs.Steps.{step_in}
 use Rattle.meson_sources.specs.SourceEdits.{extra_key, written_keyword, insertion_steps, behind_value, sources_added, sources_removed, extra_added, extra_removed}
-use Rattle.meson_calls.specs.Sourced.{kept_args, arguments_by}
+use Rattle.meson_calls.specs.Keywords.{kept_args}
+use Rattle.meson_variables.specs.Sourced.{arguments_by}
 use Rattle.meson_steps.specs.Steps.{Step}
-use Rattle.meson_calls.specs.Tallies.{Gathered, expanded, no_marks}
+use Rattle.meson_variables.specs.Tallies.{Gathered, expanded, no_marks}
 
 -- all that `extra_files:` holds
 abbrev pub extra_gathered : Project Span → ℕ → CallRef → List ℕ → List Arg → Gathered

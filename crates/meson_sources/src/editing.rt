@@ -7,25 +7,25 @@ ghost use Rattle.meson_syntax.specs.View.{args_view, list_view};
 ghost use Rattle.meson_calls.specs.Calls.{value_with_name};
 ghost use Rattle.meson_calls.specs.GoodLists.{GoodListing};
 ghost use Rattle.meson_calls.specs.Loading.{AreParsed};
-ghost use Rattle.meson_calls.specs.CodeVariables.{AreVariables, project_of};
+ghost use Rattle.meson_variables.specs.CodeVariables.{AreVariables, project_of};
 ghost use Rattle.meson_calls.specs.Picking.{Source, placed_call};
 ghost use Rattle.meson_calls.specs.Refusals.{IfRefused, RefusedAs};
 ghost use Rattle.meson_sources.specs.SourceEdits.{insertion_steps, is_plain, plain_len, sources_added, sources_removed};
-ghost use Rattle.meson_calls.specs.Sourced.{kept_args};
+ghost use Rattle.meson_calls.specs.Keywords.{kept_args};
 ghost use Rattle.meson_steps.specs.ListSteps.{bare};
 ghost use Rattle.meson_steps.specs.Meanings.{AreMeant};
 
 use crate::inserting::{insert, new_names, places_of};
 use crate::removing::names_removed;
 use meson_calls::arguments::{count_named, is_plain};
-use meson_calls::marks::text_of_name;
-use meson_calls::sourcing::{MAX_FOLLOWED, home_of, met};
-use meson_calls::variables::Variables;
 use meson_calls::{CallRef, Refusal};
 use meson_splice::Text;
 use meson_steps::names::checked_names;
 use meson_steps::step::ListStep;
 use meson_syntax::{Arg, List, Parsed};
+use meson_variables::marks::text_of_name;
+use meson_variables::sourcing::{MAX_FOLLOWED, home_of, met};
+use meson_variables::variables::Variables;
 use std::alloc::Global;
 
 /// How many arguments have no name.

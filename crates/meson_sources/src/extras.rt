@@ -3,19 +3,20 @@
 ghost use Rattle.std.specs.Prelude.{◌≡◌, IfOk, Ok};
 ghost use Rattle.meson_syntax.specs.View.{list_view};
 ghost use Rattle.meson_calls.specs.GoodLists.{GoodListing};
-ghost use Rattle.meson_calls.specs.CodeVariables.{AreVariables, project_of};
+ghost use Rattle.meson_variables.specs.CodeVariables.{AreVariables, project_of};
 ghost use Rattle.meson_calls.specs.Picking.{Source, placed_call};
 ghost use Rattle.meson_calls.specs.Refusals.{RefusedAs};
 ghost use Rattle.meson_sources.specs.Extras.{extra_of_call};
 
 use crate::editing::at_most_once;
 use crate::extra::extra_met;
-use meson_calls::marks::Marks;
-use meson_calls::sourcing::{MAX_FOLLOWED, home_of};
-use meson_calls::variables::Variables;
-use meson_calls::{CallRef, Refusal, Sources};
+use meson_calls::{CallRef, Refusal};
 use meson_splice::Many;
 use meson_syntax::List;
+use meson_variables::Sources;
+use meson_variables::marks::Marks;
+use meson_variables::sourcing::{MAX_FOLLOWED, home_of};
+use meson_variables::variables::Variables;
 
 /// The extra files of the call at a place.
 ///

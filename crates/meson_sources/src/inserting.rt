@@ -7,13 +7,14 @@ ghost use Rattle.meson_sources.specs.inside.Naming.{has_value, new_among};
 ghost use Rattle.meson_sources.specs.SourceEdits.{insertion_steps};
 ghost use Rattle.meson_steps.specs.Names.{distinct};
 
-use meson_calls::marks::Marks;
 use meson_calls::place::copy_place;
-use meson_calls::{CallRef, Refusal, SourceItem};
+use meson_calls::{CallRef, Refusal};
 use meson_splice::Text;
 use meson_steps::literals::written_text;
 use meson_steps::names::distinct;
 use meson_steps::step::{ListEdit, ListStep, push_step};
+use meson_variables::SourceItem;
+use meson_variables::marks::Marks;
 use std::alloc::{AllocError, Global};
 
 /// Whether an item has this value.

@@ -9,12 +9,13 @@ ghost use Rattle.meson_steps.specs.Names.{distinct};
 ghost use Rattle.meson_sources.specs.inside.CodeSpots.{after_each, all_spots_in, all_there, before_all, is_some_there, spot_if_there, spot_view, spots_in};
 ghost use Rattle.meson_sources.specs.SourceEdits.{distinct_spots, moved_up, path_after, removal_steps, removed_at, same_spot, spot_after};
 
-use meson_calls::marks::Marks;
 use meson_calls::place::place_of;
-use meson_calls::{CallRef, Refusal, SourceItem};
+use meson_calls::{CallRef, Refusal};
 use meson_splice::Text;
 use meson_steps::names::distinct;
 use meson_steps::step::{ListEdit, ListStep, push_step};
+use meson_variables::SourceItem;
+use meson_variables::marks::Marks;
 use std::alloc::{AllocError, Global};
 
 /// An element of a list: the list's file and path, and the element's number.

@@ -12,10 +12,10 @@ use crate::editing::{sources_added, sources_removed};
 use crate::extra::{extra_added, extra_removed};
 use meson_calls::finding::{list_of_call, the_call};
 use meson_calls::noted::Noted;
-use meson_calls::variables::Variables;
 use meson_calls::{Refusal, Role};
 use meson_splice::{Many, Text};
 use meson_steps::step::ListStep;
+use meson_variables::variables::Variables;
 use std::alloc::Global;
 
 /// What is done to the sources or the extra files of a target.

@@ -23,11 +23,11 @@ use meson_calls::note::{Note, What};
 use meson_calls::noted::Noted;
 use meson_calls::notes::notes_of;
 use meson_calls::roles::text_of;
-use meson_calls::setters::one_of;
 use meson_calls::walk_statements::walk_files;
 use meson_calls::{BorrowedPlace, CallRef};
 use meson_lex::Span;
 use meson_syntax::List;
+use meson_variables::setters::one_of;
 use std::alloc::{AllocError, Global};
 
 /// A statement: the place of its block, and its number there.

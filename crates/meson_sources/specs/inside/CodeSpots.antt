@@ -2,8 +2,8 @@
 use Rattle.std.specs.Prelude.{ℕ, Bool, true, false, List, [], ◌∷◌, ◌++◌, length, if◌then◌else◌, Option, Some, None, option_map, option_and_then, Result, Ok, Err}
 use Rattle.meson_splice.specs.Patch.{then_ok}
 use Rattle.meson_calls.specs.declared.call.CallRef.{CallRef}
-use Rattle.meson_calls.specs.declared.call.SourceItem.{SourceItem}
-use Rattle.meson_calls.specs.declared.marks.Marks.{Marks}
+use Rattle.meson_variables.specs.declared.source.SourceItem.{SourceItem}
+use Rattle.meson_variables.specs.declared.marks.Marks.{Marks}
 use Rattle.meson_calls.specs.declared.refusal.Refusal.{Refusal}
 use Rattle.meson_sources.specs.SourceEdits.{Spot, none_found, removable}
 use Rattle.meson_sources.specs.declared.removing.ElementSpot as code

@@ -1,7 +1,7 @@
 -- Names among the items that the code keeps.
 use Rattle.std.specs.Prelude.{ℕ, Bool, not, List, bytes_eq}
 use Rattle.std.specs.List.{filter, list_any}
-use Rattle.meson_calls.specs.declared.call.SourceItem.{SourceItem}
+use Rattle.meson_variables.specs.declared.source.SourceItem.{SourceItem}
 use Rattle.meson_steps.specs.Names.{distinct}
 
 abbrev pub has_value : List ℕ → SourceItem → Bool

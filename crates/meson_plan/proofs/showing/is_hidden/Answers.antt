@@ -3,8 +3,7 @@ use Rattle.std.specs.Prelude.{is_some, nat_lt}
 use Rattle.std.proofs.lemmas.Bool.Decides.{nat_tests}
 use Rattle.meson_calls.specs.Calls.{first_of, keyword, value_with_name}
 use Rattle.meson_calls.specs.Picking.{call_with}
-use Rattle.meson_calls.specs.Sourced.{kept_args}
-use Rattle.meson_calls.specs.Sources.{kwargs_key}
+use Rattle.meson_calls.specs.Keywords.{kept_args, kwargs_key}
 use Rattle.meson_calls.proofs.Listed.{list_is}
 use Rattle.meson_plan.proofs.showing.is_hidden.Goals as goal
 

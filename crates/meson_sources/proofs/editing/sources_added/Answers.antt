@@ -4,15 +4,16 @@ use Rattle.std.specs.Prelude.{Ok, Err}
 use Rattle.std.proofs.lemmas.Result.{err_from_is_err_and}
 use Rattle.meson_calls.specs.declared.refusal.Refusal.TheVariants.{DuplicateKeyword}
 use Rattle.meson_calls.specs.Calls.{value_with_name}
-use Rattle.meson_calls.specs.Expansion.{max_followed}
+use Rattle.meson_variables.specs.Expansion.{max_followed}
 use Rattle.meson_steps.specs.ListSteps.{bare}
-use Rattle.meson_calls.specs.CodeVariables.{project_of}
+use Rattle.meson_variables.specs.CodeVariables.{project_of}
 use Rattle.meson_sources.specs.inside.Naming.{new_among}
-use Rattle.meson_calls.specs.Sources.{or_call, or_option}
-use Rattle.meson_calls.specs.Sourced.{kept_args, all_gathered}
+use Rattle.meson_variables.specs.Sources.{or_call, or_option}
+use Rattle.meson_calls.specs.Keywords.{kept_args}
+use Rattle.meson_variables.specs.Sourced.{all_gathered}
 use Rattle.meson_sources.specs.SourceEdits.{insertion_steps, plain_len}
 use Rattle.meson_steps.specs.Names.{checked_names}
-use Rattle.meson_calls.specs.Tallies.{gathered}
+use Rattle.meson_variables.specs.Tallies.{gathered}
 use Rattle.meson_sources.proofs.SourcesMeant.{added, added_twice}
 use Rattle.meson_sources.proofs.KeyTexts.{sources_text}
 use Rattle.meson_sources.proofs.editing.sources_added.Goals as goal

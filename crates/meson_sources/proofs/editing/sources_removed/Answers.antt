@@ -4,11 +4,12 @@ use Rattle.std.specs.Prelude.{Ok, Err}
 use Rattle.std.proofs.lemmas.Result.{err_from_is_err_and}
 use Rattle.meson_calls.specs.declared.refusal.Refusal.TheVariants.{DuplicateKeyword}
 use Rattle.meson_calls.specs.Calls.{value_with_name}
-use Rattle.meson_calls.specs.Expansion.{max_followed}
-use Rattle.meson_calls.specs.CodeVariables.{project_of}
-use Rattle.meson_calls.specs.Sourced.{kept_args, all_gathered}
+use Rattle.meson_variables.specs.Expansion.{max_followed}
+use Rattle.meson_variables.specs.CodeVariables.{project_of}
+use Rattle.meson_calls.specs.Keywords.{kept_args}
+use Rattle.meson_variables.specs.Sourced.{all_gathered}
 use Rattle.meson_steps.specs.Names.{checked_names}
-use Rattle.meson_calls.specs.Tallies.{gathered}
+use Rattle.meson_variables.specs.Tallies.{gathered}
 use Rattle.meson_sources.proofs.Marked.{as_many_numbers}
 use Rattle.meson_sources.proofs.SourcesMeant.{ms, fields, removed_twice, gone, not_gone}
 use Rattle.meson_sources.proofs.KeyTexts.{sources_text}

@@ -1,7 +1,7 @@
 use Rattle.std.proofs.Common.{[], ap}
 use Rattle.std.proofs.lemmas.Result.{err_from_is_err_and}
-use Rattle.meson_calls.specs.CodeVariables.{project_of}
-use Rattle.meson_calls.specs.Tallies.{gathered}
+use Rattle.meson_variables.specs.CodeVariables.{project_of}
+use Rattle.meson_variables.specs.Tallies.{gathered}
 use Rattle.meson_sources.proofs.Marked.{as_many_numbers}
 use Rattle.meson_sources.proofs.ExtrasMeant.{extras, extra_fields, extra_unchecked, extra_gone, extra_not_gone}
 use Rattle.meson_sources.proofs.extra.extra_removed.Goals as goal

@@ -5,11 +5,11 @@ use Rattle.std.specs.Prelude.{Ok, Err}
 use Rattle.std.proofs.lemmas.Result.{err_from_is_err_and}
 use Rattle.meson_calls.specs.declared.refusal.Refusal.TheVariants.{DuplicateKeyword}
 use Rattle.meson_calls.specs.Calls.{value_with_name}
-use Rattle.meson_calls.specs.Expansion.{max_followed}
-use Rattle.meson_calls.specs.CodeVariables.{project_of}
-use Rattle.meson_calls.specs.Sourced.{kept_args}
-use Rattle.meson_calls.specs.Sources.{or_call, or_option}
-use Rattle.meson_calls.specs.Tallies.{gathered}
+use Rattle.meson_variables.specs.Expansion.{max_followed}
+use Rattle.meson_variables.specs.CodeVariables.{project_of}
+use Rattle.meson_calls.specs.Keywords.{kept_args}
+use Rattle.meson_variables.specs.Sources.{or_call, or_option}
+use Rattle.meson_variables.specs.Tallies.{gathered}
 use Rattle.meson_sources.specs.Targeted.{extra_gathered}
 use Rattle.meson_sources.proofs.ExtrasTold.{told_once, told_twice}
 use Rattle.meson_sources.proofs.KeyTexts.{extra_text}

@@ -4,7 +4,7 @@ use Rattle.meson_targets.specs.TargetViews.{place_view}
 use Rattle.meson_calls.specs.Notes.{note_view}
 use Rattle.meson_calls.specs.Strings.{AreGood, note_words}
 use Rattle.meson_targets.specs.inside.Uses.{is_outside, note_uses}
-use Rattle.meson_calls.proofs.Anys.{any_here}
+use Rattle.meson_variables.proofs.Anys.{any_here}
 use Rattle.meson_calls.proofs.GoodNotes.{good_at}
 use Rattle.meson_targets.proofs.uses.is_noted_outside.Goals as goal
 

@@ -2,7 +2,7 @@ use Rattle.std.proofs.Common.{◌≡◌, Some, ◌∙◌, ap, ap₂, subst, sym}
 use Rattle.std.specs.Prelude.{Ok, Err, IfOk}
 use Rattle.meson_syntax.specs.View.{list_view, name_at, text_at}
 use Rattle.meson_calls.specs.Loading.{IsProject, loaded_from, project}
-use Rattle.meson_calls.specs.CodeVariables.{project_of}
+use Rattle.meson_variables.specs.CodeVariables.{project_of}
 use Rattle.meson_calls.specs.Picking.{call_with}
 use Rattle.meson_calls.specs.Project.{placed}
 use Rattle.meson_calls.specs.Refusals.{IfRefused}

@@ -1,5 +1,0 @@
-use Rattle.std.proofs.Common.{◌∙◌}
-use Rattle.meson_calls.proofs.followed.Followed.has.Goals as goal
-
-pub returns : goal.returns
-returns c = c.contains.ensures ∙ c.args.self.now.same c.args.name.now

@@ -1,8 +1,0 @@
-use Rattle.std.proofs.Common.{◌≡◌, ℕ, List, drop}
-use Rattle.meson_syntax.specs.Tree.{arguments_of}
-use Rattle.meson_syntax.specs.View.{args_view}
-use Rattle.meson_calls.specs.Expansion.{has_names}
-use Rattle.meson_calls.proofs.meeting.are_named.Given as goal
-
-abbrev pub invariant-loop-i : goal.invariant-loop-i
-invariant-loop-i l = (source : List ℕ) → has_names (arguments_of (args_view source (drop l.i l.args))) ≡ has_names (arguments_of (args_view source l.args))

@@ -1,8 +1,0 @@
-use Rattle.std.proofs.Common.{◌≡◌, take}
-use Rattle.std.specs.Prelude.{false}
-use Rattle.meson_syntax.specs.View.{names_at}
-use Rattle.meson_calls.specs.Variables.{one_of_names}
-use Rattle.meson_calls.proofs.setters.one_of.Given as goal
-
-abbrev pub invariant-loop-i : goal.invariant-loop-i
-invariant-loop-i l = one_of_names (names_at l.source (take l.i l.spans)) l.name ≡ false

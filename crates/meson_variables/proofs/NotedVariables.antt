@@ -1,0 +1,13 @@
+-- The variables of the files and trees of a project with its notes.
+use Rattle.std.proofs.Common.{◌≡◌, ap₂}
+use Rattle.meson_calls.specs.declared.noted.Noted.{Noted}
+use Rattle.meson_variables.specs.declared.variables.Variables.{Variables}
+use Rattle.meson_calls.specs.Loading.{named_trees, views}
+use Rattle.meson_variables.specs.CodeVariables.{project_of}
+use Rattle.meson_calls.specs.NotedProjects.{project_in}
+
+-- ---- the variables of its files and trees
+
+module _ (v : Variables) (n : Noted) (files : v.files.now ≡ n.files.now) (trees : v.trees.now ≡ n.trees.now) where
+  pub same_project : project_of v ≡ project_in n
+  same_project = ap₂ (λ fs ts. named_trees fs (views fs ts)) files trees

@@ -1,0 +1,10 @@
+use Rattle.std.proofs.Common.{◌∙◌, sym, ap}
+use Rattle.std.specs.Option.{option_copied, option_flatten}
+use Rattle.meson_variables.specs.Values.{looked_up}
+use Rattle.meson_variables.proofs.values.Values.of.Goals as goal
+
+pub returns-in-Some : goal.returns-in-Some
+returns-in-Some c = ap (λ o. option_flatten (looked_up o)) (ap option_copied (sym c.in-Some.is) ∙ c.get.ensures.value)
+
+pub returns-in-None : goal.returns-in-None
+returns-in-None c = ap (λ o. option_flatten (looked_up o)) (ap option_copied (sym c.in-None.is) ∙ c.get.ensures.value)
