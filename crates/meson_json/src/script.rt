@@ -17,7 +17,7 @@ use std::alloc::Global;
 pub const MAX_COMMANDS: usize = 4096;
 
 /// Commands in order.
-#[derive(Drop)]
+#[derive(Debug, Drop)]
 pub struct Script {
     pub commands: Many<Command>,
 }

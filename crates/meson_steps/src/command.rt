@@ -4,7 +4,7 @@ use meson_calls::Role;
 use meson_splice::{Change, Many, Text};
 
 /// The value that a keyword argument is set to.
-#[derive(Drop)]
+#[derive(Debug, Drop)]
 pub enum Setting {
     Text(Text),
     Bool(bool),
@@ -12,7 +12,7 @@ pub enum Setting {
 }
 
 /// What may be done to a project, or asked of it.
-#[derive(Drop)]
+#[derive(Debug, Drop)]
 pub enum Command {
     SourcesAdd {
         target: Text,
