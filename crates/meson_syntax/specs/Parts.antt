@@ -1,4 +1,4 @@
--- The children of nodes without the words around them, and the node that a path names. No public contract names it.
+-- The children of nodes without the words around them, and the node that a path names.
 use Rattle.std.specs.Prelude.{ℕ, zero, suc, List, [], ◌∷◌, ◌++◌, Option, Some, None, option_and_then}
 use Rattle.meson_lex.specs.declared.kinds.Span.{Span}
 use Rattle.meson_syntax.specs.declared.path.Node as rust_node
