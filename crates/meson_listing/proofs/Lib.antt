@@ -1,10 +1,3 @@
-mod CallsHeld
-mod CallPlacesListed
-mod FoundListed
-mod NotEntered
-mod Names
-mod FileSteps
-mod LinesCounted
 mod Puts
 mod Rising
 pub mod Agreeing

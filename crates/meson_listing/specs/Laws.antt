@@ -1,20 +1,15 @@
 -- What the listings promise, in the words of the commands and of the names of keyword arguments.
-use Rattle.std.specs.Prelude.{◌≡◌, ◌≢◌, ◌⊎◌, ℕ, false, List, [], ◌∷◌, filter, Result, Ok, Err, Some, All}
-use Rattle.std.specs.List.{AllPairs, Contains, list_any}
+use Rattle.std.specs.Prelude.{◌≡◌, ◌≢◌, ℕ, List, [], ◌∷◌, Result, Ok, Err, Some, All}
+use Rattle.std.specs.List.{AllPairs}
 use Rattle.std.specs.List.Sorted.{IsStrictlySortedBy}
 use Rattle.std.specs.Ordering.{nat_cmp}
 use Rattle.std.specs.Cmp.Lexicographic.{slice_cmp}
 use Rattle.serde_json.specs.Data.{Data, Members, no_members, member}
 use Rattle.serde_json.specs.Find.{get_member}
 use Rattle.meson_splice.specs.Patch.{then_ok}
-use Rattle.meson_calls.specs.declared.call.CallRef.{CallRef}
 use Rattle.meson_calls.specs.declared.call.Role.{Role}
-use Rattle.meson_calls.specs.declared.call.Role.TheVariants as role
 use Rattle.meson_calls.specs.declared.refusal.Refusal.{Refusal}
-use Rattle.meson_calls.specs.Calls.{calls}
 use Rattle.meson_calls.specs.Loading.{Loaded, IsProject, project}
-use Rattle.meson_calls.specs.Roles.{found, places}
-use Rattle.meson_calls.specs.Variables.{all_known, enters_unknown}
 use Rattle.meson_steps.specs.declared.command.Command.{Command}
 use Rattle.meson_steps.specs.declared.command.Command.TheVariants as command
 use Rattle.meson_steps.specs.declared.command.Done.{Done}
@@ -23,9 +18,7 @@ use Rattle.meson_plan.specs.declared.details.Shown.{Shown}
 use Rattle.meson_plan.specs.Performing.{MayRefuse, Performs}
 use Rattle.meson_plan.specs.Planning.{planned}
 use Rattle.meson_listing.specs.Entries.{put_each, shown_data}
-use Rattle.meson_listing.specs.Holdings.{held_call, held_calls, holdings}
 use Rattle.meson_listing.specs.Listing.{target_listing, kwargs_listing}
-use Rattle.meson_listing.specs.declared.holdings.HeldCall.{HeldCall}
 
 -- ---- A listing is made where its info command is planned, which has no steps, and refused as that is.
 
@@ -69,26 +62,3 @@ pub record AreInOrder (pairs : List (List ℕ × Shown)) : Type 0 where
 
 abbrev pub NamesRise : Type 0
 NamesRise = (pairs : List (List ℕ × Shown)) → AreInOrder pairs
-
--- ---- What an id finds is among the targets that are listed, and has the id there as its name or its variable.
-
-pub record IsListed (l : Loaded) (id : List ℕ) (c : CallRef) : Type 0 where
-  pub call : HeldCall
-  pub is_held : held_call l c ≡ Some call
-  pub among : Contains (holdings l).targets call
-  pub named : (call.head.name ≡ Some id) ⊎ (call.variable ≡ Some id)
-
-abbrev pub FoundAreListed : Type 0
-FoundAreListed = (l : Loaded) (id : List ℕ) → All (IsListed l id) (places (found (project l) role.Target id))
-
--- ---- What is not entered makes the value of every variable unknown.
-
--- The calls that are listed as not entered are the `subdir` calls by which any variable may be set. Where there is one, no variable is known; where
--- there is none, no `subdir` call is why.
-pub record TellsWhyUnknown (l : Loaded) : Type 0 where
-  pub same : (holdings l).not_entered ≡ held_calls l (places (filter (enters_unknown (project l)) (calls (project l))))
-  pub unknown : (holdings l).not_entered ≢ [] → all_known (project l) ≡ false
-  pub entered : (holdings l).not_entered ≡ [] → list_any (enters_unknown (project l)) (calls (project l)) ≡ false
-
-abbrev pub NotEnteredMeansUnknown : Type 0
-NotEnteredMeansUnknown = (l : Loaded) → IsProject l → TellsWhyUnknown l

@@ -11,8 +11,8 @@ use meson_splice::{FileSet, Many, Text};
 use serde_json::{Map, Value, json, put};
 use std::alloc::{AllocError, Global};
 
-/// The name of the file of a number.
-pub(crate) fn file_name(files: &FileSet, file: usize) -> &str
+/// The name of the file of a number; none has the empty name.
+pub fn file_name(files: &FileSet, file: usize) -> &str
     ensures { result.now ≡ name_of_file file files.now }
 {
     if file < files.len() {
@@ -23,7 +23,7 @@ pub(crate) fn file_name(files: &FileSet, file: usize) -> &str
 }
 
 /// A text, or null.
-pub(crate) fn text_or_null(text: Option<Text>) -> Value
+pub fn text_or_null(text: Option<Text>) -> Value
     ensures { view result ≡ text_or_null text }
 {
     match text {
@@ -32,8 +32,11 @@ pub(crate) fn text_or_null(text: Option<Text>) -> Value
     }
 }
 
-/// Where a call, a source or an extra file stands.
-pub(crate) fn spot_members(
+/// Where a call, a source or an extra file stands: the offset in bytes and the name of the file.
+///
+/// # Errors
+/// Memory is refused.
+pub fn spot_members(
     alloc: Global,
     at: usize,
     file: &str,

@@ -2,7 +2,8 @@
 
 use crate::rows::Row;
 use crate::trial::{Call, Fault, Wrong, each_growth_refused, grows_less};
-use meson_listing::{info_kwargs, info_target, project_lines, project_object};
+use meson_inventory::{project_lines, project_object};
+use meson_listing::{info_kwargs, info_target};
 use meson_plan::{CallRef, Done, LoadFault, Project, Refusal, Role, Sources, Unloaded};
 use meson_script::Script;
 use meson_splice::FileSet;

@@ -2,7 +2,7 @@
 use Rattle.std.specs.Prelude.{ℕ, Bool, true, false, List}
 use Rattle.serde_json.specs.Written.{compact_text}
 use Rattle.meson_calls.specs.Loading.{Loaded}
-use Rattle.meson_listing.specs.Inventory.{project_data, project_lines}
+use Rattle.meson_inventory.specs.Inventory.{project_data, project_lines}
 use Rattle.meson_script.specs.declared.session.Session.{Session}
 use Rattle.meson_sums.specs.Sums.{sums}
 use Rattle.meson_rewrite.specs.Changes.{history_lines}

@@ -9,7 +9,7 @@ use crate::opening::{StoredSession, leave};
 use crate::request::Listing;
 use crate::said::{Said, json_line};
 use crate::stop::Stop;
-use meson_listing::{project_lines, project_object};
+use meson_inventory::{project_lines, project_object};
 use meson_plan::Project;
 use meson_script::Session;
 use meson_splice::Bytes;

@@ -1,0 +1,7 @@
+mod CallsHeld
+mod CallPlacesListed
+mod FoundListed
+mod NotEntered
+mod Names
+mod FileSteps
+mod LinesCounted

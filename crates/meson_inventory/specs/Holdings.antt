@@ -1,0 +1,65 @@
+-- What a project holds: the calls that make targets, and the `subdir` calls that enter none of its files.
+use Rattle.std.specs.Prelude.{◌≡◌, ℕ, Bool, false, not, IsTrue, List, filter, if◌then◌else◌, codes, Option, Some, None, option_map}
+use Rattle.std.specs.List.{filter_map}
+use Rattle.meson_splice.specs.declared.file_set.File.{File}
+use Rattle.meson_lex.specs.declared.kinds.Span.{Span}
+use Rattle.meson_calls.specs.declared.call.CallRef.{CallRef}
+use Rattle.meson_calls.specs.Calls.{Call, all_chosen, calls}
+use Rattle.meson_calls.specs.Knowns.{is_entered, meant_in}
+use Rattle.meson_calls.specs.Loading.{Loaded, project}
+use Rattle.meson_calls.specs.Notes.{Note, a_call, an_assignment, a_loop, notes}
+use Rattle.meson_calls.specs.Project.{Placed, Project}
+use Rattle.meson_calls.specs.Roles.{places, targets}
+use Rattle.meson_calls.specs.Variables.{calls_function}
+use Rattle.meson_plan.specs.Details.{head, is_call}
+use Rattle.meson_targets.specs.TargetEdits.{variable_of}
+use Rattle.meson_inventory.specs.declared.holdings.HeldCall.{HeldCall}
+use Rattle.meson_inventory.specs.declared.holdings.Holdings.{Holdings}
+
+-- ---- calls
+
+-- a call stands at the place
+abbrev pub IsCall : Loaded → CallRef → Type 0
+IsCall l c = IsTrue (is_call (project l) c)
+
+-- the call there: the number of its file, its head, and the variable that a statement sets to it
+abbrev pub held_call : Loaded → CallRef → Option HeldCall
+held_call l c = option_map (λ h. record { file = c.file; head = h; variable = variable_of (project l) c }) (head (project l) c)
+
+abbrev pub held_calls : Loaded → List CallRef → List HeldCall
+held_calls l cs = filter_map (held_call l) cs
+
+-- the calls of a function, in file order and source order
+abbrev pub with_function : {S : Type 0} → List ℕ → Call S → Option (Call S)
+with_function f c = if calls_function f c then Some c else None
+
+abbrev pub calls_of : {S : Type 0} → Project S → List ℕ → List CallRef
+calls_of p f = places (all_chosen (with_function f) (calls p))
+
+-- among notes
+abbrev pub note_calls : {S : Type 0} → List ℕ → Note S → Bool
+note_calls f (a_call c) = calls_function f c
+note_calls f (an_assignment x sets e) = false
+note_calls f (a_loop xs) = false
+
+-- these are the notes of the project
+abbrev pub AreAllNotes : Loaded → List (Placed (Note Span)) → Type 0
+AreAllNotes l ns = ns ≡ notes (project l)
+
+-- ---- what a project holds
+
+-- whether a `subdir` call enters one of the files: its folder is a plain literal, and the file that is meant is there
+abbrev pub enters_one : List File → HeldCall → Bool
+enters_one files c = is_entered files (meant_in files c.file c.head.name)
+
+abbrev pub not_entered : List File → List HeldCall → List HeldCall
+not_entered files cs = filter (λ c. not (enters_one files c)) cs
+
+abbrev pub targets_held : Loaded → List HeldCall
+targets_held l = held_calls l (targets (project l))
+
+abbrev pub subdirs_held : Loaded → List HeldCall
+subdirs_held l = not_entered l.files (held_calls l (calls_of (project l) (codes "subdir")))
+
+abbrev pub holdings : Loaded → Holdings
+holdings l = record { targets = targets_held l; not_entered = subdirs_held l }

@@ -1,0 +1,59 @@
+-- What a project holds as JSON, and as lines for people.
+use Rattle.std.specs.Prelude.{ℕ, ◌+◌, ◌==◌, List, [], ◌++◌, length, map, filter, take, flat_map, codes, decimal, Option, Some, None}
+use Rattle.serde_json.specs.Data.{Data, number, unsigned, string, array, object, no_members, member}
+use Rattle.serde_json.specs.View.{items_of}
+use Rattle.meson_splice.specs.declared.file_set.File.{File}
+use Rattle.meson_splice.specs.Files.{bytes_at}
+use Rattle.meson_calls.specs.Loading.{Loaded, name_of_file}
+use Rattle.meson_listing.specs.Entries.{text_or_null}
+use Rattle.meson_inventory.specs.Holdings.{holdings}
+use Rattle.meson_inventory.specs.declared.holdings.HeldCall.{HeldCall}
+
+-- ---- as JSON
+
+abbrev pub file_data : File → Data
+file_data f = string f.name
+
+-- where a call stands
+abbrev pub spot_data : List File → HeldCall → Data
+spot_data files c = object (member (codes "at") (number (unsigned c.head.at)) (member (codes "file") (string (name_of_file c.file files)) no_members))
+
+-- and what names it
+abbrev pub call_data : List File → HeldCall → Data
+call_data files c =
+    object (member (codes "at") (number (unsigned c.head.at)) (member (codes "file") (string (name_of_file c.file files)) (member (codes "function") (string c.head.function)
+    (member (codes "name") (text_or_null c.head.name) (member (codes "variable") (text_or_null c.variable) no_members)))))
+
+abbrev pub project_data : Loaded → Data
+project_data l =
+    object (member (codes "files") (array (items_of (map file_data l.files)))
+    (member (codes "not_entered") (array (items_of (map (spot_data l.files) (holdings l).not_entered)))
+    (member (codes "targets") (array (items_of (map (call_data l.files) (holdings l).targets))) no_members)))
+
+-- ---- as lines
+
+-- the number of the line of the byte at an offset, counted from 1: each line feed (10) before it ends a line
+abbrev pub line_number : List ℕ → ℕ → ℕ
+line_number bytes at_ = length (filter (λ b. b == 10) (take at_ bytes)) + 1
+
+abbrev pub named_part : Option (List ℕ) → List ℕ
+named_part None = codes " without a literal name"
+named_part (Some name) = codes " '" ++ (name ++ codes "'")
+
+abbrev pub variable_part : Option (List ℕ) → List ℕ
+variable_part None = []
+variable_part (Some name) = codes ", variable " ++ name
+
+-- `FILE:LINE: FUNCTION 'NAME', variable VARIABLE`, and what else is to be said of it
+abbrev pub call_line : List File → List ℕ → HeldCall → List ℕ
+call_line files more c =
+    name_of_file c.file files ++ (codes ":" ++ (decimal (line_number (bytes_at c.file files) c.head.at) ++ (codes ": "
+    ++ (c.head.function ++ (named_part c.head.name ++ (variable_part c.variable ++ (more ++ codes "\n")))))))
+
+abbrev pub file_line : File → List ℕ
+file_line f = f.name ++ codes ":1: build file\n"
+
+-- a line for each target, then one for each file, then one for each `subdir` call that is not entered
+abbrev pub project_lines : Loaded → List ℕ
+project_lines l =
+    flat_map (call_line l.files []) (holdings l).targets ++ (flat_map file_line l.files ++ flat_map (call_line l.files (codes ", not entered")) (holdings l).not_entered)

@@ -1,0 +1,178 @@
+//! What a project holds: its targets, and the `subdir` calls that enter none of its files.
+
+ghost use Rattle.std.specs.Prelude.{◌≡◌, All, IfOk, Some};
+ghost use Rattle.meson_calls.specs.Knowns.{AreFileNames};
+ghost use Rattle.meson_calls.specs.Loading.{HasFileName};
+ghost use Rattle.meson_calls.specs.Notes.{note_view, note_views};
+ghost use Rattle.meson_calls.specs.Picking.{places_that};
+ghost use Rattle.meson_inventory.specs.Holdings.{AreAllNotes, IsCall, enters_one, held_call, held_calls, holdings, not_entered, note_calls, subdirs_held, targets_held};
+
+use meson_calls::file_names::{enters, names_of};
+use meson_calls::note::{Note, What};
+use meson_calls::notes::notes_of;
+use meson_calls::picking::with_role;
+use meson_calls::place::place_of;
+use meson_calls::roles::text_of;
+use meson_plan::{CallRef, Head, Project, Role};
+use meson_splice::{FileSet, Many, Text};
+use meson_targets::variable::variable_of;
+use std::alloc::{AllocError, Global};
+use std::collections::HashSet;
+
+/// A call of a project.
+#[derive(Drop)]
+pub(crate) struct HeldCall {
+    /// The number of its file.
+    pub file: usize,
+    pub head: Head,
+    /// The variable that a statement sets to it.
+    pub variable: Option<Text>,
+}
+
+/// What a project holds beside its files, each in file order and source order.
+#[derive(Drop)]
+pub(crate) struct Holdings {
+    /// The calls that make targets.
+    pub targets: Many<HeldCall>,
+    /// The `subdir` calls that enter none of the files.
+    pub not_entered: Many<HeldCall>,
+}
+
+/// Whether a note is one of a call of this function.
+fn is_call_of(function: &[u8], note: &Note<'_, '_>) -> bool
+    ensures { result ≡ note_calls function.now (note_view note.now).it }
+{
+    match note.what {
+        What::Call { function: name, .. } => text_of(note.source, name) == function,
+        _ => false,
+    }
+}
+
+/// The places of the calls of a function.
+fn calls_of(
+    alloc: Global,
+    function: &[u8],
+    notes: &[Note<'_, '_>],
+) -> Result<Vec<CallRef>, AllocError>
+    ensures { IfOk result (λ found. found.items ≡ places_that (note_calls function.now) (note_views notes.now)) }
+{
+    let mut found = Vec::new(alloc);
+    for i in 0..notes.len() {
+        let note = &notes[i];
+        if is_call_of(function, note) {
+            let place = place_of(alloc, note.place.file, note.place.path)?;
+            found.push(place)?;
+        }
+    }
+    Ok(found)
+}
+
+/// The call at a place.
+fn held_call(alloc: Global, project: &Project, place: &CallRef) -> Result<HeldCall, AllocError>
+    requires { IsCall project.now place.now }
+    ensures { IfOk result (λ call. held_call project.now place.now ≡ Some call) }
+{
+    project.reads();
+    let head = project.head_at(alloc, place)?;
+    let variable = variable_of(alloc, project.files(), project.trees(), place)?;
+    Ok(HeldCall {
+        file: place.file,
+        head,
+        variable,
+    })
+}
+
+/// The calls at some places.
+fn held_calls(
+    alloc: Global,
+    project: &Project,
+    places: &[CallRef],
+) -> Result<Many<HeldCall>, AllocError>
+    requires { All (IsCall project.now) places.now }
+    ensures { IfOk result (λ calls. calls ≡ held_calls project.now places.now) }
+{
+    let mut calls = Vec::new(alloc);
+    for place in places {
+        calls.push(held_call(alloc, project, place)?)?;
+    }
+    Ok(Many::of(calls))
+}
+
+/// Whether a `subdir` call enters one of the files.
+fn enters_one(
+    alloc: Global,
+    files: &FileSet,
+    names: &HashSet<&str>,
+    call: &HeldCall,
+) -> Result<bool, AllocError>
+    requires named { All HasFileName files.now }
+    requires names { AreFileNames names.now files.now }
+    ensures { IfOk result (λ one. one ≡ enters_one files.now call.now) }
+{
+    match &call.head.name {
+        Some(folder) => enters(alloc, files, names, call.file, folder.get()),
+        None => Ok(false),
+    }
+}
+
+/// Those of some `subdir` calls that enter none of the files.
+fn not_entered(
+    alloc: Global,
+    files: &FileSet,
+    calls: Many<HeldCall>,
+) -> Result<Many<HeldCall>, AllocError>
+    requires { All HasFileName files.now }
+    ensures { IfOk result (λ left. left ≡ not_entered files.now calls) }
+{
+    let names = names_of(alloc, files)?;
+    let mut left = Vec::new(alloc);
+    for call in calls.take() {
+        if !enters_one(alloc, files, &names, &call)? {
+            left.push(call)?;
+        }
+    }
+    Ok(Many::of(left))
+}
+
+/// The calls that make targets, among the notes of a project.
+fn targets_held(
+    alloc: Global,
+    project: &Project,
+    notes: &[Note<'_, '_>],
+) -> Result<Many<HeldCall>, AllocError>
+    requires { AreAllNotes project.now (note_views notes.now) }
+    ensures { IfOk result (λ calls. calls ≡ targets_held project.now) }
+{
+    let places = with_role(alloc, Role::Target, notes)?;
+    held_calls(alloc, project, places.as_slice())
+}
+
+/// The `subdir` calls that enter none of the files, among the notes of a project.
+fn subdirs_held(
+    alloc: Global,
+    project: &Project,
+    notes: &[Note<'_, '_>],
+) -> Result<Many<HeldCall>, AllocError>
+    requires { AreAllNotes project.now (note_views notes.now) }
+    ensures { IfOk result (λ calls. calls ≡ subdirs_held project.now) }
+{
+    project.reads();
+    let places = calls_of(alloc, b"subdir".as_slice(), notes)?;
+    let calls = held_calls(alloc, project, places.as_slice())?;
+    not_entered(alloc, project.files(), calls)
+}
+
+/// What a project holds.
+pub(crate) fn holdings_of(alloc: Global, project: &Project) -> Result<Holdings, AllocError>
+    ensures { IfOk result (λ held. held ≡ holdings project.now) }
+{
+    project.reads();
+    let taken = notes_of(alloc, project.files(), project.trees())?;
+    let notes = taken.all(alloc)?;
+    let targets = targets_held(alloc, project, notes.as_slice())?;
+    let not_entered = subdirs_held(alloc, project, notes.as_slice())?;
+    Ok(Holdings {
+        targets,
+        not_entered,
+    })
+}

@@ -1,0 +1,19 @@
+//! Laws of what a project holds. Each one's contract is a law.
+
+ghost use Rattle.meson_inventory.specs.Laws.{FoundAreListed, NotEnteredMeansUnknown};
+
+use meson_calls::laws::parts_are_all;
+
+/// Each call that an id finds is among the targets that are listed of a project, and has the id there as its name or as its
+/// variable.
+pub fn found_are_listed()
+    ensures { FoundAreListed }
+{
+    parts_are_all();
+}
+
+/// The calls that are listed as not entered are the `subdir` calls by which any variable may be set. Where there is one, no
+/// variable of the project is known; where there is none, no `subdir` call is the reason why one is unknown.
+pub fn not_entered_means_unknown()
+    ensures { NotEnteredMeansUnknown }
+{}

@@ -1,0 +1,105 @@
+//! What a project holds, as lines for people.
+
+ghost use Rattle.std.specs.Prelude.{◌≡◌, IfOk, flat_map, string_bytes};
+ghost use Rattle.meson_splice.specs.Files.{bytes_at};
+ghost use Rattle.meson_inventory.specs.Inventory.{call_line, file_line, line_number, named_part, project_lines, variable_part};
+
+use meson_listing::entries::file_name;
+use crate::holdings::{HeldCall, holdings_of};
+use crate::line_counter::LineCounter;
+use meson_plan::Project;
+use meson_splice::{FileSet, Text};
+use std::alloc::{AllocError, Global};
+
+/// What a line says of a call's name.
+fn named_part(alloc: Global, name: &Option<Text>) -> Result<String, AllocError>
+    ensures { IfOk result (λ text. string_bytes text ≡ named_part name.now) }
+{
+    match name {
+        Some(name) => {
+            let name = name.get();
+            format!(in alloc; " '{name}'")
+        }
+        None => String::from_str(alloc, " without a literal name"),
+    }
+}
+
+/// What a line says of a call's variable.
+fn variable_part(alloc: Global, variable: &Option<Text>) -> Result<String, AllocError>
+    ensures { IfOk result (λ text. string_bytes text ≡ variable_part variable.now) }
+{
+    match variable {
+        Some(name) => {
+            let name = name.get();
+            format!(in alloc; ", variable {name}")
+        }
+        None => Ok(String::new(alloc)),
+    }
+}
+
+/// The line of a call, which stands in a line of this number; at its end it says more.
+fn call_line(
+    alloc: Global,
+    files: &FileSet,
+    number: usize,
+    more: &str,
+    call: &HeldCall,
+) -> Result<String, AllocError>
+    requires { number ≡ line_number (bytes_at call.now.file files.now) call.now.head.at }
+    ensures { IfOk result (λ line. string_bytes line ≡ call_line files.now more.now call.now) }
+{
+    let file = file_name(files, call.file);
+    let function = call.head.function.get();
+    let named = named_part(alloc, &call.head.name)?;
+    let variable = variable_part(alloc, &call.variable)?;
+    format!(in alloc; "{file}:{number}: {function}{named}{variable}{more}\n")
+}
+
+/// The lines of some calls; each says more at its end.
+fn call_lines(
+    alloc: Global,
+    files: &FileSet,
+    more: &str,
+    calls: &[HeldCall],
+) -> Result<String, AllocError>
+    ensures { IfOk result (λ text. string_bytes text ≡ flat_map (call_line files.now more.now) calls.now) }
+{
+    let mut lines = LineCounter::new(files);
+    let mut text = String::new(alloc);
+    for call in calls {
+        let number = lines.line_of(call.file, call.head.at);
+        let line = call_line(alloc, files, number, more, call)?;
+        text.push_str(line.as_str())?;
+    }
+    Ok(text)
+}
+
+/// The lines of the files.
+fn file_lines(alloc: Global, files: &FileSet) -> Result<String, AllocError>
+    ensures { IfOk result (λ text. string_bytes text ≡ flat_map file_line files.now) }
+{
+    let mut text = String::new(alloc);
+    for i in 0..files.len() {
+        text.push_str(file_name(files, i))?;
+        text.push_str(":1: build file\n")?;
+    }
+    Ok(text)
+}
+
+/// What a project holds, a line for each call that makes a target, for each file, and for each `subdir` call that enters
+/// none of the files: `FILE:LINE: WHAT`, with the number of the line counted from 1.
+///
+/// # Errors
+/// Memory is refused.
+pub fn project_lines(alloc: Global, project: &Project) -> Result<String, AllocError>
+    ensures { IfOk result (λ text. string_bytes text ≡ project_lines project.now) }
+{
+    let held = holdings_of(alloc, project)?;
+    let files = project.files();
+    let mut text = call_lines(alloc, files, "", held.targets.get())?;
+    let names = file_lines(alloc, files)?;
+    text.push_str(names.as_str())?;
+    let left = call_lines(alloc, files, ", not entered", held.not_entered.get())?;
+    text.push_str(left.as_str())?;
+    Ok(text)
+}

@@ -1,5 +1,0 @@
-use Rattle.meson_listing.proofs.FoundListed.{found_are_listed}
-use Rattle.meson_listing.proofs.laws.found_are_listed.Goals as goal
-
-pub returns : goal.returns
-returns c = found_are_listed c.parts_are_all.ensures

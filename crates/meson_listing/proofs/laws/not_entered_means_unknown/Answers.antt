@@ -1,5 +1,0 @@
-use Rattle.meson_listing.proofs.NotEntered.{not_entered_means_unknown}
-use Rattle.meson_listing.proofs.laws.not_entered_means_unknown.Goals as goal
-
-pub returns : goal.returns
-returns c = not_entered_means_unknown
