@@ -6,7 +6,7 @@ use Rattle.serde_json.specs.Data.{Data, string}
 use Rattle.meson_splice.specs.declared.file_set.File.{File}
 use Rattle.meson_calls.specs.Loading.{name_of_file}
 use Rattle.meson_inventory.specs.Inventory.{file_data, file_line}
-use Rattle.meson_inventory.proofs.Names.{name_there}
+use Rattle.meson_listing.proofs.Names.{name_there}
 
 nobody : File
 nobody = record { name = []; bytes = [] }

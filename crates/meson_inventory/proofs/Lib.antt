@@ -2,6 +2,5 @@ mod CallsHeld
 mod CallPlacesListed
 mod FoundListed
 mod NotEntered
-mod Names
 mod FileSteps
 mod LinesCounted

@@ -1,3 +1,4 @@
+pub mod Names
 mod Puts
 mod Rising
 pub mod Agreeing

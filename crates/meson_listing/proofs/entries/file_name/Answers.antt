@@ -1,6 +1,6 @@
 use Rattle.std.proofs.Common.{◌<◌, ◌≤◌, [], length, sym, ◌∙◌, arith}
 use Rattle.meson_splice.specs.declared.file_set.File.{File}
-use Rattle.meson_inventory.proofs.Names.{name_there, name_past}
+use Rattle.meson_listing.proofs.Names.{name_there, name_past}
 use Rattle.meson_listing.proofs.entries.file_name.Goals as goal
 
 nobody : File
