@@ -6,6 +6,7 @@ use Rattle.meson_lex.specs.declared.kinds.Span.{Span}
 use Rattle.meson_lex.specs.Significant.{new_line}
 use Rattle.meson_syntax.specs.declared.operator.Bracket.{Bracket}
 use Rattle.meson_syntax.specs.declared.operator.Bracket.TheVariants as bracket
+use Rattle.meson_syntax.specs.declared.operator.UnaryOperator.{UnaryOperator}
 use Rattle.meson_syntax.specs.declared.tree.Arg.{Arg}
 use Rattle.meson_syntax.specs.declared.tree.Arg.TheVariants as arg
 use Rattle.meson_syntax.specs.declared.tree.Arg.TheFolds.{the_lemmas}
@@ -20,13 +21,13 @@ use Rattle.meson_syntax.specs.declared.tree.Stmt.{Stmt}
 use Rattle.meson_syntax.specs.declared.tree.Stmt.TheFolds as stmts
 use Rattle.meson_syntax.specs.declared.tree.Tail as rust_tail
 use Rattle.meson_syntax.specs.declared.tree.Tail.TheVariants as tail
-use Rattle.meson_syntax.specs.Tree.{array, dictionary, method, listing, block, arguments_of, operands_of, tails_of, branches_of, statements_of}
+use Rattle.meson_syntax.specs.Tree.{paren, array, dictionary, unary, method, listing, block, arguments_of, operands_of, tails_of, branches_of, statements_of}
 use Rattle.meson_syntax.specs.Grammar.{mark, operator_words, expression_words, operands_words, tail_words, tails_words, listing_words, argument_words, arguments_words, comma_words, statement_words, branches_words, statements_words, block_words}
 use Rattle.meson_syntax.specs.Reads.{IsSpanned}
 use Rattle.meson_syntax.specs.View.{view, block_view, name_at, expr_view, arg_view, args_view, tail_view, tails_view, list_view, operand_view, operands_view, stmt_view, stmts_view, branch_view, branches_view}
 use Rattle.meson_calls.proofs.GoodNotes.{call_view}
 use Rattle.meson_calls.proofs.ListTurns.{args_size, tail_size}
-use Rattle.meson_calls.proofs.Parted.{postfix_view, pair_view, operand_value}
+use Rattle.meson_calls.proofs.Parted.{row_view, postfix_view, conditional_view, pair_view, operand_value}
 use Rattle.meson_calls.proofs.WordCounts.{expression_some, argument_some, argument_enough, tail_enough, listing_holds, any_word, file_few}
 
 -- ---- a list that is counted from the front
@@ -109,6 +110,52 @@ module _ (source : List ℕ) where
         ap tail_count is ∙ ap (λ v. length (tail_words v)) (method_is s name l),
         ap args_width same,
         listing_holds (list_view source l) bracket.Round l.span l.trailing (arguments_of (args_view source l.items)) (list_is l),
+        fits,
+      )
+
+  -- ---- expressions in expressions
+
+  paren_is : (s : Span) (e : Expr) → expr_view source (expr.Paren s e) ≡ paren s (expr_view source e)
+  paren_is s e = search (rules, the_lemmas)
+
+  pub paren_fits : (x : Expr) (s : Span) (e y : Expr) (m : ℕ) → x ≡ expr.Paren s e → y ≡ e → expr_count x < m → expr_count y < m
+  paren_fits x s e y m is same fits =
+      omega (arith, ap expr_count is ∙ ap (λ v. length (expression_words v)) (paren_is s e), ap expr_count same, length-append (expression_words (expr_view source e)) (mark k.CloseRound), fits)
+
+  unary_is : (s : Span) (o : UnaryOperator) (e : Expr) → expr_view source (expr.Unary s o e) ≡ unary s o (expr_view source e)
+  unary_is s o e = search (rules, the_lemmas)
+
+  pub unary_fits : (x : Expr) (s : Span) (o : UnaryOperator) (e y : Expr) (m : ℕ) → x ≡ expr.Unary s o e → y ≡ e → expr_count x < m → expr_count y < m
+  unary_fits x s o e y m is same fits = omega (arith, ap expr_count is ∙ ap (λ v. length (expression_words v)) (unary_is s o e), ap expr_count same, fits)
+
+  pub first_fits : (x : Expr) (s : Span) (e y : Expr) (os : List Operand) (m : ℕ) → x ≡ expr.Row s e os → y ≡ e → expr_count x < m → expr_count y < m
+  first_fits x s e y os m is same fits =
+      omega (
+        arith,
+        ap expr_count is ∙ ap (λ v. length (expression_words v)) (row_view source s e os),
+        ap expr_count same,
+        length-append (expression_words (expr_view source e)) (operands_words (operands_of (operands_view source os))),
+        fits,
+      )
+
+  pub base_fits : (x : Expr) (s : Span) (e y : Expr) (ts : List rust_tail.Tail) (m : ℕ) → x ≡ expr.Postfix s e ts → y ≡ e → expr_count x < m → expr_count y < m
+  base_fits x s e y ts m is same fits =
+      omega (
+        arith,
+        ap expr_count is ∙ ap (λ v. length (expression_words v)) (postfix_view source s e ts),
+        ap expr_count same,
+        length-append (expression_words (expr_view source e)) (tails_words (tails_of (tails_view source ts))),
+        fits,
+      )
+
+  pub condition_of_fits : (x : Expr) (s : Span) (c y n z : Expr) (m : ℕ) → x ≡ expr.Conditional s c y n → z ≡ c → expr_count x < m → expr_count z < m
+  condition_of_fits x s c y n z m is same fits =
+      let behind = mark k.Question ++ (expression_words (expr_view source y) ++ (mark k.Colon ++ expression_words (expr_view source n))) in
+      omega (
+        arith,
+        ap expr_count is ∙ ap (λ v. length (expression_words v)) (conditional_view source s c y n),
+        ap expr_count same,
+        length-append (expression_words (expr_view source c)) behind,
         fits,
       )
 

@@ -6,7 +6,7 @@ use Rattle.meson_calls.specs.Walks.{keeper_view, with_parts}
 use Rattle.meson_calls.proofs.Visits.{two_parts, turn, count_turn, count_ended}
 use Rattle.meson_calls.proofs.Parted.{operand_value, pair_view}
 use Rattle.meson_calls.proofs.ListTurns.{args_parts, args_part, args_size, args_count, row_parts, row_part, tail_list_parts, tail_part, tail_size}
-use Rattle.meson_calls.proofs.WalkedWords.{arg_some, pair_some, expr_count, array_fits, dictionary_fits, call_fits, tails_fit, operand_fits, method_fits, args_width, arg_count, args_more, arg_size_fits, tails_width, tail_count, tails_more, tail_size_fits, next_turn}
+use Rattle.meson_calls.proofs.WalkedWords.{paren_fits, unary_fits, first_fits, base_fits, condition_of_fits, arg_some, pair_some, expr_count, array_fits, dictionary_fits, call_fits, tails_fit, operand_fits, method_fits, args_width, arg_count, args_more, arg_size_fits, tails_width, tail_count, tails_more, tail_size_fits, next_turn}
 use Rattle.meson_syntax.specs.declared.tree.Arg.TheFolds.{the_lemmas}
 use Rattle.meson_syntax.proofs.tree.Operand.TheLaws as operands
 use denote.Param.Weighed.{at_most}
@@ -84,6 +84,21 @@ in_expr-in_list-requires-in-Dictionary t c = (search (rules, the_lemmas), dictio
 
 pub in_expr-in_list-requires-in-Call : goal.in_expr-in_list-requires-in-Call
 in_expr-in_list-requires-in-Call t c = (search (rules, the_lemmas), call_fits c.args.self.now.source.now _ _ _ _ _ c.in-Call.is c.requires.fits)
+
+pub in_expr-in_child-requires : goal.in_expr-in_child-requires
+in_expr-in_child-requires t c = (search (rules, the_lemmas), paren_fits c.args.self.now.source.now _ _ _ _ _ c.in-Paren.is c.get.ensures c.requires.fits)
+
+pub in_expr-in_child-requires-in-Unary : goal.in_expr-in_child-requires-in-Unary
+in_expr-in_child-requires-in-Unary t c = (search (rules, the_lemmas), unary_fits c.args.self.now.source.now _ _ _ _ _ _ c.in-Unary.is c.get-in-Unary.ensures c.requires.fits)
+
+pub in_expr-in_child-requires-in-Row : goal.in_expr-in_child-requires-in-Row
+in_expr-in_child-requires-in-Row t c = (search (rules, the_lemmas), first_fits c.args.self.now.source.now _ _ _ _ _ _ c.in-Row.is c.get-in-Row.ensures c.requires.fits)
+
+pub in_expr-in_child-requires-in-Postfix : goal.in_expr-in_child-requires-in-Postfix
+in_expr-in_child-requires-in-Postfix t c = (search (rules, the_lemmas), base_fits c.args.self.now.source.now _ _ _ _ _ _ c.in-Postfix.is c.get-in-Postfix.ensures c.requires.fits)
+
+pub in_expr-in_child-requires-in-Conditional : goal.in_expr-in_child-requires-in-Conditional
+in_expr-in_child-requires-in-Conditional t c = (search (rules, the_lemmas), condition_of_fits c.args.self.now.source.now _ _ _ _ _ _ _ c.in-Conditional.is c.get-in-Conditional.ensures c.requires.fits)
 
 pub in_expr-in_tails-requires : goal.in_expr-in_tails-requires
 in_expr-in_tails-requires t c = (search (rules, the_lemmas), tails_fit c.args.self.now.source.now _ _ _ _ _ _ c.in-Postfix.is c.get-in-Postfix-2.ensures c.requires.fits)
