@@ -1,5 +1,5 @@
 -- The words of what the walk goes through: those of a part are no more than those of the whole.
-use Rattle.std.proofs.Common.{rules, ◌≡◌, ℕ, zero, suc, ◌+◌, ◌<◌, ◌≤◌, ◌^◌, false, List, [], ◌∷◌, ◌++◌, length, drop, get_or, ap, ◌∙◌, arith, length-append}
+use Rattle.std.proofs.Common.{rules, ◌≡◌, ℕ, zero, suc, ◌+◌, ◌<◌, ◌≤◌, ◌^◌, false, List, [], ◌∷◌, ◌++◌, length, drop, get_or, Option, ap, ◌∙◌, arith, length-append}
 use Rattle.std.proofs.lemmas.List.{at_drop_more}
 use Rattle.meson_lex.specs.declared.kinds.Kind.TheVariants as k
 use Rattle.meson_lex.specs.declared.kinds.Span.{Span}
@@ -7,6 +7,7 @@ use Rattle.meson_lex.specs.Significant.{new_line}
 use Rattle.meson_syntax.specs.declared.operator.Bracket.{Bracket}
 use Rattle.meson_syntax.specs.declared.operator.Bracket.TheVariants as bracket
 use Rattle.meson_syntax.specs.declared.operator.UnaryOperator.{UnaryOperator}
+use Rattle.meson_syntax.specs.declared.operator.Assignment.{Assignment}
 use Rattle.meson_syntax.specs.declared.tree.Arg.{Arg}
 use Rattle.meson_syntax.specs.declared.tree.Arg.TheVariants as arg
 use Rattle.meson_syntax.specs.declared.tree.Arg.TheFolds.{the_lemmas}
@@ -19,14 +20,17 @@ use Rattle.meson_syntax.specs.declared.tree.Operand.{Operand}
 use Rattle.meson_syntax.specs.declared.tree.Parsed.{Parsed}
 use Rattle.meson_syntax.specs.declared.tree.Stmt.{Stmt}
 use Rattle.meson_syntax.specs.declared.tree.Stmt.TheFolds as stmts
+use Rattle.meson_syntax.specs.declared.tree.Stmt.TheVariants as stmt
 use Rattle.meson_syntax.specs.declared.tree.Tail as rust_tail
 use Rattle.meson_syntax.specs.declared.tree.Tail.TheVariants as tail
-use Rattle.meson_syntax.specs.Tree.{paren, array, dictionary, unary, method, listing, block, arguments_of, operands_of, tails_of, branches_of, statements_of}
-use Rattle.meson_syntax.specs.Grammar.{mark, operator_words, expression_words, operands_words, tail_words, tails_words, listing_words, argument_words, arguments_words, comma_words, statement_words, branches_words, statements_words, block_words}
+use Rattle.meson_syntax.specs.Tree.{paren, array, dictionary, unary, method, listing, evaluate, assign, block, arguments_of, operands_of, tails_of, branches_of, statements_of}
+use Rattle.meson_syntax.specs.Grammar.{mark, names_words, otherwise_words, operator_words, expression_words, operands_words, tail_words, tails_words, listing_words, argument_words, arguments_words, comma_words, statement_words, branches_words, statements_words, block_words}
 use Rattle.meson_syntax.specs.Reads.{IsSpanned}
-use Rattle.meson_syntax.specs.View.{view, block_view, name_at, expr_view, arg_view, args_view, tail_view, tails_view, list_view, operand_view, operands_view, stmt_view, stmts_view, branch_view, branches_view}
+use Rattle.meson_syntax.specs.View.{view, block_view, name_at, names_at, expr_view, arg_view, args_view, tail_view, tails_view, list_view, operand_view, operands_view, stmt_view, stmts_view, branch_view, branches_view}
 use Rattle.meson_calls.proofs.GoodNotes.{call_view}
 use Rattle.meson_calls.proofs.ListTurns.{args_size, tail_size}
+use Rattle.meson_calls.specs.Walks.{else_view}
+use Rattle.meson_calls.proofs.StatementParts.{if_view, foreach_view}
 use Rattle.meson_calls.proofs.Parted.{row_view, postfix_view, conditional_view, pair_view, operand_value}
 use Rattle.meson_calls.proofs.WordCounts.{expression_some, argument_some, argument_enough, tail_enough, listing_holds, any_word, file_few}
 
@@ -210,6 +214,61 @@ module _ (source : List ℕ) where
 
   abbrev pub branch_count : Branch → ℕ
   branch_count b = length (expression_words (branch_view source b).0) + length (block_words (branch_view source b).1)
+
+  -- ---- what stands in a statement
+
+  abbrev pub stmt_count : Stmt → ℕ
+  stmt_count x = length (statement_words (stmt_view source x))
+
+  evaluate_is : (e : Expr) → stmt_view source (stmt.Expr e) ≡ evaluate (expr_view source e)
+  evaluate_is e = search (rules, stmts.the_lemmas)
+
+  pub value_fits : (x : Stmt) (e : Expr) (m : ℕ) → x ≡ stmt.Expr e → stmt_count x < m → expr_count e < m
+  value_fits x e m is fits = omega (arith, ap stmt_count is ∙ ap (λ v. length (statement_words v)) (evaluate_is e), fits)
+
+  assign_is : (s name : Span) (a : Assignment) (e : Expr) → stmt_view source (stmt.Assign s name a e) ≡ assign s (name_at source name) a (expr_view source e)
+  assign_is s name a e = search (rules, stmts.the_lemmas)
+
+  pub assigned_fits : (x : Stmt) (s name : Span) (a : Assignment) (e : Expr) (m : ℕ) → x ≡ stmt.Assign s name a e → stmt_count x < m → expr_count e < m
+  assigned_fits x s name a e m is fits = omega (arith, ap stmt_count is ∙ ap (λ v. length (statement_words v)) (assign_is s name a e), fits)
+
+  selection_count : (x : Stmt) (s : Span) (bs : List Branch) (o : Option rust_block.Block) → x ≡ stmt.If s bs o →
+      branches_width bs + length (otherwise_words (else_view source o)) ≤ stmt_count x
+  selection_count x s bs o is =
+      let last = otherwise_words (else_view source o) in
+      omega (
+        arith,
+        ap stmt_count is ∙ ap (λ v. length (statement_words v)) (if_view source s bs o),
+        length-append (branches_words (branches_of (branches_view source bs)) k.WordIf) (last ++ mark k.WordEndif),
+        length-append last (mark k.WordEndif),
+      )
+
+  pub branches_fit : (x : Stmt) (s : Span) (bs cs : List Branch) (o : Option rust_block.Block) (m : ℕ) → x ≡ stmt.If s bs o → cs ≡ bs → stmt_count x < m → branches_width cs < m
+  branches_fit x s bs cs o m is same fits = omega (arith, selection_count x s bs o is, ap branches_width same, fits)
+
+  pub otherwise_fits : (x : Stmt) (s : Span) (bs : List Branch) (o : Option rust_block.Block) (m : ℕ) → x ≡ stmt.If s bs o → stmt_count x < m →
+      length (otherwise_words (else_view source o)) < m
+  otherwise_fits x s bs o m is fits = omega (arith, selection_count x s bs o is, fits)
+
+  iteration_count : (x : Stmt) (s : Span) (names : List Span) (e : Expr) (b : rust_block.Block) → x ≡ stmt.Foreach s names e b →
+      expr_count e + length (block_words (block_view source b)) ≤ stmt_count x
+  iteration_count x s names e b is =
+      let items = expression_words (expr_view source e) in
+      let body = block_words (block_view source b) in
+      omega (
+        arith,
+        ap stmt_count is ∙ ap (λ v. length (statement_words v)) (foreach_view source s names e b),
+        length-append (names_words (names_at source names)) (mark k.Colon ++ (items ++ ((new_line ∷ body) ++ mark k.WordEndforeach))),
+        length-append items ((new_line ∷ body) ++ mark k.WordEndforeach),
+        length-append body (mark k.WordEndforeach),
+      )
+
+  pub items_fit : (x : Stmt) (s : Span) (names : List Span) (e : Expr) (b : rust_block.Block) (m : ℕ) → x ≡ stmt.Foreach s names e b → stmt_count x < m → expr_count e < m
+  items_fit x s names e b m is fits = omega (arith, iteration_count x s names e b is, fits)
+
+  pub body_fits : (x : Stmt) (s : Span) (names : List Span) (e : Expr) (b : rust_block.Block) (m : ℕ) → x ≡ stmt.Foreach s names e b → stmt_count x < m →
+      length (block_words (block_view source b)) < m
+  body_fits x s names e b m is fits = omega (arith, iteration_count x s names e b is, fits)
 
   pub stmts_more : (x : Stmt) (xs : List Stmt) → length (statement_words (stmt_view source x)) + stmts_width xs ≤ stmts_width (x ∷ xs)
   stmts_more x xs = omega (arith, length-append (statement_words (stmt_view source x)) (new_line ∷ statements_words (statements_of (stmts_view source xs))))

@@ -6,7 +6,7 @@ use Rattle.meson_calls.specs.Parts.{parts_of_expression, parts_of_block, parts_o
 use Rattle.meson_calls.specs.Walks.{else_view, keeper_view, with_parts, parts_inside}
 use Rattle.meson_calls.proofs.Visits.{two_parts, turn}
 use Rattle.meson_calls.proofs.StatementParts.{list_parts, list_part, conditions_parts, conditions_part, branches_count, branch_condition, branch_block, two_each, if_view, foreach_view}
-use Rattle.meson_calls.proofs.WalkedWords.{stmt_fits, condition_fits, block_fits}
+use Rattle.meson_calls.proofs.WalkedWords.{value_fits, assigned_fits, items_fit, branches_fit, otherwise_fits, body_fits, stmt_fits, condition_fits, block_fits}
 use Rattle.meson_syntax.specs.declared.tree.Stmt.TheFolds.{the_lemmas}
 use Rattle.meson_syntax.specs.Grammar.{expression_words, statement_words, block_words}
 use Rattle.meson_syntax.proofs.tree.Stmt.TheLaws as stmts
@@ -87,6 +87,24 @@ in_stmt-returns-in_ok-in_block-in-Foreach-clause-all t c =
     (c.in_ok-in_block-in-Foreach.ensures.all ∙ ap (λ path. with_parts middle (parts_of_block (child (place file path) 1) (block_view source c.in-Foreach.body))) c.in_ok-in_child-in-Foreach.ensures.back)
     ∙ ap (with_parts before) (sym (ap (parts_inside p) (foreach_view source c.in-Foreach.span c.in-Foreach.names c.in-Foreach.items c.in-Foreach.body)))
     ∙ ap (λ x. with_parts before (parts_inside p (stmt_view source x))) (sym c.in-Foreach.is)
+
+pub in_stmt-in_child-requires : goal.in_stmt-in_child-requires
+in_stmt-in_child-requires t c = record { fits = value_fits c.args.self.now.source.now _ _ _ c.in-Expr.is c.requires.fits }
+
+pub in_stmt-in_child-requires-in-Assign : goal.in_stmt-in_child-requires-in-Assign
+in_stmt-in_child-requires-in-Assign t c = record { fits = assigned_fits c.args.self.now.source.now _ _ _ _ _ _ c.in-Assign.is c.requires.fits }
+
+pub in_stmt-in_child-requires-in-Foreach : goal.in_stmt-in_child-requires-in-Foreach
+in_stmt-in_child-requires-in-Foreach t c = record { fits = items_fit c.args.self.now.source.now _ _ _ _ _ _ c.in-Foreach.is c.requires.fits }
+
+pub in_stmt-in_branches-requires : goal.in_stmt-in_branches-requires
+in_stmt-in_branches-requires t c = (search (rules, the_lemmas), branches_fit c.args.self.now.source.now _ _ _ _ _ _ c.in-If.is c.get-branches.ensures c.requires.fits)
+
+pub in_stmt-in_otherwise-requires : goal.in_stmt-in_otherwise-requires
+in_stmt-in_otherwise-requires t c = (search (rules, the_lemmas), otherwise_fits c.args.self.now.source.now _ _ _ _ _ c.in-If.is c.requires.fits)
+
+pub in_stmt-in_block-requires : goal.in_stmt-in_block-requires
+in_stmt-in_block-requires t c = (search (rules, the_lemmas), body_fits c.args.self.now.source.now _ _ _ _ _ _ c.in-Foreach.is c.requires.fits)
 
 pub in_stmts-in_stmt_at-requires : goal.in_stmts-in_stmt_at-requires
 in_stmts-in_stmt_at-requires t c =
