@@ -91,16 +91,9 @@ fn put_in(tree: &mut Parsed, path: &Path, list: List, from: usize, was: usize, n
 fn with_span(list: List, from: usize, to: usize) -> List
     ensures { result ≡ record list { span = record { from = from; to = to } } }
 {
-    let List {
-        items,
-        trailing,
-        span: _,
-    } = list;
-    List {
-        items,
-        trailing,
-        span: Span { from, to },
-    }
+    let mut list = list;
+    list.span = Span { from, to };
+    list
 }
 
 /// Puts what was read of a list's new text, the list of `new`, in the place of the list that stands there, which is saved.

@@ -8,7 +8,6 @@ use std::alloc::{AllocError, Global};
 use std::marker::Model;
 
 /// One value on the heap. Contracts see the value and not where it lies, so a tree that owns its parts through it is plain data.
-#[derive(Drop)]
 pub struct Boxed<T> {
     inner: Box<T>,
 }
@@ -21,6 +20,13 @@ impl<T> Model for Boxed<T> {
     ghost coded = { T.code };
 
     ghost view = { λ b. b.inner.value };
+}
+
+/// Written by hand, so that what a tree holds goes by a call of this function.
+impl<T: Drop> Drop for Boxed<T> {
+    fn drop(self) {
+        let Boxed { inner: _ } = self;
+    }
 }
 
 impl<T> Boxed<T> {

@@ -8,7 +8,7 @@ use std::alloc::{AllocError, Global};
 use std::marker::Model;
 
 /// Elements in order. Contracts see the list of them, so that a tree made of such lists is plain data.
-#[derive(Debug, Drop)]
+#[derive(Debug)]
 pub struct Many<T> {
     vec: Vec<T>,
 }
@@ -22,6 +22,13 @@ impl<T> Model for Many<T> {
     ghost coded = { coded_list T.code };
 
     ghost view = { λ m. m.vec.items };
+}
+
+/// Written by hand, so that what a tree holds goes by a call of this function.
+impl<T: Drop> Drop for Many<T> {
+    fn drop(self) {
+        let Many { vec: _ } = self;
+    }
 }
 
 impl<T> Many<T> {

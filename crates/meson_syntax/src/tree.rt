@@ -9,7 +9,6 @@ use meson_lex::Span;
 
 /// An expression.
 #[cycle(tree)]
-#[derive(Drop)]
 pub enum Expr {
     /// A variable.
     Identifier(Span),
@@ -69,7 +68,6 @@ pub enum Expr {
 
 /// An operator, and the operand behind it.
 #[cycle(tree)]
-#[derive(Drop)]
 pub struct Operand {
     pub operator: Operator,
     pub value: Expr,
@@ -77,7 +75,6 @@ pub struct Operand {
 
 /// What stands behind an expression that has a method called or is indexed.
 #[cycle(tree)]
-#[derive(Drop)]
 pub enum Tail {
     /// A method call, from its dot to its closing bracket.
     Method {
@@ -94,7 +91,6 @@ pub enum Tail {
 
 /// An element of a list.
 #[cycle(tree)]
-#[derive(Drop)]
 pub enum Arg {
     /// An element of an array, or a positional argument of a call.
     Plain(Expr),
@@ -114,7 +110,6 @@ pub enum Arg {
 
 /// The elements between two brackets, from bracket to bracket.
 #[cycle(tree)]
-#[derive(Drop)]
 pub struct List {
     pub items: Many<Arg>,
     /// Whether a comma stands after the last element.
@@ -124,7 +119,6 @@ pub struct List {
 
 /// A statement.
 #[cycle(statements)]
-#[derive(Drop)]
 pub enum Stmt {
     /// An expression by itself.
     Expr(Expr),
@@ -156,7 +150,6 @@ pub enum Stmt {
 
 /// A condition and the statements behind it.
 #[cycle(statements)]
-#[derive(Drop)]
 pub struct Branch {
     pub condition: Expr,
     pub block: Block,
@@ -164,7 +157,6 @@ pub struct Branch {
 
 /// Statements one after another, from the first to the last. Without any it is empty, at the end of the token before its line end.
 #[cycle(statements)]
-#[derive(Drop)]
 pub struct Block {
     pub statements: Many<Stmt>,
     pub span: Span,
@@ -176,7 +168,154 @@ pub struct Parsed {
     pub span: Span,
 }
 
-/// Written by hand, so that it is proved here alone, and not in each crate that lets a tree go.
+// ---- letting go
+//
+// Each drop is written by hand: what lets go of a tree or of a part of it is then one call, and these functions are proved here
+// alone. A derived one stands in place, variant by variant, and is proved anew in each crate that lets a part go.
+
+impl Drop for Expr {
+    #[cycle(tree)]
+    fn drop(self) {
+        match self {
+            Expr::Identifier(_) => {}
+            Expr::Boolean { span: _, value: _ } => {}
+            Expr::Integer(_) => {}
+            Expr::String { span: _, kind: _ } => {}
+            Expr::Paren { span: _, inside: _ } => {}
+            Expr::Array(_) => {}
+            Expr::Dictionary(_) => {}
+            Expr::Call {
+                span: _,
+                name: _,
+                arguments: _,
+            } => {}
+            Expr::Unary {
+                span: _,
+                operator: _,
+                operand: _,
+            } => {}
+            Expr::Row {
+                span: _,
+                first: _,
+                rest: _,
+            } => {}
+            Expr::Postfix {
+                span: _,
+                base: _,
+                tails: _,
+            } => {}
+            Expr::Conditional {
+                span: _,
+                condition: _,
+                yes: _,
+                no: _,
+            } => {}
+        }
+    }
+}
+
+impl Drop for Operand {
+    #[cycle(tree)]
+    fn drop(self) {
+        let Operand {
+            operator: _,
+            value: _,
+        } = self;
+    }
+}
+
+impl Drop for Tail {
+    #[cycle(tree)]
+    fn drop(self) {
+        match self {
+            Tail::Method {
+                span: _,
+                name: _,
+                arguments: _,
+            } => {}
+            Tail::Index { span: _, index: _ } => {}
+        }
+    }
+}
+
+impl Drop for Arg {
+    #[cycle(tree)]
+    fn drop(self) {
+        match self {
+            Arg::Plain(_) => {}
+            Arg::Named {
+                span: _,
+                name: _,
+                value: _,
+            } => {}
+            Arg::Pair {
+                span: _,
+                key: _,
+                value: _,
+            } => {}
+        }
+    }
+}
+
+impl Drop for List {
+    #[cycle(tree)]
+    fn drop(self) {
+        let List {
+            items: _,
+            trailing: _,
+            span: _,
+        } = self;
+    }
+}
+
+impl Drop for Stmt {
+    #[cycle(statements)]
+    fn drop(self) {
+        match self {
+            Stmt::Expr(_) => {}
+            Stmt::Assign {
+                span: _,
+                name: _,
+                assignment: _,
+                value: _,
+            } => {}
+            Stmt::If {
+                span: _,
+                branches: _,
+                otherwise: _,
+            } => {}
+            Stmt::Foreach {
+                span: _,
+                names: _,
+                items: _,
+                body: _,
+            } => {}
+            Stmt::Break(_) => {}
+            Stmt::Continue(_) => {}
+        }
+    }
+}
+
+impl Drop for Branch {
+    #[cycle(statements)]
+    fn drop(self) {
+        let Branch {
+            condition: _,
+            block: _,
+        } = self;
+    }
+}
+
+impl Drop for Block {
+    #[cycle(statements)]
+    fn drop(self) {
+        let Block {
+            statements: _,
+            span: _,
+        } = self;
+    }
+}
+
 impl Drop for Parsed {
     fn drop(self) {
         let Parsed { block: _, span: _ } = self;
