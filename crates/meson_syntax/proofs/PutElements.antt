@@ -12,7 +12,7 @@ use Rattle.meson_syntax.specs.declared.tree.Tail as rust_tail
 use Rattle.meson_syntax.specs.declared.tree.Expr.{Expr}
 use Rattle.meson_syntax.specs.declared.tree.Operand.{Operand}
 use Rattle.meson_syntax.specs.declared.tree.Operand as rust_operand
-use Rattle.meson_syntax.specs.LendsItems.{with_all}
+use Rattle.meson_values.specs.LendsItems.{with_all}
 use Rattle.meson_syntax.specs.Tree.{Expression, Listing, listing, Argument, plain, named, pair, Arguments, argument, Operands, operand, Tail, Tails, tail, arguments_of, operands_of, tails_of}
 use Rattle.meson_syntax.specs.Grammar.{mark, comma_words, operator_words, expression_words, tail_words, tails_words, argument_words, arguments_words}
 use Rattle.meson_syntax.specs.Paths.{of_expression, all_around, argument_children, arguments_children, listing_children, operands_children, tail_children, tails_children}

@@ -14,7 +14,7 @@ use Rattle.meson_syntax.specs.declared.tree.Stmt.TheFolds.{the_lemmas, fold-roll
 use Rattle.meson_syntax.specs.declared.tree.Stmt.TheVariants as stmt
 use Rattle.meson_syntax.specs.declared.tree.Block as rust_block
 use Rattle.meson_syntax.specs.declared.tree.Branch as rust_branch
-use Rattle.meson_syntax.specs.LendsItems.{with_all}
+use Rattle.meson_values.specs.LendsItems.{with_all}
 use Rattle.meson_syntax.specs.Tree.{Expression, Listing, Statement, evaluate, assign, selection, iteration, Statements, statement, Branches, branch, Otherwise, otherwise, Block, block, branches_of, statements_of}
 use Rattle.meson_syntax.specs.Grammar.{mark, expression_words, statement_words, block_words, branches_words, otherwise_words}
 use Rattle.meson_syntax.specs.Paths.{of_expression, of_statement, of_block, all_around, around, branches_children, otherwise_children, statement_children, statements_children, block_children}

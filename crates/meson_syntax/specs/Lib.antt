@@ -10,7 +10,6 @@ pub mod ReadsList
 pub mod Messages
 pub mod Laws
 pub mod LendsInside
-pub mod LendsItems
 pub mod MovedCode
 pub mod Furthest
 pub mod Moving

@@ -14,10 +14,10 @@ ghost use Rattle.meson_syntax.specs.View.{block_view, expr_view, stmt_view, stmt
 use crate::expression::read_expression;
 use crate::fault::ParseFault;
 use crate::grammar::{Cursor, Grammar};
-use crate::many::Many;
 use crate::token::Token;
 use crate::tree::{Block, Expr, Parsed, Stmt};
 use meson_lex::{Kind, Span};
+use meson_values::Many;
 use std::alloc::Global;
 
 /// The tree of the file whose significant tokens these are, in which at most `depth` constructs stand inside one another.
@@ -154,7 +154,7 @@ impl<'a, F: Fn(Global, &[u8], &mut Cursor<'_>, usize) -> Result<Block, ParseFaul
             if ends_block(self.peek(tokens)) {
                 return Ok(found);
             }
-            found.push(self.line(tokens)?)?;
+            found.push_sparing(self.line(tokens)?)?;
         }
         Ok(found)
     }

@@ -4,10 +4,10 @@ ghost use Rattle.std.specs.Prelude.{◌≡◌, IfErr, IfOk};
 
 use crate::boxed::Boxed;
 use crate::fault::ParseFault;
-use crate::many::Many;
 use crate::operator::UnaryOperator;
 use crate::tree::{Arg, Block, Branch, Expr, List, Operand, Parsed, Stmt, Tail};
 use meson_lex::Span;
+use meson_values::Many;
 use std::alloc::{AllocError, Global};
 
 impl Parsed {
@@ -207,7 +207,7 @@ fn copy_args(alloc: Global, args: &[Arg]) -> Result<Many<Arg>, AllocError>
     let mut copies = Many::new(alloc);
     for i in 0..args.len() {
         let copy = copy_arg(alloc, &args[i])?;
-        copies.push(copy)?;
+        copies.push_sparing(copy)?;
     }
     Ok(copies)
 }
@@ -245,7 +245,7 @@ fn copy_operands(alloc: Global, operands: &[Operand]) -> Result<Many<Operand>, A
     let mut copies = Many::new(alloc);
     for i in 0..operands.len() {
         let copy = copy_operand(alloc, &operands[i])?;
-        copies.push(copy)?;
+        copies.push_sparing(copy)?;
     }
     Ok(copies)
 }
@@ -268,7 +268,7 @@ fn copy_tails(alloc: Global, tails: &[Tail]) -> Result<Many<Tail>, AllocError>
     let mut copies = Many::new(alloc);
     for i in 0..tails.len() {
         let copy = copy_tail(alloc, &tails[i])?;
-        copies.push(copy)?;
+        copies.push_sparing(copy)?;
     }
     Ok(copies)
 }
@@ -317,7 +317,7 @@ fn copy_stmts(alloc: Global, stmts: &[Stmt]) -> Result<Many<Stmt>, AllocError>
     let mut copies = Many::new(alloc);
     for i in 0..stmts.len() {
         let copy = copy_stmt(alloc, &stmts[i])?;
-        copies.push(copy)?;
+        copies.push_sparing(copy)?;
     }
     Ok(copies)
 }
@@ -381,7 +381,7 @@ fn copy_branches(alloc: Global, branches: &[Branch]) -> Result<Many<Branch>, All
     let mut copies = Many::new(alloc);
     for i in 0..branches.len() {
         let copy = copy_branch(alloc, &branches[i])?;
-        copies.push(copy)?;
+        copies.push_sparing(copy)?;
     }
     Ok(copies)
 }

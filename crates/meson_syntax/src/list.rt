@@ -11,10 +11,10 @@ ghost use Rattle.meson_syntax.specs.Tree.{is_named};
 
 use crate::fault::ParseFault;
 use crate::grammar::{Cursor, Grammar};
-use crate::many::Many;
 use crate::operator::Bracket;
 use crate::tree::{Arg, Expr, List};
 use meson_lex::Kind;
+use meson_values::Many;
 use std::alloc::Global;
 
 /// The token that opens a list in these brackets.
@@ -98,7 +98,7 @@ impl<'a, F: Fn(Global, &[u8], &mut Cursor<'_>, usize) -> Result<Expr, ParseFault
         for _turn in 0..self.left(tokens) {
             let element = self.element(tokens, bracket, seen)?;
             seen = is_named(&element);
-            found.push_before(element, self.sees(tokens, Kind::Comma))?;
+            found.push_expecting(element, self.sees(tokens, Kind::Comma))?;
             if !self.eat(tokens, Kind::Comma) {
                 self.expect(tokens, closes(bracket))?;
                 return Ok((false, found));

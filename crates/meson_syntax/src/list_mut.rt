@@ -11,9 +11,9 @@ ghost use Rattle.meson_syntax.specs.Tree.{branches_of, operands_of, statements_o
 ghost use Rattle.meson_syntax.specs.declared.operator.Bracket.{Bracket};
 ghost use Rattle.meson_lex.specs.declared.kinds.Kind.{Kind};
 
-use crate::many::Many;
 use crate::path::{Found, Path, in_arg, in_tail};
 use crate::tree::{Arg, Block, Branch, Expr, List, Operand, Parsed, Stmt, Tail};
+use meson_values::Many;
 use std::mem;
 
 /// Which element has a child, and which of the element's children it is.

@@ -5,8 +5,8 @@ ghost use Rattle.meson_syntax.specs.View.{Bytes, arg_view, block_view, branch_vi
 ghost use Rattle.meson_syntax.specs.Parts.{Any, a_block, an_expression, argument_parts, args_parts, block_parts, branch_parts, expression_any, expression_parts, found_view, look, node_at, node_view, operand_parts, child_nodes, option_of, otherwise_parts, rust_branches_parts, rust_operands_parts, rust_statements_parts, rust_tails_parts, statement_parts, tail_parts};
 ghost use Rattle.meson_syntax.specs.Paths.{expression_on_path, list_at, list_in, nth};
 
-use crate::many::Many;
 use crate::tree::{Arg, Block, Branch, Expr, List, Operand, Parsed, Stmt, Tail};
+use meson_values::Many;
 
 /// The way from a file's block to a node: each step is the number of a child, from 0 in the order of the source.
 #[derive(Debug, Drop)]

@@ -11,10 +11,10 @@ ghost use Rattle.meson_syntax.specs.View.{expr_view, operand_view, operands_view
 use crate::boxed::Boxed;
 use crate::fault::ParseFault;
 use crate::grammar::{Cursor, Grammar};
-use crate::many::Many;
 use crate::operator::{Operator, UnaryOperator};
 use crate::tree::{Expr, Operand};
 use meson_lex::{Kind, Span};
+use meson_values::Many;
 use std::alloc::{AllocError, Global};
 
 /// The level of the rows that go on with a token of this kind, the tightest first; 0 of none.
@@ -123,7 +123,7 @@ impl<'a, F: Fn(Global, &[u8], &mut Cursor<'_>, usize) -> Result<Expr, ParseFault
             }
             let operator = self.operator(tokens)?;
             let value = self.row(tokens, level - 1)?;
-            found.push(self.operand(operator, value))?;
+            found.push_sparing(self.operand(operator, value))?;
         }
         Ok(found)
     }

@@ -9,9 +9,9 @@ ghost use Rattle.meson_syntax.specs.View.{block_view, branch_view, branches_view
 
 use crate::fault::ParseFault;
 use crate::grammar::{Cursor, Grammar};
-use crate::many::Many;
 use crate::tree::{Block, Branch, Expr, Stmt};
 use meson_lex::Kind;
+use meson_values::Many;
 use std::alloc::Global;
 
 impl<'a, F> Grammar<'a, F> {
@@ -53,14 +53,14 @@ impl<'a, F: Fn(Global, &[u8], &mut Cursor<'_>, usize) -> Result<Block, ParseFaul
     {
         let first = self.branched(tokens)?;
         let mut found = Many::new(self.alloc);
-        found.push(first)?;
+        found.push_sparing(first)?;
         // Each turn takes a token at least.
         for _turn in 0..self.left(tokens) {
             if !self.sees(tokens, Kind::WordElif) {
                 return Ok(found);
             }
             let branch = self.branched(tokens)?;
-            found.push(branch)?;
+            found.push_sparing(branch)?;
         }
         Ok(found)
     }

@@ -8,10 +8,10 @@ ghost use Rattle.meson_syntax.specs.View.{stmt_view, name_at, names_at};
 
 use crate::fault::ParseFault;
 use crate::grammar::{Cursor, Grammar};
-use crate::many::Many;
 use crate::operator::Assignment;
 use crate::tree::{Block, Stmt};
 use meson_lex::{Kind, Span};
+use meson_values::Many;
 use std::alloc::Global;
 
 impl<'a, F: Fn(Global, &[u8], &mut Cursor<'_>, usize) -> Result<Block, ParseFault>> Grammar<'a, F> {
@@ -124,14 +124,14 @@ impl<'a, F> Grammar<'a, F> {
     {
         let first = self.name(tokens)?;
         let mut found = Many::new(self.alloc);
-        found.push(first)?;
+        found.push_sparing(first)?;
         // Each turn takes a token at least.
         for _turn in 0..self.left(tokens) {
             if !self.eat(tokens, Kind::Comma) {
                 return Ok(found);
             }
             let name = self.name(tokens)?;
-            found.push(name)?;
+            found.push_sparing(name)?;
         }
         Ok(found)
     }

@@ -11,10 +11,10 @@ ghost use Rattle.meson_syntax.specs.View.{expr_view, tail_view, tails_view};
 use crate::boxed::Boxed;
 use crate::fault::ParseFault;
 use crate::grammar::{Cursor, Grammar};
-use crate::many::Many;
 use crate::operator::Bracket;
 use crate::tree::{Expr, Tail};
 use meson_lex::{Kind, Span};
+use meson_values::Many;
 use std::alloc::{AllocError, Global};
 
 impl<'a, F> Grammar<'a, F> {
@@ -86,9 +86,9 @@ impl<'a, F: Fn(Global, &[u8], &mut Cursor<'_>, usize) -> Result<Expr, ParseFault
         // Each turn takes a token at least.
         for _turn in 0..self.left(tokens) {
             if self.sees(tokens, Kind::Dot) {
-                found.push(self.method(tokens)?)?;
+                found.push_sparing(self.method(tokens)?)?;
             } else if self.sees(tokens, Kind::OpenSquare) {
-                found.push(self.index(tokens)?)?;
+                found.push_sparing(self.index(tokens)?)?;
             } else {
                 return Ok(found);
             }

@@ -3,9 +3,9 @@
 //! The rules are those of the Syntax page of the Meson manual.
 
 use crate::boxed::Boxed;
-use crate::many::Many;
 use crate::operator::{Assignment, Operator, StringKind, UnaryOperator};
 use meson_lex::Span;
+use meson_values::Many;
 
 /// An expression.
 #[cycle(tree)]

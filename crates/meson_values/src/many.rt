@@ -1,12 +1,14 @@
 //! A list that owns its elements.
 
 ghost use Rattle.std.specs.Prelude.{◌≡◌, ◌<◌, ◌++◌, ◌∷◌, [], List, IfErr, MatchOption, OnErr, OnOk, length};
+ghost use Rattle.std.specs.Borrow.{sem};
+ghost use Rattle.meson_values.specs.LendsItems.{LendsItems};
 
 use std::alloc::{AllocError, AllocFailed, Global};
 use std::marker::Model;
 
-/// Elements in order. Contracts see the list of them; a type may hold itself through it.
-#[derive(Debug, Drop)]
+/// Elements in order. Contracts see the list of them, so that a tree made of such lists is plain data.
+#[derive(Debug)]
 pub struct Many<T> {
     vec: Vec<T>,
 }
@@ -20,6 +22,13 @@ impl<T> Model for Many<T> {
     ghost coded = { coded_list T.code };
 
     ghost view = { λ m. m.vec.items };
+}
+
+/// Written by hand, so that what a tree holds goes by a call of this function.
+impl<T: Drop> Drop for Many<T> {
+    fn drop(self) {
+        let Many { vec: _ } = self;
+    }
 }
 
 impl<T> Many<T> {
@@ -44,6 +53,14 @@ impl<T> Many<T> {
         ensures { result.now ≡ self.now }
     {
         self.vec.as_slice()
+    }
+
+    /// The elements, lent for writing.
+    pub fn get_mut(&mut self) -> &mut [T]
+        ensures* writes_back { sem 𝓛 (LendsItems T.row self.entry result) }
+        ensures value { result.now ≡ self.old }
+    {
+        self.vec.as_mut_slice()
     }
 
     /// The elements, given back as a vector without memory.
@@ -88,6 +105,38 @@ impl<T: Drop> Many<T> {
         ensures { self.new ≡ [] }
     {
         self.vec.clear();
+    }
+
+    /// Puts an element behind the others, or lets it go where memory is refused. For lists that mostly have one element or two:
+    /// their memory is doubled from there on.
+    pub fn push_sparing(&mut self, item: T) -> Result<(), AllocError>
+        ensures ok { OnOk result (self.new ≡ self.old ++ item ∷ []) }
+        ensures err { OnErr result (self.new ≡ self.old) }
+    {
+        let room = self.vec.len().max(2);
+        self.push_with_room(item, room)
+    }
+
+    /// The same of an element behind which others are expected, or none: the last one takes no more memory than it needs.
+    pub fn push_expecting(&mut self, item: T, others: bool) -> Result<(), AllocError>
+        ensures ok { OnOk result (self.new ≡ self.old ++ item ∷ []) }
+        ensures err { OnErr result (self.new ≡ self.old) }
+    {
+        let room = if others { self.vec.len().max(4) } else { 1 };
+        self.push_with_room(item, room)
+    }
+
+    /// Where no memory is left, it is made for so many more.
+    fn push_with_room(&mut self, item: T, room: usize) -> Result<(), AllocError>
+        ensures ok { OnOk result (self.new ≡ self.old ++ item ∷ []) }
+        ensures err { OnErr result (self.new ≡ self.old) }
+    {
+        if self.vec.len() == self.vec.capacity() {
+            self.vec.reserve_exact(room)?;
+        }
+        self.vec.reserve(1)?;
+        self.vec.push_reserved(item);
+        Ok(())
     }
 }
 

@@ -1,7 +1,7 @@
 -- What a list ends as, where its elements are lent for writing.
 use Rattle.std.specs.Prelude.{List, ◌++◌, length, take, drop}
 use Rattle.std.specs.Borrow.{Lends, Fml, RattleType, MutBor, Array}
-use Rattle.meson_syntax.specs.contracts.many.Many.{the_row}
+use Rattle.meson_values.specs.contracts.many.Many.{the_row}
 
 -- the elements with others in their places from the first on (as many are lent as there are)
 abbrev pub with_all : {A : Type 0} → List A → List A → List A
