@@ -1,18 +1,57 @@
 //! The texts of the command line: help, and the faults of usage. What is asked for is compared once; the clauses say the rest.
 
-use meson_command::{Action, UsageFault, command_of};
+use meson_command::{Action, Asked, UsageFault, command_of};
 use meson_steps::command::Command;
 use std::alloc::Global;
 use std::process::Abort;
 
-fn asked(rt: &impl Abort, alloc: Global, line: &str) -> Result<Action, UsageFault> {
+/// The words of a line.
+fn words(rt: &impl Abort, alloc: Global, line: &str, between: char) -> Vec<String> {
     let mut words = Vec::new(alloc);
-    for word in line.split(' ') {
+    for word in line.split(between) {
         words
             .push(String::from_str(alloc, word).expect(rt, "memory"))
             .expect(rt, "memory");
     }
-    Ok(command_of(alloc, words.as_slice())?.action)
+    words
+}
+
+fn asked(rt: &impl Abort, alloc: Global, line: &str) -> Result<Asked, UsageFault> {
+    command_of(alloc, words(rt, alloc, line, ' ').as_slice())
+}
+
+/// Whether it is help that tells how to call, and has an example.
+fn is_help(asked: &Result<Asked, UsageFault>, usage: &str) -> bool {
+    let Ok(asked) = asked else {
+        return false;
+    };
+    let Action::Help(text) = &asked.action else {
+        return false;
+    };
+    let text = text.get();
+    text.contains(usage) && text.contains("Examples:\n  meson_rewrite ") && text.contains("--help")
+}
+
+/// Whether a fault is told so.
+fn is_told(alloc: Global, fault: &UsageFault, told: &str) -> bool {
+    match format!(in alloc; "{fault}") {
+        Ok(text) => text.as_str() == told,
+        Err(_) => false,
+    }
+}
+
+/// Whether two sources are added to a target, all words as given.
+fn is_given(asked: &Asked) -> bool {
+    let Action::Run(script) = &asked.action else {
+        return false;
+    };
+    let [Command::SourcesAdd { target, sources }] = script.commands.get() else {
+        return false;
+    };
+    let [first, last] = sources.get() else {
+        return false;
+    };
+    target.get() == "a 'b'" && first.get() == "ä.c" && last.get().is_empty()
 }
 
 #[test]
@@ -39,15 +78,9 @@ fn help_tells_words_and_an_example(rt: HostRuntime) {
         ("T list --help", "Usage: meson_rewrite list [OPTIONS]"),
     ];
     for (line, usage) in lines {
-        let Ok(Action::Help(text)) = asked(&rt, alloc, line) else {
-            panic!(rt; "{line}");
-        };
-        assert!(rt; text.get().contains(usage), "{line}");
-        assert!(rt;
-            text.get().contains("Examples:\n  meson_rewrite "),
-            "{line}"
-        );
-        assert!(rt; text.get().contains("--help"), "{line}");
+        let asked = asked(&rt, alloc, line);
+        assert!(rt; is_help(&asked, usage), "{line}");
+        drop(asked);
     }
 }
 
@@ -67,36 +100,18 @@ fn faults_of_usage_are_told(rt: HostRuntime) {
         ("T kwargs remove_regex target e", "U4 unsupported"),
     ];
     for (line, told) in lines {
-        let Err(fault) = asked(&rt, alloc, line) else {
+        let Some(fault) = asked(&rt, alloc, line).err() else {
             panic!(rt; "{line}");
         };
-        assert!(rt;
-            format!(in alloc; "{fault}").expect(&rt, "memory").as_str() == told,
-            "{line}"
-        );
+        assert!(rt; is_told(alloc, &fault, told), "{line}");
     }
 }
 
 #[test]
 fn a_value_goes_through_as_given(rt: HostRuntime) {
     let alloc = rt.alloc();
-    let mut words = Vec::new(alloc);
-    for word in ["T", "target", "a 'b'", "add", "ä.c", ""] {
-        words
-            .push(String::from_str(alloc, word).expect(&rt, "memory"))
-            .expect(&rt, "memory");
-    }
-    let Ok(asked) = command_of(alloc, words.as_slice()) else {
-        panic!(rt; "refused");
-    };
-    let Action::Run(script) = &asked.action else {
-        panic!(rt; "no run");
-    };
-    let [Command::SourcesAdd { target, sources }] = script.commands.get() else {
-        panic!(rt; "another command");
-    };
-    assert!(rt; target.get() == "a 'b'");
-    assert!(rt; sources.get().len() == 2);
-    assert!(rt; sources.get()[0].get() == "ä.c");
-    assert!(rt; sources.get()[1].get().is_empty());
+    let words = words(&rt, alloc, "T|target|a 'b'|add|ä.c|", '|');
+    let asked = command_of(alloc, words.as_slice());
+    assert!(rt; asked.as_ref().is_ok_and(is_given));
+    drop(asked);
 }
