@@ -25,13 +25,13 @@ use Rattle.meson_steps.specs.ListSteps.{MayStandBetween}
 use Rattle.meson_steps.specs.Names.{distinct}
 use Rattle.meson_steps.specs.ResultLimits.{plain_trees}
 use Rattle.meson_steps.specs.Steps.{all_stepped}
-use Rattle.meson_sources.specs.Effects.{AreSpotsOf, goes, place_after, string_child}
+use Rattle.meson_sources.specs.Effects.{AreSpotsOf, goes}
 use Rattle.meson_sources.specs.SourceEdits.{Spot, distinct_spots, removal_steps}
 use Rattle.meson_sources.specs.WholeSources.{file_names}
 use Rattle.meson_sources.proofs.Arrivals.{call_shape}
 use Rattle.meson_sources.proofs.FoundAgain.{Names}
 use Rattle.meson_sources.proofs.NamedAgain.{SetStays, assigned_shape, named_again}
-use Rattle.meson_sources.proofs.PlacesAfter.{child_after, first_after}
+use Rattle.meson_sources.proofs.PlacesAfter.{child_after, first_after, place_after}
 use Rattle.meson_sources.proofs.TargetNames.{by_bare, call_by, call_tells, first_plain, tell_call}
 use Rattle.meson_sources.proofs.Bares.{Values, bare_value, expand_with, values_of}
 use Rattle.meson_sources.proofs.CallForms.{CallIn, CallNode, bare_arguments, bare_form, called, stands_bare}
@@ -58,6 +58,7 @@ use Rattle.meson_sources.proofs.SpotsHeld.{Held, SpotHeld, all_named, each_spot,
 use Rattle.meson_sources.proofs.StringsStay.{element_any}
 use Rattle.meson_sources.proofs.StringsThere.{StringIn}
 use Rattle.meson_sources.proofs.VariablesLeft.{values_left}
+use Rattle.meson_sources.proofs.OneGone.{string_child}
 
 -- where a place is after the elements at these spots have gone
 abbrev pub moved_place : List Spot → CallRef → CallRef

@@ -8,9 +8,8 @@ use Rattle.meson_syntax.specs.Paths.{nth}
 use Rattle.meson_syntax.specs.Parts.{an_expression, node_at, child_nodes}
 use Rattle.meson_syntax.proofs.parsing.Steps.{some-injective}
 use Rattle.meson_edit.specs.Edits.{elements}
-use Rattle.meson_sources.specs.Effects.{string_child}
 use Rattle.meson_sources.specs.SourceEdits.{path_after}
-use Rattle.meson_sources.proofs.OneGone.{part, without}
+use Rattle.meson_sources.proofs.OneGone.{part, string_child, without}
 use Rattle.meson_sources.proofs.PartsPut.{Differ, here, there, differ_new, differ_old, differ_other}
 use Rattle.meson_sources.proofs.PutAlong.{PutAt, StepsTo}
 use Rattle.meson_sources.proofs.RenamedStrings.{LosesString, Node, NotThrough, a_string, child_moved, not_string}

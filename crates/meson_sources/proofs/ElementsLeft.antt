@@ -12,17 +12,18 @@ use Rattle.meson_syntax.proofs.parsing.Steps.{some-injective}
 use Rattle.meson_edit.specs.Edits.{elements}
 use Rattle.meson_calls.specs.declared.call.CallRef.{CallRef}
 use Rattle.meson_calls.specs.Project.{child}
-use Rattle.meson_sources.specs.Effects.{NoneIn, but, place_after, string_child}
+use Rattle.meson_sources.specs.Without.{but}
 use Rattle.meson_sources.specs.Effects as effects
 use Rattle.meson_sources.specs.SourceEdits.{Spot}
 use Rattle.meson_sources.proofs.ElementsThere.{root}
 use Rattle.meson_sources.proofs.Losses.{Loses, OperandsLose, ListLoses, EachLoses, Valued}
 use Rattle.meson_sources.proofs.OneStringGone.{NodeIn}
 use Rattle.meson_sources.proofs.Owners.{node_between}
-use Rattle.meson_sources.proofs.PlacesAfter.{child_after, first_after, number_after, step_by}
+use Rattle.meson_sources.proofs.PlacesAfter.{child_after, first_after, number_after, place_after, step_by}
 use Rattle.meson_sources.proofs.RenamedStrings.{Node}
 use Rattle.meson_sources.proofs.Shapes.{blank, blanks, list_blanks, operators}
 use Rattle.meson_sources.proofs.ShapesLeft.{the_string}
+use Rattle.meson_sources.proofs.OneGone.{string_child}
 
 -- ---- two trees
 

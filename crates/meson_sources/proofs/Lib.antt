@@ -42,7 +42,10 @@ mod SpotsApart
 mod SpotsFound
 mod SpotsOnce
 mod StringsDoable
-mod StringsGone
+mod NothingGone
+mod ChildFollows
+mod ElementGone
+mod TreesLeft
 mod StringsStay
 mod StringsThere
 mod TargetCalls

@@ -12,7 +12,7 @@ use Rattle.meson_syntax.proofs.parsing.Steps.{some-injective}
 use Rattle.meson_syntax.proofs.paths.Every.{Every}
 use Rattle.meson_calls.specs.declared.call.CallRef.{CallRef}
 use Rattle.meson_calls.specs.Project.{child}
-use Rattle.meson_sources.specs.Effects.{NoneIn, but, place_after, string_child}
+use Rattle.meson_sources.specs.Without.{but}
 use Rattle.meson_sources.specs.Effects as effects
 use Rattle.meson_sources.specs.SourceEdits.{Spot}
 use Rattle.meson_sources.proofs.ChildrenLeft.{seen}
@@ -21,14 +21,15 @@ use Rattle.meson_sources.proofs.ElementsLeft.{EachRest, ListRest, Lost, Operands
 use Rattle.meson_sources.proofs.ElementsThere.{root, stands_at}
 use Rattle.meson_sources.proofs.Losses.{Loses}
 use Rattle.meson_sources.proofs.NodesLeft.{NodeLeft}
-use Rattle.meson_sources.proofs.OneStringGone.{NodeIn}
+use Rattle.meson_sources.proofs.OneStringGone.{NodeIn, NoneIn}
 use Rattle.meson_sources.proofs.Owners.{node_between}
-use Rattle.meson_sources.proofs.PlacesAfter.{number_after, step_by}
+use Rattle.meson_sources.proofs.PlacesAfter.{number_after, place_after, step_by}
 use Rattle.meson_sources.proofs.RenamedStrings.{Node}
 use Rattle.meson_sources.proofs.Shapes.{shape}
 use Rattle.meson_sources.proofs.ShapesLeft.{shape_by, no_blanks, no_operators, other_none, same_expression}
 use Rattle.meson_sources.proofs.StringsStay.{element_any}
 use Rattle.meson_sources.proofs.StringsThere.{StringIn}
+use Rattle.meson_sources.proofs.OneGone.{string_child}
 
 -- ---- nodes
 

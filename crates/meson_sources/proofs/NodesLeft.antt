@@ -10,14 +10,15 @@ use Rattle.meson_calls.specs.declared.call.CallRef.{CallRef}
 use Rattle.meson_steps.specs.ListSteps.{MayStandBetween}
 use Rattle.meson_steps.specs.Steps.{all_stepped, step_in, stepped}
 use Rattle.meson_steps.proofs.WithOne.{change_there}
-use Rattle.meson_sources.specs.Effects.{NoneIn, but, place_after, spot_of_child}
+use Rattle.meson_sources.specs.Effects.{spot_at}
+use Rattle.meson_sources.specs.Without.{but}
 use Rattle.meson_sources.specs.Effects as effects
 use Rattle.meson_sources.specs.SourceEdits.{Spot, removed_by, same_spot, spots_after}
 use Rattle.meson_sources.proofs.ChildrenLeft.{seen}
 use Rattle.meson_sources.proofs.DistinctSpots.{AreApart, apart_of}
 use Rattle.meson_sources.proofs.ListsBut.{but_none}
-use Rattle.meson_sources.proofs.OneStringGone.{NodeIn, all_clear, clear_of, next}
-use Rattle.meson_sources.proofs.PlacesAfter.{later_goes, next_number, number_after, number_then, place_then, step_by}
+use Rattle.meson_sources.proofs.OneStringGone.{NodeIn, NoneIn, all_clear, clear_of, next}
+use Rattle.meson_sources.proofs.PlacesAfter.{later_goes, next_number, number_after, number_then, place_after, place_then, step_by}
 use Rattle.meson_sources.proofs.RemovedSpots.{all_apart, all_between, between, between_stand}
 use Rattle.meson_sources.proofs.RemovedSpots as removing
 use Rattle.meson_sources.proofs.RenamedStrings.{Node}
@@ -35,15 +36,15 @@ pub record NodeLeft (left : ℕ) (spots : List Spot) (c : CallRef) (y : Node) (a
   -- the children stay in their order
   pub numbers : (n : ℕ) → number_after left spots c (suc n) ≡ step_by (effects.goes spots c n) (number_after left spots c n)
 
-module _ (left : ℕ) (s : Spot) (more : List Spot) (c : CallRef) (clear : (n : ℕ) → same_spot s (spot_of_child c n) ≡ false → Clear s (spot_of_child c n)) (every : Every (Clear s) more)
+module _ (left : ℕ) (s : Spot) (more : List Spot) (c : CallRef) (clear : (n : ℕ) → same_spot s (spot_at c n) ≡ false → Clear s (spot_at c n)) (every : Every (Clear s) more)
     (later : (n : ℕ) → number_after left (spots_after s more) (place_then s c) (suc n) ≡ step_by (effects.goes (spots_after s more) (place_then s c) n) (number_after left (spots_after s more) (place_then s c) n)) where
   abbrev at : ℕ → ℕ
   at = number_after left (spots_after s more) (place_then s c)
 
   all_numbers : (n : ℕ) → at (number_then s c (suc n)) ≡ step_by (effects.goes (s ∷ more) c n) (at (number_then s c n))
-  all_numbers n = go (same_spot s (spot_of_child c n)) refl (next_number s c n)
+  all_numbers n = go (same_spot s (spot_at c n)) refl (next_number s c n)
     where
-      go : (b : Bool) → same_spot s (spot_of_child c n) ≡ b → number_then s c (suc n) ≡ step_by (same_spot s (spot_of_child c n)) (number_then s c n)
+      go : (b : Bool) → same_spot s (spot_at c n) ≡ b → number_then s c (suc n) ≡ step_by (same_spot s (spot_at c n)) (number_then s c n)
           → at (number_then s c (suc n)) ≡ step_by (effects.goes (s ∷ more) c n) (at (number_then s c n))
       go true is moved =
           ap at (moved ∙ ap (λ b. step_by b (number_then s c n)) is) ∙ ap (λ b. step_by (b || effects.goes more c n) (at (number_then s c n))) (sym is)
@@ -82,7 +83,7 @@ node_left (suc left) (s ∷ more) many trees after all are apart done c y h =
       shapes = r.shapes ∙ ap (shape_by (but (effects.goes (spots_after s more) (place_then s c)))) n.shapes
           ∙ shape_twice n.left (but (effects.goes (spots_after s more) (place_then s c))) (but (effects.goes (s ∷ more) c)) n.left_are (shape y);
       whole = λ none. r.whole (n.untouched none.1) ∙ n.whole none.0;
-      numbers = all_numbers left s more c (λ m other. clear_of trees all s are.0 c y h m (λ same. apart_of (spot_of_child c m) s other (sym same.0, sym same.1, sym same.2))) every r.numbers;
+      numbers = all_numbers left s more c (λ m other. clear_of trees all s are.0 c y h m (λ same. apart_of (spot_at c m) s other (sym same.0, sym same.1, sym same.2))) every r.numbers;
     }
   where
     as_many : (s : Spot) (more : List Spot) → length (spots_after s more) ≡ length more

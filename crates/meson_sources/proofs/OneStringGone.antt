@@ -1,5 +1,5 @@
 -- A string goes from its list: what is then at each place of the trees, and where the strings that go later stand.
-use Rattle.std.specs.Prelude.{◌⊎◌, All, ◌&&◌, ◌||◌, nat_eq, if◌then◌else◌, option_map}
+use Rattle.std.specs.Prelude.{◌⊎◌, All, ◌&&◌, ◌||◌, nat_eq, if◌then◌else◌}
 use Rattle.std.specs.List.{AllByRecursion, list_any}
 use Rattle.std.proofs.Common.{◌≡◌, ℕ, Bool, true, false, List, [], ◌∷◌, ◌++◌, append-nil, length, length-append, Option, Some, None, refl, sym, ap, ap₂, ◌∙◌, subst, arith, inl, inr}
 use Rattle.std.proofs.lemmas.Bool.{eqb-true, eq-eqb}
@@ -8,20 +8,20 @@ use Rattle.meson_syntax.specs.Paths.{nth}
 use Rattle.meson_syntax.specs.Tree.{Nowhere, Plain, Expression, string, Listing, Argument}
 use Rattle.meson_syntax.proofs.parsing.Steps.{some-injective}
 use Rattle.meson_syntax.proofs.paths.Every.{Every}
-use Rattle.meson_syntax.proofs.paths.Reaching.{map-some}
 use Rattle.meson_edit.specs.Edits.{elements, with_elements}
 use Rattle.meson_calls.specs.declared.call.CallRef.{CallRef}
 use Rattle.meson_calls.specs.Project.{place}
 use Rattle.meson_steps.specs.ListSteps.{MayStandBetween}
 use Rattle.meson_steps.proofs.WithOne.{changed_there, others_there}
-use Rattle.meson_sources.specs.Effects.{but, spot_of_child, string_child}
+use Rattle.meson_sources.specs.Effects.{spot_at}
+use Rattle.meson_sources.specs.Without.{but}
 use Rattle.meson_sources.specs.Effects as effects
 use Rattle.meson_sources.specs.SourceEdits.{Spot, is_path, moved_up, path_after, same_spot, spot_after, spots_after}
-use Rattle.meson_sources.proofs.ChildrenLeft.{at_list, clear_path, elements_left, kept, path_stays, seen, seen_left}
+use Rattle.meson_sources.proofs.ChildrenLeft.{at_list, clear_path, kept, path_stays, seen, seen_left}
 use Rattle.meson_sources.proofs.ElementsThere.{root}
-use Rattle.meson_sources.proofs.OneGone.{without}
+use Rattle.meson_sources.proofs.OneGone.{string_child, without}
 use Rattle.meson_sources.proofs.MarkLists as places
-use Rattle.meson_sources.proofs.PathsAfter.{length_after, is_same_path, not_there, same_paths}
+use Rattle.meson_sources.proofs.PathsAfter.{is_same_path, not_there, same_paths}
 use Rattle.meson_sources.proofs.PlacesBelow.{under}
 use Rattle.meson_sources.proofs.RemovalsRename as renaming
 use Rattle.meson_sources.proofs.RemovedSpots.{Without, between, clear, level}
@@ -40,19 +40,15 @@ use Rattle.meson_sources.proofs.ListsBut.{any_still, apart_not_same, but_same, b
 abbrev pub Untouched : Spot → CallRef → Type 0
 Untouched s c = (rest : List ℕ) → s.list.file ≡ c.file → s.list.path.steps ≡ c.path.steps ++ rest → ⊥
 
+-- none of these spots
+abbrev pub NoneIn : List Spot → CallRef → Type 0
+NoneIn spots c = AllByRecursion (λ s. Untouched s c) spots
+
 -- The list of the spot is the one at the place, and loses its element; or it is another one.
 abbrev pub LosesOne : Spot → CallRef → (List (Argument Nowhere) → List (Argument Nowhere)) → Type 0
 LosesOne s c left =
-    (((xs : List (Argument Nowhere)) → left xs ≡ xs) × ((n : ℕ) → (spot_after s (spot_of_child c n)).number ≡ n))
-    ⊎ ((s.list.file ≡ c.file) × (s.list.path.steps ≡ c.path.steps) × ((xs : List (Argument Nowhere)) → left xs ≡ without s.number xs) × ((n : ℕ) → (spot_after s (spot_of_child c n)).number ≡ moved_up s.number n))
-
--- nor in what stands there
-abbrev pub NotUnder : Spot → CallRef → Type 0
-NotUnder s c = (n : ℕ) (rest : List ℕ) → s.list.file ≡ c.file → s.list.path.steps ≡ c.path.steps ++ n ∷ rest → ⊥
-
--- the elements of a list
-abbrev pub elements_any : Node → Option (List (Argument Nowhere))
-elements_any y = option_map elements (lists.list_any y)
+    (((xs : List (Argument Nowhere)) → left xs ≡ xs) × ((n : ℕ) → (spot_after s (spot_at c n)).number ≡ n))
+    ⊎ ((s.list.file ≡ c.file) × (s.list.path.steps ≡ c.path.steps) × ((xs : List (Argument Nowhere)) → left xs ≡ without s.number xs) × ((n : ℕ) → (spot_after s (spot_at c n)).number ≡ moved_up s.number n))
 
 -- a spot after another one has gone, by whether it is in the same file
 abbrev pub renamed : Bool → Spot → Spot → Spot
@@ -94,7 +90,7 @@ module _ (trees : List Plain) (all : All MayStandBetween trees) (s : Spot) (ther
     in_tree : s.list.file ≡ c.file → node_at (root there.tree) c.path.steps ≡ Some y
     in_tree file = ap (λ t. node_at (root t) c.path.steps) (some-injective _ _ (sym there.is_tree ∙ ap (nth trees) file ∙ h.is_tree)) ∙ h.is_node
 
-    pub clear_of : (n : ℕ) → Apart s (spot_of_child c n) → Clear s (spot_of_child c n)
+    pub clear_of : (n : ℕ) → Apart s (spot_at c n) → Clear s (spot_at c n)
     clear_of n apart = record {
       above = λ file. clear_path g.old g.new g.xs k g.loses new_other path (root there.tree) (root gone.now) g.put c.path.steps y (in_tree file) h.other;
       other = apart;
@@ -107,7 +103,6 @@ module _ (trees : List Plain) (all : All MayStandBetween trees) (s : Spot) (ther
       seen_is : seen node ≡ strings
       shape_is : shape node ≡ shape_by left (shape y)
       whole : Untouched s c → node ≡ y
-      elements_are : (xs : List (Argument Nowhere)) → elements_any y ≡ Some xs → NotUnder s c → elements_any node ≡ Some (left xs)
 
     now_in : s.list.file ≡ c.file → nth (between trees all s there) c.file ≡ Some gone.now
     now_in file = ap (nth (between trees all s there)) (sym file) ∙ changed_there trees s.list.file there.tree gone.now there.is_tree
@@ -124,10 +119,6 @@ module _ (trees : List Plain) (all : All MayStandBetween trees) (s : Spot) (ther
           shape_is = ap shape (some-injective _ _ (sym at.1 ∙ became_new _ _ path (root there.tree) (root gone.now) lost.becomes)) ∙ lost.shapes
               ∙ ap (λ x. shape_by (without k) (shape x)) (some-injective _ _ (sym (became_old _ _ path (root there.tree) (root gone.now) lost.becomes) ∙ at.0) ∙ is_old);
           whole = λ clear_of_it. absurd (clear_of_it [] file (same ∙ sym (append-nil c.path.steps)));
-          elements_are = λ xs are not_under.
-              let l = map-some elements (lists.list_any y) xs are in
-              ap (option_map elements) g.is_listing
-              ∙ ap Some (elements_left g.old g.new g.xs k g.loses new_other l.0 g.listing (ap lists.list_any is_old ∙ l.1) g.is_listing ∙ ap (without k) l.2);
         }
 
     -- what is above the list keeps its shape
@@ -154,12 +145,7 @@ module _ (trees : List Plain) (all : All MayStandBetween trees) (s : Spot) (ther
           seen_is = r.same;
           shape_is = (other_shape file apart r.node r.is_node (λ none. r.whole (λ rest equal. none rest (ap₂ place file equal)))) ∙ sym (shape_same (λ xs. xs) (λ bs. refl) (shape y));
           whole = λ untouched. r.whole (λ rest equal. untouched rest file equal);
-          elements_are = λ xs are not_under. ap elements_any (r.whole (outside apart (λ n rest equal. not_under n rest file equal))) ∙ are;
         }
-      where
-        outside : (path ≡ c.path.steps → ⊥) → ((n : ℕ) (rest : List ℕ) → path ≡ c.path.steps ++ n ∷ rest → ⊥) → (rest : List ℕ) → path ≡ c.path.steps ++ rest → ⊥
-        outside other not_under [] equal = other (equal ∙ append-nil c.path.steps)
-        outside other not_under (n ∷ rest) equal = not_under n rest equal
 
     of_file : (s.list.file ≡ c.file → ⊥) → Moved c (seen y) (λ xs. xs)
     of_file apart = record {
@@ -168,7 +154,6 @@ module _ (trees : List Plain) (all : All MayStandBetween trees) (s : Spot) (ther
       seen_is = refl;
       shape_is = sym (shape_same (λ xs. xs) (λ bs. refl) (shape y));
       whole = λ untouched. refl;
-      elements_are = λ xs are not_under. are;
     }
 
     -- ---- what has no spot in it has none later
@@ -192,41 +177,6 @@ module _ (trees : List Plain) (all : All MayStandBetween trees) (s : Spot) (ther
     elsewhere apart [] none = tt
     elsewhere apart (t ∷ ts) none = (none_elsewhere apart t none.0 (nat_eq s.list.file t.list.file) refl, elsewhere apart ts none.1)
 
-    -- and no other list in it
-
-    below : s.list.file ≡ c.file → (u : Spot) → Clear s u → NotUnder u c → (b : Bool) → nat_eq s.list.file u.list.file ≡ b → NotUnder (renamed b s u) (place c.file (path_after path k c.path.steps))
-    below file u clear_u not_under true is n rest same equal =
-        let back = leads_back path k c.path.steps u.list.path.steps (n ∷ rest)
-        (clear_path g.old g.new g.xs k g.loses new_other path (root there.tree) (root gone.now) g.put c.path.steps y (in_tree file) h.other) (clear_u.above (eqb-true s.list.file u.list.file is)) equal in
-        some back.0 back.1
-      where
-        some : (more : List ℕ) → u.list.path.steps ≡ c.path.steps ++ more → ⊥
-        some [] same_path =
-            let lengths = ap length equal in
-            let others = ap length (same_path ∙ append-nil c.path.steps) in
-            absurd (omega (
-              arith,
-              lengths,
-              others,
-              length_after path u.list.path.steps k,
-              length_after path c.path.steps k,
-              length-append (path_after path k c.path.steps) (n ∷ rest),
-            ))
-        some (m ∷ more) same_path = not_under m more same same_path
-    below file u clear_u not_under false is n rest same equal = let yes = eq-eqb s.list.file u.list.file (file ∙ sym same) in absurd cc
-
-    all_below : s.list.file ≡ c.file → (ts : List Spot) → Every (Clear s) ts → AllByRecursion (λ u. NotUnder u c) ts → AllByRecursion (λ u. NotUnder u (place c.file (path_after path k c.path.steps))) (spots_after s ts)
-    all_below file [] every none = tt
-    all_below file (t ∷ ts) every none = (below file t every.0 none.0 (nat_eq s.list.file t.list.file) refl, all_below file ts every.1 none.1)
-
-    below_elsewhere : (s.list.file ≡ c.file → ⊥) → (u : Spot) → NotUnder u c → (b : Bool) → nat_eq s.list.file u.list.file ≡ b → NotUnder (renamed b s u) c
-    below_elsewhere apart u not_under true is n rest same equal = absurd (apart (eqb-true s.list.file u.list.file is ∙ same))
-    below_elsewhere apart u not_under false is n rest same equal = not_under n rest same equal
-
-    all_elsewhere : (s.list.file ≡ c.file → ⊥) → (ts : List Spot) → AllByRecursion (λ u. NotUnder u c) ts → AllByRecursion (λ u. NotUnder u c) (spots_after s ts)
-    all_elsewhere apart [] none = tt
-    all_elsewhere apart (t ∷ ts) none = (below_elsewhere apart t none.0 (nat_eq s.list.file t.list.file) refl, all_elsewhere apart ts none.1)
-
     -- ---- those that go later are the same
 
     module _ (more : List Spot) (every : Every (Clear s) more) where
@@ -237,7 +187,7 @@ module _ (trees : List Plain) (all : All MayStandBetween trees) (s : Spot) (ther
       after_by b n = if b then record {
         list = place c.file (path_after path k c.path.steps);
         number = if is_path path c.path.steps then moved_up k n else n;
-      } else spot_of_child c n
+      } else spot_at c n
 
       pub record Next (now : CallRef) : Type 0 where
         pub node : Node
@@ -248,13 +198,11 @@ module _ (trees : List Plain) (all : All MayStandBetween trees) (s : Spot) (ther
         pub left : List (Argument Nowhere) → List (Argument Nowhere)
         pub lists : LosesOne s c left
         pub shapes : shape node ≡ shape_by left (shape y)
-        pub elements_are : (xs : List (Argument Nowhere)) → elements_any y ≡ Some xs → NotUnder s c → elements_any node ≡ Some (left xs)
         pub left_are : (xs : List (Argument Nowhere)) → but (effects.goes (spots_after s more) now) (left xs) ≡ but before xs
-        pub under : AllByRecursion (λ u. NotUnder u c) more → AllByRecursion (λ u. NotUnder u now) (spots_after s more)
 
       -- another spot of the place goes later where it went
-      later : (n : ℕ) → Apart s (spot_of_child c n) → list_any (λ u. same_spot u (spot_after s (spot_of_child c n))) (spots_after s more) ≡ before n
-      later n apart = any_still s (spot_of_child c n) (clear_of n apart) more every ∙ ap (λ b. b || effects.goes more c n) (sym (apart_not_same s (spot_of_child c n) apart))
+      later : (n : ℕ) → Apart s (spot_at c n) → list_any (λ u. same_spot u (spot_after s (spot_at c n))) (spots_after s more) ≡ before n
+      later n apart = any_still s (spot_at c n) (clear_of n apart) more every ∙ ap (λ b. b || effects.goes more c n) (sym (apart_not_same s (spot_at c n) apart))
 
       by_path : nat_eq s.list.file c.file ≡ true → (b : Bool) → is_path path c.path.steps ≡ b → Next (place c.file (path_after path k c.path.steps))
       by_path file true is =
@@ -265,7 +213,7 @@ module _ (trees : List Plain) (all : All MayStandBetween trees) (s : Spot) (ther
           let gone_here : before k ≡ true =
           ap (λ b. (b && (is_path path c.path.steps && nat_eq k k)) || effects.goes more c k) file
           ∙ ap (λ b. (b && nat_eq k k) || effects.goes more c k) is ∙ ap (λ b. b || effects.goes more c k) (eq-eqb k k refl) in
-          let moves : (n : ℕ) → spot_after s (spot_of_child c n) ≡ spot_of_child now (moved_up k n) = λ n.
+          let moves : (n : ℕ) → spot_after s (spot_at c n) ≡ spot_at now (moved_up k n) = λ n.
           ap (λ b. after_by b n) file ∙ ap (λ b. record { list = now; number = if b then moved_up k n else n }) is in
           let later_same : (n : ℕ) → (k ≡ n → ⊥) → effects.goes (spots_after s more) now (moved_up k n) ≡ before n = λ n other.
           ap (λ t. list_any (λ u. same_spot u t) (spots_after s more)) (sym (moves n)) ∙ later n (λ equal. other equal.2) in
@@ -278,16 +226,14 @@ module _ (trees : List Plain) (all : All MayStandBetween trees) (s : Spot) (ther
             left = without k;
             lists = inr (files, same, λ xs. refl, λ n. ap (λ (t : Spot). t.number) (moves n));
             shapes = m.shape_is;
-            elements_are = m.elements_are;
             left_are = but_without k (effects.goes (spots_after s more) now) before gone_here later_same;
-            under = all_below files more every;
           }
       by_path file false is =
           let files = eqb-true s.list.file c.file file in
           let not_same : path ≡ c.path.steps → ⊥ = λ same. let yes = is_same_path path c.path.steps same in cc in
           let m = of_other files not_same in
           let now = place c.file (path_after path k c.path.steps) in
-          let moves : (n : ℕ) → spot_after s (spot_of_child c n) ≡ spot_of_child now n = λ n.
+          let moves : (n : ℕ) → spot_after s (spot_at c n) ≡ spot_at now n = λ n.
           ap (λ b. after_by b n) file ∙ ap (λ b. record { list = now; number = if b then moved_up k n else n }) is in
           let later_same : (n : ℕ) → effects.goes (spots_after s more) now n ≡ before n = λ n.
           ap (λ t. list_any (λ u. same_spot u t) (spots_after s more)) (sym (moves n)) ∙ later n (λ equal. not_same equal.1) in
@@ -300,9 +246,7 @@ module _ (trees : List Plain) (all : All MayStandBetween trees) (s : Spot) (ther
             left = λ xs. xs;
             lists = inl (λ xs. refl, λ n. ap (λ (t : Spot). t.number) (moves n));
             shapes = m.shape_is;
-            elements_are = m.elements_are;
             left_are = but_same (effects.goes (spots_after s more) now) before later_same;
-            under = all_below files more every;
           }
 
       by_file : (b : Bool) → nat_eq s.list.file c.file ≡ b → Next (after_by b 0).list
@@ -321,12 +265,10 @@ module _ (trees : List Plain) (all : All MayStandBetween trees) (s : Spot) (ther
             left = λ xs. xs;
             lists = inl (λ xs. refl, λ n. ap (λ b. (after_by b n).number) is);
             shapes = m.shape_is;
-            elements_are = m.elements_are;
             left_are = but_same (effects.goes (spots_after s more) c) before later_same;
-            under = all_elsewhere not_same more;
           }
 
-      pub next : Next (spot_after s (spot_of_child c 0)).list
+      pub next : Next (spot_after s (spot_at c 0)).list
       next = by_file (nat_eq s.list.file c.file) refl
 
   pub all_clear : (ts : List Spot) → Every (StringIn trees) ts → Every (Apart s) ts → Every (Clear s) ts

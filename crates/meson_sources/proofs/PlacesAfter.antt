@@ -6,7 +6,7 @@ use Rattle.std.proofs.lemmas.Bool.{eqb-true, eq-eqb, ltb-true, ltb-false}
 use Rattle.meson_syntax.proofs.paths.Every.{Every}
 use Rattle.meson_calls.specs.declared.call.CallRef.{CallRef}
 use Rattle.meson_calls.specs.Project.{child, place}
-use Rattle.meson_sources.specs.Effects.{goes, place_after, spot_of_child}
+use Rattle.meson_sources.specs.Effects.{goes, spot_at}
 use Rattle.meson_sources.specs.SourceEdits.{Spot, is_path, moved_up, path_after, same_spot, spot_after, spots_after}
 use Rattle.meson_sources.proofs.ListsBut.{any_still}
 use Rattle.meson_sources.proofs.PathsAfter.{length_after, not_there}
@@ -36,28 +36,28 @@ next_moved k n false true is also false same =
 -- ---- one goes
 
 abbrev pub place_then : Spot → CallRef → CallRef
-place_then s c = (spot_after s (spot_of_child c 0)).list
+place_then s c = (spot_after s (spot_at c 0)).list
 
 abbrev pub number_then : Spot → CallRef → ℕ → ℕ
-number_then s c n = (spot_after s (spot_of_child c n)).number
+number_then s c n = (spot_after s (spot_at c n)).number
 
 abbrev after_by : Bool → Spot → CallRef → ℕ → Spot
 after_by b s c n = if b then record {
   list = place c.file (path_after s.list.path.steps s.number c.path.steps);
   number = if is_path s.list.path.steps c.path.steps then moved_up s.number n else n;
-} else spot_of_child c n
+} else spot_at c n
 
-pub spot_then : (s : Spot) (c : CallRef) (n : ℕ) → spot_after s (spot_of_child c n) ≡ spot_of_child (place_then s c) (number_then s c n)
+pub spot_then : (s : Spot) (c : CallRef) (n : ℕ) → spot_after s (spot_at c n) ≡ spot_at (place_then s c) (number_then s c n)
 spot_then s c n = go (nat_eq s.list.file c.file)
   where
-    go : (b : Bool) → after_by b s c n ≡ spot_of_child (after_by b s c 0).list (after_by b s c n).number
+    go : (b : Bool) → after_by b s c n ≡ spot_at (after_by b s c 0).list (after_by b s c n).number
     go true = refl
     go false = refl
 
 abbrev number_by : Spot → CallRef → Bool → Bool → ℕ → ℕ
-number_by s c b z m = (if b then record { list = place c.file (path_after s.list.path.steps s.number c.path.steps); number = if z then moved_up s.number m else m } else spot_of_child c m).number
+number_by s c b z m = (if b then record { list = place c.file (path_after s.list.path.steps s.number c.path.steps); number = if z then moved_up s.number m else m } else spot_at c m).number
 
-pub next_number : (s : Spot) (c : CallRef) (n : ℕ) → number_then s c (suc n) ≡ step_by (same_spot s (spot_of_child c n)) (number_then s c n)
+pub next_number : (s : Spot) (c : CallRef) (n : ℕ) → number_then s c (suc n) ≡ step_by (same_spot s (spot_at c n)) (number_then s c n)
 next_number s c n = go (nat_eq s.list.file c.file) (is_path s.list.path.steps c.path.steps)
   where
     go : (b z : Bool) → number_by s c b z (suc n) ≡ step_by (b && (z && nat_eq s.number n)) (number_by s c b z n)
@@ -112,12 +112,18 @@ depth_then s t = go (nat_eq s.list.file t.list.file)
     go false = refl
 
 -- the others go later where they went
-pub later_goes : (s : Spot) (c : CallRef) (n : ℕ) → Clear s (spot_of_child c n) → same_spot s (spot_of_child c n) ≡ false → (more : List Spot) → Every (Clear s) more
+pub later_goes : (s : Spot) (c : CallRef) (n : ℕ) → Clear s (spot_at c n) → same_spot s (spot_at c n) ≡ false → (more : List Spot) → Every (Clear s) more
     → goes (spots_after s more) (place_then s c) (number_then s c n) ≡ goes (s ∷ more) c n
 later_goes s c n clear other more every =
-    ap (λ t. list_any (λ u. same_spot u t) (spots_after s more)) (sym (spot_then s c n)) ∙ any_still s (spot_of_child c n) clear more every ∙ ap (λ b. b || goes more c n) (sym other)
+    ap (λ t. list_any (λ u. same_spot u t) (spots_after s more)) (sym (spot_then s c n)) ∙ any_still s (spot_at c n) clear more every ∙ ap (λ b. b || goes more c n) (sym other)
 
 -- ---- all go
+
+-- where a place is after so many of these spots have gone
+abbrev pub place_after : ℕ → List Spot → CallRef → CallRef
+place_after zero spots c = c
+place_after (suc left) [] c = c
+place_after (suc left) (s ∷ more) c = place_after left (spots_after s more) (place_then s c)
 
 abbrev pub number_after : ℕ → List Spot → CallRef → ℕ → ℕ
 number_after zero spots c n = n
@@ -151,7 +157,7 @@ first_then s c = go (nat_eq s.list.file c.file) (is_path s.list.path.steps c.pat
     zero_moved k true is = omega arith
     zero_moved k false is = refl
 
-    go : (b z : Bool) → (if b then record { list = place c.file (path_after s.list.path.steps s.number c.path.steps); number = if z then moved_up s.number 0 else 0 } else spot_of_child c 0).number ≡ 0
+    go : (b z : Bool) → (if b then record { list = place c.file (path_after s.list.path.steps s.number c.path.steps); number = if z then moved_up s.number 0 else 0 } else spot_at c 0).number ≡ 0
     go true true = zero_moved s.number (nat_lt s.number 0) refl
     go true false = refl
     go false z = refl

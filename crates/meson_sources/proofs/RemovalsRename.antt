@@ -66,6 +66,13 @@ module _ (old new : Any Nowhere) (l : Listing Nowhere) (gone : ℕ) (is_old : li
 string_holds : (l : Listing Nowhere) (b : Bracket) (n : ℕ) (it : Argument Nowhere) → IsStringElement it → nth (elements l) n ≡ Some it → LevelListing l b → holds_values b ≡ true
 string_holds (listing s trailing list) b n it is_string is level = plain_holds list b false n (string tt is_string.kind is_string.text) level.1 (is ∙ ap Some is_string.is)
 
+-- each element of a list where a string stands has one part
+pub one_part_there : (t : Plain) → LevelFile t → (list : List ℕ) (n : ℕ) (it : Argument Nowhere) (here : IsElementAt t list n it) → IsStringElement it → Every HasOnePart (elements here.place.list)
+one_part_there t level list n it here is_string =
+    let q = here.place in
+    let fits = list-fits Nowhere t list q here.is_place in
+    one_part q.list q.bracket (values_no_pairs q.bracket (string_holds q.list q.bracket n it is_string here.is_element (fits.level level))) (fits.level level)
+
 -- how a string goes from its list
 pub record Goes (t now : Plain) (list : List ℕ) (gone : ℕ) : Type 0 where
   pub old : Any Nowhere

@@ -8,10 +8,9 @@ use Rattle.meson_syntax.proofs.parsing.Steps.{some-injective}
 use Rattle.meson_syntax.proofs.paths.Reaching.{map-some}
 use Rattle.meson_edit.specs.Edits.{Remove, edited, element_removed, elements, with_elements}
 use Rattle.meson_edit.proofs.sequences.Changed.{changed}
-use Rattle.meson_sources.specs.Effects.{string_child}
 use Rattle.meson_sources.proofs.ElementsThere.{root}
 use Rattle.meson_sources.proofs.Losses.{holds_none}
-use Rattle.meson_sources.proofs.OneGone.{without}
+use Rattle.meson_sources.proofs.OneGone.{string_child, without}
 use Rattle.meson_sources.proofs.PartsPut.{differ_new, differ_old}
 use Rattle.meson_sources.proofs.Shapes.{Becomes, Shape, an_array, a_call, a_row, a_leaf, an_assignment, a_loop, another, blank, blanks, list_becomes, list_blanks, shape, operators}
 

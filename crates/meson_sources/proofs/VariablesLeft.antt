@@ -15,7 +15,6 @@ use Rattle.meson_calls.specs.Project.{Placed, Project, child, placed}
 use Rattle.meson_calls.specs.Variables.{Assigned, all_known, assignments, is_outermost, is_set_otherwise, only_value, single}
 use Rattle.meson_steps.specs.ListSteps.{MayStandBetween}
 use Rattle.meson_steps.specs.ResultLimits.{plain_trees}
-use Rattle.meson_sources.specs.Effects.{but, place_after, string_child}
 use Rattle.meson_sources.specs.Effects as effects
 use Rattle.meson_sources.specs.SourceEdits.{Spot}
 use Rattle.meson_sources.proofs.Bares.{bare_value, values_of}
@@ -29,13 +28,14 @@ use Rattle.meson_sources.proofs.LossesBuilt.{loses}
 use Rattle.meson_sources.proofs.LostValues.{BothStand, ValueLoses}
 use Rattle.meson_sources.proofs.NodesLeft.{NodeLeft}
 use Rattle.meson_sources.proofs.OneStringGone as kept
-use Rattle.meson_sources.proofs.PlacesAfter.{Deeper, first_after, shallow_after}
+use Rattle.meson_sources.proofs.PlacesAfter.{Deeper, first_after, place_after, shallow_after}
 use Rattle.meson_sources.proofs.RenamedStrings.{Node}
 use Rattle.meson_sources.proofs.Scenes.{NodeIn, SameTells, names_of, projects_tell}
 use Rattle.meson_sources.proofs.StringsStay.{element_any}
 use Rattle.meson_sources.proofs.StringsThere.{StringIn}
 use Rattle.meson_sources.proofs.TellsErased.{file_names_erased, told_erased}
 use Rattle.meson_sources.proofs.ValuePlaces.{value_place, value_place_is}
+use Rattle.meson_sources.proofs.OneGone.{string_child}
 
 -- ---- a variable's value stands in a statement of a file
 
