@@ -25,13 +25,16 @@ use Rattle.meson_steps.specs.ListSteps.{MayStandBetween}
 use Rattle.meson_steps.specs.Names.{distinct}
 use Rattle.meson_steps.specs.ResultLimits.{plain_trees}
 use Rattle.meson_steps.specs.Steps.{all_stepped}
-use Rattle.meson_sources.specs.Effects.{AreSpotsOf, goes}
+use Rattle.meson_sources.specs.Effects.{AreSpotsOf, goes, trees_without}
+use Rattle.meson_sources.specs.Without.{expression_without, from_child}
+use Rattle.meson_sources.proofs.NodesMoved.{first_place, node_moved, place_left}
+use Rattle.meson_sources.proofs.TreesLeft.{trees_left}
+use Rattle.meson_sources.proofs.WithoutLoses.{Lost, gone_at, loses}
+use Rattle.meson_sources.proofs.WithoutPlaces.{any_without}
 use Rattle.meson_sources.specs.SourceEdits.{Spot, distinct_spots, removal_steps}
 use Rattle.meson_sources.specs.WholeSources.{file_names}
-use Rattle.meson_sources.proofs.Arrivals.{call_shape}
 use Rattle.meson_sources.proofs.FoundAgain.{Names}
-use Rattle.meson_sources.proofs.NamedAgain.{SetStays, assigned_shape, named_again}
-use Rattle.meson_sources.proofs.PlacesAfter.{child_after, first_after, place_after}
+use Rattle.meson_sources.proofs.NamedAgain.{SetStays, named_again}
 use Rattle.meson_sources.proofs.TargetNames.{by_bare, call_by, call_tells, first_plain, tell_call}
 use Rattle.meson_sources.proofs.Bares.{Values, bare_value, expand_with, values_of}
 use Rattle.meson_sources.proofs.CallForms.{CallIn, CallNode, bare_arguments, bare_form, called, stands_bare}
@@ -42,12 +45,9 @@ use Rattle.meson_sources.proofs.Kins.{node_level, value_in}
 use Rattle.meson_sources.proofs.LeftFiles.{NamedGoes}
 use Rattle.meson_sources.proofs.Losses.{EachLoses, Loses}
 use Rattle.meson_sources.proofs.LostMarks.{Left, slot_gone}
-use Rattle.meson_sources.proofs.ElementsLeft.{Lost}
-use Rattle.meson_sources.proofs.LossesBuilt.{loses}
 use Rattle.meson_sources.proofs.LostArguments.{FirstStays}
 use Rattle.meson_sources.proofs.LostValues.{expand_left}
 use Rattle.meson_sources.proofs.NamesLeft.{MayGo, MayGoAt, NotFirst, SameNames, names_left}
-use Rattle.meson_sources.proofs.NodesLeft.{NodeLeft, node_left}
 use Rattle.meson_sources.proofs.OneStringGone as kept
 use Rattle.meson_sources.proofs.QuietLists.{QuietAt, quiet, tells_left}
 use Rattle.meson_sources.proofs.RenamedStrings.{Node}
@@ -62,7 +62,7 @@ use Rattle.meson_sources.proofs.OneGone.{string_child}
 
 -- where a place is after the elements at these spots have gone
 abbrev pub moved_place : List Spot → CallRef → CallRef
-moved_place spots c = place_after (length (distinct_spots spots)) (distinct_spots spots) c
+moved_place spots c = place_left (goes (distinct_spots spots)) c
 
 -- ---- the first argument without a name
 
@@ -102,9 +102,6 @@ quiet_other _ is = refl
 
 as_kept : (trees : List Plain) (p : CallRef) (y : Node) → NodeIn trees p y → string_child y ≡ None → kept.NodeIn trees p y
 as_kept trees p y n other = record { tree = n.tree; is_tree = n.is_tree; is_node = n.is_node; other = other }
-
-as_there : (trees : List Plain) (p : CallRef) (y : Node) → kept.NodeIn trees p y → NodeIn trees p y
-as_there trees p y n = record { tree = n.tree; is_tree = n.is_tree; is_node = n.is_node }
 
 pub literals : (values : Values) (left : ℕ) (q : StringKind) (x : List ℕ) (s : Stand) (f : List (List ℕ)) → expand_with values left (string tt q x) s f ≡ literal_item tt s f (value (string_kind q) x)
 literals values zero q x s f = refl
@@ -179,17 +176,21 @@ module _ (old : Loaded) (stand : All MayStandBetween (plain_trees old)) (c : Cal
     are : Every (StringIn trees) spots
     are = every_distinct (StringIn trees) found are_found
 
-    left : (q : CallRef) (y : Node) → kept.NodeIn trees q y → NodeLeft (length spots) spots q y after
-    left = node_left (length spots) spots refl trees after stand are (distinct_apart found) done
+    are_left : after ≡ trees_without spots trees
+    are_left = trees_left spots trees after stand are (distinct_apart found) done
 
     held_at : (q : CallRef) (n : ℕ) → gone q n ≡ true → SpotHeld trees Fine fine names is held found of_names q n
     held_at = gone_held trees Fine fine names is held found of_names
 
-    valued : (q : CallRef) (n : ℕ) → gone q n ≡ true → (y : Node) → kept.NodeIn trees q y → Lost spots trees after (element_any y) n
-    valued q n is y h =
+    lost : (q : CallRef) (n : ℕ) → gone q n ≡ true → (y : Node) → NodeIn trees q y → Lost y n
+    lost q n is y h =
         let w = (held_at q n is).string_held in
-        let same = same_there trees q w.held.node y w.held.is (as_there trees q y h) in
+        let same = same_there trees q w.held.node y w.held.is h in
         (plain (string tt w.kind w.word), ap (λ z. element_any z n) same ∙ w.held.element_is, record { kind = w.kind; word = w.word; text = (held_at q n is).text; is_string = refl; is_value = w.is_value })
+
+    -- where what stood at a place stands now
+    moved : (q : CallRef) (y : Node) → NodeIn trees q y → string_child y ≡ None → NodeIn after (place_left gone q) (any_without (gone_at gone q) y)
+    moved q y h other = subst (λ ts. NodeIn ts (place_left gone q) (any_without (gone_at gone q) y)) (sym are_left) (node_moved trees stand gone lost q y h other)
 
     silent : Every (QuietAt trees) spots
     silent = each_spot trees Fine fine names is held found of_names (QuietAt trees) (λ t w.
@@ -211,20 +212,16 @@ module _ (old : Loaded) (stand : All MayStandBetween (plain_trees old)) (c : Cal
 
     pub record CallLeft : Type 0 where
       pub ys : Arguments Nowhere
-      pub node : CallNode after (place_after (length spots) spots c) ys
+      pub node : CallNode after (place_left gone c) ys
       pub same_name : node.name.text ≡ t.name.text
       pub each : EachLoses gone c 0 bare_xs ys
 
     pub call_left : CallLeft
     call_left =
-        let h = as_kept trees c (an_expression call_node) at_call refl in
-        let l = left c (an_expression call_node) h in
-        let w = call_shape l.node _ _ l.shapes in
-        let k = subst (kept.NodeIn after (place_after (length spots) spots c)) w.is l.is in
-        let o = loses spots trees after left valued are call_node c call_level h (call w.r w.name (listing w.z w.trailing w.list)) k in
+        let o = loses trees gone lost call_node c call_level at_call in
         let m = o.4 in
-        let at : NodeIn after (place_after (length spots) spots c) (an_expression (call tt o.0 (listing tt m.0 m.1))) =
-        subst (λ e. NodeIn after (place_after (length spots) spots c) (an_expression e)) (o.2 ∙ ap (call tt o.0) m.2) (as_there after (place_after (length spots) spots c) _ k) in
+        let at : NodeIn after (place_left gone c) (an_expression (call tt o.0 (listing tt m.0 m.1))) =
+        subst (λ e. NodeIn after (place_left gone c) (an_expression e)) (o.2 ∙ ap (call tt o.0) m.2) (moved c (an_expression call_node) at_call refl) in
         record { ys = m.1; node = record { name = o.0; trailing = m.0; node = at }; same_name = o.3; each = m.3 }
 
     -- what is met in each expression then
@@ -232,29 +229,26 @@ module _ (old : Loaded) (stand : All MayStandBetween (plain_trees old)) (c : Cal
         → Left gone (expand_with (values_of (project old)) max_followed e u g) (expand_with (values_of (project new)) max_followed now v k)
     each_left =
         let tells = λ (i : ℕ). tells_left (length spots) spots refl trees after stand are silent (distinct_apart found) done (0 + i) i in
-        expand_left gone (values_of (project old)) (values_of (project new)) (values_left old new same_names tells stand spots left valued are) max_followed
+        expand_left gone (values_of (project old)) (values_of (project new)) (values_left old new same_names tells stand gone lost are_left) max_followed
 
     pub are_named : Every (NamedGoes gone names) is
     are_named = all_named trees Fine fine names is held found of_names
 
     -- an assignment stays where it has moved to
-    set_left : (q : CallRef) (x : Name Nowhere) (v : Expression Nowhere) → c ≡ child q 0 → NodeIn trees q (a_statement (assign tt x assignment.Set v)) → SetStays after (place_after (length spots) spots c) x.text
+    set_left : (q : CallRef) (x : Name Nowhere) (v : Expression Nowhere) → c ≡ child q 0 → NodeIn trees q (a_statement (assign tt x assignment.Set v)) → SetStays after (place_left gone c) x.text
     set_left q x v is_place n =
-        let l = left q _ (as_kept trees q (a_statement (assign tt x assignment.Set v)) n refl) in
-        let a = assigned_shape l.node x.text assignment.Set l.shapes in
         record {
-          at = place_after (length spots) spots q;
-          is_place =
-              ap (place_after (length spots) spots) is_place ∙ child_after (length spots) spots q 0 ∙ ap (child (place_after (length spots) spots q)) (first_after (length spots) spots q);
-          r = a.r;
-          name = a.name;
-          value = a.value;
-          node = subst (NodeIn after (place_after (length spots) spots q)) a.is (as_there after (place_after (length spots) spots q) l.node l.is);
-          same = a.same;
+          at = place_left gone q;
+          is_place = ap (place_left gone) is_place ∙ first_place gone q;
+          r = tt;
+          name = x;
+          value = expression_without (from_child 0 (gone_at gone q)) v;
+          node = moved q (a_statement (assign tt x assignment.Set v)) n refl;
+          same = refl;
         }
 
     -- the id of the call names it still, and it alone
-    pub named_left : (id : List ℕ) → the_call (project old) role.Target id ≡ Ok (called t) → Names (project new) id (place_after (length spots) spots c) (called t).it
+    pub named_left : (id : List ℕ) → the_call (project old) role.Target id ≡ Ok (called t) → Names (project new) id (place_left gone c) (called t).it
     named_left id found_call =
         let k = call_left in
         let name = k.node.name in
@@ -262,4 +256,4 @@ module _ (old : Loaded) (stand : All MayStandBetween (plain_trees old)) (c : Cal
         let owns : tell_call (call_of node) ≡ tell_call (Some (called t).it) =
         call_tells name.text tt k.node.trailing k.ys ∙ ap (λ f. call_by f (first_plain k.ys)) k.same_name ∙ own_left gone c 0 t.name.text bare_xs k.ys first k.each ∙ by_bare t.name.text t.arguments
         ∙ sym (call_tells t.name.text t.brackets t.trailing t.arguments) in
-        named_again old new names_stay id (called t) found_call (place_after (length spots) spots c) node k.node.node owns set_left
+        named_again old new names_stay id (called t) found_call (place_left gone c) node k.node.node owns set_left

@@ -46,6 +46,9 @@ mod NothingGone
 mod ChildFollows
 mod ElementGone
 mod TreesLeft
+mod WithoutPlaces
+mod WithoutLoses
+mod NodesMoved
 mod StringsStay
 mod StringsThere
 mod TargetCalls
@@ -82,9 +85,6 @@ mod LostValues
 mod LostArguments
 mod PlacesAfter
 mod ShapesLeft
-mod NodesLeft
-mod ElementsLeft
-mod LossesBuilt
 mod QuietLists
 mod RemovalsKeep
 mod ItemsThere

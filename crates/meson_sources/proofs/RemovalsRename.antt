@@ -27,7 +27,7 @@ use Rattle.meson_sources.proofs.StringsStay.{list_any}
 parts_of_list : (m l : Listing Nowhere) → m ≡ l → listing_parts m ≡ arguments_parts (arguments_of (elements l))
 parts_of_list (listing s trailing list) l same = sym (ap arguments_parts (list-of-arguments list)) ∙ ap (λ u. arguments_parts (arguments_of (elements u))) same
 
-list_parts : (x : Any Nowhere) (l : Listing Nowhere) → list_any x ≡ Some l → child_nodes x ≡ arguments_parts (arguments_of (elements l))
+pub list_parts : (x : Any Nowhere) (l : Listing Nowhere) → list_any x ≡ Some l → child_nodes x ≡ arguments_parts (arguments_of (elements l))
 list_parts (an_expression (array m)) l is = parts_of_list m l (some-injective _ _ is)
 list_parts (an_expression (dictionary m)) l is = parts_of_list m l (some-injective _ _ is)
 list_parts (an_expression (call s x m)) l is = parts_of_list m l (some-injective _ _ is)
@@ -35,7 +35,7 @@ list_parts (an_expression e) l is = absurd cc
 list_parts (a_statement s) l is = absurd cc
 list_parts (a_block b) l is = absurd cc
 
-one_part : (l : Listing Nowhere) (b : Bracket) → holds_pairs b ≡ false → LevelListing l b → Every HasOnePart (elements l)
+pub one_part : (l : Listing Nowhere) (b : Bracket) → holds_pairs b ≡ false → LevelListing l b → Every HasOnePart (elements l)
 one_part (listing s trailing list) b none level = one_part_each Nowhere b none list false level.1
 
 back_elements : (xs : List (Argument Nowhere)) → argument_list (arguments_of xs) ≡ xs
