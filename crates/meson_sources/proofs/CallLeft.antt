@@ -1,6 +1,6 @@
 -- The call of a target after strings have gone from its lists of sources or of extra files.
-use Rattle.std.specs.Prelude.{All, not, Ok}
-use Rattle.std.proofs.Common.{◌≡◌, ℕ, zero, suc, ◌+◌, Bool, true, false, List, length, Some, None, refl, sym, ap, ◌∙◌, subst, arith, inl, inr}
+use Rattle.std.specs.Prelude.{All, Ok}
+use Rattle.std.proofs.Common.{◌≡◌, ℕ, zero, suc, ◌+◌, Bool, true, false, List, Some, None, refl, sym, ap, ◌∙◌, subst, arith, inl, inr}
 use Rattle.meson_lex.specs.Literals.{value}
 use Rattle.meson_lex.specs.declared.kinds.Span.{Span}
 use Rattle.meson_syntax.specs.declared.operator.Assignment.TheVariants as assignment
@@ -35,7 +35,7 @@ use Rattle.meson_sources.specs.SourceEdits.{Spot, distinct_spots, removal_steps}
 use Rattle.meson_sources.specs.WholeSources.{file_names}
 use Rattle.meson_sources.proofs.FoundAgain.{Names}
 use Rattle.meson_sources.proofs.NamedAgain.{SetStays, named_again}
-use Rattle.meson_sources.proofs.TargetNames.{by_bare, call_by, call_tells, first_plain, tell_call}
+use Rattle.meson_sources.proofs.TargetNames.{by_bare, call_by, call_tells, first_plain, tell_call, SameNames}
 use Rattle.meson_sources.proofs.Bares.{Values, bare_value, expand_with, values_of}
 use Rattle.meson_sources.proofs.CallForms.{CallIn, CallNode, bare_arguments, bare_form, called, stands_bare}
 use Rattle.meson_sources.proofs.DistinctSpots.{distinct_apart, every_distinct}
@@ -47,18 +47,15 @@ use Rattle.meson_sources.proofs.Losses.{EachLoses, Loses}
 use Rattle.meson_sources.proofs.LostMarks.{Left, slot_gone}
 use Rattle.meson_sources.proofs.LostArguments.{FirstStays}
 use Rattle.meson_sources.proofs.LostValues.{expand_left}
-use Rattle.meson_sources.proofs.NamesLeft.{MayGo, MayGoAt, NotFirst, SameNames, names_left}
-use Rattle.meson_sources.proofs.OneStringGone as kept
-use Rattle.meson_sources.proofs.QuietLists.{QuietAt, quiet, tells_left}
 use Rattle.meson_sources.proofs.RenamedStrings.{Node}
 use Rattle.meson_sources.proofs.SameCalls.{own_left}
-use Rattle.meson_sources.proofs.Scenes.{NodeIn}
-use Rattle.meson_sources.proofs.Shapes.{blanks, shape}
-use Rattle.meson_sources.proofs.SpotsHeld.{Held, SpotHeld, all_named, each_spot, gone_held, same_there}
+use Rattle.meson_sources.proofs.Scenes.{NodeIn, SameTells}
+use Rattle.meson_sources.proofs.SpotsHeld.{Held, SpotHeld, all_named, gone_held, same_there}
 use Rattle.meson_sources.proofs.StringsStay.{element_any}
 use Rattle.meson_sources.proofs.StringsThere.{StringIn}
 use Rattle.meson_sources.proofs.VariablesLeft.{values_left}
 use Rattle.meson_sources.proofs.OneGone.{string_child}
+use Rattle.meson_sources.proofs.TellsKept.{FirstIs, MayGo, first_stays, names_left, tells_left}
 
 -- where a place is after the elements at these spots have gone
 abbrev pub moved_place : List Spot → CallRef → CallRef
@@ -66,42 +63,11 @@ moved_place spots c = place_left (goes (distinct_spots spots)) c
 
 -- ---- the first argument without a name
 
--- whether it has this number, counted from k on
-abbrev pub FirstIs : ℕ → ℕ → Arguments Nowhere → Type 0
-FirstIs k n no_arguments = ⊥
-FirstIs k n (argument (plain e) more) = n ≡ k
-FirstIs k n (argument (named t x e) more) = FirstIs (k + 1) n more
-FirstIs k n (argument (pair t e f) more) = FirstIs (k + 1) n more
-
 pub first_of : (xs : Arguments Nowhere) (k : ℕ) → FirstOf (λ n. FirstIs k n xs) k xs
 first_of no_arguments k = tt
 first_of (argument (plain e) more) k = λ j is. omega (arith, is)
 first_of (argument (named t x e) more) k = first_of more (k + 1)
 first_of (argument (pair t e f) more) k = first_of more (k + 1)
-
-first_stays : (gone : CallRef → ℕ → Bool) (c : CallRef) (xs : Arguments Nowhere) (k : ℕ) → ((n : ℕ) → FirstIs k n xs → gone c n ≡ false) → FirstStays gone c k xs
-first_stays gone c no_arguments k stays = tt
-first_stays gone c (argument (plain e) more) k stays = stays k refl
-first_stays gone c (argument (named t x e) more) k stays = first_stays gone c more (k + 1) stays
-first_stays gone c (argument (pair t e f) more) k stays = first_stays gone c more (k + 1) stays
-
-not_first : (xs : Arguments Nowhere) (k n j : ℕ) → n ≡ k + j → (FirstIs k n xs → ⊥) → NotFirst j (blanks xs)
-not_first no_arguments k n j is other = tt
-not_first (argument (plain e) more) k n zero is other = absurd (other (omega (arith, is)))
-not_first (argument (plain e) more) k n (suc j) is other = tt
-not_first (argument (named t x e) more) k n zero is other = tt
-not_first (argument (named t x e) more) k n (suc j) is other = not_first more (k + 1) n j (omega (arith, is)) other
-not_first (argument (pair t e f) more) k n zero is other = tt
-not_first (argument (pair t e f) more) k n (suc j) is other = not_first more (k + 1) n j (omega (arith, is)) other
-
--- ---- nodes
-
-quiet_other : (y : Node) → quiet (shape y) ≡ true → string_child y ≡ None
-quiet_other (an_expression (string t q x)) is = absurd cc
-quiet_other _ is = refl
-
-as_kept : (trees : List Plain) (p : CallRef) (y : Node) → NodeIn trees p y → string_child y ≡ None → kept.NodeIn trees p y
-as_kept trees p y n other = record { tree = n.tree; is_tree = n.is_tree; is_node = n.is_node; other = other }
 
 pub literals : (values : Values) (left : ℕ) (q : StringKind) (x : List ℕ) (s : Stand) (f : List (List ℕ)) → expand_with values left (string tt q x) s f ≡ literal_item tt s f (value (string_kind q) x)
 literals values zero q x s f = refl
@@ -127,25 +93,24 @@ module _ (old : Loaded) (stand : All MayStandBetween (plain_trees old)) (c : Cal
 
   -- what holds of each list of sources: it tells nothing of variables, if it is the call's, the element is not its first one, and so of any call of a target
   abbrev pub Fine : CallRef → ℕ → Node → Type 0
-  Fine q n y = (quiet (shape y) ≡ true) × (q ≡ c → FirstIs 0 n bare_xs → ⊥) × MayGo (shape y) n
+  Fine q n y = (q ≡ c → FirstIs 0 n bare_xs → ⊥) × MayGo y n
 
   not_call : (q : CallRef) (y : Node) → NodeIn trees q y → q ≡ c → y ≡ an_expression call_node
   not_call q y h same = same_there trees c (an_expression call_node) y at_call (subst (λ p. NodeIn trees p y) same h)
 
   pub fine : (q : CallRef) (n : ℕ) (y : Node) → NodeIn trees q y → IsSources y → Fine q n y
-  fine q n y h (inl w) = (ap (λ z. quiet (shape z)) w.1, λ same first. let node = sym w.1 ∙ not_call q y h same in cc, subst (λ z. MayGo (shape z) n) (sym w.1) tt)
+  fine q n y h (inl w) = (λ same first. let node = sym w.1 ∙ not_call q y h same in cc, subst (λ z. MayGo z n) (sym w.1) tt)
   fine q n y h (inr w) = (
-    ap (λ z. quiet (shape z)) w.3 ∙ ap not (files_no_matter w.1.text w.2 w.4),
     λ same first.
         let node : an_expression (call w.0 w.1 w.2) ≡ an_expression call_node = sym w.3 ∙ not_call q y h same in
         let name : w.1.text ≡ t.name.text = cc in
         let none = target_no_files w.1.text w.2 (ap (one_of target_functions) name ∙ target) in
         let both : true ≡ false = sym w.4 ∙ none in cc,
-    subst (λ z. MayGo (shape z) n) (sym w.3) (λ yea. let none = target_no_files w.1.text w.2 yea in let both : true ≡ false = sym w.4 ∙ none in absurd cc),
+    subst (λ z. MayGo z n) (sym w.3) (files_no_matter w.1.text w.2 w.4, λ yea. let none = target_no_files w.1.text w.2 yea in let both : true ≡ false = sym w.4 ∙ none in absurd cc),
   )
 
   pub own_fine : (n : ℕ) → (FirstIs 0 n bare_xs → ⊥) → Fine c n (an_expression call_node)
-  own_fine n other = (ap not (target_no_matter t.name.text target), λ same. other, λ yea. not_first bare_xs 0 n n (omega arith) other)
+  own_fine n other = (λ same. other, (target_no_matter t.name.text target, λ yea. other))
 
   pub values_stand : (x : List ℕ) (v : Placed (Expression Nowhere)) → values_of (project old) x ≡ Some v → NodeIn trees v.place (an_expression v.it) × LevelExpression v.it
   values_stand x v is =
@@ -192,22 +157,19 @@ module _ (old : Loaded) (stand : All MayStandBetween (plain_trees old)) (c : Cal
     moved : (q : CallRef) (y : Node) → NodeIn trees q y → string_child y ≡ None → NodeIn after (place_left gone q) (any_without (gone_at gone q) y)
     moved q y h other = subst (λ ts. NodeIn ts (place_left gone q) (any_without (gone_at gone q) y)) (sym are_left) (node_moved trees stand gone lost q y h other)
 
-    silent : Every (QuietAt trees) spots
-    silent = each_spot trees Fine fine names is held found of_names (QuietAt trees) (λ t w.
-        let held = w.string_held.held in record { node = held.node; is = as_kept trees t.list held.node held.is (quiet_other held.node held.is_fine.0); quiet_is = held.is_fine.0 })
-
-    may : Every (MayGoAt trees) spots
-    may = each_spot trees Fine fine names is held found of_names (MayGoAt trees) (λ t w.
-        let held = w.string_held.held in record { node = held.node; is = as_kept trees t.list held.node held.is (quiet_other held.node held.is_fine.0); may = held.is_fine.2 })
+    may : (q : CallRef) (n : ℕ) → gone q n ≡ true → (y : Node) → NodeIn trees q y → MayGo y n
+    may q n is y h =
+        let w = (held_at q n is).string_held.held in
+        subst (λ z. MayGo z n) (sym (same_there trees q w.node y w.is h)) w.is_fine.1
 
     names_stay : (i : ℕ) → SameNames (nth trees i) (nth after i)
-    names_stay = names_left (length spots) spots refl trees after stand are may (distinct_apart found) done
+    names_stay i = subst (λ ts. SameNames (nth trees i) (nth ts i)) (sym are_left) (names_left trees stand gone lost may i)
 
     pub first : FirstStays gone c 0 bare_xs
     first = first_stays gone c bare_xs 0 (λ n is. go n is (gone c n) refl)
       where
         go : (n : ℕ) → FirstIs 0 n bare_xs → (b : Bool) → gone c n ≡ b → b ≡ false
-        go n is true has_gone = absurd ((held_at c n has_gone).string_held.held.is_fine.1 refl is)
+        go n is true has_gone = absurd ((held_at c n has_gone).string_held.held.is_fine.0 refl is)
         go n is false stays = refl
 
     pub record CallLeft : Type 0 where
@@ -228,7 +190,7 @@ module _ (old : Loaded) (stand : All MayStandBetween (plain_trees old)) (c : Cal
     pub each_left : (e now : Expression Nowhere) (u v : Stand) (g k : List (List ℕ)) → k ≡ g → slot_gone gone u.slot ≡ false → Loses gone u.place e now
         → Left gone (expand_with (values_of (project old)) max_followed e u g) (expand_with (values_of (project new)) max_followed now v k)
     each_left =
-        let tells = λ (i : ℕ). tells_left (length spots) spots refl trees after stand are silent (distinct_apart found) done (0 + i) i in
+        let tells = λ (i : ℕ). subst (λ ts. SameTells (0 + i) (nth trees i) (nth ts i)) (sym are_left) (tells_left trees stand gone lost may i) in
         expand_left gone (values_of (project old)) (values_of (project new)) (values_left old new same_names tells stand gone lost are_left) max_followed
 
     pub are_named : Every (NamedGoes gone names) is

@@ -34,8 +34,7 @@ use Rattle.meson_sources.proofs.ListTurns.{listing_form}
 use Rattle.meson_sources.proofs.NamedStays.{KeepsNames}
 use Rattle.meson_sources.proofs.RenamedStrings.{Node}
 use Rattle.meson_sources.proofs.Scenes.{NodeIn}
-use Rattle.meson_sources.proofs.Shapes.{list_becomes}
-use Rattle.meson_sources.proofs.ShapesLeft.{became_new, became_old}
+use Rattle.meson_sources.proofs.Shapes.{list_becomes, became_new, became_old}
 use Rattle.meson_sources.proofs.SourceTotals.{bare_number, keyed_bare}
 use Rattle.meson_sources.proofs.SpotsHeld.{same_there}
 

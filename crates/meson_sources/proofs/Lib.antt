@@ -1,7 +1,6 @@
 mod Renaming
 mod Standings
 mod ArgumentsGrow
-mod ChildrenLeft
 mod DistinctSpots
 mod ElementsAt
 mod ElementsThere
@@ -20,7 +19,6 @@ mod MarksThere
 mod NamedPlaces
 mod NamedSpots
 mod NewLists
-mod OneStringGone
 mod OnlyLists
 mod OneGone
 mod PartsPut
@@ -49,6 +47,8 @@ mod TreesLeft
 mod WithoutPlaces
 mod WithoutLoses
 mod NodesMoved
+mod NodeInduction
+mod TellsKept
 mod StringsStay
 mod StringsThere
 mod TargetCalls
@@ -83,17 +83,12 @@ mod Losses
 mod LostMarks
 mod LostValues
 mod LostArguments
-mod PlacesAfter
-mod ShapesLeft
-mod QuietLists
-mod RemovalsKeep
 mod ItemsThere
 mod VariablesLeft
 mod NamedGone
 mod SpotsHeld
 mod TargetNames
 mod NamesStay
-mod NamesLeft
 mod BareNodes
 mod FoundAgain
 mod NamedAgain

@@ -21,9 +21,8 @@ use Rattle.meson_sources.proofs.DistinctSpots.{AreApart}
 use Rattle.meson_sources.proofs.ElementGone.{renamed, string_gone}
 use Rattle.meson_sources.proofs.ListsBut.{any_still, apart_not_same, spot_itself}
 use Rattle.meson_sources.proofs.NothingGone.{nothing, tree_stays}
-use Rattle.meson_sources.proofs.OneStringGone.{all_clear}
 use Rattle.meson_sources.proofs.PathsAfter as paths
-use Rattle.meson_sources.proofs.RemovedSpots.{all_apart, all_between, between, between_stand, level}
+use Rattle.meson_sources.proofs.RemovedSpots.{all_apart, all_between, between, between_stand, level, all_clear}
 use Rattle.meson_sources.proofs.RemovedSpots as removing
 use Rattle.meson_sources.proofs.Renaming.{number_after}
 use Rattle.meson_sources.proofs.SpotsApart.{Clear}

@@ -17,7 +17,6 @@ use Rattle.meson_steps.specs.ResultLimits.{plain_trees}
 use Rattle.meson_sources.specs.Without.{Gone, each_without, expression_without, from_child}
 use Rattle.meson_sources.proofs.NodesMoved.{fits_none, node_moved, place_left}
 use Rattle.meson_sources.proofs.OneGone.{string_child}
-use Rattle.meson_sources.proofs.ShapesLeft.{same_expression}
 use Rattle.meson_sources.proofs.SpotsHeld.{same_there}
 use Rattle.meson_sources.proofs.WithoutLoses.{Lost, at_child, gone_at, loses}
 use Rattle.meson_sources.proofs.WithoutPlaces.{any_without, before_all, nth_left, path_left}
@@ -74,6 +73,9 @@ in_block (block t list) m y is =
     let o = and-then-some (λ z. node_at z []) (nth (statements_parts list) m) y is in
     let n = nth_statement list m o.0 o.1 in
     (n.0, sym (some-injective _ _ o.2) ∙ n.1)
+
+same_expression : (e d : Expression Nowhere) → an_expression d ≡ an_expression e → d ≡ e
+same_expression e d is = cc
 
 -- ---- a value in two trees
 

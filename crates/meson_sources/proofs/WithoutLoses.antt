@@ -7,7 +7,7 @@ use Rattle.meson_syntax.specs.Grammar.{LevelArguments, LevelExpression, LevelLis
 use Rattle.meson_syntax.specs.Operators.{holds_pairs}
 use Rattle.meson_syntax.specs.Parts.{an_expression, arguments_parts, child_nodes, listing_parts, node_at, operands_parts}
 use Rattle.meson_syntax.specs.Paths.{nth}
-use Rattle.meson_syntax.specs.Tree.{Nowhere, Plain, Expression, identifier, string, array, call, row, Operands, no_operands, operand, Listing, listing, Argument, plain, named, pair, Arguments, no_arguments, argument, argument_list, arguments_of}
+use Rattle.meson_syntax.specs.Tree.{Nowhere, Plain, Expression, identifier, string, array, call, row, Operands, no_operands, operand, Listing, listing, Argument, plain, named, pair, Arguments, no_arguments, argument, argument_list, arguments_of, Name}
 use Rattle.meson_syntax.proofs.parsing.Steps.{some-injective}
 use Rattle.meson_edit.specs.Edits.{elements, is_empty}
 use Rattle.meson_calls.specs.declared.call.CallRef.{CallRef}
@@ -130,3 +130,10 @@ module _ (trees : List Plain) (gone : CallRef → ℕ → Bool) (lost : (c : Cal
       as_child e c n (loses e (child c n) level.2 (first_in c y (an_expression e) n (operands_parts more) h parts)),
       subst (λ m. OperandsLose gone c m more (operands_without (at c) (suc n) more)) (sym (next n)) (operands_lose more c (suc n) y k level.3 h (one_on y (an_expression e) n (operands_parts more) parts)),
     )
+
+  pub call_lost : (s : Nowhere) (f : Name Nowhere) (r : Nowhere) (z : Bool) (list : Arguments Nowhere) (c : CallRef) → LevelListing (listing r z list) bracket.Round → NodeIn trees c (an_expression (call s f (listing r z list)))
+      → EachLoses gone c 0 list (arguments_of (but (at c []) (arguments_without (at c) 0 list)))
+  call_lost s f r z list c level h =
+      let y = an_expression (call s f (listing r z list)) in
+      each_loses list bracket.Round refl c y 0 (at c []) (λ j. let same : 0 + j ≡ j = omega arith in at_itself gone c j ∙ ap (gone c) (sym same)) false level.1 h (whole y)
+      (λ j. let same : 0 + j ≡ j = omega arith in ap (element_any y) same)

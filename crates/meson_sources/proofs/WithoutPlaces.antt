@@ -51,7 +51,7 @@ before_all gone none (suc n) = ap (λ b. if b then left_before (λ k. gone (suc 
 -- ---- the children of a node
 
 module _ (g : Gone) where
-  abbrev each_child : ℕ → List Node → List Node
+  abbrev pub each_child : ℕ → List Node → List Node
   each_child n [] = []
   each_child n (x ∷ xs) = any_without (from_child n g) x ∷ each_child (suc n) xs
 
@@ -137,7 +137,7 @@ module _ (g : Gone) where
   no_list x is (inl none) ys same = same ∙ sym (but_none (g []) none (each_child 0 (child_nodes x)))
   no_list x is (inr w) ys same = let none : None ≡ Some w.0 = sym is ∙ w.1 in absurd cc
 
-  children_left : (x : Node) → Fits x → ChildrenLeft x
+  pub children_left : (x : Node) → Fits x → ChildrenLeft x
   children_left (an_expression (identifier s x)) fits = refl
   children_left (an_expression (boolean s b)) fits = refl
   children_left (an_expression (integer s x)) fits = refl
