@@ -74,16 +74,14 @@ one_part_there t level list n it here is_string =
     one_part q.list q.bracket (values_no_pairs q.bracket (string_holds q.list q.bracket n it is_string here.is_element (fits.level level))) (fits.level level)
 
 -- how a string goes from its list
-pub record Goes (t now : Plain) (list : List ℕ) (gone : ℕ) : Type 0 where
-  pub old : Any Nowhere
-  pub new : Any Nowhere
-  pub xs : List (Argument Nowhere)
-  pub loses : LosesString old new xs gone
-  pub listing : Listing Nowhere
-  pub is_listing : list_any new ≡ Some listing
-  pub put : PutAt Nowhere old new list (root t) (root now)
+record Goes (t now : Plain) (list : List ℕ) (gone : ℕ) : Type 0 where
+  old : Any Nowhere
+  new : Any Nowhere
+  xs : List (Argument Nowhere)
+  loses : LosesString old new xs gone
+  put : PutAt Nowhere old new list (root t) (root now)
 
-pub goes : (t now : Plain) → LevelFile t → (list : List ℕ) (gone : ℕ) (it : Argument Nowhere) → IsElementAt t list gone it → IsStringElement it → edited (Remove list gone) t ≡ Some now → Goes t now list gone
+goes : (t now : Plain) → LevelFile t → (list : List ℕ) (gone : ℕ) (it : Argument Nowhere) → IsElementAt t list gone it → IsStringElement it → edited (Remove list gone) t ≡ Some now → Goes t now list gone
 goes t now level list gone it here is_string is =
     let c = changed (Remove list gone) list t now is in
     let q = c.place in
@@ -99,8 +97,6 @@ goes t now level list gone it here is_string is =
       new = p.new_node;
       xs = xs;
       loses = loses p.old_node p.new_node q.list gone p.old_list new_list it here_too is_string (one_part q.list q.bracket (values_no_pairs q.bracket (string_holds q.list q.bracket gone it is_string here_too (fits.level level))) (fits.level level));
-      listing = with_elements q.list (without gone xs);
-      is_listing = new_list;
       put = subst (λ u. PutAt Nowhere p.old_node p.new_node list (root t) (root u)) c.is_now p.put;
     }
 

@@ -87,13 +87,6 @@ module _ (trees : List Plain) (Fine : CallRef → ℕ → Node → Type 0) (fine
     all_only : Every Only spots
     all_only = every_distinct Only found of_names.only
 
-    pub each_spot : (P : Spot → Type 0) → ((s : Spot) → SpotHeld s.list s.number → P s) → Every P spots
-    each_spot P make = over spots all_only
-      where
-        over : (ts : List Spot) → Every Only ts → Every P ts
-        over [] all = tt
-        over (t ∷ ts) all = (make t (spot_held t all.0), over ts all.1)
-
     pub gone_held : (c : CallRef) (n : ℕ) → goes spots c n ≡ true → SpotHeld c n
     gone_held c n gone =
         let o = some_of (λ s. same_spot s (spot_at c n)) Only spots all_only gone in
