@@ -19,7 +19,7 @@ use Rattle.meson_steps.specs.ResultLimits.{plain_trees}
 use Rattle.meson_steps.specs.Steps.{Step, all_stepped}
 use Rattle.meson_steps.proofs.PlainTrees.{trees_stand}
 use Rattle.meson_steps.proofs.WentWell.{once_was, then_was}
-use Rattle.meson_sources.specs.Effects.{AreSpotsOf, ArgumentHolds, ExtraComes, has_one_of, is_at}
+use Rattle.meson_sources.specs.Effects.{AreSpotsOf, ArgumentHolds, ExtraComes, goes, has_one_of, is_at}
 use Rattle.meson_sources.specs.Extras.{extra_files}
 use Rattle.meson_sources.specs.SourceEdits.{behind_value, checked_extra, extra_added, extra_inserted, extra_key, extra_marks, new_names, without_home}
 use Rattle.meson_sources.specs.WholeExtras.{AllExtrasGrow}
@@ -38,6 +38,7 @@ use Rattle.meson_sources.proofs.KeyCounts.{few_once}
 use Rattle.meson_sources.proofs.ListTurns.{list_turns}
 use Rattle.meson_sources.proofs.NamedStays.{KeepsNames, files_grow, same_trees_named}
 use Rattle.meson_sources.proofs.NeverMet.{extras_elsewhere}
+use Rattle.meson_sources.proofs.NodesMoved.{unmoved}
 use Rattle.meson_sources.proofs.ShrunkFiles.{extras_hold, extras_lost, stay}
 use Rattle.meson_sources.proofs.SourcesAddable.{new_texts}
 use Rattle.meson_sources.proofs.TargetMarks.{extras_stand}
@@ -77,7 +78,7 @@ module _ (old new : Loaded) (is : IsProject old) (same_names : file_names new �
         before = s.before;
         were = s.were;
         after = s.after;
-        are = s.are;
+        are = subst (λ d. extra_files (project new) d ≡ Some (Ok s.after)) (unmoved (goes []) (λ d n. refl) c) s.are;
         come = record { front = source_texts s.before; back = []; had = sym (append-nil (source_texts s.before)); has = s.left ∙ keeps_all (source_texts s.before) ∙ sym (append-nil (source_texts s.before)) };
         unknown = s.unknown_is;
       }

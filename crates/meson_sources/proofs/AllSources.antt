@@ -42,8 +42,7 @@ use Rattle.meson_sources.proofs.NamesStay.{calls_alike, first_grown, grown_tells
 use Rattle.meson_sources.proofs.PlacesBelow.{below_steps, under}
 use Rattle.meson_sources.proofs.SceneKins.{kin_c}
 use Rattle.meson_sources.proofs.Scenes.{NodeIn, same_places}
-use Rattle.meson_sources.proofs.Shapes.{Becomes}
-use Rattle.meson_sources.proofs.ShapesLeft.{became_new, became_old}
+use Rattle.meson_sources.proofs.Shapes.{Becomes, became_new, became_old}
 use Rattle.meson_sources.proofs.SourcesAddable.{new_texts, sources_home}
 use Rattle.meson_sources.proofs.SourcesAdded.{sources-are-added}
 use Rattle.meson_sources.proofs.SpotsHeld.{same_there}

@@ -32,8 +32,7 @@ use Rattle.meson_sources.proofs.PathTrees.{files_alike}
 use Rattle.meson_sources.proofs.PlacesBelow.{Far, IsIt, far_deeper, far_apart, aside_far, above_it, under, without_last}
 use Rattle.meson_sources.proofs.SceneKins.{kin_v, kin_c}
 use Rattle.meson_sources.proofs.Scenes.{NodeIn, names_of, node_above, next_in, node_away}
-use Rattle.meson_sources.proofs.Shapes.{a_call, shape, Becomes, blanks}
-use Rattle.meson_sources.proofs.ShapesLeft.{became_new, became_old}
+use Rattle.meson_sources.proofs.Shapes.{a_call, shape, Becomes, blanks, became_new, became_old}
 use Rattle.meson_sources.proofs.WaysThere.{always, arguments_above, far_call}
 
 -- ---- the call, by its shape

@@ -1,6 +1,6 @@
 -- The call of a target after strings have gone from its lists of sources or of extra files.
-use Rattle.std.specs.Prelude.{All, not, Ok}
-use Rattle.std.proofs.Common.{◌≡◌, ℕ, zero, suc, ◌+◌, Bool, true, false, List, length, Some, None, refl, sym, ap, ◌∙◌, subst, arith, inl, inr}
+use Rattle.std.specs.Prelude.{All, Ok}
+use Rattle.std.proofs.Common.{◌≡◌, ℕ, zero, suc, ◌+◌, Bool, true, false, List, Some, None, refl, sym, ap, ◌∙◌, subst, arith, inl, inr}
 use Rattle.meson_lex.specs.Literals.{value}
 use Rattle.meson_lex.specs.declared.kinds.Span.{Span}
 use Rattle.meson_syntax.specs.declared.operator.Assignment.TheVariants as assignment
@@ -25,14 +25,17 @@ use Rattle.meson_steps.specs.ListSteps.{MayStandBetween}
 use Rattle.meson_steps.specs.Names.{distinct}
 use Rattle.meson_steps.specs.ResultLimits.{plain_trees}
 use Rattle.meson_steps.specs.Steps.{all_stepped}
-use Rattle.meson_sources.specs.Effects.{AreSpotsOf, goes, place_after, string_child}
+use Rattle.meson_sources.specs.Effects.{AreSpotsOf, goes, trees_without}
+use Rattle.meson_sources.specs.Without.{expression_without, from_child}
+use Rattle.meson_sources.proofs.NodesMoved.{first_place, node_moved, place_left}
+use Rattle.meson_sources.proofs.TreesLeft.{trees_left}
+use Rattle.meson_sources.proofs.WithoutLoses.{Lost, gone_at, loses}
+use Rattle.meson_sources.proofs.WithoutPlaces.{any_without}
 use Rattle.meson_sources.specs.SourceEdits.{Spot, distinct_spots, removal_steps}
 use Rattle.meson_sources.specs.WholeSources.{file_names}
-use Rattle.meson_sources.proofs.Arrivals.{call_shape}
 use Rattle.meson_sources.proofs.FoundAgain.{Names}
-use Rattle.meson_sources.proofs.NamedAgain.{SetStays, assigned_shape, named_again}
-use Rattle.meson_sources.proofs.PlacesAfter.{child_after, first_after}
-use Rattle.meson_sources.proofs.TargetNames.{by_bare, call_by, call_tells, first_plain, tell_call}
+use Rattle.meson_sources.proofs.NamedAgain.{SetStays, named_again}
+use Rattle.meson_sources.proofs.TargetNames.{by_bare, call_by, call_tells, first_plain, tell_call, SameNames}
 use Rattle.meson_sources.proofs.Bares.{Values, bare_value, expand_with, values_of}
 use Rattle.meson_sources.proofs.CallForms.{CallIn, CallNode, bare_arguments, bare_form, called, stands_bare}
 use Rattle.meson_sources.proofs.DistinctSpots.{distinct_apart, every_distinct}
@@ -42,68 +45,29 @@ use Rattle.meson_sources.proofs.Kins.{node_level, value_in}
 use Rattle.meson_sources.proofs.LeftFiles.{NamedGoes}
 use Rattle.meson_sources.proofs.Losses.{EachLoses, Loses}
 use Rattle.meson_sources.proofs.LostMarks.{Left, slot_gone}
-use Rattle.meson_sources.proofs.ElementsLeft.{Lost}
-use Rattle.meson_sources.proofs.LossesBuilt.{loses}
 use Rattle.meson_sources.proofs.LostArguments.{FirstStays}
 use Rattle.meson_sources.proofs.LostValues.{expand_left}
-use Rattle.meson_sources.proofs.NamesLeft.{MayGo, MayGoAt, NotFirst, SameNames, names_left}
-use Rattle.meson_sources.proofs.NodesLeft.{NodeLeft, node_left}
-use Rattle.meson_sources.proofs.OneStringGone as kept
-use Rattle.meson_sources.proofs.QuietLists.{QuietAt, quiet, tells_left}
 use Rattle.meson_sources.proofs.RenamedStrings.{Node}
 use Rattle.meson_sources.proofs.SameCalls.{own_left}
-use Rattle.meson_sources.proofs.Scenes.{NodeIn}
-use Rattle.meson_sources.proofs.Shapes.{blanks, shape}
-use Rattle.meson_sources.proofs.SpotsHeld.{Held, SpotHeld, all_named, each_spot, gone_held, same_there}
+use Rattle.meson_sources.proofs.Scenes.{NodeIn, SameTells}
+use Rattle.meson_sources.proofs.SpotsHeld.{Held, SpotHeld, all_named, gone_held, same_there}
 use Rattle.meson_sources.proofs.StringsStay.{element_any}
 use Rattle.meson_sources.proofs.StringsThere.{StringIn}
 use Rattle.meson_sources.proofs.VariablesLeft.{values_left}
+use Rattle.meson_sources.proofs.OneGone.{string_child}
+use Rattle.meson_sources.proofs.TellsKept.{FirstIs, MayGo, first_stays, names_left, tells_left}
 
 -- where a place is after the elements at these spots have gone
 abbrev pub moved_place : List Spot → CallRef → CallRef
-moved_place spots c = place_after (length (distinct_spots spots)) (distinct_spots spots) c
+moved_place spots c = place_left (goes (distinct_spots spots)) c
 
 -- ---- the first argument without a name
-
--- whether it has this number, counted from k on
-abbrev pub FirstIs : ℕ → ℕ → Arguments Nowhere → Type 0
-FirstIs k n no_arguments = ⊥
-FirstIs k n (argument (plain e) more) = n ≡ k
-FirstIs k n (argument (named t x e) more) = FirstIs (k + 1) n more
-FirstIs k n (argument (pair t e f) more) = FirstIs (k + 1) n more
 
 pub first_of : (xs : Arguments Nowhere) (k : ℕ) → FirstOf (λ n. FirstIs k n xs) k xs
 first_of no_arguments k = tt
 first_of (argument (plain e) more) k = λ j is. omega (arith, is)
 first_of (argument (named t x e) more) k = first_of more (k + 1)
 first_of (argument (pair t e f) more) k = first_of more (k + 1)
-
-first_stays : (gone : CallRef → ℕ → Bool) (c : CallRef) (xs : Arguments Nowhere) (k : ℕ) → ((n : ℕ) → FirstIs k n xs → gone c n ≡ false) → FirstStays gone c k xs
-first_stays gone c no_arguments k stays = tt
-first_stays gone c (argument (plain e) more) k stays = stays k refl
-first_stays gone c (argument (named t x e) more) k stays = first_stays gone c more (k + 1) stays
-first_stays gone c (argument (pair t e f) more) k stays = first_stays gone c more (k + 1) stays
-
-not_first : (xs : Arguments Nowhere) (k n j : ℕ) → n ≡ k + j → (FirstIs k n xs → ⊥) → NotFirst j (blanks xs)
-not_first no_arguments k n j is other = tt
-not_first (argument (plain e) more) k n zero is other = absurd (other (omega (arith, is)))
-not_first (argument (plain e) more) k n (suc j) is other = tt
-not_first (argument (named t x e) more) k n zero is other = tt
-not_first (argument (named t x e) more) k n (suc j) is other = not_first more (k + 1) n j (omega (arith, is)) other
-not_first (argument (pair t e f) more) k n zero is other = tt
-not_first (argument (pair t e f) more) k n (suc j) is other = not_first more (k + 1) n j (omega (arith, is)) other
-
--- ---- nodes
-
-quiet_other : (y : Node) → quiet (shape y) ≡ true → string_child y ≡ None
-quiet_other (an_expression (string t q x)) is = absurd cc
-quiet_other _ is = refl
-
-as_kept : (trees : List Plain) (p : CallRef) (y : Node) → NodeIn trees p y → string_child y ≡ None → kept.NodeIn trees p y
-as_kept trees p y n other = record { tree = n.tree; is_tree = n.is_tree; is_node = n.is_node; other = other }
-
-as_there : (trees : List Plain) (p : CallRef) (y : Node) → kept.NodeIn trees p y → NodeIn trees p y
-as_there trees p y n = record { tree = n.tree; is_tree = n.is_tree; is_node = n.is_node }
 
 pub literals : (values : Values) (left : ℕ) (q : StringKind) (x : List ℕ) (s : Stand) (f : List (List ℕ)) → expand_with values left (string tt q x) s f ≡ literal_item tt s f (value (string_kind q) x)
 literals values zero q x s f = refl
@@ -129,25 +93,24 @@ module _ (old : Loaded) (stand : All MayStandBetween (plain_trees old)) (c : Cal
 
   -- what holds of each list of sources: it tells nothing of variables, if it is the call's, the element is not its first one, and so of any call of a target
   abbrev pub Fine : CallRef → ℕ → Node → Type 0
-  Fine q n y = (quiet (shape y) ≡ true) × (q ≡ c → FirstIs 0 n bare_xs → ⊥) × MayGo (shape y) n
+  Fine q n y = (q ≡ c → FirstIs 0 n bare_xs → ⊥) × MayGo y n
 
   not_call : (q : CallRef) (y : Node) → NodeIn trees q y → q ≡ c → y ≡ an_expression call_node
   not_call q y h same = same_there trees c (an_expression call_node) y at_call (subst (λ p. NodeIn trees p y) same h)
 
   pub fine : (q : CallRef) (n : ℕ) (y : Node) → NodeIn trees q y → IsSources y → Fine q n y
-  fine q n y h (inl w) = (ap (λ z. quiet (shape z)) w.1, λ same first. let node = sym w.1 ∙ not_call q y h same in cc, subst (λ z. MayGo (shape z) n) (sym w.1) tt)
+  fine q n y h (inl w) = (λ same first. let node = sym w.1 ∙ not_call q y h same in cc, subst (λ z. MayGo z n) (sym w.1) tt)
   fine q n y h (inr w) = (
-    ap (λ z. quiet (shape z)) w.3 ∙ ap not (files_no_matter w.1.text w.2 w.4),
     λ same first.
         let node : an_expression (call w.0 w.1 w.2) ≡ an_expression call_node = sym w.3 ∙ not_call q y h same in
         let name : w.1.text ≡ t.name.text = cc in
         let none = target_no_files w.1.text w.2 (ap (one_of target_functions) name ∙ target) in
         let both : true ≡ false = sym w.4 ∙ none in cc,
-    subst (λ z. MayGo (shape z) n) (sym w.3) (λ yea. let none = target_no_files w.1.text w.2 yea in let both : true ≡ false = sym w.4 ∙ none in absurd cc),
+    subst (λ z. MayGo z n) (sym w.3) (files_no_matter w.1.text w.2 w.4, λ yea. let none = target_no_files w.1.text w.2 yea in let both : true ≡ false = sym w.4 ∙ none in absurd cc),
   )
 
   pub own_fine : (n : ℕ) → (FirstIs 0 n bare_xs → ⊥) → Fine c n (an_expression call_node)
-  own_fine n other = (ap not (target_no_matter t.name.text target), λ same. other, λ yea. not_first bare_xs 0 n n (omega arith) other)
+  own_fine n other = (λ same. other, (target_no_matter t.name.text target, λ yea. other))
 
   pub values_stand : (x : List ℕ) (v : Placed (Expression Nowhere)) → values_of (project old) x ≡ Some v → NodeIn trees v.place (an_expression v.it) × LevelExpression v.it
   values_stand x v is =
@@ -178,82 +141,76 @@ module _ (old : Loaded) (stand : All MayStandBetween (plain_trees old)) (c : Cal
     are : Every (StringIn trees) spots
     are = every_distinct (StringIn trees) found are_found
 
-    left : (q : CallRef) (y : Node) → kept.NodeIn trees q y → NodeLeft (length spots) spots q y after
-    left = node_left (length spots) spots refl trees after stand are (distinct_apart found) done
+    are_left : after ≡ trees_without spots trees
+    are_left = trees_left spots trees after stand are (distinct_apart found) done
 
     held_at : (q : CallRef) (n : ℕ) → gone q n ≡ true → SpotHeld trees Fine fine names is held found of_names q n
     held_at = gone_held trees Fine fine names is held found of_names
 
-    valued : (q : CallRef) (n : ℕ) → gone q n ≡ true → (y : Node) → kept.NodeIn trees q y → Lost spots trees after (element_any y) n
-    valued q n is y h =
+    lost : (q : CallRef) (n : ℕ) → gone q n ≡ true → (y : Node) → NodeIn trees q y → Lost y n
+    lost q n is y h =
         let w = (held_at q n is).string_held in
-        let same = same_there trees q w.held.node y w.held.is (as_there trees q y h) in
+        let same = same_there trees q w.held.node y w.held.is h in
         (plain (string tt w.kind w.word), ap (λ z. element_any z n) same ∙ w.held.element_is, record { kind = w.kind; word = w.word; text = (held_at q n is).text; is_string = refl; is_value = w.is_value })
 
-    silent : Every (QuietAt trees) spots
-    silent = each_spot trees Fine fine names is held found of_names (QuietAt trees) (λ t w.
-        let held = w.string_held.held in record { node = held.node; is = as_kept trees t.list held.node held.is (quiet_other held.node held.is_fine.0); quiet_is = held.is_fine.0 })
+    -- where what stood at a place stands now
+    moved : (q : CallRef) (y : Node) → NodeIn trees q y → string_child y ≡ None → NodeIn after (place_left gone q) (any_without (gone_at gone q) y)
+    moved q y h other = subst (λ ts. NodeIn ts (place_left gone q) (any_without (gone_at gone q) y)) (sym are_left) (node_moved trees stand gone lost q y h other)
 
-    may : Every (MayGoAt trees) spots
-    may = each_spot trees Fine fine names is held found of_names (MayGoAt trees) (λ t w.
-        let held = w.string_held.held in record { node = held.node; is = as_kept trees t.list held.node held.is (quiet_other held.node held.is_fine.0); may = held.is_fine.2 })
+    may : (q : CallRef) (n : ℕ) → gone q n ≡ true → (y : Node) → NodeIn trees q y → MayGo y n
+    may q n is y h =
+        let w = (held_at q n is).string_held.held in
+        subst (λ z. MayGo z n) (sym (same_there trees q w.node y w.is h)) w.is_fine.1
 
     names_stay : (i : ℕ) → SameNames (nth trees i) (nth after i)
-    names_stay = names_left (length spots) spots refl trees after stand are may (distinct_apart found) done
+    names_stay i = subst (λ ts. SameNames (nth trees i) (nth ts i)) (sym are_left) (names_left trees stand gone lost may i)
 
     pub first : FirstStays gone c 0 bare_xs
     first = first_stays gone c bare_xs 0 (λ n is. go n is (gone c n) refl)
       where
         go : (n : ℕ) → FirstIs 0 n bare_xs → (b : Bool) → gone c n ≡ b → b ≡ false
-        go n is true has_gone = absurd ((held_at c n has_gone).string_held.held.is_fine.1 refl is)
+        go n is true has_gone = absurd ((held_at c n has_gone).string_held.held.is_fine.0 refl is)
         go n is false stays = refl
 
     pub record CallLeft : Type 0 where
       pub ys : Arguments Nowhere
-      pub node : CallNode after (place_after (length spots) spots c) ys
+      pub node : CallNode after (place_left gone c) ys
       pub same_name : node.name.text ≡ t.name.text
       pub each : EachLoses gone c 0 bare_xs ys
 
     pub call_left : CallLeft
     call_left =
-        let h = as_kept trees c (an_expression call_node) at_call refl in
-        let l = left c (an_expression call_node) h in
-        let w = call_shape l.node _ _ l.shapes in
-        let k = subst (kept.NodeIn after (place_after (length spots) spots c)) w.is l.is in
-        let o = loses spots trees after left valued are call_node c call_level h (call w.r w.name (listing w.z w.trailing w.list)) k in
+        let o = loses trees gone lost call_node c call_level at_call in
         let m = o.4 in
-        let at : NodeIn after (place_after (length spots) spots c) (an_expression (call tt o.0 (listing tt m.0 m.1))) =
-        subst (λ e. NodeIn after (place_after (length spots) spots c) (an_expression e)) (o.2 ∙ ap (call tt o.0) m.2) (as_there after (place_after (length spots) spots c) _ k) in
+        let at : NodeIn after (place_left gone c) (an_expression (call tt o.0 (listing tt m.0 m.1))) =
+        subst (λ e. NodeIn after (place_left gone c) (an_expression e)) (o.2 ∙ ap (call tt o.0) m.2) (moved c (an_expression call_node) at_call refl) in
         record { ys = m.1; node = record { name = o.0; trailing = m.0; node = at }; same_name = o.3; each = m.3 }
 
     -- what is met in each expression then
     pub each_left : (e now : Expression Nowhere) (u v : Stand) (g k : List (List ℕ)) → k ≡ g → slot_gone gone u.slot ≡ false → Loses gone u.place e now
         → Left gone (expand_with (values_of (project old)) max_followed e u g) (expand_with (values_of (project new)) max_followed now v k)
     each_left =
-        let tells = λ (i : ℕ). tells_left (length spots) spots refl trees after stand are silent (distinct_apart found) done (0 + i) i in
-        expand_left gone (values_of (project old)) (values_of (project new)) (values_left old new same_names tells stand spots left valued are) max_followed
+        let tells = λ (i : ℕ). subst (λ ts. SameTells (0 + i) (nth trees i) (nth ts i)) (sym are_left) (tells_left trees stand gone lost may i) in
+        expand_left gone (values_of (project old)) (values_of (project new)) (values_left old new same_names tells stand gone lost are_left) max_followed
 
     pub are_named : Every (NamedGoes gone names) is
     are_named = all_named trees Fine fine names is held found of_names
 
     -- an assignment stays where it has moved to
-    set_left : (q : CallRef) (x : Name Nowhere) (v : Expression Nowhere) → c ≡ child q 0 → NodeIn trees q (a_statement (assign tt x assignment.Set v)) → SetStays after (place_after (length spots) spots c) x.text
+    set_left : (q : CallRef) (x : Name Nowhere) (v : Expression Nowhere) → c ≡ child q 0 → NodeIn trees q (a_statement (assign tt x assignment.Set v)) → SetStays after (place_left gone c) x.text
     set_left q x v is_place n =
-        let l = left q _ (as_kept trees q (a_statement (assign tt x assignment.Set v)) n refl) in
-        let a = assigned_shape l.node x.text assignment.Set l.shapes in
         record {
-          at = place_after (length spots) spots q;
-          is_place =
-              ap (place_after (length spots) spots) is_place ∙ child_after (length spots) spots q 0 ∙ ap (child (place_after (length spots) spots q)) (first_after (length spots) spots q);
-          r = a.r;
-          name = a.name;
-          value = a.value;
-          node = subst (NodeIn after (place_after (length spots) spots q)) a.is (as_there after (place_after (length spots) spots q) l.node l.is);
-          same = a.same;
+          at = place_left gone q;
+          is_place = ap (place_left gone) is_place ∙ first_place gone q;
+          r = tt;
+          name = x;
+          value = expression_without (from_child 0 (gone_at gone q)) v;
+          node = moved q (a_statement (assign tt x assignment.Set v)) n refl;
+          same = refl;
         }
 
     -- the id of the call names it still, and it alone
-    pub named_left : (id : List ℕ) → the_call (project old) role.Target id ≡ Ok (called t) → Names (project new) id (place_after (length spots) spots c) (called t).it
+    pub named_left : (id : List ℕ) → the_call (project old) role.Target id ≡ Ok (called t) → Names (project new) id (place_left gone c) (called t).it
     named_left id found_call =
         let k = call_left in
         let name = k.node.name in
@@ -261,4 +218,4 @@ module _ (old : Loaded) (stand : All MayStandBetween (plain_trees old)) (c : Cal
         let owns : tell_call (call_of node) ≡ tell_call (Some (called t).it) =
         call_tells name.text tt k.node.trailing k.ys ∙ ap (λ f. call_by f (first_plain k.ys)) k.same_name ∙ own_left gone c 0 t.name.text bare_xs k.ys first k.each ∙ by_bare t.name.text t.arguments
         ∙ sym (call_tells t.name.text t.brackets t.trailing t.arguments) in
-        named_again old new names_stay id (called t) found_call (place_after (length spots) spots c) node k.node.node owns set_left
+        named_again old new names_stay id (called t) found_call (place_left gone c) node k.node.node owns set_left

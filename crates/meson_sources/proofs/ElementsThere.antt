@@ -44,3 +44,19 @@ pub at_stands : (t : Plain) (path : List ℕ) (n : ℕ) (it : Argument Nowhere) 
 at_stands t path n it is =
     let o = and-then-some (λ (p : ListAt Nowhere). nth (elements p.list) n) (list_at t path) it (elements_there t path n ∙ is) in
     record { place = o.0; is_place = o.1; is_element = o.2 }
+
+-- ---- all elements of a list
+
+abbrev pub elements_any : Any Nowhere → Option (List (Argument Nowhere))
+elements_any y = option_map elements (list_any y)
+
+mapped : {A B C : Type 0} (f : A → B) (h : B → C) (o : Option A) → option_map (λ x. h (f x)) o ≡ option_map h (option_map f o)
+mapped f h None = refl
+mapped f h (Some x) = refl
+
+chained : {A B C : Type 0} (f : A → Option B) (h : B → C) (o : Option A) → option_map h (option_and_then f o) ≡ option_and_then (λ x. option_map h (f x)) o
+chained f h None = refl
+chained f h (Some x) = refl
+
+pub elements_at : (t : Plain) (path : List ℕ) → option_map (λ (l : ListAt Nowhere). elements l.list) (list_at t path) ≡ option_and_then elements_any (node_at (root t) path)
+elements_at t path = mapped (λ (l : ListAt Nowhere). l.list) elements (list_at t path) ∙ ap (option_map elements) (lists_there t path) ∙ chained list_any elements (node_at (root t) path)

@@ -23,7 +23,7 @@ use Rattle.meson_sources.proofs.ArrayFiles.{keyed_value, lone_array, lone_litera
 use Rattle.meson_sources.proofs.Bares.{expand_with, values_of}
 use Rattle.meson_sources.proofs.CallForms.{CallIn, CallNode, bare_arguments, bare_form, stands_bare, called}
 use Rattle.meson_sources.proofs.CallTrees.{keyed, list_with}
-use Rattle.meson_sources.proofs.ElementsThere.{root}
+use Rattle.meson_sources.proofs.ElementsThere.{elements_any, elements_at, root}
 use Rattle.meson_sources.proofs.ExtraCalls.{as_whole}
 use Rattle.meson_sources.proofs.FileKinds.{met_in, of_extras}
 use Rattle.meson_sources.proofs.Gists.{all_known, gist}
@@ -32,14 +32,11 @@ use Rattle.meson_sources.proofs.KeyCounts.{key_count, key_length}
 use Rattle.meson_sources.proofs.ExtraNames.{argument_first, argument_tells, arguments_named, grown_argument_first, grown_argument_tells}
 use Rattle.meson_sources.proofs.ListTurns.{listing_form}
 use Rattle.meson_sources.proofs.NamedStays.{KeepsNames}
-use Rattle.meson_sources.proofs.OneStringGone.{elements_any}
 use Rattle.meson_sources.proofs.RenamedStrings.{Node}
 use Rattle.meson_sources.proofs.Scenes.{NodeIn}
-use Rattle.meson_sources.proofs.Shapes.{list_becomes}
-use Rattle.meson_sources.proofs.ShapesLeft.{became_new, became_old}
+use Rattle.meson_sources.proofs.Shapes.{list_becomes, became_new, became_old}
 use Rattle.meson_sources.proofs.SourceTotals.{bare_number, keyed_bare}
 use Rattle.meson_sources.proofs.SpotsHeld.{same_there}
-use Rattle.meson_sources.proofs.StringsGone.{elements_at}
 
 -- the elements of the list at a place are those of its node
 elements_in : (ts : List Plain) (c : CallRef) (y : Node) (zs : List (Argument Nowhere)) → NodeIn ts c y → elements_found c ts ≡ Some zs → elements_any y ≡ Some zs

@@ -30,8 +30,7 @@ use Rattle.meson_sources.proofs.NamesStay.{Alike, calls_alike, grown_tells}
 use Rattle.meson_sources.proofs.NeverMet.{never_met}
 use Rattle.meson_sources.proofs.PathTrees.{operand_alike}
 use Rattle.meson_sources.proofs.Scenes.{NodeIn, same_places}
-use Rattle.meson_sources.proofs.Shapes.{Becomes}
-use Rattle.meson_sources.proofs.ShapesLeft.{became_old}
+use Rattle.meson_sources.proofs.Shapes.{Becomes, became_old}
 use Rattle.meson_sources.proofs.TellsStay.{array_told, call_told, told_along}
 use Rattle.meson_sources.proofs.WaysThere.{opaque_call}
 

@@ -5,7 +5,7 @@ use Rattle.std.proofs.Common.{◌≡◌, ℕ, zero, suc, ◌-◌, ◌<◌, ◌�
 use Rattle.std.proofs.lemmas.Bool.{eqb-true, eq-eqb, ltb-true, ltb-false}
 use Rattle.meson_syntax.proofs.paths.Every.{Every}
 use Rattle.meson_calls.specs.Project.{place}
-use Rattle.meson_sources.specs.Effects.{but}
+use Rattle.meson_sources.specs.Without.{but}
 use Rattle.meson_sources.specs.SourceEdits.{Spot, is_path, moved_up, same_spot, spot_after, spots_after}
 use Rattle.meson_sources.proofs.DistinctSpots.{apart_of}
 use Rattle.meson_sources.proofs.OneGone.{without}

@@ -26,10 +26,9 @@ use Rattle.meson_sources.proofs.BareNodes.{bare, node_bare, root_bare}
 use Rattle.meson_sources.proofs.ElementsThere.{root}
 use Rattle.meson_sources.proofs.ErasedNodes.{expression_node, node_with_spans}
 use Rattle.meson_sources.proofs.FoundAgain.{Names, SetAt, again}
-use Rattle.meson_sources.proofs.NamesLeft.{SameNames}
 use Rattle.meson_sources.proofs.Scenes.{NodeIn}
 use Rattle.meson_sources.proofs.Shapes.{an_assignment, shape}
-use Rattle.meson_sources.proofs.TargetNames.{Naming, expression_erased, in_any, in_file, parts_file, tell, tell_call, told}
+use Rattle.meson_sources.proofs.TargetNames.{Naming, expression_erased, in_any, in_file, parts_file, tell, tell_call, told, SameNames}
 use Rattle.meson_sources.proofs.CallForms.{span_tree}
 
 -- ---- all files

@@ -138,3 +138,21 @@ module _ (t : Spot) where
       go : (list_any is_it [] ≡ true) ⊎ (list_any is_it (distinct_spots spots) ≡ true) → list_any is_it (distinct_spots spots) ≡ true
       go (inl none) = absurd cc
       go (inr found) = found
+
+  had_spot : (seen spots : List Spot) → list_any is_it (distinct_spots_by seen spots) ≡ true → list_any is_it spots ≡ true
+  had_spot seen [] is = absurd cc
+  had_spot seen (s ∷ more) is = go (list_any (same_spot s) seen) is (had_spot seen more) (had_spot (s ∷ seen) more)
+    where
+      go : (b : Bool) → list_any is_it (if b then distinct_spots_by seen more else s ∷ distinct_spots_by (s ∷ seen) more) ≡ true
+          → (list_any is_it (distinct_spots_by seen more) ≡ true → list_any is_it more ≡ true) → (list_any is_it (distinct_spots_by (s ∷ seen) more) ≡ true → list_any is_it more ≡ true)
+          → list_any is_it (s ∷ more) ≡ true
+      go true found same with_it = or_right (is_it s) (list_any is_it more) (same found)
+      go false found same with_it = next (either_true (is_it s) (list_any is_it (distinct_spots_by (s ∷ seen) more)) found)
+        where
+          next : (is_it s ≡ true) ⊎ (list_any is_it (distinct_spots_by (s ∷ seen) more) ≡ true) → list_any is_it (s ∷ more) ≡ true
+          next (inl here) = or_left (is_it s) (list_any is_it more) here
+          next (inr later) = or_right (is_it s) (list_any is_it more) (with_it later)
+
+  -- whether each is there once makes no difference
+  pub goes_distinct : (spots : List Spot) → list_any is_it (distinct_spots spots) ≡ list_any is_it spots
+  goes_distinct spots = alike (list_any is_it (distinct_spots spots)) (list_any is_it spots) (had_spot [] spots) (distinct_goes spots)

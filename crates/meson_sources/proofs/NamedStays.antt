@@ -22,14 +22,12 @@ use Rattle.meson_sources.proofs.FoundAgain.{Names}
 use Rattle.meson_sources.proofs.GrownFiles.{FilesGrown}
 use Rattle.meson_sources.proofs.MarkLists.{below, below_itself}
 use Rattle.meson_sources.proofs.NamedAgain.{SetStays, assigned_shape, named_again}
-use Rattle.meson_sources.proofs.NamesLeft.{SameNames, names_itself}
 use Rattle.meson_sources.proofs.NamesStay.{Alike, alike_along}
 use Rattle.meson_sources.proofs.Owners.{no_statement, node_between}
 use Rattle.meson_sources.proofs.PlacesBelow.{under}
 use Rattle.meson_sources.proofs.Scenes.{NodeIn, bare_in, names_of, next_in, node_above, node_away}
-use Rattle.meson_sources.proofs.Shapes.{Becomes}
-use Rattle.meson_sources.proofs.ShapesLeft.{became_new, became_old}
-use Rattle.meson_sources.proofs.TargetNames.{a_target, a_variable, expression_erased, own, tell_call}
+use Rattle.meson_sources.proofs.Shapes.{Becomes, became_new, became_old}
+use Rattle.meson_sources.proofs.TargetNames.{a_target, a_variable, expression_erased, own, tell_call, SameNames, names_itself}
 
 -- each id of the call names it, where it was
 abbrev pub KeepsNames : Loaded → Loaded → Placed (Call Span) → Type 0

@@ -1,10 +1,10 @@
 -- A list without one of its elements: where the others are then, and the parts of what has such a list.
 use Rattle.std.specs.Prelude.{if◌then◌else◌, nat_lt}
-use Rattle.std.proofs.Common.{◌≡◌, ℕ, zero, suc, ◌-◌, ◌<◌, ◌≤◌, Bool, true, false, List, [], ◌∷◌, ◌++◌, map, take, drop, refl, ap, ap₂, ◌∙◌, arith}
+use Rattle.std.proofs.Common.{◌≡◌, ℕ, zero, suc, ◌-◌, ◌<◌, ◌≤◌, Bool, true, false, List, [], ◌∷◌, ◌++◌, map, take, drop, Option, Some, None, refl, ap, ap₂, ◌∙◌, arith}
 use Rattle.std.proofs.lemmas.Bool.{ltb-true, ltb-false}
 use Rattle.meson_syntax.specs.declared.operator.Bracket.{Bracket}
 use Rattle.meson_syntax.specs.Operators.{holds_pairs}
-use Rattle.meson_syntax.specs.Tree.{Argument, plain, named, pair, Arguments, no_arguments, argument, arguments_of, argument_list}
+use Rattle.meson_syntax.specs.Tree.{Nowhere, Expression, string, Argument, plain, named, pair, Arguments, no_arguments, argument, arguments_of, argument_list}
 use Rattle.meson_syntax.specs.Grammar.{LevelArguments}
 use Rattle.meson_syntax.specs.Paths.{nth}
 use Rattle.meson_syntax.specs.Parts.{Any, an_expression, argument_parts, arguments_parts}
@@ -52,6 +52,11 @@ module _ {A : Type 0} where
   every_without P (x ∷ xs) (suc n) every = (every.0, every_without P xs n every.1)
 
 -- ---- elements that have one part each
+
+-- a child that is a string
+abbrev pub string_child : Any Nowhere → Option (Expression Nowhere)
+string_child (an_expression (string s q x)) = Some (string s q x)
+string_child _ = None
 
 abbrev pub part : {S : Type 0} → Argument S → Any S
 part (plain e) = an_expression e

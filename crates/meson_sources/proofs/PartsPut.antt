@@ -120,7 +120,7 @@ module _ (S : Type 0) where
         length-append (argument_parts a) (arguments_parts more),
       )
 
-  tail_count : (t : Tail S) → length (tail_children t) ≡ length (tail_parts t)
+  pub tail_count : (t : Tail S) → length (tail_children t) ≡ length (tail_parts t)
   tail_count (method s x (listing r trailing list)) =
       length-around (mark k.Dot ++ (k.Identifier, x.text) ∷ []) [] (method s x) (listing_children (listing r trailing list) bracket.Round)
       ∙ length-around (mark (opens bracket.Round)) (mark (closes bracket.Round)) (listing r trailing) (arguments_children list trailing) ∙ arguments_count list trailing
@@ -187,7 +187,7 @@ module _ (S : Type 0) where
     ),
   )
 
-  branches_count : (bs : Branches S) (word : Kind) → length (branches_children bs word) ≡ length (branches_parts bs)
+  pub branches_count : (bs : Branches S) (word : Kind) → length (branches_children bs word) ≡ length (branches_parts bs)
   branches_count no_branches word = refl
   branches_count (branch e b more) word =
       ap (λ n. suc (suc n)) (length-around (mark word ++ (expression_words e ++ (new_line ∷ block_words b))) [] (branch e b) (branches_children more k.WordElif) ∙ branches_count more k.WordElif)

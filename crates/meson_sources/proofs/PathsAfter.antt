@@ -64,6 +64,17 @@ length_after (m ∷ list) (n ∷ path) gone = elim (nat_eq m n) as (λ b. length
 
 -- ---- spots
 
+-- a spot of another file stays
+pub other_file : (gone s : Spot) → (gone.list.file ≡ s.list.file → ⊥) → spot_after gone s ≡ s
+other_file gone s other = go (nat_eq gone.list.file s.list.file) refl
+  where
+    go : (b : Bool) → nat_eq gone.list.file s.list.file ≡ b → (if b then record {
+      list = place s.list.file (path_after gone.list.path.steps gone.number s.list.path.steps);
+      number = if is_path gone.list.path.steps s.list.path.steps then moved_up gone.number s.number else s.number;
+    } else s) ≡ s
+    go true is = absurd (other (eqb-true gone.list.file s.list.file is))
+    go false is = refl
+
 pub renamed : (gone s : Spot) (path : List ℕ) (n : ℕ) → gone.list.file ≡ s.list.file → path ≡ path_after gone.list.path.steps gone.number s.list.path.steps
     → n ≡ (if is_path gone.list.path.steps s.list.path.steps then moved_up gone.number s.number else s.number)
     → record { list = place s.list.file path; number = n } ≡ spot_after gone s

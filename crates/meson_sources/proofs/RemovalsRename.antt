@@ -27,7 +27,7 @@ use Rattle.meson_sources.proofs.StringsStay.{list_any}
 parts_of_list : (m l : Listing Nowhere) → m ≡ l → listing_parts m ≡ arguments_parts (arguments_of (elements l))
 parts_of_list (listing s trailing list) l same = sym (ap arguments_parts (list-of-arguments list)) ∙ ap (λ u. arguments_parts (arguments_of (elements u))) same
 
-list_parts : (x : Any Nowhere) (l : Listing Nowhere) → list_any x ≡ Some l → child_nodes x ≡ arguments_parts (arguments_of (elements l))
+pub list_parts : (x : Any Nowhere) (l : Listing Nowhere) → list_any x ≡ Some l → child_nodes x ≡ arguments_parts (arguments_of (elements l))
 list_parts (an_expression (array m)) l is = parts_of_list m l (some-injective _ _ is)
 list_parts (an_expression (dictionary m)) l is = parts_of_list m l (some-injective _ _ is)
 list_parts (an_expression (call s x m)) l is = parts_of_list m l (some-injective _ _ is)
@@ -35,7 +35,7 @@ list_parts (an_expression e) l is = absurd cc
 list_parts (a_statement s) l is = absurd cc
 list_parts (a_block b) l is = absurd cc
 
-one_part : (l : Listing Nowhere) (b : Bracket) → holds_pairs b ≡ false → LevelListing l b → Every HasOnePart (elements l)
+pub one_part : (l : Listing Nowhere) (b : Bracket) → holds_pairs b ≡ false → LevelListing l b → Every HasOnePart (elements l)
 one_part (listing s trailing list) b none level = one_part_each Nowhere b none list false level.1
 
 back_elements : (xs : List (Argument Nowhere)) → argument_list (arguments_of xs) ≡ xs
@@ -66,17 +66,22 @@ module _ (old new : Any Nowhere) (l : Listing Nowhere) (gone : ℕ) (is_old : li
 string_holds : (l : Listing Nowhere) (b : Bracket) (n : ℕ) (it : Argument Nowhere) → IsStringElement it → nth (elements l) n ≡ Some it → LevelListing l b → holds_values b ≡ true
 string_holds (listing s trailing list) b n it is_string is level = plain_holds list b false n (string tt is_string.kind is_string.text) level.1 (is ∙ ap Some is_string.is)
 
--- how a string goes from its list
-pub record Goes (t now : Plain) (list : List ℕ) (gone : ℕ) : Type 0 where
-  pub old : Any Nowhere
-  pub new : Any Nowhere
-  pub xs : List (Argument Nowhere)
-  pub loses : LosesString old new xs gone
-  pub listing : Listing Nowhere
-  pub is_listing : list_any new ≡ Some listing
-  pub put : PutAt Nowhere old new list (root t) (root now)
+-- each element of a list where a string stands has one part
+pub one_part_there : (t : Plain) → LevelFile t → (list : List ℕ) (n : ℕ) (it : Argument Nowhere) (here : IsElementAt t list n it) → IsStringElement it → Every HasOnePart (elements here.place.list)
+one_part_there t level list n it here is_string =
+    let q = here.place in
+    let fits = list-fits Nowhere t list q here.is_place in
+    one_part q.list q.bracket (values_no_pairs q.bracket (string_holds q.list q.bracket n it is_string here.is_element (fits.level level))) (fits.level level)
 
-pub goes : (t now : Plain) → LevelFile t → (list : List ℕ) (gone : ℕ) (it : Argument Nowhere) → IsElementAt t list gone it → IsStringElement it → edited (Remove list gone) t ≡ Some now → Goes t now list gone
+-- how a string goes from its list
+record Goes (t now : Plain) (list : List ℕ) (gone : ℕ) : Type 0 where
+  old : Any Nowhere
+  new : Any Nowhere
+  xs : List (Argument Nowhere)
+  loses : LosesString old new xs gone
+  put : PutAt Nowhere old new list (root t) (root now)
+
+goes : (t now : Plain) → LevelFile t → (list : List ℕ) (gone : ℕ) (it : Argument Nowhere) → IsElementAt t list gone it → IsStringElement it → edited (Remove list gone) t ≡ Some now → Goes t now list gone
 goes t now level list gone it here is_string is =
     let c = changed (Remove list gone) list t now is in
     let q = c.place in
@@ -92,8 +97,6 @@ goes t now level list gone it here is_string is =
       new = p.new_node;
       xs = xs;
       loses = loses p.old_node p.new_node q.list gone p.old_list new_list it here_too is_string (one_part q.list q.bracket (values_no_pairs q.bracket (string_holds q.list q.bracket gone it is_string here_too (fits.level level))) (fits.level level));
-      listing = with_elements q.list (without gone xs);
-      is_listing = new_list;
       put = subst (λ u. PutAt Nowhere p.old_node p.new_node list (root t) (root u)) c.is_now p.put;
     }
 

@@ -115,6 +115,10 @@ module _ (trees : List Plain) (all : All MayStandBetween trees) (s : Spot) (ther
   all_apart [] are apart others = tt
   all_apart (t ∷ ts) are apart others = (one_apart t are.0 apart.0 ts are.1 apart.1 others.0, all_apart ts are.1 apart.1 others.1)
 
+  pub all_clear : (ts : List Spot) → Every (StringIn trees) ts → Every (Apart s) ts → Every (Clear s) ts
+  all_clear [] are apart = tt
+  all_clear (t ∷ ts) are apart = (clear t are.0 apart.0, all_clear ts are.1 apart.1)
+
 -- ---- all of them
 
 removed_doable : (left : ℕ) (spots : List Spot) (trees : List Plain) → All MayStandBetween trees → Every (StringIn trees) spots → AreApart spots → AreDoable (removed_by left spots) trees

@@ -1,5 +1,5 @@
 -- What the call of a target tells stays the same after strings have gone from lists: its function, and its first argument if that is a literal.
-use Rattle.std.specs.Prelude.{◌&&◌, if◌then◌else◌}
+use Rattle.std.specs.Prelude.{◌&&◌, if◌then◌else◌, option_and_then}
 use Rattle.std.proofs.Common.{◌≡◌, ℕ, ◌+◌, Bool, true, false, Some, None, List, refl, sym, ap, ◌∙◌, subst, inl, inr}
 use Rattle.meson_syntax.specs.Tree.{Nowhere, Expression, identifier, string, array, call, row, plain, named, pair, Arguments, no_arguments, argument}
 use Rattle.meson_calls.specs.declared.call.CallRef.{CallRef}
@@ -32,3 +32,13 @@ module _ (gone : CallRef → ℕ → Bool) where
       ap (λ z. call_by f (first_plain z)) (l.3 ∙ ap (λ b. argument b l.2) l.4.1) ∙ ap (λ t. if one_of target_functions f && true then Some (a_target f t) else None) (literal_left (child c k) e l.4.0 l.4.2)
   own_left c k f (argument (named t x e) more) ys first (inr l) = ap (λ z. call_by f (first_plain z)) (l.3 ∙ ap (λ b. argument b l.2) l.4.2) ∙ own_left c (k + 1) f more l.2 first l.5
   own_left c k f (argument (pair t e g) more) ys first (inr l) = ap (λ z. call_by f (first_plain z)) (l.3 ∙ ap (λ b. argument b l.2) l.4.2) ∙ own_left c (k + 1) f more l.2 first l.5
+
+  pub first_literal_left : (c : CallRef) (k : ℕ) (xs ys : Arguments Nowhere) → FirstStays gone c k xs → EachLoses gone c k xs ys → option_and_then literal_of (first_plain ys) ≡ option_and_then literal_of (first_plain xs)
+  first_literal_left c k no_arguments ys first l = ap (λ z. option_and_then literal_of (first_plain z)) l
+  first_literal_left c k (argument a more) ys first (inl l) =
+      let stays = subst (λ z. FirstStays gone c k (argument z more)) l.1.is_string first in
+      let both : true ≡ false = sym l.0 ∙ stays in absurd cc
+  first_literal_left c k (argument (plain e) more) ys first (inr l) =
+      ap (λ z. option_and_then literal_of (first_plain z)) (l.3 ∙ ap (λ b. argument b l.2) l.4.1) ∙ literal_left (child c k) e l.4.0 l.4.2
+  first_literal_left c k (argument (named t x e) more) ys first (inr l) = ap (λ z. option_and_then literal_of (first_plain z)) (l.3 ∙ ap (λ b. argument b l.2) l.4.2) ∙ first_literal_left c (k + 1) more l.2 first l.5
+  first_literal_left c k (argument (pair t e g) more) ys first (inr l) = ap (λ z. option_and_then literal_of (first_plain z)) (l.3 ∙ ap (λ b. argument b l.2) l.4.2) ∙ first_literal_left c (k + 1) more l.2 first l.5

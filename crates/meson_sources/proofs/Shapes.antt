@@ -271,3 +271,14 @@ same_operands (operand o e xs) (operand u f ys) b p =
     let value : e ≡ f = cc in
     let others : operands_parts xs ≡ operands_parts ys = cc in
     ap₂ (λ v l. operand u v l) (sym value) (same_operands xs ys rest others) ∙ ap (λ z. operand z e xs) (sym sign)
+
+-- ---- what stands where the path leads
+
+module _ (old new : Any Nowhere) where
+  pub became_old : (path : List ℕ) (x now : Any Nowhere) → Becomes old new path x now → node_at x path ≡ Some old
+  became_old [] x now b = ap Some b.0
+  became_old (n ∷ path) x now b = ap (option_and_then (λ z. node_at z path)) (differ_old b.0 b.1 b.2.parts) ∙ became_old path b.0 b.1 b.3
+
+  pub became_new : (path : List ℕ) (x now : Any Nowhere) → Becomes old new path x now → node_at now path ≡ Some new
+  became_new [] x now b = ap Some b.1
+  became_new (n ∷ path) x now b = ap (option_and_then (λ z. node_at z path)) (differ_new b.0 b.1 b.2.parts) ∙ became_new path b.0 b.1 b.3

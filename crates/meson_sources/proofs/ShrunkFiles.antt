@@ -30,7 +30,7 @@ use Rattle.meson_sources.specs.WholeExtras.{AllExtrasShrink}
 use Rattle.meson_sources.specs.WholeSources.{AllSourcesShrink, FilesShrink, file_names}
 use Rattle.meson_sources.proofs.Bares.{bare_mark, expand_with, values_of}
 use Rattle.meson_sources.proofs.CallForms.{CallIn, bare_arguments, called, target_at}
-use Rattle.meson_sources.proofs.CallLeft.{FirstIs, Fine, are_named, at_call, call_from, call_left, each_left, fine, first, first_of, literals, moved_place, named_left, own_fine, values_stand}
+use Rattle.meson_sources.proofs.CallLeft.{Fine, are_named, at_call, call_from, call_left, each_left, fine, first, first_of, literals, moved_place, named_left, own_fine, values_stand}
 use Rattle.meson_sources.proofs.CallTrees.{Expand, keyed, list_with, whole}
 use Rattle.meson_sources.proofs.ExtraCalls.{as_sources, as_whole}
 use Rattle.meson_sources.proofs.ExtrasAddable.{extra_once}
@@ -50,6 +50,7 @@ use Rattle.meson_sources.proofs.Standings.{MarkStands}
 use Rattle.meson_sources.proofs.StringsThere.{StringIn}
 use Rattle.meson_sources.proofs.TargetMarks.{extras_stand, sources_stand}
 use Rattle.meson_sources.proofs.TargetsFound.{targets_stand}
+use Rattle.meson_sources.proofs.TellsKept.{FirstIs}
 
 -- what is met of a target stands where its slots say
 abbrev pub MetHolds : FileKind → Type 0

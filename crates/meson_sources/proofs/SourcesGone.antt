@@ -7,6 +7,7 @@ use Rattle.meson_syntax.specs.Tree.{Plain}
 use Rattle.meson_calls.specs.declared.refusal.Refusal.{Refusal}
 use Rattle.meson_calls.specs.Calls as calls
 use Rattle.meson_variables.specs.Expansion.{Mark}
+use Rattle.meson_calls.specs.Project.{place}
 use Rattle.meson_calls.specs.Loading.{IsProject, Loaded, project}
 use Rattle.meson_calls.specs.Keywords.{once, sources_key}
 use Rattle.meson_variables.specs.Sources.{source_marks}
@@ -15,15 +16,17 @@ use Rattle.meson_steps.specs.ResultLimits.{plain_trees}
 use Rattle.meson_steps.specs.Steps.{Step, all_stepped}
 use Rattle.meson_steps.proofs.PlainTrees.{trees_stand}
 use Rattle.meson_steps.proofs.WentWell.{once_was, then_was}
-use Rattle.meson_sources.specs.Effects.{ExtraIsRemoved, NamesGo, SourcesAreRemoved}
+use Rattle.meson_sources.specs.Effects.{ExtraIsRemoved, NamesGo, SourcesAreRemoved, spot_at}
+use Rattle.meson_sources.specs.Without.{each_without}
 use Rattle.meson_sources.specs.SourceEdits.{checked_extra, distinct_spots, extra_marks, removal_steps, removed_at, spots_named}
 use Rattle.meson_sources.proofs.Standings.{MarkStands}
 use Rattle.meson_sources.proofs.DistinctSpots.{distinct_apart, every_distinct}
 use Rattle.meson_sources.proofs.ExtrasAddable.{checked_marks}
 use Rattle.meson_sources.proofs.NamedSpots.{named_spots}
+use Rattle.meson_sources.proofs.NamedGone.{goes_distinct}
+use Rattle.meson_sources.proofs.TreesLeft.{trees_left}
 use Rattle.meson_sources.proofs.RemovedSources.{named_stand}
 use Rattle.meson_sources.proofs.RemovedSpots.{all_in}
-use Rattle.meson_sources.proofs.StringsGone.{lists_lose, others_stay, strings_go}
 use Rattle.meson_sources.proofs.StringsThere.{StringIn}
 use Rattle.meson_sources.proofs.TargetMarks.{extras_stand, sources_stand}
 use Rattle.meson_sources.proofs.TargetsFound.{targets_stand}
@@ -45,9 +48,7 @@ module _ (old : Loaded) (is : IsProject old) (marks : List (Mark Span)) (stand :
         spots = found.0;
         are_spots = found.1;
         of_names = named_spots marks (distinct names) found.0 found.1;
-        lists = lists_lose there (plain_trees old) after stands each (distinct_apart found.0) stepped;
-        gone = strings_go there (plain_trees old) after stands each (distinct_apart found.0) stepped;
-        others = others_stay there (plain_trees old) after stands each (distinct_apart found.0) stepped;
+        left = trees_left there (plain_trees old) after stands each (distinct_apart found.0) stepped ∙ ap (λ gone. each_without gone (plain_trees old)) (λ i file path n. (goes_distinct (spot_at (place file path) n) found.0) i);
       }
 
 pub sources-are-removed : SourcesAreRemoved

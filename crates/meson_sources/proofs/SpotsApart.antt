@@ -1,6 +1,6 @@
 -- Spots that are not the same are not the same after another one has gone, where none stands under that one.
 use Rattle.std.specs.Prelude.{nat_eq, nat_lt, if◌then◌else◌}
-use Rattle.std.proofs.Common.{◌≡◌, ℕ, ◌-◌, ◌<◌, ◌≤◌, Bool, true, false, List, [], ◌∷◌, ◌++◌, length, refl, sym, ap, ◌∙◌, arith}
+use Rattle.std.proofs.Common.{◌≡◌, ℕ, ◌-◌, ◌<◌, ◌≤◌, Bool, true, false, List, [], ◌∷◌, length, refl, sym, ap, ◌∙◌, arith}
 use Rattle.std.proofs.lemmas.Bool.{eqb-true, eq-eqb, ltb-true, ltb-false}
 use Rattle.meson_calls.specs.Project.{place}
 use Rattle.meson_sources.specs.SourceEdits.{moved_up, path_after, is_path, Spot, spot_after}
@@ -55,41 +55,6 @@ paths_same [] gone (n ∷ p) (k ∷ q) clear_p clear_q same =
     ap (λ i. i ∷ p) (numbers_same gone n k clear_p clear_q heads) ∙ ap (λ l. k ∷ l) tails
 paths_same (m ∷ list) gone (n ∷ p) (k ∷ q) clear_p clear_q same =
     by_heads m list gone n k p q (λ head_p head_q. paths_same list gone p q (clear_p head_p) (clear_q head_q)) (nat_eq m n) (nat_eq m k) refl refl same
-
--- what leads to the new path of another one led to it before
-moved_heads : (m : ℕ) (list : List ℕ) (gone a p : ℕ) (at path rest : List ℕ) → (m ≡ a → m ≡ p → path_after list gone path ≡ path_after list gone at ++ rest → (more : List ℕ) × (path ≡ at ++ more)) → (b c : Bool) → nat_eq m a ≡ b → nat_eq m p ≡ c
-    → (if c then p ∷ path_after list gone path else p ∷ path) ≡ (if b then a ∷ path_after list gone at else a ∷ at) ++ rest → (more : List ℕ) × (p ∷ path ≡ a ∷ (at ++ more))
-moved_heads m list gone a p at path rest back true true is_b is_c is =
-    let heads : p ≡ a = cc in
-    let tails : path_after list gone path ≡ path_after list gone at ++ rest = cc in
-    let r = back (eqb-true m a is_b) (eqb-true m p is_c) tails in
-    (r.0, ap (λ i. i ∷ path) heads ∙ ap (λ l. a ∷ l) r.1)
-moved_heads m list gone a p at path rest back true false is_b is_c is =
-    let heads : p ≡ a = cc in
-    let yes = eq-eqb m p (eqb-true m a is_b ∙ sym heads) in
-    absurd cc
-moved_heads m list gone a p at path rest back false true is_b is_c is =
-    let heads : p ≡ a = cc in
-    let yes = eq-eqb m a (eqb-true m p is_c ∙ heads) in
-    absurd cc
-moved_heads m list gone a p at path rest back false false is_b is_c is = (rest, is)
-
-no_front : (list : List ℕ) (gone a : ℕ) (at rest : List ℕ) → [] ≡ path_after list gone (a ∷ at) ++ rest → ⊥
-no_front [] gone a at rest same = cc
-no_front (m ∷ list) gone a at rest same = by (nat_eq m a) same where
-  by : (b : Bool) → [] ≡ (if b then a ∷ path_after list gone at else a ∷ at) ++ rest → ⊥
-  by true equal = cc
-  by false equal = cc
-
-pub leads_back : (list : List ℕ) (gone : ℕ) (at path rest : List ℕ) → NotThrough list gone at → NotThrough list gone path → path_after list gone path ≡ path_after list gone at ++ rest → (more : List ℕ) × (path ≡ at ++ more)
-leads_back list gone [] path rest clear_at clear_path same = (path, refl)
-leads_back list gone (a ∷ at) [] rest clear_at clear_path same = absurd (no_front list gone a at rest same)
-leads_back [] gone (a ∷ at) (p ∷ path) rest clear_at clear_path same =
-    let heads : moved_up gone p ≡ moved_up gone a = cc in
-    let tails : path ≡ at ++ rest = cc in
-    (rest, ap (λ i. i ∷ path) (numbers_same gone p a clear_path clear_at heads) ∙ ap (λ l. a ∷ l) tails)
-leads_back (m ∷ list) gone (a ∷ at) (p ∷ path) rest clear_at clear_path same =
-    moved_heads m list gone a p at path rest (λ head_a head_p. leads_back list gone at path rest (clear_at head_a) (clear_path head_p)) (nat_eq m a) (nat_eq m p) refl refl same
 
 -- ---- spots
 

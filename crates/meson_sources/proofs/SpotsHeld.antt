@@ -14,7 +14,7 @@ use Rattle.meson_variables.specs.Expansion.{Item, Mark, known, opaque, empty, Sl
 use Rattle.meson_calls.specs.Roles.{one_of}
 use Rattle.meson_variables.specs.Sources.{items}
 use Rattle.meson_steps.specs.Names.{distinct}
-use Rattle.meson_sources.specs.Effects.{AreSpotsOf, goes, has_one_of, is_at, spot_of_child}
+use Rattle.meson_sources.specs.Effects.{AreSpotsOf, goes, has_one_of, is_at, spot_at}
 use Rattle.meson_sources.specs.SourceEdits.{Spot, distinct_spots, same_spot}
 use Rattle.meson_sources.proofs.Bares.{bare_mark}
 use Rattle.meson_sources.proofs.DistinctSpots.{every_distinct}
@@ -81,23 +81,16 @@ module _ (trees : List Plain) (Fine : CallRef → ℕ → Node → Type 0) (fine
         record { text = o.it.text; string_held = go o.it.slot o.it.text both.1 o.holds; is_named = distinct_named o.it.text names both.0 }
       where
         go : (slot : Slot) (text : List ℕ) → is_at s slot ≡ true → TextHeld trees Fine fine slot text → StringHeld trees Fine fine s.list s.number text
-        go (in_list q k) text at holds = subst (λ (u : Spot). StringHeld trees Fine fine u.list u.number text) (sym (same_one s (spot_of_child q k) at)) holds
+        go (in_list q k) text at holds = subst (λ (u : Spot). StringHeld trees Fine fine u.list u.number text) (sym (same_one s (spot_at q k) at)) holds
         go fixed text at holds = absurd cc
 
     all_only : Every Only spots
     all_only = every_distinct Only found of_names.only
 
-    pub each_spot : (P : Spot → Type 0) → ((s : Spot) → SpotHeld s.list s.number → P s) → Every P spots
-    each_spot P make = over spots all_only
-      where
-        over : (ts : List Spot) → Every Only ts → Every P ts
-        over [] all = tt
-        over (t ∷ ts) all = (make t (spot_held t all.0), over ts all.1)
-
     pub gone_held : (c : CallRef) (n : ℕ) → goes spots c n ≡ true → SpotHeld c n
     gone_held c n gone =
-        let o = some_of (λ s. same_spot s (spot_of_child c n)) Only spots all_only gone in
-        subst (λ (u : Spot). SpotHeld u.list u.number) (same_one o.it (spot_of_child c n) o.is) (spot_held o.it o.holds)
+        let o = some_of (λ s. same_spot s (spot_at c n)) Only spots all_only gone in
+        subst (λ (u : Spot). SpotHeld u.list u.number) (same_one o.it (spot_at c n) o.is) (spot_held o.it o.holds)
 
     one_named : (i : Item Span) → Held i → (has_one_of (distinct names) i ≡ true → list_any (λ s. is_at s i.slot) found ≡ true) → NamedGoes (goes spots) names i
     one_named i holds each = alike (slot_gone (goes spots) i.slot) (one_of names i.text) (forth i.slot i.text holds) (λ named. back i.slot (each (named_distinct i.text names named)))
@@ -107,7 +100,7 @@ module _ (trees : List Plain) (Fine : CallRef → ℕ → Node → Type 0) (fine
         forth fixed text holds gone = absurd cc
 
         back : (slot : Slot) → list_any (λ s. is_at s slot) found ≡ true → slot_gone (goes spots) slot ≡ true
-        back (in_list c n) there = distinct_goes (spot_of_child c n) found there
+        back (in_list c n) there = distinct_goes (spot_at c n) found there
         back fixed there = absurd (no_true found there)
 
     pub all_named : Every (NamedGoes (goes spots) names) is

@@ -15,6 +15,7 @@ use Rattle.meson_calls.specs.Parts.{Part, argument_child_count, parts_of_argumen
 use Rattle.meson_calls.specs.Parts as part
 use Rattle.meson_calls.specs.Project.{Placed, place, child}
 use Rattle.meson_calls.specs.Roles.{has_role, is_target_call, one_of, target_functions}
+use Rattle.meson_syntax.specs.Paths.{block_of}
 
 pub data Naming : Type 0 where
   a_target : List ℕ → Option (List ℕ) → Naming
@@ -305,3 +306,14 @@ module _ {S : Type 0} where
 
   pub parts_file : (n : ℕ) (f : tree.File S) → told (parts_of_file n f) ≡ in_file (erase f)
   parts_file n (file s b) = parts_block (place n []) b
+
+-- ---- trees that tell the same
+
+abbrev pub SameNames : Option Plain → Option Plain → Type 0
+SameNames None None = Unit {0}
+SameNames (Some t) (Some u) = in_any (a_block (block_of u)) ≡ in_any (a_block (block_of t))
+SameNames _ _ = ⊥
+
+pub names_itself : (o : Option Plain) → SameNames o o
+names_itself None = tt
+names_itself (Some t) = refl

@@ -1,39 +1,33 @@
 -- Variables stand for what is left of their values after strings have gone from lists of sources.
 use Rattle.std.specs.Prelude.{◌&&◌, All, if◌then◌else◌, not, option_and_then, option_map}
-use Rattle.std.proofs.Common.{◌≡◌, ℕ, zero, suc, ◌+◌, ◌≤◌, Bool, true, false, List, [], ◌∷◌, ◌++◌, length, map, Option, Some, None, refl, sym, ap, ap₂, ◌∙◌, subst, arith, inl, inr}
+use Rattle.std.proofs.Common.{◌≡◌, ℕ, zero, suc, ◌+◌, Bool, true, false, List, [], ◌∷◌, ◌++◌, Option, Some, None, refl, sym, ap, ap₂, ◌∙◌, subst, inl, inr}
 use Rattle.meson_lex.specs.declared.kinds.Span.{Span}
 use Rattle.meson_syntax.specs.Grammar.{LevelExpression}
 use Rattle.meson_syntax.specs.Parts.{an_expression, a_statement, a_block, child_nodes, node_at, statements_parts}
 use Rattle.meson_syntax.specs.Paths.{nth, block_of}
-use Rattle.meson_syntax.specs.Tree.{Nowhere, Plain, Expression, Statement, Statements, no_statements, statement, Block, block, Argument, erase_expression}
+use Rattle.meson_syntax.specs.Tree.{Nowhere, Plain, Expression, Statement, Statements, no_statements, statement, Block, block, erase_expression}
 use Rattle.meson_syntax.proofs.parsing.Steps.{some-injective}
-use Rattle.meson_syntax.proofs.paths.Every.{Every}
 use Rattle.meson_syntax.proofs.paths.Reaching.{and-then-some}
 use Rattle.meson_calls.specs.declared.call.CallRef.{CallRef}
 use Rattle.meson_calls.specs.Loading.{Loaded, project, trees}
-use Rattle.meson_calls.specs.Project.{Placed, Project, child, placed}
+use Rattle.meson_calls.specs.Project.{Placed, Project, child, place, placed}
 use Rattle.meson_calls.specs.Variables.{Assigned, all_known, assignments, is_outermost, is_set_otherwise, only_value, single}
 use Rattle.meson_steps.specs.ListSteps.{MayStandBetween}
 use Rattle.meson_steps.specs.ResultLimits.{plain_trees}
-use Rattle.meson_sources.specs.Effects.{but, place_after, string_child}
-use Rattle.meson_sources.specs.Effects as effects
-use Rattle.meson_sources.specs.SourceEdits.{Spot}
+use Rattle.meson_sources.specs.Without.{Gone, each_without, expression_without, from_child}
+use Rattle.meson_sources.proofs.NodesMoved.{fits_none, node_moved, place_left}
+use Rattle.meson_sources.proofs.OneGone.{string_child}
+use Rattle.meson_sources.proofs.SpotsHeld.{same_there}
+use Rattle.meson_sources.proofs.WithoutLoses.{Lost, at_child, gone_at, loses}
+use Rattle.meson_sources.proofs.WithoutPlaces.{any_without, before_all, nth_left, path_left}
 use Rattle.meson_sources.proofs.Bares.{bare_value, values_of}
-use Rattle.meson_sources.proofs.ChildrenLeft.{seen, with_child}
-use Rattle.meson_sources.proofs.ElementsThere.{root, stands_at}
+use Rattle.meson_sources.proofs.ElementsThere.{root}
 use Rattle.meson_sources.proofs.Kins.{node_level, placed_of, value_in}
-use Rattle.meson_sources.proofs.ListsBut.{but_none}
 use Rattle.meson_sources.proofs.Losses.{Loses}
-use Rattle.meson_sources.proofs.ElementsLeft.{Lost, child_loses}
-use Rattle.meson_sources.proofs.LossesBuilt.{loses}
 use Rattle.meson_sources.proofs.LostValues.{BothStand, ValueLoses}
-use Rattle.meson_sources.proofs.NodesLeft.{NodeLeft}
-use Rattle.meson_sources.proofs.OneStringGone as kept
-use Rattle.meson_sources.proofs.PlacesAfter.{Deeper, first_after, shallow_after}
 use Rattle.meson_sources.proofs.RenamedStrings.{Node}
 use Rattle.meson_sources.proofs.Scenes.{NodeIn, SameTells, names_of, projects_tell}
-use Rattle.meson_sources.proofs.StringsStay.{element_any}
-use Rattle.meson_sources.proofs.StringsThere.{StringIn}
+use Rattle.meson_sources.proofs.StringsStay.{list_any}
 use Rattle.meson_sources.proofs.TellsErased.{file_names_erased, told_erased}
 use Rattle.meson_sources.proofs.ValuePlaces.{value_place, value_place_is}
 
@@ -80,35 +74,20 @@ in_block (block t list) m y is =
     let n = nth_statement list m o.0 o.1 in
     (n.0, sym (some-injective _ _ o.2) ∙ n.1)
 
--- ---- lists stand deeper
-
-deep_path : (b : Block Nowhere) (path : List ℕ) (n : ℕ) (a : Argument Nowhere) → option_and_then (λ y. element_any y n) (node_at (a_block b) path) ≡ Some a → 2 ≤ length path
-deep_path b [] n a is = absurd cc
-deep_path b (m ∷ []) n a is =
-    let o = and-then-some (λ y. element_any y n) (node_at (a_block b) (m ∷ [])) a is in
-    let s = in_block b m o.0 o.1 in
-    let none : None ≡ Some a = ap (λ y. element_any y n) (sym s.1) ∙ o.2 in absurd cc
-deep_path b (m ∷ k ∷ path) n a is = omega arith
-
-pub deep_lists : (ts : List Plain) (k : ℕ) → k ≤ 2 → (spots : List Spot) → Every (StringIn ts) spots → Every (Deeper k) spots
-deep_lists ts k small [] are = tt
-deep_lists ts k small (s ∷ more) are =
-    let here = are.0 in
-    let deep = deep_path (block_of here.tree) s.list.path.steps s.number here.it (stands_at here.tree s.list.path.steps s.number here.it here.stands) in
-    (omega (arith, deep, small), deep_lists ts k small more are.1)
+same_expression : (e d : Expression Nowhere) → an_expression d ≡ an_expression e → d ≡ e
+same_expression e d is = cc
 
 -- ---- a value in two trees
 
-module _ (spots : List Spot) (before after : List Plain) (left : (c : CallRef) (y : Node) → kept.NodeIn before c y → NodeLeft (length spots) spots c y after)
-    (valued : (c : CallRef) (n : ℕ) → effects.goes spots c n ≡ true → (y : Node) → kept.NodeIn before c y → Lost spots before after (element_any y) n) (are : Every (StringIn before) spots) where
-  abbrev gone : CallRef → ℕ → Bool
-  gone = effects.goes spots
+module _ (before : List Plain) (stand : All MayStandBetween before) (gone : CallRef → ℕ → Bool) (lost : (c : CallRef) (n : ℕ) → gone c n ≡ true → (y : Node) → NodeIn before c y → Lost y n) where
+  abbrev after : List Plain
+  after = each_without (λ i path k. gone (place i path) k) before
 
   -- what stands around a child
-  parent : (ts : List Plain) (at : CallRef) (x : Node) → NodeIn ts (child at 0) x → (y : Node) × kept.NodeIn ts at y × (nth (child_nodes y) 0 ≡ Some x)
+  parent : (ts : List Plain) (at : CallRef) (x : Node) → NodeIn ts (child at 0) x → (y : Node) × NodeIn ts at y × (nth (child_nodes y) 0 ≡ Some x)
   parent ts at x n =
       let o = above at.path.steps (root n.tree) n.is_node in
-      (o.0, record { tree = n.tree; is_tree = n.is_tree; is_node = o.1; other = with_child o.0 0 x o.2 }, o.2)
+      (o.0, record { tree = n.tree; is_tree = n.is_tree; is_node = o.1 }, o.2)
     where
       above : (path : List ℕ) (z : Node) → node_at z (path ++ 0 ∷ []) ≡ Some x → (y : Node) × (node_at z path ≡ Some y) × (nth (child_nodes y) 0 ≡ Some x)
       above [] z is = let o = and-then-some (λ w. node_at w []) (nth (child_nodes z) 0) x is in (z, refl, o.1 ∙ o.2)
@@ -117,39 +96,25 @@ module _ (spots : List Spot) (before after : List Plain) (left : (c : CallRef) (
           let r = above path o.0 o.2 in
           (r.0, ap (option_and_then (λ w. node_at w path)) o.1 ∙ r.1, r.2)
 
-  first_seen : (xs : List Node) (x : Node) → nth xs 0 ≡ Some x → nth (map string_child xs) 0 ≡ Some (string_child x)
-  first_seen [] x is = absurd cc
-  first_seen (z ∷ xs) x is = ap Some (ap string_child (some-injective _ _ is))
+  -- a statement of a file stays where it is
+  stays : (at : CallRef) (m : ℕ) → at.path.steps ≡ m ∷ [] → (y : Node) → NodeIn before at y → place_left gone at ≡ at
+  stays at m path y h =
+      let g : Gone = λ path k. gone (place at.file path) k in
+      let whole : NodeIn before (place at.file []) (root h.tree) = record { tree = h.tree; is_tree = h.is_tree; is_node = refl } in
+      ap (λ p. place at.file (path_left g p)) path ∙ ap (λ n. place at.file (n ∷ [])) (before_all (g []) (fits_none before stand gone lost (place at.file []) (root h.tree) whole refl) m) ∙ ap (place at.file) (sym path)
 
   pub value_left : (at : CallRef) (m : ℕ) → at.path.steps ≡ m ∷ [] → (e d : Expression Nowhere) → LevelExpression e → NodeIn before (child at 0) (an_expression e) → NodeIn after (child at 0) (an_expression d) → Loses gone (child at 0) e d
   value_left at m path e d level was is =
       let p = parent before at (an_expression e) was in
       let q = parent after at (an_expression d) is in
-      let l = left at p.0 p.1 in
-      let stays : place_after (length spots) spots at ≡ at =
-      shallow_after (length spots) spots at (deep_lists before (length at.path.steps) (let long = ap length path in omega (arith, long)) spots are) in
-      let same : q.0 ≡ l.node = same_in at l.node q.0 (subst (λ c. kept.NodeIn after c l.node) stays l.is) q.1 in
-      let strings : seen q.0 ≡ seen p.0 = ap seen same ∙ l.strings ∙ but_none (gone at) (none_gone at m path p.0 p.1) (seen p.0) in
-      let string : string_child (an_expression d) ≡ string_child (an_expression e) =
-      some-injective _ _ (sym (first_seen (child_nodes q.0) (an_expression d) q.2) ∙ ap (λ l. nth l 0) strings ∙ first_seen (child_nodes p.0) (an_expression e) p.2) in
-      child_loses spots before after e d at 0 0 level string (λ other. record { tree = was.tree; is_tree = was.is_tree; is_node = was.is_node; other = other })
-      (λ other. subst (λ c. kept.NodeIn after (child c 0) (an_expression d)) (sym stays) (record { tree = is.tree; is_tree = is.is_tree; is_node = is.is_node; other = other }))
-      (first_after (length spots) spots at) (loses spots before after left valued are e (child at 0))
-    where
-      same_in : (p : CallRef) (y z : Node) → kept.NodeIn after p y → kept.NodeIn after p z → z ≡ y
-      same_in p y z m n =
-          let same_tree : n.tree ≡ m.tree = some-injective _ _ (sym n.is_tree ∙ m.is_tree) in
-          some-injective z y (sym n.is_node ∙ ap (λ t. node_at (root t) p.path.steps) same_tree ∙ m.is_node)
-
-      none_gone : (at : CallRef) (m : ℕ) → at.path.steps ≡ m ∷ [] → (y : Node) → kept.NodeIn before at y → (k : ℕ) → gone at k ≡ false
-      none_gone at m path y h k = go (gone at k) refl
-        where
-          go : (b : Bool) → gone at k ≡ b → b ≡ false
-          go true is =
-              let l = valued at k is y h in
-              let s = in_block (block_of h.tree) m y (sym (ap (node_at (root h.tree)) path) ∙ h.is_node) in
-              let none : None ≡ Some l.0 = ap (λ z. element_any z k) (sym s.1) ∙ l.1 in absurd cc
-          go false is = refl
+      let s = in_block (block_of p.1.tree) m p.0 (sym (ap (node_at (root p.1.tree)) path) ∙ p.1.is_node) in
+      let no_list : list_any p.0 ≡ None = ap list_any s.1 in
+      let moved = node_moved before stand gone lost at p.0 p.1 (ap string_child s.1) in
+      let there : NodeIn after at (any_without (gone_at gone at) p.0) = subst (λ c. NodeIn after c (any_without (gone_at gone at) p.0)) (stays at m path p.0 p.1) moved in
+      let same : q.0 ≡ any_without (gone_at gone at) p.0 = same_there after at (any_without (gone_at gone at) p.0) q.0 there q.1 in
+      let left = nth_left (gone_at gone at) p.0 (an_expression e) 0 (fits_none before stand gone lost at p.0 p.1 no_list) p.2 in
+      let value : an_expression d ≡ an_expression (expression_without (from_child 0 (gone_at gone at)) e) = some-injective _ _ (sym q.2 ∙ ap (λ z. nth (child_nodes z) 0) same ∙ left) in
+      subst (Loses gone (child at 0) e) (ap (λ g. expression_without g e) (sym (at_child gone at 0)) ∙ sym (same_expression (expression_without (from_child 0 (gone_at gone at)) e) d value)) (loses before gone lost e (child at 0) level was)
 
 -- ---- in two projects
 
@@ -163,9 +128,8 @@ module _ (old new : Loaded) (names : names_of new.files ≡ names_of old.files) 
       (sym (told_erased 0 new.files (trees new)) ∙ both.0 ∙ told_erased 0 old.files (trees old))
       ∙ sym (value_place_is x (project old))
 
-  module _ (stand : All MayStandBetween (plain_trees old)) (spots : List Spot) (left : (c : CallRef) (y : Node) → kept.NodeIn (plain_trees old) c y → NodeLeft (length spots) spots c y (plain_trees new))
-      (valued : (c : CallRef) (n : ℕ) → effects.goes spots c n ≡ true → (y : Node) → kept.NodeIn (plain_trees old) c y → Lost spots (plain_trees old) (plain_trees new) (element_any y) n) (are : Every (StringIn (plain_trees old)) spots) where
-    both_stand : (x : List ℕ) (v v2 : Placed (Expression Span)) → single (project old) x ≡ Some v → single (project new) x ≡ Some v2 → v2.place ≡ v.place → BothStand (effects.goes spots) (values_of (project old)) (values_of (project new)) x
+  module _ (stand : All MayStandBetween (plain_trees old)) (gone : CallRef → ℕ → Bool) (lost : (c : CallRef) (n : ℕ) → gone c n ≡ true → (y : Node) → NodeIn (plain_trees old) c y → Lost y n) (are_left : plain_trees new ≡ each_without (λ i path k. gone (place i path) k) (plain_trees old)) where
+    both_stand : (x : List ℕ) (v v2 : Placed (Expression Span)) → single (project old) x ≡ Some v → single (project new) x ≡ Some v2 → v2.place ≡ v.place → BothStand gone (values_of (project old)) (values_of (project new)) x
     both_stand x v v2 was is same =
         let o = value_outermost (project old) x v was in
         let n = value_in old x v (child o.at 0) was o.is_place in
@@ -175,15 +139,15 @@ module _ (old new : Loaded) (names : names_of new.files ≡ names_of old.files) 
           now = bare_value v2;
           was = ap (option_map bare_value) was;
           is = ap (option_map bare_value) is;
-          loses = subst (λ c. Loses (effects.goes spots) c (erase_expression v.it) (erase_expression v2.it)) (sym o.is_place)
-              (value_left spots (plain_trees old) (plain_trees new) left valued are o.at o.number o.is_at (erase_expression v.it) (erase_expression v2.it) (node_level (plain_trees old) stand (child o.at 0) (erase_expression v.it) n) n n2);
+          loses = subst (λ c. Loses gone c (erase_expression v.it) (erase_expression v2.it)) (sym o.is_place)
+              (value_left (plain_trees old) stand gone lost o.at o.number o.is_at (erase_expression v.it) (erase_expression v2.it) (node_level (plain_trees old) stand (child o.at 0) (erase_expression v.it) n) n (subst (λ ts. NodeIn ts (child o.at 0) (an_expression (erase_expression v2.it))) are_left n2));
         }
 
-    pub values_left : (x : List ℕ) → ValueLoses (effects.goes spots) (values_of (project old)) (values_of (project new)) x
+    pub values_left : (x : List ℕ) → ValueLoses gone (values_of (project old)) (values_of (project new)) x
     values_left x = go (single (project old) x) refl (single (project new) x) refl (places_stay x)
       where
         go : (o : Option (Placed (Expression Span))) → single (project old) x ≡ o → (o2 : Option (Placed (Expression Span))) → single (project new) x ≡ o2 → placed_of (single (project new) x) ≡ placed_of (single (project old) x)
-            → ValueLoses (effects.goes spots) (values_of (project old)) (values_of (project new)) x
+            → ValueLoses gone (values_of (project old)) (values_of (project new)) x
         go None is None is2 same = inl (ap (option_map bare_value) is, ap (option_map bare_value) is2)
         go None is (Some v2) is2 same = let none : Some v2.place ≡ None = sym (ap placed_of is2) ∙ same ∙ ap placed_of is in absurd cc
         go (Some v) is None is2 same = let none : None ≡ Some v.place = sym (ap placed_of is2) ∙ same ∙ ap placed_of is in absurd cc

@@ -1,10 +1,9 @@
 -- What is there after sources or extra files are added or removed, said of the lists that get or lose them.
-use Rattle.std.specs.Prelude.{◌≡◌, ℕ, zero, suc, Bool, true, false, not, ◌&&◌, if◌then◌else◌, List, [], ◌∷◌, ◌++◌, length, map, Option, Some, None, Ok, option_and_then, option_map}
+use Rattle.std.specs.Prelude.{◌≡◌, ℕ, Bool, true, false, not, ◌&&◌, List, [], ◌∷◌, ◌++◌, length, map, Option, Some, None, Ok, option_and_then, option_map}
 use Rattle.std.specs.List.{AllByRecursion, filter, list_any}
 use Rattle.meson_lex.specs.declared.kinds.Span.{Span}
-use Rattle.meson_syntax.specs.Parts.{Any, an_expression, a_block, node_at, child_nodes}
-use Rattle.meson_syntax.specs.Paths.{ListAt, block_of, list_at, nth, value_of}
-use Rattle.meson_syntax.specs.Tree.{bare_name, Nowhere, Plain, Expression, array, string, Listing, listing, Argument, plain, named, arguments_of}
+use Rattle.meson_syntax.specs.Paths.{ListAt, list_at, nth, value_of}
+use Rattle.meson_syntax.specs.Tree.{bare_name, Nowhere, Plain, Expression, array, Listing, listing, Argument, plain, named, arguments_of}
 use Rattle.meson_edit.specs.Edits.{elements, with_value}
 use Rattle.meson_calls.specs.declared.call.CallRef.{CallRef}
 use Rattle.meson_calls.specs.declared.call.Role.TheVariants as role
@@ -12,13 +11,14 @@ use Rattle.meson_calls.specs.Calls.{Call, Numbered, keyword}
 use Rattle.meson_variables.specs.Expansion.{Item, Mark, Slot, fixed, in_list}
 use Rattle.meson_calls.specs.Finding.{the_call}
 use Rattle.meson_calls.specs.Loading.{IsProject, Loaded, project}
-use Rattle.meson_calls.specs.Project.{Placed, Project}
+use Rattle.meson_calls.specs.Project.{Placed, Project, place}
 use Rattle.meson_variables.specs.Sources.{first_empty, first_list, home, items, or_option, source_marks}
 use Rattle.meson_steps.specs.Names.{distinct}
 use Rattle.meson_steps.specs.ResultLimits.{plain_trees}
 use Rattle.meson_steps.specs.Steps.{Step, all_stepped}
 use Rattle.meson_steps.specs.WrittenTexts.{string_of}
-use Rattle.meson_sources.specs.SourceEdits.{Spot, distinct_spots, extra_added, extra_key, extra_marks, extra_removed, has_text, is_plain, new_names, same_spot, sources_added, sources_removed, spot_after, spots_after, spots_named}
+use Rattle.meson_sources.specs.Without.{each_without}
+use Rattle.meson_sources.specs.SourceEdits.{Spot, extra_added, extra_key, extra_marks, extra_removed, has_text, is_plain, new_names, same_spot, sources_added, sources_removed, spots_named}
 
 -- the elements of the list at a place
 abbrev pub elements_found : CallRef → List Plain → Option (List (Argument Nowhere))
@@ -104,70 +104,23 @@ ExtraIsAdded = (old : Loaded) → IsProject old → (id : List ℕ) (c : Placed 
 
 -- ---- sources and extra files that are removed
 
--- the children of what stands at a place: of an array its elements, of a call the values of its arguments
-abbrev pub children_found : CallRef → List Plain → Option (List (Any Nowhere))
-children_found c trees = option_and_then (λ t. option_map child_nodes (node_at (a_block (block_of t)) c.path.steps)) (nth trees c.file)
+abbrev pub spot_at : CallRef → ℕ → Spot
+spot_at list n = record { list = list; number = n }
 
--- a child that is a string
-abbrev pub string_child : Any Nowhere → Option (Expression Nowhere)
-string_child (an_expression (string s q x)) = Some (string s q x)
-string_child _ = None
-
--- the list without the elements at some numbers
-abbrev pub but : {X : Type 0} → (ℕ → Bool) → List X → List X
-but gone [] = []
-but gone (x ∷ xs) = if gone 0 then but (λ n. gone (suc n)) xs else x ∷ but (λ n. gone (suc n)) xs
-
-abbrev pub spot_of_child : CallRef → ℕ → Spot
-spot_of_child c n = record { list = c; number = n }
-
--- whether the child of this number is one of those that go
+-- whether the element of this number of the list at a place is one of those that go
 abbrev pub goes : List Spot → CallRef → ℕ → Bool
-goes spots c n = list_any (λ s. same_spot s (spot_of_child c n)) spots
+goes spots list n = list_any (λ s. same_spot s (spot_at list n)) spots
 
--- where a place is after so many of these spots have gone
-abbrev pub place_after : ℕ → List Spot → CallRef → CallRef
-place_after zero spots c = c
-place_after (suc left) [] c = c
-place_after (suc left) (s ∷ more) c = place_after left (spots_after s more) (spot_after s (spot_of_child c 0)).list
-
--- Of these children the strings at the spots are gone. All others stay in their order, and each that is a string is as it was.
-pub record OnlyTheseGo (spots : List Spot) (c : CallRef) (children : List (Any Nowhere)) (after : List Plain) : Type 0 where
-  pub left : List (Any Nowhere)
-  pub has : children_found (place_after (length spots) spots c) after ≡ Some left
-  pub strings : map string_child left ≡ but (goes spots c) (map string_child children)
-
--- At each place that has children only these go.
-abbrev pub StringsGo : List Spot → (before after : List Plain) → Type 0
-StringsGo spots before after = (c : CallRef) (children : List (Any Nowhere)) → children_found c before ≡ Some children → (children ≡ [] → ⊥) → OnlyTheseGo spots c children after
-
--- what stands at a place
-abbrev pub node_found : CallRef → List Plain → Option (Any Nowhere)
-node_found c trees = option_and_then (λ t. node_at (a_block (block_of t)) c.path.steps) (nth trees c.file)
-
--- no other list that loses a string stands in what stands at the place
-abbrev pub NoneUnder : List Spot → CallRef → Type 0
-NoneUnder spots c = AllByRecursion (λ s. (n : ℕ) (rest : List ℕ) → s.list.file ≡ c.file → s.list.path.steps ≡ c.path.steps ++ n ∷ rest → ⊥) spots
-
--- A list in which no other list loses any has all its elements in their order but those at the spots.
-abbrev pub ListsLose : List Spot → (before after : List Plain) → Type 0
-ListsLose spots before after = (list : CallRef) (elements : List (Argument Nowhere)) → elements_found list before ≡ Some elements → NoneUnder spots list
-    → elements_found (place_after (length spots) spots list) after ≡ Some (but (goes spots list) elements)
-
--- no spot is one of what stands at the place, or of what stands in that
-abbrev pub NoneIn : List Spot → CallRef → Type 0
-NoneIn spots c = AllByRecursion (λ s. (rest : List ℕ) → s.list.file ≡ c.file → s.list.path.steps ≡ c.path.steps ++ rest → ⊥) spots
-
--- All else in which nothing goes is as it was, where its place has moved to.
-abbrev pub AllElseStays : List Spot → (before after : List Plain) → Type 0
-AllElseStays spots before after = (c : CallRef) (x : Any Nowhere) → node_found c before ≡ Some x → string_child x ≡ None → NoneIn spots c → node_found (place_after (length spots) spots c) after ≡ Some x
+-- the trees without the elements at these spots
+abbrev pub trees_without : List Spot → List Plain → List Plain
+trees_without spots trees = each_without (λ file path n. goes spots (place file path) n) trees
 
 abbrev pub has_one_of : List (List ℕ) → Item Span → Bool
 has_one_of names i = list_any (λ name. has_text name i) names
 
 -- whether what has the slot stands at the spot
 abbrev pub is_at : Spot → Slot → Bool
-is_at s (in_list c n) = same_spot s (spot_of_child c n)
+is_at s (in_list c n) = same_spot s (spot_at c n)
 is_at s fixed = false
 
 -- Each of the items that has one of these names stands at one of the spots, and at each spot stands such an item.
@@ -175,14 +128,12 @@ pub record AreSpotsOf (is : List (Item Span)) (names : List (List ℕ)) (spots :
   pub each : AllByRecursion (λ i. has_one_of names i ≡ true → list_any (λ s. is_at s i.slot) spots ≡ true) is
   pub only : AllByRecursion (λ s. list_any (λ i. has_one_of names i && is_at s i.slot) is ≡ true) spots
 
--- The spots are those of all items with these names, and they are gone, and nothing else is.
+-- The spots are those of all items with these names, and the trees are what they were without the elements there.
 pub record NamesGo (marks : List (Mark Span)) (names : List (List ℕ)) (before after : List Plain) : Type 0 where
   pub spots : List Spot
   pub are_spots : spots_named marks (distinct names) ≡ Ok spots
   pub of_names : AreSpotsOf (items marks) (distinct names) spots
-  pub lists : ListsLose (distinct_spots spots) before after
-  pub gone : StringsGo (distinct_spots spots) before after
-  pub others : AllElseStays (distinct_spots spots) before after
+  pub left : after ≡ trees_without spots before
 
 -- the laws: of the target's sources, or of its extra files, those that are named are gone from all lists that held them, and nothing else is
 abbrev pub SourcesAreRemoved : Type 0

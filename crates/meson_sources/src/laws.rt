@@ -21,8 +21,8 @@ pub fn extra_is_added()
     ensures { ExtraIsAdded }
 {}
 
-/// After sources are removed each list that held them has its other elements in their order: those at the places of all sources with these names are gone, and
-/// all else is as it was, where its place has moved to.
+/// After sources are removed the trees are those before without the elements at the places of all sources with these names: each list has its others in their
+/// order, and all else is as it was.
 pub fn sources_are_removed()
     ensures { SourcesAreRemoved }
 {}
