@@ -15,7 +15,7 @@ use Rattle.meson_sources.proofs.PartsPut.{Differ, here, there, differ_new, diffe
 use Rattle.meson_sources.proofs.PutAlong.{PutAt, StepsTo}
 use Rattle.meson_sources.proofs.RenamedStrings.{LosesString, Node, NotThrough, a_string, child_moved, not_string}
 use Rattle.meson_sources.proofs.StringsStay.{list_any}
-use Rattle.meson_steps.proofs.PlainTrees.{nth_map}
+use Rattle.meson_edit.proofs.paths.Mapped.{nth_map}
 
 -- the strings among the children of a node, each at its number
 abbrev pub seen : Node → List (Option (Expression Nowhere))
