@@ -46,3 +46,4 @@ pub mod NoteReadings
 pub mod NotesWith
 mod NoSubdirs
 pub mod KeywordArguments
+pub mod AtMostOnce

@@ -1,5 +1,5 @@
 -- The list of the array or call at a place, and that a call which is found stands at its place.
-use Rattle.std.specs.Prelude.{◌≡◌, ℕ, List, Some, Ok}
+use Rattle.std.specs.Prelude.{◌≡◌, ℕ, List, Option, Some, Ok, option_map, option_and_then}
 use Rattle.meson_lex.specs.declared.kinds.Span.{Span}
 use Rattle.meson_splice.specs.declared.file_set.File.{File}
 use Rattle.meson_syntax.specs.declared.operator.Bracket.TheVariants as bracket
@@ -7,10 +7,14 @@ use Rattle.meson_syntax.specs.declared.tree.Parsed.{Parsed}
 use Rattle.meson_syntax.specs.Paths.{ListAt, list_at}
 use Rattle.meson_calls.specs.declared.call.CallRef.{CallRef}
 use Rattle.meson_calls.specs.declared.call.Role.{Role}
-use Rattle.meson_calls.specs.Project.{Project, BuildFile, Placed, nth_file}
-use Rattle.meson_calls.specs.Calls.{Call}
+use Rattle.meson_calls.specs.Project.{Project, BuildFile, Placed, placed, expression_at, nth_file}
+use Rattle.meson_calls.specs.Calls.{Call, call_of}
 use Rattle.meson_calls.specs.Finding.{the_call}
 use Rattle.meson_calls.specs.Loading.{AreParsed, named_trees, views}
+
+-- the call at a place, if there is one
+abbrev pub call_at : {S : Type 0} → Project S → CallRef → Option (Placed (Call S))
+call_at p c = option_map (placed c) (option_and_then call_of (expression_at p c))
 
 -- the list of the array or call at a place
 pub record ListThere (p : Project Span) (c : CallRef) : Type 0 where

@@ -14,6 +14,7 @@ pub mod Strings
 pub mod NotedProjects
 pub mod GoodLists
 pub mod Knowns
+pub mod Keys
 pub mod Keywords
 pub mod Refusals
 pub mod Finding

@@ -1,13 +1,17 @@
 //! What the arguments of a call hold, one after another.
 
-ghost use Rattle.std.specs.Prelude.{◌≡◌, [], MatchOption, None, drop, is_some, length};
+ghost use Rattle.std.specs.Prelude.{◌≡◌, ◌<◌, ◌≤◌, [], MatchOption, None, OnOk, drop, is_some, length};
+ghost use Rattle.std.specs.Str.{IsUtf8};
 ghost use Rattle.meson_syntax.specs.View.{arg_view};
 ghost use Rattle.meson_calls.specs.Picking.{Source};
 ghost use Rattle.meson_calls.specs.Calls.{value_without_name, value_with_name};
 ghost use Rattle.meson_calls.specs.Keywords.{rest, kept_args, IsFirstNamed};
+ghost use Rattle.meson_calls.specs.Refusals.{IfRefused};
 
-use crate::roles::text_of;
-use meson_syntax::Arg;
+use crate::refusal::Refusal;
+use crate::roles::{text_of, text_of_name};
+use meson_syntax::{Arg, List};
+use std::alloc::Global;
 
 /// Whether an argument has this name.
 fn has_name(source: &[u8], arg: &Arg, key: &[u8]) -> bool
@@ -30,6 +34,28 @@ pub fn count_named(source: &[u8], args: &[Arg], key: &[u8]) -> usize
         }
     }
     count
+}
+
+/// Refuses a call that has more than one argument of this name.
+///
+/// # Errors
+/// It has, or memory is refused.
+pub fn at_most_once(
+    alloc: Global,
+    source: &[u8],
+    arguments: &List,
+    key: &[u8],
+) -> Result<(), Refusal>
+    requires { IsUtf8 key.now }
+    ensures few { OnOk result (length (kept_args source.now (value_with_name key.now) 0 arguments.now.items) ≤ 1) }
+    ensures twice { IfRefused result (λ e. (e ≡ Refusal.DuplicateKeyword key.now)
+        × (1 < length (kept_args source.now (value_with_name key.now) 0 arguments.now.items))) }
+{
+    if count_named(source, arguments.items.get(), key) > 1 {
+        let key = text_of_name(alloc, key)?;
+        return Err(Refusal::DuplicateKeyword(key));
+    }
+    Ok(())
 }
 
 /// The number of the first argument that has this name.

@@ -9,6 +9,7 @@ pub mod finding;
 pub mod folders;
 pub mod keeper;
 pub mod keeping;
+pub mod keys;
 pub mod laws;
 pub mod literals;
 pub mod load_fault;

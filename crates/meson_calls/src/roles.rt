@@ -1,6 +1,7 @@
 //! Which calls a command may be about.
 
-ghost use Rattle.std.specs.Prelude.{◌≡◌, None, Some, MatchOption};
+ghost use Rattle.std.specs.Prelude.{◌≡◌, None, Some, MatchOption, IfOk};
+ghost use Rattle.std.specs.Str.{IsUtf8};
 ghost use Rattle.meson_lex.specs.Kinds.{IsIdentifier};
 ghost use Rattle.meson_syntax.specs.View.{text_at, expr_view, arg_view, list_view};
 ghost use Rattle.meson_calls.specs.Calls.{first_argument, value_without_name};
@@ -11,7 +12,9 @@ ghost use Rattle.meson_calls.specs.Picking.{Source, call_with, note_has_role};
 use crate::call::Role;
 use crate::note::What;
 use meson_lex::Span;
+use meson_splice::Text;
 use meson_syntax::{Arg, Expr, List};
+use std::alloc::{AllocError, Global};
 use std::str;
 
 /// The bytes of a span, or what there is of them.
@@ -30,6 +33,20 @@ pub fn identifier_text(name: &[u8]) -> &str
 {
     match str::from_utf8(name) {
         Ok(text) => text,
+        Err(_) => unreachable!(),
+    }
+}
+
+/// A text of these bytes, which are UTF-8 as all that stands in a source.
+pub fn text_of_name(alloc: Global, name: &[u8]) -> Result<Text, AllocError>
+    requires { IsUtf8 name.now }
+    ensures { IfOk result (λ t. t ≡ name.now) }
+{
+    match str::from_utf8(name) {
+        Ok(name) => {
+            let text = String::from_str(alloc, name)?;
+            Ok(Text::of(text))
+        }
         Err(_) => unreachable!(),
     }
 }

@@ -5,6 +5,7 @@ pub mod Places
 pub mod LaidOut
 pub mod Values
 pub mod Elements
+pub mod CodeElements
 pub mod Answers
 pub mod LastWords
 pub mod Others

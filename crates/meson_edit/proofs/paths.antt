@@ -1,3 +1,4 @@
+pub mod Mapped
 pub mod Positions
 pub mod InExpressions
 pub mod InStatements

@@ -3,6 +3,8 @@
 
 mod depth;
 pub mod laws;
+mod spans;
 pub mod trees;
 
 pub use depth::nests_within;
+pub use spans::span_of;

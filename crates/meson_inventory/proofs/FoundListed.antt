@@ -20,7 +20,7 @@ use Rattle.meson_calls.specs.Project.{Project, Placed, placed, expression_at}
 use Rattle.meson_calls.specs.Roles.{assigned_values, found, has_role, or_else, part_set_to, places, role_calls, set_to, targets, value_of_assignment, with_name, with_role}
 use Rattle.meson_calls.proofs.CallsReached.{InProject, every_chosen, every_part}
 use Rattle.meson_calls.proofs.ExpressionsAt.{assigned_stands, expression_stands}
-use Rattle.meson_plan.specs.Details.{head_of}
+use Rattle.meson_details.specs.Details.{head_of}
 use Rattle.meson_targets.specs.TargetEdits.{variable_of}
 use Rattle.meson_targets.proofs.VariableStatements.{value_has_variable}
 use Rattle.meson_inventory.specs.Holdings.{held_call, holdings}

@@ -11,7 +11,7 @@ use Rattle.meson_calls.specs.Notes.{Note, a_call, an_assignment, a_loop, notes}
 use Rattle.meson_calls.specs.Project.{Placed, Project}
 use Rattle.meson_calls.specs.Roles.{places, targets}
 use Rattle.meson_calls.specs.Variables.{calls_function}
-use Rattle.meson_plan.specs.Details.{head, is_call}
+use Rattle.meson_details.specs.Details.{head, is_call}
 use Rattle.meson_targets.specs.TargetEdits.{variable_of}
 use Rattle.meson_inventory.specs.declared.holdings.HeldCall.{HeldCall}
 use Rattle.meson_inventory.specs.declared.holdings.Holdings.{Holdings}

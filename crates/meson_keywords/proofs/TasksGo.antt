@@ -24,7 +24,7 @@ use Rattle.meson_keywords.specs.Tasking.{MayBeWritten}
 use Rattle.meson_keywords.specs.Tasks.{Task}
 use Rattle.meson_keywords.specs.TaskSteps.{or_same, task_steps, trees_after}
 use Rattle.meson_steps.specs.Working.{IsUnderWay, Reached, so_far}
-use Rattle.meson_steps.proofs.ArgumentValues.{list_elements}
+use Rattle.meson_edit.proofs.lists.CodeElements.{list_elements}
 use Rattle.meson_keywords.proofs.CallKnown.{ListKnown, known_stand, list_known}
 use Rattle.meson_keywords.proofs.ErasedSteps.{steps_erased}
 use Rattle.meson_calls.proofs.Nested.{good_args}

@@ -1,5 +1,5 @@
--- The keyword arguments that may be changed, what values they have, and what is written for these. Meson manual, Reference manual: `project`, `dependency`, `executable`.
-use Rattle.std.specs.Prelude.{ℕ, Bool, true, false, not, ◌&&◌, ◌||◌, List, [], ◌∷◌, ◌++◌, map, codes, if◌then◌else◌, bytes_eq, Option, Some, None, option_map, Result, Ok, Err}
+-- What values the keyword arguments have that commands change, and what is written for these. Meson manual, Reference manual: `project`, `dependency`, `executable`.
+use Rattle.std.specs.Prelude.{ℕ, Bool, true, false, not, ◌&&◌, List, [], ◌∷◌, ◌++◌, map, codes, if◌then◌else◌, bytes_eq, Option, Some, None, option_map, Result, Ok, Err}
 use Rattle.std.specs.List.{list_all}
 use Rattle.meson_lex.specs.Bytes.{is_word_start, is_word_byte}
 use Rattle.meson_lex.specs.Kinds.{spelling, reserved}
@@ -8,7 +8,6 @@ use Rattle.meson_splice.specs.Patch.{then_ok}
 use Rattle.meson_syntax.specs.Tree.{bare_name, Nowhere, Expression, identifier, boolean, Argument, plain, named}
 use Rattle.meson_edit.specs.Edits.{Written}
 use Rattle.meson_calls.specs.declared.call.Role.{Role}
-use Rattle.meson_calls.specs.declared.call.Role.TheVariants as role
 use Rattle.meson_steps.specs.declared.command.Setting.{Setting}
 use Rattle.meson_steps.specs.declared.command.Setting.TheVariants as setting
 use Rattle.meson_keywords.specs.declared.keys.ElementKind.{ElementKind}
@@ -17,38 +16,11 @@ use Rattle.meson_keywords.specs.declared.keys.ValueKind.{ValueKind}
 use Rattle.meson_keywords.specs.declared.keys.ValueKind.TheVariants as value
 use Rattle.meson_calls.specs.declared.refusal.Refusal.{Refusal}
 use Rattle.meson_calls.specs.declared.refusal.Refusal.TheVariants.{UnknownKey, WrongKind, BadName}
+use Rattle.meson_calls.specs.Keys.{identifier_list_keys, switch_keys, text_keys, text_list_keys}
 use Rattle.meson_calls.specs.Roles.{one_of}
 use Rattle.meson_steps.specs.WrittenTexts.{string_of, array_of_values, comma_between, written_text}
 
--- ---- which keyword arguments, by what the call is one of
-
--- those that are one text
-abbrev pub text_keys : Role → List (List ℕ)
-text_keys role.Project = codes "version" ∷ codes "meson_version" ∷ codes "subproject_dir" ∷ []
-text_keys role.Dependency = codes "language" ∷ codes "method" ∷ codes "not_found_message" ∷ []
-text_keys role.Target = codes "build_rpath" ∷ codes "install_dir" ∷ codes "install_rpath" ∷ []
-
--- those that are `true` or `false`
-abbrev pub switch_keys : Role → List (List ℕ)
-switch_keys role.Project = []
-switch_keys role.Dependency = codes "native" ∷ codes "required" ∷ codes "static" ∷ []
-switch_keys role.Target = codes "build_by_default" ∷ codes "export_dynamic" ∷ codes "gui_app" ∷ codes "implib" ∷ codes "install" ∷ codes "pie" ∷ []
-
--- those that are a list of texts
-abbrev pub text_list_keys : Role → List (List ℕ)
-text_list_keys role.Project = codes "license" ∷ codes "default_options" ∷ []
-text_list_keys role.Dependency = codes "version" ∷ codes "modules" ∷ []
-text_list_keys role.Target = []
-
--- those that are a list of variables
-abbrev pub identifier_list_keys : Role → List (List ℕ)
-identifier_list_keys role.Project = []
-identifier_list_keys role.Dependency = []
-identifier_list_keys role.Target = codes "dependencies" ∷ codes "link_with" ∷ []
-
--- whether commands change it
-abbrev pub is_key : Role → List ℕ → Bool
-is_key r key = one_of (text_keys r) key || (one_of (switch_keys r) key || (one_of (text_list_keys r) key || one_of (identifier_list_keys r) key))
+-- ---- what the value of a keyword argument is, by what the call is one of
 
 abbrev pub key_kind : Role → List ℕ → Result ValueKind Refusal
 key_kind r key =

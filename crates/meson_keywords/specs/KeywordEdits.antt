@@ -2,13 +2,14 @@
 use Rattle.std.specs.Prelude.{ℕ, zero, suc, ◌-◌, Bool, List, [], ◌∷◌, map, length, if◌then◌else◌, bytes_eq, Option, Some, None, is_some, Result, Ok, Err}
 use Rattle.std.specs.List.{filter_map, list_all}
 use Rattle.meson_splice.specs.Patch.{then_ok}
-use Rattle.meson_syntax.specs.Tree.{Nowhere, Expression, identifier, array, Argument, plain, named, pair, arguments_of}
+use Rattle.meson_syntax.specs.Tree.{Nowhere, Expression, array, Argument, plain, named, pair, arguments_of}
 use Rattle.meson_edit.specs.Edits.{Written, First, After, Remove, Replace, Wrap, elements}
 use Rattle.meson_calls.specs.declared.call.CallRef.{CallRef}
 use Rattle.meson_keywords.specs.declared.keys.ElementKind.{ElementKind}
 use Rattle.meson_keywords.specs.declared.keys.ElementKind.TheVariants as element
 use Rattle.meson_calls.specs.declared.refusal.Refusal.{Refusal}
 use Rattle.meson_calls.specs.declared.refusal.Refusal.TheVariants.{DuplicateKeyword, NotLiteral}
+use Rattle.meson_calls.specs.Keys.{name_of}
 use Rattle.meson_calls.specs.Project.{child}
 use Rattle.meson_calls.specs.Calls.{Numbered, numbered, kept_number, value_with_name}
 use Rattle.meson_calls.specs.Calls as calls
@@ -59,10 +60,6 @@ passing test n (x ∷ xs) = if test x then n ∷ passing test (suc n) xs else pa
 -- ---- elements of a kind
 
 -- the name of a variable
-abbrev pub name_of : {S : Type 0} → Expression S → Option (List ℕ)
-name_of (identifier s x) = Some x
-name_of _ = None
-
 -- the text of an element, if it is one of the kind: a string with a value, or a variable
 abbrev pub text_in : {S : Type 0} → ElementKind → Expression S → Option (List ℕ)
 text_in element.Text e = calls.literal_of e

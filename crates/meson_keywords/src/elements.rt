@@ -7,7 +7,8 @@ ghost use Rattle.meson_syntax.specs.Grammar.{argument_words, expression_words};
 ghost use Rattle.meson_syntax.specs.View.{arg_view, args_view, expr_view};
 ghost use Rattle.meson_calls.specs.Calls.{is, literal_of};
 ghost use Rattle.meson_calls.specs.GoodLists.{GoodArgs};
-ghost use Rattle.meson_keywords.specs.KeywordEdits.{all_of_kind, an_array, element_text, name_of, no_array, passing, says, value_shape, text_in, the_value};
+ghost use Rattle.meson_calls.specs.Keys.{name_of};
+ghost use Rattle.meson_keywords.specs.KeywordEdits.{all_of_kind, an_array, element_text, no_array, passing, says, value_shape, text_in, the_value};
 ghost use Rattle.meson_keywords.specs.Options.{entries, is_entry, keys_known};
 ghost use Rattle.meson_calls.specs.Picking.{Source};
 ghost use Rattle.meson_calls.specs.Refusals.{RefusedAs};
@@ -15,11 +16,11 @@ ghost use Rattle.meson_steps.specs.Names.{distinct_by};
 ghost use Rattle.meson_calls.specs.Strings.{AreGood};
 ghost use Rattle.meson_keywords.specs.Tasking.{args_of, found_argument, test_of};
 
-use crate::keys::{ElementKind, key_text};
+use crate::keys::ElementKind;
 use crate::tasks::before_equals;
 use meson_calls::arguments::{count_named, first_named};
 use meson_calls::literals::literal;
-use meson_calls::roles::text_of;
+use meson_calls::roles::{text_of, text_of_name};
 use meson_calls::{CallRef, Refusal};
 use meson_splice::Text;
 use meson_steps::names::is_among;
@@ -58,7 +59,7 @@ pub(crate) fn the_value<'t>(
 {
     let args = subject.args;
     if count_named(subject.source, args, key) > 1 {
-        let key = key_text(alloc, key)?;
+        let key = text_of_name(alloc, key)?;
         return Err(Refusal::DuplicateKeyword(key));
     }
     match first_named(subject.source, args, key) {

@@ -1,29 +1,15 @@
-//! The keyword arguments that may be changed, and the kinds of their values.
+//! The kinds of the values of keyword arguments.
 
 ghost use Rattle.std.specs.Prelude.{◌≡◌, ◌∷◌, [], IfOk, Ok, map, true};
 ghost use Rattle.std.specs.Str.{IsUtf8};
-ghost use Rattle.meson_keywords.specs.Keys.{are_elements, identifier_list_keys, is_key, key_kind, list_kind, switch_keys, text_keys, text_list_keys};
+ghost use Rattle.meson_keywords.specs.Keys.{are_elements, key_kind, list_kind};
 ghost use Rattle.meson_calls.specs.Refusals.{RefusedAs};
-ghost use Rattle.meson_calls.specs.Roles.{one_of};
 ghost use Rattle.meson_keywords.specs.Tasking.{AreElements, IsKey};
 
+use meson_calls::keys::{is_identifier_list_key, is_switch_key, is_text_key, is_text_list_key};
 use meson_calls::{Refusal, Role};
 use meson_splice::Text;
 use meson_steps::literals::key_of;
-use std::alloc::{AllocError, Global};
-use std::str;
-
-/// The text of a key, which is one.
-pub(crate) fn key_text(alloc: Global, key: &[u8]) -> Result<Text, AllocError>
-    requires { IsUtf8 key.now }
-    ensures { IfOk result (λ text. text ≡ key.now) }
-{
-    let Ok(key) = str::from_utf8(key) else {
-        unreachable!();
-    };
-    let text = String::from_str(alloc, key)?;
-    Ok(Text::of(text))
-}
 
 /// What the elements of a list are.
 #[derive(Clone, Copy)]
@@ -38,75 +24,6 @@ pub(crate) enum ValueKind {
     Text,
     Switch,
     ListOf(ElementKind),
-}
-
-/// Whether a keyword argument is one text.
-fn is_text_key(role: Role, key: &[u8]) -> bool
-    ensures { result ≡ one_of (text_keys role) key.now }
-{
-    match role {
-        Role::Project => b"version".as_slice() == key
-            || b"meson_version".as_slice() == key
-            || b"subproject_dir".as_slice() == key,
-        Role::Dependency => b"language".as_slice() == key
-            || b"method".as_slice() == key
-            || b"not_found_message".as_slice() == key,
-        Role::Target => b"build_rpath".as_slice() == key
-            || b"install_dir".as_slice() == key
-            || b"install_rpath".as_slice() == key,
-    }
-}
-
-/// Whether it is `true` or `false`.
-fn is_switch_key(role: Role, key: &[u8]) -> bool
-    ensures { result ≡ one_of (switch_keys role) key.now }
-{
-    match role {
-        Role::Project => false,
-        Role::Dependency => b"native".as_slice() == key
-            || b"required".as_slice() == key
-            || b"static".as_slice() == key,
-        Role::Target => {
-            b"build_by_default".as_slice() == key
-                || b"export_dynamic".as_slice() == key
-                || b"gui_app".as_slice() == key
-                || b"implib".as_slice() == key
-                || b"install".as_slice() == key
-                || b"pie".as_slice() == key
-        }
-    }
-}
-
-/// Whether it is a list of texts.
-fn is_text_list_key(role: Role, key: &[u8]) -> bool
-    ensures { result ≡ one_of (text_list_keys role) key.now }
-{
-    match role {
-        Role::Project => b"license".as_slice() == key || b"default_options".as_slice() == key,
-        Role::Dependency => b"version".as_slice() == key || b"modules".as_slice() == key,
-        Role::Target => false,
-    }
-}
-
-/// Whether it is a list of variables.
-fn is_identifier_list_key(role: Role, key: &[u8]) -> bool
-    ensures { result ≡ one_of (identifier_list_keys role) key.now }
-{
-    match role {
-        Role::Project => false,
-        Role::Dependency => false,
-        Role::Target => b"dependencies".as_slice() == key || b"link_with".as_slice() == key,
-    }
-}
-
-/// Whether commands change a keyword argument.
-pub fn is_key(role: Role, key: &[u8]) -> bool
-    ensures { result ≡ is_key role key.now }
-{
-    is_text_key(role, key)
-        || is_switch_key(role, key)
-        || is_text_list_key(role, key)
-        || is_identifier_list_key(role, key)
 }
 
 /// The kind of the values of a keyword argument.

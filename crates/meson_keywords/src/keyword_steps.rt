@@ -21,9 +21,10 @@ use crate::elements::{
     NumberedValue, Subject, Test, all_known, array_in, is_element, new_values, other_values,
     passing, says, the_value,
 };
-use crate::keys::{ElementKind, key_text};
+use crate::keys::ElementKind;
 use crate::writing::{written_element, written_list, written_named};
 use meson_calls::place::{copy_place, value_place};
+use meson_calls::roles::text_of_name;
 use meson_calls::{CallRef, Refusal};
 use meson_splice::{Bytes, Text};
 use meson_steps::step::{ListEdit, ListStep, push_step};
@@ -104,7 +105,7 @@ pub(crate) fn not_literal(alloc: Global, key: &[u8]) -> Result<Refusal, AllocErr
     requires { IsUtf8 key.now }
     ensures { IfOk result (λ refusal. refusal ≡ Refusal.NotLiteral key.now) }
 {
-    Ok(Refusal::NotLiteral(key_text(alloc, key)?))
+    Ok(Refusal::NotLiteral(text_of_name(alloc, key)?))
 }
 
 /// The steps by which a keyword argument is set.

@@ -15,11 +15,12 @@ use Rattle.meson_calls.specs.declared.call.Role.{Role}
 use Rattle.meson_calls.specs.declared.call.Role.TheVariants as role
 use Rattle.meson_variables.specs.declared.source.Sources.{Sources}
 use Rattle.meson_calls.specs.declared.refusal.Refusal.{Refusal}
+use Rattle.meson_calls.specs.CallPlaces.{call_at}
 use Rattle.meson_calls.specs.Calls.{Call, call_of, keyword}
 use Rattle.meson_calls.specs.Finding.{the_call}
 use Rattle.meson_calls.specs.Loading.{Loaded, AreParsed, IsProject, project}
 use Rattle.meson_calls.specs.Project.{Project, Placed, placed}
-use Rattle.meson_variables.specs.Sources.{sources_of_marks, call_at, source_marks, sources, sources_of_call}
+use Rattle.meson_variables.specs.Sources.{sources_of_marks, source_marks, sources, sources_of_call}
 use Rattle.meson_calls.specs.Keywords.{once, sources_key}
 use Rattle.meson_sources.specs.Extras.{extra_files, extra_of_call}
 use Rattle.meson_sources.specs.SourceEdits.{extra_key, extra_marks}
@@ -30,10 +31,11 @@ use Rattle.meson_steps.specs.ResultLimits.{AreShallow, AreSmall, plain_trees, sa
 use Rattle.meson_steps.specs.Steps.{Step, StepsMake, none, step, all_stepped}
 use Rattle.meson_steps.proofs.PlainTrees.{parsed_shallow}
 use Rattle.meson_calls.proofs.CallsFound.{CallAt, role_found}
-use Rattle.meson_plan.specs.declared.details.Head.{Head}
-use Rattle.meson_plan.specs.Details.{head, head_of, keywords, keywords_of_call}
+use Rattle.meson_details.specs.declared.details.Head.{Head}
+use Rattle.meson_details.specs.Details.{head, head_of, keywords, keywords_of_call}
 use Rattle.meson_plan.specs.Performing.{MayRefuse, Performs, unplanned, deep, large}
-use Rattle.meson_plan.specs.Planning.{call_told, key_told, keys_told, planned, target_told}
+use Rattle.meson_details.specs.Once.{call_told}
+use Rattle.meson_plan.specs.Planning.{call_asked, planned, target_told}
 use Rattle.meson_listing.specs.Entries.{call_data, target_data}
 use Rattle.meson_listing.specs.Laws.{CallsAgree, CallsListed, DoesNothing, IsListedAs, TargetsAgree, TargetsListed, no_steps}
 use Rattle.meson_listing.specs.Listing as listing
@@ -97,18 +99,9 @@ once_then key [] y f rest is = is
 once_then key (x ∷ []) y f rest is = is
 once_then key (x ∷ z ∷ more) y f rest is = refl
 
-told_then : {X : Type 0} (told : Result (List Step) Refusal) (x : X) (f : X → Data) → no_steps (then_ok (then_ok told (λ _. Ok x)) (λ y. Ok (f y))) ≡ then_ok told (λ _. Ok [])
-told_then (Ok steps) x f = refl
+told_then : {X : Type 0} (told : Result (Unit {0}) Refusal) (x : X) (f : X → Data) → no_steps (then_ok (then_ok told (λ _. Ok x)) (λ y. Ok (f y))) ≡ then_ok told (λ _. Ok [])
+told_then (Ok u) x f = refl
 told_then (Err e) x f = refl
-
--- no steps are meant
-first_told : (r : Result (Unit {0}) Refusal) (rest : Result (List Step) Refusal) → then_ok rest (λ _. Ok []) ≡ rest → then_ok (then_ok r (λ _. rest)) (λ (steps : List Step). Ok []) ≡ then_ok r (λ _. rest)
-first_told (Ok u) rest is = is
-first_told (Err e) rest is = refl
-
-nothing_told : (r : Role) (c : Call Span) (keys : List (List ℕ)) → then_ok (keys_told r c keys) (λ (steps : List Step). Ok []) ≡ keys_told r c keys
-nothing_told r c [] = refl
-nothing_told r c (key ∷ keys) = first_told (key_told r c key) (keys_told r c keys) (nothing_told r c keys)
 
 found_then : (found : Result (Placed (Call Span)) Refusal) (told : Placed (Call Span) → Result Data Refusal) (meant : Placed (Call Span) → Result (List Step) Refusal)
     → ((c : Placed (Call Span)) → found ≡ Ok c → no_steps (told c) ≡ meant c) → no_steps (then_ok found told) ≡ then_ok found meant
@@ -129,11 +122,10 @@ targets_agree l id = found_then (the_call (project l) role.Target id) _ _ (λ c 
 pub calls_agree : CallsAgree
 calls_agree l r id = found_then (the_call (project l) r id) _ _ (λ c found. here c (role_found (project l) r id c found).at)
   where
-    here : (c : Placed (Call Span)) → CallAt (project l) c → no_steps (or_not_found (listing.call_listing l r c.place)) ≡ call_told r c.it
+    here : (c : Placed (Call Span)) → CallAt (project l) c → no_steps (or_not_found (listing.call_listing l r c.place)) ≡ call_asked r c.it
     here c at =
         ap (λ o. no_steps (or_not_found o)) (call_listing_is l c at r)
         ∙ told_then (call_told r c.it) _ (call_data l.files c.place.file (has_head at.value c.it at.is_call).told)
-        ∙ nothing_told r c.it _
 
 -- ---- commands that are performed
 

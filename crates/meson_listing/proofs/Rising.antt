@@ -10,7 +10,7 @@ use Rattle.std.proofs.lemmas.List.Elements.{All-cons, All-head, All-nil, All-tai
 use Rattle.serde_json.specs.Data.{Data, Members, no_members, member, put}
 use Rattle.serde_json.specs.Find.{get_member}
 use Rattle.serde_json.proofs.Views.{get_member-put, get_member-put_other}
-use Rattle.meson_plan.specs.declared.details.Shown.{Shown}
+use Rattle.meson_details.specs.declared.details.Shown.{Shown}
 use Rattle.meson_listing.specs.Entries.{put_each, shown_data}
 use Rattle.meson_listing.specs.Laws.{NamesRise, member_names}
 

@@ -15,8 +15,9 @@ use Rattle.meson_calls.specs.Project.{Project, Placed}
 use Rattle.meson_variables.specs.Sources.{sources}
 use Rattle.meson_sources.specs.Extras.{extra_files, extra_of_call}
 use Rattle.meson_calls.proofs.CallsFound.{role_found}
-use Rattle.meson_plan.specs.declared.details.Head.{Head}
-use Rattle.meson_plan.specs.Details.{NoTarget, head, no_extra, no_sources, not_found, place_found, target_place, untold}
+use Rattle.meson_details.specs.declared.details.Head.{Head}
+use Rattle.meson_details.specs.Details.{head}
+use Rattle.meson_plan.specs.Details.{NoTarget, no_extra, no_sources, not_found, place_found, target_place, untold}
 use Rattle.meson_listing.specs.Entries.{target_data}
 use Rattle.meson_listing.specs.Listing.{or_not_found, target_at, target_listing}
 use Rattle.meson_listing.proofs.Agreeing.{extras_are, head_is, its_head}

@@ -6,9 +6,9 @@ use Rattle.meson_splice.specs.declared.file_set.File.{File}
 use Rattle.meson_variables.specs.declared.source.SourceItem.{SourceItem}
 use Rattle.meson_variables.specs.declared.source.Sources.{Sources}
 use Rattle.meson_calls.specs.Loading.{name_of_file}
-use Rattle.meson_plan.specs.declared.details.Head.{Head}
-use Rattle.meson_plan.specs.declared.details.Shown.{Shown}
-use Rattle.meson_plan.specs.declared.details.Shown.TheVariants as shown
+use Rattle.meson_details.specs.declared.details.Head.{Head}
+use Rattle.meson_details.specs.declared.details.Shown.{Shown}
+use Rattle.meson_details.specs.declared.details.Shown.TheVariants as shown
 
 abbrev pub text_or_null : Option (List ℕ) → Data
 text_or_null None = null

@@ -14,7 +14,7 @@ use Rattle.meson_steps.specs.declared.command.Command.{Command}
 use Rattle.meson_steps.specs.declared.command.Command.TheVariants as command
 use Rattle.meson_steps.specs.declared.command.Done.{Done}
 use Rattle.meson_steps.specs.Steps.{Step}
-use Rattle.meson_plan.specs.declared.details.Shown.{Shown}
+use Rattle.meson_details.specs.declared.details.Shown.{Shown}
 use Rattle.meson_plan.specs.Performing.{MayRefuse, Performs}
 use Rattle.meson_plan.specs.Planning.{planned}
 use Rattle.meson_listing.specs.Entries.{put_each, shown_data}

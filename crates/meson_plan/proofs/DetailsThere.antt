@@ -18,7 +18,8 @@ use Rattle.meson_calls.specs.Picking.{call_with}
 use Rattle.meson_calls.specs.Project.{Project, Placed, placed, expression_at}
 use Rattle.meson_calls.specs.Refusals.{IfRefused, RefusedAs}
 use Rattle.meson_sources.specs.Extras.{extra_files, extra_of_call}
-use Rattle.meson_plan.specs.Details.{keywords, keywords_of_call, place_found}
+use Rattle.meson_details.specs.Details.{keywords, keywords_of_call}
+use Rattle.meson_plan.specs.Details.{place_found}
 use Rattle.meson_calls.proofs.NotedCalls.{same_place}
 use Rattle.meson_calls.proofs.OneCall.{placed_at}
 

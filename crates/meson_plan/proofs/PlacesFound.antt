@@ -11,7 +11,8 @@ use Rattle.meson_calls.specs.Finding.{the_call}
 use Rattle.meson_calls.specs.Loading.{Loaded, project}
 use Rattle.meson_calls.specs.Project.{Project, Placed, placed}
 use Rattle.meson_calls.specs.Roles.{has_role, is_target, is_target_call}
-use Rattle.meson_plan.specs.Details.{is_call, place_found}
+use Rattle.meson_details.specs.Details.{is_call}
+use Rattle.meson_plan.specs.Details.{place_found}
 use Rattle.meson_calls.proofs.CallsFound.{RoleAt, role_found}
 
 -- ---- the place

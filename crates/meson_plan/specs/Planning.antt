@@ -1,19 +1,16 @@
 -- The edits that a command means, or why it is refused. Meson manual, Rewriter.
-use Rattle.std.specs.Prelude.{ℕ, List, [], ◌∷◌, codes, if◌then◌else◌, Option, Some, None, Result, Ok}
-use Rattle.std.specs.List.{filter_map}
+use Rattle.std.specs.Prelude.{ℕ, List, [], codes, Result, Ok}
 use Rattle.meson_splice.specs.Patch.{then_ok}
-use Rattle.meson_syntax.specs.Tree.{Argument, plain, named, pair}
-use Rattle.meson_edit.specs.Edits.{elements}
 use Rattle.meson_calls.specs.declared.call.Role.{Role}
 use Rattle.meson_calls.specs.declared.call.Role.TheVariants as role
 use Rattle.meson_steps.specs.declared.command.Command.{Command}
 use Rattle.meson_steps.specs.declared.command.Command.TheVariants as command
 use Rattle.meson_calls.specs.declared.refusal.Refusal.{Refusal}
 use Rattle.meson_calls.specs.Project.{Project}
-use Rattle.meson_calls.specs.Calls.{Call, keyword}
+use Rattle.meson_calls.specs.Calls.{Call}
 use Rattle.meson_calls.specs.Finding.{the_call}
-use Rattle.meson_calls.specs.Keywords.{sources_key, once}
-use Rattle.meson_keywords.specs.Keys.{is_key}
+use Rattle.meson_calls.specs.Keywords.{sources_key}
+use Rattle.meson_details.specs.Once.{call_told, only_once}
 use Rattle.meson_sources.specs.SourceEdits.{extra_key, sources_added, sources_removed, extra_added, extra_removed}
 use Rattle.meson_targets.specs.TargetEdits.{target_added, target_removed}
 use Rattle.meson_keywords.specs.Tasks.{each_made, set_entry, delete_entry, add_entry, remove_entry, set_option_entry, delete_option_entry}
@@ -22,34 +19,18 @@ use Rattle.meson_steps.specs.Steps.{Step}
 
 -- ---- commands that change nothing: what they tell of may be there once only
 
-abbrev pub only_once : {S : Type 0} → List ℕ → Call S → Result (Unit {0}) Refusal
-only_once key c = once key (keyword key c) tt
-
 abbrev pub target_told : {S : Type 0} → Call S → Result (List Step) Refusal
 target_told c = then_ok (only_once sources_key c) (λ _. then_ok (only_once extra_key c) (λ _. Ok []))
 
-abbrev pub name_in : {S : Type 0} → Argument S → Option (List ℕ)
-name_in (plain e) = None
-name_in (named s x e) = Some x.text
-name_in (pair s e f) = None
-
-abbrev pub key_told : {S : Type 0} → Role → Call S → List ℕ → Result (Unit {0}) Refusal
-key_told r c key = if is_key r key then only_once key c else Ok tt
-
-abbrev pub keys_told : {S : Type 0} → Role → Call S → List (List ℕ) → Result (List Step) Refusal
-keys_told r c [] = Ok []
-keys_told r c (key ∷ more) = then_ok (key_told r c key) (λ _. keys_told r c more)
-
--- the keyword arguments that commands change, in the call's order
-abbrev pub call_told : {S : Type 0} → Role → Call S → Result (List Step) Refusal
-call_told r c = keys_told r c (filter_map name_in (elements c.arguments))
+abbrev pub call_asked : {S : Type 0} → Role → Call S → Result (List Step) Refusal
+call_asked r c = then_ok (call_told r c) (λ _. Ok [])
 
 -- of the target, and of the call, that an id names
 abbrev pub target_info : {S : Type 0} → Project S → List ℕ → Result (List Step) Refusal
 target_info p id = then_ok (the_call p role.Target id) (λ c. target_told c.it)
 
 abbrev pub call_info : {S : Type 0} → Project S → Role → List ℕ → Result (List Step) Refusal
-call_info p r id = then_ok (the_call p r id) (λ c. call_told r c.it)
+call_info p r id = then_ok (the_call p r id) (λ c. call_asked r c.it)
 
 -- ---- commands
 

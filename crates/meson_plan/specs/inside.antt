@@ -1,3 +1,1 @@
-pub mod Called
 pub mod Orders
-pub mod ValueTexts

@@ -1,4 +1,4 @@
-//! What is told of a call.
+//! What is told of a target.
 
 ghost use Rattle.std.specs.Prelude.{IfOk, IsTrue};
 ghost use Rattle.meson_calls.specs.Loading.{AreParsed};
@@ -7,27 +7,14 @@ ghost use Rattle.meson_calls.specs.Refusals.{IfRefused};
 ghost use Rattle.meson_calls.specs.Roles.{is_target};
 ghost use Rattle.meson_plan.specs.Details.{AreDetails, NoDetails};
 
-use crate::called::call_at;
-use crate::showing::head_of;
 use meson_calls::{CallRef, Refusal};
+use meson_details::Head;
+use meson_details::called::call_at;
+use meson_details::showing::head_of;
 use meson_sources::extras::extra_files_of;
-use meson_splice::{Many, Text};
 use meson_variables::Sources;
 use meson_variables::arriving::sources_at;
 use meson_variables::variables::Variables;
-
-/// A call without its arguments, and its name.
-#[derive(Debug, Drop)]
-pub struct Head {
-    /// The offset in bytes of the call's first byte in its file.
-    pub at: usize,
-    /// The name of its function.
-    pub function: Text,
-    /// Whether it has a `kwargs:` argument, which may hold any keyword.
-    pub hidden: bool,
-    /// The text of its first argument without a name, where that is a literal.
-    pub name: Option<Text>,
-}
 
 /// A target: where its call stands, and what is told of it.
 #[derive(Drop)]
@@ -37,23 +24,6 @@ pub struct TargetDetails {
     pub sources: Sources,
     /// Where none stands in a list, and no empty list is met, a further one would go into the call.
     pub extra_files: Sources,
-}
-
-/// The value of a keyword argument.
-#[derive(Debug, Drop)]
-pub enum Shown {
-    /// A literal, by its text.
-    Text(Text),
-    /// `true` or `false`.
-    Bool(bool),
-    /// A variable, by its name.
-    Id(Text),
-    /// An array that holds literals alone, and one that holds nothing.
-    Texts(Many<Text>),
-    /// An array that holds variables alone.
-    Ids(Many<Text>),
-    /// Anything else, by its text in the file.
-    Opaque(Text),
 }
 
 /// What is told of the target at a place.

@@ -1,21 +1,20 @@
 //! What an info command asks of its call. It changes nothing; but what it tells of may be there once only.
 
-ghost use Rattle.std.specs.Prelude.{◌≡◌, [], IfOk, Ok, option_map};
-ghost use Rattle.meson_syntax.specs.View.{arg_view, list_view};
+ghost use Rattle.std.specs.Prelude.{◌≡◌, [], IfOk, Ok};
+ghost use Rattle.meson_syntax.specs.View.{list_view};
 ghost use Rattle.meson_calls.specs.NotedProjects.{IsNotedFor, loaded_in, project_in};
 ghost use Rattle.meson_calls.specs.Picking.{Source, call_with};
 ghost use Rattle.meson_calls.specs.Refusals.{RefusedAs};
-ghost use Rattle.meson_plan.specs.Planning.{call_info, call_told, key_told, name_in, target_info, target_told};
+ghost use Rattle.meson_plan.specs.Planning.{call_info, target_info, target_told};
 ghost use Rattle.meson_steps.specs.Plans.{ArePlanned};
 
+use meson_calls::arguments::at_most_once;
 use meson_calls::finding::{list_of_call, the_call};
 use meson_calls::noted::Noted;
-use meson_calls::roles::text_of;
 use meson_calls::{Refusal, Role};
-use meson_keywords::keys::is_key;
-use meson_sources::editing::at_most_once;
+use meson_details::duplicates::call_told;
 use meson_steps::step::ListStep;
-use meson_syntax::{Arg, List};
+use meson_syntax::List;
 use std::alloc::Global;
 
 /// Refuses a target's call that has `sources:` or `extra_files:` twice.
@@ -30,69 +29,6 @@ fn target_told(alloc: Global, source: &[u8], arguments: &List) -> Result<(), Ref
         Ok(()) => at_most_once(alloc, source, arguments, b"extra_files".as_slice()),
         Err(refusal) => Err(refusal),
     }
-}
-
-/// The name of an argument.
-fn name_of<'s>(source: &'s [u8], arg: &Arg) -> Option<&'s [u8]>
-    ensures { option_map (λ name. name.now) result ≡ name_in (arg_view source.entry.now arg.now) }
-{
-    match arg {
-        Arg::Named {
-            span: _,
-            name,
-            value: _,
-        } => Some(text_of(source, *name)),
-        Arg::Plain(_) => None,
-        Arg::Pair {
-            span: _,
-            key: _,
-            value: _,
-        } => None,
-    }
-}
-
-/// Refuses a call that has a keyword argument twice that commands change.
-///
-/// # Errors
-/// It has, or memory is refused.
-fn key_told(
-    alloc: Global,
-    source: &[u8],
-    arguments: &List,
-    role: Role,
-    key: &[u8],
-) -> Result<(), Refusal>
-    ensures told { (function : Source) → IfOk result (λ u. key_told role (call_with function (list_view source.now arguments.now)) key.now ≡ Ok u) }
-    ensures refused { (function : Source) → RefusedAs result (key_told role (call_with function (list_view source.now arguments.now)) key.now) }
-{
-    if is_key(role, key) {
-        at_most_once(alloc, source, arguments, key)
-    } else {
-        Ok(())
-    }
-}
-
-/// Refuses a call that has any keyword argument twice that commands change.
-///
-/// # Errors
-/// It has, the first such in its order, or memory is refused.
-pub(crate) fn call_told(
-    alloc: Global,
-    source: &[u8],
-    arguments: &List,
-    role: Role,
-) -> Result<(), Refusal>
-    ensures told { (function : Source) → IfOk result (λ u. call_told role (call_with function (list_view source.now arguments.now)) ≡ Ok []) }
-    ensures refused { (function : Source) → RefusedAs result (call_told role (call_with function (list_view source.now arguments.now))) }
-{
-    let args = arguments.items.get();
-    for i in 0..args.len() {
-        match name_of(source, &args[i]) {
-            Some(key) => key_told(alloc, source, arguments, role, key)?,
-            None => {}
-        }
-    }
-    Ok(())
 }
 
 /// What a command means that asks of a target: no steps.

@@ -20,10 +20,10 @@ use Rattle.meson_variables.specs.Sources.{sources}
 use Rattle.meson_sources.specs.Extras.{extra_files}
 use Rattle.meson_steps.specs.declared.command.Command.{Command}
 use Rattle.meson_steps.specs.declared.command.Command.TheVariants as command
-use Rattle.meson_plan.specs.Details.{head, keywords}
-use Rattle.meson_plan.specs.declared.details.Head.{Head}
-use Rattle.meson_plan.specs.declared.details.Shown.{Shown}
-use Rattle.meson_plan.specs.declared.details.Shown.TheVariants as shown
+use Rattle.meson_details.specs.Details.{head, keywords}
+use Rattle.meson_details.specs.declared.details.Head.{Head}
+use Rattle.meson_details.specs.declared.details.Shown.{Shown}
+use Rattle.meson_details.specs.declared.details.Shown.TheVariants as shown
 use Rattle.meson_listing.specs.Entries.{call_data, id_data, item_data, put_each, shown_data, target_data, text_or_null}
 use Rattle.meson_inventory.specs.Holdings.{holdings}
 use Rattle.meson_inventory.specs.Inventory.{file_data, project_data, spot_data}

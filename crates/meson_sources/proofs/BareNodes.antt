@@ -5,7 +5,7 @@ use Rattle.std.proofs.lemmas.List.{map-append}
 use Rattle.meson_syntax.specs.Parts.{Any, an_expression, a_statement, a_block, child_nodes, node_at, argument_parts, arguments_parts, listing_parts, operands_parts, tail_parts, tails_parts, branches_parts, otherwise_parts, statements_parts}
 use Rattle.meson_syntax.specs.Paths.{block_of, nth}
 use Rattle.meson_syntax.specs.Tree.{Nowhere, array, dictionary, call, row, postfix, Operands, no_operands, operand, Tail, method, index, Tails, no_tails, tail, Listing, listing, Argument, plain, named, pair, Arguments, no_arguments, argument, selection, Branches, no_branches, branch, Otherwise, nothing_else, otherwise, Statements, no_statements, statement, block, File, file, erase, erase_argument, erase_arguments, erase_block, erase_branches, erase_expression, erase_listing, erase_operands, erase_otherwise, erase_statement, erase_statements, erase_tail, erase_tails}
-use Rattle.meson_steps.proofs.PlainTrees.{nth_map}
+use Rattle.meson_edit.proofs.paths.Mapped.{nth_map}
 
 module _ {S : Type 0} where
   abbrev pub bare : Any S → Any Nowhere

@@ -24,7 +24,7 @@ use Rattle.meson_steps.specs.Meanings.{AreMeant}
 use Rattle.meson_calls.proofs.KeywordArguments.{keyword_is}
 use Rattle.meson_variables.proofs.Answered.{arguments_are}
 use Rattle.meson_sources.proofs.Marked.{Told, told, told_spots}
-use Rattle.meson_sources.proofs.SourcesMeant.{once_few, once_twice}
+use Rattle.meson_calls.proofs.AtMostOnce.{once_few, once_twice}
 
 none_hidden : {X : Type 0} (xs : List X) → length xs ≤ 0 → not_hidden xs ≡ Ok tt
 none_hidden [] none = refl

@@ -20,7 +20,7 @@ use Rattle.meson_sources.specs.Targeted.{extra_gathered}
 use Rattle.meson_calls.proofs.KeywordArguments.{keyword_is}
 use Rattle.meson_sources.proofs.ExtrasMeant.{extra_fields}
 use Rattle.meson_sources.proofs.Marked.{Told}
-use Rattle.meson_sources.proofs.SourcesMeant.{once_few, once_twice}
+use Rattle.meson_calls.proofs.AtMostOnce.{once_few, once_twice}
 
 abbrev sources_with : CallRef → List SourceItem → ℕ → Option CallRef → Option CallRef → Sources
 sources_with c items unknown list vacant = record { items = items; opaque = unknown; home = or_call c (or_option list vacant) }

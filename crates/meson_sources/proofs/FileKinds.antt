@@ -25,7 +25,7 @@ use Rattle.meson_sources.proofs.Gists.{gist, gist_append}
 use Rattle.meson_sources.proofs.Outcomes.{Clear}
 use Rattle.meson_sources.proofs.PlacesBelow.{IsIt}
 use Rattle.meson_sources.proofs.Shapes.{blanks}
-use Rattle.meson_sources.proofs.SourcesMeant.{once_few}
+use Rattle.meson_calls.proofs.AtMostOnce.{once_few}
 use Rattle.meson_sources.proofs.SourceTotals.{gist_bare, hidden_clear, keyed_bare, list_bare, no_home, whole_bare}
 
 pub record FileKind : Type 0 where

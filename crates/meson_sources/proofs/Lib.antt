@@ -34,7 +34,7 @@ mod Renamed
 mod RenamedStrings
 mod SourcesAddable
 pub mod SourcesAdded
-pub mod SourcesMeant
+mod SourcesMeant
 pub mod SourcesGone
 mod SpotsApart
 mod SpotsFound

@@ -13,7 +13,7 @@ use Rattle.meson_calls.specs.declared.call.CallRef.{CallRef}
 use Rattle.meson_calls.specs.Project.{child, place}
 use Rattle.meson_calls.proofs.ListNodes.{plain_holds}
 use Rattle.meson_steps.specs.ListSteps.{MayStandBetween}
-use Rattle.meson_steps.proofs.PlainTrees.{nth_map}
+use Rattle.meson_edit.proofs.paths.Mapped.{nth_map}
 use Rattle.meson_sources.specs.Without.{Gone, each_without, from_child, tree_without}
 use Rattle.meson_sources.proofs.ElementsThere.{root}
 use Rattle.meson_sources.proofs.Kins.{node_level}

@@ -17,7 +17,7 @@ use Rattle.meson_edit.specs.Edits.{elements}
 use Rattle.meson_calls.specs.declared.call.CallRef.{CallRef}
 use Rattle.meson_calls.specs.Loading.{named_trees, views}
 use Rattle.meson_calls.specs.Project.{Project, BuildFile}
-use Rattle.meson_steps.proofs.ArgumentValues.{list_elements}
+use Rattle.meson_edit.proofs.lists.CodeElements.{list_elements}
 use Rattle.meson_calls.proofs.Standing.{nth_there, nth_past}
 use Rattle.meson_calls.specs.Calls.{value_without_name}
 use Rattle.meson_sources.specs.SourceEdits.{is_plain, elements_of, plain_len}

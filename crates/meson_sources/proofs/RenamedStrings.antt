@@ -9,7 +9,7 @@ use Rattle.meson_syntax.specs.Parts.{Any, an_expression, child_nodes, node_at}
 use Rattle.meson_sources.proofs.Renaming.{number_after}
 use Rattle.meson_sources.specs.SourceEdits.{moved_up, path_after, is_path}
 use Rattle.meson_sources.proofs.OneGone.{without, moved, part}
-use Rattle.meson_steps.proofs.PlainTrees.{nth_map}
+use Rattle.meson_edit.proofs.paths.Mapped.{nth_map}
 use Rattle.meson_sources.proofs.PartsPut.{differ_old, differ_new, differ_other}
 use Rattle.meson_sources.proofs.PutAlong.{StepsTo, PutAt}
 use Rattle.meson_sources.proofs.StringsStay.{element_any}

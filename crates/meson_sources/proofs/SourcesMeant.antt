@@ -1,5 +1,5 @@
 -- The steps that commands on sources mean, by what the code finds.
-use Rattle.std.proofs.Common.{◌≡◌, ℕ, ◌<◌, ◌≤◌, List, [], ◌∷◌, length, map, refl, sym, ap, ◌∙◌, arith}
+use Rattle.std.proofs.Common.{◌≡◌, ℕ, ◌<◌, ◌≤◌, List, length, map, sym, ap, ◌∙◌}
 use Rattle.std.specs.Prelude.{Some, Ok, Err}
 use Rattle.meson_lex.specs.declared.kinds.Span.{Span}
 use Rattle.meson_splice.specs.Patch.{then_ok}
@@ -22,19 +22,10 @@ use Rattle.meson_sources.specs.SourceEdits.{new_names, insertion_steps, plain_le
 use Rattle.meson_steps.specs.Names.{checked_names, distinct}
 use Rattle.meson_variables.specs.Tallies.{Tally}
 use Rattle.meson_steps.specs.Meanings.{AreMeant}
+use Rattle.meson_calls.proofs.AtMostOnce.{once_few, once_twice}
 use Rattle.meson_calls.proofs.KeywordArguments.{keyword_is}
 use Rattle.meson_variables.proofs.Answered.{gathered_marks}
 use Rattle.meson_sources.proofs.Marked.{Told, told, new_are, told_spots}
-
-pub once_few : {X Y : Type 0} (key : List ℕ) (xs : List X) (y : Y) → length xs ≤ 1 → once key xs y ≡ Ok y
-once_few key [] y few = refl
-once_few key (x ∷ []) y few = refl
-once_few key (x ∷ z ∷ more) y few = absurd (omega arith)
-
-pub once_twice : {X Y : Type 0} (key : List ℕ) (xs : List X) (y : Y) → 1 < length xs → once key xs y ≡ Err (DuplicateKeyword key)
-once_twice key [] y many = absurd (omega arith)
-once_twice key (x ∷ []) y many = absurd (omega arith)
-once_twice key (x ∷ z ∷ more) y many = refl
 
 module _ (p : Project Span) (c : CallRef) (source : List ℕ) (l : rust.List) (function : List ℕ) (names : List (List ℕ)) where
   abbrev it : Placed (Call Span)

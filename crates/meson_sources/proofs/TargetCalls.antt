@@ -30,7 +30,7 @@ use Rattle.meson_calls.specs.Picking.{call_with}
 use Rattle.meson_calls.specs.Project.{BuildFile, placed, expression_at}
 use Rattle.meson_sources.specs.SourceEdits.{elements_of, elements_there}
 use Rattle.meson_sources.specs.Targeted.{change_steps, target_steps}
-use Rattle.meson_steps.proofs.ArgumentValues.{list_elements}
+use Rattle.meson_edit.proofs.lists.CodeElements.{list_elements}
 use Rattle.meson_calls.proofs.CallsAt.{listing_good}
 use Rattle.meson_calls.proofs.CallsFound.{CallAt, role_found}
 use Rattle.meson_calls.proofs.NotedCalls.{call_in, call_within, one_at, one_is, the_one, trees_as_many}

@@ -1,32 +1,28 @@
 //! The steps of commands on the sources of a target.
 
-ghost use Rattle.std.specs.Prelude.{◌≡◌, ◌<◌, ◌≤◌, ◌^◌, All, IfErr, IfOk, OnOk, Some, length, map};
+ghost use Rattle.std.specs.Prelude.{◌≡◌, ◌<◌, ◌^◌, All, IfErr, IfOk, Some, length, map};
 ghost use Rattle.std.specs.Str.{IsUtf8};
 ghost use Rattle.std.specs.List.{filter};
 ghost use Rattle.meson_syntax.specs.View.{args_view, list_view};
-ghost use Rattle.meson_calls.specs.Calls.{value_with_name};
 ghost use Rattle.meson_calls.specs.GoodLists.{GoodListing};
 ghost use Rattle.meson_calls.specs.Loading.{AreParsed};
 ghost use Rattle.meson_variables.specs.CodeVariables.{AreVariables, project_of};
 ghost use Rattle.meson_calls.specs.Picking.{Source, placed_call};
-ghost use Rattle.meson_calls.specs.Refusals.{IfRefused, RefusedAs};
+ghost use Rattle.meson_calls.specs.Refusals.{RefusedAs};
 ghost use Rattle.meson_sources.specs.SourceEdits.{insertion_steps, is_plain, plain_len, sources_added, sources_removed};
-ghost use Rattle.meson_calls.specs.Keywords.{kept_args};
 ghost use Rattle.meson_steps.specs.ListSteps.{bare};
 ghost use Rattle.meson_steps.specs.Meanings.{AreMeant};
 
 use crate::inserting::{insert, new_names, places_of};
 use crate::removing::names_removed;
-use meson_calls::arguments::{count_named, is_plain};
+use meson_calls::arguments::{at_most_once, is_plain};
 use meson_calls::{CallRef, Refusal};
 use meson_splice::Text;
 use meson_steps::names::checked_names;
 use meson_steps::step::ListStep;
 use meson_syntax::{Arg, List, Parsed};
-use meson_variables::marks::text_of_name;
 use meson_variables::sourcing::{MAX_FOLLOWED, home_of, met};
 use meson_variables::variables::Variables;
-use std::alloc::Global;
 
 /// How many arguments have no name.
 fn count_plain(args: &[Arg]) -> usize
@@ -76,28 +72,6 @@ pub(crate) fn insertions(
     let from = plain_len(variables, list);
     insert(variables.alloc, list, from, names, &mut steps)?;
     Ok(steps)
-}
-
-/// Refuses a call that has more than one argument of this name.
-///
-/// # Errors
-/// It has, or memory is refused.
-pub fn at_most_once(
-    alloc: Global,
-    source: &[u8],
-    arguments: &List,
-    key: &[u8],
-) -> Result<(), Refusal>
-    requires { IsUtf8 key.now }
-    ensures few { OnOk result (length (kept_args source.now (value_with_name key.now) 0 arguments.now.items) ≤ 1) }
-    ensures twice { IfRefused result (λ e. (e ≡ Refusal.DuplicateKeyword key.now)
-        × (1 < length (kept_args source.now (value_with_name key.now) 0 arguments.now.items))) }
-{
-    if count_named(source, arguments.items.get(), key) > 1 {
-        let key = text_of_name(alloc, key)?;
-        return Err(Refusal::DuplicateKeyword(key));
-    }
-    Ok(())
 }
 
 /// The steps by which sources are added: into the list of the first of its sources that stands in one.

@@ -21,10 +21,10 @@ ghost use Rattle.meson_variables.specs.Tallies.{gathered};
 ghost use Rattle.meson_sources.specs.Targeted.{extra_gathered, lone_or_new, new_list_steps};
 ghost use Rattle.meson_steps.specs.Meanings.{AreBehind, AreMeant};
 
-use crate::editing::{at_most_once, insertions};
+use crate::editing::insertions;
 use crate::inserting::{insert, new_names, places_of};
 use crate::removing::names_removed;
-use meson_calls::arguments::{count_named, first_named};
+use meson_calls::arguments::{at_most_once, count_named, first_named};
 use meson_calls::literals::literal;
 use meson_calls::place::{copy_place, value_place};
 use meson_calls::{CallRef, Refusal};

@@ -8,8 +8,8 @@ ghost use Rattle.meson_calls.specs.Picking.{Source, placed_call};
 ghost use Rattle.meson_calls.specs.Refusals.{RefusedAs};
 ghost use Rattle.meson_sources.specs.Extras.{extra_of_call};
 
-use crate::editing::at_most_once;
 use crate::extra::extra_met;
+use meson_calls::arguments::at_most_once;
 use meson_calls::{CallRef, Refusal};
 use meson_splice::Many;
 use meson_syntax::List;

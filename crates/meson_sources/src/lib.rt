@@ -1,7 +1,7 @@
 //! Sources and extra files put into a target and taken out of it.
 #![tactic(auto)]
 
-pub mod editing;
+mod editing;
 mod extra;
 pub mod extras;
 mod inserting;

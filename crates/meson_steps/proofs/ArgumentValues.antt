@@ -1,5 +1,5 @@
 -- The values of arguments, and where they stand.
-use Rattle.std.proofs.Common.{◌≡◌, ℕ, ◌<◌, ◌≤◌, List, [], ◌∷◌, length, get_or, Option, Some, None, refl, ap, ◌∙◌, sym}
+use Rattle.std.proofs.Common.{◌≡◌, ℕ, ◌<◌, ◌≤◌, List, length, get_or, Option, Some, None, ap, ◌∙◌, sym}
 use Rattle.std.specs.Prelude.{Bool, true, false, if◌then◌else◌, bytes_eq, option_map, option_and_then}
 use Rattle.meson_lex.specs.declared.kinds.Span.{Span}
 use Rattle.meson_syntax.specs.declared.tree.Arg.{Arg}
@@ -8,12 +8,12 @@ use Rattle.meson_syntax.specs.declared.tree.Expr.{Expr}
 use Rattle.meson_syntax.specs.declared.tree.List as rust
 use Rattle.meson_syntax.specs.Paths.{nth, value_of}
 use Rattle.meson_edit.specs.Standing.{expression_span}
-use Rattle.meson_syntax.specs.Tree.{Expression, Argument, plain, named, pair, arguments_of, argument_list}
+use Rattle.meson_syntax.specs.Tree.{Expression, Argument, plain, named, pair}
 use Rattle.meson_syntax.specs.View.{arg_view, args_view, expr_view, list_view}
 use Rattle.meson_calls.specs.Calls.{value_with_name}
 use Rattle.meson_calls.proofs.ArgumentViews.{plain_view, named_view, pair_view, nth_there, nth_past}
-use Rattle.meson_calls.proofs.Listed.{list_is}
 use Rattle.meson_edit.specs.Edits.{elements}
+use Rattle.meson_edit.proofs.lists.CodeElements.{list_elements}
 
 pub plain_span : (source : List ℕ) (e : Expr) → option_map expression_span (value_of (arg_view source (arg.Plain e))) ≡ Some (expression_span (expr_view source e))
 plain_span source e = ap (λ a. option_map expression_span (value_of a)) (plain_view source e)
@@ -35,13 +35,6 @@ named_value key (named s x e) v is = go (bytes_eq x.text key) is
 named_value key (pair s e f) v is = absurd cc
 
 -- ---- the n-th element of a list
-
-listed : (args : List (Argument Span)) → argument_list (arguments_of args) ≡ args
-listed [] = refl
-listed (a ∷ args) = ap (λ l. a ∷ l) (listed args)
-
-pub list_elements : (source : List ℕ) (l : rust.List) → elements (list_view source l) ≡ args_view source (rust.out-List l).items
-list_elements source l = ap elements (list_is source l) ∙ listed (args_view source (rust.out-List l).items)
 
 abbrev pub span_of_element : Option (Argument Span) → Option Span
 span_of_element a = option_map expression_span (option_and_then value_of a)

@@ -12,6 +12,7 @@ use Rattle.meson_syntax.proofs.parsing.Complete.{list-of-arguments}
 use Rattle.meson_syntax.proofs.parsing.Steps.{some-injective}
 use Rattle.meson_syntax.proofs.paths.Reaching.{map-some, and-then-some, list-fits}
 use Rattle.meson_edit.specs.Edits.{elements, is_empty, with_elements, with_value}
+use Rattle.meson_edit.proofs.paths.Mapped.{nth_map}
 
 -- ---- the child of a node that is an expression
 
@@ -21,11 +22,6 @@ pub record Child {T : Type 0} (children : Option (Hole Nowhere T)) (v : Expressi
   pub back : Expression Nowhere → T
   pub is : children ≡ Some (expression_in before v behind back)
   pub back_is : (y : Expression Nowhere) → back y ≡ put y
-
-nth_map : {A B : Type 0} (f : A → B) (xs : List A) (n : ℕ) → nth (map f xs) n ≡ option_map f (nth xs n)
-nth_map f [] n = refl
-nth_map f (x ∷ xs) zero = refl
-nth_map f (x ∷ xs) (suc n) = nth_map f xs n
 
 -- the elements with another value in the n-th
 abbrev pub exchanged_at : ℕ → Argument Nowhere → List (Argument Nowhere) → Expression Nowhere → List (Argument Nowhere)

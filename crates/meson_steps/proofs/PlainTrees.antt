@@ -12,6 +12,7 @@ use Rattle.meson_syntax.specs.Reads.{max_depth}
 use Rattle.meson_syntax.specs.Tree.{Nowhere, Plain, Expression, Listing, listing, Arguments, no_arguments, argument, Argument, plain, named, pair, argument_list, File, erase, erase_expression, erase_argument, erase_arguments, erase_listing}
 use Rattle.meson_syntax.specs.View.{view}
 use Rattle.meson_edit.proofs.paths.Erased.{lists-erase}
+use Rattle.meson_edit.proofs.paths.Mapped.{nth_map}
 use Rattle.meson_syntax.proofs.paths.Reaching.{map-some}
 use Rattle.meson_edit.specs.Edits.{elements}
 use Rattle.meson_steps.specs.ListSteps.{MayStandBetween}
@@ -52,11 +53,6 @@ pub tree_is : (old : Loaded) (c : CallRef) (there : ListThere (project old) c) �
 tree_is old c there = tree_there old.files old.parsed c.file there.file there.is_file
 
 -- ---- elements
-
-pub nth_map : {A B : Type 0} (f : A → B) (xs : List A) (n : ℕ) → nth (map f xs) n ≡ option_map f (nth xs n)
-nth_map f [] n = refl
-nth_map f (x ∷ xs) zero = refl
-nth_map f (x ∷ xs) (suc n) = nth_map f xs n
 
 erased_list : (list : Arguments Span) → argument_list (erase_arguments list) ≡ map erase_argument (argument_list list)
 erased_list no_arguments = refl

@@ -8,28 +8,9 @@ ghost use Rattle.meson_edit.specs.Edits.{elements};
 ghost use Rattle.meson_calls.specs.Picking.{Source};
 ghost use Rattle.meson_steps.specs.Working.{spot_at, spot_in};
 
+use meson_edit::span_of;
 use meson_lex::Span;
 use meson_syntax::{Arg, Bracket, Expr, List, Parsed, Path};
-
-/// Where an expression stands.
-pub fn span_of(expr: &Expr) -> Span
-    ensures { (source : Source) → result ≡ expression_span (expr_view source expr.now) }
-{
-    match expr {
-        Expr::Identifier(span) => *span,
-        Expr::Boolean { span, .. } => *span,
-        Expr::Integer(span) => *span,
-        Expr::String { span, .. } => *span,
-        Expr::Paren { span, .. } => *span,
-        Expr::Array(list) => list.span,
-        Expr::Dictionary(list) => list.span,
-        Expr::Call { span, .. } => *span,
-        Expr::Unary { span, .. } => *span,
-        Expr::Row { span, .. } => *span,
-        Expr::Postfix { span, .. } => *span,
-        Expr::Conditional { span, .. } => *span,
-    }
-}
 
 /// Where the value of an element stands, if it has one.
 fn span_in(arg: &Arg) -> Option<Span>

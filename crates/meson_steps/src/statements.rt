@@ -10,7 +10,7 @@ ghost use Rattle.meson_edit.specs.Places.{span_of_statement};
 ghost use Rattle.meson_steps.specs.inside.Layers.{block_any, layer_view, next_layer};
 ghost use Rattle.meson_calls.specs.Picking.{Source};
 
-use crate::spans::span_of;
+use meson_edit::span_of;
 use meson_lex::Span;
 use meson_syntax::{Block, Branch, Parsed, Path, Stmt};
 

@@ -1,13 +1,14 @@
 -- The sources of a target: its arguments without a name behind the first, and `sources:`. Meson manual, Reference manual, `executable`.
-use Rattle.std.specs.Prelude.{ℕ, suc, List, [], ◌∷◌, ◌++◌, map, Option, Some, None, option_map, option_and_then, Result}
+use Rattle.std.specs.Prelude.{ℕ, suc, List, [], ◌∷◌, ◌++◌, map, Option, Some, None, option_map, Result}
 use Rattle.meson_lex.specs.declared.kinds.Span.{Span}
 use Rattle.meson_syntax.specs.Tree.{Expression}
 use Rattle.meson_calls.specs.declared.call.CallRef.{CallRef}
 use Rattle.meson_variables.specs.declared.source.SourceItem.{SourceItem}
 use Rattle.meson_variables.specs.declared.source.Sources as found
 use Rattle.meson_calls.specs.declared.refusal.Refusal.{Refusal}
-use Rattle.meson_calls.specs.Project.{Project, child, Placed, placed, expression_at}
-use Rattle.meson_calls.specs.Calls.{Call, call_of, Numbered, positional, keyword}
+use Rattle.meson_calls.specs.Project.{Project, child, Placed}
+use Rattle.meson_calls.specs.Calls.{Call, Numbered, positional, keyword}
+use Rattle.meson_calls.specs.CallPlaces.{call_at}
 use Rattle.meson_variables.specs.Expansion.{Slot, in_list, fixed, Item, Mark, known, opaque, empty, Expansion, nothing_met, then_expand, expand, max_followed}
 use Rattle.meson_calls.specs.Keywords.{kwargs_key, once, rest, sources_key}
 
@@ -81,9 +82,6 @@ source_item i = record { value = i.text; file = i.place.file; span = i.stands; l
 
 abbrev pub sources_of_marks : CallRef → List (Mark Span) → found.Sources
 sources_of_marks c marks = record { items = map source_item (items marks); opaque = opaque_count marks; home = home c marks }
-
-abbrev pub call_at : {S : Type 0} → Project S → CallRef → Option (Placed (Call S))
-call_at p c = option_map (placed c) (option_and_then call_of (expression_at p c))
 
 abbrev pub sources_of_call : Project Span → Placed (Call Span) → Result found.Sources Refusal
 sources_of_call p c = once sources_key (keyword sources_key c.it) (sources_of_marks c.place (source_marks p c))

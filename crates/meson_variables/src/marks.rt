@@ -1,7 +1,6 @@
 //! What is met in the sources of a target, gathered in one place.
 
 ghost use Rattle.std.specs.Prelude.{◌≡◌, ◌∷◌, IfOk, OnOk};
-ghost use Rattle.std.specs.Str.{IsUtf8};
 ghost use Rattle.meson_calls.specs.Project.{place};
 ghost use Rattle.meson_calls.specs.Roles.{one_of};
 
@@ -9,9 +8,7 @@ use crate::followed::Followed;
 use crate::source::SourceItem;
 use meson_calls::call::CallRef;
 use meson_calls::place::{copy_place, place_of};
-use meson_splice::Text;
 use std::alloc::{AllocError, Global};
-use std::str;
 
 /// A file, its source, and the innermost variable that was followed to it.
 #[derive(Clone, Copy)]
@@ -31,20 +28,6 @@ pub struct Marks<'t> {
     pub list: Option<CallRef>,
     pub vacant: Option<CallRef>,
     pub followed: Followed<'t>,
-}
-
-/// A text of these bytes, which are UTF-8 as all that stands in a source.
-pub fn text_of_name(alloc: Global, name: &[u8]) -> Result<Text, AllocError>
-    requires { IsUtf8 name.now }
-    ensures { IfOk result (λ t. t ≡ name.now) }
-{
-    match str::from_utf8(name) {
-        Ok(name) => {
-            let text = String::from_str(alloc, name)?;
-            Ok(Text::of(text))
-        }
-        Err(_) => unreachable!(),
-    }
 }
 
 impl<'t> Marks<'t> {

@@ -5,7 +5,7 @@ use Rattle.meson_syntax.specs.View.{args_view, expr_view, list_view}
 use Rattle.meson_syntax.specs.declared.operator.Bracket.TheVariants as bracket
 use Rattle.meson_calls.specs.GoodLists.{GoodArgs}
 use Rattle.meson_calls.specs.Strings.{AreGood}
-use Rattle.meson_steps.proofs.ArgumentValues.{list_elements}
+use Rattle.meson_edit.proofs.lists.CodeElements.{list_elements}
 use Rattle.meson_calls.proofs.Nested.{good_args, good_listing}
 use Rattle.meson_keywords.specs.Options.{entries}
 use Rattle.meson_keywords.proofs.ElementsSay.{dictionary_view}

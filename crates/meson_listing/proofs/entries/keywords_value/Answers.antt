@@ -1,7 +1,7 @@
 use Rattle.std.proofs.Common.{ℕ, List, ◌∷◌, [], ◌++◌, sym, ap, ◌∙◌, append_assoc}
 use Rattle.std.specs.Vec.Iter.{into_iter_items}
 use Rattle.serde_json.specs.Data.{no_members, put}
-use Rattle.meson_plan.specs.declared.details.Shown.{Shown}
+use Rattle.meson_details.specs.declared.details.Shown.{Shown}
 use Rattle.meson_listing.specs.Entries.{shown_data}
 use Rattle.meson_listing.proofs.Puts.{put_one_more}
 use Rattle.meson_listing.proofs.entries.keywords_value.Goals as goal

@@ -3,7 +3,8 @@ use Rattle.std.specs.Prelude.{option_and_then}
 use Rattle.std.proofs.lemmas.Result.{err_from_is_err_and}
 use Rattle.meson_syntax.specs.View.{list_view, name_at, text_at}
 use Rattle.meson_variables.specs.CodeVariables.{project_of}
-use Rattle.meson_plan.specs.Details.{head_of, no_extra, no_sources}
+use Rattle.meson_details.specs.Details.{head_of}
+use Rattle.meson_plan.specs.Details.{no_extra, no_sources}
 use Rattle.meson_plan.proofs.DetailsThere.{extra_there}
 use Rattle.meson_plan.proofs.details.details_at.Goals as goal
 

@@ -1,9 +1,10 @@
 -- What is asked of the keyword arguments of a call is told of the call that stands in the trees, and is no steps.
-use Rattle.std.proofs.Common.{ap, ◌∙◌}
+use Rattle.std.proofs.Common.{[], ap, ◌∙◌}
+use Rattle.std.specs.Prelude.{Ok}
 use Rattle.std.proofs.lemmas.Result.{err_from_is_err_and}
 use Rattle.meson_splice.specs.Patch.{then_ok}
 use Rattle.meson_calls.specs.NotedProjects.{loaded_in, project_in}
-use Rattle.meson_plan.specs.Planning.{call_info, call_told}
+use Rattle.meson_plan.specs.Planning.{call_asked, call_info}
 use Rattle.meson_calls.proofs.NotedCalls.{call_file, call_in, none_noted, noted_good}
 use Rattle.meson_plan.proofs.CallsIn.{function, told_is, nothing_planned}
 use Rattle.meson_plan.proofs.info.call_info.Goals as goal
@@ -16,7 +17,7 @@ returns-in_err-call-clause-refused c =
     let error = err_from_is_err_and c.from_residual.result c.from_residual.ensures.1 in
     rw (error.1, error.2) (λ other.
     let why = none_noted c.args.noted.now c.args.role c.args.id.now c.requires c.in_err-call.field-0.0 (c.in_err-call.ensures.refused other) in
-    ap (λ r. then_ok r (λ k. call_told c.args.role k.it)) why)
+    ap (λ r. then_ok r (λ k. call_asked c.args.role k.it)) why)
 
 pub bytes-source-requires : goal.bytes-source-requires
 bytes-source-requires c = call_file c.args.noted.now c.args.role c.args.id.now c.requires c.in_ok-call.call c.in_ok-call.ensures.found
@@ -27,13 +28,13 @@ list_of_call-requires c = call_in c.args.noted.now c.args.role c.args.id.now c.r
 pub returns-clause-plan : goal.returns-clause-plan
 returns-clause-plan c =
     let n = c.args.noted.now in
-    let is = told_is n c.args.role c.args.id.now c.requires c.in_ok-call.call c.in_ok-call.ensures.found (call_told c.args.role) c.bytes-source.result.now c.list_of_call.result.now c.bytes-source.ensures c.list_of_call.ensures in
-    nothing_planned (loaded_in n) (call_info (project_in n) c.args.role c.args.id.now) c.new.result.items (is ∙ c.in_ok-call_told.ensures.told (function n c.args.role c.args.id.now c.requires c.in_ok-call.call c.in_ok-call.ensures.found)) c.new.ensures.items
+    let is = told_is n c.args.role c.args.id.now c.requires c.in_ok-call.call c.in_ok-call.ensures.found (call_asked c.args.role) c.bytes-source.result.now c.list_of_call.result.now c.bytes-source.ensures c.list_of_call.ensures in
+    nothing_planned (loaded_in n) (call_info (project_in n) c.args.role c.args.id.now) c.new.result.items (is ∙ ap (λ r. then_ok r (λ _. Ok [])) (c.in_ok-call_told.ensures.told (function n c.args.role c.args.id.now c.requires c.in_ok-call.call c.in_ok-call.ensures.found))) c.new.ensures.items
 
 pub returns-in_err-call_told-clause-refused : goal.returns-in_err-call_told-clause-refused
 returns-in_err-call_told-clause-refused c =
     let error = err_from_is_err_and c.from_residual-in_err-call_told.result c.from_residual-in_err-call_told.ensures.1 in
     rw (error.1, error.2) (λ other.
     let n = c.args.noted.now in
-    let is = told_is n c.args.role c.args.id.now c.requires c.in_ok-call.call c.in_ok-call.ensures.found (call_told c.args.role) c.bytes-source.result.now c.list_of_call.result.now c.bytes-source.ensures c.list_of_call.ensures in
-    is ∙ c.in_err-call_told.ensures.refused (function n c.args.role c.args.id.now c.requires c.in_ok-call.call c.in_ok-call.ensures.found) other)
+    let is = told_is n c.args.role c.args.id.now c.requires c.in_ok-call.call c.in_ok-call.ensures.found (call_asked c.args.role) c.bytes-source.result.now c.list_of_call.result.now c.bytes-source.ensures c.list_of_call.ensures in
+    is ∙ ap (λ r. then_ok r (λ _. Ok [])) (c.in_err-call_told.ensures.refused (function n c.args.role c.args.id.now c.requires c.in_ok-call.call c.in_ok-call.ensures.found) other))

@@ -7,7 +7,7 @@ use Rattle.meson_calls.specs.Keywords.{kept_args}
 use Rattle.meson_calls.specs.Refusals.{IfRefused}
 use Rattle.std.specs.Str.{IsUtf8}
 use Rattle.meson_sources.proofs.KeyTexts.{sources_text, extra_text}
-use Rattle.meson_plan.proofs.Told.{target_went, target_refused}
+use Rattle.meson_plan.proofs.TargetsTold.{target_went, target_refused}
 use Rattle.meson_plan.proofs.info.target_told.Goals as goal
 
 pub at_most_once-requires : goal.at_most_once-requires

@@ -4,8 +4,8 @@ use Rattle.meson_syntax.specs.View.{list_view, name_at, text_at}
 use Rattle.meson_calls.specs.Loading.{Loaded, named_trees, views}
 use Rattle.meson_calls.specs.Picking.{call_with}
 use Rattle.meson_calls.specs.Project.{expression_at}
-use Rattle.meson_plan.specs.inside.Called.{called_view}
-use Rattle.meson_plan.specs.Details.{keywords, keywords_of_call}
+use Rattle.meson_details.specs.Called.{called_view}
+use Rattle.meson_details.specs.Details.{keywords, keywords_of_call}
 use Rattle.meson_plan.proofs.DetailsThere.{keywords_there, refused_there}
 use Rattle.meson_plan.proofs.project.Project.keywords.Goals as goal
 

@@ -1,0 +1,7 @@
+pub mod Told
+mod CallsThere
+mod CalledNames
+mod ChangedKeys
+mod EachShown
+mod GoodWords
+mod ValuesAreTexts

@@ -1,0 +1,4 @@
+pub mod Called
+pub mod Details
+pub mod Once
+pub mod ValueTexts

@@ -1,0 +1,9 @@
+//! What is told of a call: its head, and the values of its keyword arguments.
+#![tactic(auto)]
+
+pub mod called;
+mod details;
+pub mod duplicates;
+pub mod showing;
+
+pub use details::{Head, Shown};

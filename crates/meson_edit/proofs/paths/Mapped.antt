@@ -1,0 +1,9 @@
+-- The n-th of what a function gives of each.
+use Rattle.std.proofs.Common.{◌≡◌, ℕ, zero, suc, List, [], ◌∷◌, map, refl}
+use Rattle.std.specs.Prelude.{option_map}
+use Rattle.meson_syntax.specs.Paths.{nth}
+
+pub nth_map : {A B : Type 0} (f : A → B) (xs : List A) (n : ℕ) → nth (map f xs) n ≡ option_map f (nth xs n)
+nth_map f [] n = refl
+nth_map f (x ∷ xs) zero = refl
+nth_map f (x ∷ xs) (suc n) = nth_map f xs n

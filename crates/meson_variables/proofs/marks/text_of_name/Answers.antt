@@ -1,4 +1,0 @@
-use Rattle.meson_variables.proofs.marks.text_of_name.Goals as goal
-
-pub unreachable-requires : goal.unreachable-requires
-unreachable-requires c = c.in-Err.ensures.cases.0 c.requires
