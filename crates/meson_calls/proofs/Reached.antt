@@ -2,8 +2,8 @@
 use Rattle.std.proofs.Common.{◌≡◌, ℕ, zero, suc, ◌+◌, List, [], ◌∷◌, ◌++◌, length, length-append, Some, refl, ap, ◌∙◌, subst, arith}
 use Rattle.meson_lex.specs.declared.kinds.Span.{Span}
 use Rattle.meson_syntax.specs.Tree.{Expression, identifier, boolean, integer, string, paren, array, dictionary, call, unary, row, postfix, conditional, Operands, no_operands, operand, Tail, method, index, Tails, no_tails, tail, Listing, listing, Argument, plain, named, pair, Arguments, no_arguments, argument, Statement, evaluate, assign, selection, iteration, breaks, continues, Branches, no_branches, branch, Otherwise, nothing_else, otherwise, Statements, no_statements, statement, Block, block, File, file}
-use Rattle.meson_syntax.specs.Parts.{Any, an_expression, a_statement, a_block, child_nodes, node_at}
-use Rattle.meson_syntax.specs.Parts as syntax
+use Rattle.meson_syntax.specs.Children.{Any, an_expression, a_statement, a_block, child_nodes, node_at}
+use Rattle.meson_syntax.specs.Children as syntax
 use Rattle.meson_syntax.specs.Paths.{nth, block_of}
 use Rattle.meson_calls.specs.declared.call.CallRef.{CallRef}
 use Rattle.meson_calls.specs.Project.{Placed, child, place}

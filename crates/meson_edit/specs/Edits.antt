@@ -2,7 +2,7 @@
 use Rattle.std.specs.Prelude.{ℕ, suc, Bool, true, false, List, [], ◌∷◌, ◌++◌, take, drop, if◌then◌else◌, Option, Some, None, option_map, option_and_then}
 use Rattle.meson_syntax.specs.Tree.{Nowhere, Plain, Expression, array, Listing, listing, Argument, plain, named, pair, argument_list, arguments_of, Statement}
 use Rattle.meson_syntax.specs.Paths.{nth, list_at, value_of}
-use Rattle.meson_edit.specs.ExchangeStatements.{block_at, statement_in, block_without, file_and_last}
+use Rattle.meson_edit.specs.Blocks.{block_at, statement_in, block_without, file_and_last}
 
 -- what is written, as bytes and as a tree
 pub record Written (X : Type 0) : Type 0 where

@@ -9,7 +9,7 @@ use Rattle.meson_syntax.specs.Grammar.{block_words, file_words, listing_words}
 use Rattle.meson_syntax.specs.Reads.{IsSpannedWithin}
 use Rattle.meson_syntax.specs.Paths.{Sort, of_expression, of_statement, of_block, Node, node_words, Hole, reach, block_of, ListAt, list_at}
 use Rattle.meson_edit.specs.Standing.{NodeStands, ListPlaces}
-use Rattle.meson_edit.specs.ExchangeStatements.{block_at}
+use Rattle.meson_edit.specs.Blocks.{block_at}
 
 -- Each expression and statement that a path names stands at its span: the items of the text are those left of it, its own, and those right of it.
 abbrev pub NodesStand : Type 0

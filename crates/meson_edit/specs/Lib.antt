@@ -8,7 +8,7 @@ pub mod PutBack
 pub mod ExchangedTrees
 pub mod Borders
 pub mod Exchange
-pub mod ExchangeStatements
+pub mod Blocks
 pub mod ExchangedTokens
 pub mod Holes
 pub mod KeptLists

@@ -11,7 +11,7 @@ use Rattle.meson_syntax.specs.Grammar.{statement_words, file_words, file_depth}
 use Rattle.meson_syntax.specs.Reads.{Fits, Spells, ReadsWithin, IsSpannedWithin}
 use Rattle.meson_lex.specs.Words.{spoken, IsTight}
 use Rattle.meson_edit.specs.Standing.{statement_span}
-use Rattle.meson_edit.specs.ExchangeStatements.{BlockAt, block_at, statement_in, block_without, file_and_last, IsStatementText}
+use Rattle.meson_edit.specs.Blocks.{BlockAt, block_at, statement_in, block_without, file_and_last, IsStatementText}
 
 -- behind a token, outside brackets
 abbrev pub in_line : State

@@ -12,7 +12,7 @@ use Rattle.meson_syntax.specs.Tree.{Argument, File}
 use Rattle.meson_syntax.specs.Grammar.{expression_words, argument_words, statement_words}
 use Rattle.meson_syntax.specs.Paths.{ListAt, list_at, list_span, nth, value_of}
 use Rattle.meson_edit.specs.Standing.{expression_span, argument_span, statement_span}
-use Rattle.meson_edit.specs.ExchangeStatements.{block_at, statement_in, IsStatementText}
+use Rattle.meson_edit.specs.Blocks.{block_at, statement_in, IsStatementText}
 use Rattle.meson_edit.specs.Edits.{Edit, First, After, Remove, Replace, Wrap, RemoveStatement, Append, elements}
 
 -- ---- places

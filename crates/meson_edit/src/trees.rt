@@ -3,7 +3,7 @@
 
 ghost use Rattle.meson_edit.specs.Holes.{ListsStand, NodesStand, BlocksErase, ListsErase, NodesErase, HolesFit, ListsFit};
 ghost use Rattle.meson_edit.specs.Exchange.{ListsExchange, ListsLevel, ListsReadAgain};
-ghost use Rattle.meson_edit.specs.ExchangeStatements.{AppendedReadAgain, AppendingLevels, RemovalsLevel, RemovalsReadAgain, StatementsCome, StatementsGo};
+ghost use Rattle.meson_edit.specs.Blocks.{AppendedReadAgain, AppendingLevels, RemovalsLevel, RemovalsReadAgain, StatementsCome, StatementsGo};
 ghost use Rattle.meson_edit.specs.Lines.{AppendedWords, CutsAreUtf8, FilesEnd, LinesAreTexts, SpelledReads, StatementsAreTexts, StatementsEnd, StatementsStand};
 ghost use Rattle.meson_edit.specs.ExchangedTokens.{TokensMove};
 ghost use Rattle.meson_edit.specs.MappedPaths.{ListsMap, NodesMap};

@@ -6,7 +6,7 @@ use Rattle.meson_splice.specs.Files.{position_of_file}
 use Rattle.meson_store.specs.Calls.{one_more}
 use Rattle.meson_store.specs.Content.{Content}
 use Rattle.meson_gathering.specs.Gathering.{Told, file_of, held_bytes, with_more}
-use Rattle.meson_gathering.specs.Reading.{EntersOne, OnceAtMost, OnceIfNew, is_read, is_there}
+use Rattle.meson_gathering.specs.ReadCounts.{EntersOne, OnceAtMost, OnceIfNew, is_read, is_there}
 
 -- what holds of whatever was answered
 pub on_err : {T E : Type 0} (P : Type 0) → P → (r : Result T E) → OnErr r P

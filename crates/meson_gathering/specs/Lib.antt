@@ -1,4 +1,4 @@
 pub mod Gathering
 pub mod Gathered
-pub mod Reading
+pub mod ReadCounts
 pub mod inside

@@ -11,9 +11,9 @@ use meson_calls::{CallRef, Refusal};
 use meson_details::Head;
 use meson_details::called::call_at;
 use meson_details::showing::head_of;
-use meson_sources::extras::extra_files_of;
+use meson_sources::extra_files::extra_files_of;
 use meson_variables::Sources;
-use meson_variables::arriving::sources_at;
+use meson_variables::target_sources::sources_at;
 use meson_variables::variables::Variables;
 
 /// A target: where its call stands, and what is told of it.

@@ -8,7 +8,7 @@ use Rattle.meson_splice.specs.declared.file_set.File.{File}
 use Rattle.meson_store.specs.Calls.{one_more}
 use Rattle.meson_store.specs.Content.{Content}
 use Rattle.meson_gathering.specs.Gathering.{Finds, whole}
-use Rattle.meson_gathering.specs.Reading.{OnceAtMost, ReadsFiles, StopsReading}
+use Rattle.meson_gathering.specs.ReadCounts.{OnceAtMost, ReadsFiles, StopsReading}
 
 -- the file that the words name: a script, or digests
 abbrev pub file_read : Action → ℕ → ℕ

@@ -3,7 +3,7 @@ use Rattle.std.specs.Prelude.{◌⊎◌, ◌||◌, All, is_some, option_map, Ok}
 use Rattle.std.specs.List.{filter_map, list_any}
 use Rattle.std.proofs.Common.{◌≡◌, ℕ, ◌+◌, ◌≤◌, Bool, true, false, List, [], ◌∷◌, ◌++◌, length, Option, Some, None, refl, sym, ap, ◌∙◌, subst, inl, inr, IsUtf8}
 use Rattle.meson_lex.specs.declared.kinds.Span.{Span}
-use Rattle.meson_syntax.specs.Parts.{an_expression, a_block}
+use Rattle.meson_syntax.specs.Children.{an_expression, a_block}
 use Rattle.meson_syntax.specs.Paths.{block_of}
 use Rattle.meson_syntax.specs.Tree.{Nowhere, Name, Expression, call, Argument, plain, named, pair, Arguments, no_arguments, argument, arguments_of, erase_arguments}
 use Rattle.meson_syntax.proofs.paths.Every.{Every}

@@ -9,7 +9,7 @@ use Rattle.meson_syntax.specs.Operators.{opens, closes}
 use Rattle.meson_syntax.specs.Tree.{Nowhere, Expression, identifier, boolean, integer, string, paren, array, dictionary, call, unary, row, postfix, conditional, Operands, no_operands, operand, Tail, method, index, Tails, no_tails, tail, Listing, listing, plain, named, pair, Arguments, no_arguments, argument, arguments_of, Statement, evaluate, assign, selection, iteration, breaks, continues, Branches, no_branches, branch, Otherwise, nothing_else, otherwise, Statements, no_statements, statement, Block, block}
 use Rattle.meson_syntax.specs.Grammar.{mark, argument_words, block_words, branches_words, comma_words, expression_words, operator_words, otherwise_words, statement_words, tail_words, tails_words}
 use Rattle.meson_syntax.specs.Paths.{Sort, of_expression, of_statement, of_block, Node, Hole, around, all_around, children, arguments_children, listing_children, operands_children, tail_children, tails_children, expression_children, branches_children, otherwise_children, statement_children, statements_children, block_children}
-use Rattle.meson_syntax.specs.Parts.{arguments_parts, branches_parts, tail_parts}
+use Rattle.meson_syntax.specs.Children.{arguments_parts, branches_parts, tail_parts}
 use Rattle.meson_edit.specs.Edits.{with_elements}
 use Rattle.meson_edit.proofs.paths.Positions.{EveryAt, every-at-append, length-around}
 use Rattle.meson_sources.specs.Without.{Gone, arguments_without, block_without, branches_without, but, expression_without, from_child, listing_without, operands_without, otherwise_without, statement_without, statements_without, tail_without, tails_without}

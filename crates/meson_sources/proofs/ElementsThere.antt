@@ -3,7 +3,7 @@ use Rattle.std.specs.Prelude.{option_map, option_and_then}
 use Rattle.std.proofs.Common.{◌≡◌, ℕ, List, Option, Some, None, refl, sym, ap, ◌∙◌}
 use Rattle.meson_syntax.specs.Tree.{Nowhere, Plain, Listing, Argument}
 use Rattle.meson_syntax.specs.Paths.{ListIn, list_in, ListAt, list_at, nth, block_of}
-use Rattle.meson_syntax.specs.Parts.{Any, an_expression, a_statement, a_block, expression_any, node_at}
+use Rattle.meson_syntax.specs.Children.{Any, an_expression, a_statement, a_block, expression_any, node_at}
 use Rattle.meson_syntax.proofs.paths.Reaching.{and-then-some}
 use Rattle.meson_syntax.proofs.PathNodes.{expression-reached, list-reached}
 use Rattle.meson_edit.specs.Edits.{elements}

@@ -2,7 +2,7 @@
 use Rattle.std.specs.Prelude.{option_and_then, option_map}
 use Rattle.std.proofs.Common.{◌≡◌, ℕ, ◌+◌, ◌≤◌, List, [], ◌∷◌, ◌++◌, append-nil, length, map, Some, refl, sym, ap, ◌∙◌, subst, arith, IsUtf8, None}
 use Rattle.meson_lex.specs.declared.kinds.Span.{Span}
-use Rattle.meson_syntax.specs.Parts.{an_expression}
+use Rattle.meson_syntax.specs.Children.{an_expression}
 use Rattle.meson_syntax.specs.Paths.{ListAt, ListIn, list_at, list_in}
 use Rattle.meson_syntax.specs.Tree.{Nowhere, Plain, Expression, string, call, Argument, plain, Arguments, arguments_of, erase_expression}
 use Rattle.meson_syntax.proofs.parsing.Complete.{list-of-arguments}

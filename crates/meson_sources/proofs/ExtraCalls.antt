@@ -5,7 +5,7 @@ use Rattle.std.proofs.Common.{◌≡◌, ℕ, ◌+◌, Bool, true, false, [], �
 use Rattle.meson_syntax.specs.declared.operator.Bracket.TheVariants as bracket
 use Rattle.meson_syntax.specs.Grammar.{LevelArguments}
 use Rattle.meson_syntax.specs.Operators.{holds_pairs}
-use Rattle.meson_syntax.specs.Parts.{an_expression, arguments_parts}
+use Rattle.meson_syntax.specs.Children.{an_expression, arguments_parts}
 use Rattle.meson_syntax.specs.Tree.{bare_name, Nowhere, Name, Expression, Argument, plain, named, pair, Arguments, no_arguments, argument}
 use Rattle.meson_calls.specs.declared.call.CallRef.{CallRef}
 use Rattle.meson_variables.specs.Expansion.{fixed, in_list, both_expanded}

@@ -5,7 +5,7 @@ use Rattle.std.proofs.lemmas.List.{map-append}
 use Rattle.meson_lex.specs.declared.kinds.Span.{Span}
 use Rattle.meson_syntax.specs.declared.operator.Bracket.TheVariants as bracket
 use Rattle.meson_syntax.specs.Grammar.{LevelArguments}
-use Rattle.meson_syntax.specs.Parts.{arguments_parts}
+use Rattle.meson_syntax.specs.Children.{arguments_parts}
 use Rattle.meson_syntax.specs.Tree.{Nowhere, Expression, Arguments}
 use Rattle.meson_syntax.proofs.paths.Every.{Every, every-append}
 use Rattle.meson_calls.specs.declared.call.CallRef.{CallRef}

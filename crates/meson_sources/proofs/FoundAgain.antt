@@ -5,7 +5,7 @@ use Rattle.std.proofs.Common.{◌≡◌, ℕ, zero, suc, ◌+◌, Bool, true, fa
 use Rattle.meson_lex.specs.declared.kinds.Span.{Span}
 use Rattle.meson_syntax.specs.declared.operator.Assignment.TheVariants as assignment
 use Rattle.meson_syntax.specs.Tree.{Name, Expression, Statement, assign}
-use Rattle.meson_syntax.specs.Parts as syntax
+use Rattle.meson_syntax.specs.Children as syntax
 use Rattle.meson_syntax.specs.Paths.{block_of}
 use Rattle.meson_syntax.proofs.parsing.Steps.{some-injective}
 use Rattle.meson_syntax.proofs.paths.Every.{Every}

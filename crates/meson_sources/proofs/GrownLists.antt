@@ -6,7 +6,7 @@ use Rattle.meson_lex.specs.Literals.{value, literal}
 use Rattle.meson_lex.proofs.Written.{literal_value}
 use Rattle.meson_syntax.specs.declared.operator.StringKind.TheVariants as quotes
 use Rattle.meson_syntax.specs.Operators.{string_kind}
-use Rattle.meson_syntax.specs.Parts.{Any}
+use Rattle.meson_syntax.specs.Children.{Any}
 use Rattle.meson_syntax.specs.Tree.{Nowhere, Name, Expression, array, call, listing, Argument, plain, named, pair, arguments_of}
 use Rattle.meson_syntax.proofs.paths.Every.{Every}
 use Rattle.meson_calls.specs.declared.call.CallRef.{CallRef}

@@ -6,7 +6,7 @@ use Rattle.meson_lex.specs.Literals.{value}
 use Rattle.meson_syntax.specs.declared.operator.StringKind.{StringKind}
 use Rattle.meson_syntax.specs.Operators.{string_kind, holds_values}
 use Rattle.meson_syntax.specs.Paths.{ListIn, list_in, nth}
-use Rattle.meson_syntax.specs.Parts.{an_expression, operands_parts}
+use Rattle.meson_syntax.specs.Children.{an_expression, operands_parts}
 use Rattle.meson_syntax.specs.Tree.{Expression, identifier, string, array, call, row, Operands, no_operands, operand, Listing, listing, Argument, plain, named, pair, Arguments, no_arguments, argument, argument_list}
 use Rattle.meson_syntax.proofs.paths.Every.{Every, every-append}
 use Rattle.meson_edit.specs.Edits.{elements}

@@ -1,7 +1,7 @@
 -- Further files do not go into what is met as one that is not known, nor further extra files into the call itself.
 use Rattle.std.specs.Prelude.{◌⊎◌, All}
 use Rattle.std.proofs.Common.{◌≡◌, ℕ, Bool, true, false, List, [], ◌∷◌, refl, sym, ◌∙◌, subst, inl, inr}
-use Rattle.meson_syntax.specs.Parts.{an_expression}
+use Rattle.meson_syntax.specs.Children.{an_expression}
 use Rattle.meson_syntax.specs.Tree.{Nowhere, Expression, erase_name, listing}
 use Rattle.meson_syntax.proofs.paths.Every.{Every}
 use Rattle.meson_calls.specs.declared.call.CallRef.{CallRef}

@@ -7,7 +7,7 @@ use Rattle.meson_syntax.specs.Operators.{holds_pairs}
 use Rattle.meson_syntax.specs.Tree.{Nowhere, Expression, string, Argument, plain, named, pair, Arguments, no_arguments, argument, arguments_of, argument_list}
 use Rattle.meson_syntax.specs.Grammar.{LevelArguments}
 use Rattle.meson_syntax.specs.Paths.{nth}
-use Rattle.meson_syntax.specs.Parts.{Any, an_expression, argument_parts, arguments_parts}
+use Rattle.meson_syntax.specs.Children.{Any, an_expression, argument_parts, arguments_parts}
 use Rattle.meson_syntax.proofs.paths.Every.{Every}
 use Rattle.meson_sources.specs.SourceEdits.{moved_up}
 

@@ -4,7 +4,7 @@ use Rattle.std.proofs.Common.{◌≡◌, ℕ, List, [], ◌∷◌, Some, refl, a
 use Rattle.meson_lex.specs.Significant.{Word}
 use Rattle.meson_syntax.specs.Tree.{Nowhere, Plain, Expression, array, dictionary, call, Listing, Block, file}
 use Rattle.meson_syntax.specs.Paths.{Sort, of_expression, of_statement, of_block, Node, Hole, around, children, nth_hole, reach, block_of, ListIn, list_in, ListAt, list_at, list_within, list_of_node}
-use Rattle.meson_syntax.specs.Parts.{Any, an_expression, a_block, any_of, child_nodes}
+use Rattle.meson_syntax.specs.Children.{Any, an_expression, a_block, any_of, child_nodes}
 use Rattle.meson_syntax.proofs.parsing.Steps.{some-injective}
 use Rattle.meson_syntax.proofs.paths.Every.{every-nth}
 use Rattle.meson_syntax.proofs.paths.Reaching.{map-some, and-then-some}

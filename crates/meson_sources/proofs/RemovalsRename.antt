@@ -6,7 +6,7 @@ use Rattle.meson_syntax.specs.Operators.{holds_pairs, holds_values}
 use Rattle.meson_syntax.specs.Tree.{Nowhere, Plain, array, dictionary, call, Listing, listing, Argument, arguments_of, argument_list, string}
 use Rattle.meson_syntax.specs.Grammar.{LevelListing, LevelFile}
 use Rattle.meson_syntax.specs.Paths.{ListAt, nth}
-use Rattle.meson_syntax.specs.Parts.{Any, an_expression, a_statement, a_block, arguments_parts, listing_parts, child_nodes}
+use Rattle.meson_syntax.specs.Children.{Any, an_expression, a_statement, a_block, arguments_parts, listing_parts, child_nodes}
 use Rattle.meson_syntax.proofs.parsing.Complete.{list-of-arguments}
 use Rattle.meson_syntax.proofs.parsing.Steps.{some-injective}
 use Rattle.meson_syntax.proofs.paths.Every.{Every}

@@ -5,7 +5,7 @@ use Rattle.std.proofs.lemmas.Bool.{eqb-true, eq-eqb}
 use Rattle.meson_syntax.specs.declared.operator.StringKind.{StringKind}
 use Rattle.meson_syntax.specs.Tree.{Nowhere, string, Argument, plain}
 use Rattle.meson_syntax.specs.Paths.{nth}
-use Rattle.meson_syntax.specs.Parts.{Any, an_expression, child_nodes, node_at}
+use Rattle.meson_syntax.specs.Children.{Any, an_expression, child_nodes, node_at}
 use Rattle.meson_sources.proofs.Renaming.{number_after}
 use Rattle.meson_sources.specs.SourceEdits.{moved_up, path_after, is_path}
 use Rattle.meson_sources.proofs.OneGone.{without, moved, part}

@@ -10,7 +10,7 @@ use Rattle.meson_syntax.specs.Operators.{opens, closes}
 use Rattle.meson_syntax.specs.Tree.{Expression, string, array, dictionary, call, Listing, listing, Argument, plain, named, pair, Arguments, no_arguments, argument, argument_list}
 use Rattle.meson_syntax.specs.Grammar.{mark, comma_words, argument_words, arguments_words}
 use Rattle.meson_syntax.specs.Paths.{Sort, of_expression, of_statement, of_block, Node, Hole, all_around, nth, children, argument_children, arguments_children, listing_children, expression_children, list_in, ListIn}
-use Rattle.meson_syntax.specs.Parts.{Any, an_expression, a_statement, a_block, any_of}
+use Rattle.meson_syntax.specs.Children.{Any, an_expression, a_statement, a_block, any_of}
 use Rattle.meson_syntax.proofs.paths.Every.{Every, every-append, every-around}
 use Rattle.meson_edit.specs.Edits.{elements}
 

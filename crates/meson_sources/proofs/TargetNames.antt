@@ -4,8 +4,8 @@ use Rattle.std.specs.Prelude.{◌&&◌, if◌then◌else◌, is_some, option_and
 use Rattle.std.specs.List.{cons_option, filter_map}
 use Rattle.std.proofs.lemmas.List.Elements.{filter_map-append}
 use Rattle.meson_syntax.specs.declared.operator.Assignment.TheVariants as assignment
-use Rattle.meson_syntax.specs.Parts.{Any, an_expression, a_statement, a_block, child_nodes}
-use Rattle.meson_syntax.specs.Parts as syntax
+use Rattle.meson_syntax.specs.Children.{Any, an_expression, a_statement, a_block, child_nodes}
+use Rattle.meson_syntax.specs.Children as syntax
 use Rattle.meson_syntax.specs.Tree.{Nowhere, Plain, Expression, identifier, boolean, integer, string, paren, array, dictionary, call, unary, row, postfix, conditional, Operands, no_operands, operand, Tail, method, index, Tails, no_tails, tail, Listing, listing, Argument, plain, named, pair, Arguments, no_arguments, argument, Statement, evaluate, assign, selection, iteration, breaks, continues, Branches, no_branches, branch, Otherwise, nothing_else, otherwise, Statements, no_statements, statement, Block, block, file, erase, erase_argument, erase_arguments, erase_block, erase_branches, erase_expression, erase_listing, erase_operands, erase_otherwise, erase_statement, erase_statements, erase_tail, erase_tails}
 use Rattle.meson_syntax.specs.Tree as tree
 use Rattle.meson_calls.specs.declared.call.CallRef.{CallRef}

@@ -3,7 +3,7 @@ use Rattle.std.specs.Prelude.{if◌then◌else◌}
 use Rattle.std.proofs.Common.{◌≡◌, ℕ, suc, Bool, true, false, List, [], ◌∷◌, Some, refl, sym, ap, ◌∙◌, subst}
 use Rattle.meson_syntax.specs.declared.operator.Bracket.TheVariants as bracket
 use Rattle.meson_syntax.specs.Grammar.{LevelExpression, LevelArguments}
-use Rattle.meson_syntax.specs.Parts.{Any, an_expression, arguments_parts}
+use Rattle.meson_syntax.specs.Children.{Any, an_expression, arguments_parts}
 use Rattle.meson_syntax.specs.Tree.{Nowhere, Name, Expression, call, Listing, Arguments}
 use Rattle.meson_calls.specs.declared.call.CallRef.{CallRef}
 use Rattle.meson_variables.specs.Expansion.{opaque, Expansion, Stand, met, is_files, is_operand_by, is_value_by, max_followed, expand_by, within, expand_listing, follow_single}

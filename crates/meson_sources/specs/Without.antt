@@ -1,6 +1,6 @@
 -- Trees without some of the elements of their lists. Every place and every number is one of the trees as they were.
 use Rattle.std.specs.Prelude.{ℕ, suc, ◌+◌, Bool, List, [], ◌∷◌, length, if◌then◌else◌}
-use Rattle.meson_syntax.specs.Parts.{branches_parts, tail_parts}
+use Rattle.meson_syntax.specs.Children.{branches_parts, tail_parts}
 use Rattle.meson_syntax.specs.Tree.{Nowhere, Plain, Expression, paren, array, dictionary, call, unary, row, postfix, conditional, Operands, no_operands, operand, Tail, method, index, Tails, no_tails, tail, Listing, listing, Argument, plain, named, pair, Arguments, no_arguments, argument, arguments_of, Statement, evaluate, assign, selection, iteration, Branches, no_branches, branch, Otherwise, nothing_else, otherwise, Statements, no_statements, statement, Block, block, file}
 use Rattle.meson_edit.specs.Edits.{with_elements}
 

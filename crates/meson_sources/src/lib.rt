@@ -2,8 +2,8 @@
 #![tactic(auto)]
 
 mod editing;
-mod extra;
-pub mod extras;
+mod extra_edits;
+pub mod extra_files;
 mod inserting;
 pub mod laws;
 mod removing;

@@ -9,7 +9,7 @@ ghost use Rattle.meson_sources.specs.Targeted.{target_steps};
 ghost use Rattle.meson_steps.specs.Meanings.{AreMeant};
 
 use crate::editing::{sources_added, sources_removed};
-use crate::extra::{extra_added, extra_removed};
+use crate::extra_edits::{extra_added, extra_removed};
 use meson_calls::finding::{list_of_call, the_call};
 use meson_calls::noted::Noted;
 use meson_calls::{Refusal, Role};

@@ -16,7 +16,7 @@ use Rattle.meson_values.specs.LendsItems.{with_all}
 use Rattle.meson_syntax.specs.Tree.{Expression, Listing, listing, Argument, plain, named, pair, Arguments, argument, Operands, operand, Tail, Tails, tail, arguments_of, operands_of, tails_of}
 use Rattle.meson_syntax.specs.Grammar.{mark, comma_words, operator_words, expression_words, tail_words, tails_words, argument_words, arguments_words}
 use Rattle.meson_syntax.specs.Paths.{of_expression, all_around, argument_children, arguments_children, listing_children, operands_children, tail_children, tails_children}
-use Rattle.meson_syntax.specs.Parts.{argument_parts, tail_parts}
+use Rattle.meson_syntax.specs.Children.{argument_parts, tail_parts}
 use Rattle.meson_syntax.specs.inside.Putting.{put_among, put_in, ahead, IsSpot, operand_child}
 use Rattle.meson_syntax.specs.View.{arg_view, args_view, tail_view, tails_view, operand_view, operands_view, expr_view, list_view}
 use Rattle.meson_syntax.proofs.PathNodes.{tail-count}

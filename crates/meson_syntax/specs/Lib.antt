@@ -5,7 +5,7 @@ pub mod Spelling
 pub mod Grammar
 pub mod Reads
 pub mod Paths
-pub mod Parts
+pub mod Children
 pub mod ReadsList
 pub mod Messages
 pub mod Laws

@@ -3,7 +3,7 @@
 ghost use Rattle.std.specs.Prelude.{◌≡◌, ◌∷◌, length, Some, None};
 ghost use Rattle.meson_lex.specs.declared.kinds.Span.{Span};
 ghost use Rattle.meson_syntax.specs.View.{Bytes, arg_view, block_view, branch_view, branches_view, expr_view, list_view, operand_view, operands_view, otherwise_view, stmt_view, stmts_view, tail_view, tails_view, view};
-ghost use Rattle.meson_syntax.specs.Parts.{argument_parts, tail_parts};
+ghost use Rattle.meson_syntax.specs.Children.{argument_parts, tail_parts};
 ghost use Rattle.meson_syntax.specs.ListPut.{with_list};
 ghost use Rattle.meson_syntax.specs.Paths.{ListAt, argument_children, block_children, branches_children, expression_children, list_at, list_in, listing_children, of_block, of_expression, of_statement, operands_children, otherwise_children, statement_children, statements_children, tail_children, tails_children};
 ghost use Rattle.meson_syntax.specs.inside.Putting.{IsSpot, branch_child, only_child, operand_child, put_child, put_in, put_own};

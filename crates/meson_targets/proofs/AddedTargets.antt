@@ -9,7 +9,7 @@ use Rattle.meson_lex.proofs.Written.{literal_value}
 use Rattle.meson_splice.specs.Patch.{then_ok}
 use Rattle.meson_splice.specs.declared.file_set.File.{File}
 use Rattle.meson_syntax.specs.declared.tree.Parsed.{Parsed}
-use Rattle.meson_edit.specs.ExchangeStatements.{and_last, file_and_last}
+use Rattle.meson_edit.specs.Blocks.{and_last, file_and_last}
 use Rattle.meson_syntax.specs.Tree.{Nowhere, Plain, plain, Statement, Statements, no_statements, statement, block, file, arguments_of, erase}
 use Rattle.meson_syntax.specs.View.{view}
 use Rattle.meson_edit.specs.Edits.{Append, Written, edited}

@@ -2,7 +2,7 @@
 use Rattle.std.proofs.Common.{◌≡◌, ℕ, zero, suc, List, [], ◌∷◌, ◌++◌, length, Option, Some, None, refl, sym, ap, ◌∙◌, subst}
 use Rattle.std.specs.Prelude.{option_and_then, option_map}
 use Rattle.meson_lex.specs.Significant.{Word}
-use Rattle.meson_edit.specs.ExchangeStatements.{BlockAt, all_but, block_at, block_of_node, block_without, statement_in}
+use Rattle.meson_edit.specs.Blocks.{BlockAt, all_but, block_at, block_of_node, block_without, statement_in}
 use Rattle.meson_syntax.specs.Paths.{Sort, of_expression, of_statement, of_block, Node, nth, reach}
 use Rattle.meson_syntax.specs.Tree.{Nowhere, Plain, Statement, Statements, no_statements, statement, statement_list, Block, block, file}
 use Rattle.meson_syntax.proofs.parsing.Steps.{some-injective}

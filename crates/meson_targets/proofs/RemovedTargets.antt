@@ -5,7 +5,7 @@ use Rattle.std.specs.List.{cons_option}
 use Rattle.meson_lex.specs.declared.kinds.Span.{Span}
 use Rattle.meson_splice.specs.Patch.{then_ok}
 use Rattle.meson_splice.specs.declared.file_set.File.{File}
-use Rattle.meson_edit.specs.ExchangeStatements.{BlockAt, block_at, statement_in}
+use Rattle.meson_edit.specs.Blocks.{BlockAt, block_at, statement_in}
 use Rattle.meson_syntax.specs.Paths as paths
 use Rattle.meson_syntax.specs.Tree.{Nowhere, Plain, Expression, call, Statement, selection, iteration, Branches, Otherwise, Block, erase, erase_block, erase_expression, erase_listing, erase_statement}
 use Rattle.meson_syntax.specs.Tree as tree

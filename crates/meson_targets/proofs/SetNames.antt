@@ -7,7 +7,7 @@ use Rattle.meson_lex.specs.declared.kinds.Span.{Span}
 use Rattle.meson_splice.specs.declared.file_set.File.{File}
 use Rattle.meson_syntax.specs.declared.operator.Assignment.TheVariants as assignment
 use Rattle.meson_syntax.specs.declared.tree.Parsed.{Parsed}
-use Rattle.meson_edit.specs.ExchangeStatements.{BlockAt, block_of_node, block_at, statement_in}
+use Rattle.meson_edit.specs.Blocks.{BlockAt, block_of_node, block_at, statement_in}
 use Rattle.meson_syntax.specs.Grammar.{statement_words, statements_words, block_words, file_words}
 use Rattle.meson_syntax.specs.Paths.{Sort, of_expression, of_statement, of_block, Node, node_words, reach, nth}
 use Rattle.meson_syntax.specs.Tree.{Statement, evaluate, assign, selection, iteration, breaks, continues, Statements, no_statements, statement, statement_list, Block, block, file, erase}

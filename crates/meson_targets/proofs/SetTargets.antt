@@ -4,8 +4,8 @@ use Rattle.std.specs.Prelude.{Bool, if◌then◌else◌, bytes_eq, option_and_th
 use Rattle.std.specs.List.{cons_option, filter_map}
 use Rattle.meson_lex.specs.declared.kinds.Span.{Span}
 use Rattle.meson_syntax.specs.declared.operator.Assignment.TheVariants as assignment
-use Rattle.meson_edit.specs.ExchangeStatements.{BlockAt, block_at, statement_in}
-use Rattle.meson_syntax.specs.Parts as syntax
+use Rattle.meson_edit.specs.Blocks.{BlockAt, block_at, statement_in}
+use Rattle.meson_syntax.specs.Children as syntax
 use Rattle.meson_syntax.specs.Paths.{block_of}
 use Rattle.meson_syntax.specs.Tree.{Nowhere, Name, Expression, call, Statement, assign, erase_expression, erase_statement}
 use Rattle.meson_syntax.proofs.parsing.Steps.{some-injective}

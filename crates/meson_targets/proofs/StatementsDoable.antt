@@ -6,7 +6,7 @@ use Rattle.meson_lex.specs.Significant.{Word}
 use Rattle.meson_syntax.specs.Grammar.{statement_depth, statements_depth, block_depth, file_depth, LevelStatement, LevelBlock, LevelFile}
 use Rattle.meson_syntax.specs.Tree.{Nowhere, Plain, Statement, Statements, no_statements, statement, Block, block, file}
 use Rattle.meson_syntax.specs.Paths.{Sort, of_expression, of_statement, of_block, Node, reach, nth}
-use Rattle.meson_edit.specs.ExchangeStatements.{BlockAt, block_of_node, block_at, statement_in, all_but, block_without, and_last, file_and_last}
+use Rattle.meson_edit.specs.Blocks.{BlockAt, block_of_node, block_at, statement_in, all_but, block_without, and_last, file_and_last}
 use Rattle.meson_syntax.proofs.parsing.Steps.{some-injective}
 use Rattle.meson_syntax.proofs.paths.Reaching.{Reaches, and-then-some, map-some, reach-fits}
 use Rattle.meson_edit.proofs.exchange.AmongStatements.{without-level}

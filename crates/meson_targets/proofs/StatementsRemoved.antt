@@ -6,7 +6,7 @@ use Rattle.meson_splice.specs.Patch.{then_ok}
 use Rattle.meson_splice.specs.declared.file_set.File.{File}
 use Rattle.meson_splice.specs.Files.{bytes_at}
 use Rattle.meson_syntax.specs.declared.tree.Parsed.{Parsed}
-use Rattle.meson_edit.specs.ExchangeStatements.{block_at, statement_in}
+use Rattle.meson_edit.specs.Blocks.{block_at, statement_in}
 use Rattle.meson_syntax.specs.Tree.{Statement}
 use Rattle.meson_syntax.specs.View.{view}
 use Rattle.meson_calls.specs.declared.call.CallRef.{CallRef}

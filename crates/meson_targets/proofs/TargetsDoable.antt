@@ -8,7 +8,7 @@ use Rattle.meson_lex.specs.declared.kinds.Span.{Span}
 use Rattle.meson_splice.specs.Patch.{then_ok}
 use Rattle.meson_splice.specs.declared.file_set.File.{File}
 use Rattle.meson_syntax.specs.declared.tree.Parsed.{Parsed}
-use Rattle.meson_edit.specs.ExchangeStatements.{BlockAt, block_at, statement_in, block_without}
+use Rattle.meson_edit.specs.Blocks.{BlockAt, block_at, statement_in, block_without}
 use Rattle.meson_syntax.specs.Paths.{nth}
 use Rattle.meson_syntax.specs.Tree.{Nowhere, Plain, Statement, Statements, no_statements, statement, statement_list, Block, block, erase, erase_statement, erase_statements, erase_block}
 use Rattle.meson_syntax.specs.Tree as tree

@@ -6,9 +6,9 @@ use Rattle.meson_lex.specs.Significant.{Word, new_line}
 use Rattle.meson_lex.specs.declared.kinds.Kind.{Kind}
 use Rattle.meson_lex.specs.declared.kinds.Kind.TheVariants as k
 use Rattle.meson_splice.specs.declared.file_set.File.{File}
-use Rattle.meson_edit.specs.ExchangeStatements.{BlockAt, all_but, block_at, block_of_node, block_without, statement_in}
+use Rattle.meson_edit.specs.Blocks.{BlockAt, all_but, block_at, block_of_node, block_without, statement_in}
 use Rattle.meson_syntax.specs.Grammar.{mark, expression_words, statement_words, otherwise_words, branches_words, block_words}
-use Rattle.meson_syntax.specs.Parts as syntax
+use Rattle.meson_syntax.specs.Children as syntax
 use Rattle.meson_syntax.specs.Paths.{Sort, of_expression, of_statement, of_block, Node, Hole, around, reach}
 use Rattle.meson_syntax.specs.Paths as paths
 use Rattle.meson_syntax.specs.Tree.{Nowhere, Plain, Name, Expression, Statement, evaluate, assign, selection, iteration, breaks, continues, Branches, no_branches, branch, Otherwise, nothing_else, otherwise, Statements, no_statements, statement, statement_list, Block, block, file}

@@ -2,7 +2,7 @@
 use Rattle.std.specs.Prelude.{◌≡◌, ℕ, false, List, [], ◌∷◌, ◌++◌, length, map, Option, Some, option_and_then, option_map, Ok, Err}
 use Rattle.std.specs.Str.{IsUtf8}
 use Rattle.meson_lex.specs.declared.kinds.Span.{Span}
-use Rattle.meson_edit.specs.ExchangeStatements.{BlockAt, block_at}
+use Rattle.meson_edit.specs.Blocks.{BlockAt, block_at}
 use Rattle.meson_syntax.specs.Paths.{nth}
 use Rattle.meson_syntax.specs.Tree.{Nowhere, Plain, Statement, statement_list, Block, block, listing, plain, arguments_of}
 use Rattle.meson_calls.specs.declared.call.CallRef.{CallRef}

@@ -5,7 +5,7 @@ use Rattle.meson_lex.specs.Literals.{literal}
 use Rattle.meson_splice.specs.Patch.{then_ok}
 use Rattle.meson_syntax.specs.declared.operator.Assignment.TheVariants as assignment
 use Rattle.meson_syntax.specs.Tree.{bare_name, Nowhere, Expression, identifier, call, listing, plain, arguments_of, Statement, evaluate, assign, iteration}
-use Rattle.meson_edit.specs.ExchangeStatements.{block_at, statement_in}
+use Rattle.meson_edit.specs.Blocks.{block_at, statement_in}
 use Rattle.meson_edit.specs.Edits.{Written, RemoveStatement, Append}
 use Rattle.meson_calls.specs.declared.call.CallRef.{CallRef}
 use Rattle.meson_calls.specs.declared.call.Role.TheVariants as role

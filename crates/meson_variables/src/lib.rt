@@ -1,7 +1,7 @@
 //! What variables stand for, and the sources of a target.
 #![tactic(auto)]
 
-pub mod arriving;
+pub mod target_sources;
 pub mod expansion;
 pub mod followed;
 pub mod held_arguments;

@@ -12,7 +12,7 @@ ghost use Rattle.meson_variables.specs.Values.{value_in, value_view};
 ghost use Rattle.meson_calls.specs.Variables.{single};
 ghost use Rattle.meson_calls.specs.declared.call.Role.{Role};
 
-use crate::arriving::arguments_of;
+use crate::target_sources::arguments_of;
 use crate::known::all_known;
 use crate::mentions::{Mentions, is_among};
 use crate::values::{Value, Values};

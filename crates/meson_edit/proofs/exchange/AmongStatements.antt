@@ -9,7 +9,7 @@ use Rattle.meson_syntax.specs.Tree.{Statement, Statements, no_statements, statem
 use Rattle.meson_syntax.specs.Grammar.{statement_words, statements_words, block_words, file_words, LevelStatements, LevelBlock, LevelFile}
 use Rattle.meson_syntax.specs.Spelling.{SpellsStatements, SpellsBlock, SpellsFile}
 use Rattle.meson_syntax.specs.Paths.{Sort, of_expression, of_statement, of_block, Node, nth, reach, block_of}
-use Rattle.meson_edit.specs.ExchangeStatements.{BlockAt, block_of_node, block_at, statement_in, all_but, block_without}
+use Rattle.meson_edit.specs.Blocks.{BlockAt, block_of_node, block_at, statement_in, all_but, block_without}
 use Rattle.meson_syntax.proofs.parsing.Steps.{some-injective}
 use Rattle.meson_syntax.proofs.parsing.Words.{one-words, then-words}
 use Rattle.meson_syntax.proofs.parsing.FileWords.{statement-words, statements-words}

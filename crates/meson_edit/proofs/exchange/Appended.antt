@@ -13,7 +13,7 @@ use Rattle.meson_syntax.specs.declared.source.Limits.{Limits}
 use Rattle.meson_syntax.specs.Tree.{Nowhere, Plain, Statement, Statements, no_statements, statement, block, File, file}
 use Rattle.meson_syntax.specs.Grammar.{statement_words, statements_words, file_words, LevelStatement, LevelStatements, LevelFile, file_depth}
 use Rattle.meson_syntax.specs.Reads.{Fits, Spells, ReadsWithin}
-use Rattle.meson_edit.specs.ExchangeStatements.{and_last, file_and_last, IsStatementText, IsBreak}
+use Rattle.meson_edit.specs.Blocks.{and_last, file_and_last, IsStatementText, IsBreak}
 use Rattle.meson_edit.proofs.exchange.StatementLines.{statement-flat, file-lines}
 use Rattle.meson_edit.proofs.exchange.LineWords.{told, told-append, tight-state}
 use Rattle.meson_edit.proofs.exchange.Begun.{line_of, line-item, before-line, Begun, begun}

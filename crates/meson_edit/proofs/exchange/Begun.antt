@@ -8,7 +8,7 @@ use Rattle.meson_lex.specs.Kinds.{IsLineEnd}
 use Rattle.meson_lex.specs.Significant.{Word, new_line, Ends, role, State, start, fresh_after, step_by, ends_line, only_if, after, emitted, closing, significant}
 use Rattle.meson_lex.proofs.Seams.{joined-append, AreItems-append}
 use Rattle.meson_lex.specs.Words.{speaks}
-use Rattle.meson_edit.specs.ExchangeStatements.{EndsItsLine, IsBreak}
+use Rattle.meson_edit.specs.Blocks.{EndsItsLine, IsBreak}
 use Rattle.meson_syntax.proofs.places.Spots.{after-append, emitted-append}
 use Rattle.meson_edit.proofs.exchange.States.{after_words, after-words-append, state-is, flat-depth, Lines}
 use Rattle.meson_edit.proofs.exchange.Ends.{other-end, end-changed, silent-stands, line-stands}

@@ -13,7 +13,7 @@ use Rattle.meson_lex.proofs.Seams.{AreItems-append, AreItems-split}
 use Rattle.meson_lex.specs.Words.{speaks}
 use Rattle.meson_edit.specs.Standing.{StandsAmongItems}
 use Rattle.meson_edit.specs.Lines.{in_line}
-use Rattle.meson_edit.specs.ExchangeStatements.{BeginsInNoBlank, EndsInNoBlank, IsTrimmed, IsLineRest}
+use Rattle.meson_edit.specs.Blocks.{BeginsInNoBlank, EndsInNoBlank, IsTrimmed, IsLineRest}
 use Rattle.meson_syntax.proofs.places.Spots.{after-append}
 use Rattle.meson_syntax.proofs.lists.Nesting.{Flat}
 use Rattle.meson_edit.proofs.exchange.States.{after_words, state-is, Lines, lines-state}

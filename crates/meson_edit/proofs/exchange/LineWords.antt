@@ -4,7 +4,7 @@ use Rattle.meson_lex.specs.declared.kinds.Kind.TheVariants as k
 use Rattle.meson_lex.specs.Items.{Lexeme}
 use Rattle.meson_lex.specs.Significant.{Word, kept, new_line, Role, Gap, Ends, Opens, Closes, Other, role, State, start, step_by, emit_by, after, emitted, closing}
 use Rattle.meson_lex.specs.Words.{speaks, IsTight}
-use Rattle.meson_edit.specs.ExchangeStatements.{IsLineRest}
+use Rattle.meson_edit.specs.Blocks.{IsLineRest}
 use Rattle.meson_edit.specs.Lines.{in_line}
 use Rattle.meson_syntax.proofs.places.Spots.{after-append, emitted-append}
 use Rattle.meson_syntax.proofs.lists.Nesting.{Flat}

@@ -14,7 +14,7 @@ use Rattle.meson_syntax.specs.Grammar.{statement_words, LevelFile, file_depth}
 use Rattle.meson_syntax.specs.Reads.{Fits, Spells, ReadsWithin, IsSpannedWithin}
 use Rattle.meson_syntax.specs.Paths.{of_statement}
 use Rattle.meson_edit.specs.Standing.{statement_span, StandsAmongItems}
-use Rattle.meson_edit.specs.ExchangeStatements.{BlockAt, block_at, statement_in, block_without, IsTrimmed, IsLineRest}
+use Rattle.meson_edit.specs.Blocks.{BlockAt, block_at, statement_in, block_without, IsTrimmed, IsLineRest}
 use Rattle.meson_syntax.proofs.parsing.FileErased.{file-words-erased, file-level-erased, file-depth-erased}
 use Rattle.meson_edit.proofs.places.Inside.{inside-part}
 use Rattle.meson_edit.proofs.places.Standing.{node-stands}

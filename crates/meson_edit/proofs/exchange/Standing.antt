@@ -15,7 +15,7 @@ use Rattle.meson_syntax.specs.Grammar.{statement_words, file_words, file_depth}
 use Rattle.meson_syntax.specs.Reads.{Fits, Spells, ReadsWithin, IsSpannedWithin}
 use Rattle.meson_lex.specs.Words.{spoken_by, spoken, IsTight}
 use Rattle.meson_edit.specs.Standing.{statement_span}
-use Rattle.meson_edit.specs.ExchangeStatements.{BlockAt, block_at, statement_in, block_without, IsStatementText}
+use Rattle.meson_edit.specs.Blocks.{BlockAt, block_at, statement_in, block_without, IsStatementText}
 use Rattle.meson_edit.specs.Lines.{in_line, LineStands, HasNoLineEnd}
 use Rattle.meson_edit.proofs.exchange.States.{Lines, lines-append}
 use Rattle.meson_edit.proofs.exchange.StatementLines.{statement-flat, file-lines}

@@ -4,7 +4,7 @@ use Rattle.std.proofs.Common.{◌≡◌, ℕ, List, Option, Some, refl, ap, ap�
 use Rattle.meson_lex.specs.declared.kinds.Span.{Span}
 use Rattle.meson_syntax.specs.Tree.{Nowhere, Block, File, erase, erase_block, erase_listing}
 use Rattle.meson_syntax.specs.Paths.{Sort, of_expression, of_statement, of_block, Node, Hole, reach, block_of, ListAt, list_at}
-use Rattle.meson_edit.specs.ExchangeStatements.{BlockAt, block_of_node}
+use Rattle.meson_edit.specs.Blocks.{BlockAt, block_of_node}
 use Rattle.meson_edit.specs.Moves.{each_block}
 use Rattle.meson_edit.specs.MappedPaths.{each_node, MapsHole, maps, MapsList, InBoth, neither, both}
 use Rattle.meson_edit.specs.Holes.{words_around, erase_node, erase_front, list_front, erase_list_front, NodesErase, ListsErase, BlocksErase}

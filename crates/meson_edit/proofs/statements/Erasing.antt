@@ -6,7 +6,7 @@ use Rattle.meson_lex.specs.Significant.{Word}
 use Rattle.meson_syntax.specs.Tree.{Nowhere, Plain, Statement, Statements, no_statements, statement, statement_list, Block, block, File, erase, erase_statement, erase_statements, erase_block}
 use Rattle.meson_syntax.specs.Grammar.{block_words, file_words}
 use Rattle.meson_syntax.specs.Paths.{Sort, of_expression, of_statement, of_block, Node, node_words, Hole, nth, reach, block_of}
-use Rattle.meson_edit.specs.ExchangeStatements.{BlockAt, block_of_node, block_at, statement_in, all_but, block_without}
+use Rattle.meson_edit.specs.Blocks.{BlockAt, block_of_node, block_at, statement_in, all_but, block_without}
 use Rattle.meson_edit.specs.Holes.{WordsAround, words_around, erase_front}
 use Rattle.meson_syntax.proofs.parsing.Steps.{some-injective}
 use Rattle.meson_syntax.proofs.parsing.FileErased.{block-words-erased}

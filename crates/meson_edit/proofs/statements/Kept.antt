@@ -17,7 +17,7 @@ use Rattle.meson_syntax.specs.Tree.{Nowhere, Plain, Statement, File, erase}
 use Rattle.meson_syntax.specs.Grammar.{statement_words}
 use Rattle.meson_edit.specs.Standing.{statement_span}
 use Rattle.meson_edit.specs.Lines.{LineStands}
-use Rattle.meson_edit.specs.ExchangeStatements.{statement_in}
+use Rattle.meson_edit.specs.Blocks.{statement_in}
 use Rattle.meson_syntax.proofs.parsing.Steps.{some-injective}
 use Rattle.meson_edit.proofs.exchange.Standing.{file-end, line-stands, statement-end}
 use Rattle.meson_edit.specs.Edits.{Written, RemoveStatement, Append, edited}

@@ -11,7 +11,7 @@ use Rattle.meson_layout.specs.FileLaws.{StatementIn}
 use Rattle.meson_layout.proofs.StatementLaws.{statement-removal-law}
 use Rattle.meson_edit.specs.Standing.{statement_span}
 use Rattle.meson_edit.specs.Lines.{LineStands}
-use Rattle.meson_edit.specs.ExchangeStatements.{statement_in}
+use Rattle.meson_edit.specs.Blocks.{statement_in}
 use Rattle.meson_edit.proofs.exchange.Standing.{line-stands}
 use Rattle.meson_edit.specs.Laws.{StatementRemovalsSpell}
 use Rattle.meson_edit.proofs.Coding.{coding-law, texts-law}

@@ -1,8 +1,8 @@
 -- The block that a path names, as the code goes down to it: from blocks to statements and back, past expressions.
 use Rattle.std.specs.Prelude.{ℕ, List, Option, Some, None, option_map, option_and_then}
 use Rattle.meson_lex.specs.declared.kinds.Span.{Span}
-use Rattle.meson_edit.specs.ExchangeStatements.{statement_in}
-use Rattle.meson_syntax.specs.Parts.{Any, an_expression, a_statement, a_block, statement_parts}
+use Rattle.meson_edit.specs.Blocks.{statement_in}
+use Rattle.meson_syntax.specs.Children.{Any, an_expression, a_statement, a_block, statement_parts}
 use Rattle.meson_syntax.specs.Paths.{nth}
 use Rattle.meson_syntax.specs.Tree.{Block}
 use Rattle.meson_syntax.specs.View.{block_view, stmt_view}

@@ -1,7 +1,7 @@
 use Rattle.std.proofs.Common.{◌∷◌, [], None, inr, refl, sym, option_map}
 use Rattle.meson_splice.specs.Files.{position_of_file}
 use Rattle.meson_gathering.specs.Gathering.{Told, file_of, Ending}
-use Rattle.meson_gathering.specs.Reading.{OnceIfNew}
+use Rattle.meson_gathering.specs.ReadCounts.{OnceIfNew}
 use Rattle.meson_gathering.specs.Gathered.{IsNotEntered, past_limit, at_name, IsNotAdded, StopsAt}
 use Rattle.meson_gathering.proofs.Asking.{asks_for_file, asks_for_none, asks_nothing, is_new, on_err, once_if_new}
 use Rattle.meson_gathering.proofs.EnteredFiles.{enter_new, next_name}

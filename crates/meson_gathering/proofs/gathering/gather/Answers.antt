@@ -6,7 +6,7 @@ use Rattle.std.proofs.lemmas.Result.{err_from_is_err_and}
 use Rattle.meson_calls.specs.Folders.{build_file}
 use Rattle.meson_calls.specs.Loading.{max_files, HasFileName, AreParsed}
 use Rattle.meson_gathering.specs.Gathering.{Told, Finds, Collects, Ending, Gathers, file_of, from_root, whole}
-use Rattle.meson_gathering.specs.Reading.{EntersFor, Looks, ReadsFiles, StopsFor, StopsReading, next_file, root_read, stops_at_file, stops_at_root}
+use Rattle.meson_gathering.specs.ReadCounts.{EntersFor, Looks, ReadsFiles, StopsFor, StopsReading, next_file, root_read, stops_at_file, stops_at_root}
 use Rattle.meson_gathering.proofs.Asking.{on_err}
 use Rattle.meson_gathering.proofs.Places.{looks, ended_all}
 use Rattle.meson_gathering.proofs.Parsed.{parsed_more, all_parsed}

@@ -2,7 +2,7 @@ use Rattle.std.proofs.Common.{◌≡◌, ◌≤◌, ◌-◌, length, take, drop,
 use Rattle.std.specs.Prelude.{All}
 use Rattle.meson_calls.specs.Loading.{max_files, HasFileName, AreParsed}
 use Rattle.meson_gathering.specs.Gathering.{Told, Ending, Gathers, Collects}
-use Rattle.meson_gathering.specs.Reading.{Looks}
+use Rattle.meson_gathering.specs.ReadCounts.{Looks}
 use Rattle.meson_gathering.proofs.gathering.gather.Given as goal
 
 -- however the files end that are left, the project's files end so

@@ -4,7 +4,7 @@ use Rattle.meson_splice.specs.Files.{bytes_at}
 use Rattle.meson_calls.specs.Loading.{name_of_file}
 use Rattle.meson_gathering.specs.Gathering.{Told, Ending, Gathers, files_entered}
 use Rattle.meson_gathering.specs.Gathered.{IsNotEntered}
-use Rattle.meson_gathering.specs.Reading.{EntersEach, StopsEntering}
+use Rattle.meson_gathering.specs.ReadCounts.{EntersEach, StopsEntering}
 use Rattle.meson_gathering.proofs.Places.{not_entered, not_parsed}
 use Rattle.meson_gathering.proofs.Stopping.{stops_within, looking_stops}
 use Rattle.meson_gathering.proofs.gathering.look.Goals as goal

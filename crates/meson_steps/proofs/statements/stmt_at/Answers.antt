@@ -1,6 +1,6 @@
 use Rattle.std.proofs.Common.{ap, ◌∙◌, sym}
 use Rattle.std.specs.Prelude.{option_and_then}
-use Rattle.meson_edit.specs.ExchangeStatements.{block_at, statement_in}
+use Rattle.meson_edit.specs.Blocks.{block_at, statement_in}
 use Rattle.meson_syntax.specs.View.{view}
 use Rattle.meson_steps.proofs.StatementsThere.{in_inside}
 use Rattle.meson_steps.proofs.statements.stmt_at.Goals as goal

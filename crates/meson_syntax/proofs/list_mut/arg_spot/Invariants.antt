@@ -1,5 +1,5 @@
 use Rattle.std.proofs.Common.{◌≡◌, ◌+◌, ℕ, List, length}
-use Rattle.meson_syntax.specs.Parts.{argument_parts}
+use Rattle.meson_syntax.specs.Children.{argument_parts}
 use Rattle.meson_syntax.specs.inside.Putting.{ahead}
 use Rattle.meson_syntax.specs.View.{arg_view}
 use Rattle.meson_syntax.proofs.list_mut.arg_spot.Given as goal

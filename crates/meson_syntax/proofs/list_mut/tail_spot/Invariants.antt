@@ -1,5 +1,5 @@
 use Rattle.std.proofs.Common.{◌≡◌, ◌+◌, ℕ, List, length}
-use Rattle.meson_syntax.specs.Parts.{tail_parts}
+use Rattle.meson_syntax.specs.Children.{tail_parts}
 use Rattle.meson_syntax.specs.inside.Putting.{ahead}
 use Rattle.meson_syntax.specs.View.{tail_view}
 use Rattle.meson_syntax.proofs.list_mut.tail_spot.Given as goal

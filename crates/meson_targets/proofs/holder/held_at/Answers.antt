@@ -1,7 +1,7 @@
 use Rattle.std.proofs.Common.{sym, ap, ◌∙◌, arith}
 use Rattle.std.specs.Prelude.{option_and_then}
 use Rattle.meson_splice.specs.Files.{bytes_at}
-use Rattle.meson_edit.specs.ExchangeStatements.{block_at, statement_in}
+use Rattle.meson_edit.specs.Blocks.{block_at, statement_in}
 use Rattle.meson_syntax.specs.View.{stmt_view, view}
 use Rattle.meson_calls.proofs.Loads.{as_many}
 use Rattle.meson_targets.specs.TargetViews.{place_view}

@@ -1,6 +1,6 @@
 use Rattle.std.proofs.Common.{ap, ◌∙◌, sym}
 use Rattle.std.specs.Prelude.{option_map}
-use Rattle.meson_syntax.specs.Parts.{a_block, a_statement}
+use Rattle.meson_syntax.specs.Children.{a_block, a_statement}
 use Rattle.meson_steps.specs.inside.Layers.{layer_view, next_layer}
 use Rattle.meson_steps.proofs.statements.Layer.child.Goals as goal
 

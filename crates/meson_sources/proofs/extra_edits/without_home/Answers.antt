@@ -7,7 +7,7 @@ use Rattle.meson_steps.specs.Meanings.{AreBehind}
 use Rattle.meson_sources.proofs.ExtrasAdded.{lone}
 use Rattle.meson_calls.proofs.FirstValue.{not_a_name, pair_no_name}
 use Rattle.meson_calls.proofs.FirstValue.{good_value}
-use Rattle.meson_sources.proofs.extra.without_home.Goals as goal
+use Rattle.meson_sources.proofs.extra_edits.without_home.Goals as goal
 
 pub behind_value-requires : goal.behind_value-requires
 behind_value-requires c =

@@ -11,7 +11,7 @@ use Rattle.meson_variables.specs.Tallies.{gathered}
 use Rattle.meson_sources.specs.Targeted.{lone_or_new}
 use Rattle.meson_steps.specs.Meanings.{AreBehind}
 use Rattle.meson_sources.proofs.ExtrasAdded.{added_unchecked, home_meant, call_meant, call_refused}
-use Rattle.meson_sources.proofs.extra.extra_added.Goals as goal
+use Rattle.meson_sources.proofs.extra_edits.extra_added.Goals as goal
 
 pub returns-in_err-marks-clause-refused : goal.returns-in_err-marks-clause-refused
 returns-in_err-marks-clause-refused c =

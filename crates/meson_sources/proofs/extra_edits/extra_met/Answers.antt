@@ -7,7 +7,7 @@ use Rattle.meson_calls.specs.Keywords.{kept_args}
 use Rattle.meson_variables.specs.Sourced.{arguments_by}
 use Rattle.meson_variables.specs.Tallies.{gathered, expanded}
 use Rattle.meson_sources.specs.SourceEdits.{extra_key}
-use Rattle.meson_sources.proofs.extra.extra_met.Goals as goal
+use Rattle.meson_sources.proofs.extra_edits.extra_met.Goals as goal
 
 pub returns : goal.returns
 returns c =

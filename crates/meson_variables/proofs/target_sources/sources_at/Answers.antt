@@ -14,7 +14,7 @@ use Rattle.meson_calls.proofs.Loads.{as_many}
 use Rattle.meson_calls.proofs.Standing.{no_file, no_expression, an_expression}
 use Rattle.meson_calls.proofs.CallsAt.{listing_good}
 use Rattle.meson_variables.proofs.SourcesAt.{sources_found, sources_refused, no_call}
-use Rattle.meson_variables.proofs.arriving.sources_at.Goals as goal
+use Rattle.meson_variables.proofs.target_sources.sources_at.Goals as goal
 
 pub unreachable-requires : goal.unreachable-requires
 unreachable-requires c =

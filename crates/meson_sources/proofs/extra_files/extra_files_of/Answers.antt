@@ -13,7 +13,7 @@ use Rattle.meson_variables.specs.Tallies.{gathered}
 use Rattle.meson_sources.specs.Targeted.{extra_gathered}
 use Rattle.meson_sources.proofs.ExtrasTold.{told_once, told_twice}
 use Rattle.meson_sources.proofs.KeyTexts.{extra_text}
-use Rattle.meson_sources.proofs.extras.extra_files_of.Goals as goal
+use Rattle.meson_sources.proofs.extra_files.extra_files_of.Goals as goal
 
 pub at_most_once-requires : goal.at_most_once-requires
 at_most_once-requires c = subst IsUtf8 (sym c.as_slice.ensures) extra_text

@@ -8,7 +8,7 @@ ghost use Rattle.meson_calls.specs.Picking.{Source, placed_call};
 ghost use Rattle.meson_calls.specs.Refusals.{RefusedAs};
 ghost use Rattle.meson_sources.specs.Extras.{extra_of_call};
 
-use crate::extra::extra_met;
+use crate::extra_edits::extra_met;
 use meson_calls::arguments::at_most_once;
 use meson_calls::{CallRef, Refusal};
 use meson_splice::Many;

@@ -9,7 +9,7 @@ use Rattle.meson_calls.specs.Keywords.{kwargs_key, kept_args}
 use Rattle.meson_steps.specs.Names.{checked_names}
 use Rattle.meson_sources.proofs.ExtrasMeant.{extra_once, extra_twice}
 use Rattle.meson_sources.proofs.KeyTexts.{extra_text}
-use Rattle.meson_sources.proofs.extra.checked_extra.Goals as goal
+use Rattle.meson_sources.proofs.extra_edits.checked_extra.Goals as goal
 
 pub at_most_once-requires : goal.at_most_once-requires
 at_most_once-requires c = subst IsUtf8 (sym c.as_slice-2.ensures) extra_text
