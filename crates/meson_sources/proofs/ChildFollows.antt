@@ -20,7 +20,7 @@ node_without of_expression g e = expression_without g e
 node_without of_statement g s = statement_without g s
 node_without of_block g b = block_without g b
 
--- what holds of each hole in a part holds of it in the whole
+-- what follows of each hole in a part, by its number, of the hole in the whole
 within : {T U : Type 0} (P : ℕ → Hole Nowhere T → Type 0) (Q : ℕ → Hole Nowhere U → Type 0) (before behind : List Word) (make : T → U) (n m : ℕ) (hs : List (Hole Nowhere T)) → n + length hs ≤ m
     → ((c : ℕ) (h : Hole Nowhere T) → n ≤ c → c < m → P c h → Q c (around before behind make h)) → EveryAt P n hs → EveryAt Q n (all_around before behind make hs)
 within P Q before behind make n m [] few f every = tt
@@ -30,7 +30,7 @@ within P Q before behind make n m (h ∷ hs) few f every = (
 )
 
 module _ (old new : Gone) (here : new [] ≡ old []) where
-  -- nothing else goes from the child of this number, or from any other one
+  -- From the child of this number the same goes before and after, from all but it, or from all of some numbers.
   abbrev Alike : ℕ → Type 0
   Alike n = from_child n new ≡ from_child n old
 
@@ -89,7 +89,7 @@ module _ (old new : Gone) (here : new [] ≡ old []) where
 
   -- ---- holes
 
-  -- Another node in the hole that is the child of this number: if it is without what goes what was in the hole, something holds of the whole.
+  -- Another node in the hole of this number, which without what goes after is what the old one was without what went before: something holds of the whole then.
   abbrev pub Follows : {T : Type 0} → (T → Type 0) → ℕ → Hole Nowhere T → Type 0
   Follows Same n h =
       Others n → (y : Node h.sort Nowhere) → node_without h.sort (from_child n new) y ≡ node_without h.sort (from_child n old) h.inside → Same (h.back y)

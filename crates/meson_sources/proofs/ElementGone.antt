@@ -22,7 +22,7 @@ use Rattle.meson_sources.proofs.RemovalsRename.{one_part_there}
 use Rattle.meson_sources.proofs.Renaming.{IsElementAt, IsStringElement, number_after}
 use Rattle.meson_sources.proofs.RenamedStrings.{NotThrough}
 
--- Of the list that the path names the k-th element goes. What goes later is told by the places before that, and by those behind it.
+-- The k-th element of the list that the path names goes. `old` says by the places before that what goes in all, `new` by those after it what goes later.
 abbrev pub Renamed : List ℕ → ℕ → Gone → Gone → Type 0
 Renamed [] k old new =
     (old [] k ≡ true) × ((n : ℕ) → (k ≡ n → ⊥) → new [] (moved_up k n) ≡ old [] n) × ((c : ℕ) → c < k → from_child c new ≡ from_child c old) × ((c : ℕ) → k ≤ c → from_child c new ≡ from_child (suc c) old)
