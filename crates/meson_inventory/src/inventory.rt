@@ -5,8 +5,8 @@ ghost use Rattle.serde_json.specs.Data.{array};
 ghost use Rattle.serde_json.specs.View.{items_of, view};
 ghost use Rattle.meson_inventory.specs.Inventory.{call_data, file_data, project_data, spot_data};
 
-use meson_listing::entries::{file_name, spot_members, text_or_null};
 use crate::holdings::{HeldCall, Holdings, holdings_of};
+use meson_listing::entries::{file_name, spot_members, text_or_null};
 use meson_plan::Project;
 use meson_splice::{FileSet, Many};
 use serde_json::{Map, Value, put};

@@ -4,9 +4,9 @@ ghost use Rattle.std.specs.Prelude.{◌≡◌, IfOk, flat_map, string_bytes};
 ghost use Rattle.meson_splice.specs.Files.{bytes_at};
 ghost use Rattle.meson_inventory.specs.Inventory.{call_line, file_line, line_number, named_part, project_lines, variable_part};
 
-use meson_listing::entries::file_name;
 use crate::holdings::{HeldCall, holdings_of};
 use crate::line_counter::LineCounter;
+use meson_listing::entries::file_name;
 use meson_plan::Project;
 use meson_splice::{FileSet, Text};
 use std::alloc::{AllocError, Global};

@@ -36,11 +36,7 @@ pub fn text_or_null(text: Option<Text>) -> Value
 ///
 /// # Errors
 /// Memory is refused.
-pub fn spot_members(
-    alloc: Global,
-    at: usize,
-    file: &str,
-) -> Result<Map<String, Value>, AllocError>
+pub fn spot_members(alloc: Global, at: usize, file: &str) -> Result<Map<String, Value>, AllocError>
     ensures { IfOk result (λ m. members_view m.entries ≡ member (codes "at") (number (unsigned at)) (member (codes "file") (string file.now) no_members)) }
 {
     let mut members = Map::new(alloc);

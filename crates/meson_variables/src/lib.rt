@@ -1,7 +1,6 @@
 //! What variables stand for, and the sources of a target.
 #![tactic(auto)]
 
-pub mod target_sources;
 pub mod expansion;
 pub mod followed;
 pub mod held_arguments;
@@ -13,6 +12,7 @@ pub mod setters;
 pub mod source;
 pub mod sourcing;
 pub mod sums;
+pub mod target_sources;
 pub mod values;
 pub mod variables;
 

@@ -12,9 +12,9 @@ ghost use Rattle.meson_variables.specs.Values.{value_in, value_view};
 ghost use Rattle.meson_calls.specs.Variables.{single};
 ghost use Rattle.meson_calls.specs.declared.call.Role.{Role};
 
-use crate::target_sources::arguments_of;
 use crate::known::all_known;
 use crate::mentions::{Mentions, is_among};
+use crate::target_sources::arguments_of;
 use crate::values::{Value, Values};
 use meson_calls::call::CallRef;
 use meson_calls::note::Note;
