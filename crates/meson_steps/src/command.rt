@@ -2,9 +2,10 @@
 
 use meson_calls::Role;
 use meson_splice::{Change, Many, Text};
+use std::fmt;
 
 /// The value that a keyword argument is set to.
-#[derive(Debug, Drop)]
+#[derive(Debug)]
 pub enum Setting {
     Text(Text),
     Bool(bool),
@@ -12,7 +13,6 @@ pub enum Setting {
 }
 
 /// What may be done to a project, or asked of it.
-#[derive(Debug, Drop)]
 pub enum Command {
     SourcesAdd {
         target: Text,
@@ -82,4 +82,126 @@ pub struct Done {
     pub change: Change,
     /// How many bytes were lexed again. The count stops at the greatest number.
     pub relexed: u64,
+}
+
+/// Written by hand, so that it is proved here alone, and not in each crate that lets a command go.
+impl Drop for Command {
+    fn drop(self) {
+        match self {
+            Command::SourcesAdd {
+                target: _,
+                sources: _,
+            } => {}
+            Command::SourcesRemove {
+                target: _,
+                sources: _,
+            } => {}
+            Command::ExtraAdd {
+                target: _,
+                sources: _,
+            } => {}
+            Command::ExtraRemove {
+                target: _,
+                sources: _,
+            } => {}
+            Command::TargetAdd {
+                target: _,
+                target_kind: _,
+                subdir: _,
+                sources: _,
+            } => {}
+            Command::TargetRemove { target: _ } => {}
+            Command::TargetInfo { target: _ } => {}
+            Command::KwargsSet {
+                role: _,
+                id: _,
+                pairs: _,
+            } => {}
+            Command::KwargsAdd {
+                role: _,
+                id: _,
+                pairs: _,
+            } => {}
+            Command::KwargsRemove {
+                role: _,
+                id: _,
+                pairs: _,
+            } => {}
+            Command::KwargsDelete {
+                role: _,
+                id: _,
+                keys: _,
+            } => {}
+            Command::KwargsInfo { role: _, id: _ } => {}
+            Command::OptionsSet { pairs: _ } => {}
+            Command::OptionsDelete { names: _ } => {}
+        }
+    }
+}
+
+/// Written by hand, as a command's is.
+impl Drop for Setting {
+    fn drop(self) {
+        match self {
+            Setting::Text(_) => {}
+            Setting::Bool(_) => {}
+            Setting::Texts(_) => {}
+        }
+    }
+}
+
+impl Command {
+    /// The variant's name.
+    fn name(&self) -> &'static str {
+        match self {
+            Command::SourcesAdd { .. } => "SourcesAdd",
+            Command::SourcesRemove { .. } => "SourcesRemove",
+            Command::ExtraAdd { .. } => "ExtraAdd",
+            Command::ExtraRemove { .. } => "ExtraRemove",
+            Command::TargetAdd { .. } => "TargetAdd",
+            Command::TargetRemove { .. } => "TargetRemove",
+            Command::TargetInfo { .. } => "TargetInfo",
+            Command::KwargsSet { .. } => "KwargsSet",
+            Command::KwargsAdd { .. } => "KwargsAdd",
+            Command::KwargsRemove { .. } => "KwargsRemove",
+            Command::KwargsDelete { .. } => "KwargsDelete",
+            Command::KwargsInfo { .. } => "KwargsInfo",
+            Command::OptionsSet { .. } => "OptionsSet",
+            Command::OptionsDelete { .. } => "OptionsDelete",
+        }
+    }
+}
+
+/// A command is shown as its variant's name, and what it has, in order.
+impl fmt::Debug for Command {
+    fn fmt<W: fmt::Write>(&self, f: &mut fmt::Formatter<W>) -> fmt::Result {
+        let mut shown = f.debug_tuple(self.name());
+        match self {
+            Command::SourcesAdd { target, sources }
+            | Command::SourcesRemove { target, sources }
+            | Command::ExtraAdd { target, sources }
+            | Command::ExtraRemove { target, sources } => shown.field(target).field(sources),
+            Command::TargetAdd {
+                target,
+                target_kind,
+                subdir,
+                sources,
+            } => shown
+                .field(target)
+                .field(target_kind)
+                .field(subdir)
+                .field(sources),
+            Command::TargetRemove { target } | Command::TargetInfo { target } => {
+                shown.field(target)
+            }
+            Command::KwargsSet { role, id, pairs }
+            | Command::KwargsAdd { role, id, pairs }
+            | Command::KwargsRemove { role, id, pairs } => shown.field(role).field(id).field(pairs),
+            Command::KwargsDelete { role, id, keys } => shown.field(role).field(id).field(keys),
+            Command::KwargsInfo { role, id } => shown.field(role).field(id),
+            Command::OptionsSet { pairs } => shown.field(pairs),
+            Command::OptionsDelete { names } => shown.field(names),
+        };
+        shown.finish()
+    }
 }
