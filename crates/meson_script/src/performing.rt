@@ -1,6 +1,6 @@
 //! The commands of a script, one after another.
 
-ghost use Rattle.std.specs.Prelude.{◌≡◌, ◌≢◌, ◌+◌, ◌++◌, IfErr, IfOk, Ok, OnErr, OnOk, map, option_to_list};
+ghost use Rattle.std.specs.Prelude.{◌≡◌, ◌≢◌, ◌+◌, ◌++◌, IfErr, IfOk, Ok, OnErr, OnOk, map};
 ghost use Rattle.serde_json.specs.View.{view};
 ghost use Rattle.meson_steps.specs.ResultLimits.{saturated};
 ghost use Rattle.meson_calls.specs.declared.refusal.Refusal.TheVariants.{OutOfMemory};
@@ -43,20 +43,6 @@ impl Ran {
     }
 }
 
-/// What a command tells of the project as it stands.
-fn told(alloc: Global, project: &Project, command: &Command) -> Result<Option<Value>, Refusal>
-    ensures told { IfOk result (λ v. told project.now command.now ≡ Ok (map view (option_to_list v))) }
-    ensures refused { RefusedAs result (told project.now command.now) }
-{
-    match command {
-        Command::TargetInfo { target } => Ok(Some(info_target(alloc, project, target.get())?)),
-        Command::KwargsInfo { role, id } => {
-            Ok(Some(info_kwargs(alloc, project, *role, id.get())?))
-        }
-        _ => Ok(None),
-    }
-}
-
 /// What a command tells of the project as it stands, as a list of one or none.
 pub(crate) fn listed(
     alloc: Global,
@@ -67,11 +53,19 @@ pub(crate) fn listed(
     ensures refused { RefusedAs result (told project.now command.now) }
 {
     let mut listings = Vec::new(alloc);
-    if let Some(listing) = told(alloc, project, command)? {
-        listings.reserve(1)?;
-        listings.push_reserved(listing);
+    match command {
+        Command::TargetInfo { target } => {
+            listings.reserve(1)?;
+            listings.push_reserved(info_target(alloc, project, target.get())?);
+            Ok(listings)
+        }
+        Command::KwargsInfo { role, id } => {
+            listings.reserve(1)?;
+            listings.push_reserved(info_kwargs(alloc, project, *role, id.get())?);
+            Ok(listings)
+        }
+        _ => Ok(listings),
     }
-    Ok(listings)
 }
 
 /// Does a command that tells this, or nothing. One that tells something changes nothing.
