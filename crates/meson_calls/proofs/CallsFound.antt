@@ -15,7 +15,8 @@ use Rattle.meson_calls.specs.Parts.{Part, parts}
 use Rattle.meson_calls.specs.Parts as part
 use Rattle.meson_calls.specs.Finding.{only_one, any_project, the_call}
 use Rattle.meson_calls.specs.Project.{Project, Placed, placed, child, expression_at}
-use Rattle.meson_calls.specs.Roles.{has_role, with_role, role_calls, with_name, set_to, part_set_to, value_of_assignment, assigned_values, or_else, named_or_assigned, found, one_of, project_ids}
+use Rattle.meson_calls.specs.Roles.{has_role, with_role, role_calls, one_of}
+use Rattle.meson_calls.specs.Naming.{with_name, set_to, part_set_to, value_of_assignment, assigned_values, or_else, named_or_assigned, found, project_ids}
 use Rattle.meson_calls.specs.CallPlaces.{CallThere, CallsStand}
 use Rattle.meson_calls.proofs.CallsReached.{every_chosen, InProject, every_part}
 use Rattle.meson_calls.proofs.ExpressionsAt.{list_here, expression_stands, assigned_stands}

@@ -9,12 +9,11 @@ use Rattle.meson_syntax.specs.Tree.{File, evaluate, assign, selection, iteration
 use Rattle.meson_calls.specs.declared.note.Note as code
 use Rattle.meson_calls.specs.Project.{Placed, placed}
 use Rattle.meson_calls.specs.Parts.{Part, an_expression, a_statement, parts_of_file}
-use Rattle.meson_calls.specs.Calls.{Call, call_of, part_call, all_chosen, first_literal}
+use Rattle.meson_calls.specs.Calls.{Call, call_of, part_call, all_chosen, first_literal, calls_function}
 use Rattle.meson_calls.specs.Folders.{parts_after, folder_parts, folder_of, build_file, in_folder, is_plain_folder, file_in, IsFileName}
 use Rattle.meson_calls.specs.Notes.{a_call, note_of, noted, note_view, note_views}
-use Rattle.meson_calls.specs.Picking.{note_enters, entered_names}
-use Rattle.meson_calls.specs.Subdirs.{entered, subdirs}
-use Rattle.meson_calls.specs.Variables.{calls_function, meant_file}
+use Rattle.meson_calls.specs.ChosenNotes.{note_enters, entered_names}
+use Rattle.meson_calls.specs.Subdirs.{entered, subdirs, meant_file}
 use Rattle.meson_calls.proofs.SlashParts.{other_byte, slash}
 
 -- ---- the folder of a name

@@ -10,7 +10,7 @@ use Rattle.meson_syntax.specs.declared.tree.List as rust
 use Rattle.meson_syntax.specs.Tree.{Expression, listing, arguments_of}
 use Rattle.meson_syntax.specs.View.{arg_view, args_view, list_view}
 use Rattle.meson_calls.specs.Calls.{numbered, kept_number, value_without_name, first_of, first_argument}
-use Rattle.meson_calls.specs.Picking.{call_with}
+use Rattle.meson_calls.specs.ChosenNotes.{call_with}
 
 module _ (source : List ℕ) where
   -- of arguments of which the first has the number n

@@ -5,7 +5,7 @@ use Rattle.std.specs.List.{cons_option}
 use Rattle.meson_syntax.specs.declared.tree.Arg.{Arg}
 use Rattle.meson_syntax.specs.View.{arg_view}
 use Rattle.meson_calls.specs.Calls.{value_with_name}
-use Rattle.meson_calls.specs.Keywords.{kept_args, IsFirstNamed}
+use Rattle.meson_calls.specs.NamedArguments.{kept_args, IsFirstNamed}
 use Rattle.meson_calls.proofs.ArgumentViews.{nth_there}
 use Rattle.meson_calls.proofs.Kept.{kept_here}
 

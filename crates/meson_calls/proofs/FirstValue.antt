@@ -12,7 +12,7 @@ use Rattle.meson_calls.specs.Calls.{value_with_name}
 use Rattle.meson_calls.proofs.ArgumentViews.{nth_there, named_view, pair_view, plain_view}
 use Rattle.meson_syntax.specs.Grammar.{argument_words, expression_words}
 use Rattle.meson_calls.specs.GoodLists.{GoodArgs}
-use Rattle.meson_calls.specs.Keywords.{IsFirstNamed}
+use Rattle.meson_calls.specs.NamedArguments.{IsFirstNamed}
 use Rattle.meson_calls.specs.Strings.{AreGood}
 use Rattle.meson_calls.proofs.Nested.{good_arg}
 

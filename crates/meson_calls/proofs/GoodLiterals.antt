@@ -11,7 +11,7 @@ use Rattle.meson_syntax.specs.Operators.{string_kind}
 use Rattle.meson_syntax.specs.Tree.{Expression, Listing, listing, plain, named, pair, Arguments, no_arguments, argument}
 use Rattle.meson_syntax.specs.Grammar.{mark, comma_words, expression_words, argument_words, arguments_words, listing_words}
 use Rattle.meson_calls.specs.Calls.{numbered, kept_number, value_without_name, first_of, first_argument}
-use Rattle.meson_calls.specs.Picking.{call_with}
+use Rattle.meson_calls.specs.ChosenNotes.{call_with}
 use Rattle.meson_calls.specs.Strings.{IsGood, AreGood}
 use Rattle.meson_calls.proofs.GoodParts.{good_left, good_right}
 

@@ -7,7 +7,7 @@ use Rattle.meson_lex.specs.declared.kinds.Span.{Span}
 use Rattle.meson_syntax.specs.declared.tree.Arg.{Arg}
 use Rattle.meson_syntax.specs.Tree.{Argument}
 use Rattle.meson_syntax.specs.View.{arg_view}
-use Rattle.meson_calls.specs.Keywords.{rest, kept_args, kept_arg}
+use Rattle.meson_calls.specs.NamedArguments.{rest, kept_args, kept_arg}
 
 module _ {Y : Type 0} (source : List ℕ) (choose : Argument Span → Option Y) where
   pub kept_here : (args : List Arg) (i : ℕ) (d : Arg) → i < length args →

@@ -2,8 +2,8 @@
 use Rattle.std.proofs.Common.{◌≡◌, ℕ, List, ap}
 use Rattle.meson_syntax.specs.View.{list_view}
 use Rattle.meson_calls.specs.Calls.{keyword, value_with_name}
-use Rattle.meson_calls.specs.Picking.{call_with}
-use Rattle.meson_calls.specs.Keywords.{kept_args}
+use Rattle.meson_calls.specs.ChosenNotes.{call_with}
+use Rattle.meson_calls.specs.NamedArguments.{kept_args}
 use Rattle.meson_calls.proofs.Listed.{list_is}
 use Rattle.meson_syntax.specs.declared.tree.List as rust
 

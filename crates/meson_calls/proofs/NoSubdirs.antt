@@ -14,8 +14,7 @@ use Rattle.meson_calls.specs.Calls.{Call, all_chosen, part_call}
 use Rattle.meson_calls.specs.Parts.{Part, an_expression, parts_of_file}
 use Rattle.meson_calls.specs.Project.{Placed, placed}
 use Rattle.meson_calls.specs.Spelling.{HasNone}
-use Rattle.meson_calls.specs.Subdirs.{HasNoSubdir, entered, subdirs}
-use Rattle.meson_calls.specs.Variables.{meant_file}
+use Rattle.meson_calls.specs.Subdirs.{HasNoSubdir, entered, subdirs, meant_file}
 use Rattle.meson_calls.proofs.Spelled.{found_or_none, differs}
 use Rattle.meson_calls.proofs.StandingParts.{PartsStand, texts_of_part, parts_stand}
 

@@ -13,9 +13,10 @@ use Rattle.meson_calls.specs.Loading.{AreParsed, named_trees, views}
 use Rattle.meson_calls.specs.Notes.{noted, notes}
 use Rattle.meson_calls.specs.OnePlace.{any_place, the_place}
 use Rattle.meson_calls.specs.Parts.{parts_of_file}
-use Rattle.meson_calls.specs.Picking.{assigned_places, found_places, note_has_name, note_has_role, note_sets_call, places_that, places_with_role}
+use Rattle.meson_calls.specs.ChosenNotes.{assigned_places, found_places, note_has_name, note_has_role, note_sets_call, places_that, places_with_role}
 use Rattle.meson_calls.specs.Project.{child}
-use Rattle.meson_calls.specs.Roles.{one_of, or_else, project_ids}
+use Rattle.meson_calls.specs.Roles.{one_of}
+use Rattle.meson_calls.specs.Naming.{or_else, project_ids}
 use Rattle.meson_calls.specs.Spelling.{HasNone, HasNoneOf, AreNotesOf, whole, passed, AreNotesWith, sought_words}
 use Rattle.meson_calls.specs.Strings.{NotesGood}
 use Rattle.meson_calls.proofs.NoteReadings.{Notes, notes_from, notes_after, same_read, picked_gathers, none_picked}

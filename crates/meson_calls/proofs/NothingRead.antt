@@ -7,7 +7,7 @@ use Rattle.meson_calls.specs.declared.call.Role.{Role}
 use Rattle.meson_calls.specs.declared.call.Role.TheVariants as role
 use Rattle.meson_calls.specs.Calls.{call_of, first_literal, is}
 use Rattle.meson_calls.specs.Notes.{Note, a_call, an_assignment, a_loop}
-use Rattle.meson_calls.specs.Picking.{is_role_call, note_has_name, note_has_role, note_sets_call}
+use Rattle.meson_calls.specs.ChosenNotes.{is_role_call, note_has_name, note_has_role, note_sets_call}
 use Rattle.meson_calls.specs.Roles.{has_role}
 use Rattle.meson_calls.specs.Spelling.{HasNone}
 use Rattle.meson_calls.proofs.Spelled.{IsPart, differs, differs_back}

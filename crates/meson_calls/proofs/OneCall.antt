@@ -1,6 +1,6 @@
 -- The one call that an id names, by its place.
 use Rattle.std.proofs.Common.{◌≡◌, ℕ, List, [], ◌∷◌, length, refl, sym, ap, ◌∙◌}
-use Rattle.std.specs.Prelude.{false, ◌==◌}
+use Rattle.std.specs.Prelude.{false, ◌==◌, Result, Ok, Err, IfOk}
 use Rattle.meson_lex.specs.declared.kinds.Span.{Span}
 use Rattle.meson_splice.specs.Patch.{then_ok}
 use Rattle.meson_calls.specs.declared.call.CallRef.{CallRef}
@@ -8,13 +8,13 @@ use Rattle.meson_calls.specs.declared.call.Role.{Role}
 use Rattle.meson_calls.specs.declared.call.Role.TheVariants as role
 use Rattle.meson_calls.specs.Calls.{Call}
 use Rattle.meson_calls.specs.Notes.{notes}
-use Rattle.meson_calls.specs.Picking.{found_places}
+use Rattle.meson_calls.specs.ChosenNotes.{found_places}
 use Rattle.meson_calls.specs.Finding.{only_one, any_project, the_call}
 use Rattle.meson_calls.specs.Project.{Project, Placed}
 use Rattle.meson_calls.specs.OnePlace.{any_place, the_place}
-use Rattle.meson_calls.specs.Roles.{found, role_calls, places}
+use Rattle.meson_calls.specs.Naming.{found}
+use Rattle.meson_calls.specs.Roles.{role_calls, places}
 use Rattle.meson_calls.proofs.Picked.{role_places, found_notes}
-use Rattle.std.specs.Prelude.{Result, Ok, Err, IfOk}
 use Rattle.meson_calls.specs.declared.refusal.Refusal.{Refusal}
 use Rattle.meson_calls.specs.Refusals.{RefusedAs}
 

@@ -15,7 +15,8 @@ use Rattle.meson_calls.specs.AllParts.{PlacesRise, PartsInOrder, address}
 use Rattle.meson_calls.specs.Calls.{all_chosen, call_of, calls, part_call}
 use Rattle.meson_calls.specs.Parts.{Part, an_expression, a_statement, parts_of_expression, parts_of_operands, parts_of_tail, parts_of_tails, parts_of_listing, parts_of_argument, parts_of_arguments, parts_of_statement, parts_of_branches, parts_of_otherwise, parts_of_statements, parts_of_block, parts_of_file, parts_from, parts, argument_child_count, arguments_child_count, listing_child_count, tail_child_count, branches_child_count}
 use Rattle.meson_calls.specs.Project.{Placed, Project, child, place, placed}
-use Rattle.meson_calls.specs.Roles.{assigned_values, found, named_or_assigned, one_of, or_else, part_set_to, places, project_ids, role_calls, value_of_assignment, with_name, with_role}
+use Rattle.meson_calls.specs.Naming.{assigned_values, found, named_or_assigned, or_else, part_set_to, project_ids, value_of_assignment, with_name}
+use Rattle.meson_calls.specs.Roles.{one_of, places, role_calls, with_role}
 
 -- ---- addresses
 

@@ -13,9 +13,10 @@ use Rattle.meson_calls.specs.declared.note.Note as code
 use Rattle.meson_calls.specs.Project.{Project, Placed, placed, child}
 use Rattle.meson_calls.specs.Parts.{Part, an_expression, a_statement, parts}
 use Rattle.meson_calls.specs.Calls.{Call, call_of, part_call, all_chosen, first_literal, is}
-use Rattle.meson_calls.specs.Roles.{has_role, with_role, with_name, role_calls, places, part_set_to, value_of_assignment, assigned_values, named_or_assigned, or_else, found, one_of, project_ids}
+use Rattle.meson_calls.specs.Roles.{has_role, with_role, role_calls, places, one_of}
+use Rattle.meson_calls.specs.Naming.{with_name, part_set_to, value_of_assignment, assigned_values, named_or_assigned, or_else, found, project_ids}
 use Rattle.meson_calls.specs.Notes.{Note, a_call, an_assignment, a_loop, note_of, noted, notes, note_view, note_views}
-use Rattle.meson_calls.specs.Picking.{note_has_name, note_sets_call, is_role_call, assigned_places, named_places, found_places, places_that, places_with_role}
+use Rattle.meson_calls.specs.ChosenNotes.{note_has_name, note_sets_call, is_role_call, assigned_places, named_places, found_places, places_that, places_with_role}
 
 module _ (test : Note Span → Bool) where
   pick : Bool → CallRef → List CallRef → List CallRef

@@ -13,7 +13,7 @@ use Rattle.meson_calls.specs.declared.call.Role.TheVariants as role
 use Rattle.meson_calls.specs.Project.{Project, nth_file}
 use Rattle.meson_calls.specs.Calls.{Call, call_of}
 use Rattle.meson_calls.specs.Roles.{has_role, is_target_call, is_target}
-use Rattle.meson_calls.specs.Picking.{is_role_call}
+use Rattle.meson_calls.specs.ChosenNotes.{is_role_call}
 use Rattle.meson_calls.specs.Loading.{name_of_file, named_trees, views}
 
 pub nth_there : (files : List File) (trees : List Parsed) (i : ℕ) (d : Parsed) → length trees ≡ length files → i < length trees →

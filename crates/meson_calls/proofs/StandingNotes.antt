@@ -15,7 +15,7 @@ use Rattle.meson_calls.specs.declared.call.CallRef.{CallRef}
 use Rattle.meson_calls.specs.Calls.{Call, literal_of, first_literal}
 use Rattle.meson_calls.specs.Notes.{Note, a_call, an_assignment, a_loop, note_of, noted}
 use Rattle.meson_calls.specs.Parts.{Part, an_expression, a_statement, parts_of_file}
-use Rattle.meson_calls.specs.Picking.{call_with}
+use Rattle.meson_calls.specs.ChosenNotes.{call_with}
 use Rattle.meson_calls.specs.Project.{Placed, placed}
 use Rattle.meson_calls.proofs.GoodLiterals.{first_from}
 use Rattle.meson_calls.proofs.Spelled.{IsPart}

@@ -4,7 +4,7 @@ use Rattle.std.specs.Prelude.{Option, Some, None, option_and_then}
 use Rattle.meson_splice.specs.declared.file_set.File.{File}
 use Rattle.meson_syntax.specs.Paths.{nth}
 use Rattle.meson_calls.specs.Folders.{file_in}
-use Rattle.meson_calls.specs.Knowns.{meant_in}
+use Rattle.meson_calls.specs.FileNames.{meant_in}
 
 nth_there : (files : List File) (i : ℕ) (d : File) → i < length files → nth files i ≡ Some (get_or files i d)
 nth_there [] i d within = absurd (omega arith)

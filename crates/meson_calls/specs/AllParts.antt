@@ -10,7 +10,8 @@ use Rattle.meson_calls.specs.declared.call.CallRef.{CallRef}
 use Rattle.meson_calls.specs.declared.call.Role.{Role}
 use Rattle.meson_calls.specs.Parts.{an_expression, parts}
 use Rattle.meson_calls.specs.Project.{Project, expression_at, placed}
-use Rattle.meson_calls.specs.Roles.{found, places, targets}
+use Rattle.meson_calls.specs.Naming.{found}
+use Rattle.meson_calls.specs.Roles.{places, targets}
 
 -- the law: an expression is among the parts, with a place, exactly where the place's path leads to it
 abbrev pub PartsAreAll : Type 0

@@ -32,6 +32,9 @@ all_chosen choose xs = filter_map (chosen choose) xs
 abbrev pub calls : {S : Type 0} → Project S → List (Placed (Call S))
 calls p = all_chosen part_call (parts p)
 
+abbrev pub calls_function : {S : Type 0} → List ℕ → Call S → Bool
+calls_function f c = bytes_eq c.function f
+
 -- ---- arguments, each with its number, the first of which is n
 
 pub record Numbered (X : Type 0) : Type 0 where

@@ -7,7 +7,8 @@ use Rattle.meson_calls.specs.declared.refusal.Refusal.{Refusal}
 use Rattle.meson_calls.specs.declared.refusal.Refusal.TheVariants.{NoProject, NotFound, Ambiguous}
 use Rattle.meson_calls.specs.Project.{Project, Placed}
 use Rattle.meson_calls.specs.Calls.{Call}
-use Rattle.meson_calls.specs.Roles.{found, role_calls}
+use Rattle.meson_calls.specs.Naming.{found}
+use Rattle.meson_calls.specs.Roles.{role_calls}
 
 abbrev pub only_one : {X : Type 0} → List X → Result X Refusal
 only_one [] = Err NotFound

@@ -1,6 +1,8 @@
 -- What all commands look at: the calls, assignments and loops of a project, with their places.
-use Rattle.std.specs.Prelude.{ℕ, Bool, List, map, slice_range, Option, Some, None, option_map}
+use Rattle.std.specs.Prelude.{ℕ, Bool, true, false, List, map, slice_range, Option, Some, None, option_map}
 use Rattle.meson_lex.specs.declared.kinds.Span.{Span}
+use Rattle.meson_syntax.specs.declared.operator.Assignment.{Assignment}
+use Rattle.meson_syntax.specs.declared.operator.Assignment.TheVariants as assignment
 use Rattle.meson_syntax.specs.Tree.{Name, Expression, Statement, evaluate, assign, selection, iteration, breaks, continues}
 use Rattle.meson_syntax.specs.View.{text_at, names_at, expr_view, list_view}
 use Rattle.meson_calls.specs.declared.note.Note as code
@@ -11,13 +13,16 @@ use Rattle.meson_calls.specs.declared.note.What.TheVariants as what
 use Rattle.meson_calls.specs.Project.{Project, Placed, place, place_at, placed}
 use Rattle.meson_calls.specs.Parts.{Part, an_expression, a_statement, parts}
 use Rattle.meson_calls.specs.Calls.{Call, call_of, all_chosen}
-use Rattle.meson_calls.specs.Variables.{is_set}
 
 pub data Note (S : Type 0) : Type 0 where
   a_call : Call S → Note S
   -- a variable, whether it is set, and the value
   an_assignment : List ℕ → Bool → Expression S → Note S
   a_loop : List (Name S) → Note S
+
+abbrev pub is_set : Assignment → Bool
+is_set assignment.Set = true
+is_set assignment.Add = false
 
 abbrev pub statement_note : {S : Type 0} → Statement S → Option (Note S)
 statement_note (evaluate e) = None

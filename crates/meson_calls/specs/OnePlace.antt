@@ -8,7 +8,7 @@ use Rattle.meson_calls.specs.declared.refusal.Refusal.{Refusal}
 use Rattle.meson_calls.specs.declared.refusal.Refusal.TheVariants.{NoProject}
 use Rattle.meson_calls.specs.Project.{Placed}
 use Rattle.meson_calls.specs.Notes.{Note}
-use Rattle.meson_calls.specs.Picking.{found_places, places_with_role}
+use Rattle.meson_calls.specs.ChosenNotes.{found_places, places_with_role}
 use Rattle.meson_calls.specs.Finding.{only_one}
 
 abbrev pub any_place : List CallRef → Result (Unit {0}) Refusal

@@ -3,9 +3,9 @@
 ghost use Rattle.std.specs.Prelude.{◌≡◌, ◌<◌, ◌≤◌, [], MatchOption, None, OnOk, drop, is_some, length};
 ghost use Rattle.std.specs.Str.{IsUtf8};
 ghost use Rattle.meson_syntax.specs.View.{arg_view};
-ghost use Rattle.meson_calls.specs.Picking.{Source};
+ghost use Rattle.meson_calls.specs.ChosenNotes.{Source};
 ghost use Rattle.meson_calls.specs.Calls.{value_without_name, value_with_name};
-ghost use Rattle.meson_calls.specs.Keywords.{rest, kept_args, IsFirstNamed};
+ghost use Rattle.meson_calls.specs.NamedArguments.{rest, kept_args, IsFirstNamed};
 ghost use Rattle.meson_calls.specs.Refusals.{IfRefused};
 
 use crate::refusal::Refusal;

@@ -6,7 +6,7 @@ ghost use Rattle.meson_syntax.specs.View.{view};
 ghost use Rattle.meson_syntax.specs.declared.fault.ParseFault.{ParseFault};
 ghost use Rattle.meson_calls.specs.Folders.{IsFileName, folder_of, file_in};
 ghost use Rattle.meson_calls.specs.Notes.{note_view, note_views};
-ghost use Rattle.meson_calls.specs.Picking.{note_enters, entered_names};
+ghost use Rattle.meson_calls.specs.ChosenNotes.{note_enters, entered_names};
 ghost use Rattle.meson_calls.specs.Strings.{AreGood, NotesGood, note_words};
 ghost use Rattle.meson_calls.specs.Subdirs.{Enters, HasNoSubdir, subdirs};
 

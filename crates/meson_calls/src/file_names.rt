@@ -1,7 +1,7 @@
 //! The names of a project's files, as a set, and whether a file enters one of them.
 
 ghost use Rattle.std.specs.Prelude.{◌≡◌, All, IfOk, Some};
-ghost use Rattle.meson_calls.specs.Knowns.{AreFileNames, is_entered, meant_in};
+ghost use Rattle.meson_calls.specs.FileNames.{AreFileNames, is_entered, meant_in};
 ghost use Rattle.meson_calls.specs.Loading.{HasFileName};
 
 use crate::entering::file_in;

@@ -4,7 +4,7 @@ ghost use Rattle.std.specs.Prelude.{◌≡◌, IfOk, Ok};
 ghost use Rattle.meson_splice.specs.Files.{bytes_at};
 ghost use Rattle.meson_syntax.specs.View.{list_view};
 ghost use Rattle.meson_calls.specs.Notes.{note_views};
-ghost use Rattle.meson_calls.specs.Picking.{found_places};
+ghost use Rattle.meson_calls.specs.ChosenNotes.{found_places};
 ghost use Rattle.meson_calls.specs.Finding.{only_one};
 ghost use Rattle.meson_calls.specs.OnePlace.{the_place};
 ghost use Rattle.meson_calls.specs.CallPlaces.{CallIn};
@@ -13,7 +13,7 @@ ghost use Rattle.meson_calls.specs.Strings.{NotesGood};
 
 use crate::naming::found;
 use crate::note::Note;
-use crate::picking::with_role;
+use crate::chosen_notes::with_role;
 use crate::{CallRef, Refusal, Role};
 use meson_syntax::{List, Parsed};
 use std::alloc::Global;

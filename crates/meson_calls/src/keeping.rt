@@ -3,10 +3,9 @@
 ghost use Rattle.std.specs.Prelude.{◌≡◌, ◌∷◌, [], ◌++◌, IsTrue, OnOk, option_map};
 ghost use Rattle.meson_syntax.specs.View.{expr_view};
 ghost use Rattle.meson_calls.specs.declared.call.CallRef.{CallRef};
-ghost use Rattle.meson_calls.specs.Notes.{note_of, noted, taken_view, what_view};
+ghost use Rattle.meson_calls.specs.Notes.{note_of, noted, taken_view, what_view, is_set};
 ghost use Rattle.meson_calls.specs.Parts.{parts_of_expression};
-ghost use Rattle.meson_calls.specs.Picking.{Source};
-ghost use Rattle.meson_calls.specs.Variables.{is_set};
+ghost use Rattle.meson_calls.specs.ChosenNotes.{Source};
 ghost use Rattle.meson_calls.specs.Walks.{KeepsParts, keeper_view, notes_of_kept, part_at, part_reads, part_view, read_in, reads_of_kept};
 
 use crate::call::CallRef;

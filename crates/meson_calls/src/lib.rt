@@ -3,6 +3,7 @@
 
 pub mod arguments;
 pub mod call;
+pub mod chosen_notes;
 pub mod entering;
 pub mod file_names;
 pub mod finding;
@@ -20,7 +21,6 @@ pub mod note;
 pub mod noted;
 pub mod notes;
 pub mod part;
-pub mod picking;
 pub mod place;
 pub mod refusal;
 pub mod roles;

@@ -5,7 +5,7 @@ ghost use Rattle.meson_syntax.specs.Operators.{string_kind};
 ghost use Rattle.meson_syntax.specs.Grammar.{expression_words, listing_words};
 ghost use Rattle.meson_syntax.specs.View.{expr_view, list_view};
 ghost use Rattle.meson_calls.specs.Calls.{literal_of, first_literal, is};
-ghost use Rattle.meson_calls.specs.Picking.{Source, call_with};
+ghost use Rattle.meson_calls.specs.ChosenNotes.{Source, call_with};
 ghost use Rattle.meson_calls.specs.Strings.{AreGood};
 
 use crate::roles::{first_argument, text_of};

@@ -3,15 +3,16 @@
 ghost use Rattle.std.specs.Prelude.{◌≡◌, IfOk};
 ghost use Rattle.meson_syntax.specs.View.{expr_view};
 ghost use Rattle.meson_calls.specs.Calls.{call_of};
-ghost use Rattle.meson_calls.specs.Roles.{one_of, project_ids};
+ghost use Rattle.meson_calls.specs.Roles.{one_of};
+ghost use Rattle.meson_calls.specs.Naming.{project_ids};
 ghost use Rattle.meson_calls.specs.Notes.{note_view, note_views};
-ghost use Rattle.meson_calls.specs.Picking.{note_has_name, note_sets_call, is_role_call, places_that, assigned_places, found_places};
+ghost use Rattle.meson_calls.specs.ChosenNotes.{note_has_name, note_sets_call, is_role_call, places_that, assigned_places, found_places};
 ghost use Rattle.meson_calls.specs.Strings.{AreGood, NotesGood, note_words};
 
 use crate::call::{CallRef, Role};
 use crate::literals::first_literal_is;
 use crate::note::{Note, What};
-use crate::picking::with_role;
+use crate::chosen_notes::with_role;
 use crate::place::{child_place, place_of};
 use crate::roles::{has_role, text_of};
 use meson_syntax::Expr;

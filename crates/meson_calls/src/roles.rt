@@ -7,7 +7,7 @@ ghost use Rattle.meson_syntax.specs.View.{text_at, expr_view, arg_view, list_vie
 ghost use Rattle.meson_calls.specs.Calls.{first_argument, value_without_name};
 ghost use Rattle.meson_calls.specs.Roles.{one_of, target_functions, has_role};
 ghost use Rattle.meson_calls.specs.Notes.{what_view};
-ghost use Rattle.meson_calls.specs.Picking.{Source, call_with, note_has_role};
+ghost use Rattle.meson_calls.specs.ChosenNotes.{Source, call_with, note_has_role};
 
 use crate::call::Role;
 use crate::note::What;

@@ -13,9 +13,9 @@ use Rattle.meson_calls.specs.declared.refusal.Refusal.{Refusal}
 use Rattle.meson_calls.specs.declared.refusal.Refusal.TheVariants.{DuplicateKeyword}
 use Rattle.meson_calls.specs.Calls.{Call, keyword, value_with_name}
 use Rattle.meson_calls.specs.Keys.{is_key}
-use Rattle.meson_calls.specs.Picking.{call_with}
+use Rattle.meson_calls.specs.ChosenNotes.{call_with}
 use Rattle.meson_details.specs.Once.{only_once, name_in, key_told, keys_told, call_told}
-use Rattle.meson_calls.specs.Keywords.{kept_args, once}
+use Rattle.meson_calls.specs.NamedArguments.{kept_args, once}
 use Rattle.meson_calls.specs.Refusals.{IfRefused, RefusedAs}
 use Rattle.meson_edit.proofs.lists.CodeElements.{list_elements}
 use Rattle.meson_calls.proofs.Listed.{list_is}

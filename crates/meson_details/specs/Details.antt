@@ -16,9 +16,9 @@ use Rattle.meson_calls.specs.declared.refusal.Refusal.{Refusal}
 use Rattle.meson_calls.specs.CallPlaces.{call_at}
 use Rattle.meson_calls.specs.Calls.{Call, first_of, first_literal, keyword, literal_of, value_without_name}
 use Rattle.meson_calls.specs.Keys.{is_key, name_of}
-use Rattle.meson_calls.specs.Keywords.{kwargs_key}
+use Rattle.meson_calls.specs.NamedArguments.{kwargs_key}
 use Rattle.meson_calls.specs.Loading.{Loaded, project}
-use Rattle.meson_calls.specs.Picking.{call_with}
+use Rattle.meson_calls.specs.ChosenNotes.{call_with}
 use Rattle.meson_calls.specs.Project.{Project, expression_at}
 use Rattle.meson_details.specs.declared.details.Head.{Head}
 use Rattle.meson_details.specs.declared.details.Shown.{Shown}

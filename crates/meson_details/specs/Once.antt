@@ -8,7 +8,7 @@ use Rattle.meson_calls.specs.declared.call.Role.{Role}
 use Rattle.meson_calls.specs.declared.refusal.Refusal.{Refusal}
 use Rattle.meson_calls.specs.Calls.{Call, keyword}
 use Rattle.meson_calls.specs.Keys.{is_key}
-use Rattle.meson_calls.specs.Keywords.{once}
+use Rattle.meson_calls.specs.NamedArguments.{once}
 
 abbrev pub only_once : {S : Type 0} → List ℕ → Call S → Result (Unit {0}) Refusal
 only_once key c = once key (keyword key c) tt

@@ -8,7 +8,7 @@ ghost use Rattle.meson_syntax.specs.Grammar.{argument_words, expression_words, l
 ghost use Rattle.meson_syntax.specs.View.{arg_view, args_view, expr_view, list_view, text_at};
 ghost use Rattle.meson_calls.specs.Calls.{first_literal};
 ghost use Rattle.meson_calls.specs.GoodLists.{GoodArgs, GoodListing};
-ghost use Rattle.meson_calls.specs.Picking.{Source, call_with};
+ghost use Rattle.meson_calls.specs.ChosenNotes.{Source, call_with};
 ghost use Rattle.meson_calls.specs.Refusals.{RefusedAs};
 ghost use Rattle.meson_calls.specs.Strings.{AreGood};
 ghost use Rattle.meson_details.specs.Called.{called_view};

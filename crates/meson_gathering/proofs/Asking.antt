@@ -3,7 +3,7 @@ use Rattle.std.proofs.Common.{◌≡◌, ◌∙◌, ℕ, List, inl, inr, refl, s
 use Rattle.std.specs.Prelude.{Option, Some, None, is_some, true, false, Result, Ok, Err, OnErr, OnOk}
 use Rattle.meson_splice.specs.declared.file_set.File.{File}
 use Rattle.meson_splice.specs.Files.{position_of_file}
-use Rattle.meson_store.specs.Calls.{one_more}
+use Rattle.meson_store.specs.StoreCalls.{one_more}
 use Rattle.meson_store.specs.Content.{Content}
 use Rattle.meson_gathering.specs.Gathering.{Told, file_of, held_bytes, with_more}
 use Rattle.meson_gathering.specs.ReadCounts.{EntersOne, OnceAtMost, OnceIfNew, is_read, is_there}

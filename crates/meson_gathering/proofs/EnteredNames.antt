@@ -8,9 +8,8 @@ use Rattle.std.proofs.lemmas.List.Elements.{All-cons, All-nil}
 use Rattle.std.proofs.lemmas.List.Folds.{list_any-append}
 use Rattle.meson_lex.specs.declared.kinds.Span.{Span}
 use Rattle.meson_calls.specs.Project.{Placed}
-use Rattle.meson_calls.specs.Calls.{Call, calls, first_literal}
+use Rattle.meson_calls.specs.Calls.{Call, calls, first_literal, calls_function}
 use Rattle.meson_calls.specs.Folders.{parts_after, slash_parts, is_control, goes_nowhere, is_plain_folder, in_folder, IsFileName, folder_parts, folder_of, file_in}
-use Rattle.meson_calls.specs.Variables.{calls_function}
 use Rattle.meson_calls.specs.Subdirs.{entered, Enters}
 
 -- ---- the parts of a folder in a folder

@@ -5,7 +5,7 @@ use Rattle.meson_splice.specs.Files.{bytes_at, position_of_file}
 use Rattle.meson_calls.specs.Folders.{build_file}
 use Rattle.meson_calls.specs.Loading.{name_of_file}
 use Rattle.meson_calls.specs.Subdirs.{Enters}
-use Rattle.meson_store.specs.Calls.{one_more}
+use Rattle.meson_store.specs.StoreCalls.{one_more}
 use Rattle.meson_store.specs.Content.{Content}
 use Rattle.meson_gathering.specs.Gathering.{Told, file_of, held_bytes, files_with}
 

@@ -10,7 +10,7 @@ ghost use Rattle.meson_calls.specs.Subdirs.{Enters};
 ghost use Rattle.meson_gathering.specs.Gathering.{Collects, Finds, Gathers, Told, files_entered, file_of, held_bytes, named_folder, whole, with_more};
 ghost use Rattle.meson_gathering.specs.Gathered.{Grows, IsNotAdded, IsNotEntered, IsUnread, LooksAt, StopsAt, StopsLooking};
 ghost use Rattle.meson_gathering.specs.ReadCounts.{EntersEach, EntersFor, EntersOne, OnceAtMost, OnceIfNew, ReadsFiles, StopsEntering, StopsFor, StopsReading};
-ghost use Rattle.meson_store.specs.Calls.{one_more};
+ghost use Rattle.meson_store.specs.StoreCalls.{one_more};
 
 use crate::fault::GatherFault;
 use crate::named_files::NamedFiles;

@@ -3,9 +3,9 @@ use Rattle.std.proofs.Common.{◌≡◌, ℕ, List}
 use Rattle.meson_lex.specs.declared.kinds.Span.{Span}
 use Rattle.meson_calls.specs.Notes.{notes}
 use Rattle.meson_calls.specs.Parts.{parts}
-use Rattle.meson_calls.specs.Picking.{places_that}
+use Rattle.meson_calls.specs.ChosenNotes.{places_that}
 use Rattle.meson_calls.specs.Project.{Project}
-use Rattle.meson_calls.specs.Variables.{calls_function}
+use Rattle.meson_calls.specs.Calls.{calls_function}
 use Rattle.meson_calls.proofs.Picked.{tested_notes}
 use Rattle.meson_inventory.specs.Holdings.{calls_of, note_calls}
 

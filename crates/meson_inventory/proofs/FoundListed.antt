@@ -15,9 +15,10 @@ use Rattle.meson_calls.specs.Calls.{Call, call_of, part_call, all_chosen, calls,
 use Rattle.meson_calls.specs.Loading.{Loaded, project}
 use Rattle.meson_calls.specs.Parts.{Part, parts}
 use Rattle.meson_calls.specs.Parts as part
-use Rattle.meson_calls.specs.Picking.{call_with}
+use Rattle.meson_calls.specs.ChosenNotes.{call_with}
 use Rattle.meson_calls.specs.Project.{Project, Placed, placed, expression_at}
-use Rattle.meson_calls.specs.Roles.{assigned_values, found, has_role, or_else, part_set_to, places, role_calls, set_to, targets, value_of_assignment, with_name, with_role}
+use Rattle.meson_calls.specs.Naming.{assigned_values, found, or_else, part_set_to, set_to, value_of_assignment, with_name}
+use Rattle.meson_calls.specs.Roles.{has_role, places, role_calls, targets, with_role}
 use Rattle.meson_calls.proofs.CallsReached.{InProject, every_chosen, every_part}
 use Rattle.meson_calls.proofs.ExpressionsAt.{assigned_stands, expression_stands}
 use Rattle.meson_details.specs.Details.{head_of}

@@ -4,12 +4,13 @@ use Rattle.std.specs.Prelude.{Bool, true, false, not, cond, ◌&&◌, ◌||◌, 
 use Rattle.std.specs.List.{cons_option, list_any}
 use Rattle.meson_lex.specs.declared.kinds.Span.{Span}
 use Rattle.meson_syntax.proofs.paths.Every.{Every}
-use Rattle.meson_calls.specs.Calls.{Call, all_chosen, calls}
-use Rattle.meson_calls.specs.Knowns.{is_entered, meant_in}
+use Rattle.meson_calls.specs.Calls.{Call, all_chosen, calls, calls_function}
+use Rattle.meson_calls.specs.FileNames.{is_entered, meant_in}
 use Rattle.meson_calls.specs.Loading.{Loaded, project}
 use Rattle.meson_calls.specs.Project.{Project, Placed, placed, nth_file}
 use Rattle.meson_calls.specs.Roles.{places}
-use Rattle.meson_calls.specs.Variables.{calls_function, enters_unknown, is_there, meant_file, sets_unknown}
+use Rattle.meson_calls.specs.Subdirs.{enters_unknown, is_there, meant_file}
+use Rattle.meson_variables.specs.Variables.{sets_unknown}
 use Rattle.meson_variables.proofs.KnownCalls.{enters_alike}
 use Rattle.meson_calls.proofs.Loads.{as_many}
 use Rattle.meson_inventory.specs.Holdings.{enters_one, held_calls, not_entered, with_function}

@@ -4,13 +4,12 @@ use Rattle.std.specs.List.{filter_map}
 use Rattle.meson_splice.specs.declared.file_set.File.{File}
 use Rattle.meson_lex.specs.declared.kinds.Span.{Span}
 use Rattle.meson_calls.specs.declared.call.CallRef.{CallRef}
-use Rattle.meson_calls.specs.Calls.{Call, all_chosen, calls}
-use Rattle.meson_calls.specs.Knowns.{is_entered, meant_in}
+use Rattle.meson_calls.specs.Calls.{Call, all_chosen, calls, calls_function}
+use Rattle.meson_calls.specs.FileNames.{is_entered, meant_in}
 use Rattle.meson_calls.specs.Loading.{Loaded, project}
 use Rattle.meson_calls.specs.Notes.{Note, a_call, an_assignment, a_loop, notes}
 use Rattle.meson_calls.specs.Project.{Placed, Project}
 use Rattle.meson_calls.specs.Roles.{places, targets}
-use Rattle.meson_calls.specs.Variables.{calls_function}
 use Rattle.meson_details.specs.Details.{head, is_call}
 use Rattle.meson_targets.specs.TargetEdits.{variable_of}
 use Rattle.meson_inventory.specs.declared.holdings.HeldCall.{HeldCall}

@@ -5,8 +5,10 @@ use Rattle.meson_calls.specs.declared.call.CallRef.{CallRef}
 use Rattle.meson_calls.specs.declared.call.Role.TheVariants as role
 use Rattle.meson_calls.specs.Calls.{calls}
 use Rattle.meson_calls.specs.Loading.{Loaded, IsProject, project}
-use Rattle.meson_calls.specs.Roles.{found, places}
-use Rattle.meson_calls.specs.Variables.{all_known, enters_unknown}
+use Rattle.meson_calls.specs.Naming.{found}
+use Rattle.meson_calls.specs.Roles.{places}
+use Rattle.meson_variables.specs.Variables.{all_known}
+use Rattle.meson_calls.specs.Subdirs.{enters_unknown}
 use Rattle.meson_inventory.specs.Holdings.{held_call, held_calls, holdings}
 use Rattle.meson_inventory.specs.declared.holdings.HeldCall.{HeldCall}
 

@@ -1,16 +1,16 @@
 //! What a project holds: its targets, and the `subdir` calls that enter none of its files.
 
 ghost use Rattle.std.specs.Prelude.{◌≡◌, All, IfOk, Some};
-ghost use Rattle.meson_calls.specs.Knowns.{AreFileNames};
+ghost use Rattle.meson_calls.specs.FileNames.{AreFileNames};
 ghost use Rattle.meson_calls.specs.Loading.{HasFileName};
 ghost use Rattle.meson_calls.specs.Notes.{note_view, note_views};
-ghost use Rattle.meson_calls.specs.Picking.{places_that};
+ghost use Rattle.meson_calls.specs.ChosenNotes.{places_that};
 ghost use Rattle.meson_inventory.specs.Holdings.{AreAllNotes, IsCall, enters_one, held_call, held_calls, holdings, not_entered, note_calls, subdirs_held, targets_held};
 
 use meson_calls::file_names::{enters, names_of};
 use meson_calls::note::{Note, What};
 use meson_calls::notes::notes_of;
-use meson_calls::picking::with_role;
+use meson_calls::chosen_notes::with_role;
 use meson_calls::place::place_of;
 use meson_calls::roles::text_of;
 use meson_plan::{CallRef, Head, Project, Role};

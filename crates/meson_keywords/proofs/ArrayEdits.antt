@@ -12,14 +12,13 @@ use Rattle.meson_edit.proofs.sequences.Levelled.{firsts-keep-levels, insertions-
 use Rattle.meson_calls.specs.declared.call.CallRef.{CallRef}
 use Rattle.meson_keywords.specs.Changing.{CallStands}
 use Rattle.meson_keywords.specs.Effects.{put_behind}
-use Rattle.meson_keywords.specs.declared.keys.ElementKind.{ElementKind}
+use Rattle.meson_keywords.specs.declared.value_kinds.ElementKind.{ElementKind}
 use Rattle.meson_keywords.specs.KeywordEdits.{all_behind, behind_all}
-use Rattle.meson_keywords.specs.Keys.{element_node, written_element}
+use Rattle.meson_keywords.specs.ValueKinds.{element_node, written_element}
 use Rattle.meson_syntax.proofs.parsing.Steps.{some-injective}
 use Rattle.meson_steps.specs.ListSteps.{MayStandBetween}
 use Rattle.meson_calls.specs.Project.{child}
-use Rattle.meson_steps.specs.Steps.{step_in}
-use Rattle.meson_steps.specs.Steps.{Step}
+use Rattle.meson_steps.specs.Steps.{step_in, Step}
 use Rattle.meson_keywords.specs.Tasking.{AreElements}
 use Rattle.std.proofs.lemmas.List.{take_all}
 use Rattle.meson_keywords.proofs.CallEdits.{CallStep, LeavesAs, call_step, last_there, more_leaves, no_elements, none_leaves, wrap_step, depth_append, depth_drop, depth_nth, depth_of, depth_take, tree_level, value_depth, xs}

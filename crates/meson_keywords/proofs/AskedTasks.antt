@@ -14,13 +14,13 @@ use Rattle.meson_calls.specs.Roles.{one_of}
 use Rattle.meson_steps.specs.declared.command.Setting.{Setting}
 use Rattle.meson_steps.specs.declared.command.Setting.TheVariants as setting
 use Rattle.meson_steps.specs.WrittenTexts.{written_text}
-use Rattle.meson_keywords.specs.declared.keys.ElementKind.{ElementKind}
-use Rattle.meson_keywords.specs.declared.keys.ElementKind.TheVariants as element
-use Rattle.meson_keywords.specs.declared.keys.ValueKind.{ValueKind}
-use Rattle.meson_keywords.specs.declared.keys.ValueKind.TheVariants as value
+use Rattle.meson_keywords.specs.declared.value_kinds.ElementKind.{ElementKind}
+use Rattle.meson_keywords.specs.declared.value_kinds.ElementKind.TheVariants as element
+use Rattle.meson_keywords.specs.declared.value_kinds.ValueKind.{ValueKind}
+use Rattle.meson_keywords.specs.declared.value_kinds.ValueKind.TheVariants as value
 use Rattle.meson_keywords.specs.Effects.{AreAskedTexts, IsPairText, IsSettingText}
 use Rattle.meson_calls.specs.Keys.{identifier_list_keys, switch_keys, text_keys, text_list_keys}
-use Rattle.meson_keywords.specs.Keys.{are_elements, checked_values, key_kind, list_kind, list_values, of_kind, setting_text, setting_texts, truth_text, truth_of, written_list, written_switch, written_value}
+use Rattle.meson_keywords.specs.ValueKinds.{are_elements, checked_values, key_kind, list_kind, list_values, of_kind, setting_text, setting_texts, truth_text, truth_of, written_list, written_switch, written_value}
 use Rattle.meson_keywords.specs.Tasking.{AreElements, Asked, IsKey, IsValue, MayBeWritten, asked_tasks, to_set, to_add, to_remove, to_delete, to_set_options, to_delete_options}
 use Rattle.meson_keywords.specs.Tasks.{Task, set, delete, add, remove, once, set_option, delete_option, add_entry, checked_option, delete_entry, delete_option_entry, each_made, remove_entry, set_entry, set_option_entry}
 use Rattle.meson_keywords.proofs.KeyNames.{identifier_list_key, switch_key, text_key, text_list_key}

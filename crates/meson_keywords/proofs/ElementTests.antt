@@ -4,9 +4,9 @@ use Rattle.std.specs.Prelude.{Bool, ◌&&◌}
 use Rattle.std.specs.List.{list_all}
 use Rattle.std.proofs.Math.Seq.{drop-cons}
 use Rattle.std.proofs.lemmas.List.{drop_all}
-use Rattle.meson_keywords.specs.declared.keys.ElementKind.{ElementKind}
-use Rattle.meson_keywords.specs.declared.keys.ElementKind.TheVariants as element
-use Rattle.meson_keywords.specs.Keys.{are_elements, is_identifier}
+use Rattle.meson_keywords.specs.declared.value_kinds.ElementKind.{ElementKind}
+use Rattle.meson_keywords.specs.declared.value_kinds.ElementKind.TheVariants as element
+use Rattle.meson_keywords.specs.ValueKinds.{are_elements, is_identifier}
 
 and_true : (b : Bool) → b && true ≡ b
 and_true true = refl

@@ -18,10 +18,10 @@ use Rattle.meson_syntax.specs.declared.tree.List as rust
 use Rattle.meson_syntax.specs.Grammar.{argument_words, expression_words, mark}
 use Rattle.meson_syntax.specs.Tree.{Expression, Argument, dictionary, pair}
 use Rattle.meson_syntax.specs.View.{arg_view, args_view, expr_view, list_view}
-use Rattle.meson_keywords.specs.declared.keys.ElementKind.{ElementKind}
+use Rattle.meson_keywords.specs.declared.value_kinds.ElementKind.{ElementKind}
 use Rattle.meson_calls.specs.Calls as calls
 use Rattle.meson_calls.specs.Calls.{Numbered, value_with_name}
-use Rattle.meson_calls.specs.Keywords.{IsFirstNamed, kept_args}
+use Rattle.meson_calls.specs.NamedArguments.{IsFirstNamed, kept_args}
 use Rattle.meson_calls.specs.GoodLists.{GoodArgs}
 use Rattle.meson_keywords.specs.KeywordEdits.{all_of_kind, element_text, one_at_most, passing, says, the_value}
 use Rattle.meson_keywords.specs.Options.{key_text, keys_known}

@@ -6,12 +6,12 @@ use Rattle.meson_lex.specs.declared.kinds.Span.{Span}
 use Rattle.meson_splice.specs.Patch.{then_ok}
 use Rattle.meson_syntax.specs.Tree.{Nowhere, Expression, identifier, string, array, dictionary, Argument, plain, named, pair, arguments_of, erase_argument, erase_expression}
 use Rattle.meson_calls.specs.declared.call.CallRef.{CallRef}
-use Rattle.meson_keywords.specs.declared.keys.ElementKind.{ElementKind}
-use Rattle.meson_keywords.specs.declared.keys.ElementKind.TheVariants as element
+use Rattle.meson_keywords.specs.declared.value_kinds.ElementKind.{ElementKind}
+use Rattle.meson_keywords.specs.declared.value_kinds.ElementKind.TheVariants as element
 use Rattle.meson_calls.specs.declared.refusal.Refusal.{Refusal}
 use Rattle.meson_calls.specs.Calls.{Numbered, numbered, kept_number, value_with_name}
 use Rattle.meson_calls.specs.Calls as calls
-use Rattle.meson_keywords.specs.Keys.{written_list, written_named}
+use Rattle.meson_keywords.specs.ValueKinds.{written_list, written_named}
 use Rattle.meson_keywords.specs.KeywordEdits.{ValueShape, an_array, no_array, add_by_shape, all_behind, all_of_kind, behind_all, element_text, keyword_in, new_elements, one_at_most, passing, remove_by_shape, remove_equal, removed_from, says, value_shape, text_in, the_value}
 use Rattle.meson_keywords.specs.Options.{delete_by_shape, delete_by_value, entries, has_key, is_entry, is_entry_element, key_text, keys_known, of_list, option_text, options_key, set_by_shape, set_by_value, set_in_dictionary, set_in_list}
 use Rattle.meson_calls.specs.Project.{child}

@@ -5,7 +5,7 @@ use Rattle.std.proofs.lemmas.Bool.{and_from, and_parts}
 use Rattle.std.proofs.lemmas.Slice.Eq.{bytes_eq-Decides}
 use Rattle.meson_lex.specs.declared.kinds.Kind.{Kind}
 use Rattle.meson_lex.specs.Kinds.{IsIdentifier, IsWord, IsNoneOf, reserved, spelling}
-use Rattle.meson_keywords.specs.Keys.{is_identifier, is_word}
+use Rattle.meson_keywords.specs.ValueKinds.{is_identifier, is_word}
 use Rattle.meson_calls.specs.Roles.{one_of}
 
 same_truth : (a b : Bool) → (a ≡ true → b ≡ true) → (b ≡ true → a ≡ true) → a ≡ b

@@ -8,7 +8,7 @@ use Rattle.std.proofs.lemmas.Slice.Eq.{bytes_eq-Decides}
 use Rattle.meson_calls.specs.declared.call.Role.{Role}
 use Rattle.meson_calls.specs.declared.call.Role.TheVariants as role
 use Rattle.meson_calls.specs.Keys.{text_keys, switch_keys, text_list_keys, identifier_list_keys}
-use Rattle.meson_keywords.specs.Keys.{is_identifier}
+use Rattle.meson_keywords.specs.ValueKinds.{is_identifier}
 use Rattle.meson_calls.specs.Roles.{one_of}
 use Rattle.meson_keywords.specs.Tasking.{IsKey}
 use Rattle.meson_keywords.proofs.IdentifierTexts.{identifier_true}

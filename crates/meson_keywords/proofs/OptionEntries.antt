@@ -9,7 +9,7 @@ use Rattle.meson_lex.proofs.Written.{literal_value}
 use Rattle.meson_syntax.specs.Tree.{Nowhere, Argument, plain, named, pair}
 use Rattle.meson_edit.specs.Edits.{with_value}
 use Rattle.meson_calls.specs.Calls as calls
-use Rattle.meson_keywords.specs.declared.keys.ElementKind.TheVariants as element
+use Rattle.meson_keywords.specs.declared.value_kinds.ElementKind.TheVariants as element
 use Rattle.meson_keywords.specs.Effects.{after_equals, is_of, value_of_option}
 use Rattle.meson_keywords.specs.KeywordEdits.{all_of_kind, element_text, passing}
 use Rattle.meson_keywords.specs.Options.{key_text, keys_known, option_text}

@@ -10,12 +10,12 @@ use Rattle.meson_syntax.specs.Tree.{Nowhere, Plain, Expression, array, dictionar
 use Rattle.meson_syntax.specs.Paths.{nth, value_of}
 use Rattle.meson_edit.specs.Edits.{Replace, elements, with_elements, with_value}
 use Rattle.meson_calls.specs.declared.call.CallRef.{CallRef}
-use Rattle.meson_keywords.specs.declared.keys.ElementKind.TheVariants as element
+use Rattle.meson_keywords.specs.declared.value_kinds.ElementKind.TheVariants as element
 use Rattle.meson_calls.specs.Calls.{Numbered}
 use Rattle.meson_keywords.specs.Changing.{CallStands}
 use Rattle.meson_keywords.specs.Effects.{Holds, TaskLeaves, held_elements, held_in, holds, is_of, value_of_option, put_behind}
 use Rattle.meson_keywords.specs.KeywordEdits.{all_of_kind, behind_all, keyword_in, one_at_most, passing, removed_from, value_shape, text_in}
-use Rattle.meson_keywords.specs.Keys.{written_list, written_named}
+use Rattle.meson_keywords.specs.ValueKinds.{written_list, written_named}
 use Rattle.meson_steps.specs.ListSteps.{MayStandBetween}
 use Rattle.meson_keywords.specs.Options.{entries, has_key, is_entry, is_entry_element, keys_known, of_lone, option_text, options_key, set_by_shape, set_by_value, set_in_dictionary, set_in_list, set_in_lone, set_option_steps, set_option_there, written_pair}
 use Rattle.meson_calls.specs.Project.{child}

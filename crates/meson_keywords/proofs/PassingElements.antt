@@ -4,7 +4,7 @@ use Rattle.std.specs.Prelude.{Bool, ◌&&◌, cond, if◌then◌else◌, is_some
 use Rattle.std.specs.List.{filter}
 use Rattle.std.proofs.Math.Seq.{take-append_seam}
 use Rattle.meson_syntax.specs.Tree.{Nowhere, Argument, plain, named, pair}
-use Rattle.meson_keywords.specs.declared.keys.ElementKind.TheVariants as element
+use Rattle.meson_keywords.specs.declared.value_kinds.ElementKind.TheVariants as element
 use Rattle.meson_keywords.specs.Effects.{is_of}
 use Rattle.meson_keywords.specs.KeywordEdits.{all_of_kind, element_text, passing}
 use Rattle.meson_keywords.specs.Options.{has_key, is_entry_element, key_text, keys_known}

@@ -7,8 +7,8 @@ use Rattle.meson_syntax.specs.Tree.{Nowhere, Plain, Expression, array, dictionar
 use Rattle.meson_syntax.specs.Paths.{nth, value_of}
 use Rattle.meson_edit.specs.Edits.{Remove, elements, element_removed, with_elements, with_value}
 use Rattle.meson_calls.specs.declared.call.CallRef.{CallRef}
-use Rattle.meson_keywords.specs.declared.keys.ElementKind.{ElementKind}
-use Rattle.meson_keywords.specs.declared.keys.ElementKind.TheVariants as element
+use Rattle.meson_keywords.specs.declared.value_kinds.ElementKind.{ElementKind}
+use Rattle.meson_keywords.specs.declared.value_kinds.ElementKind.TheVariants as element
 use Rattle.meson_calls.specs.declared.refusal.Refusal.{Refusal}
 use Rattle.meson_calls.specs.declared.refusal.Refusal.TheVariants.{NotLiteral}
 use Rattle.meson_calls.specs.Calls as calls

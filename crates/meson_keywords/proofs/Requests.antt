@@ -14,10 +14,10 @@ use Rattle.meson_calls.specs.Calls.{Call, keyword, value_with_name}
 use Rattle.meson_keywords.specs.Changing.{CallStands, request_steps}
 use Rattle.meson_calls.specs.Loading.{AreParsed, IsProject, Loaded, project}
 use Rattle.meson_steps.specs.ResultLimits.{plain_trees}
-use Rattle.meson_calls.specs.Picking.{call_with}
+use Rattle.meson_calls.specs.ChosenNotes.{call_with}
 use Rattle.meson_calls.specs.Finding.{the_call}
 use Rattle.meson_calls.specs.Project.{Project, Placed}
-use Rattle.meson_calls.specs.Keywords.{not_hidden, kept_args, kwargs_key}
+use Rattle.meson_calls.specs.NamedArguments.{not_hidden, kept_args, kwargs_key}
 use Rattle.meson_calls.specs.CallPlaces.{CallIn}
 use Rattle.meson_steps.specs.Steps.{Step}
 use Rattle.meson_keywords.specs.Tasking.{Asked, asked_tasks}

@@ -5,7 +5,7 @@ use Rattle.meson_splice.specs.Patch.{then_ok}
 use Rattle.meson_calls.specs.Calls.{keyword}
 use Rattle.meson_calls.specs.Finding.{the_call}
 use Rattle.meson_calls.specs.Loading.{project}
-use Rattle.meson_calls.specs.Keywords.{kwargs_key, not_hidden}
+use Rattle.meson_calls.specs.NamedArguments.{kwargs_key, not_hidden}
 use Rattle.meson_keywords.specs.Effects.{RequestsLeave}
 use Rattle.meson_keywords.specs.Tasking.{asked_tasks}
 use Rattle.meson_keywords.specs.TaskSteps.{call_changed, tasks_steps, trees_of}

@@ -12,15 +12,14 @@ use Rattle.meson_calls.specs.declared.refusal.Refusal.{Refusal}
 use Rattle.meson_keywords.specs.declared.elements.NumberedValue.{NumberedValue}
 use Rattle.meson_steps.specs.declared.step.ListStep.{ListStep}
 use Rattle.meson_calls.specs.declared.call.CallRef.{CallRef}
-use Rattle.meson_keywords.specs.declared.keys.ElementKind.{ElementKind}
+use Rattle.meson_keywords.specs.declared.value_kinds.ElementKind.{ElementKind}
 use Rattle.meson_calls.specs.declared.refusal.Refusal.TheVariants.{NotLiteral}
 use Rattle.meson_calls.specs.Calls.{Numbered}
 use Rattle.meson_calls.specs.Calls as calls
 use Rattle.meson_keywords.specs.Options.{of_list, of_lone, options_key}
-use Rattle.meson_steps.specs.Steps.{step_in}
+use Rattle.meson_steps.specs.Steps.{step_in, Step}
 use Rattle.meson_keywords.specs.KeywordEdits.{add_to_lone, remove_lone, the_value}
 use Rattle.meson_steps.specs.ListSteps.{bare}
-use Rattle.meson_steps.specs.Steps.{Step}
 use Rattle.meson_steps.specs.Meanings.{AreBehind, AreMeant}
 use Rattle.meson_keywords.specs.Tasking.{found_argument}
 

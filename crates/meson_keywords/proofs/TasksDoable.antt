@@ -9,13 +9,13 @@ use Rattle.meson_syntax.specs.Grammar.{LevelExpression, expression_depth, expres
 use Rattle.meson_edit.specs.Edits.{Written, Remove, Replace, Wrap, elements}
 use Rattle.meson_edit.specs.Places.{IsWritten}
 use Rattle.meson_calls.specs.declared.call.CallRef.{CallRef}
-use Rattle.meson_keywords.specs.declared.keys.ElementKind.{ElementKind}
-use Rattle.meson_keywords.specs.declared.keys.ElementKind.TheVariants as element
+use Rattle.meson_keywords.specs.declared.value_kinds.ElementKind.{ElementKind}
+use Rattle.meson_keywords.specs.declared.value_kinds.ElementKind.TheVariants as element
 use Rattle.meson_calls.specs.Calls.{Numbered}
 use Rattle.meson_keywords.specs.Changing.{CallStands}
 use Rattle.meson_keywords.specs.Effects.{Holds, coming, held_elements, held_in, put_behind, values_of}
 use Rattle.meson_keywords.specs.KeywordEdits.{add_by_shape, add_steps, add_there, add_to_lone, all_behind, behind_all, element_text, new_elements, value_shape, text_in, delete_steps, delete_there, keyword_in, once_steps, one_at_most, set_steps, set_there}
-use Rattle.meson_keywords.specs.Keys.{element_node, written_list, written_named}
+use Rattle.meson_keywords.specs.ValueKinds.{element_node, written_list, written_named}
 use Rattle.meson_steps.specs.ListSteps.{MayStandBetween}
 use Rattle.meson_calls.specs.Project.{child}
 use Rattle.meson_steps.specs.Names.{distinct_by}

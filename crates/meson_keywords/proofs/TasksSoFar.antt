@@ -11,11 +11,11 @@ use Rattle.meson_syntax.specs.Tree.{Nowhere, Expression}
 use Rattle.meson_edit.specs.Edits.{Written}
 use Rattle.meson_calls.specs.declared.call.Role.{Role}
 use Rattle.meson_steps.specs.declared.command.Setting.{Setting}
-use Rattle.meson_keywords.specs.declared.keys.ElementKind.{ElementKind}
-use Rattle.meson_keywords.specs.declared.keys.ValueKind.{ValueKind}
+use Rattle.meson_keywords.specs.declared.value_kinds.ElementKind.{ElementKind}
+use Rattle.meson_keywords.specs.declared.value_kinds.ValueKind.{ValueKind}
 use Rattle.meson_calls.specs.declared.refusal.Refusal.{Refusal}
 use Rattle.meson_keywords.specs.declared.tasks.Task as code
-use Rattle.meson_keywords.specs.Keys.{key_kind, list_kind, list_values, written_value}
+use Rattle.meson_keywords.specs.ValueKinds.{key_kind, list_kind, list_values, written_value}
 use Rattle.meson_steps.specs.inside.WrittenValues.{WrittenFor, value_written}
 use Rattle.meson_keywords.specs.Options.{option_text}
 use Rattle.meson_keywords.specs.Tasks.{Task, set, delete, add, remove, once, set_option, delete_option, checked_option, each_made, set_entry, delete_entry, add_entry, remove_entry, set_option_entry, delete_option_entry}

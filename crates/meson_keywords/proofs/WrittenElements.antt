@@ -25,10 +25,10 @@ use Rattle.meson_syntax.specs.Operators.{boolean_kind}
 use Rattle.meson_syntax.specs.Tree.{Nowhere, Arguments, plain, arguments_of}
 use Rattle.meson_syntax.specs.Grammar.{expression_words, arguments_words, expression_depth, LevelExpression, LevelArguments, Flagged, arguments_depth}
 use Rattle.meson_edit.specs.Places.{IsWritten}
-use Rattle.meson_keywords.specs.declared.keys.ElementKind.{ElementKind}
-use Rattle.meson_keywords.specs.declared.keys.ElementKind.TheVariants as element
+use Rattle.meson_keywords.specs.declared.value_kinds.ElementKind.{ElementKind}
+use Rattle.meson_keywords.specs.declared.value_kinds.ElementKind.TheVariants as element
 use Rattle.meson_calls.specs.declared.refusal.Refusal.{Refusal}
-use Rattle.meson_keywords.specs.Keys.{are_elements, element_bytes, element_node, is_identifier, truth_text, written_list, written_switch}
+use Rattle.meson_keywords.specs.ValueKinds.{are_elements, element_bytes, element_node, is_identifier, truth_text, written_list, written_switch}
 use Rattle.meson_keywords.proofs.IdentifierTexts.{identifier_true}
 use Rattle.meson_calls.specs.Roles.{one_of}
 use Rattle.meson_steps.specs.WrittenTexts.{comma_between}

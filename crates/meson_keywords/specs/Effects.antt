@@ -18,10 +18,10 @@ use Rattle.meson_steps.specs.ListSteps.{MayStandBetween}
 use Rattle.meson_steps.specs.Names.{distinct_by}
 use Rattle.meson_steps.specs.ResultLimits.{plain_trees}
 use Rattle.meson_steps.specs.Steps.{Step}
-use Rattle.meson_keywords.specs.declared.keys.ElementKind.{ElementKind}
+use Rattle.meson_keywords.specs.declared.value_kinds.ElementKind.{ElementKind}
 use Rattle.meson_keywords.specs.Changing.{CallStands, request_steps}
 use Rattle.meson_keywords.specs.KeywordEdits.{element_text, says}
-use Rattle.meson_keywords.specs.Keys.{element_node}
+use Rattle.meson_keywords.specs.ValueKinds.{element_node}
 use Rattle.meson_keywords.specs.Options.{options_key}
 use Rattle.meson_keywords.specs.Tasking.{Asked, MayBeWritten, asked_tasks, to_set, to_add, to_remove, to_delete, to_set_options, to_delete_options}
 use Rattle.meson_keywords.specs.Tasks.{Task, set, delete, add, remove, once, set_option, delete_option, before_equals}

@@ -5,18 +5,17 @@ use Rattle.meson_splice.specs.Patch.{then_ok}
 use Rattle.meson_syntax.specs.Tree.{Nowhere, Expression, array, Argument, plain, named, pair, arguments_of}
 use Rattle.meson_edit.specs.Edits.{Written, First, After, Remove, Replace, Wrap, elements}
 use Rattle.meson_calls.specs.declared.call.CallRef.{CallRef}
-use Rattle.meson_keywords.specs.declared.keys.ElementKind.{ElementKind}
-use Rattle.meson_keywords.specs.declared.keys.ElementKind.TheVariants as element
+use Rattle.meson_keywords.specs.declared.value_kinds.ElementKind.{ElementKind}
+use Rattle.meson_keywords.specs.declared.value_kinds.ElementKind.TheVariants as element
 use Rattle.meson_calls.specs.declared.refusal.Refusal.{Refusal}
 use Rattle.meson_calls.specs.declared.refusal.Refusal.TheVariants.{DuplicateKeyword, NotLiteral}
 use Rattle.meson_calls.specs.Keys.{name_of}
 use Rattle.meson_calls.specs.Project.{child}
 use Rattle.meson_calls.specs.Calls.{Numbered, numbered, kept_number, value_with_name}
 use Rattle.meson_calls.specs.Calls as calls
-use Rattle.meson_steps.specs.Steps.{step_in}
+use Rattle.meson_steps.specs.Steps.{step_in, Step}
 use Rattle.meson_steps.specs.Names.{distinct_by}
-use Rattle.meson_steps.specs.Steps.{Step}
-use Rattle.meson_keywords.specs.Keys.{written_element, written_list, written_named}
+use Rattle.meson_keywords.specs.ValueKinds.{written_element, written_list, written_named}
 
 -- ---- the keyword argument in hand
 

@@ -1,6 +1,6 @@
 pub mod Changing
 pub mod Effects
-pub mod Keys
+pub mod ValueKinds
 pub mod KeywordEdits
 pub mod Options
 pub mod TaskSteps

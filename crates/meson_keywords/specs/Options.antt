@@ -6,16 +6,15 @@ use Rattle.meson_splice.specs.Patch.{then_ok}
 use Rattle.meson_syntax.specs.Tree.{Nowhere, Expression, dictionary, Argument, plain, named, pair}
 use Rattle.meson_edit.specs.Edits.{Written, Remove, Replace, Wrap, elements}
 use Rattle.meson_calls.specs.declared.call.CallRef.{CallRef}
-use Rattle.meson_keywords.specs.declared.keys.ElementKind.TheVariants as element
+use Rattle.meson_keywords.specs.declared.value_kinds.ElementKind.TheVariants as element
 use Rattle.meson_calls.specs.declared.refusal.Refusal.{Refusal}
 use Rattle.meson_calls.specs.declared.refusal.Refusal.TheVariants.{NotLiteral}
 use Rattle.meson_calls.specs.Project.{child}
 use Rattle.meson_calls.specs.Calls.{Numbered}
 use Rattle.meson_calls.specs.Calls as calls
-use Rattle.meson_steps.specs.Steps.{step_in}
+use Rattle.meson_steps.specs.Steps.{step_in, Step}
 use Rattle.meson_steps.specs.WrittenTexts.{string_of, written_text}
-use Rattle.meson_steps.specs.Steps.{Step}
-use Rattle.meson_keywords.specs.Keys.{written_element, written_list, written_named}
+use Rattle.meson_keywords.specs.ValueKinds.{written_element, written_list, written_named}
 use Rattle.meson_keywords.specs.Tasks.{before_equals}
 use Rattle.meson_keywords.specs.KeywordEdits.{the_value, behind_all, removed_from, passing, text_in, element_text, all_of_kind, ValueShape, an_array, no_array, value_shape}
 

@@ -8,7 +8,7 @@ use Rattle.meson_calls.specs.declared.call.CallRef.{CallRef}
 use Rattle.meson_calls.specs.declared.refusal.Refusal.{Refusal}
 use Rattle.meson_calls.specs.Project.{Project, Placed}
 use Rattle.meson_calls.specs.Calls.{Call, keyword}
-use Rattle.meson_calls.specs.Keywords.{kwargs_key, not_hidden}
+use Rattle.meson_calls.specs.NamedArguments.{kwargs_key, not_hidden}
 use Rattle.meson_steps.specs.Steps.{Step, all_stepped}
 use Rattle.meson_keywords.specs.Tasks.{Task, set, delete, add, remove, once, set_option, delete_option}
 use Rattle.meson_keywords.specs.KeywordEdits.{set_steps, delete_steps, add_steps, remove_steps, once_steps}

@@ -15,8 +15,8 @@ use Rattle.meson_keywords.specs.declared.elements.NumberedValue.{NumberedValue}
 use Rattle.meson_keywords.specs.declared.elements.Subject.{Subject}
 use Rattle.meson_keywords.specs.declared.elements.Test.{Test}
 use Rattle.meson_keywords.specs.declared.elements.Test.TheVariants as test
-use Rattle.meson_keywords.specs.declared.keys.ElementKind.{ElementKind}
-use Rattle.meson_keywords.specs.declared.keys.ElementKind.TheVariants as element
+use Rattle.meson_keywords.specs.declared.value_kinds.ElementKind.{ElementKind}
+use Rattle.meson_keywords.specs.declared.value_kinds.ElementKind.TheVariants as element
 use Rattle.meson_calls.specs.declared.refusal.Refusal.{Refusal}
 use Rattle.meson_keywords.specs.declared.request.Request.{Request}
 use Rattle.meson_keywords.specs.declared.request.AskedWords.{AskedWords}

@@ -6,10 +6,10 @@ use Rattle.meson_syntax.specs.Tree.{Nowhere, Expression}
 use Rattle.meson_edit.specs.Edits.{Written, is_empty}
 use Rattle.meson_calls.specs.declared.call.Role.{Role}
 use Rattle.meson_steps.specs.declared.command.Setting.{Setting}
-use Rattle.meson_keywords.specs.declared.keys.ElementKind.{ElementKind}
+use Rattle.meson_keywords.specs.declared.value_kinds.ElementKind.{ElementKind}
 use Rattle.meson_calls.specs.declared.refusal.Refusal.{Refusal}
 use Rattle.meson_calls.specs.declared.refusal.Refusal.TheVariants.{BadName}
-use Rattle.meson_keywords.specs.Keys.{key_kind, list_kind, list_values, written_value}
+use Rattle.meson_keywords.specs.ValueKinds.{key_kind, list_kind, list_values, written_value}
 
 -- one change of a call
 pub data Task : Type 0 where

@@ -10,7 +10,7 @@ ghost use Rattle.meson_calls.specs.OnePlace.{the_place};
 ghost use Rattle.meson_calls.specs.Refusals.{IfRefused, RefusedAs};
 ghost use Rattle.meson_steps.specs.Done.{IsDone, MayNotBeDone};
 ghost use Rattle.meson_steps.specs.ResultLimits.{plain_trees};
-ghost use Rattle.meson_calls.specs.Keywords.{not_hidden, kept_args, kwargs_key};
+ghost use Rattle.meson_calls.specs.NamedArguments.{not_hidden, kept_args, kwargs_key};
 ghost use Rattle.meson_steps.specs.Steps as meant;
 ghost use Rattle.meson_steps.specs.Meanings.{AreMeant};
 ghost use Rattle.meson_steps.specs.Working.{IsFresh, Restores, so_far};

@@ -10,13 +10,13 @@ ghost use Rattle.meson_calls.specs.GoodLists.{GoodArgs};
 ghost use Rattle.meson_calls.specs.Keys.{name_of};
 ghost use Rattle.meson_keywords.specs.KeywordEdits.{all_of_kind, an_array, element_text, no_array, passing, says, value_shape, text_in, the_value};
 ghost use Rattle.meson_keywords.specs.Options.{entries, is_entry, keys_known};
-ghost use Rattle.meson_calls.specs.Picking.{Source};
+ghost use Rattle.meson_calls.specs.ChosenNotes.{Source};
 ghost use Rattle.meson_calls.specs.Refusals.{RefusedAs};
 ghost use Rattle.meson_steps.specs.Names.{distinct_by};
 ghost use Rattle.meson_calls.specs.Strings.{AreGood};
 ghost use Rattle.meson_keywords.specs.Tasking.{args_of, found_argument, test_of};
 
-use crate::keys::ElementKind;
+use crate::value_kinds::ElementKind;
 use crate::tasks::before_equals;
 use meson_calls::arguments::{count_named, first_named};
 use meson_calls::literals::literal;

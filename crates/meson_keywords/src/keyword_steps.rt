@@ -8,9 +8,8 @@ ghost use Rattle.meson_syntax.specs.Grammar.{expression_words};
 ghost use Rattle.meson_syntax.specs.View.{args_view, expr_view};
 ghost use Rattle.meson_calls.specs.GoodLists.{GoodArgs};
 ghost use Rattle.meson_calls.specs.Refusals.{RefusedAs};
-ghost use Rattle.meson_keywords.specs.KeywordEdits.{add_by_shape, add_steps, add_to_lone, all_behind, all_of_kind, behind_all, delete_steps, once_steps};
-ghost use Rattle.meson_keywords.specs.KeywordEdits.{passing, remove_by_shape, remove_equal, remove_steps, removed_from, says, set_steps, value_shape, text_in};
-ghost use Rattle.meson_keywords.specs.Keys.{written_element};
+ghost use Rattle.meson_keywords.specs.KeywordEdits.{add_by_shape, add_steps, add_to_lone, all_behind, all_of_kind, behind_all, delete_steps, once_steps, passing, remove_by_shape, remove_equal, remove_steps, removed_from, says, set_steps, value_shape, text_in};
+ghost use Rattle.meson_keywords.specs.ValueKinds.{written_element};
 ghost use Rattle.meson_steps.specs.ListSteps.{bare};
 ghost use Rattle.meson_steps.specs.inside.WrittenValues.{WrittenFor, value_written};
 ghost use Rattle.meson_calls.specs.Strings.{AreGood};
@@ -21,7 +20,7 @@ use crate::elements::{
     NumberedValue, Subject, Test, all_known, array_in, is_element, new_values, other_values,
     passing, says, the_value,
 };
-use crate::keys::ElementKind;
+use crate::value_kinds::ElementKind;
 use crate::writing::{written_element, written_list, written_named};
 use meson_calls::place::{copy_place, value_place};
 use meson_calls::roles::text_of_name;

@@ -3,10 +3,10 @@
 
 pub mod changing;
 mod elements;
-pub mod keys;
 mod keyword_steps;
 pub mod laws;
 mod option_steps;
 pub mod request;
 mod tasks;
+pub mod value_kinds;
 mod writing;

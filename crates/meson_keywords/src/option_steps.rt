@@ -8,11 +8,9 @@ ghost use Rattle.meson_calls.specs.GoodLists.{GoodArgs};
 ghost use Rattle.meson_calls.specs.Project.{child};
 ghost use Rattle.meson_calls.specs.Refusals.{IfRefused, RefusedAs};
 ghost use Rattle.meson_keywords.specs.KeywordEdits.{all_of_kind, passing, removed_from, value_shape};
-ghost use Rattle.meson_keywords.specs.Keys.{written_list, written_named};
+ghost use Rattle.meson_keywords.specs.ValueKinds.{written_list, written_named};
 ghost use Rattle.meson_steps.specs.ListSteps.{bare};
-ghost use Rattle.meson_keywords.specs.Options.{delete_by_shape, delete_by_value, delete_option_steps, entries, has_key, keys_known};
-ghost use Rattle.meson_keywords.specs.Options.{is_entry, is_entry_element, option_text, options_key};
-ghost use Rattle.meson_keywords.specs.Options.{set_by_shape, set_by_value, set_in_dictionary, set_in_list, set_in_lone, set_option_steps};
+ghost use Rattle.meson_keywords.specs.Options.{delete_by_shape, delete_by_value, delete_option_steps, entries, has_key, keys_known, is_entry, is_entry_element, option_text, options_key, set_by_shape, set_by_value, set_in_dictionary, set_in_list, set_in_lone, set_option_steps};
 ghost use Rattle.meson_calls.specs.Strings.{AreGood};
 ghost use Rattle.meson_steps.specs.Meanings.{AreBehind, AreMeant};
 ghost use Rattle.meson_keywords.specs.Tasking.{args_of, held_value, test_of};
@@ -21,7 +19,7 @@ use crate::elements::{
     NumberedValue, Subject, Test, all_known, array_in, entries_in, is_element, is_entry,
     keys_known, passing, the_value,
 };
-use crate::keys::ElementKind;
+use crate::value_kinds::ElementKind;
 use crate::keyword_steps::{not_literal, push_edit, put_behind, remove_all};
 use crate::writing::{written_element, written_list, written_literal, written_named, written_pair};
 use meson_calls::place::value_place;

@@ -4,11 +4,11 @@ ghost use Rattle.std.specs.Prelude.{◌≡◌, ◌++◌, ◌∷◌, [], IfOk, Ma
 ghost use Rattle.std.specs.Str.{IsUtf8};
 ghost use Rattle.meson_calls.specs.Refusals.{RefusedAs};
 ghost use Rattle.meson_splice.specs.Patch.{then_ok};
-ghost use Rattle.meson_keywords.specs.Keys as keys;
+ghost use Rattle.meson_keywords.specs.ValueKinds as keys;
 ghost use Rattle.meson_keywords.specs.Tasks.{add_entry, before_equals, checked_option, delete_entry, delete_option_entry, each_made, remove_entry, set_entry, set_option_entry};
 ghost use Rattle.meson_keywords.specs.Tasking.{AreTasks, AreTasksBehind, IsKey, words_tasks};
 
-use crate::keys::{ElementKind, kind_of, list_kind};
+use crate::value_kinds::{ElementKind, kind_of, list_kind};
 use crate::request::AskedWords;
 use crate::writing::{list_values, written_value};
 use meson_calls::{Refusal, Role};

@@ -4,12 +4,12 @@ ghost use Rattle.std.specs.Prelude.{◌≡◌, ◌++◌, ◌∷◌, [], All, IfE
 ghost use Rattle.std.specs.Str.{IsUtf8};
 ghost use Rattle.meson_calls.specs.Refusals.{RefusedAs};
 ghost use Rattle.meson_lex.specs.Literals.{literal};
-ghost use Rattle.meson_keywords.specs.Keys.{element_bytes, list_values, setting_texts, truth_text, truth_of, written_value};
+ghost use Rattle.meson_keywords.specs.ValueKinds.{element_bytes, list_values, setting_texts, truth_text, truth_of, written_value};
 ghost use Rattle.meson_steps.specs.inside.WrittenValues.{IsSet};
 ghost use Rattle.meson_steps.specs.WrittenTexts.{comma_between};
 ghost use Rattle.meson_keywords.specs.Tasking.{AreElements};
 
-use crate::keys::{ElementKind, ValueKind, are_elements};
+use crate::value_kinds::{ElementKind, ValueKind, are_elements};
 use meson_calls::Refusal;
 use meson_splice::{Bytes, Text};
 use meson_steps::command::Setting;

@@ -20,8 +20,8 @@ use Rattle.meson_calls.specs.Calls.{Call, call_of, keyword}
 use Rattle.meson_calls.specs.Finding.{the_call}
 use Rattle.meson_calls.specs.Loading.{Loaded, AreParsed, IsProject, project}
 use Rattle.meson_calls.specs.Project.{Project, Placed, placed}
-use Rattle.meson_variables.specs.Sources.{sources_of_marks, source_marks, sources, sources_of_call}
-use Rattle.meson_calls.specs.Keywords.{once, sources_key}
+use Rattle.meson_variables.specs.TargetSources.{sources_of_marks, source_marks, sources, sources_of_call}
+use Rattle.meson_calls.specs.NamedArguments.{once, sources_key}
 use Rattle.meson_sources.specs.Extras.{extra_files, extra_of_call}
 use Rattle.meson_sources.specs.SourceEdits.{extra_key, extra_marks}
 use Rattle.meson_steps.specs.declared.command.Command.{Command}

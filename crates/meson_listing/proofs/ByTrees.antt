@@ -13,7 +13,7 @@ use Rattle.meson_calls.specs.Finding.{the_call}
 use Rattle.meson_calls.specs.Loading.{Loaded, named_trees, trees}
 use Rattle.meson_calls.specs.Project.{Project}
 use Rattle.meson_calls.specs.CallPlaces.{call_at}
-use Rattle.meson_variables.specs.Sources.{sources}
+use Rattle.meson_variables.specs.TargetSources.{sources}
 use Rattle.meson_sources.specs.Extras.{extra_files}
 use Rattle.meson_details.specs.Details.{head, keywords_of_call}
 use Rattle.meson_listing.specs.Entries.{target_data, call_data}

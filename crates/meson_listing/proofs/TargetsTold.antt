@@ -12,7 +12,7 @@ use Rattle.meson_calls.specs.Calls.{Call}
 use Rattle.meson_calls.specs.Finding.{the_call}
 use Rattle.meson_calls.specs.Loading.{Loaded, project}
 use Rattle.meson_calls.specs.Project.{Project, Placed}
-use Rattle.meson_variables.specs.Sources.{sources}
+use Rattle.meson_variables.specs.TargetSources.{sources}
 use Rattle.meson_sources.specs.Extras.{extra_files, extra_of_call}
 use Rattle.meson_calls.proofs.CallsFound.{role_found}
 use Rattle.meson_details.specs.declared.details.Head.{Head}

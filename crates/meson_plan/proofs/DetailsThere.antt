@@ -14,7 +14,7 @@ use Rattle.meson_calls.specs.Loading.{Loaded, project}
 use Rattle.meson_calls.specs.NotedProjects.{IsNotedFor, loaded_in, project_in}
 use Rattle.meson_calls.specs.Notes.{note_views}
 use Rattle.meson_calls.specs.OnePlace.{the_place}
-use Rattle.meson_calls.specs.Picking.{call_with}
+use Rattle.meson_calls.specs.ChosenNotes.{call_with}
 use Rattle.meson_calls.specs.Project.{Project, Placed, placed, expression_at}
 use Rattle.meson_calls.specs.Refusals.{IfRefused, RefusedAs}
 use Rattle.meson_sources.specs.Extras.{extra_files, extra_of_call}

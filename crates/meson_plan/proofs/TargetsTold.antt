@@ -8,8 +8,8 @@ use Rattle.meson_syntax.specs.View.{list_view}
 use Rattle.meson_calls.specs.declared.refusal.Refusal.{Refusal}
 use Rattle.meson_calls.specs.declared.refusal.Refusal.TheVariants.{DuplicateKeyword}
 use Rattle.meson_calls.specs.Calls.{Call, value_with_name}
-use Rattle.meson_calls.specs.Keywords.{kept_args, sources_key}
-use Rattle.meson_calls.specs.Picking.{call_with}
+use Rattle.meson_calls.specs.NamedArguments.{kept_args, sources_key}
+use Rattle.meson_calls.specs.ChosenNotes.{call_with}
 use Rattle.meson_calls.specs.Refusals.{IfRefused, RefusedAs}
 use Rattle.meson_details.specs.Once.{only_once}
 use Rattle.meson_details.proofs.Told.{all_went, once_there, one_refused}

@@ -9,7 +9,7 @@ use Rattle.meson_calls.specs.Calls.{Call}
 use Rattle.meson_calls.specs.Finding.{the_call}
 use Rattle.meson_calls.specs.Project.{Project, Placed}
 use Rattle.meson_variables.specs.declared.source.Sources.{Sources}
-use Rattle.meson_variables.specs.Sources.{sources}
+use Rattle.meson_variables.specs.TargetSources.{sources}
 use Rattle.meson_sources.specs.Extras.{extra_files}
 use Rattle.meson_details.specs.Details.{head}
 use Rattle.meson_plan.specs.declared.details.TargetDetails.{TargetDetails}

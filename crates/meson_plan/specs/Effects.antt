@@ -9,7 +9,7 @@ use Rattle.meson_calls.specs.Calls.{Call}
 use Rattle.meson_calls.specs.Finding.{the_call}
 use Rattle.meson_calls.specs.Loading.{IsProject, Loaded, named_trees, project}
 use Rattle.meson_calls.specs.Project.{Placed}
-use Rattle.meson_variables.specs.Sources.{home, source_marks}
+use Rattle.meson_variables.specs.TargetSources.{home, source_marks}
 use Rattle.meson_keywords.specs.Effects.{AreAskedTexts, CallLeft}
 use Rattle.meson_keywords.specs.Tasking.{Asked, to_set, to_add, to_remove, to_delete, to_set_options, to_delete_options}
 use Rattle.meson_steps.specs.declared.command.Command.{Command}

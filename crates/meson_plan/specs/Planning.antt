@@ -9,7 +9,7 @@ use Rattle.meson_calls.specs.declared.refusal.Refusal.{Refusal}
 use Rattle.meson_calls.specs.Project.{Project}
 use Rattle.meson_calls.specs.Calls.{Call}
 use Rattle.meson_calls.specs.Finding.{the_call}
-use Rattle.meson_calls.specs.Keywords.{sources_key}
+use Rattle.meson_calls.specs.NamedArguments.{sources_key}
 use Rattle.meson_details.specs.Once.{call_told, only_once}
 use Rattle.meson_sources.specs.SourceEdits.{extra_key, sources_added, sources_removed, extra_added, extra_removed}
 use Rattle.meson_targets.specs.TargetEdits.{target_added, target_removed}

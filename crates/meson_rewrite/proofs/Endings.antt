@@ -7,7 +7,7 @@ use Rattle.meson_command.specs.declared.asked.Action.TheVariants as action
 use Rattle.meson_command.specs.declared.asked.Asked.{Asked}
 use Rattle.meson_command.specs.declared.fault.UsageFault.{UsageFault}
 use Rattle.meson_script.specs.declared.session.Session.{Session}
-use Rattle.meson_store.specs.Calls.{counted}
+use Rattle.meson_store.specs.StoreCalls.{counted}
 use Rattle.meson_store.proofs.Restoring.{CutLast, HasOld, each-map, puts-cut, restored, untold-restored}
 use Rattle.meson_store.specs.Commit.{AreReplaced, CommitFails, Put, TakenBack, put_all, put_at, puts}
 use Rattle.meson_store.specs.Content.{Content}

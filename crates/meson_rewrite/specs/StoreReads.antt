@@ -5,7 +5,7 @@ use Rattle.meson_command.specs.declared.asked.Action.TheVariants as action
 use Rattle.meson_command.specs.declared.asked.Asked.{Asked}
 use Rattle.meson_command.specs.declared.fault.UsageFault.{UsageFault}
 use Rattle.meson_splice.specs.declared.file_set.File.{File}
-use Rattle.meson_store.specs.Calls.{one_more}
+use Rattle.meson_store.specs.StoreCalls.{one_more}
 use Rattle.meson_store.specs.Content.{Content}
 use Rattle.meson_gathering.specs.Gathering.{Finds, whole}
 use Rattle.meson_gathering.specs.ReadCounts.{OnceAtMost, ReadsFiles, StopsReading}

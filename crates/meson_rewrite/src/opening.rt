@@ -9,7 +9,7 @@ ghost use Rattle.meson_rewrite.specs.Logs.{IsLog, log_name};
 ghost use Rattle.meson_rewrite.specs.Opening.{IsNoLog, Opens, OpensNone};
 ghost use Rattle.meson_rewrite.specs.StoreReads.{ReadsAtMost, ReadsWithLog};
 ghost use Rattle.meson_rewrite.specs.Stops.{WantsMemory};
-ghost use Rattle.meson_store.specs.Calls.{one_more};
+ghost use Rattle.meson_store.specs.StoreCalls.{one_more};
 ghost use Rattle.meson_gathering.specs.ReadCounts.{OnceAtMost};
 
 use crate::stop::Stop;

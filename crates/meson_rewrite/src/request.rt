@@ -8,7 +8,7 @@ ghost use Rattle.meson_rewrite.specs.Requests.{AsksFor, AsksForNone, IsBad, IsFi
 ghost use Rattle.meson_rewrite.specs.Lines.{version_line};
 ghost use Rattle.meson_rewrite.specs.StoreReads.{file_read};
 ghost use Rattle.meson_rewrite.specs.Stops.{WantsMemory};
-ghost use Rattle.meson_store.specs.Calls.{one_more};
+ghost use Rattle.meson_store.specs.StoreCalls.{one_more};
 ghost use Rattle.meson_gathering.specs.ReadCounts.{OnceAtMost};
 
 use crate::lines::version_text;

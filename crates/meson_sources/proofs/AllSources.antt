@@ -15,8 +15,8 @@ use Rattle.meson_calls.specs.Finding.{the_call}
 use Rattle.meson_calls.specs.Loading.{IsProject, Loaded, project}
 use Rattle.meson_calls.specs.Project.{Placed}
 use Rattle.meson_calls.specs.Roles.{one_of, target_functions}
-use Rattle.meson_variables.specs.Sources.{first_empty, first_list, home, or_call, or_option, source_marks, sources}
-use Rattle.meson_calls.specs.Keywords.{once, sources_key}
+use Rattle.meson_variables.specs.TargetSources.{first_empty, first_list, home, or_call, or_option, source_marks, sources}
+use Rattle.meson_calls.specs.NamedArguments.{once, sources_key}
 use Rattle.meson_steps.specs.Names.{checked_names}
 use Rattle.meson_steps.specs.ResultLimits.{plain_trees}
 use Rattle.meson_steps.specs.Steps.{Step, all_stepped}

@@ -15,7 +15,7 @@ use Rattle.meson_variables.specs.Expansion.{Mark, Expansion, Stand, is_files, is
 use Rattle.meson_calls.specs.Loading.{Loaded, project}
 use Rattle.meson_calls.specs.Project.{BuildFile, Placed, child, expression_at, nth_file}
 use Rattle.meson_calls.specs.Roles.{one_of}
-use Rattle.meson_calls.specs.Variables.{single}
+use Rattle.meson_variables.specs.Variables.{single}
 use Rattle.meson_steps.specs.ListSteps.{MayStandBetween}
 use Rattle.meson_steps.specs.ResultLimits.{plain_trees}
 use Rattle.meson_sources.proofs.Bares.{values_of}

@@ -9,7 +9,7 @@ use Rattle.meson_calls.specs.declared.call.CallRef.{CallRef}
 use Rattle.meson_variables.specs.Expansion.{Mark, known, opaque, empty, Expansion, Stand, both_expanded, met, element, operand_at, or_empty, within, is_files, has_names, is_plus, are_plus, is_operand_by, is_value_by, is_single_by, is_list_variable, is_list_operand, max_followed, literal_item, expand_by, expand_operands, expand_listing, expand_each, expand_argument, expand, follow_single, of_variable}
 use Rattle.meson_calls.specs.Project.{Project, Placed, placed}
 use Rattle.meson_calls.specs.Roles.{one_of}
-use Rattle.meson_calls.specs.Variables.{single}
+use Rattle.meson_variables.specs.Variables.{single}
 
 -- ---- what variables stand for
 

@@ -20,7 +20,7 @@ use Rattle.meson_calls.specs.Finding.{the_call}
 use Rattle.meson_calls.specs.Loading.{Loaded, project}
 use Rattle.meson_calls.specs.Project.{Placed, child}
 use Rattle.meson_calls.specs.Roles.{one_of, target_functions}
-use Rattle.meson_calls.specs.Variables.{single}
+use Rattle.meson_variables.specs.Variables.{single}
 use Rattle.meson_steps.specs.ListSteps.{MayStandBetween}
 use Rattle.meson_steps.specs.Names.{distinct}
 use Rattle.meson_steps.specs.ResultLimits.{plain_trees}

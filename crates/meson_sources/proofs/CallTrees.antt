@@ -11,8 +11,8 @@ use Rattle.meson_calls.specs.declared.call.CallRef.{CallRef}
 use Rattle.meson_calls.specs.Calls.{Numbered, kept_number, numbered, value_without_name, value_with_name}
 use Rattle.meson_variables.specs.Expansion.{Slot, in_list, fixed, Expansion, Stand, both_expanded, nothing_met}
 use Rattle.meson_calls.specs.Project.{child}
-use Rattle.meson_variables.specs.Sources.{list_of_slot}
-use Rattle.meson_calls.specs.Keywords.{rest, sources_key}
+use Rattle.meson_variables.specs.TargetSources.{list_of_slot}
+use Rattle.meson_calls.specs.NamedArguments.{rest, sources_key}
 use Rattle.meson_sources.proofs.MarkLists.{below, below_child}
 use Rattle.meson_sources.proofs.Outcomes.{Outcome, Along, joined, nothing_both, still, along_same, along_first, along_behind}
 use Rattle.meson_sources.proofs.PartsPut.{Differ}

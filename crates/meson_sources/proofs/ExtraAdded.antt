@@ -16,7 +16,7 @@ use Rattle.meson_calls.specs.declared.refusal.Refusal.{Refusal}
 use Rattle.meson_variables.specs.Expansion.{Mark}
 use Rattle.meson_calls.specs.Loading.{IsProject, Loaded, project}
 use Rattle.meson_calls.specs.Project.{Placed, child}
-use Rattle.meson_variables.specs.Sources.{first_empty, first_list, or_option}
+use Rattle.meson_variables.specs.TargetSources.{first_empty, first_list, or_option}
 use Rattle.meson_steps.specs.ListSteps.{MayStandBetween}
 use Rattle.meson_steps.specs.ResultLimits.{plain_trees}
 use Rattle.meson_steps.specs.Steps.{Step, all_stepped, step_in, stepped}

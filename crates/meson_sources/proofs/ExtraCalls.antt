@@ -9,7 +9,7 @@ use Rattle.meson_syntax.specs.Children.{an_expression, arguments_parts}
 use Rattle.meson_syntax.specs.Tree.{bare_name, Nowhere, Name, Expression, Argument, plain, named, pair, Arguments, no_arguments, argument}
 use Rattle.meson_calls.specs.declared.call.CallRef.{CallRef}
 use Rattle.meson_variables.specs.Expansion.{fixed, in_list, both_expanded}
-use Rattle.meson_calls.specs.Keywords.{rest, sources_key}
+use Rattle.meson_calls.specs.NamedArguments.{rest, sources_key}
 use Rattle.meson_sources.specs.SourceEdits.{extra_key}
 use Rattle.meson_sources.proofs.CallTrees.{Expand, keyed, keys, list_with, plains, whole}
 use Rattle.meson_sources.proofs.Shapes.{blank, blanks}

@@ -16,13 +16,12 @@ use Rattle.meson_steps.specs.ListSteps.{MayStandBetween, AreDoable, none}
 use Rattle.meson_calls.specs.Loading.{Loaded, AreParsed, project}
 use Rattle.meson_steps.specs.ResultLimits.{plain_trees}
 use Rattle.meson_calls.specs.Project.{Project, Placed, child}
-use Rattle.meson_steps.specs.Steps.{step_in}
+use Rattle.meson_steps.specs.Steps.{step_in, Step}
 use Rattle.meson_sources.specs.SourceEdits.{checked_extra, extra_key, extra_marks, new_names, insertion_steps, inserted_in, written_keyword, elements_there, into_new_list, behind_value, without_home, extra_inserted}
 use Rattle.meson_steps.specs.Names.{checked_names}
-use Rattle.meson_calls.specs.Keywords.{not_hidden, kwargs_key, once}
-use Rattle.meson_variables.specs.Sources.{first_list, first_empty, or_option}
+use Rattle.meson_calls.specs.NamedArguments.{not_hidden, kwargs_key, once}
+use Rattle.meson_variables.specs.TargetSources.{first_list, first_empty, or_option}
 use Rattle.meson_sources.proofs.Standings.{MarkStands, TargetThere, ExtrasMayBeAdded}
-use Rattle.meson_steps.specs.Steps.{Step}
 use Rattle.meson_sources.proofs.Homes.{Home, marked_home, home_doable, all_stand}
 use Rattle.meson_steps.proofs.PlainTrees.{tree_is}
 use Rattle.meson_sources.proofs.KeywordText.{keyword_written}

@@ -14,12 +14,12 @@ use Rattle.meson_calls.specs.declared.refusal.Refusal.{Refusal}
 use Rattle.meson_steps.specs.declared.step.ListStep.{ListStep}
 use Rattle.meson_calls.specs.Calls.{Call, Numbered, keyword, value_with_name, literal_of}
 use Rattle.meson_variables.specs.Expansion.{max_followed}
-use Rattle.meson_calls.specs.Keywords.{IsFirstNamed, kept_args}
+use Rattle.meson_calls.specs.NamedArguments.{IsFirstNamed, kept_args}
 use Rattle.meson_steps.specs.ListSteps.{bare}
 use Rattle.meson_sources.specs.inside.Naming.{new_among}
-use Rattle.meson_calls.specs.Picking.{placed_call}
+use Rattle.meson_calls.specs.ChosenNotes.{placed_call}
 use Rattle.meson_calls.specs.Project.{Project, Placed}
-use Rattle.meson_variables.specs.Sources.{or_option, first_list, first_empty}
+use Rattle.meson_variables.specs.TargetSources.{or_option, first_list, first_empty}
 use Rattle.meson_sources.specs.SourceEdits.{extra_key, checked_extra, extra_added, extra_inserted, without_home, into_new_list, behind_value, insertion_steps, inserted_in, plain_len, elements_there, new_names}
 use Rattle.meson_variables.specs.Tallies.{Tally}
 use Rattle.meson_sources.specs.Targeted.{extra_gathered, lone_or_new, new_list_steps}

@@ -11,10 +11,10 @@ use Rattle.meson_steps.specs.declared.step.ListStep.{ListStep}
 use Rattle.meson_calls.specs.Project.{Project, Placed}
 use Rattle.meson_calls.specs.Calls.{Call, keyword, value_with_name}
 use Rattle.meson_variables.specs.Expansion.{Mark, fixed, max_followed}
-use Rattle.meson_calls.specs.Picking.{placed_call}
+use Rattle.meson_calls.specs.ChosenNotes.{placed_call}
 use Rattle.meson_sources.specs.inside.CodeSpots.{spots_of_names}
-use Rattle.meson_calls.specs.Keywords.{kwargs_key, once, kept_args, not_hidden}
-use Rattle.meson_variables.specs.Sources.{expand_arguments}
+use Rattle.meson_calls.specs.NamedArguments.{kwargs_key, once, kept_args, not_hidden}
+use Rattle.meson_variables.specs.TargetSources.{expand_arguments}
 use Rattle.meson_sources.specs.SourceEdits.{extra_key, extra_marks, checked_extra, spots_named, removed_at, extra_removed}
 use Rattle.meson_steps.specs.Names.{checked_names, distinct}
 use Rattle.meson_steps.specs.Steps.{Step}

@@ -9,10 +9,10 @@ use Rattle.meson_variables.specs.declared.source.Sources.{Sources}
 use Rattle.meson_calls.specs.declared.refusal.Refusal.TheVariants.{DuplicateKeyword}
 use Rattle.meson_calls.specs.Calls.{value_with_name}
 use Rattle.meson_variables.specs.Expansion.{Mark, max_followed}
-use Rattle.meson_calls.specs.Picking.{placed_call}
+use Rattle.meson_calls.specs.ChosenNotes.{placed_call}
 use Rattle.meson_calls.specs.Project.{Project}
-use Rattle.meson_calls.specs.Keywords.{kept_args, once}
-use Rattle.meson_variables.specs.Sources.{sources_of_marks, first_empty, first_list, opaque_count, or_call, or_option}
+use Rattle.meson_calls.specs.NamedArguments.{kept_args, once}
+use Rattle.meson_variables.specs.TargetSources.{sources_of_marks, first_empty, first_list, opaque_count, or_call, or_option}
 use Rattle.meson_variables.specs.Tallies.{Tally}
 use Rattle.meson_sources.specs.Extras.{extra_of_call}
 use Rattle.meson_sources.specs.SourceEdits.{extra_key, extra_marks}

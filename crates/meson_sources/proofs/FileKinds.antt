@@ -12,8 +12,8 @@ use Rattle.meson_calls.specs.declared.call.CallRef.{CallRef}
 use Rattle.meson_calls.specs.Calls.{Call, Numbered, call_of}
 use Rattle.meson_variables.specs.Expansion.{Expansion, Mark, fixed, in_list, max_followed, then_expand}
 use Rattle.meson_calls.specs.Project.{Placed, Project, placed}
-use Rattle.meson_variables.specs.Sources.{expand_arguments, first_empty, first_list, hidden, or_option, source_marks, sources, sources_of_call, sources_of_marks}
-use Rattle.meson_calls.specs.Keywords.{kwargs_key, once, rest, sources_key}
+use Rattle.meson_variables.specs.TargetSources.{expand_arguments, first_empty, first_list, hidden, or_option, source_marks, sources, sources_of_call, sources_of_marks}
+use Rattle.meson_calls.specs.NamedArguments.{kwargs_key, once, rest, sources_key}
 use Rattle.meson_sources.specs.Extras.{extra_files, extra_of_call}
 use Rattle.meson_sources.specs.SourceEdits.{extra_key, extra_marks}
 use Rattle.meson_sources.specs.WholeSources.{Reading}

@@ -8,7 +8,7 @@ use Rattle.meson_calls.specs.declared.call.CallRef.{CallRef}
 use Rattle.meson_variables.specs.Expansion.{Mark, opaque, Expansion, Stand, met, are_plus, is_operand_by, is_value_by, is_single_by, max_followed, expand_by, follow_single, of_variable}
 use Rattle.meson_calls.specs.Project.{Placed, child}
 use Rattle.meson_calls.specs.Roles.{one_of}
-use Rattle.meson_variables.specs.Sources.{list_of_slot}
+use Rattle.meson_variables.specs.TargetSources.{list_of_slot}
 use Rattle.meson_sources.proofs.Bares.{Values, list_by, lists_by, expand_with}
 use Rattle.meson_sources.proofs.MarkLists.{below}
 use Rattle.meson_sources.proofs.Outcomes.{Either, as_before, grown, How, stays, comes, Outcome, Along, opaque_both}

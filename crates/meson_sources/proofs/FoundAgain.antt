@@ -16,7 +16,8 @@ use Rattle.meson_calls.specs.Finding.{only_one, the_call}
 use Rattle.meson_calls.specs.Parts.{Part, parts}
 use Rattle.meson_calls.specs.Parts as part
 use Rattle.meson_calls.specs.Project.{BuildFile, Placed, Project, placed, child, nth_file, place}
-use Rattle.meson_calls.specs.Roles.{has_role, is_target_call, or_else, part_set_to, set_to, value_of_assignment, with_name, with_role}
+use Rattle.meson_calls.specs.Roles.{has_role, is_target_call, with_role}
+use Rattle.meson_calls.specs.Naming.{or_else, part_set_to, set_to, value_of_assignment, with_name}
 use Rattle.meson_calls.proofs.CallsReached.{InProject, every_chosen, every_part}
 use Rattle.meson_calls.proofs.PartsContained.{all_has}
 use Rattle.meson_calls.proofs.Reached.{any}

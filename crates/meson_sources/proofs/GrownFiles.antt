@@ -10,7 +10,7 @@ use Rattle.meson_calls.specs.Calls.{Numbered}
 use Rattle.meson_variables.specs.Expansion.{Item}
 use Rattle.meson_calls.specs.Loading.{Loaded, project}
 use Rattle.meson_calls.specs.Project.{Project}
-use Rattle.meson_variables.specs.Sources.{hidden, items, source_item, sources_of_marks}
+use Rattle.meson_variables.specs.TargetSources.{hidden, items, source_item, sources_of_marks}
 use Rattle.meson_steps.specs.ResultLimits.{plain_trees}
 use Rattle.meson_sources.specs.WholeSources.{Reading, TextsCome, source_texts}
 use Rattle.meson_sources.proofs.CallForms.{CallIn, CallNode, bare_arguments, call_again, called}

@@ -13,8 +13,8 @@ use Rattle.meson_calls.specs.declared.call.CallRef.{CallRef}
 use Rattle.meson_variables.specs.Expansion.{in_list, fixed, Mark, known, opaque, Expansion, Stand, both_expanded, nothing_met, met, element, within, is_files, has_names, literal_item, expand_by, expand_each}
 use Rattle.meson_calls.specs.Project.{child}
 use Rattle.meson_calls.specs.Roles.{one_of}
-use Rattle.meson_variables.specs.Sources.{list_of_slot}
-use Rattle.meson_calls.specs.Keywords.{rest}
+use Rattle.meson_variables.specs.TargetSources.{list_of_slot}
+use Rattle.meson_calls.specs.NamedArguments.{rest}
 use Rattle.meson_steps.specs.WrittenTexts.{string_of}
 use Rattle.meson_sources.specs.Effects.{strings}
 use Rattle.meson_sources.specs.SourceEdits.{is_plain}

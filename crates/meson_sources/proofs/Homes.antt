@@ -16,7 +16,7 @@ use Rattle.meson_calls.specs.Loading.{Loaded, AreParsed, project}
 use Rattle.meson_steps.specs.ResultLimits.{plain_trees}
 use Rattle.meson_calls.specs.Project.{Project}
 use Rattle.meson_sources.specs.SourceEdits.{insertion_steps, inserted_in, plain_len, elements_there}
-use Rattle.meson_variables.specs.Sources.{first_list, first_empty, list_of_slot, or_option}
+use Rattle.meson_variables.specs.TargetSources.{first_list, first_empty, list_of_slot, or_option}
 use Rattle.meson_calls.specs.CallPlaces.{ListThere}
 use Rattle.meson_sources.proofs.Standings.{StringThere, NothingThere, SlotStands, MarkStands}
 use Rattle.meson_steps.proofs.Insertable.{Room}

@@ -18,7 +18,7 @@ use Rattle.meson_calls.specs.Calls.{Numbered}
 use Rattle.meson_variables.specs.Expansion.{Slot, in_list, fixed, Mark, known, opaque, empty, Expansion, Stand, met, element, operand_at, or_empty, is_files, are_plus, literal_item, expand_by, expand_operands, expand_listing, expand_each, follow_single, max_followed, of_variable}
 use Rattle.meson_calls.specs.Project.{Placed, child}
 use Rattle.meson_calls.specs.Roles.{one_of}
-use Rattle.meson_calls.specs.Keywords.{rest, sources_key}
+use Rattle.meson_calls.specs.NamedArguments.{rest, sources_key}
 use Rattle.meson_sources.proofs.Bares.{Values, expand_with, lists_by}
 use Rattle.meson_sources.proofs.CallTrees.{keyed, list_with, plains, whole}
 use Rattle.meson_sources.proofs.ElementsThere.{root}

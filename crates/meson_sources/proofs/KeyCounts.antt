@@ -3,7 +3,7 @@ use Rattle.std.specs.Prelude.{bytes_eq, if◌then◌else◌, option_map, Ok}
 use Rattle.std.specs.List.{cons_option}
 use Rattle.std.proofs.Common.{◌≡◌, ℕ, suc, ◌+◌, ◌≤◌, Bool, true, false, List, [], ◌∷◌, ◌++◌, length, Some, None, refl, ap, ap₂, arith}
 use Rattle.meson_syntax.specs.Tree.{Nowhere, Name, Expression, Argument, plain, named, pair, Arguments, no_arguments, argument, arguments_of, erase_arguments}
-use Rattle.meson_calls.specs.Keywords.{once}
+use Rattle.meson_calls.specs.NamedArguments.{once}
 use Rattle.meson_sources.specs.Effects.{strings}
 use Rattle.meson_sources.proofs.CallTrees.{keyed}
 use Rattle.meson_sources.proofs.Shapes.{blanks}

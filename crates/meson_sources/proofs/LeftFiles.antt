@@ -12,7 +12,7 @@ use Rattle.meson_variables.specs.Expansion.{Item, Mark, known, opaque, empty}
 use Rattle.meson_calls.specs.Loading.{Loaded, project}
 use Rattle.meson_calls.specs.Project.{Project}
 use Rattle.meson_calls.specs.Roles.{one_of}
-use Rattle.meson_variables.specs.Sources.{hidden, items, opaque_count, sources_of_marks}
+use Rattle.meson_variables.specs.TargetSources.{hidden, items, opaque_count, sources_of_marks}
 use Rattle.meson_steps.specs.ResultLimits.{plain_trees}
 use Rattle.meson_sources.specs.WholeSources.{Reading, source_texts}
 use Rattle.meson_sources.proofs.Bares.{bare_mark}

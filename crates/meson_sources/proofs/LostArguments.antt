@@ -10,7 +10,7 @@ use Rattle.meson_calls.specs.declared.call.CallRef.{CallRef}
 use Rattle.meson_calls.specs.Calls.{Numbered}
 use Rattle.meson_variables.specs.Expansion.{in_list, fixed, Expansion, Stand, both_expanded, literal_item}
 use Rattle.meson_calls.specs.Project.{child}
-use Rattle.meson_calls.specs.Keywords.{rest, sources_key}
+use Rattle.meson_calls.specs.NamedArguments.{rest, sources_key}
 use Rattle.meson_sources.proofs.CallTrees.{Expand, keyed, list_with, plains, whole}
 use Rattle.meson_sources.proofs.KeyCounts.{key_count}
 use Rattle.meson_sources.proofs.Losses.{Loses, EachLoses}

@@ -3,7 +3,7 @@ use Rattle.std.proofs.Common.{◌≡◌, ℕ, List, [], ◌∷◌, ◌++◌, app
 use Rattle.meson_calls.specs.declared.call.CallRef.{CallRef}
 use Rattle.meson_variables.specs.Expansion.{Mark, known, opaque, empty}
 use Rattle.meson_calls.specs.Project.{place, child}
-use Rattle.meson_variables.specs.Sources.{list_of_slot}
+use Rattle.meson_variables.specs.TargetSources.{list_of_slot}
 
 abbrev pub list_of_mark : {S : Type 0} → Mark S → Option CallRef
 list_of_mark (known i) = list_of_slot i.slot

@@ -7,7 +7,7 @@ use Rattle.meson_lex.specs.declared.kinds.Span.{Span}
 use Rattle.meson_splice.specs.Patch.{then_ok}
 use Rattle.meson_variables.specs.Expansion.{Slot, in_list, fixed, Item, Mark}
 use Rattle.meson_sources.specs.inside.CodeSpots.{spot_if_there, spots_at, all_there, spots_from, spots_of_names}
-use Rattle.meson_variables.specs.Sources.{items, opaque_count, first_list, first_empty, list_of_slot, source_item}
+use Rattle.meson_variables.specs.TargetSources.{items, opaque_count, first_list, first_empty, list_of_slot, source_item}
 use Rattle.meson_sources.specs.SourceEdits.{new_names, has_text, is_known, items_of, Spot, spot_of, spots_of, spots_by, spots_named, removable}
 use Rattle.meson_steps.specs.Names.{distinct}
 use Rattle.meson_sources.specs.inside.Naming.{has_value, new_among}

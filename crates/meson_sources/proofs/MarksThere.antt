@@ -11,9 +11,10 @@ use Rattle.meson_variables.specs.Expansion.{Slot, opaque, Stand, Expansion, is_l
 use Rattle.meson_calls.specs.Parts.{Part, parts}
 use Rattle.meson_calls.specs.Parts as part
 use Rattle.meson_calls.specs.Project.{Project, Placed, placed, child, expression_at}
-use Rattle.meson_variables.specs.Sources.{expand_arguments}
+use Rattle.meson_variables.specs.TargetSources.{expand_arguments}
 use Rattle.meson_sources.proofs.Standings.{MarkStands}
-use Rattle.meson_calls.specs.Variables.{Assigned, is_set, assigned_by, part_assigned, assignments, is_outermost, only_value, all_known, is_set_otherwise, single}
+use Rattle.meson_variables.specs.Variables.{Assigned, assigned_by, part_assigned, assignments, is_outermost, only_value, all_known, is_set_otherwise, single}
+use Rattle.meson_calls.specs.Notes.{is_set}
 use Rattle.meson_calls.proofs.CallsReached.{every_chosen, InProject, every_part}
 use Rattle.meson_sources.proofs.ElementsAt.{AreLevel}
 use Rattle.meson_calls.proofs.ExpressionsAt.{assigned_stands}

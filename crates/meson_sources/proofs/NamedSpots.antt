@@ -10,7 +10,7 @@ use Rattle.meson_syntax.proofs.parsing.Steps.{some-injective}
 use Rattle.meson_syntax.proofs.paths.Every.{Every, every-append}
 use Rattle.meson_syntax.proofs.paths.Reaching.{and-then-some, map-some}
 use Rattle.meson_variables.specs.Expansion.{Item, Mark, Slot, fixed, in_list}
-use Rattle.meson_variables.specs.Sources.{items, opaque_count}
+use Rattle.meson_variables.specs.TargetSources.{items, opaque_count}
 use Rattle.meson_steps.proofs.WentWell.{then_was}
 use Rattle.meson_sources.specs.Effects.{AreSpotsOf, has_one_of, is_at}
 use Rattle.meson_sources.specs.SourceEdits.{Spot, has_text, items_of, removable, spot_of, spots_by, spots_named, spots_of}

@@ -13,8 +13,9 @@ use Rattle.meson_calls.specs.declared.call.CallRef.{CallRef}
 use Rattle.meson_calls.specs.Parts.{Part, parts}
 use Rattle.meson_calls.specs.Parts as part
 use Rattle.meson_calls.specs.Project.{BuildFile, Project, Placed, placed, child, nth_file}
-use Rattle.meson_variables.specs.Sources.{or_option}
-use Rattle.meson_calls.specs.Variables.{Assigned, is_set, part_assigned, assigned_by, assignments, is_outermost, only_value, is_set_otherwise, all_known, single}
+use Rattle.meson_variables.specs.TargetSources.{or_option}
+use Rattle.meson_variables.specs.Variables.{Assigned, part_assigned, assigned_by, assignments, is_outermost, only_value, is_set_otherwise, all_known, single}
+use Rattle.meson_calls.specs.Notes.{is_set}
 use Rattle.meson_calls.proofs.CallsReached.{InProject, every_chosen, every_part}
 use Rattle.meson_calls.proofs.Reached.{any}
 

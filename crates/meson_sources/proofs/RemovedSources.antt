@@ -14,8 +14,8 @@ use Rattle.meson_calls.specs.Loading.{Loaded, AreParsed, project}
 use Rattle.meson_steps.specs.ListSteps.{AreDoable}
 use Rattle.meson_steps.specs.ResultLimits.{plain_trees}
 use Rattle.meson_calls.specs.Project.{Project, Placed}
-use Rattle.meson_variables.specs.Sources.{items, opaque_count, source_marks}
-use Rattle.meson_calls.specs.Keywords.{once, sources_key, kwargs_key, not_hidden}
+use Rattle.meson_variables.specs.TargetSources.{items, opaque_count, source_marks}
+use Rattle.meson_calls.specs.NamedArguments.{once, sources_key, kwargs_key, not_hidden}
 use Rattle.meson_calls.specs.Calls as calls
 use Rattle.meson_sources.specs.SourceEdits.{Spot, spot_of, spots_of, spots_by, spots_named, removable, items_of, has_text, distinct_spots, removal_steps, removed_at, extra_marks, extra_key, checked_extra}
 use Rattle.meson_steps.specs.Names.{distinct, checked_names}

@@ -8,7 +8,7 @@ use Rattle.meson_calls.specs.declared.call.CallRef.{CallRef}
 use Rattle.meson_variables.specs.Expansion.{Slot, in_list, opaque, Expansion, Stand, both_expanded, met, element, operand_at, is_files, are_plus, literal_item, expand_by, expand_operands, expand_listing, expand_each, expand_argument}
 use Rattle.meson_calls.specs.Project.{child}
 use Rattle.meson_calls.specs.Roles.{one_of}
-use Rattle.meson_variables.specs.Sources.{list_of_slot}
+use Rattle.meson_variables.specs.TargetSources.{list_of_slot}
 use Rattle.meson_sources.proofs.Outcomes.{Outcome, stays, joined, nothing_both, opaque_both, outcome_within}
 
 -- a place from which no bad list is met

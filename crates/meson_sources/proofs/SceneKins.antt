@@ -12,7 +12,7 @@ use Rattle.meson_variables.specs.Expansion.{is_files, is_operand_by, is_value_by
 use Rattle.meson_calls.specs.Loading.{Loaded, project}
 use Rattle.meson_calls.specs.Project.{Placed, place, child}
 use Rattle.meson_calls.specs.Roles.{one_of}
-use Rattle.meson_calls.specs.Variables.{single}
+use Rattle.meson_variables.specs.Variables.{single}
 use Rattle.meson_steps.specs.ListSteps.{MayStandBetween}
 use Rattle.meson_steps.specs.ResultLimits.{plain_trees}
 use Rattle.meson_sources.proofs.Bares.{bare_value, values_of}

@@ -14,7 +14,7 @@ use Rattle.meson_calls.specs.declared.call.CallRef.{CallRef}
 use Rattle.meson_calls.specs.Loading.{Loaded, named_trees, project, trees}
 use Rattle.meson_calls.specs.Parts.{parts_of_file, parts_from}
 use Rattle.meson_calls.specs.Project.{BuildFile, Placed, child, expression_at, nth_file, place}
-use Rattle.meson_calls.specs.Variables.{single}
+use Rattle.meson_variables.specs.Variables.{single}
 use Rattle.meson_steps.specs.ResultLimits.{plain_trees}
 use Rattle.meson_steps.proofs.PlainTrees.{tree_there}
 use Rattle.meson_sources.proofs.ErasedNodes.{bare_node, expression_node, node_with_spans}

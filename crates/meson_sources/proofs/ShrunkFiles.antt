@@ -16,8 +16,8 @@ use Rattle.meson_calls.specs.Finding.{the_call}
 use Rattle.meson_calls.specs.Loading.{IsProject, Loaded, project}
 use Rattle.meson_calls.specs.Project.{Placed, placed}
 use Rattle.meson_calls.specs.Roles.{one_of, target_functions}
-use Rattle.meson_variables.specs.Sources.{hidden, items, source_marks}
-use Rattle.meson_calls.specs.Keywords.{once, sources_key}
+use Rattle.meson_variables.specs.TargetSources.{hidden, items, source_marks}
+use Rattle.meson_calls.specs.NamedArguments.{once, sources_key}
 use Rattle.meson_steps.specs.ListSteps.{MayStandBetween}
 use Rattle.meson_steps.specs.Names.{checked_names, distinct}
 use Rattle.meson_steps.specs.ResultLimits.{plain_trees}

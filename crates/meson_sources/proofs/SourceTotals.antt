@@ -10,8 +10,8 @@ use Rattle.meson_calls.specs.declared.call.CallRef.{CallRef}
 use Rattle.meson_calls.specs.Calls.{Numbered}
 use Rattle.meson_variables.specs.Expansion.{Slot, in_list, fixed, Mark, known, opaque, empty, Expansion, both_expanded, then_expand, expand, max_followed}
 use Rattle.meson_calls.specs.Project.{Project, child}
-use Rattle.meson_calls.specs.Keywords.{rest, sources_key}
-use Rattle.meson_variables.specs.Sources.{expand_arguments, first_list, first_empty, hidden, list_of_slot, or_option}
+use Rattle.meson_calls.specs.NamedArguments.{rest, sources_key}
+use Rattle.meson_variables.specs.TargetSources.{expand_arguments, first_list, first_empty, hidden, list_of_slot, or_option}
 use Rattle.meson_sources.proofs.Bares.{bare_mark, bare, both_bare, expand_with, expand_bare, values_of}
 use Rattle.meson_sources.proofs.CallTrees.{keyed, keys, list_with, plains, whole}
 use Rattle.meson_sources.proofs.Gists.{gist}

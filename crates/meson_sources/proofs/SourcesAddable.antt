@@ -15,8 +15,8 @@ use Rattle.meson_steps.specs.ResultLimits.{plain_trees}
 use Rattle.meson_calls.specs.Project.{Project, Placed}
 use Rattle.meson_sources.specs.SourceEdits.{is_known, new_names, inserted_in}
 use Rattle.meson_steps.specs.Names.{checked_names, distinct}
-use Rattle.meson_calls.specs.Keywords.{sources_key, once}
-use Rattle.meson_variables.specs.Sources.{source_marks, first_list, first_empty, or_option, or_call, home}
+use Rattle.meson_calls.specs.NamedArguments.{sources_key, once}
+use Rattle.meson_variables.specs.TargetSources.{source_marks, first_list, first_empty, or_option, or_call, home}
 use Rattle.meson_sources.proofs.Standings.{MarkStands, TargetThere, SourcesMayBeAdded}
 use Rattle.meson_sources.proofs.Homes.{Home, marked_home, home_doable}
 use Rattle.meson_sources.proofs.PlainCounts.{plain_count}

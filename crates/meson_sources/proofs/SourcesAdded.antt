@@ -13,8 +13,8 @@ use Rattle.meson_edit.specs.Edits.{Edit, First, After, edited, edited_elements, 
 use Rattle.meson_calls.specs.declared.call.CallRef.{CallRef}
 use Rattle.meson_calls.specs.Calls.{keyword}
 use Rattle.meson_calls.specs.Loading.{IsProject, Loaded, project}
-use Rattle.meson_variables.specs.Sources.{home, source_marks}
-use Rattle.meson_calls.specs.Keywords.{once, sources_key}
+use Rattle.meson_variables.specs.TargetSources.{home, source_marks}
+use Rattle.meson_calls.specs.NamedArguments.{once, sources_key}
 use Rattle.meson_calls.proofs.ListNodes.{values_no_pairs}
 use Rattle.meson_steps.specs.ListSteps.{MayStandBetween}
 use Rattle.meson_steps.specs.Names.{checked_names}

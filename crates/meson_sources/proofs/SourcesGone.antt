@@ -9,8 +9,8 @@ use Rattle.meson_calls.specs.Calls as calls
 use Rattle.meson_variables.specs.Expansion.{Mark}
 use Rattle.meson_calls.specs.Project.{place}
 use Rattle.meson_calls.specs.Loading.{IsProject, Loaded, project}
-use Rattle.meson_calls.specs.Keywords.{once, sources_key}
-use Rattle.meson_variables.specs.Sources.{source_marks}
+use Rattle.meson_calls.specs.NamedArguments.{once, sources_key}
+use Rattle.meson_variables.specs.TargetSources.{source_marks}
 use Rattle.meson_steps.specs.Names.{checked_names, distinct}
 use Rattle.meson_steps.specs.ResultLimits.{plain_trees}
 use Rattle.meson_steps.specs.Steps.{Step, all_stepped}

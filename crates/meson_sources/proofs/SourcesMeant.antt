@@ -13,11 +13,11 @@ use Rattle.meson_calls.specs.Calls.{Call, keyword, value_with_name}
 use Rattle.meson_variables.specs.Expansion.{Mark, max_followed}
 use Rattle.meson_steps.specs.ListSteps.{bare}
 use Rattle.meson_sources.specs.inside.Naming.{new_among}
-use Rattle.meson_calls.specs.Picking.{placed_call}
+use Rattle.meson_calls.specs.ChosenNotes.{placed_call}
 use Rattle.meson_sources.specs.inside.CodeSpots.{spots_of_names}
-use Rattle.meson_calls.specs.Keywords.{sources_key, once, kept_args}
-use Rattle.meson_variables.specs.Sources.{source_marks, home, or_call, or_option, first_list}
-use Rattle.meson_variables.specs.Sourced.{all_gathered}
+use Rattle.meson_calls.specs.NamedArguments.{sources_key, once, kept_args}
+use Rattle.meson_variables.specs.TargetSources.{source_marks, home, or_call, or_option, first_list}
+use Rattle.meson_variables.specs.ExpandedArguments.{all_gathered}
 use Rattle.meson_sources.specs.SourceEdits.{new_names, insertion_steps, plain_len, spots_named, removed_at, sources_added, sources_removed}
 use Rattle.meson_steps.specs.Names.{checked_names, distinct}
 use Rattle.meson_variables.specs.Tallies.{Tally}

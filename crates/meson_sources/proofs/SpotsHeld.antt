@@ -12,7 +12,7 @@ use Rattle.meson_syntax.proofs.paths.Every.{Every}
 use Rattle.meson_calls.specs.declared.call.CallRef.{CallRef}
 use Rattle.meson_variables.specs.Expansion.{Item, Mark, known, opaque, empty, Slot, in_list, fixed}
 use Rattle.meson_calls.specs.Roles.{one_of}
-use Rattle.meson_variables.specs.Sources.{items}
+use Rattle.meson_variables.specs.TargetSources.{items}
 use Rattle.meson_steps.specs.Names.{distinct}
 use Rattle.meson_sources.specs.Effects.{AreSpotsOf, goes, has_one_of, is_at, spot_at}
 use Rattle.meson_sources.specs.SourceEdits.{Spot, distinct_spots, same_spot}

@@ -13,7 +13,7 @@ use Rattle.meson_calls.specs.declared.refusal.Refusal.{Refusal}
 use Rattle.meson_calls.specs.Project.{Project, Placed}
 use Rattle.meson_calls.specs.Calls.{Call, first_argument}
 use Rattle.meson_variables.specs.Expansion.{Slot, in_list, fixed, Mark, known, opaque, empty}
-use Rattle.meson_variables.specs.Sources.{source_marks}
+use Rattle.meson_variables.specs.TargetSources.{source_marks}
 use Rattle.meson_sources.specs.SourceEdits.{Spot, distinct_spots, removal_steps, extra_marks, sources_added, sources_removed, extra_added, extra_removed}
 use Rattle.meson_calls.specs.Finding.{the_call}
 use Rattle.meson_calls.specs.Loading.{Loaded, AreParsed, project}

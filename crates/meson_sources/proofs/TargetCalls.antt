@@ -26,7 +26,7 @@ use Rattle.meson_variables.specs.CodeVariables.{project_of}
 use Rattle.meson_calls.specs.NotedProjects.{IsNotedFor, project_in}
 use Rattle.meson_calls.specs.Notes.{note_views}
 use Rattle.meson_calls.specs.OnePlace.{the_place}
-use Rattle.meson_calls.specs.Picking.{call_with}
+use Rattle.meson_calls.specs.ChosenNotes.{call_with}
 use Rattle.meson_calls.specs.Project.{BuildFile, placed, expression_at}
 use Rattle.meson_sources.specs.SourceEdits.{elements_of, elements_there}
 use Rattle.meson_sources.specs.Targeted.{change_steps, target_steps}

@@ -14,8 +14,8 @@ use Rattle.meson_variables.specs.Expansion.{in_list, fixed}
 use Rattle.meson_calls.specs.Loading.{project}
 use Rattle.meson_calls.specs.Project.{Project, BuildFile, Placed, child, expression_at}
 use Rattle.meson_sources.specs.SourceEdits.{extra_key, extra_marks}
-use Rattle.meson_calls.specs.Keywords.{sources_key, kwargs_key, rest}
-use Rattle.meson_variables.specs.Sources.{expand_arguments, hidden, source_marks}
+use Rattle.meson_calls.specs.NamedArguments.{sources_key, kwargs_key, rest}
+use Rattle.meson_variables.specs.TargetSources.{expand_arguments, hidden, source_marks}
 use Rattle.meson_sources.proofs.Standings.{TargetThere, MarkStands, SourcesStand, ExtrasStand}
 use Rattle.meson_sources.proofs.ElementsAt.{AreLevel, value_stands, parsed_level}
 use Rattle.meson_steps.proofs.ArgumentValues.{named_value}

@@ -9,7 +9,9 @@ use Rattle.meson_calls.specs.Calls.{Call, call_of, first_literal, part_call, all
 use Rattle.meson_calls.specs.Folders.{file_in}
 use Rattle.meson_calls.specs.Parts.{Part, an_expression, a_statement, parts}
 use Rattle.meson_calls.specs.Project.{BuildFile, Project, Placed, placed, child, nth_file}
-use Rattle.meson_calls.specs.Variables.{Assigned, is_set, part_assigned, assignments, is_outermost, only_value, is_iterated, sets_variable, is_set_otherwise, sets_unknown, enters_unknown, has_name, is_there, meant_file, all_known, single, one_of_names}
+use Rattle.meson_variables.specs.Variables.{Assigned, part_assigned, assignments, is_outermost, only_value, is_iterated, sets_variable, is_set_otherwise, sets_unknown, all_known, single, one_of_names}
+use Rattle.meson_calls.specs.Notes.{is_set}
+use Rattle.meson_calls.specs.Subdirs.{enters_unknown, has_name, is_there, meant_file}
 use Rattle.meson_sources.proofs.Tells.{Told, a_call, an_assignment, a_loop, matters, tell_call, name_texts, told}
 
 -- ---- what may set any variable

@@ -11,7 +11,7 @@ use Rattle.meson_syntax.proofs.paths.Reaching.{and-then-some}
 use Rattle.meson_calls.specs.declared.call.CallRef.{CallRef}
 use Rattle.meson_calls.specs.Loading.{Loaded, project, trees}
 use Rattle.meson_calls.specs.Project.{Placed, Project, child, place, placed}
-use Rattle.meson_calls.specs.Variables.{Assigned, all_known, assignments, is_outermost, is_set_otherwise, only_value, single}
+use Rattle.meson_variables.specs.Variables.{Assigned, all_known, assignments, is_outermost, is_set_otherwise, only_value, single}
 use Rattle.meson_steps.specs.ListSteps.{MayStandBetween}
 use Rattle.meson_steps.specs.ResultLimits.{plain_trees}
 use Rattle.meson_sources.specs.Without.{Gone, each_without, expression_without, from_child}

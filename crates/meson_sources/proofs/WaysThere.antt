@@ -9,7 +9,7 @@ use Rattle.meson_calls.specs.declared.call.CallRef.{CallRef}
 use Rattle.meson_variables.specs.Expansion.{opaque, Expansion, Stand, met, is_files, is_operand_by, is_value_by, max_followed, expand_by, within, expand_listing, follow_single}
 use Rattle.meson_calls.specs.Project.{child}
 use Rattle.meson_calls.specs.Roles.{one_of}
-use Rattle.meson_variables.specs.Sources.{list_of_slot}
+use Rattle.meson_variables.specs.TargetSources.{list_of_slot}
 use Rattle.meson_sources.proofs.Bares.{Values, expand_with, list_by, lists_by}
 use Rattle.meson_sources.proofs.CallTrees.{whole, whole_same, whole_along}
 use Rattle.meson_sources.proofs.Follows.{Kin, Level, followed, levels, same_holds}

@@ -12,7 +12,7 @@ use Rattle.meson_variables.specs.Expansion.{Item, Mark, Slot, fixed, in_list}
 use Rattle.meson_calls.specs.Finding.{the_call}
 use Rattle.meson_calls.specs.Loading.{IsProject, Loaded, project}
 use Rattle.meson_calls.specs.Project.{Placed, Project, place}
-use Rattle.meson_variables.specs.Sources.{first_empty, first_list, home, items, or_option, source_marks}
+use Rattle.meson_variables.specs.TargetSources.{first_empty, first_list, home, items, or_option, source_marks}
 use Rattle.meson_steps.specs.Names.{distinct}
 use Rattle.meson_steps.specs.ResultLimits.{plain_trees}
 use Rattle.meson_steps.specs.Steps.{Step, all_stepped}

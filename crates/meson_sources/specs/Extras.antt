@@ -7,8 +7,8 @@ use Rattle.meson_calls.specs.declared.refusal.Refusal.{Refusal}
 use Rattle.meson_calls.specs.Project.{Project, Placed}
 use Rattle.meson_calls.specs.Calls.{Call, keyword}
 use Rattle.meson_calls.specs.CallPlaces.{call_at}
-use Rattle.meson_variables.specs.Sources.{sources_of_marks}
-use Rattle.meson_calls.specs.Keywords.{once}
+use Rattle.meson_variables.specs.TargetSources.{sources_of_marks}
+use Rattle.meson_calls.specs.NamedArguments.{once}
 use Rattle.meson_sources.specs.SourceEdits.{extra_key, extra_marks}
 
 -- A call with the keyword twice is refused. Where no list is met, a further file goes into the call.

@@ -14,8 +14,8 @@ use Rattle.meson_calls.specs.Project.{Project, Placed, child, place, expression_
 use Rattle.meson_calls.specs.Calls.{Call, Numbered, keyword}
 use Rattle.meson_calls.specs.Calls as calls
 use Rattle.meson_variables.specs.Expansion.{Slot, in_list, fixed, Item, Mark}
-use Rattle.meson_calls.specs.Keywords.{sources_key, kwargs_key, once, not_hidden}
-use Rattle.meson_variables.specs.Sources.{expand_arguments, source_marks, items, opaque_count, first_list, first_empty, or_option, home}
+use Rattle.meson_calls.specs.NamedArguments.{sources_key, kwargs_key, once, not_hidden}
+use Rattle.meson_variables.specs.TargetSources.{expand_arguments, source_marks, items, opaque_count, first_list, first_empty, or_option, home}
 use Rattle.meson_steps.specs.Names.{checked_names, distinct}
 use Rattle.meson_steps.specs.WrittenTexts.{string_of}
 use Rattle.meson_steps.specs.Steps.{Step, step_in}

@@ -15,11 +15,10 @@ use Rattle.meson_sources.specs.declared.targeting.TargetChange.TheVariants.{Sour
 use Rattle.meson_calls.specs.declared.call.Role.TheVariants as role
 use Rattle.meson_calls.specs.Project.{Project, Placed, child}
 use Rattle.meson_calls.specs.Finding.{the_call}
-use Rattle.meson_steps.specs.Steps.{step_in}
+use Rattle.meson_steps.specs.Steps.{step_in, Step}
 use Rattle.meson_sources.specs.SourceEdits.{extra_key, written_keyword, insertion_steps, behind_value, sources_added, sources_removed, extra_added, extra_removed}
-use Rattle.meson_calls.specs.Keywords.{kept_args}
-use Rattle.meson_variables.specs.Sourced.{arguments_by}
-use Rattle.meson_steps.specs.Steps.{Step}
+use Rattle.meson_calls.specs.NamedArguments.{kept_args}
+use Rattle.meson_variables.specs.ExpandedArguments.{arguments_by}
 use Rattle.meson_variables.specs.Tallies.{Gathered, expanded, no_marks}
 
 -- all that `extra_files:` holds

@@ -7,7 +7,7 @@ ghost use Rattle.meson_syntax.specs.View.{args_view, list_view};
 ghost use Rattle.meson_calls.specs.GoodLists.{GoodListing};
 ghost use Rattle.meson_calls.specs.Loading.{AreParsed};
 ghost use Rattle.meson_variables.specs.CodeVariables.{AreVariables, project_of};
-ghost use Rattle.meson_calls.specs.Picking.{Source, placed_call};
+ghost use Rattle.meson_calls.specs.ChosenNotes.{Source, placed_call};
 ghost use Rattle.meson_calls.specs.Refusals.{RefusedAs};
 ghost use Rattle.meson_sources.specs.SourceEdits.{insertion_steps, is_plain, plain_len, sources_added, sources_removed};
 ghost use Rattle.meson_steps.specs.ListSteps.{bare};
@@ -21,7 +21,7 @@ use meson_splice::Text;
 use meson_steps::names::checked_names;
 use meson_steps::step::ListStep;
 use meson_syntax::{Arg, List, Parsed};
-use meson_variables::sourcing::{MAX_FOLLOWED, home_of, met};
+use meson_variables::call_sources::{MAX_FOLLOWED, home_of, met};
 use meson_variables::variables::Variables;
 
 /// How many arguments have no name.

@@ -4,7 +4,7 @@ ghost use Rattle.std.specs.Prelude.{◌≡◌, IfOk, Ok};
 ghost use Rattle.meson_syntax.specs.View.{list_view};
 ghost use Rattle.meson_calls.specs.GoodLists.{GoodListing};
 ghost use Rattle.meson_variables.specs.CodeVariables.{AreVariables, project_of};
-ghost use Rattle.meson_calls.specs.Picking.{Source, placed_call};
+ghost use Rattle.meson_calls.specs.ChosenNotes.{Source, placed_call};
 ghost use Rattle.meson_calls.specs.Refusals.{RefusedAs};
 ghost use Rattle.meson_sources.specs.Extras.{extra_of_call};
 
@@ -15,7 +15,7 @@ use meson_splice::Many;
 use meson_syntax::List;
 use meson_variables::Sources;
 use meson_variables::marks::Marks;
-use meson_variables::sourcing::{MAX_FOLLOWED, home_of};
+use meson_variables::call_sources::{MAX_FOLLOWED, home_of};
 use meson_variables::variables::Variables;
 
 /// The extra files of the call at a place.

@@ -12,7 +12,8 @@ use Rattle.meson_calls.specs.Calls.{Call, Numbered, all_chosen, first_of, first_
 use Rattle.meson_calls.specs.Loading.{named_trees}
 use Rattle.meson_calls.specs.Parts.{Part, an_expression, a_statement, argument_child_count, parts_of_argument, arguments_child_count, parts_of_arguments, parts_of_block, branches_child_count, parts_of_branches, parts_of_expression, parts_of_file, parts_of_listing, parts_of_operands, parts_of_otherwise, parts_from, parts_of_statement, parts_of_statements, tail_child_count, parts_of_tail, parts_of_tails}
 use Rattle.meson_calls.specs.Project.{Placed, child, place, placed}
-use Rattle.meson_calls.specs.Roles.{has_role, one_of, target_functions, with_name, with_role}
+use Rattle.meson_calls.specs.Roles.{has_role, one_of, target_functions, with_role}
+use Rattle.meson_calls.specs.Naming.{with_name}
 
 -- ---- what is chosen
 

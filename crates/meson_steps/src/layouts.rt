@@ -4,7 +4,7 @@ ghost use Rattle.std.specs.Prelude.{◌≡◌, IfErr, IfOk, List, false};
 ghost use Rattle.meson_layout.specs.Layout.{layout_of};
 ghost use Rattle.meson_lex.specs.Items.{IsItemList, Lexeme};
 ghost use Rattle.meson_syntax.specs.View.{list_view, view};
-ghost use Rattle.meson_calls.specs.Picking.{Source};
+ghost use Rattle.meson_calls.specs.ChosenNotes.{Source};
 ghost use Rattle.meson_steps.specs.ListSteps.{edits_list};
 ghost use Rattle.meson_steps.specs.Steps.{effective};
 ghost use Rattle.meson_steps.specs.Working.{MayBeLaid, looked_at, placed_edit, placed_in};

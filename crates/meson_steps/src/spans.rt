@@ -5,7 +5,7 @@ ghost use Rattle.meson_syntax.specs.Paths.{list_at, list_in, nth, value_of};
 ghost use Rattle.meson_edit.specs.Standing.{argument_span, expression_span};
 ghost use Rattle.meson_syntax.specs.View.{arg_view, expr_view, list_view, view};
 ghost use Rattle.meson_edit.specs.Edits.{elements};
-ghost use Rattle.meson_calls.specs.Picking.{Source};
+ghost use Rattle.meson_calls.specs.ChosenNotes.{Source};
 ghost use Rattle.meson_steps.specs.Working.{spot_at, spot_in};
 
 use meson_edit::span_of;

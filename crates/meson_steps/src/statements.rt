@@ -8,7 +8,7 @@ ghost use Rattle.meson_edit.specs.Standing.{statement_span};
 ghost use Rattle.meson_syntax.specs.View.{block_view, otherwise_view, stmt_view, view};
 ghost use Rattle.meson_edit.specs.Places.{span_of_statement};
 ghost use Rattle.meson_steps.specs.inside.Layers.{block_any, layer_view, next_layer};
-ghost use Rattle.meson_calls.specs.Picking.{Source};
+ghost use Rattle.meson_calls.specs.ChosenNotes.{Source};
 
 use meson_edit::span_of;
 use meson_lex::Span;

@@ -3,7 +3,7 @@ use Rattle.std.proofs.Common.{◌≡◌, ℕ, suc, zero, ◌+◌, ◌<◌, Bool,
 use Rattle.std.specs.Prelude.{bytes_eq, slice_index_or}
 use Rattle.meson_splice.specs.Files.{bytes_at}
 use Rattle.meson_splice.specs.declared.file_set.File.{File}
-use Rattle.meson_store.specs.Calls.{counted, one_more}
+use Rattle.meson_store.specs.StoreCalls.{counted, one_more}
 use Rattle.meson_store.specs.Content.{Content, content_with}
 use Rattle.meson_store.specs.declared.committing.Planned.{Planned}
 use Rattle.meson_store.specs.Commit.{Put, path_in, put_at, puts, put_all, names_of}

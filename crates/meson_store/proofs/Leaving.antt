@@ -7,7 +7,7 @@ use Rattle.std.specs.Prelude.{bytes_eq, codes}
 use Rattle.meson_splice.specs.Files.{IsDistinct}
 use Rattle.meson_splice.specs.declared.file_set.File.{File}
 use Rattle.meson_store.proofs.Restoring.{Each, IsNoneOf, apart-or-not, at-other, at-same, each-append, each-forward, each-left, each-map, each-reverse, each-right, elsewhere, put_all-told, puts-each, writes}
-use Rattle.meson_store.specs.Calls.{Leaves}
+use Rattle.meson_store.specs.StoreCalls.{Leaves}
 use Rattle.meson_store.specs.Commit.{CommitFails, GoBack, Put, TakenBack, all_back, fault_of, is_back, is_lost, path_in, put_all, put_at, puts, still_new, to_go_back}
 use Rattle.meson_store.specs.Content.{Content, content_with}
 use Rattle.meson_store.specs.Laws.{Failed, IsTold, tried}

@@ -9,7 +9,7 @@ use Rattle.std.specs.Cmp.Lexicographic.{slice_cmp, nat_list_cmp_total}
 use Rattle.std.specs.FinMap.{get, insert, get-insert, same_map, slice_cmp-IsAntisymmetric, nat_cmp-IsAntisymmetric}
 use Rattle.std.specs.Prelude.{bytes_eq}
 use Rattle.meson_splice.specs.declared.file_set.File.{File}
-use Rattle.meson_store.specs.Calls.{Leaves}
+use Rattle.meson_store.specs.StoreCalls.{Leaves}
 use Rattle.meson_store.specs.Commit.{TakenBack, GoBack, Put, all_back, fault_of, is_back, is_lost, put_all, put_at, puts, to_go_back}
 use Rattle.meson_store.specs.Content.{Content, content_with}
 use Rattle.meson_store.specs.Seen.{Seen}

@@ -1,8 +1,7 @@
 -- What a commit of a project's files does to a store.
-use Rattle.std.specs.Prelude.{◌≡◌, ◌≤◌, ◌⊎◌, ℕ, List, [], ◌∷◌, ◌++◌, length, map, reverse, codes, bytes_eq}
-use Rattle.std.specs.Prelude.{if◌then◌else◌, Option, Some, None}
+use Rattle.std.specs.Prelude.{◌≡◌, ◌≤◌, ◌⊎◌, ℕ, List, [], ◌∷◌, ◌++◌, length, map, reverse, codes, bytes_eq, if◌then◌else◌, Option, Some, None}
 use Rattle.meson_splice.specs.declared.file_set.File.{File}
-use Rattle.meson_store.specs.Calls.{counted}
+use Rattle.meson_store.specs.StoreCalls.{counted}
 use Rattle.meson_store.specs.Content.{Content, content_with}
 use Rattle.meson_store.specs.Seen.{IsNotReplaced, IsReplaced, Seen, Untouched}
 use Rattle.meson_store.specs.declared.store.StoreError.{StoreError}

@@ -1,5 +1,5 @@
 pub mod Content
-pub mod Calls
+pub mod StoreCalls
 pub mod Seen
 pub mod Commit
 pub mod MemoryStore

@@ -2,7 +2,7 @@
 use Rattle.std.specs.Prelude.{◌≡◌, ◌⊎◌, ℕ, ◌-◌, Bool, false, true, ◌&&◌, nat_le, nat_lt, if◌then◌else◌, refl, List, Result, Ok, Err}
 use Rattle.std.specs.Coded.{Coded, code_by, coded×, coded_ℕ, coded_list, coded_bool}
 use Rattle.std.specs.FinMap.{code, insert, empty}
-use Rattle.meson_store.specs.Calls.{one_more}
+use Rattle.meson_store.specs.StoreCalls.{one_more}
 use Rattle.meson_store.specs.Content.{Content}
 use Rattle.meson_store.specs.declared.store.StoreError.{StoreError}
 use Rattle.meson_store.specs.declared.store.StoreError.TheVariants as error

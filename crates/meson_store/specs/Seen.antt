@@ -1,6 +1,6 @@
 -- What is known of a store between two calls, and what a call of `replace` did to it.
 use Rattle.std.specs.Prelude.{◌≡◌, ◌≤◌, ℕ, List, Option}
-use Rattle.meson_store.specs.Calls.{FailureCounted, Leaves, one_more}
+use Rattle.meson_store.specs.StoreCalls.{FailureCounted, Leaves, one_more}
 use Rattle.meson_store.specs.Content.{Content, content_with}
 use Rattle.meson_store.specs.declared.store.StoreError.{StoreError}
 

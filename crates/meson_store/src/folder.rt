@@ -1,7 +1,7 @@
 //! A store of real files.
 
 ghost use Rattle.std.specs.Prelude.{◌≡◌, ◌≤◌, IfErr};
-ghost use Rattle.meson_store.specs.Calls.{FailureCounted};
+ghost use Rattle.meson_store.specs.StoreCalls.{FailureCounted};
 
 use crate::{Store, StoreError};
 use std::alloc::{AllocError, Global};

@@ -2,7 +2,7 @@
 
 ghost use Rattle.std.specs.Prelude.{◌≡◌, ◌≤◌, ◌↔◌, IfOk, IfErr, OnOk, OnErr, Some, true, false, option_map};
 ghost use Rattle.std.specs.FinMap.{get, insert, empty};
-ghost use Rattle.meson_store.specs.Calls.{FailureCounted, one_more};
+ghost use Rattle.meson_store.specs.StoreCalls.{FailureCounted, one_more};
 ghost use Rattle.meson_store.specs.MemoryStore.{MayAnswer, with_failures, is_planned, is_due, no_files, after_read, replaced_so, with_file};
 
 use crate::{Store, StoreError};

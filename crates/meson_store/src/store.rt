@@ -47,7 +47,7 @@ impl From<io::Error> for StoreError {
 ///
 /// A store that knows what it holds tells it as `content`; a folder of the file system tells none.
 pub trait Store {
-    ghost use Rattle.meson_store.specs.Calls.{FailureCounted, Leaves, one_more};
+    ghost use Rattle.meson_store.specs.StoreCalls.{FailureCounted, Leaves, one_more};
 
     ghost content: { Self → Option Content } = { λ _. None };
 

@@ -22,7 +22,8 @@ use Rattle.meson_calls.specs.Finding.{only_one}
 use Rattle.meson_calls.specs.Loading.{named_trees, project, views}
 use Rattle.meson_calls.specs.Parts.{Part, parts_of_arguments, parts_of_file, parts, parts_from, parts_of_statement, parts_of_statements}
 use Rattle.meson_calls.specs.Project.{Placed, Project, child, place, placed}
-use Rattle.meson_calls.specs.Roles.{assigned_values, one_of, or_else, target_functions, with_name, with_role}
+use Rattle.meson_calls.specs.Naming.{assigned_values, or_else, with_name}
+use Rattle.meson_calls.specs.Roles.{one_of, target_functions, with_role}
 use Rattle.meson_steps.proofs.WentWell.{then_was}
 use Rattle.meson_syntax.proofs.parsing.Steps.{some-injective}
 use Rattle.meson_steps.specs.Names.{checked_names, distinct}

@@ -22,7 +22,8 @@ use Rattle.meson_calls.specs.Finding.{only_one, the_call}
 use Rattle.meson_calls.specs.Loading.{Loaded, named_trees, project, views}
 use Rattle.meson_calls.specs.Parts.{Part, a_statement, parts_of_expression, parts_of_listing, parts, parts_of_statement}
 use Rattle.meson_calls.specs.Project.{BuildFile, Placed, Project, nth_file, place, placed}
-use Rattle.meson_calls.specs.Roles.{or_else, role_calls, with_name, with_role}
+use Rattle.meson_calls.specs.Naming.{or_else, with_name}
+use Rattle.meson_calls.specs.Roles.{role_calls, with_role}
 use Rattle.meson_calls.proofs.CallsFound.{role_found}
 use Rattle.meson_calls.proofs.CallsReached.{every_chosen}
 use Rattle.meson_steps.specs.ResultLimits.{plain_trees}

@@ -15,7 +15,8 @@ use Rattle.meson_calls.specs.declared.call.Role.TheVariants as role
 use Rattle.meson_calls.specs.Calls.{Call, all_chosen, call_of}
 use Rattle.meson_calls.specs.Parts.{Part, a_statement, parts_of_expression, parts, parts_of_statement}
 use Rattle.meson_calls.specs.Project.{BuildFile, Placed, Project, child, nth_file, place, placed}
-use Rattle.meson_calls.specs.Roles.{assigned_values, has_role, part_set_to, value_of_assignment, with_role}
+use Rattle.meson_calls.specs.Naming.{assigned_values, part_set_to, value_of_assignment}
+use Rattle.meson_calls.specs.Roles.{has_role, with_role}
 use Rattle.meson_calls.proofs.CallsReached.{InProject, every_chosen, every_part}
 use Rattle.meson_calls.proofs.Reached.{any}
 use Rattle.meson_targets.specs.TargetEdits.{StatementPlace}

@@ -8,7 +8,7 @@ use Rattle.meson_calls.specs.declared.call.CallRef.{CallRef}
 use Rattle.meson_calls.specs.Project.{Project, Placed, placed}
 use Rattle.meson_calls.specs.Parts.{Part, an_expression, a_statement, parts}
 use Rattle.meson_calls.specs.Notes.{Note, note_of, noted, notes}
-use Rattle.meson_calls.specs.Variables.{one_of_names}
+use Rattle.meson_variables.specs.Variables.{one_of_names}
 use Rattle.meson_targets.specs.TargetEdits.{StatementPlace, call_uses, part_uses, is_used_outside}
 use Rattle.meson_calls.specs.Walks.{part_reads, read_in}
 use Rattle.meson_targets.specs.inside.Uses.{is_outside, is_noted_outside, is_read_outside}

@@ -15,8 +15,9 @@ use Rattle.meson_calls.specs.Project.{Project, BuildFile, Placed, place, child, 
 use Rattle.meson_calls.specs.Parts.{Part, an_expression, a_statement, parts}
 use Rattle.meson_calls.specs.Calls.{Call, all_chosen, first_literal, is}
 use Rattle.meson_calls.specs.Finding.{the_call}
-use Rattle.meson_calls.specs.Roles.{target_functions, one_of, role_calls, with_name}
-use Rattle.meson_calls.specs.Variables.{one_of_names}
+use Rattle.meson_calls.specs.Roles.{target_functions, one_of, role_calls}
+use Rattle.meson_calls.specs.Naming.{with_name}
+use Rattle.meson_variables.specs.Variables.{one_of_names}
 use Rattle.meson_calls.specs.Folders.{build_file, file_in}
 use Rattle.meson_steps.specs.WrittenTexts.{string_of, comma_between}
 use Rattle.meson_steps.specs.Names.{checked_names, distinct}

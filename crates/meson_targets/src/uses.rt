@@ -8,7 +8,7 @@ ghost use Rattle.meson_calls.specs.Loading.{IsProject};
 ghost use Rattle.meson_calls.specs.NotedProjects.{loaded_in, project_in};
 ghost use Rattle.meson_calls.specs.Notes.{note_view, note_views};
 ghost use Rattle.meson_calls.specs.Parts.{parts};
-ghost use Rattle.meson_calls.specs.Picking.{call_with};
+ghost use Rattle.meson_calls.specs.ChosenNotes.{call_with};
 ghost use Rattle.meson_calls.specs.Project.{place_at};
 ghost use Rattle.meson_calls.specs.Roles.{one_of};
 ghost use Rattle.meson_calls.specs.Strings.{AreGood, NotesGood, note_words};

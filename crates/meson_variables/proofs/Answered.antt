@@ -11,11 +11,11 @@ use Rattle.meson_variables.specs.declared.source.SourceItem.{SourceItem}
 use Rattle.meson_variables.specs.declared.source.Sources as found
 use Rattle.meson_calls.specs.Project.{Project, child, placed}
 use Rattle.meson_calls.specs.Calls.{Call, Numbered, positional, keyword, value_without_name, value_with_name}
-use Rattle.meson_calls.specs.Picking.{call_with}
+use Rattle.meson_calls.specs.ChosenNotes.{call_with}
 use Rattle.meson_variables.specs.Expansion.{Slot, in_list, fixed, Mark, known, opaque, empty, then_expand, max_followed}
-use Rattle.meson_calls.specs.Keywords.{sources_key, kwargs_key, rest, once, kept_args}
-use Rattle.meson_variables.specs.Sources.{expand_arguments, hidden, source_marks, items, opaque_count, or_option, list_of_slot, first_list, first_empty, or_call, source_item, sources_of_marks, sources_of_call}
-use Rattle.meson_variables.specs.Sourced.{one_by, arguments_by, with_hidden, all_gathered}
+use Rattle.meson_calls.specs.NamedArguments.{sources_key, kwargs_key, rest, once, kept_args}
+use Rattle.meson_variables.specs.TargetSources.{expand_arguments, hidden, source_marks, items, opaque_count, or_option, list_of_slot, first_list, first_empty, or_call, source_item, sources_of_marks, sources_of_call}
+use Rattle.meson_variables.specs.ExpandedArguments.{one_by, arguments_by, with_hidden, all_gathered}
 use Rattle.meson_variables.specs.Tallies.{Tally, number_of_slot, tally_and, all_marked, Gathered, expanded, no_marks}
 use Rattle.meson_calls.proofs.Listed.{list_is}
 use Rattle.meson_variables.proofs.Gathers.{all_marked-append, expand_follow}

@@ -8,11 +8,11 @@ use Rattle.meson_syntax.specs.Tree.{Expression}
 use Rattle.meson_calls.specs.declared.note.Note as code
 use Rattle.meson_variables.specs.declared.values.Value.{Value}
 use Rattle.meson_calls.specs.Project.{Placed, placed, place_at}
-use Rattle.meson_calls.specs.Variables.{Assigned, only_value}
+use Rattle.meson_variables.specs.Variables.{Assigned, only_value}
 use Rattle.meson_calls.specs.Calls.{chosen}
 use Rattle.meson_calls.specs.Notes.{an_assignment}
 use Rattle.meson_variables.specs.Noted.{note_assigned}
-use Rattle.meson_variables.specs.Values.{value_view, assignment, taken, merged, with_assigned, looked_up}
+use Rattle.meson_variables.specs.CodeValues.{value_view, assignment, taken, merged, with_assigned, looked_up}
 
 abbrev Found : Type 0
 Found = Option (Option (Placed (Expression Span)))

@@ -9,8 +9,8 @@ use Rattle.meson_calls.specs.declared.call.CallRef.{CallRef}
 use Rattle.meson_calls.specs.Project.{Project}
 use Rattle.meson_calls.specs.Calls.{Numbered}
 use Rattle.meson_variables.specs.Expansion.{Slot}
-use Rattle.meson_calls.specs.Keywords.{kept_args, kept_arg}
-use Rattle.meson_variables.specs.Sourced.{one_by, expansion_step, arguments_by}
+use Rattle.meson_calls.specs.NamedArguments.{kept_args, kept_arg}
+use Rattle.meson_variables.specs.ExpandedArguments.{one_by, expansion_step, arguments_by}
 use Rattle.meson_variables.specs.Tallies.{Gathered, expanded}
 use Rattle.meson_variables.proofs.Gathers.{expanded_twice}
 use Rattle.meson_calls.proofs.Kept.{kept_here}

@@ -10,11 +10,13 @@ use Rattle.meson_syntax.specs.Tree.{evaluate, assign, selection, iteration, brea
 use Rattle.meson_calls.specs.declared.call.CallRef.{CallRef}
 use Rattle.meson_calls.specs.Project.{Project, Placed, placed, nth_file}
 use Rattle.meson_calls.specs.Parts.{Part, an_expression, a_statement, parts}
-use Rattle.meson_calls.specs.Calls.{Call, call_of, part_call, all_chosen, first_literal}
+use Rattle.meson_calls.specs.Calls.{Call, call_of, part_call, all_chosen, first_literal, calls_function}
 use Rattle.meson_calls.specs.Loading.{named_trees, views}
-use Rattle.meson_calls.specs.Variables.{calls_function, sets_unknown, has_name, is_there, meant_file, enters_unknown, all_known}
+use Rattle.meson_variables.specs.Variables.{sets_unknown, all_known}
+use Rattle.meson_calls.specs.Subdirs.{has_name, is_there, meant_file, enters_unknown}
 use Rattle.meson_calls.specs.Notes.{Note, a_call, note_of, noted, notes}
-use Rattle.meson_calls.specs.Knowns.{is_file, is_entered, meant_in, is_unknown_in, has_unknown}
+use Rattle.meson_calls.specs.FileNames.{is_file, is_entered, meant_in}
+use Rattle.meson_variables.specs.UnknownSetters.{is_unknown_in, has_unknown}
 
 abbrev named : List File → List Parsed → Project Span
 named files trees = named_trees files (views files trees)

@@ -6,8 +6,8 @@ use Rattle.meson_calls.specs.declared.call.CallRef.{CallRef}
 use Rattle.meson_calls.specs.Project.{Project, place}
 use Rattle.meson_calls.specs.Calls.{value_without_name, value_with_name}
 use Rattle.meson_variables.specs.Expansion.{in_list, fixed, opaque}
-use Rattle.meson_calls.specs.Keywords.{sources_key, rest, kept_args}
-use Rattle.meson_variables.specs.Sourced.{arguments_by, with_hidden}
+use Rattle.meson_calls.specs.NamedArguments.{sources_key, rest, kept_args}
+use Rattle.meson_variables.specs.ExpandedArguments.{arguments_by, with_hidden}
 use Rattle.meson_variables.specs.Tallies.{Gathered, expanded, with_mark, no_marks}
 
 pub hidden_some : {Y : Type 0} (g : Gathered) (ks : List Y) → 0 < length ks → with_hidden g ks ≡ with_mark g opaque

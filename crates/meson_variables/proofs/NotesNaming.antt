@@ -6,7 +6,7 @@ use Rattle.meson_splice.specs.declared.file_set.File.{File}
 use Rattle.meson_syntax.specs.declared.tree.Parsed.{Parsed}
 use Rattle.meson_calls.specs.Calls.{chosen}
 use Rattle.meson_variables.specs.CodeVariables.{is_among}
-use Rattle.meson_calls.specs.Knowns.{has_unknown, is_unknown_in}
+use Rattle.meson_variables.specs.UnknownSetters.{has_unknown, is_unknown_in}
 use Rattle.meson_calls.specs.Loading.{AreParsed, named_trees, views}
 use Rattle.meson_variables.specs.Noted.{assigned_notes, is_set_by, note_assigned, note_sets}
 use Rattle.meson_calls.specs.Notes.{notes}

@@ -6,11 +6,12 @@ use Rattle.meson_splice.specs.declared.file_set.File.{File}
 use Rattle.meson_syntax.specs.Tree.{Name}
 use Rattle.meson_calls.specs.declared.call.CallRef.{CallRef}
 use Rattle.meson_calls.specs.Calls.{Call, first_literal, is}
-use Rattle.meson_calls.specs.Knowns.{enters_none, is_entered, is_unknown_in, meant_in}
+use Rattle.meson_variables.specs.UnknownSetters.{enters_none, is_unknown_in}
+use Rattle.meson_calls.specs.FileNames.{is_entered, meant_in}
 use Rattle.meson_variables.specs.Noted.{note_assigned, note_sets}
 use Rattle.meson_calls.specs.Notes.{Note, a_call, an_assignment, a_loop}
 use Rattle.meson_calls.specs.Spelling.{HasNone}
-use Rattle.meson_calls.specs.Variables.{one_of_names}
+use Rattle.meson_variables.specs.Variables.{one_of_names}
 use Rattle.meson_calls.proofs.Spelled.{differs}
 use Rattle.meson_calls.proofs.StandingNotes.{CallStands, NamesStand, NoteStands}
 

@@ -5,14 +5,14 @@ use Rattle.meson_splice.specs.declared.file_set.File.{File}
 use Rattle.meson_syntax.specs.declared.tree.Parsed.{Parsed}
 use Rattle.meson_syntax.specs.View.{view}
 use Rattle.meson_variables.specs.CodeVariables.{is_among}
-use Rattle.meson_calls.specs.Knowns.{has_unknown}
+use Rattle.meson_variables.specs.UnknownSetters.{has_unknown}
 use Rattle.meson_calls.specs.Loading.{AreParsed, named_trees, views}
 use Rattle.meson_variables.specs.Noted.{assigned_notes, by_notes, is_set_by}
 use Rattle.meson_calls.specs.declared.note.Note as code
 use Rattle.meson_calls.specs.Notes.{note_views, noted, notes}
 use Rattle.meson_calls.specs.Parts.{parts_of_file}
 use Rattle.meson_calls.specs.Spelling.{AreNotesOf, whole, passed, AreNotesWith, setter_words}
-use Rattle.meson_calls.specs.Variables.{only_value, single}
+use Rattle.meson_variables.specs.Variables.{only_value, single}
 use Rattle.meson_variables.proofs.KnownCalls.{known_notes}
 use Rattle.meson_calls.proofs.Loads.{as_many}
 use Rattle.meson_calls.proofs.NoteReadings.{Notes, notes_after}

@@ -13,8 +13,8 @@ use Rattle.meson_calls.specs.declared.refusal.Refusal.TheVariants.{OutOfMemory}
 use Rattle.meson_calls.specs.Project.{Project, placed}
 use Rattle.meson_calls.specs.Calls.{Call, call_of}
 use Rattle.meson_calls.specs.Loading.{named_trees, views}
-use Rattle.meson_calls.specs.Picking.{call_with, is_role_call}
-use Rattle.meson_variables.specs.Sources.{sources, sources_of_call}
+use Rattle.meson_calls.specs.ChosenNotes.{call_with, is_role_call}
+use Rattle.meson_variables.specs.TargetSources.{sources, sources_of_call}
 use Rattle.meson_calls.proofs.Standing.{nth_there}
 use Rattle.meson_syntax.specs.Tree as tree
 use Rattle.meson_syntax.specs.Paths as paths

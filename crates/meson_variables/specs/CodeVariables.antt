@@ -10,8 +10,8 @@ use Rattle.meson_calls.specs.Project.{Project}
 use Rattle.meson_calls.specs.Loading.{IsProject, loaded_from, named_trees, views}
 use Rattle.meson_calls.specs.Notes.{notes}
 use Rattle.meson_calls.specs.Strings.{NotesGood}
-use Rattle.meson_variables.specs.Values.{value_in}
-use Rattle.meson_calls.specs.Variables.{single}
+use Rattle.meson_variables.specs.CodeValues.{value_in}
+use Rattle.meson_variables.specs.Variables.{single}
 
 abbrev pub project_of : Variables → Project Span
 project_of v = named_trees v.files.now (views v.files.now v.trees.now)

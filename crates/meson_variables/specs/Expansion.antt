@@ -9,7 +9,7 @@ use Rattle.meson_syntax.specs.Tree.{Expression, identifier, string, array, call,
 use Rattle.meson_calls.specs.declared.call.CallRef.{CallRef}
 use Rattle.meson_calls.specs.Project.{Project, child, Placed}
 use Rattle.meson_calls.specs.Roles.{one_of}
-use Rattle.meson_calls.specs.Variables.{single}
+use Rattle.meson_variables.specs.Variables.{single}
 
 -- ---- what is met, in order
 

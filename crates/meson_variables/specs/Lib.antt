@@ -1,7 +1,9 @@
 pub mod CodeVariables
 pub mod Expansion
 pub mod Noted
-pub mod Sourced
-pub mod Sources
+pub mod ExpandedArguments
+pub mod TargetSources
 pub mod Tallies
-pub mod Values
+pub mod CodeValues
+pub mod Variables
+pub mod UnknownSetters

@@ -4,7 +4,7 @@ use Rattle.std.specs.List.{list_any}
 use Rattle.meson_syntax.specs.Tree.{Expression, array, call, row, Operands, no_operands, operand, Listing, listing, Argument, plain, Arguments, no_arguments, argument}
 use Rattle.meson_calls.specs.Project.{Placed}
 use Rattle.meson_calls.specs.Calls.{all_chosen}
-use Rattle.meson_calls.specs.Variables.{Assigned, only_value, one_of_names, sets_variable}
+use Rattle.meson_variables.specs.Variables.{Assigned, only_value, one_of_names, sets_variable}
 use Rattle.meson_calls.specs.Notes.{Note, a_call, an_assignment, a_loop}
 
 -- a note of an assignment to a variable

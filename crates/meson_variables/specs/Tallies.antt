@@ -10,8 +10,8 @@ use Rattle.meson_variables.specs.declared.marks.Site.{Site}
 use Rattle.meson_calls.specs.Project.{Project, child, place}
 use Rattle.meson_variables.specs.Expansion.{Slot, in_list, fixed, Mark, known, opaque, empty, Expansion, Stand, met, then_expand, within, operand_at, are_plus, is_list_operand, expand_by, expand_operands, expand_listing, expand_each, expand_argument, follow_single, expand}
 use Rattle.meson_calls.specs.Roles.{one_of}
-use Rattle.meson_variables.specs.Sources.{or_option, source_item}
-use Rattle.meson_calls.specs.Variables.{single}
+use Rattle.meson_variables.specs.TargetSources.{or_option, source_item}
+use Rattle.meson_variables.specs.Variables.{single}
 
 -- the number of an item in its list
 abbrev pub number_of_slot : Slot → Option ℕ

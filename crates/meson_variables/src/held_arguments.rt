@@ -9,8 +9,8 @@ ghost use Rattle.meson_variables.specs.Expansion.{in_list, fixed};
 ghost use Rattle.meson_calls.specs.GoodLists.{GoodArgs};
 ghost use Rattle.meson_variables.specs.CodeVariables.{AreVariables, project_of};
 ghost use Rattle.meson_calls.specs.Strings.{AreGood};
-ghost use Rattle.meson_calls.specs.Keywords.{kept_args, kept_arg};
-ghost use Rattle.meson_variables.specs.Sourced.{expansion_step, arguments_by};
+ghost use Rattle.meson_calls.specs.NamedArguments.{kept_args, kept_arg};
+ghost use Rattle.meson_variables.specs.ExpandedArguments.{expansion_step, arguments_by};
 ghost use Rattle.meson_variables.specs.Tallies.{Meets};
 
 use crate::marks::{Marks, Site};

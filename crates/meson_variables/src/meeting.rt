@@ -6,8 +6,8 @@ ghost use Rattle.meson_syntax.specs.View.{text_at, arg_view, expr_view, list_vie
 ghost use Rattle.meson_calls.specs.Calls.{literal_of};
 ghost use Rattle.meson_syntax.specs.Tree.{is_named};
 ghost use Rattle.meson_variables.specs.Expansion.{are_named, is_files, literal_item};
-ghost use Rattle.meson_calls.specs.Picking.{Source};
-ghost use Rattle.meson_variables.specs.Sources.{list_of_slot};
+ghost use Rattle.meson_calls.specs.ChosenNotes.{Source};
+ghost use Rattle.meson_variables.specs.TargetSources.{list_of_slot};
 ghost use Rattle.meson_calls.specs.Strings.{AreGood};
 ghost use Rattle.meson_variables.specs.Tallies.{Meets, stand, stand_at};
 

@@ -7,10 +7,10 @@ ghost use Rattle.meson_syntax.specs.View.{names_at, text_at, list_view};
 ghost use Rattle.meson_calls.specs.Calls.{is};
 ghost use Rattle.meson_calls.specs.Notes.{note_view, note_views};
 ghost use Rattle.meson_variables.specs.Noted.{note_sets, is_set_by, assigned_notes};
-ghost use Rattle.meson_calls.specs.Picking.{Source, call_with};
+ghost use Rattle.meson_calls.specs.ChosenNotes.{Source, call_with};
 ghost use Rattle.meson_calls.specs.Strings.{AreGood, NotesGood, note_words};
-ghost use Rattle.meson_variables.specs.Values.{value_in};
-ghost use Rattle.meson_calls.specs.Variables.{one_of_names, only_value, sets_variable};
+ghost use Rattle.meson_variables.specs.CodeValues.{value_in};
+ghost use Rattle.meson_variables.specs.Variables.{one_of_names, only_value, sets_variable};
 
 use crate::values::Values;
 use meson_calls::literals::first_literal;

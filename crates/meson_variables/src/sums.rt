@@ -5,10 +5,10 @@ ghost use Rattle.meson_syntax.specs.Tree.{operands_of};
 ghost use Rattle.meson_syntax.specs.View.{expr_view, operands_view};
 ghost use Rattle.meson_variables.specs.Expansion.{is_plus, are_plus, is_operand_by, is_value_by, is_list_variable, is_list_operand};
 ghost use Rattle.meson_variables.specs.CodeVariables.{AreVariables, project_of};
-ghost use Rattle.meson_calls.specs.Picking.{Source};
+ghost use Rattle.meson_calls.specs.ChosenNotes.{Source};
 
 use crate::meeting::is_files;
-use crate::sourcing::MAX_FOLLOWED;
+use crate::call_sources::MAX_FOLLOWED;
 use crate::variables::Variables;
 use meson_calls::roles::text_of;
 use meson_syntax::{Expr, Operand, Operator};

@@ -5,13 +5,13 @@ ghost use Rattle.meson_syntax.specs.View.{expr_view, list_view};
 ghost use Rattle.meson_calls.specs.Calls.{call_of};
 ghost use Rattle.meson_calls.specs.Loading.{AreParsed};
 ghost use Rattle.meson_variables.specs.CodeVariables.{AreVariables, project_of};
-ghost use Rattle.meson_calls.specs.Picking.{Source};
+ghost use Rattle.meson_calls.specs.ChosenNotes.{Source};
 ghost use Rattle.meson_calls.specs.Refusals.{IfRefused};
 ghost use Rattle.meson_calls.specs.Roles.{is_target};
-ghost use Rattle.meson_variables.specs.Sources.{sources};
+ghost use Rattle.meson_variables.specs.TargetSources.{sources};
 
 use crate::source::Sources;
-use crate::sourcing::sources_of;
+use crate::call_sources::sources_of;
 use crate::variables::Variables;
 use meson_calls::call::CallRef;
 use meson_calls::refusal::Refusal;

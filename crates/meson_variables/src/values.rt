@@ -3,10 +3,10 @@
 ghost use Rattle.std.specs.Prelude.{◌≡◌, ℕ, List, ◌∷◌, [], Some, None, OnOk, IfOk, option_map, bytes_eq, if◌then◌else◌};
 ghost use Rattle.meson_syntax.specs.View.{expr_view};
 ghost use Rattle.meson_calls.specs.Calls.{chosen};
-ghost use Rattle.meson_calls.specs.Variables.{is_outermost, only_value};
+ghost use Rattle.meson_variables.specs.Variables.{is_outermost, only_value};
 ghost use Rattle.meson_calls.specs.Notes.{note_view, note_views};
 ghost use Rattle.meson_variables.specs.Noted.{note_assigned, assigned_notes};
-ghost use Rattle.meson_variables.specs.Values.{value_view, assignment, merged, met_in, taken, value_in, with_assigned};
+ghost use Rattle.meson_variables.specs.CodeValues.{value_view, assignment, merged, met_in, taken, value_in, with_assigned};
 
 use meson_calls::call::BorrowedPlace;
 use meson_calls::note::{Note, What};

@@ -2,17 +2,17 @@
 
 ghost use Rattle.std.specs.Prelude.{◌≡◌, ℕ, List, not, true, All, IfOk, IfSome, IsTrue, option_map};
 ghost use Rattle.meson_variables.specs.CodeVariables.{AreVariables, is_among, is_sought, project_of};
-ghost use Rattle.meson_calls.specs.Knowns.{has_unknown};
+ghost use Rattle.meson_variables.specs.UnknownSetters.{has_unknown};
 ghost use Rattle.meson_calls.specs.Loading.{HasFileName, IsProject, loaded_from, project};
 ghost use Rattle.meson_variables.specs.Noted.{by_notes};
 ghost use Rattle.meson_calls.specs.NotedProjects.{IsNotedFor, project_in};
 ghost use Rattle.meson_calls.specs.Notes.{note_views};
 ghost use Rattle.meson_calls.specs.Strings.{NotesGood};
-ghost use Rattle.meson_variables.specs.Values.{value_in, value_view};
-ghost use Rattle.meson_calls.specs.Variables.{single};
+ghost use Rattle.meson_variables.specs.CodeValues.{value_in, value_view};
+ghost use Rattle.meson_variables.specs.Variables.{single};
 ghost use Rattle.meson_calls.specs.declared.call.Role.{Role};
 
-use crate::known::all_known;
+use crate::unknown_setters::all_known;
 use crate::mentions::{Mentions, is_among};
 use crate::target_sources::arguments_of;
 use crate::values::{Value, Values};

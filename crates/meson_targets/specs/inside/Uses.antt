@@ -4,7 +4,7 @@ use Rattle.std.specs.List.{list_any}
 use Rattle.meson_calls.specs.declared.call.CallRef.{CallRef}
 use Rattle.meson_calls.specs.Project.{Placed}
 use Rattle.meson_calls.specs.Notes.{Note, a_call, an_assignment, a_loop}
-use Rattle.meson_calls.specs.Variables.{one_of_names}
+use Rattle.meson_variables.specs.Variables.{one_of_names}
 use Rattle.meson_targets.specs.TargetEdits.{StatementPlace, call_uses, is_in_statement}
 
 abbrev pub note_uses : {S : Type 0} → List ℕ → Note S → Bool

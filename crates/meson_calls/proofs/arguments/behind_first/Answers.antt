@@ -2,7 +2,7 @@ use Rattle.std.proofs.Common.{length, ◌∙◌, sym, ap, ◌≤◌, arith}
 use Rattle.std.specs.Prelude.{is_some}
 use Rattle.meson_syntax.specs.View.{arg_view}
 use Rattle.meson_calls.specs.Calls.{value_without_name}
-use Rattle.meson_calls.specs.Keywords.{rest}
+use Rattle.meson_calls.specs.NamedArguments.{rest}
 use Rattle.meson_calls.proofs.Kept.{rest_found, rest_passed, kept_none}
 use Rattle.meson_calls.proofs.arguments.behind_first.Goals as goal
 

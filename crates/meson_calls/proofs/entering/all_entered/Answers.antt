@@ -2,7 +2,7 @@ use Rattle.std.proofs.Common.{◌++◌, ◌∷◌, [], ◌∙◌, sym, ap, subst
 use Rattle.std.specs.Prelude.{option_map, string_bytes}
 use Rattle.std.proofs.lemmas.List.{map-append}
 use Rattle.meson_calls.specs.Notes.{note_view, note_views}
-use Rattle.meson_calls.specs.Picking.{note_enters, entered_names}
+use Rattle.meson_calls.specs.ChosenNotes.{note_enters, entered_names}
 use Rattle.meson_calls.specs.Strings.{AreGood, note_words}
 use Rattle.meson_calls.proofs.Entered.{enters_one, enters_none, enters_ended}
 use Rattle.meson_calls.proofs.GoodNotes.{good_at}

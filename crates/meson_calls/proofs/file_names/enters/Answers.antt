@@ -4,7 +4,7 @@ use Rattle.std.proofs.lemmas.List.Elements.{All-get_or}
 use Rattle.meson_splice.specs.declared.file_set.File.{File}
 use Rattle.meson_calls.specs.Folders.{IsFileName, file_in}
 use Rattle.meson_calls.specs.Loading.{HasFileName}
-use Rattle.meson_calls.specs.Knowns.{is_file, is_entered}
+use Rattle.meson_calls.specs.FileNames.{is_file, is_entered}
 use Rattle.meson_calls.proofs.SubdirNames.{meant_at}
 use Rattle.meson_calls.proofs.file_names.enters.Goals as goal
 

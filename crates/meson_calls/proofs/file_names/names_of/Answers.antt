@@ -2,7 +2,7 @@ use Rattle.std.proofs.Common.{◌≡◌, ◌<◌, ◌≤◌, [], length, take, t
 use Rattle.std.specs.Prelude.{Bool, true, false, cond, ◌||◌, bytes_eq}
 use Rattle.std.proofs.lemmas.List.Folds.{list_any_more}
 use Rattle.meson_splice.specs.declared.file_set.File.{File}
-use Rattle.meson_calls.specs.Knowns.{is_file}
+use Rattle.meson_calls.specs.FileNames.{is_file}
 use Rattle.meson_calls.proofs.file_names.names_of.Goals as goal
 
 nobody : File

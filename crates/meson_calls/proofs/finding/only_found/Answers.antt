@@ -1,6 +1,6 @@
 use Rattle.std.proofs.Common.{◌∙◌, ap}
 use Rattle.meson_calls.specs.Notes.{note_views}
-use Rattle.meson_calls.specs.Picking.{found_places}
+use Rattle.meson_calls.specs.ChosenNotes.{found_places}
 use Rattle.meson_calls.specs.Finding.{only_one}
 use Rattle.meson_calls.proofs.OneCall.{refused_as, done_as}
 use Rattle.meson_calls.proofs.finding.only_found.Goals as goal

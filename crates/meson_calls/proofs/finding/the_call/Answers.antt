@@ -1,7 +1,7 @@
 use Rattle.std.proofs.Common.{◌≡◌, ap, ◌∙◌, subst, length}
 use Rattle.std.specs.Prelude.{false, ◌==◌}
 use Rattle.meson_calls.specs.Notes.{note_views}
-use Rattle.meson_calls.specs.Picking.{found_places}
+use Rattle.meson_calls.specs.ChosenNotes.{found_places}
 use Rattle.meson_calls.specs.Finding.{only_one}
 use Rattle.meson_calls.specs.OnePlace.{the_place}
 use Rattle.meson_calls.specs.declared.call.Role.TheVariants as role

@@ -4,7 +4,7 @@ use Rattle.meson_syntax.specs.Paths as paths
 use Rattle.meson_syntax.specs.View.{expr_view, view}
 use Rattle.meson_calls.specs.declared.call.Role.TheVariants as role
 use Rattle.meson_calls.specs.Calls.{call_of}
-use Rattle.meson_calls.specs.Picking.{is_role_call}
+use Rattle.meson_calls.specs.ChosenNotes.{is_role_call}
 use Rattle.meson_calls.proofs.Standing.{no_file, no_expression, an_expression}
 use Rattle.meson_calls.proofs.looking.is_target.Goals as goal
 

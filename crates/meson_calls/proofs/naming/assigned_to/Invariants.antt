@@ -1,6 +1,6 @@
 use Rattle.std.proofs.Common.{◌≡◌, ◌++◌, drop}
 use Rattle.meson_calls.specs.Notes.{note_views}
-use Rattle.meson_calls.specs.Picking.{assigned_places}
+use Rattle.meson_calls.specs.ChosenNotes.{assigned_places}
 use Rattle.meson_calls.proofs.naming.assigned_to.Given as goal
 
 abbrev pub invariant-loop-i : goal.invariant-loop-i

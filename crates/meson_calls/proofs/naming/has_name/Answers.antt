@@ -4,7 +4,7 @@ use Rattle.meson_syntax.specs.View.{text_at, list_view}
 use Rattle.meson_calls.specs.Calls.{first_literal, is}
 use Rattle.meson_calls.specs.Roles.{has_role}
 use Rattle.meson_calls.specs.Notes.{what_view}
-use Rattle.meson_calls.specs.Picking.{call_with, note_has_name}
+use Rattle.meson_calls.specs.ChosenNotes.{call_with, note_has_name}
 use Rattle.meson_calls.proofs.naming.has_name.Goals as goal
 
 pub returns-in_ok-named-in-Call : goal.returns-in_ok-named-in-Call

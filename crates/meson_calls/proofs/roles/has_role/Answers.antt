@@ -3,7 +3,7 @@ use Rattle.std.specs.Prelude.{◌&&◌, is_some, bytes_eq}
 use Rattle.meson_syntax.specs.View.{expr_view, list_view}
 use Rattle.meson_calls.specs.Calls.{first_argument}
 use Rattle.meson_calls.specs.Roles.{has_role}
-use Rattle.meson_calls.specs.Picking.{call_with}
+use Rattle.meson_calls.specs.ChosenNotes.{call_with}
 use Rattle.meson_calls.proofs.FirstArguments.{there_alike}
 use Rattle.meson_calls.proofs.roles.has_role.Goals as goal
 

@@ -1,7 +1,7 @@
 -- What is told of the call is what is told of the arguments that are left.
 use Rattle.std.proofs.Common.{◌≡◌, ℕ, List, drop}
 use Rattle.meson_syntax.specs.View.{list_view}
-use Rattle.meson_calls.specs.Picking.{call_with}
+use Rattle.meson_calls.specs.ChosenNotes.{call_with}
 use Rattle.meson_details.specs.Once.{call_told}
 use Rattle.meson_details.proofs.Told.{left_told}
 use Rattle.meson_details.proofs.duplicates.call_told.Given as goal

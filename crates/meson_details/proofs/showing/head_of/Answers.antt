@@ -2,7 +2,7 @@ use Rattle.std.proofs.Common.{ℕ, List, Option, Some, sym, ap, subst, ◌∙◌
 use Rattle.std.specs.Prelude.{Bool}
 use Rattle.meson_lex.specs.Kinds.{IsIdentifier}
 use Rattle.meson_syntax.specs.View.{list_view, text_at}
-use Rattle.meson_calls.specs.Picking.{call_with}
+use Rattle.meson_calls.specs.ChosenNotes.{call_with}
 use Rattle.meson_details.specs.Details.{is_hidden}
 use Rattle.meson_details.specs.declared.details.Head.{Head}
 use Rattle.meson_details.proofs.showing.head_of.Goals as goal

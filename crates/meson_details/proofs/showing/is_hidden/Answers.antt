@@ -2,8 +2,8 @@ use Rattle.std.proofs.Common.{◌≡◌, ℕ, suc, List, [], ◌∷◌, length, 
 use Rattle.std.specs.Prelude.{is_some, nat_lt}
 use Rattle.std.proofs.lemmas.Bool.Decides.{nat_tests}
 use Rattle.meson_calls.specs.Calls.{first_of, keyword, value_with_name}
-use Rattle.meson_calls.specs.Picking.{call_with}
-use Rattle.meson_calls.specs.Keywords.{kept_args, kwargs_key}
+use Rattle.meson_calls.specs.ChosenNotes.{call_with}
+use Rattle.meson_calls.specs.NamedArguments.{kept_args, kwargs_key}
 use Rattle.meson_calls.proofs.Listed.{list_is}
 use Rattle.meson_details.proofs.showing.is_hidden.Goals as goal
 

@@ -1,6 +1,6 @@
 use Rattle.std.proofs.Common.{◌++◌, ◌∷◌, [], ◌∙◌, sym, ap, drop}
 use Rattle.meson_calls.specs.Notes.{note_view, note_views}
-use Rattle.meson_calls.specs.Picking.{places_that}
+use Rattle.meson_calls.specs.ChosenNotes.{places_that}
 use Rattle.meson_calls.specs.Project.{place_at}
 use Rattle.meson_calls.proofs.Picked.{skipped, picked}
 use Rattle.meson_inventory.specs.Holdings.{note_calls}

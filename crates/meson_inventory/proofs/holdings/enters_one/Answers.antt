@@ -1,6 +1,6 @@
 use Rattle.std.proofs.Common.{◌≡◌, ◌∙◌, sym, ap, subst}
 use Rattle.std.specs.Prelude.{Some, IfOk}
-use Rattle.meson_calls.specs.Knowns.{is_entered, meant_in}
+use Rattle.meson_calls.specs.FileNames.{is_entered, meant_in}
 use Rattle.meson_calls.proofs.SubdirNames.{no_folder}
 use Rattle.meson_inventory.proofs.holdings.enters_one.Goals as goal
 

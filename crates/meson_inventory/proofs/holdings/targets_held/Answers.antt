@@ -3,7 +3,7 @@ use Rattle.std.specs.Prelude.{All}
 use Rattle.std.proofs.lemmas.Result.{IfOk-weaker}
 use Rattle.meson_calls.specs.declared.call.Role.TheVariants as role
 use Rattle.meson_calls.specs.Loading.{project}
-use Rattle.meson_calls.specs.Picking.{places_with_role}
+use Rattle.meson_calls.specs.ChosenNotes.{places_with_role}
 use Rattle.meson_calls.proofs.Picked.{role_places}
 use Rattle.meson_inventory.specs.Holdings.{IsCall, held_calls}
 use Rattle.meson_inventory.proofs.CallsHeld.{targets_called}

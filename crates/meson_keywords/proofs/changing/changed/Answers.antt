@@ -8,7 +8,7 @@ use Rattle.meson_calls.specs.Loading.{IsProject, named_trees, project, views}
 use Rattle.meson_steps.specs.Done.{IsDone, MayNotBeDone, unmeant}
 use Rattle.meson_steps.specs.ResultLimits.{plain_trees}
 use Rattle.meson_steps.specs.Working.{so_far}
-use Rattle.meson_calls.specs.Keywords.{not_hidden, kept_args, kwargs_key}
+use Rattle.meson_calls.specs.NamedArguments.{not_hidden, kept_args, kwargs_key}
 use Rattle.meson_calls.specs.Refusals.{IfRefused}
 use Rattle.meson_keywords.specs.Changing.{CallStands, request_steps}
 use Rattle.meson_keywords.specs.Tasking.{asked}

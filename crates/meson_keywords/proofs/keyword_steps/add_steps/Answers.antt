@@ -5,7 +5,7 @@ use Rattle.std.proofs.lemmas.Result.{err_from_is_err_and}
 use Rattle.meson_syntax.specs.View.{arg_view, args_view, expr_view}
 use Rattle.meson_edit.specs.Edits.{Written}
 use Rattle.meson_syntax.specs.Tree.{Argument, Nowhere}
-use Rattle.meson_keywords.specs.Keys.{written_list, written_named}
+use Rattle.meson_keywords.specs.ValueKinds.{written_list, written_named}
 use Rattle.meson_keywords.specs.KeywordEdits.{add_by_shape, add_there, behind_all, value_shape, text_in}
 use Rattle.meson_steps.specs.Meanings.{AreBehind}
 use Rattle.meson_keywords.proofs.StepsBehind.{all_meant, behind_is, by_none, by_some}

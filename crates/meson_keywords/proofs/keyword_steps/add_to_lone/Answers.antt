@@ -2,7 +2,7 @@ use Rattle.std.proofs.Common.{◌≡◌, ◌∷◌, List, ℕ, map, refl, sym, a
 use Rattle.std.specs.Prelude.{Err, Ok}
 use Rattle.meson_syntax.specs.View.{expr_view}
 use Rattle.meson_edit.specs.Edits.{Wrap}
-use Rattle.meson_keywords.specs.Keys.{written_element}
+use Rattle.meson_keywords.specs.ValueKinds.{written_element}
 use Rattle.meson_keywords.specs.KeywordEdits.{add_to_lone, all_behind, text_in}
 use Rattle.meson_calls.specs.Project.{child}
 use Rattle.meson_steps.specs.Steps.{step_in}

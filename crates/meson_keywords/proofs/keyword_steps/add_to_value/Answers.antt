@@ -2,7 +2,7 @@ use Rattle.std.proofs.Common.{◌≡◌, List, ℕ, length, map, sym, ap, ◌∙
 use Rattle.std.specs.Prelude.{Ok, OnOk}
 use Rattle.std.proofs.lemmas.List.{length-map}
 use Rattle.meson_syntax.specs.View.{arg_view, args_view, expr_view}
-use Rattle.meson_keywords.specs.Keys.{written_element}
+use Rattle.meson_keywords.specs.ValueKinds.{written_element}
 use Rattle.meson_keywords.specs.KeywordEdits.{add_by_shape, all_behind, text_in}
 use Rattle.meson_calls.specs.Project.{child}
 use Rattle.meson_calls.specs.Refusals.{RefusedAs}

@@ -1,6 +1,6 @@
 use Rattle.std.proofs.Common.{◌≡◌, ◌+◌, ◌++◌, drop, map}
 use Rattle.std.specs.Prelude.{Some}
-use Rattle.meson_keywords.specs.Keys.{written_element}
+use Rattle.meson_keywords.specs.ValueKinds.{written_element}
 use Rattle.meson_keywords.specs.KeywordEdits.{all_behind}
 use Rattle.meson_steps.specs.ListSteps.{bare}
 use Rattle.meson_keywords.proofs.keyword_steps.put_all_behind.Given as goal

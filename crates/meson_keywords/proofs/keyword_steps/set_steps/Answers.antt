@@ -5,14 +5,13 @@ use Rattle.std.proofs.lemmas.Result.{err_from_is_err_and}
 use Rattle.meson_lex.specs.declared.kinds.Span.{Span}
 use Rattle.meson_calls.specs.declared.refusal.Refusal.{Refusal}
 use Rattle.meson_calls.specs.Calls.{Numbered}
-use Rattle.meson_steps.specs.Steps.{Step}
+use Rattle.meson_steps.specs.Steps.{Step, step_in}
 use Rattle.meson_syntax.specs.Tree.{Argument, Expression, Nowhere}
 use Rattle.meson_syntax.specs.View.{arg_view, args_view}
 use Rattle.meson_edit.specs.Edits.{Replace, Written}
-use Rattle.meson_keywords.specs.Keys.{written_named}
+use Rattle.meson_keywords.specs.ValueKinds.{written_named}
 use Rattle.meson_keywords.specs.KeywordEdits.{behind_all, set_there}
 use Rattle.meson_steps.specs.inside.WrittenValues.{value_written}
-use Rattle.meson_steps.specs.Steps.{step_in}
 use Rattle.meson_steps.specs.Meanings.{AreBehind}
 use Rattle.meson_keywords.proofs.StepsBehind.{all_meant, behind_is, by_none, by_some, one_more}
 use Rattle.meson_keywords.proofs.keyword_steps.set_steps.Goals as goal

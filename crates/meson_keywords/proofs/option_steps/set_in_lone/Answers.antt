@@ -2,8 +2,8 @@ use Rattle.std.proofs.Common.{◌++◌, ◌∷◌, [], map, refl, sym, ap, ◌�
 use Rattle.std.specs.Prelude.{Some}
 use Rattle.meson_syntax.specs.Tree.{Argument, Nowhere}
 use Rattle.meson_edit.specs.Edits.{Wrap, Written}
-use Rattle.meson_keywords.specs.declared.keys.ElementKind.TheVariants as element
-use Rattle.meson_keywords.specs.Keys.{written_element}
+use Rattle.meson_keywords.specs.declared.value_kinds.ElementKind.TheVariants as element
+use Rattle.meson_keywords.specs.ValueKinds.{written_element}
 use Rattle.meson_keywords.specs.KeywordEdits.{behind_all}
 use Rattle.meson_steps.specs.ListSteps.{bare}
 use Rattle.meson_keywords.specs.Options.{set_in_lone}

@@ -3,7 +3,7 @@ use Rattle.std.proofs.lemmas.Result.{err_from_is_err_and}
 use Rattle.std.specs.Prelude.{Err, Ok}
 use Rattle.meson_syntax.specs.View.{arg_view, args_view, expr_view}
 use Rattle.std.proofs.lemmas.List.{length-map}
-use Rattle.meson_keywords.specs.declared.keys.ElementKind.TheVariants as element
+use Rattle.meson_keywords.specs.declared.value_kinds.ElementKind.TheVariants as element
 use Rattle.meson_calls.specs.declared.refusal.Refusal.TheVariants.{NotLiteral}
 use Rattle.meson_calls.specs.Calls.{literal_of}
 use Rattle.meson_keywords.specs.KeywordEdits.{all_of_kind, passing}

@@ -6,8 +6,8 @@ use Rattle.meson_splice.specs.Patch.{then_ok}
 use Rattle.meson_syntax.specs.Tree.{Argument, Nowhere}
 use Rattle.meson_syntax.specs.View.{arg_view, args_view, expr_view}
 use Rattle.meson_edit.specs.Edits.{Written}
-use Rattle.meson_keywords.specs.declared.keys.ElementKind.TheVariants as element
-use Rattle.meson_keywords.specs.Keys.{written_list, written_named}
+use Rattle.meson_keywords.specs.declared.value_kinds.ElementKind.TheVariants as element
+use Rattle.meson_keywords.specs.ValueKinds.{written_list, written_named}
 use Rattle.meson_keywords.specs.KeywordEdits.{behind_all, the_value}
 use Rattle.meson_keywords.specs.Options.{entries, option_text, options_key, set_by_value, set_option_there}
 use Rattle.meson_steps.specs.Meanings.{AreBehind}

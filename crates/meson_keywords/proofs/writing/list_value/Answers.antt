@@ -2,7 +2,7 @@
 use Rattle.std.proofs.Common.{◌≡◌, ◌++◌, ◌∷◌, [], List, ℕ, map, sym, subst}
 use Rattle.std.specs.Prelude.{IfOk, Ok}
 use Rattle.meson_splice.specs.Patch.{then_ok}
-use Rattle.meson_keywords.specs.Keys.{element_bytes, written_list}
+use Rattle.meson_keywords.specs.ValueKinds.{element_bytes, written_list}
 use Rattle.meson_steps.specs.inside.WrittenValues.{IsSet}
 use Rattle.meson_steps.specs.WrittenTexts.{comma_between}
 use Rattle.meson_keywords.proofs.WrittenElements.{list_set}

@@ -1,6 +1,6 @@
 use Rattle.std.proofs.Common.{subst}
 use Rattle.std.specs.Prelude.{option_map}
-use Rattle.meson_keywords.specs.Keys.{of_kind, written_switch}
+use Rattle.meson_keywords.specs.ValueKinds.{of_kind, written_switch}
 use Rattle.meson_steps.specs.inside.WrittenValues.{IsSet}
 use Rattle.meson_keywords.proofs.WrittenElements.{switch_is}
 use Rattle.meson_keywords.proofs.writing.switch_value.Goals as goal

@@ -2,7 +2,7 @@ use Rattle.std.proofs.Common.{◌≡◌, ◌<◌, ◌≤◌, ◌++◌, List, ℕ
 use Rattle.std.specs.Prelude.{All}
 use Rattle.std.specs.Str.{IsUtf8}
 use Rattle.std.proofs.lemmas.List.{get_or-map, length-map, take_all}
-use Rattle.meson_keywords.specs.Keys.{element_bytes}
+use Rattle.meson_keywords.specs.ValueKinds.{element_bytes}
 use Rattle.meson_calls.proofs.Loads.{all_more}
 use Rattle.meson_keywords.proofs.WrittenElements.{first_behind, next_behind}
 use Rattle.meson_keywords.proofs.writing.written_list.Goals as goal

@@ -3,7 +3,7 @@ use Rattle.std.proofs.Common.{◌≡◌, ◌<◌, ◌≤◌, length, sym, subst}
 use Rattle.std.specs.Prelude.{OnOk}
 use Rattle.meson_calls.specs.declared.refusal.Refusal.TheVariants.{DuplicateKeyword}
 use Rattle.meson_calls.specs.Calls.{value_with_name}
-use Rattle.meson_calls.specs.Keywords.{kept_args}
+use Rattle.meson_calls.specs.NamedArguments.{kept_args}
 use Rattle.meson_calls.specs.Refusals.{IfRefused}
 use Rattle.std.specs.Str.{IsUtf8}
 use Rattle.meson_sources.proofs.KeyTexts.{sources_text, extra_text}

@@ -8,9 +8,9 @@ use Rattle.meson_variables.specs.Expansion.{max_followed}
 use Rattle.meson_steps.specs.ListSteps.{bare}
 use Rattle.meson_variables.specs.CodeVariables.{project_of}
 use Rattle.meson_sources.specs.inside.Naming.{new_among}
-use Rattle.meson_variables.specs.Sources.{or_call, or_option}
-use Rattle.meson_calls.specs.Keywords.{kept_args}
-use Rattle.meson_variables.specs.Sourced.{all_gathered}
+use Rattle.meson_variables.specs.TargetSources.{or_call, or_option}
+use Rattle.meson_calls.specs.NamedArguments.{kept_args}
+use Rattle.meson_variables.specs.ExpandedArguments.{all_gathered}
 use Rattle.meson_sources.specs.SourceEdits.{insertion_steps, plain_len}
 use Rattle.meson_steps.specs.Names.{checked_names}
 use Rattle.meson_variables.specs.Tallies.{gathered}

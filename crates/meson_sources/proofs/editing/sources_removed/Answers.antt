@@ -6,8 +6,8 @@ use Rattle.meson_calls.specs.declared.refusal.Refusal.TheVariants.{DuplicateKeyw
 use Rattle.meson_calls.specs.Calls.{value_with_name}
 use Rattle.meson_variables.specs.Expansion.{max_followed}
 use Rattle.meson_variables.specs.CodeVariables.{project_of}
-use Rattle.meson_calls.specs.Keywords.{kept_args}
-use Rattle.meson_variables.specs.Sourced.{all_gathered}
+use Rattle.meson_calls.specs.NamedArguments.{kept_args}
+use Rattle.meson_variables.specs.ExpandedArguments.{all_gathered}
 use Rattle.meson_steps.specs.Names.{checked_names}
 use Rattle.meson_variables.specs.Tallies.{gathered}
 use Rattle.meson_sources.proofs.Marked.{as_many_numbers}

@@ -5,7 +5,7 @@ use Rattle.std.proofs.lemmas.Result.{err_from_is_err_and}
 use Rattle.meson_calls.specs.declared.refusal.Refusal.TheVariants.{DuplicateKeyword}
 use Rattle.meson_calls.specs.Calls.{value_with_name}
 use Rattle.meson_variables.specs.CodeVariables.{project_of}
-use Rattle.meson_calls.specs.Keywords.{kwargs_key, kept_args}
+use Rattle.meson_calls.specs.NamedArguments.{kwargs_key, kept_args}
 use Rattle.meson_steps.specs.Names.{checked_names}
 use Rattle.meson_sources.proofs.ExtrasMeant.{extra_once, extra_twice}
 use Rattle.meson_sources.proofs.KeyTexts.{extra_text}

@@ -4,8 +4,8 @@ use Rattle.meson_calls.specs.Calls.{value_with_name}
 use Rattle.meson_steps.specs.ListSteps.{bare}
 use Rattle.meson_variables.specs.CodeVariables.{project_of}
 use Rattle.meson_sources.specs.inside.Naming.{new_among}
-use Rattle.meson_variables.specs.Sources.{or_option}
-use Rattle.meson_calls.specs.Keywords.{kept_args}
+use Rattle.meson_variables.specs.TargetSources.{or_option}
+use Rattle.meson_calls.specs.NamedArguments.{kept_args}
 use Rattle.meson_sources.specs.SourceEdits.{extra_key, insertion_steps, plain_len}
 use Rattle.meson_variables.specs.Tallies.{gathered}
 use Rattle.meson_sources.specs.Targeted.{lone_or_new}

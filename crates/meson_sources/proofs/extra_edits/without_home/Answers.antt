@@ -1,7 +1,7 @@
 use Rattle.std.proofs.Common.{◌<◌, length, map, sym, ◌∙◌, subst, arith}
 use Rattle.std.specs.Prelude.{OnOk}
 use Rattle.std.proofs.lemmas.List.{length-map}
-use Rattle.meson_calls.specs.Keywords.{IsFirstNamed}
+use Rattle.meson_calls.specs.NamedArguments.{IsFirstNamed}
 use Rattle.meson_calls.specs.Refusals.{RefusedAs}
 use Rattle.meson_steps.specs.Meanings.{AreBehind}
 use Rattle.meson_sources.proofs.ExtrasAdded.{lone}

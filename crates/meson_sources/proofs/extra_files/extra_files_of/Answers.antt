@@ -7,8 +7,8 @@ use Rattle.meson_calls.specs.declared.refusal.Refusal.TheVariants.{DuplicateKeyw
 use Rattle.meson_calls.specs.Calls.{value_with_name}
 use Rattle.meson_variables.specs.Expansion.{max_followed}
 use Rattle.meson_variables.specs.CodeVariables.{project_of}
-use Rattle.meson_calls.specs.Keywords.{kept_args}
-use Rattle.meson_variables.specs.Sources.{or_call, or_option}
+use Rattle.meson_calls.specs.NamedArguments.{kept_args}
+use Rattle.meson_variables.specs.TargetSources.{or_call, or_option}
 use Rattle.meson_variables.specs.Tallies.{gathered}
 use Rattle.meson_sources.specs.Targeted.{extra_gathered}
 use Rattle.meson_sources.proofs.ExtrasTold.{told_once, told_twice}

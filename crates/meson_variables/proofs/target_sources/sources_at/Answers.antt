@@ -7,9 +7,9 @@ use Rattle.meson_calls.specs.declared.refusal.Refusal.TheVariants.{OutOfMemory}
 use Rattle.meson_calls.specs.Calls.{call_of}
 use Rattle.meson_calls.specs.GoodLists.{GoodListing}
 use Rattle.meson_variables.specs.CodeVariables.{project_of}
-use Rattle.meson_calls.specs.Picking.{call_with}
+use Rattle.meson_calls.specs.ChosenNotes.{call_with}
 use Rattle.meson_calls.specs.Project.{placed}
-use Rattle.meson_variables.specs.Sources.{sources_of_call}
+use Rattle.meson_variables.specs.TargetSources.{sources_of_call}
 use Rattle.meson_calls.proofs.Loads.{as_many}
 use Rattle.meson_calls.proofs.Standing.{no_file, no_expression, an_expression}
 use Rattle.meson_calls.proofs.CallsAt.{listing_good}

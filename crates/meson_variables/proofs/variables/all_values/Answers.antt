@@ -1,7 +1,7 @@
 use Rattle.std.proofs.Common.{◌≡◌, ◌∙◌, sym, ap, subst}
 use Rattle.std.specs.Prelude.{not}
 use Rattle.std.proofs.lemmas.Result.{IfOk-weaker}
-use Rattle.meson_calls.specs.Knowns.{has_unknown}
+use Rattle.meson_variables.specs.UnknownSetters.{has_unknown}
 use Rattle.meson_calls.specs.Loading.{named_trees, views}
 use Rattle.meson_variables.specs.Noted.{by_notes}
 use Rattle.meson_calls.specs.Notes.{note_views, notes}

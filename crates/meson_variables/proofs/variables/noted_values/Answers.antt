@@ -1,6 +1,6 @@
 use Rattle.std.proofs.Common.{◌≡◌, ◌∙◌, length, ap, arith}
 use Rattle.std.specs.Prelude.{not}
-use Rattle.meson_calls.specs.Knowns.{has_unknown}
+use Rattle.meson_variables.specs.UnknownSetters.{has_unknown}
 use Rattle.meson_variables.specs.Noted.{by_notes}
 use Rattle.meson_calls.specs.NotedProjects.{project_in}
 use Rattle.meson_calls.specs.Notes.{note_views, notes}

@@ -3,7 +3,7 @@ use Rattle.std.specs.Prelude.{Ok, Err, IfOk}
 use Rattle.meson_syntax.specs.View.{list_view, name_at, text_at}
 use Rattle.meson_calls.specs.Loading.{IsProject, loaded_from, project}
 use Rattle.meson_variables.specs.CodeVariables.{project_of}
-use Rattle.meson_calls.specs.Picking.{call_with}
+use Rattle.meson_calls.specs.ChosenNotes.{call_with}
 use Rattle.meson_calls.specs.Project.{placed}
 use Rattle.meson_calls.specs.Refusals.{IfRefused}
 use Rattle.meson_sources.specs.Extras.{extra_files, extra_of_call}

@@ -1,7 +1,8 @@
 use Rattle.std.proofs.Common.{◌∙◌, ap, sym, subst}
 use Rattle.meson_calls.specs.Loading.{project}
 use Rattle.meson_calls.specs.NotedProjects.{project_in}
-use Rattle.meson_calls.specs.Roles.{found, places}
+use Rattle.meson_calls.specs.Naming.{found}
+use Rattle.meson_calls.specs.Roles.{places}
 use Rattle.meson_calls.proofs.NotedCalls.{noted_good}
 use Rattle.meson_calls.proofs.Picked.{found_notes}
 use Rattle.meson_calls.specs.Notes.{note_views}

@@ -2,7 +2,7 @@ use Rattle.std.proofs.Common.{◌≡◌, Some, ◌∙◌, sym, ap, ap₂, subst}
 use Rattle.std.specs.Prelude.{Ok, Err, IfOk, IsTrue}
 use Rattle.meson_calls.specs.Loading.{IsProject, loaded_from, project}
 use Rattle.meson_calls.specs.Roles.{is_target}
-use Rattle.meson_variables.specs.Sources.{sources}
+use Rattle.meson_variables.specs.TargetSources.{sources}
 use Rattle.meson_calls.specs.Refusals.{IfRefused}
 use Rattle.meson_plan.proofs.project.Project.sources.Goals as goal
 

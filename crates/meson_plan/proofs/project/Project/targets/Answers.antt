@@ -2,7 +2,7 @@ use Rattle.std.proofs.Common.{◌∙◌, sym, ap, subst}
 use Rattle.meson_calls.specs.declared.call.Role.TheVariants as role
 use Rattle.meson_calls.specs.Loading.{AreParsed, loaded_from, project}
 use Rattle.meson_calls.specs.Notes.{note_views, notes}
-use Rattle.meson_calls.specs.Picking.{places_with_role}
+use Rattle.meson_calls.specs.ChosenNotes.{places_with_role}
 use Rattle.meson_calls.proofs.Picked.{role_places}
 use Rattle.meson_plan.proofs.project.Project.targets.Goals as goal
 

@@ -3,7 +3,7 @@ use Rattle.std.specs.Prelude.{if◌then◌else◌, None}
 use Rattle.meson_calls.specs.Notes.{note_view, note_views}
 use Rattle.meson_variables.specs.Noted.{note_sets, is_set_by}
 use Rattle.meson_calls.specs.Strings.{AreGood, note_words}
-use Rattle.meson_variables.specs.Values.{value_in}
+use Rattle.meson_variables.specs.CodeValues.{value_in}
 use Rattle.meson_variables.proofs.Anys.{any_more}
 use Rattle.meson_variables.proofs.Assignments.{forgotten}
 use Rattle.meson_calls.proofs.GoodNotes.{good_at}

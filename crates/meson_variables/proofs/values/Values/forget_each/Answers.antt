@@ -1,8 +1,8 @@
 use Rattle.std.proofs.Common.{◌≤◌, length, take, take_all, ◌∙◌, sym, ap, arith}
 use Rattle.std.specs.Prelude.{if◌then◌else◌, None, bytes_eq}
 use Rattle.meson_syntax.specs.View.{name_at, names_at}
-use Rattle.meson_variables.specs.Values.{value_in}
-use Rattle.meson_calls.specs.Variables.{one_of_names}
+use Rattle.meson_variables.specs.CodeValues.{value_in}
+use Rattle.meson_variables.specs.Variables.{one_of_names}
 use Rattle.meson_variables.proofs.Anys.{any_more}
 use Rattle.meson_variables.proofs.Assignments.{forgotten}
 use Rattle.meson_variables.proofs.values.Values.forget_each.Goals as goal

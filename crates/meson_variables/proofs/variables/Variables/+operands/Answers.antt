@@ -6,8 +6,8 @@ use Rattle.meson_syntax.specs.View.{expr_view}
 use Rattle.meson_variables.specs.Expansion.{is_operand_by, is_value_by, is_single_by, is_list_variable}
 use Rattle.meson_variables.specs.CodeVariables.{project_of}
 use Rattle.meson_calls.specs.Project.{Project}
-use Rattle.meson_variables.specs.Values.{value_view}
-use Rattle.meson_calls.specs.Variables.{single}
+use Rattle.meson_variables.specs.CodeValues.{value_view}
+use Rattle.meson_variables.specs.Variables.{single}
 use Rattle.meson_calls.proofs.Nested.{array_view, call_view}
 use Rattle.meson_calls.proofs.Parted.{row_is}
 use Rattle.meson_variables.proofs.variables.Variables.+operands.Goals as goal

@@ -5,8 +5,8 @@ use Rattle.meson_calls.specs.Project.{place}
 use Rattle.meson_calls.specs.Calls.{value_with_name}
 use Rattle.meson_variables.specs.Expansion.{fixed}
 use Rattle.meson_variables.specs.CodeVariables.{project_of}
-use Rattle.meson_calls.specs.Keywords.{kept_arg}
-use Rattle.meson_variables.specs.Sourced.{expansion_step}
+use Rattle.meson_calls.specs.NamedArguments.{kept_arg}
+use Rattle.meson_variables.specs.ExpandedArguments.{expansion_step}
 use Rattle.meson_calls.specs.Strings.{AreGood}
 use Rattle.meson_variables.specs.Tallies.{gathered, expanded}
 use Rattle.meson_variables.proofs.KeptTurns.{kept_turn}

@@ -1,0 +1,7 @@
+use Rattle.std.proofs.Common.{◌≡◌, ◌++◌, drop}
+use Rattle.meson_calls.specs.Notes.{note_views}
+use Rattle.meson_calls.specs.ChosenNotes.{places_with_role}
+use Rattle.meson_calls.proofs.chosen_notes.with_role.Given as goal
+
+abbrev pub invariant-loop-i : goal.invariant-loop-i
+invariant-loop-i l = l.found.items ++ places_with_role l.role (note_views (drop l.i l.notes)) ≡ places_with_role l.role (note_views l.notes)

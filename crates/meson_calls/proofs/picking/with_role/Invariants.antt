@@ -1,7 +1,0 @@
-use Rattle.std.proofs.Common.{◌≡◌, ◌++◌, drop}
-use Rattle.meson_calls.specs.Notes.{note_views}
-use Rattle.meson_calls.specs.Picking.{places_with_role}
-use Rattle.meson_calls.proofs.picking.with_role.Given as goal
-
-abbrev pub invariant-loop-i : goal.invariant-loop-i
-invariant-loop-i l = l.found.items ++ places_with_role l.role (note_views (drop l.i l.notes)) ≡ places_with_role l.role (note_views l.notes)
