@@ -15,7 +15,7 @@ pub enum Role {
     Project,
 }
 
-/// The place of a call or an array: the number of its file, and the path in it.
+/// The place of a node, mostly of a call or an array: the number of its file, and the path in it.
 #[derive(Debug, Drop)]
 pub struct CallRef {
     pub file: usize,

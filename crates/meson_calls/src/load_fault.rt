@@ -15,6 +15,7 @@ pub enum LoadFault {
     BadFileName(usize),
     /// This file, counted from 0, is the first that has no tree.
     Parse { index: usize, fault: ParseFault },
+    /// A growth was refused.
     OutOfMemory,
 }
 

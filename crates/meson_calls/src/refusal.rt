@@ -44,6 +44,7 @@ pub enum Refusal {
     TooDeep,
     /// The new file would be too large.
     TooLarge,
+    /// A growth was refused.
     OutOfMemory,
 }
 

@@ -1,4 +1,4 @@
-//! Which calls a command may be about.
+//! The texts at spans, and which calls a command may be about.
 
 ghost use Rattle.std.specs.Prelude.{◌≡◌, None, Some, MatchOption, IfOk};
 ghost use Rattle.std.specs.Str.{IsUtf8};

@@ -18,6 +18,7 @@ pub enum UsageFault {
     Unsupported,
     /// The text is no title.
     BadTitle,
+    /// A growth was refused.
     OutOfMemory,
 }
 

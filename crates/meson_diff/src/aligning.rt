@@ -8,7 +8,7 @@ use crate::entry::{Entry, Mark, push_all};
 use crate::line::Line;
 use std::alloc::{AllocError, Global};
 
-/// How many lines of each text are looked at for one that both go on with.
+/// How many lines of each text may stand before the one that both go on with.
 const REACH: usize = 64;
 
 /// How many lines go and how many come before both texts go on with one line.

@@ -8,19 +8,25 @@ use std::fmt;
 /// Why a text is no script or no log. Entries of a script are counted from 0.
 #[derive(Debug, Drop, PartialEq)]
 pub enum ScriptFault {
+    /// The text is no JSON.
     NotJson,
+    /// Its value is no array.
     NotArray,
     /// More than `MAX_COMMANDS` entries.
     TooMany,
+    /// This entry, counted from 0, is no object.
     NotObject(usize),
     /// Its `type` is missing, or none of those that are known.
     UnknownType(usize),
     /// Its member of this name is missing or of another kind.
     BadField(usize, Text),
+    /// Its `operation` is none of those that are known.
     UnknownOperation(usize),
     /// The operation is known, but not done here.
     Unsupported(usize),
+    /// The text is no log.
     BadLog,
+    /// A growth was refused.
     OutOfMemory,
 }
 

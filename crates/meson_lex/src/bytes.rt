@@ -1,4 +1,4 @@
-// Tests of single bytes, and of what a text begins with.
+//! Tests of single bytes, and of what a text begins with.
 ghost use Rattle.std.specs.Prelude.{◌≡◌, ◌==◌, ◌<◌, length, not, IfSome};
 ghost use Rattle.std.specs.List.{prefix_len};
 ghost use Rattle.meson_lex.specs.Bytes.{is_blank, is_line_byte, is_word_start, is_word_byte, is_digit, is_hexadecimal, is_octal, is_binary, begins, begins_three_quotes, begins_bare_return, first_bare_return};

@@ -1,4 +1,4 @@
-// Escapes: what a backslash and the bytes behind it stand for in a plain string.
+//! Escapes: what a backslash and the bytes behind it stand for in a plain string.
 ghost use Rattle.std.specs.Prelude.{◌≡◌, ◌≤◌, ◌<◌, take, length};
 ghost use Rattle.std.specs.Char.{digit_value};
 ghost use Rattle.std.specs.List.{take_while, prefix_len};

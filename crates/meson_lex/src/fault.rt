@@ -1,4 +1,4 @@
-// What the calls of this crate answer where they have no result.
+//! What the calls of this crate answer where they have no result.
 use std::alloc::AllocError;
 use std::fmt;
 use thiserror::Error;
@@ -37,6 +37,7 @@ impl std::error::Error for LexFault {}
 /// Why no literal could be read or written.
 #[derive(Clone, Copy, Debug, PartialEq, Eq, Error)]
 pub enum LiteralFault {
+    /// A growth was refused.
     #[error("out of memory")]
     OutOfMemory,
 }

@@ -1,4 +1,4 @@
-// What stands at the front of a text.
+//! What stands at the front of a text.
 ghost use Rattle.std.specs.Prelude.{◌≡◌, ◌+◌, ◌<◌, ◌^◌, ◌∷◌, length};
 ghost use Rattle.meson_lex.specs.Scan.{plain, front};
 

@@ -1,4 +1,4 @@
-// The items of a text, one after another.
+//! The items of a text, one after another.
 ghost use Rattle.std.specs.Prelude.{◌≡◌, length};
 ghost use Rattle.meson_lex.specs.Lexed.{IsLexed, Tiles};
 

@@ -1,4 +1,4 @@
-// What the items of a build file are.
+//! What the items of a build file are.
 
 /// A range of bytes of a source, from the first to behind the last.
 #[derive(Clone, Copy, Debug, PartialEq, Eq)]

@@ -1,4 +1,4 @@
-// Laws of item lists, as functions that do nothing and whose contracts say them.
+//! Laws of item lists, as functions that do nothing and whose contracts say them.
 ghost use Rattle.std.specs.Prelude.{◌≡◌, ◌↔◌, ℕ, List, [], ◌++◌, Result, IfOk, Some, None, false, IsUtf8};
 ghost use Rattle.std.specs.List.{AllByRecursion};
 ghost use Rattle.meson_lex.specs.Bytes.{is_quote, begins, first_bare_return};

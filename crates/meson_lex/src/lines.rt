@@ -1,4 +1,4 @@
-// Blanks, line ends, comments and continuations at the front of a text.
+//! Blanks, line ends, comments and continuations at the front of a text.
 ghost use Rattle.std.specs.Prelude.{◌≡◌, ◌+◌, ◌<◌, ◌≤◌, ◌^◌, length, not};
 ghost use Rattle.std.specs.List.{prefix_len};
 ghost use Rattle.meson_lex.specs.Bytes.{is_blank, is_line_byte};

@@ -1,4 +1,4 @@
-// Literals: the text that a string stands for, and the string that is written for a text.
+//! Literals: the text that a string stands for, and the string that is written for a text.
 ghost use Rattle.std.specs.Prelude.{◌≡◌, ◌<◌, ◌++◌, ◌≤◌, IfOk, OnOk, length, option_map};
 ghost use Rattle.std.specs.Char.{digit_char};
 ghost use Rattle.std.specs.Str.{chars, encode_utf8_all};

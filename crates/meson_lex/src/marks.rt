@@ -1,4 +1,4 @@
-// Punctuation.
+//! Punctuation.
 ghost use Rattle.std.specs.Prelude.{◌≡◌, ℕ, List, ◌∷◌, Ok, IfSome};
 ghost use Rattle.meson_lex.specs.Scan.{plain_mark, equal_mark, mark_front, front};
 

@@ -1,4 +1,4 @@
-// Integers.
+//! Integers.
 ghost use Rattle.std.specs.Prelude.{◌≡◌};
 ghost use Rattle.std.specs.List.{list_all};
 ghost use Rattle.meson_lex.specs.Bytes.{is_digit, is_hexadecimal, is_octal, is_binary};

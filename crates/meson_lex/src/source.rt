@@ -1,4 +1,4 @@
-// The items of a text as a whole.
+//! The items of a text as a whole.
 ghost use Rattle.std.specs.Prelude.{◌≡◌, ◌≤◌, length, slice_range};
 ghost use Rattle.meson_lex.specs.Lexed.{IsLexed, Tiles};
 

@@ -1,4 +1,4 @@
-// Strings: what opens one, and where it ends.
+//! Strings: what opens one, and where it ends.
 ghost use Rattle.std.specs.Prelude.{◌≡◌, ◌+◌, ◌<◌, ◌≤◌, ◌^◌, Some, None, length, take, IfSome};
 ghost use Rattle.meson_lex.specs.Bytes.{first_bare_return};
 ghost use Rattle.meson_lex.specs.Kinds.{opener};

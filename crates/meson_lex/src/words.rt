@@ -1,4 +1,4 @@
-// Identifiers and reserved words.
+//! Identifiers and reserved words.
 ghost use Rattle.std.specs.Prelude.{◌≡◌, ◌≤◌, ◌↔◌, All, IsTrue, length, map};
 ghost use Rattle.std.specs.List.{prefix_len, list_all};
 ghost use Rattle.meson_lex.specs.Bytes.{is_word_byte};

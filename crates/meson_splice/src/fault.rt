@@ -17,8 +17,11 @@ pub enum SpliceFault {
     OutOfRange(Text, usize),
     /// Other bytes than the replaced ones stand at this offset.
     Stale(Text, usize),
+    /// No change stands that could be taken back.
     NothingToUndo,
+    /// No change was taken back that could be done again.
     NothingToRedo,
+    /// A growth was refused.
     OutOfMemory,
 }
 

@@ -34,6 +34,7 @@ pub enum PushFault {
     /// A file of this name is there.
     #[error("F1 name twice")]
     NameTwice,
+    /// A growth was refused.
     #[error("out of memory")]
     OutOfMemory,
 }

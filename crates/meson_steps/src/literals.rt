@@ -9,7 +9,7 @@ use meson_lex::write_literal;
 use meson_splice::{Bytes, Text};
 use std::alloc::{AllocError, Global};
 
-/// The key of a refusal.
+/// A copy of a key, for a refusal that names it.
 pub fn key_of(key: &Text) -> Result<Text, Refusal>
     ensures copied { IfOk result (λ t. t ≡ key.now) }
     ensures refused { IfErr result (λ e. e ≡ Refusal.OutOfMemory) }

@@ -30,6 +30,7 @@ pub(crate) fn part(bytes: &[u8], from: usize, len: usize) -> &[u8]
     requires { from + len ≤ length bytes.now }
     ensures { result.now ≡ slice_range bytes.now from (from + len) }
 {
+    // The part ends no later than the bytes, so the sum is within a `usize`.
     let _all = bytes.len();
     &bytes[from..from + len]
 }

@@ -1,4 +1,4 @@
-//! Where the value of an argument stands.
+//! Where elements, their values and whole lists stand.
 
 ghost use Rattle.std.specs.Prelude.{◌≡◌, option_and_then, option_map};
 ghost use Rattle.meson_syntax.specs.Paths.{list_at, list_in, nth, value_of};

@@ -14,7 +14,7 @@ pub enum StoreFault {
     WriteFailed { name: Text, still_new: Many<Text> },
     /// The store has no file of that name.
     NoFile(Text),
-    /// What the program had to say could not be written.
+    /// What the program had to say could not be written. No line tells it: the program ends with status 3.
     OutputFailed,
     /// A growth was refused.
     OutOfMemory,

@@ -10,6 +10,7 @@ use std::fmt;
 pub enum ParseFault {
     /// More than `MAX_LEN` bytes.
     TooLarge,
+    /// The text is not UTF-8.
     NotUtf8,
     /// The text begins with a byte order mark.
     ByteOrderMark,
@@ -19,6 +20,7 @@ pub enum ParseFault {
     Unexpected(usize),
     /// The bracket, `if`, `foreach` or question mark that stands here opens a construct inside as many as may stand inside one another.
     TooDeep(usize),
+    /// A growth was refused.
     OutOfMemory,
 }
 

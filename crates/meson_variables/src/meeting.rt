@@ -71,7 +71,7 @@ pub fn list_of(
     }
 }
 
-/// The name of a variable.
+/// A copy of a variable's name, where there is one.
 pub fn copy_name(alloc: Global, name: Option<&str>) -> Result<Option<Text>, AllocError>
     ensures { IfOk result (λ copy. copy ≡ option_map (λ x. x.now) name.entry) }
 {

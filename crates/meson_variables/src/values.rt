@@ -37,7 +37,7 @@ fn is_outermost(place: BorrowedPlace<'_>) -> bool
     place.path.len() == 1
 }
 
-/// The value of the only assignment to a variable, where it is given with `=` outside `if` and `foreach`.
+/// The value that a variable has where this is its only assignment: one that is given with `=` outside `if` and `foreach`.
 fn outermost<'t>(note: &Note<'_, 't>, sets: bool, value: &'t Expr) -> Option<Value<'t>>
     ensures { option_map value_view result ≡ only_value (assignment note.now sets (expr_view note.now.source.now value.now) ∷ []) }
 {
