@@ -58,7 +58,7 @@ pub fn first_literal(
 }
 
 /// Whether the first argument without a name is a literal of this text.
-pub fn first_literal_is(
+pub(crate) fn first_literal_is(
     alloc: Global,
     source: &[u8],
     arguments: &List,

@@ -91,7 +91,7 @@ pub fn first_argument(arguments: &List) -> Option<&Expr>
 }
 
 /// Whether a call has a role.
-pub fn has_role(role: Role, function: &[u8], arguments: &List) -> bool
+pub(crate) fn has_role(role: Role, function: &[u8], arguments: &List) -> bool
     ensures { (source : Source) → result ≡ has_role role (call_with function.now (list_view source arguments.now)) }
 {
     match role {

@@ -79,7 +79,7 @@ fn block_of(stmt: &Stmt, n: usize) -> Option<&Block>
 }
 
 /// The n-th statement of a block.
-pub fn stmt_in(block: &Block, n: usize) -> Option<&Stmt>
+fn stmt_in(block: &Block, n: usize) -> Option<&Stmt>
     ensures { (source : Source) → option_map (λ s. stmt_view source s.now) result ≡ statement_in (block_view source block.now) n }
 {
     let stmts = block.statements.get();

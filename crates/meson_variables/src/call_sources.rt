@@ -95,7 +95,7 @@ pub fn home_of(
 ///
 /// # Errors
 /// `sources:` is there twice, or memory is refused.
-pub fn sources_of<'t>(
+pub(crate) fn sources_of<'t>(
     variables: &Variables<'t>,
     call: &CallRef,
     source: &'t [u8],

@@ -34,7 +34,7 @@ pub fn is_named(arg: &Arg) -> bool
 }
 
 /// Whether one of a list's elements has a name.
-pub fn are_named(list: &List) -> bool
+fn are_named(list: &List) -> bool
     ensures { (source : Source) → result ≡ are_named (list_view source list.now) }
 {
     let args = list.items.get();
@@ -72,7 +72,7 @@ pub fn list_of(
 }
 
 /// A copy of a variable's name, where there is one.
-pub fn copy_name(alloc: Global, name: Option<&str>) -> Result<Option<Text>, AllocError>
+fn copy_name(alloc: Global, name: Option<&str>) -> Result<Option<Text>, AllocError>
     ensures { IfOk result (λ copy. copy ≡ option_map (λ x. x.now) name.entry) }
 {
     match name {

@@ -18,7 +18,7 @@ use meson_calls::refusal::Refusal;
 use meson_syntax::{Expr, List};
 
 /// The arguments of an expression, if it is a call.
-pub fn arguments_of(expr: &Expr) -> Option<&List>
+pub(crate) fn arguments_of(expr: &Expr) -> Option<&List>
     ensures { (source : Source) → option_map (λ l. list_view source l.now) result ≡ option_map (λ c. c.arguments) (call_of (expr_view source expr.now)) }
 {
     match expr {
