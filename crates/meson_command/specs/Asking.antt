@@ -9,8 +9,7 @@ use Rattle.meson_json.specs.Titles.{is_title}
 use Rattle.meson_command.specs.Actions.{action_of, has_flag, word_at}
 use Rattle.meson_command.specs.Program.{program}
 use Rattle.meson_command.specs.declared.asked.Action.{Action}
-use Rattle.meson_command.specs.declared.asked.Action.TheVariants as action
-use Rattle.meson_command.specs.declared.asked.Action.TheVariants.{Run, Info, ScriptText, ScriptFile, Undo, UndoTo, UndoChecked, Redo, History, ForgetOldest, ForgetAll, Sums, Help, Version}
+use Rattle.meson_command.specs.declared.asked.Action.TheVariants.{Help, Version}
 use Rattle.meson_command.specs.declared.asked.Asked.{Asked}
 use Rattle.meson_command.specs.declared.fault.UsageFault.{UsageFault}
 use Rattle.meson_command.specs.declared.fault.UsageFault.TheVariants.{Usage, BadTitle}
@@ -69,21 +68,8 @@ asked_by words = answer (fault_of program words) (asked_of words)
 
 -- the same, with no text of help
 abbrev pub without_help_text : Action → Action
-without_help_text (Run script) = Run script
-without_help_text (Info command) = Info command
-without_help_text (ScriptText text) = ScriptText text
-without_help_text (ScriptFile name) = ScriptFile name
-without_help_text Undo = Undo
-without_help_text (UndoTo count) = UndoTo count
-without_help_text (UndoChecked count name) = UndoChecked count name
-without_help_text Redo = Redo
-without_help_text History = History
-without_help_text (ForgetOldest count) = ForgetOldest count
-without_help_text ForgetAll = ForgetAll
-without_help_text (action.List json) = action.List json
-without_help_text Sums = Sums
 without_help_text (Help text) = Help []
-without_help_text Version = Version
+without_help_text other = other
 
 abbrev pub without_text : Asked → Asked
 without_text a = record a { action = without_help_text a.action }

@@ -17,18 +17,15 @@ use Rattle.meson_store.specs.declared.store_fault.StoreFault.TheVariants as stor
 -- the fault of a read of the file of that name
 abbrev pub IsUnread : ℕ → ℕ → List ℕ → StoreFault → Type 0
 IsUnread failed failed' name (store.ReadFailed n) = (n ≡ name) × Rose failed failed'
-IsUnread failed failed' name (store.WriteFailed n still_new) = ⊥
-IsUnread failed failed' name (store.NoFile n) = ⊥
-IsUnread failed failed' name store.OutputFailed = ⊥
 IsUnread failed failed' name store.OutOfMemory = ⊤
+IsUnread failed failed' name _ = ⊥
 
 -- Why gathering stops, where P holds of the ending.
 abbrev pub StoreStopsAt : ℕ → ℕ → (Ending → Type 0) → StoreFault → Type 0
 StoreStopsAt failed failed' P (store.ReadFailed name) = Rose failed failed' × P (unread name)
-StoreStopsAt failed failed' P (store.WriteFailed name still_new) = ⊥
 StoreStopsAt failed failed' P (store.NoFile name) = (name ≡ build_file) × P rootless
-StoreStopsAt failed failed' P store.OutputFailed = ⊥
 StoreStopsAt failed failed' P store.OutOfMemory = ⊤
+StoreStopsAt failed failed' P _ = ⊥
 
 abbrev pub StopsAt : ℕ → ℕ → (Ending → Type 0) → GatherFault → Type 0
 StopsAt failed failed' P (Parse name fault) = P (unparsed name fault)

@@ -28,9 +28,8 @@ with_more files f = if nat_lt (length files) max_files then Some (files ++ f ∷
 
 -- a name whose file is among them changes nothing, nor does one that the store has no file of
 abbrev pub files_with : List File → List ℕ → Option ℕ → Option (List ℕ) → Option (List File)
-files_with files name (Some place) bytes = Some files
-files_with files name None None = Some files
 files_with files name None (Some bytes) = with_more files (file_of name bytes)
+files_with files name _ _ = Some files
 
 module _ (content : Content) (folder : Option (List ℕ)) where
   -- the bytes that the store has of the file of that name in the project

@@ -23,11 +23,8 @@ use Rattle.meson_json.specs.declared.version.Version.TheVariants.{Bare, Titled}
 abbrev pub splice_data : Splice → Data
 splice_data s = object (member (codes "at") (number (unsigned s.at)) (member (codes "file") (string s.file) (member (codes "now") (string s.now) (member (codes "was") (string s.was) no_members))))
 
-abbrev pub splices_data : List Splice → Data
-splices_data ss = array (items_of (map splice_data ss))
-
 abbrev pub change_data : Change → Data
-change_data c = object (member (codes "splices") (splices_data c.splices) (member (codes "title") (string c.title) no_members))
+change_data c = object (member (codes "splices") (array (items_of (map splice_data c.splices))) (member (codes "title") (string c.title) no_members))
 
 abbrev pub changes_data : List Change → Data
 changes_data cs = array (items_of (map change_data cs))
@@ -70,14 +67,10 @@ splice_of_data d =
     Some (record { file = file; at = at; was = was; now = now })) (member_text (codes "was") d)) (member_text (codes "now") d)) (member_text (codes "file") d)) (whole_at (codes "at") d)
     else None
 
--- in the first version: the splices alone
-abbrev pub bare_change_of : Data → Option Change
-bare_change_of d = option_map (λ ss. record { splices = ss; title = [] }) (option_and_then (each_of splice_of_data) (as_array d))
-
 abbrev pub titled : List Splice → List ℕ → Option Change
 titled ss title = if is_title title then Some (record { splices = ss; title = title }) else None
 
--- in the second: where it is an object of these two members
+-- where it is an object of these two members
 unfoldable pub titled_change_of : Data → Option Change
 titled_change_of d =
     if has_members 2 d
@@ -87,8 +80,9 @@ titled_change_of d =
 abbrev pub version_of : ℕ → Option Version
 version_of n = if n == 1 then Some Bare else if n == 2 then Some Titled else None
 
+-- in the first version: the splices alone
 abbrev pub change_of : Version → Data → Option Change
-change_of Bare d = bare_change_of d
+change_of Bare d = option_map (λ ss. record { splices = ss; title = [] }) (option_and_then (each_of splice_of_data) (as_array d))
 change_of Titled d = titled_change_of d
 
 abbrev pub changes_at : Version → List ℕ → Data → Option (List Change)

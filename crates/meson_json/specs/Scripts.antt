@@ -28,28 +28,19 @@ use Rattle.meson_json.specs.declared.names.OptionsOperation.TheVariants as optio
 abbrev pub required_text : ℕ → List ℕ → Data → Result (List ℕ) ScriptFault
 required_text i name d = ok_or (member_text name d) (BadField i name)
 
--- a text, or another one where there is no such member
-abbrev pub text_or : ℕ → List ℕ → List ℕ → Option Data → Result (List ℕ) ScriptFault
-text_or i name otherwise None = Ok otherwise
-text_or i name otherwise (Some d) = ok_or (as_str d) (BadField i name)
-
-abbrev pub texts_or_none : ℕ → List ℕ → Option Data → Result (List (List ℕ)) ScriptFault
-texts_or_none i name None = Ok []
-texts_or_none i name (Some d) = ok_or (option_and_then (each_of as_str) (as_array d)) (BadField i name)
-
--- an object, or another one where there is no such member
-abbrev pub members_or : ℕ → List ℕ → Members → Option Data → Result Members ScriptFault
-members_or i name otherwise None = Ok otherwise
-members_or i name otherwise (Some d) = ok_or (as_object d) (BadField i name)
+-- what is read of a member, or another value where there is no such member
+abbrev pub given : {A : Type 0} → (Data → Option A) → ℕ → List ℕ → A → Option Data → Result A ScriptFault
+given read i name otherwise None = Ok otherwise
+given read i name otherwise (Some d) = ok_or (read d) (BadField i name)
 
 -- ---- entries of type `target`
 
 unfoldable pub target_members : ℕ → Data → Result TargetMembers ScriptFault
 target_members i d =
     then_ok (required_text i (codes "target") d) (λ target.
-    then_ok (texts_or_none i (codes "sources") (get (codes "sources") d)) (λ sources.
-    then_ok (text_or i (codes "subdir") [] (get (codes "subdir") d)) (λ subdir.
-    then_ok (text_or i (codes "target_type") (codes "executable") (get (codes "target_type") d)) (λ kind.
+    then_ok (given (λ d. option_and_then (each_of as_str) (as_array d)) i (codes "sources") [] (get (codes "sources") d)) (λ sources.
+    then_ok (given as_str i (codes "subdir") [] (get (codes "subdir") d)) (λ subdir.
+    then_ok (given as_str i (codes "target_type") (codes "executable") (get (codes "target_type") d)) (λ kind.
     Ok (record { target = target; sources = sources; subdir = subdir; target_kind = kind })))))
 
 unfoldable pub target_entry : ℕ → Data → Result Command ScriptFault
@@ -84,7 +75,7 @@ kwargs_entry i d =
     then_ok (kwargs_asked i (kwargs_operation word)) (λ operation.
     then_ok (role_at i d) (λ role.
     then_ok (required_text i (codes "id") d) (λ id.
-    then_ok (members_or i (codes "kwargs") no_members (get (codes "kwargs") d)) (λ ms. kwargs_command i operation role id ms)))))
+    then_ok (given as_object i (codes "kwargs") no_members (get (codes "kwargs") d)) (λ ms. kwargs_command i operation role id ms)))))
 
 -- ---- entries of type `default_options`
 
@@ -96,7 +87,7 @@ unfoldable pub options_entry : ℕ → Data → Result Command ScriptFault
 options_entry i d =
     then_ok (required_text i (codes "operation") d) (λ word.
     then_ok (ok_or (options_operation word) (UnknownOperation i)) (λ operation.
-    then_ok (members_or i (codes "options") no_members (get (codes "options") d)) (λ ms. options_command i operation ms)))
+    then_ok (given as_object i (codes "options") no_members (get (codes "options") d)) (λ ms. options_command i operation ms)))
 
 -- ---- entries and scripts
 

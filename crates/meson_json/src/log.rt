@@ -1,14 +1,15 @@
 //! The undo log as text: a history of changes as JSON.
 
-ghost use Rattle.std.specs.Prelude.{◌≡◌, ◌≢◌, Err, IfErr, IfOk, None, Ok, OnOk, Some, codes, false, option_map, true};
+ghost use Rattle.std.specs.Prelude.{◌≡◌, ◌≢◌, Err, IfErr, IfOk, None, Ok, OnOk, Some, codes, false, map, option_map, true};
 ghost use Rattle.std.specs.List.{list_all};
 ghost use Rattle.std.specs.Str.{is_utf8};
-ghost use Rattle.serde_json.specs.Data.{member, no_members, number, object, string, unsigned};
-ghost use Rattle.serde_json.specs.View.{items_view, view};
+ghost use Rattle.serde_json.specs.Data.{array, member, no_members, number, object, string, unsigned};
+ghost use Rattle.serde_json.specs.View.{items_of, items_view, view};
 ghost use Rattle.meson_json.specs.Each.{each_of};
-ghost use Rattle.meson_json.specs.Log.{are_placed, are_text, bare_change_of, change_data, change_has_text, change_of, changes_at, changes_data, is_text_history, history_of, is_placed, is_text, log_data, log_of, logged, splice_data, splice_of_data, splices_data, titled_change_of};
+ghost use Rattle.meson_json.specs.Log.{are_placed, are_text, change_data, change_has_text, change_of, changes_at, changes_data, is_text_history, history_of, is_placed, is_text, log_data, log_of, logged, splice_data, splice_of_data, titled_change_of};
 ghost use Rattle.meson_json.specs.Members.{has_members, whole_at};
 ghost use Rattle.meson_json.specs.declared.fault.ScriptFault.TheVariants.{BadLog, OutOfMemory};
+ghost use Rattle.meson_json.specs.declared.version.Version.TheVariants.{Bare};
 
 use crate::fault::ScriptFault;
 use crate::members::text_at;
@@ -49,7 +50,7 @@ fn splice_value(alloc: Global, splice: &Splice) -> Result<Value, ScriptFault>
 }
 
 fn splices_value(alloc: Global, splices: &[Splice]) -> Result<Value, ScriptFault>
-    ensures ok { IfOk result (λ v. view v ≡ splices_data splices.now) }
+    ensures ok { IfOk result (λ v. view v ≡ array (items_of (map splice_data splices.now))) }
     ensures text { OnOk result (list_all is_text splices.now ≡ true) }
     ensures placed { OnOk result (list_all is_placed splices.now ≡ true) }
     ensures refused { IfErr result (λ e. e ≢ OutOfMemory → (e ≡ BadLog) × (list_all is_text splices.now ≡ false)) }
@@ -207,9 +208,9 @@ fn splices_from(alloc: Global, list: &[Value]) -> Result<Many<Splice>, ScriptFau
 
 /// A change of the first version.
 fn bare_change(alloc: Global, value: &Value) -> Result<Change, ScriptFault>
-    ensures ok { IfOk result (λ c. bare_change_of (view value.now) ≡ Some c) }
+    ensures ok { IfOk result (λ c. change_of Bare (view value.now) ≡ Some c) }
     ensures text { IfOk result (λ c. change_has_text c ≡ true) }
-    ensures refused { IfErr result (λ e. e ≢ OutOfMemory → (e ≡ BadLog) × (bare_change_of (view value.now) ≡ None)) }
+    ensures refused { IfErr result (λ e. e ≢ OutOfMemory → (e ≡ BadLog) × (change_of Bare (view value.now) ≡ None)) }
 {
     let Some(list) = value.as_array() else {
         return Err(ScriptFault::BadLog);

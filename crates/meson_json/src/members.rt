@@ -1,11 +1,11 @@
 //! The members of an entry of a script.
 
-ghost use Rattle.std.specs.Prelude.{◌≡◌, ◌≢◌, Err, IfErr, IfOk, Ok, option_map};
-ghost use Rattle.serde_json.specs.Find.{as_str, get};
+ghost use Rattle.std.specs.Prelude.{◌≡◌, ◌≢◌, [], Err, IfErr, IfOk, Ok, option_and_then, option_map};
+ghost use Rattle.serde_json.specs.Find.{as_array, as_object, as_str, get};
 ghost use Rattle.serde_json.specs.View.{items_view, members_view, view};
 ghost use Rattle.meson_json.specs.Each.{each_member, each_of, names_of_members};
 ghost use Rattle.meson_json.specs.Members.{member_text};
-ghost use Rattle.meson_json.specs.Scripts.{members_or, required_text, text_or, texts_or_none};
+ghost use Rattle.meson_json.specs.Scripts.{given, required_text};
 ghost use Rattle.meson_json.specs.Settings.{option_value, setting_of};
 ghost use Rattle.meson_json.specs.declared.fault.ScriptFault.TheVariants.{BadField, OutOfMemory};
 
@@ -56,8 +56,8 @@ pub(crate) fn text_or(
     name: &str,
     otherwise: &str,
 ) -> Result<Text, ScriptFault>
-    ensures ok { IfOk result (λ t. text_or index name.now otherwise.now (get name.now (view entry.now)) ≡ Ok t) }
-    ensures refused { IfErr result (λ e. e ≢ OutOfMemory → text_or index name.now otherwise.now (get name.now (view entry.now)) ≡ Err e) }
+    ensures ok { IfOk result (λ t. given as_str index name.now otherwise.now (get name.now (view entry.now)) ≡ Ok t) }
+    ensures refused { IfErr result (λ e. e ≢ OutOfMemory → given as_str index name.now otherwise.now (get name.now (view entry.now)) ≡ Err e) }
 {
     let Some(member) = entry.get(name) else {
         return Ok(owned(alloc, otherwise)?);
@@ -88,8 +88,9 @@ pub(crate) fn texts_or_none(
     entry: &Value,
     name: &str,
 ) -> Result<Many<Text>, ScriptFault>
-    ensures ok { IfOk result (λ ts. texts_or_none index name.now (get name.now (view entry.now)) ≡ Ok ts) }
-    ensures refused { IfErr result (λ e. e ≢ OutOfMemory → texts_or_none index name.now (get name.now (view entry.now)) ≡ Err e) }
+    ensures ok { IfOk result (λ ts. given (λ d. option_and_then (each_of as_str) (as_array d)) index name.now [] (get name.now (view entry.now)) ≡ Ok ts) }
+    ensures refused { IfErr result (λ e. e ≢ OutOfMemory
+        → given (λ d. option_and_then (each_of as_str) (as_array d)) index name.now [] (get name.now (view entry.now)) ≡ Err e) }
 {
     let Some(member) = entry.get(name) else {
         return Ok(Many::new(alloc));
@@ -111,10 +112,10 @@ pub(crate) fn members_or<'a>(
     name: &str,
     otherwise: &'a Map<String, Value>,
 ) -> Result<&'a Map<String, Value>, ScriptFault>
-    ensures ok { IfOk result (λ m. members_or index name.now (members_view otherwise.now.entries) (get name.now (view entry.now))
+    ensures ok { IfOk result (λ m. given as_object index name.now (members_view otherwise.now.entries) (get name.now (view entry.now))
         ≡ Ok (members_view m.now.entries)) }
     ensures refused { IfErr result (λ e. e ≢ OutOfMemory
-        → members_or index name.now (members_view otherwise.now.entries) (get name.now (view entry.now)) ≡ Err e) }
+        → given as_object index name.now (members_view otherwise.now.entries) (get name.now (view entry.now)) ≡ Err e) }
 {
     let Some(member) = entry.get(name) else {
         return Ok(otherwise);

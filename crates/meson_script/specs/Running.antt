@@ -20,18 +20,7 @@ use Rattle.meson_listing.specs.Listing.{kwargs_listing, target_listing}
 abbrev pub told : Loaded → Command → Result (List Data) Refusal
 told l (command.TargetInfo target) = then_ok (target_listing l target) (λ d. Ok (d ∷ []))
 told l (command.KwargsInfo role id) = then_ok (kwargs_listing l role id) (λ d. Ok (d ∷ []))
-told l (command.SourcesAdd target sources) = Ok []
-told l (command.SourcesRemove target sources) = Ok []
-told l (command.ExtraAdd target sources) = Ok []
-told l (command.ExtraRemove target sources) = Ok []
-told l (command.TargetAdd target kind subdir sources) = Ok []
-told l (command.TargetRemove target) = Ok []
-told l (command.KwargsSet role id pairs) = Ok []
-told l (command.KwargsAdd role id pairs) = Ok []
-told l (command.KwargsRemove role id pairs) = Ok []
-told l (command.KwargsDelete role id keys) = Ok []
-told l (command.OptionsSet pairs) = Ok []
-told l (command.OptionsDelete names) = Ok []
+told l _ = Ok []
 
 -- Each command is performed on what the ones before it left, a project whose trees are those of its files, and tells of that; the splices and
 -- listings are those of all, in order.

@@ -7,7 +7,7 @@ use Rattle.meson_store.specs.Seen.{IsNotReplaced, IsReplaced, Seen, Untouched}
 use Rattle.meson_store.specs.declared.store.StoreError.{StoreError}
 use Rattle.meson_store.specs.declared.store.StoreError.TheVariants as error
 use Rattle.meson_store.specs.declared.store_fault.StoreFault.{StoreFault}
-use Rattle.meson_store.specs.declared.store_fault.StoreFault.TheVariants.{ReadFailed, WriteFailed, NoFile, OutputFailed, OutOfMemory}
+use Rattle.meson_store.specs.declared.store_fault.StoreFault.TheVariants.{WriteFailed, OutOfMemory}
 
 -- the name in the store of a file of the project in that folder
 abbrev pub path_in : Option (List ℕ) → List ℕ → List ℕ
@@ -26,10 +26,9 @@ put_at folder file bytes = record { path = path_in folder file.name; name = file
 
 -- the files whose bytes differ, in order
 abbrev pub puts : Option (List ℕ) → List File → List File → List Put
-puts folder [] after = []
-puts folder (b ∷ before) [] = []
 puts folder (b ∷ before) (a ∷ after) =
     if bytes_eq b.bytes a.bytes then puts folder before after else (put_at folder b a.bytes ∷ puts folder before after)
+puts folder _ _ = []
 
 -- the content after these files got their bytes
 abbrev pub put_all : List Put → Option Content → Option Content
@@ -41,11 +40,8 @@ names_of files = map (λ p. p.name) files
 
 -- the files that a fault lists: those that may have their new bytes
 abbrev pub still_new : StoreFault → List (List ℕ)
-still_new (ReadFailed name) = []
 still_new (WriteFailed name files) = files
-still_new (NoFile name) = []
-still_new OutputFailed = []
-still_new OutOfMemory = []
+still_new _ = []
 
 -- ---- all of them are replaced
 
@@ -78,22 +74,18 @@ pub data GoBack : List Put → Seen → Seen → List (List ℕ) → Type 0 wher
 -- whether the file that could not be replaced gets its old bytes again, as a number: not where the store knows that it is as it was
 abbrev pub tries : StoreError → ℕ
 tries error.Device = 1
-tries error.Unchanged = 0
-tries error.OutOfMemory = 0
+tries _ = 0
 
 -- the files that get their old bytes again: that one, and those that were replaced before it, the last first
 abbrev pub to_go_back : StoreError → Put → List Put → List Put
 to_go_back error.Device failed done = failed ∷ reverse done
-to_go_back error.Unchanged failed done = reverse done
-to_go_back error.OutOfMemory failed done = reverse done
+to_go_back _ failed done = reverse done
 
 -- The fault of a replace of the file of that name, where these files did not get their old bytes again. Want of memory is
 -- told where nothing is left to tell of.
 abbrev pub fault_of : List ℕ → StoreError → List (List ℕ) → StoreFault
-fault_of name error.Device still = WriteFailed name still
-fault_of name error.Unchanged still = WriteFailed name still
 fault_of name error.OutOfMemory [] = OutOfMemory
-fault_of name error.OutOfMemory (first ∷ still) = WriteFailed name (first ∷ still)
+fault_of name why still = WriteFailed name still
 
 -- so many of the files were replaced, and the replace of the next one failed: these get their old bytes again, and the fault tells of it
 abbrev pub TakesBack : List Put → ℕ → StoreError → Seen → Seen → StoreFault → Type 0

@@ -15,12 +15,10 @@ counted (suc k) n = one_more (counted k n)
 
 -- a failure of the device was counted
 abbrev pub FailureCounted : StoreError → ℕ → ℕ → Type 0
-FailureCounted error.Device old new = Rose old new
-FailureCounted error.Unchanged old new = Rose old new
 FailureCounted error.OutOfMemory old new = Unit {0}
+FailureCounted _ old new = Rose old new
 
 -- what the store holds after a replace failed
 abbrev pub Leaves : StoreError → List ℕ → List ℕ → Option Content → Option Content → Type 0
 Leaves error.Device name bytes before after = (after ≡ before) ⊎ (after ≡ content_with before name bytes)
-Leaves error.Unchanged name bytes before after = after ≡ before
-Leaves error.OutOfMemory name bytes before after = after ≡ before
+Leaves _ name bytes before after = after ≡ before
