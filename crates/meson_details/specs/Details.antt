@@ -1,12 +1,13 @@
 -- What is told of a call: its head, and its keyword arguments that commands change. Meson manual, Rewriter.
 use Rattle.std.specs.Prelude.{ℕ, Bool, List, [], ◌∷◌, if◌then◌else◌, Option, Some, None, is_some, option_map, option_and_then, Result, Ok}
 use Rattle.std.specs.List.{filter_map}
+use Rattle.std.specs.Option.{option_map_or}
 use Rattle.meson_lex.specs.Literals.{value}
 use Rattle.meson_lex.specs.declared.kinds.Span.{Span}
 use Rattle.meson_splice.specs.Files.{bytes_at}
 use Rattle.meson_splice.specs.Patch.{then_ok}
 use Rattle.meson_syntax.specs.Operators.{string_kind}
-use Rattle.meson_syntax.specs.Tree.{Expression, identifier, boolean, string, array, call, Argument, plain, named, pair}
+use Rattle.meson_syntax.specs.Tree.{Expression, identifier, boolean, string, array, call, Argument, named}
 use Rattle.meson_syntax.specs.View.{text_at}
 use Rattle.meson_edit.specs.Edits.{elements}
 use Rattle.meson_edit.specs.Standing.{expression_span}
@@ -57,17 +58,8 @@ abbrev pub variable_in : {S : Type 0} → Argument S → Option (List ℕ)
 variable_in x = option_and_then name_of (value_without_name x)
 
 -- all else is told by its source text
-abbrev pub shown_text : List ℕ → Option (List ℕ) → Shown
-shown_text source None = shown.Opaque source
-shown_text source (Some text) = shown.Text text
-
-abbrev pub shown_ids : List ℕ → Option (List (List ℕ)) → Shown
-shown_ids source None = shown.Opaque source
-shown_ids source (Some names) = shown.Ids names
-
 abbrev pub shown_list : List ℕ → Option (List (List ℕ)) → Option (List (List ℕ)) → Shown
-shown_list source None names = shown_ids source names
-shown_list source (Some texts) names = shown.Texts texts
+shown_list source texts names = option_map_or shown.Texts texts (option_map_or shown.Ids names (shown.Opaque source))
 
 -- the text in the source at a value
 abbrev pub source_text : List ℕ → Expression Span → List ℕ
@@ -78,16 +70,15 @@ source_text source e = text_at source (expression_span e)
 abbrev pub shown_value : List ℕ → Expression Span → Shown
 shown_value source (identifier s x) = shown.Id x
 shown_value source (boolean s b) = shown.Bool b
-shown_value source (string s q x) = shown_text (text_at source s) (value (string_kind q) x)
+shown_value source (string s q x) = option_map_or shown.Text (value (string_kind q) x) (shown.Opaque (text_at source s))
 shown_value source (array l) = shown_list (source_text source (array l)) (of_each literal_in (elements l)) (of_each variable_in (elements l))
 shown_value source e = shown.Opaque (source_text source e)
 
 -- ---- the keyword arguments
 
 abbrev pub shown_argument : List ℕ → Role → Argument Span → Option (List ℕ × Shown)
-shown_argument source r (plain e) = None
 shown_argument source r (named s x e) = if is_key r x.text then Some (x.text, shown_value source e) else None
-shown_argument source r (pair s e f) = None
+shown_argument source r _ = None
 
 -- those that commands change, in the call's order, each of which may be there once only
 abbrev pub keywords_of_call : List ℕ → Role → Call Span → Result (List (List ℕ × Shown)) Refusal

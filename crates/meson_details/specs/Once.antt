@@ -2,7 +2,7 @@
 use Rattle.std.specs.Prelude.{ℕ, List, [], ◌∷◌, if◌then◌else◌, Option, Some, None, Result, Ok}
 use Rattle.std.specs.List.{filter_map}
 use Rattle.meson_splice.specs.Patch.{then_ok}
-use Rattle.meson_syntax.specs.Tree.{Argument, plain, named, pair}
+use Rattle.meson_syntax.specs.Tree.{Argument, named}
 use Rattle.meson_edit.specs.Edits.{elements}
 use Rattle.meson_calls.specs.declared.call.Role.{Role}
 use Rattle.meson_calls.specs.declared.refusal.Refusal.{Refusal}
@@ -14,9 +14,8 @@ abbrev pub only_once : {S : Type 0} → List ℕ → Call S → Result (Unit {0}
 only_once key c = once key (keyword key c) tt
 
 abbrev pub name_in : {S : Type 0} → Argument S → Option (List ℕ)
-name_in (plain e) = None
 name_in (named s x e) = Some x.text
-name_in (pair s e f) = None
+name_in _ = None
 
 abbrev pub key_told : {S : Type 0} → Role → Call S → List ℕ → Result (Unit {0}) Refusal
 key_told r c key = if is_key r key then only_once key c else Ok tt

@@ -1,6 +1,6 @@
 -- What the words of a request ask for may be written, where their texts are UTF-8.
 use Rattle.std.proofs.Common.{◌≡◌, ℕ, true, false, List, [], ◌∷◌, ◌++◌, map, Option, Some, None, refl, sym, ap, subst, arith}
-use Rattle.std.specs.Prelude.{All, Bool, if◌then◌else◌, option_map, Result, Ok, Err}
+use Rattle.std.specs.Prelude.{All, Bool, if◌then◌else◌, ok_or, option_map, Result, Ok, Err}
 use Rattle.std.specs.List.{AllByRecursion}
 use Rattle.std.specs.Str.{IsUtf8}
 use Rattle.std.proofs.lemmas.List.Elements.{All-cons, All-nil}
@@ -9,7 +9,7 @@ use Rattle.meson_syntax.specs.Tree.{Nowhere, Expression}
 use Rattle.meson_edit.specs.Edits.{Written}
 use Rattle.meson_calls.specs.declared.call.Role.{Role}
 use Rattle.meson_calls.specs.declared.refusal.Refusal.{Refusal}
-use Rattle.meson_calls.specs.declared.refusal.Refusal.TheVariants.{BadName, UnknownKey}
+use Rattle.meson_calls.specs.declared.refusal.Refusal.TheVariants.{BadName, UnknownKey, WrongKind}
 use Rattle.meson_calls.specs.Roles.{one_of}
 use Rattle.meson_steps.specs.declared.command.Setting.{Setting}
 use Rattle.meson_steps.specs.declared.command.Setting.TheVariants as setting
@@ -20,7 +20,7 @@ use Rattle.meson_keywords.specs.declared.value_kinds.ValueKind.{ValueKind}
 use Rattle.meson_keywords.specs.declared.value_kinds.ValueKind.TheVariants as value
 use Rattle.meson_keywords.specs.Effects.{AreAskedTexts, IsPairText, IsSettingText}
 use Rattle.meson_calls.specs.Keys.{identifier_list_keys, switch_keys, text_keys, text_list_keys}
-use Rattle.meson_keywords.specs.ValueKinds.{are_elements, checked_values, key_kind, list_kind, list_values, of_kind, setting_text, setting_texts, truth_text, truth_of, written_list, written_switch, written_value}
+use Rattle.meson_keywords.specs.ValueKinds.{are_elements, checked_values, key_kind, list_kind, list_values, setting_text, setting_texts, truth_text, truth_of, written_list, written_switch, written_value}
 use Rattle.meson_keywords.specs.Tasking.{AreElements, Asked, IsKey, IsValue, MayBeWritten, asked_tasks, to_set, to_add, to_remove, to_delete, to_set_options, to_delete_options}
 use Rattle.meson_keywords.specs.Tasks.{Task, set, delete, add, remove, once, set_option, delete_option, add_entry, checked_option, delete_entry, delete_option_entry, each_made, remove_entry, set_entry, set_option_entry}
 use Rattle.meson_keywords.proofs.KeyNames.{identifier_list_key, switch_key, text_key, text_list_key}
@@ -57,7 +57,7 @@ module _ (r : Role) (key : List ℕ) (utf8 : IsUtf8 key) (k : ValueKind) where
 
 -- ---- values
 
-given : {X : Type 0} (key : List ℕ) (o : Option X) (x : X) → of_kind key o ≡ Ok x → o ≡ Some x
+given : {X : Type 0} (key : List ℕ) (o : Option X) (x : X) → ok_or o (WrongKind key) ≡ Ok x → o ≡ Some x
 given key None x is = absurd cc
 given key (Some y) x is = ap Some (ok_is y x is)
 
@@ -72,7 +72,7 @@ checked_by e ts us false is h utf8 = absurd cc
 
 values_may : (e : ElementKind) (key : List ℕ) (s : Setting) (us : List (List ℕ)) → IsSettingText s → list_values e key s ≡ Ok us → AreElements e us
 values_may e key s us utf8 is =
-    let f = then_was (of_kind key (setting_texts s)) (checked_values e) us is in
+    let f = then_was (ok_or (setting_texts s) (WrongKind key)) (checked_values e) us is in
     checked_by e f.0 us (are_elements e f.0) refl f.2 (are_given s f.0 utf8 (given key (setting_texts s) f.0 f.1))
 
 switch_may : (b : Bool) → IsValue (written_switch b)
@@ -80,12 +80,12 @@ switch_may b =
     let s = switch_is b (truth_text b) refl in
     subst IsValue (sym (ok_is (written_switch b) (value_written (truth_text b) s.new) s.is)) (value_may (truth_text b) s.new)
 
-text_by : (key : List ℕ) (s : Setting) (new : Written (Expression Nowhere)) → IsSettingText s → of_kind key (option_map written_text (setting_text s)) ≡ Ok new → IsValue new
+text_by : (key : List ℕ) (s : Setting) (new : Written (Expression Nowhere)) → IsSettingText s → ok_or (option_map written_text (setting_text s)) (WrongKind key) ≡ Ok new → IsValue new
 text_by key (setting.Text t) new utf8 is = subst IsValue (ok_is (written_text t) new is) (text_written t utf8, tt, omega arith)
 text_by key (setting.Bool b) new utf8 is = absurd cc
 text_by key (setting.Texts ts) new utf8 is = absurd cc
 
-switch_by : (key : List ℕ) (o : Option Bool) (new : Written (Expression Nowhere)) → of_kind key (option_map written_switch o) ≡ Ok new → IsValue new
+switch_by : (key : List ℕ) (o : Option Bool) (new : Written (Expression Nowhere)) → ok_or (option_map written_switch o) (WrongKind key) ≡ Ok new → IsValue new
 switch_by key None new is = absurd cc
 switch_by key (Some b) new is = subst IsValue (ok_is (written_switch b) new is) (switch_may b)
 

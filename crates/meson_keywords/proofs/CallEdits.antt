@@ -1,12 +1,13 @@
 -- One edit of the list of a call that stands: it may be done, and the call stands.
 use Rattle.std.proofs.Common.{◌≡◌, ℕ, zero, suc, ◌≤◌, List, [], ◌∷◌, ◌++◌, length, take, drop, Some, refl, sym, ap, ap₂, ◌∙◌, subst, arith, false}
-use Rattle.std.specs.Prelude.{All, max, option_and_then, option_map, slice_set}
+use Rattle.std.specs.Prelude.{All, Option, max, option_and_then, option_map, slice_set, unwrap_or}
+use Rattle.std.specs.Option.{option_map_or}
 use Rattle.std.proofs.lemmas.List.Elements.{All-set}
 use Rattle.std.proofs.lemmas.List.{take_all}
 use Rattle.meson_syntax.specs.declared.operator.Bracket.TheVariants as bracket
 use Rattle.meson_syntax.specs.Tree.{Nowhere, Plain, Expression, Listing, listing, Argument, plain, named, pair, arguments_of}
 use Rattle.meson_syntax.specs.Grammar.{LevelArgument, LevelExpression, LevelFile, argument_words, argument_depth, arguments_depth, expression_depth, file_depth, listing_depth}
-use Rattle.meson_syntax.specs.Paths.{list_at, nth, value_of}
+use Rattle.meson_syntax.specs.Paths.{ListAt, list_at, nth, value_of}
 use Rattle.meson_syntax.proofs.parsing.Complete.{list-of-arguments}
 use Rattle.meson_syntax.proofs.parsing.Steps.{some-injective}
 use Rattle.meson_edit.specs.Edits.{Written, Edit, First, After, Remove, Replace, Wrap, elements, with_elements, with_value, array_of, element_added, element_removed, exchanged, edited}
@@ -18,8 +19,9 @@ use Rattle.meson_keywords.specs.Changing.{CallStands, LeavesCall}
 use Rattle.meson_keywords.specs.ValueKinds.{written_named}
 use Rattle.meson_keywords.specs.KeywordEdits.{behind_all}
 use Rattle.meson_steps.specs.ListSteps.{AreDoable, MayStandBetween, none, one, wide_depth}
-use Rattle.meson_steps.specs.Steps.{step_in, Step, all_stepped, stepped}
-use Rattle.meson_keywords.specs.TaskSteps.{elements_in, list_elements, or_same, trees_after}
+use Rattle.meson_steps.specs.Steps.{step_in}
+use Rattle.meson_steps.specs.Steps.{Step, all_stepped, stepped}
+use Rattle.meson_keywords.specs.TaskSteps.{elements_in, trees_after}
 use Rattle.meson_steps.proofs.Insertable.{edited_there, elements_with, first_there, there_again}
 use Rattle.meson_steps.proofs.StepsDoable.{step_doable}
 use Rattle.meson_steps.proofs.WithOne.{all_nth, change_there, changed_there}
@@ -185,8 +187,11 @@ module _ (c : CallRef) (trees : List Plain) (all : All MayStandBetween trees) (s
         go zero many = record { edit = First path it; is = refl; step = first_step many }
         go (suc m) many = record { edit = After path m it; is = refl; step = after_step m many }
 
+  abbrev elements_of : Option (ListAt Nowhere) → List (Argument Nowhere)
+  elements_of o = option_map_or (λ (p : ListAt Nowhere). elements p.list) o []
+
   pub elements_are : elements_in c trees ≡ xs
-  elements_are = ap (λ o. list_elements (option_and_then (λ t. list_at t path) o)) s.is_tree ∙ ap list_elements s.is_place
+  elements_are = ap (λ o. elements_of (option_and_then (λ t. list_at t path) o)) s.is_tree ∙ ap elements_of s.is_place
 
 -- ---- steps that leave the call, with these elements
 
@@ -204,7 +209,7 @@ stepped_on steps ts (one st more now between writes is stand rest) =
 pub after_one : (st : Step) (steps : List Step) (ts between : List Plain) → stepped st ts ≡ Some between → AreDoable steps between → trees_after (st ∷ steps) ts ≡ trees_after steps between
 after_one st steps ts between is rest =
     let there = stepped_on steps between rest in
-    ap (λ o. or_same ts (option_and_then (all_stepped steps) o)) is ∙ ap (or_same ts) there.1 ∙ sym (ap (or_same between) there.1)
+    ap (λ o. unwrap_or (option_and_then (all_stepped steps) o) ts) is ∙ ap (λ o. unwrap_or o ts) there.1 ∙ sym (ap (λ o. unwrap_or o between) there.1)
 
 module _ (c : CallRef) (trees : List Plain) (all : All MayStandBetween trees) (s : CallStands c trees) where
   pub none_leaves : LeavesAs c [] trees (xs c trees all s)

@@ -17,10 +17,11 @@ use Rattle.meson_keywords.specs.Effects.{Holds, TaskLeaves, held_elements, held_
 use Rattle.meson_keywords.specs.KeywordEdits.{all_of_kind, behind_all, keyword_in, one_at_most, passing, removed_from, value_shape, text_in}
 use Rattle.meson_keywords.specs.ValueKinds.{written_list, written_named}
 use Rattle.meson_steps.specs.ListSteps.{MayStandBetween}
-use Rattle.meson_keywords.specs.Options.{entries, has_key, is_entry, is_entry_element, keys_known, of_lone, option_text, options_key, set_by_shape, set_by_value, set_in_dictionary, set_in_list, set_in_lone, set_option_steps, set_option_there, written_pair}
+use Rattle.meson_keywords.specs.Options.{entries, has_key, is_entry, is_entry_element, keys_known, of_lone, option_text, options_key, set_by_shape, set_by_value, set_in_dictionary, set_in_list, set_in_lone, set_option_there, written_pair}
 use Rattle.meson_calls.specs.Project.{child}
 use Rattle.meson_steps.specs.WrittenTexts.{string_of, written_text}
 use Rattle.meson_steps.specs.Steps.{Step, step_in}
+use Rattle.meson_keywords.specs.TaskSteps.{task_steps}
 use Rattle.meson_keywords.specs.Tasks.{before_equals, set_option}
 use Rattle.meson_keywords.proofs.ArrayEdits.{HoldsAs, more_hold, put_step, puts_hold, still_there, swap_step, value_put, wrap_holds, holds_same}
 use Rattle.meson_keywords.proofs.CallEdits.{elements_are, insert_step, inserted_leaves, one_leaves, replace_step, xs}
@@ -234,4 +235,4 @@ module _ (name value : List ℕ) (name_utf8 : IsUtf8 name) (value_utf8 : IsUtf8 
 pub set_option_does : (name value : List ℕ) → IsUtf8 name → IsUtf8 value → TaskDoes (set_option name value)
 set_option_does name value name_utf8 value_utf8 c trees all s steps made =
     set_by name value name_utf8 value_utf8 c trees all s steps (keyword_in options_key (xs c trees all s)) refl
-    (sym (ap (λ ys. set_option_steps c ys name value) (elements_are c trees all s)) ∙ made)
+    (sym (ap (task_steps (set_option name value) c) (elements_are c trees all s)) ∙ made)

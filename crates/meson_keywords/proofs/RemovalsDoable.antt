@@ -15,11 +15,12 @@ use Rattle.meson_calls.specs.Calls as calls
 use Rattle.meson_calls.specs.Calls.{Numbered}
 use Rattle.meson_keywords.specs.Changing.{CallStands}
 use Rattle.meson_keywords.specs.Effects.{Holds, OptionIs, held_elements, held_in, holds, is_of, value_of_option, values_of}
-use Rattle.meson_keywords.specs.KeywordEdits.{all_of_kind, keyword_in, one_at_most, passing, remove_by_shape, remove_equal, remove_lone, remove_steps, remove_there, removed_from, says, value_shape, text_in}
+use Rattle.meson_keywords.specs.KeywordEdits.{all_of_kind, keyword_in, one_at_most, passing, remove_by_shape, remove_equal, remove_lone, remove_there, removed_from, says, value_shape, text_in}
 use Rattle.meson_steps.specs.ListSteps.{MayStandBetween}
-use Rattle.meson_keywords.specs.Options.{delete_by_shape, delete_by_value, delete_lone, delete_option_steps, delete_option_there, entries, has_key, is_entry, is_entry_element, keys_known, of_list, of_lone, options_key}
+use Rattle.meson_keywords.specs.Options.{delete_by_shape, delete_by_value, delete_lone, delete_option_there, entries, has_key, is_entry, is_entry_element, keys_known, of_list, of_lone, options_key}
 use Rattle.meson_calls.specs.Project.{child}
 use Rattle.meson_steps.specs.Steps.{Step, step_in}
+use Rattle.meson_keywords.specs.TaskSteps.{task_steps}
 use Rattle.meson_keywords.specs.Tasks.{remove, delete_option}
 use Rattle.meson_keywords.proofs.ArrayEdits.{HoldsAs, gone_step, holds_same, more_hold, still_there, value_put}
 use Rattle.meson_keywords.proofs.CallEdits.{elements_are, none_leaves, one_leaves, remove_step, xs}
@@ -156,7 +157,7 @@ module _ (key : List ℕ) (k : ElementKind) (wanted : List ℕ) (c : CallRef) (t
 
 pub remove_does : (key : List ℕ) (k : ElementKind) (wanted : List ℕ) → TaskDoes (remove key k wanted)
 remove_does key k wanted c trees all s steps made =
-    remove_by key k wanted c trees all s steps (keyword_in key (xs c trees all s)) refl (sym (ap (λ ys. remove_steps c ys key k wanted) (elements_are c trees all s)) ∙ made)
+    remove_by key k wanted c trees all s steps (keyword_in key (xs c trees all s)) refl (sym (ap (task_steps (remove key k wanted) c) (elements_are c trees all s)) ∙ made)
 
 -- ---- an option deleted
 
@@ -230,4 +231,4 @@ module _ (name : List ℕ) (c : CallRef) (trees : List Plain) (all : All MayStan
 
 pub delete_option_does : (name : List ℕ) → TaskDoes (delete_option name)
 delete_option_does name c trees all s steps made =
-    delete_by name c trees all s steps (keyword_in options_key (xs c trees all s)) refl (sym (ap (λ ys. delete_option_steps c ys name) (elements_are c trees all s)) ∙ made)
+    delete_by name c trees all s steps (keyword_in options_key (xs c trees all s)) refl (sym (ap (task_steps (delete_option name) c) (elements_are c trees all s)) ∙ made)

@@ -14,13 +14,14 @@ use Rattle.meson_keywords.specs.declared.value_kinds.ElementKind.TheVariants as 
 use Rattle.meson_calls.specs.Calls.{Numbered}
 use Rattle.meson_keywords.specs.Changing.{CallStands}
 use Rattle.meson_keywords.specs.Effects.{Holds, coming, held_elements, held_in, put_behind, values_of}
-use Rattle.meson_keywords.specs.KeywordEdits.{add_by_shape, add_steps, add_there, add_to_lone, all_behind, behind_all, element_text, new_elements, value_shape, text_in, delete_steps, delete_there, keyword_in, once_steps, one_at_most, set_steps, set_there}
+use Rattle.meson_keywords.specs.KeywordEdits.{add_by_shape, add_there, add_to_lone, all_behind, behind_all, element_text, new_elements, value_shape, text_in, delete_there, keyword_in, one_at_most, set_there}
 use Rattle.meson_keywords.specs.ValueKinds.{element_node, written_list, written_named}
 use Rattle.meson_steps.specs.ListSteps.{MayStandBetween}
 use Rattle.meson_calls.specs.Project.{child}
 use Rattle.meson_steps.specs.Names.{distinct_by}
 use Rattle.meson_steps.specs.Steps.{Step, step_in}
 use Rattle.meson_keywords.specs.Tasking.{AreElements}
+use Rattle.meson_keywords.specs.TaskSteps.{task_steps}
 use Rattle.meson_keywords.specs.Tasks.{set, delete, add, once}
 use Rattle.meson_steps.proofs.Insertable.{elements_back}
 use Rattle.meson_keywords.proofs.ArrayEdits.{HoldsAs, puts_hold, wrap_holds}
@@ -51,17 +52,17 @@ module _ (key : List ℕ) (new : Written (Expression Nowhere)) (is : IsIdentifie
       (record { values = put_value key outer v.number v.value o new.node; others = put_others key outer v.number v.value o new.node }))
   set_by (v ∷ w ∷ more) there h = absurd cc
 
-  pub set_made : set_steps c outer key new ≡ Ok steps → Does (set key new) c trees steps
+  pub set_made : task_steps (set key new) c outer ≡ Ok steps → Does (set key new) c trees steps
   set_made h = set_by (keyword_in key outer) refl h
 
 pub set_does : (key : List ℕ) (new : Written (Expression Nowhere)) → IsIdentifier key → IsUtf8 key → IsWritten new.bytes (expression_words new.node) → LevelExpression new.node → expression_depth new.node ≤ 1
     → TaskDoes (set key new)
 set_does key new is utf8 writes level small c trees all s steps made =
-    set_made key new is utf8 writes level small c trees all s steps (sym (ap (λ ys. set_steps c ys key new) (elements_are c trees all s)) ∙ made)
+    set_made key new is utf8 writes level small c trees all s steps (sym (ap (task_steps (set key new) c) (elements_are c trees all s)) ∙ made)
 
 pub delete_does : (key : List ℕ) → TaskDoes (delete key)
 delete_does key c trees all s steps made =
-    go (keyword_in key (xs c trees all s)) refl (sym (ap (λ ys. delete_steps c ys key) (elements_are c trees all s)) ∙ made)
+    go (keyword_in key (xs c trees all s)) refl (sym (ap (task_steps (delete key) c) (elements_are c trees all s)) ∙ made)
   where
     go : (vs : List (Numbered (Expression Nowhere))) → keyword_in key (xs c trees all s) ≡ vs → then_ok (one_at_most key vs) (λ v. Ok (delete_there c v)) ≡ Ok steps → Does (delete key) c trees steps
     go [] none h =
@@ -79,7 +80,7 @@ delete_does key c trees all s steps made =
 
 pub once_does : (key : List ℕ) → TaskDoes (once key)
 once_does key c trees all s steps made =
-    go (keyword_in key (xs c trees all s)) (sym (ap (λ ys. once_steps ys key) (elements_are c trees all s)) ∙ made)
+    go (keyword_in key (xs c trees all s)) (sym (ap (task_steps (once key) c) (elements_are c trees all s)) ∙ made)
   where
     nothing : [] ≡ steps → Does (once key) c trees steps
     nothing same = subst (Does (once key) c trees) same (does (once key) c trees all s [] _ (none_leaves c trees all s) refl)
@@ -167,4 +168,4 @@ module _ (key : List ℕ) (k : ElementKind) (values : List (List ℕ)) (is_key :
 
 pub add_does : (key : List ℕ) (k : ElementKind) (values : List (List ℕ)) → IsIdentifier key → IsUtf8 key → AreElements k values → TaskDoes (add key k values)
 add_does key k values is utf8 are c trees all s steps made =
-    add_by key k values is utf8 are c trees all s steps (keyword_in key (xs c trees all s)) refl (sym (ap (λ ys. add_steps c ys key k values) (elements_are c trees all s)) ∙ made)
+    add_by key k values is utf8 are c trees all s steps (keyword_in key (xs c trees all s)) refl (sym (ap (task_steps (add key k values) c) (elements_are c trees all s)) ∙ made)

@@ -1,6 +1,6 @@
 -- A task that is done on the call at a place: its steps as the code has them, and the call as they leave it.
 use Rattle.std.proofs.Common.{◌≡◌, ℕ, List, [], ◌++◌, get_or, refl, sym, ap, ◌∙◌, subst}
-use Rattle.std.specs.Prelude.{Some, None, option_map, option_and_then, Ok}
+use Rattle.std.specs.Prelude.{Some, None, option_map, option_and_then, unwrap_or, Ok}
 use Rattle.meson_lex.specs.declared.kinds.Span.{Span}
 use Rattle.meson_splice.specs.Files.{bytes_at}
 use Rattle.meson_syntax.specs.declared.tree.Arg.{Arg}
@@ -22,7 +22,7 @@ use Rattle.meson_steps.specs.ResultLimits.{plain_trees}
 use Rattle.meson_steps.specs.Steps.{Step, all_stepped}
 use Rattle.meson_keywords.specs.Tasking.{MayBeWritten}
 use Rattle.meson_keywords.specs.Tasks.{Task}
-use Rattle.meson_keywords.specs.TaskSteps.{or_same, task_steps, trees_after}
+use Rattle.meson_keywords.specs.TaskSteps.{task_steps, trees_after}
 use Rattle.meson_steps.specs.Working.{IsUnderWay, Reached, so_far}
 use Rattle.meson_edit.proofs.lists.CodeElements.{list_elements}
 use Rattle.meson_keywords.proofs.CallKnown.{ListKnown, known_stand, list_known}
@@ -88,7 +88,7 @@ module _ (old : Loaded) (c : CallRef) (w : Work) (before : List Step) (b : Betwe
     pub trees_done : (new : Work) → Reached old (before ++ steps) [] new → trees_after steps here ≡ plain_trees (so_far new)
     trees_done new r =
         let on = sym (all_after before steps (plain_trees old)) ∙ r.made.are_trees in
-        ap (or_same here) (sym (ap (option_and_then (all_stepped steps)) b.reached.made.are_trees) ∙ on)
+        ap (λ o. unwrap_or o here) (sym (ap (option_and_then (all_stepped steps)) b.reached.made.are_trees) ∙ on)
 
     pub task_done : (new : Work) → Reached old (before ++ steps) [] new → TaskDone old c before t w new
     task_done new r = record { steps = steps; are = are; between = record { reached = r; stands = subst (CallStands c) (trees_done new r) leaves.stands } }

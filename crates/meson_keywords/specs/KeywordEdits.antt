@@ -1,8 +1,7 @@
 -- The steps of a change of a call's keyword arguments, by the elements that the call has.
 use Rattle.std.specs.Prelude.{ℕ, zero, suc, ◌-◌, Bool, List, [], ◌∷◌, map, length, if◌then◌else◌, bytes_eq, Option, Some, None, is_some, Result, Ok, Err}
 use Rattle.std.specs.List.{filter_map, list_all}
-use Rattle.meson_splice.specs.Patch.{then_ok}
-use Rattle.meson_syntax.specs.Tree.{Nowhere, Expression, array, Argument, plain, named, pair, arguments_of}
+use Rattle.meson_syntax.specs.Tree.{Nowhere, Expression, array, Argument, plain, arguments_of}
 use Rattle.meson_edit.specs.Edits.{Written, First, After, Remove, Replace, Wrap, elements}
 use Rattle.meson_calls.specs.declared.call.CallRef.{CallRef}
 use Rattle.meson_keywords.specs.declared.value_kinds.ElementKind.{ElementKind}
@@ -58,7 +57,6 @@ passing test n (x ∷ xs) = if test x then n ∷ passing test (suc n) xs else pa
 
 -- ---- elements of a kind
 
--- the name of a variable
 -- the text of an element, if it is one of the kind: a string with a value, or a variable
 abbrev pub text_in : {S : Type 0} → ElementKind → Expression S → Option (List ℕ)
 text_in element.Text e = calls.literal_of e
@@ -66,8 +64,7 @@ text_in element.Identifier e = name_of e
 
 abbrev pub element_text : {S : Type 0} → ElementKind → Argument S → Option (List ℕ)
 element_text k (plain e) = text_in k e
-element_text k (named s x e) = None
-element_text k (pair s e f) = None
+element_text k _ = None
 
 abbrev pub says : {S : Type 0} → ElementKind → List ℕ → Argument S → Bool
 says k text x = calls.is text (element_text k x)
@@ -87,21 +84,15 @@ value_shape _ = no_array
 
 -- ---- set and delete
 
+-- The value becomes the new one, whatever it was. An absent argument is inserted as the last one.
 abbrev pub set_there : {S : Type 0} → CallRef → ℕ → List ℕ → Written (Expression Nowhere) → Option (Numbered (Expression S)) → Step
 set_there c many key new None = behind_all c many (written_named key new)
 set_there c many key new (Some v) = step_in c (Replace c.path.steps v.number new)
 
--- The value becomes the new one, whatever it was. An absent argument is inserted as the last one.
-abbrev pub set_steps : {S : Type 0} → CallRef → List (Argument S) → List ℕ → Written (Expression Nowhere) → Result (List Step) Refusal
-set_steps c xs key new = then_ok (the_value key xs) (λ v. Ok (set_there c (length xs) key new v ∷ []))
-
+-- The argument goes. An absent one changes nothing.
 abbrev pub delete_there : {S : Type 0} → CallRef → Option (Numbered (Expression S)) → List Step
 delete_there c None = []
 delete_there c (Some v) = step_in c (Remove c.path.steps v.number) ∷ []
-
--- The argument goes. An absent one changes nothing.
-abbrev pub delete_steps : {S : Type 0} → CallRef → List (Argument S) → List ℕ → Result (List Step) Refusal
-delete_steps c xs key = then_ok (the_value key xs) (λ v. Ok (delete_there c v))
 
 -- ---- add
 
@@ -124,9 +115,6 @@ abbrev pub add_there : {S : Type 0} → CallRef → ℕ → List ℕ → Element
 add_there c many key k values None = Ok (behind_all c many (written_named key (written_list k values)) ∷ [])
 add_there c many key k values (Some v) = add_by_shape c v.number key k values (text_in k v.value) (value_shape v.value)
 
-abbrev pub add_steps : {S : Type 0} → CallRef → List (Argument S) → List ℕ → ElementKind → List (List ℕ) → Result (List Step) Refusal
-add_steps c xs key k values = then_ok (the_value key xs) (add_there c (length xs) key k values)
-
 -- ---- remove
 
 -- A lone equal value takes its argument with it. A lone unequal one of the kind stays. Of no other value is known what it holds.
@@ -146,11 +134,3 @@ remove_by_shape c n key k value text no_array = remove_lone c n key value text
 abbrev pub remove_there : {S : Type 0} → CallRef → List ℕ → ElementKind → List ℕ → Option (Numbered (Expression S)) → Result (List Step) Refusal
 remove_there c key k value None = Ok []
 remove_there c key k value (Some v) = remove_by_shape c v.number key k value (text_in k v.value) (value_shape v.value)
-
-abbrev pub remove_steps : {S : Type 0} → CallRef → List (Argument S) → List ℕ → ElementKind → List ℕ → Result (List Step) Refusal
-remove_steps c xs key k value = then_ok (the_value key xs) (remove_there c key k value)
-
--- ---- nothing
-
-abbrev pub once_steps : {S : Type 0} → List (Argument S) → List ℕ → Result (List Step) Refusal
-once_steps xs key = then_ok (the_value key xs) (λ v. Ok [])

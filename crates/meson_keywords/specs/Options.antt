@@ -2,8 +2,7 @@
 use Rattle.std.specs.Prelude.{ℕ, Bool, List, [], ◌∷◌, ◌++◌, length, codes, if◌then◌else◌, Option, Some, None, is_some, option_and_then, Result, Ok, Err}
 use Rattle.std.specs.List.{list_all}
 use Rattle.meson_lex.specs.Literals.{literal}
-use Rattle.meson_splice.specs.Patch.{then_ok}
-use Rattle.meson_syntax.specs.Tree.{Nowhere, Expression, dictionary, Argument, plain, named, pair}
+use Rattle.meson_syntax.specs.Tree.{Nowhere, Expression, dictionary, Argument, pair}
 use Rattle.meson_edit.specs.Edits.{Written, Remove, Replace, Wrap, elements}
 use Rattle.meson_calls.specs.declared.call.CallRef.{CallRef}
 use Rattle.meson_keywords.specs.declared.value_kinds.ElementKind.TheVariants as element
@@ -16,7 +15,7 @@ use Rattle.meson_steps.specs.Steps.{step_in, Step}
 use Rattle.meson_steps.specs.WrittenTexts.{string_of, written_text}
 use Rattle.meson_keywords.specs.ValueKinds.{written_element, written_list, written_named}
 use Rattle.meson_keywords.specs.Tasks.{before_equals}
-use Rattle.meson_keywords.specs.KeywordEdits.{the_value, behind_all, removed_from, passing, text_in, element_text, all_of_kind, ValueShape, an_array, no_array, value_shape}
+use Rattle.meson_keywords.specs.KeywordEdits.{behind_all, removed_from, passing, text_in, element_text, all_of_kind, ValueShape, an_array, no_array, value_shape}
 
 abbrev pub options_key : List ℕ
 options_key = codes "default_options"
@@ -76,9 +75,8 @@ entries _ = None
 
 -- the text of an entry's key, if it is a string with a value
 abbrev pub key_text : {S : Type 0} → Argument S → Option (List ℕ)
-key_text (plain e) = None
-key_text (named s x e) = None
 key_text (pair s k v) = calls.literal_of k
+key_text _ = None
 
 abbrev pub has_key : {S : Type 0} → List ℕ → Argument S → Bool
 has_key name x = calls.is name (key_text x)
@@ -112,13 +110,7 @@ abbrev pub set_option_there : {S : Type 0} → CallRef → ℕ → (name value :
 set_option_there c many name value None = Ok (behind_all c many (written_named options_key (written_list element.Text (option_text name value ∷ []))) ∷ [])
 set_option_there c many name value (Some v) = set_by_value c v.number name value v.value (entries v.value)
 
+-- Every entry of the option goes. A lone value takes the argument with it.
 abbrev pub delete_option_there : {S : Type 0} → CallRef → List ℕ → Option (Numbered (Expression S)) → Result (List Step) Refusal
 delete_option_there c name None = Ok []
 delete_option_there c name (Some v) = delete_by_value c v.number name v.value (entries v.value)
-
-abbrev pub set_option_steps : {S : Type 0} → CallRef → List (Argument S) → (name value : List ℕ) → Result (List Step) Refusal
-set_option_steps c xs name value = then_ok (the_value options_key xs) (set_option_there c (length xs) name value)
-
--- Every entry of the option goes. A lone value takes the argument with it.
-abbrev pub delete_option_steps : {S : Type 0} → CallRef → List (Argument S) → List ℕ → Result (List Step) Refusal
-delete_option_steps c xs name = then_ok (the_value options_key xs) (delete_option_there c name)

@@ -1,5 +1,5 @@
 -- What values the keyword arguments have that commands change, and what is written for these. Meson manual, Reference manual: `project`, `dependency`, `executable`.
-use Rattle.std.specs.Prelude.{ℕ, Bool, true, false, not, ◌&&◌, List, [], ◌∷◌, ◌++◌, map, codes, if◌then◌else◌, bytes_eq, Option, Some, None, option_map, Result, Ok, Err}
+use Rattle.std.specs.Prelude.{ℕ, Bool, true, false, not, ◌&&◌, List, [], ◌∷◌, ◌++◌, map, codes, if◌then◌else◌, bytes_eq, Option, Some, None, ok_or, option_map, Result, Ok, Err}
 use Rattle.std.specs.List.{list_all}
 use Rattle.meson_lex.specs.Bytes.{is_word_start, is_word_byte}
 use Rattle.meson_lex.specs.Kinds.{spelling, reserved}
@@ -84,13 +84,7 @@ setting_texts (setting.Texts ts) = Some ts
 
 abbrev pub setting_text : Setting → Option (List ℕ)
 setting_text (setting.Text t) = Some t
-setting_text (setting.Bool b) = None
-setting_text (setting.Texts ts) = None
-
--- a value that is there; without one the key takes no such value
-abbrev pub of_kind : {X : Type 0} → List ℕ → Option X → Result X Refusal
-of_kind key None = Err (WrongKind key)
-of_kind key (Some x) = Ok x
+setting_text _ = None
 
 -- an identifier list holds identifiers only
 abbrev pub are_elements : ElementKind → List (List ℕ) → Bool
@@ -102,16 +96,15 @@ checked_values e texts = if are_elements e texts then Ok texts else Err BadName
 
 -- the elements that a list gets
 abbrev pub list_values : ElementKind → List ℕ → Setting → Result (List (List ℕ)) Refusal
-list_values e key s = then_ok (of_kind key (setting_texts s)) (checked_values e)
+list_values e key s = then_ok (ok_or (setting_texts s) (WrongKind key)) (checked_values e)
 
--- what is written for a value of a kind
+-- what is written for a value of a kind; a key takes no other value
 abbrev pub written_value : ValueKind → List ℕ → Setting → Result (Written (Expression Nowhere)) Refusal
-written_value value.Text key s = of_kind key (option_map written_text (setting_text s))
-written_value value.Switch key s = of_kind key (option_map written_switch (truth_of s))
+written_value value.Text key s = ok_or (option_map written_text (setting_text s)) (WrongKind key)
+written_value value.Switch key s = ok_or (option_map written_switch (truth_of s)) (WrongKind key)
 written_value (value.ListOf e) key s = then_ok (list_values e key s) (λ texts. Ok (written_list e texts))
 
 -- Values are added to lists alone, and removed from them alone.
 abbrev pub list_kind : List ℕ → ValueKind → Result ElementKind Refusal
-list_kind key value.Text = Err (WrongKind key)
-list_kind key value.Switch = Err (WrongKind key)
 list_kind key (value.ListOf e) = Ok e
+list_kind key _ = Err (WrongKind key)

@@ -8,13 +8,15 @@ ghost use Rattle.meson_syntax.specs.Grammar.{expression_words};
 ghost use Rattle.meson_syntax.specs.View.{args_view, expr_view};
 ghost use Rattle.meson_calls.specs.GoodLists.{GoodArgs};
 ghost use Rattle.meson_calls.specs.Refusals.{RefusedAs};
-ghost use Rattle.meson_keywords.specs.KeywordEdits.{add_by_shape, add_steps, add_to_lone, all_behind, all_of_kind, behind_all, delete_steps, once_steps, passing, remove_by_shape, remove_equal, remove_steps, removed_from, says, set_steps, value_shape, text_in};
+ghost use Rattle.meson_keywords.specs.KeywordEdits.{add_by_shape, add_to_lone, all_behind, all_of_kind, behind_all, passing, remove_by_shape, remove_equal, removed_from, says, value_shape, text_in};
 ghost use Rattle.meson_keywords.specs.ValueKinds.{written_element};
 ghost use Rattle.meson_steps.specs.ListSteps.{bare};
 ghost use Rattle.meson_steps.specs.inside.WrittenValues.{WrittenFor, value_written};
 ghost use Rattle.meson_calls.specs.Strings.{AreGood};
 ghost use Rattle.meson_steps.specs.Meanings.{AreBehind, AreMeant};
 ghost use Rattle.meson_keywords.specs.Tasking.{args_of, held_value};
+ghost use Rattle.meson_keywords.specs.Tasks as changes;
+ghost use Rattle.meson_keywords.specs.TaskSteps.{task_steps};
 
 use crate::elements::{
     NumberedValue, Subject, Test, all_known, array_in, is_element, new_values, other_values,
@@ -119,9 +121,9 @@ pub(crate) fn set_steps(
 ) -> Result<Vec<ListStep>, Refusal>
     requires { GoodArgs subject.source.now subject.args.now }
     ensures meant { let args = args_of subject.entry in (w : WrittenFor new) →
-        IfOk result (λ steps. AreMeant (set_steps subject.entry.call.now args key.now (value_written new w)) steps.items) }
+        IfOk result (λ steps. AreMeant (task_steps (changes.set key.now (value_written new w)) subject.entry.call.now args) steps.items) }
     ensures refused { let args = args_of subject.entry in (w : WrittenFor new) →
-        RefusedAs result (set_steps subject.entry.call.now args key.now (value_written new w)) }
+        RefusedAs result (task_steps (changes.set key.now (value_written new w)) subject.entry.call.now args) }
 {
     let key = key.get().as_bytes();
     let found = the_value(alloc, subject, key)?;
@@ -149,8 +151,8 @@ pub(crate) fn delete_steps(
     key: &Text,
 ) -> Result<Vec<ListStep>, Refusal>
     requires { GoodArgs subject.source.now subject.args.now }
-    ensures meant { IfOk result (λ steps. AreMeant (delete_steps subject.entry.call.now (args_of subject.entry) key.now) steps.items) }
-    ensures refused { RefusedAs result (delete_steps subject.entry.call.now (args_of subject.entry) key.now) }
+    ensures meant { IfOk result (λ steps. AreMeant (task_steps (changes.delete key.now) subject.entry.call.now (args_of subject.entry)) steps.items) }
+    ensures refused { RefusedAs result (task_steps (changes.delete key.now) subject.entry.call.now (args_of subject.entry)) }
 {
     let found = the_value(alloc, subject, key.get().as_bytes())?;
     let mut steps = Vec::new(alloc);
@@ -171,8 +173,8 @@ pub(crate) fn once_steps(
     key: &Text,
 ) -> Result<Vec<ListStep>, Refusal>
     requires { GoodArgs subject.source.now subject.args.now }
-    ensures meant { IfOk result (λ steps. AreMeant (once_steps (args_of subject.entry) key.now) steps.items) }
-    ensures refused { RefusedAs result (once_steps (args_of subject.entry) key.now) }
+    ensures meant { IfOk result (λ steps. AreMeant (task_steps (changes.once key.now) subject.entry.call.now (args_of subject.entry)) steps.items) }
+    ensures refused { RefusedAs result (task_steps (changes.once key.now) subject.entry.call.now (args_of subject.entry)) }
 {
     the_value(alloc, subject, key.get().as_bytes())?;
     Ok(Vec::new(alloc))
@@ -251,9 +253,9 @@ pub(crate) fn add_steps(
 ) -> Result<Vec<ListStep>, Refusal>
     requires { GoodArgs subject.source.now subject.args.now }
     ensures meant { let args = args_of subject.entry in let texts = map (λ x. x.now) values.now in
-        IfOk result (λ steps. AreMeant (add_steps subject.entry.call.now args key.now kind texts) steps.items) }
+        IfOk result (λ steps. AreMeant (task_steps (changes.add key.now kind texts) subject.entry.call.now args) steps.items) }
     ensures refused { let args = args_of subject.entry in let texts = map (λ x. x.now) values.now in
-        RefusedAs result (add_steps subject.entry.call.now args key.now kind texts) }
+        RefusedAs result (task_steps (changes.add key.now kind texts) subject.entry.call.now args) }
 {
     let key = key.get().as_bytes();
     let found = the_value(alloc, subject, key)?;
@@ -349,8 +351,9 @@ pub(crate) fn remove_steps(
     value: &Text,
 ) -> Result<Vec<ListStep>, Refusal>
     requires { GoodArgs subject.source.now subject.args.now }
-    ensures meant { IfOk result (λ steps. AreMeant (remove_steps subject.entry.call.now (args_of subject.entry) key.now kind value.now) steps.items) }
-    ensures refused { RefusedAs result (remove_steps subject.entry.call.now (args_of subject.entry) key.now kind value.now) }
+    ensures meant { IfOk result (λ steps.
+        AreMeant (task_steps (changes.remove key.now kind value.now) subject.entry.call.now (args_of subject.entry)) steps.items) }
+    ensures refused { RefusedAs result (task_steps (changes.remove key.now kind value.now) subject.entry.call.now (args_of subject.entry)) }
 {
     let key = key.get().as_bytes();
     let found = the_value(alloc, subject, key)?;

@@ -10,10 +10,14 @@ ghost use Rattle.meson_calls.specs.Refusals.{IfRefused, RefusedAs};
 ghost use Rattle.meson_keywords.specs.KeywordEdits.{all_of_kind, passing, removed_from, value_shape};
 ghost use Rattle.meson_keywords.specs.ValueKinds.{written_list, written_named};
 ghost use Rattle.meson_steps.specs.ListSteps.{bare};
-ghost use Rattle.meson_keywords.specs.Options.{delete_by_shape, delete_by_value, delete_option_steps, entries, has_key, keys_known, is_entry, is_entry_element, option_text, options_key, set_by_shape, set_by_value, set_in_dictionary, set_in_list, set_in_lone, set_option_steps};
+ghost use Rattle.meson_keywords.specs.Options.{delete_by_shape, delete_by_value, entries, has_key, keys_known};
+ghost use Rattle.meson_keywords.specs.Options.{is_entry, is_entry_element, option_text, options_key};
+ghost use Rattle.meson_keywords.specs.Options.{set_by_shape, set_by_value, set_in_dictionary, set_in_list, set_in_lone};
 ghost use Rattle.meson_calls.specs.Strings.{AreGood};
 ghost use Rattle.meson_steps.specs.Meanings.{AreBehind, AreMeant};
 ghost use Rattle.meson_keywords.specs.Tasking.{args_of, held_value, test_of};
+ghost use Rattle.meson_keywords.specs.Tasks as changes;
+ghost use Rattle.meson_keywords.specs.TaskSteps.{task_steps};
 
 use crate::elements::{
     NumberedValue, Subject, Test, all_known, array_in, entries_in, is_element, is_entry,
@@ -243,8 +247,9 @@ pub(crate) fn set_option_steps(
     value: &str,
 ) -> Result<Vec<ListStep>, Refusal>
     requires { GoodArgs subject.source.now subject.args.now }
-    ensures meant { IfOk result (λ steps. AreMeant (set_option_steps subject.entry.call.now (args_of subject.entry) name.now value.now) steps.items) }
-    ensures refused { RefusedAs result (set_option_steps subject.entry.call.now (args_of subject.entry) name.now value.now) }
+    ensures meant { IfOk result (λ steps.
+        AreMeant (task_steps (changes.set_option name.now value.now) subject.entry.call.now (args_of subject.entry)) steps.items) }
+    ensures refused { RefusedAs result (task_steps (changes.set_option name.now value.now) subject.entry.call.now (args_of subject.entry)) }
 {
     let found = the_value(alloc, subject, OPTIONS.as_bytes())?;
     let mut steps = Vec::new(alloc);
@@ -351,8 +356,8 @@ pub(crate) fn delete_option_steps(
     name: &Text,
 ) -> Result<Vec<ListStep>, Refusal>
     requires { GoodArgs subject.source.now subject.args.now }
-    ensures meant { IfOk result (λ steps. AreMeant (delete_option_steps subject.entry.call.now (args_of subject.entry) name.now) steps.items) }
-    ensures refused { RefusedAs result (delete_option_steps subject.entry.call.now (args_of subject.entry) name.now) }
+    ensures meant { IfOk result (λ steps. AreMeant (task_steps (changes.delete_option name.now) subject.entry.call.now (args_of subject.entry)) steps.items) }
+    ensures refused { RefusedAs result (task_steps (changes.delete_option name.now) subject.entry.call.now (args_of subject.entry)) }
 {
     let found = the_value(alloc, subject, OPTIONS.as_bytes())?;
     let mut steps = Vec::new(alloc);

@@ -1,6 +1,6 @@
 -- What a command that is performed leaves of the call that it changes.
 use Rattle.std.proofs.Common.{◌≡◌, ℕ, List, map, Some, sym, ap, ◌∙◌, subst}
-use Rattle.std.specs.Prelude.{Result, Ok}
+use Rattle.std.specs.Prelude.{unwrap_or, Result, Ok}
 use Rattle.std.specs.Str.{IsUtf8}
 use Rattle.meson_lex.specs.declared.kinds.Span.{Span}
 use Rattle.meson_splice.specs.Patch.{then_ok}
@@ -15,7 +15,6 @@ use Rattle.meson_calls.specs.Project.{Placed, Project}
 use Rattle.meson_keywords.specs.Changing.{request_steps}
 use Rattle.meson_keywords.specs.Effects.{CallLeft}
 use Rattle.meson_keywords.specs.Tasking.{Asked, to_set, to_add, to_remove, to_delete, to_set_options, to_delete_options}
-use Rattle.meson_keywords.specs.TaskSteps.{or_same}
 use Rattle.meson_keywords.proofs.RequestsLeave.{requests-leave}
 use Rattle.meson_steps.specs.declared.command.Command.{Command}
 use Rattle.meson_steps.specs.declared.command.Command.TheVariants as command
@@ -40,7 +39,7 @@ use Rattle.meson_plan.proofs.NamesKept.{names_kept}
 module _ (old new : Loaded) (c : Command) (done : Done) (is : IsProject old) (p : Performs old c done new) where
   leaves : (r : Role) (id : List ℕ) (asked : Asked) → request_steps (project old) (r, id, asked) ≡ Ok p.made.steps → LeavesOf old r id asked new
   leaves r id asked made texts =
-      let after = ap (or_same (plain_trees old)) p.made.are_trees ∙ sym p.are_trees in
+      let after = ap (λ o. unwrap_or o (plain_trees old)) p.made.are_trees ∙ sym p.are_trees in
       subst (CallLeft old r id asked) after (requests-leave old is r id asked texts p.made.steps made)
 
   stepped : all_stepped p.made.steps (plain_trees old) ≡ Some (plain_trees new)

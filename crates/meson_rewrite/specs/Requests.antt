@@ -69,13 +69,11 @@ only_shows _ = false
 
 -- nothing is asked for but help, the version, a listing, or what an info command tells
 abbrev pub only_asks : Action → Bool
-only_asks (action.Help text) = true
-only_asks action.Version = true
 only_asks (action.Info c) = true
 only_asks action.History = true
 only_asks (action.List json) = true
 only_asks action.Sums = true
-only_asks _ = false
+only_asks a = only_shows a
 
 -- a file is read for it: a script, or digests
 abbrev pub names_file : Action → Bool

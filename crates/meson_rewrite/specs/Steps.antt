@@ -1,6 +1,6 @@
 -- What a step does to a session, and what it then says.
-use Rattle.std.specs.Prelude.{◌≡◌, ◌≢◌, ◌<◌, ◌⊎◌, ⊤, Bool, true, false, ℕ, List, [], ◌∷◌, ◌++◌, length, codes, decimal, if◌then◌else◌, Option, Some, None, Result}
-use Rattle.serde_json.specs.Data.{Data, Items, array, no_items, item}
+use Rattle.std.specs.Prelude.{◌≡◌, ◌≢◌, ◌<◌, ◌⊎◌, ⊤, Bool, true, false, ℕ, List, [], ◌∷◌, ◌++◌, length, codes, decimal, if◌then◌else◌, Option, Some, Result}
+use Rattle.serde_json.specs.Data.{Data, Items, array, no_items}
 use Rattle.serde_json.specs.Find.{as_array}
 use Rattle.serde_json.specs.View.{view}
 use Rattle.serde_json.specs.Written.{compact_text}
@@ -90,9 +90,8 @@ only_tells _ = false
 
 -- an array without elements
 abbrev pub is_empty_array : Option Items → Bool
-is_empty_array None = false
 is_empty_array (Some no_items) = true
-is_empty_array (Some (item d ds)) = false
+is_empty_array _ = false
 
 -- the listings of info commands as compact JSON, where there are any
 abbrev pub listing_line : Data → List ℕ
@@ -110,9 +109,6 @@ pub record Shows (old : Session) (report : Report) (new : Session) (said : Said)
 abbrev pub said_of : Step → Report → Said
 said_of (Run script title) report = record { out = done_line report.files report.splices; err = listing_line (view report.info) }
 said_of (Tell script) report = record { out = []; err = listing_line (view report.info) }
-said_of Undo report = record { out = step_lines report; err = listing_line (view report.info) }
-said_of (UndoTo count) report = record { out = step_lines report; err = listing_line (view report.info) }
-said_of (UndoChecked count kept) report = record { out = step_lines report; err = listing_line (view report.info) }
 said_of (ForgetOldest count) report = record { out = forgot_line (decimal count); err = listing_line (view report.info) }
 said_of ForgetAll report = record { out = forgot_line (codes "all"); err = listing_line (view report.info) }
-said_of Redo report = record { out = step_lines report; err = listing_line (view report.info) }
+said_of _ report = record { out = step_lines report; err = listing_line (view report.info) }

@@ -13,7 +13,7 @@ use Rattle.meson_store.specs.declared.store_fault.StoreFault.TheVariants as stor
 use Rattle.meson_gathering.specs.declared.fault.GatherFault.{GatherFault}
 use Rattle.meson_gathering.specs.declared.fault.GatherFault.TheVariants as gather
 use Rattle.meson_rewrite.specs.declared.stop.Stop.{Stop}
-use Rattle.meson_rewrite.specs.declared.stop.Stop.TheVariants.{Usage, Script, Parse, TooManyFiles, BadFileName, Refused, Splice, OtherFiles, Store}
+use Rattle.meson_rewrite.specs.declared.stop.Stop.TheVariants.{Usage, Script, Parse, TooManyFiles, BadFileName, Refused, Splice, Store}
 
 -- of the files of a store
 abbrev pub gathering_stop : GatherFault → Stop
@@ -36,7 +36,4 @@ WantsMemory (Script fault) = fault ≡ script.OutOfMemory
 WantsMemory (Refused fault) = fault.refusal ≡ refusal.OutOfMemory
 WantsMemory (Splice fault) = fault ≡ splice.OutOfMemory
 WantsMemory (Store fault) = fault ≡ store.OutOfMemory
-WantsMemory (Parse name fault) = ⊥
-WantsMemory TooManyFiles = ⊥
-WantsMemory (BadFileName place) = ⊥
-WantsMemory (OtherFiles name) = ⊥
+WantsMemory _ = ⊥

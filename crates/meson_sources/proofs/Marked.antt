@@ -1,6 +1,6 @@
 -- What gathered marks say of commands: the names that are new, where further ones go, and where the items of names stand.
 use Rattle.std.proofs.Common.{◌≡◌, ℕ, List, [], ◌∷◌, ◌++◌, length, map, refl, sym, ap, ◌∙◌, zero-add}
-use Rattle.std.specs.Prelude.{Bool, true, false, not, Option, option_map, option_and_then, Ok, if◌then◌else◌}
+use Rattle.std.specs.Prelude.{Bool, true, false, not, Option, ok_or, option_map, option_and_then, Ok, if◌then◌else◌}
 use Rattle.std.specs.List.{filter, list_any}
 use Rattle.std.proofs.lemmas.List.{length-map}
 use Rattle.meson_lex.specs.declared.kinds.Span.{Span}
@@ -8,7 +8,8 @@ use Rattle.meson_splice.specs.Patch.{then_ok}
 use Rattle.meson_variables.specs.Expansion.{Slot, in_list, fixed, Item, Mark}
 use Rattle.meson_sources.specs.inside.CodeSpots.{spot_if_there, spots_at, all_there, spots_from, spots_of_names}
 use Rattle.meson_variables.specs.TargetSources.{items, opaque_count, first_list, first_empty, list_of_slot, source_item}
-use Rattle.meson_sources.specs.SourceEdits.{new_names, has_text, is_known, items_of, Spot, spot_of, spots_of, spots_by, spots_named, removable}
+use Rattle.meson_calls.specs.declared.refusal.Refusal.TheVariants.{NotRemovable}
+use Rattle.meson_sources.specs.SourceEdits.{new_names, has_text, is_known, items_of, Spot, spot_of, spots_of, spots_by, spots_named}
 use Rattle.meson_steps.specs.Names.{distinct}
 use Rattle.meson_sources.specs.inside.Naming.{has_value, new_among}
 use Rattle.meson_variables.specs.Tallies.{Tally, number_of_slot, all_marked, no_marks}
@@ -74,7 +75,7 @@ all_of (i ∷ is) = ap (λ more. option_and_then (λ spot. option_map (λ spots.
 
 from_items : (unknown : ℕ) (is : List (Item Span)) → spots_from unknown (spots_there is) ≡ spots_by unknown is
 from_items unknown [] = refl
-from_items unknown (i ∷ is) = ap removable (all_of (i ∷ is))
+from_items unknown (i ∷ is) = ap (λ o. ok_or o NotRemovable) (all_of (i ∷ is))
 
 pub named_spots : (ms : List (Mark Span)) (names : List (List ℕ))
     → spots_of_names (map source_item (items ms)) (numbers_of (items ms)) (opaque_count ms) names ≡ spots_named ms names

@@ -1,5 +1,5 @@
 -- The spots of names are those at which the items of these names stand, and no others.
-use Rattle.std.specs.Prelude.{Bool, true, false, ◌&&◌, ◌||◌, if◌then◌else◌, option_map, Ok}
+use Rattle.std.specs.Prelude.{Bool, true, false, ◌&&◌, ◌||◌, if◌then◌else◌, ok_or, option_map, Ok}
 use Rattle.std.specs.List.{filter, list_any}
 use Rattle.std.proofs.Common.{◌≡◌, ℕ, List, [], ◌∷◌, ◌++◌, Option, Some, None, refl, sym, ap, ◌∙◌, subst}
 use Rattle.std.proofs.lemmas.Bool.{or_left, or_right}
@@ -13,7 +13,8 @@ use Rattle.meson_variables.specs.Expansion.{Item, Mark, Slot, fixed, in_list}
 use Rattle.meson_variables.specs.TargetSources.{items, opaque_count}
 use Rattle.meson_steps.proofs.WentWell.{then_was}
 use Rattle.meson_sources.specs.Effects.{AreSpotsOf, has_one_of, is_at}
-use Rattle.meson_sources.specs.SourceEdits.{Spot, has_text, items_of, removable, spot_of, spots_by, spots_named, spots_of}
+use Rattle.meson_calls.specs.declared.refusal.Refusal.TheVariants.{NotRemovable}
+use Rattle.meson_sources.specs.SourceEdits.{Spot, has_text, items_of, spot_of, spots_by, spots_named, spots_of}
 use Rattle.meson_sources.proofs.ListsBut.{spot_itself}
 
 -- ---- tests
@@ -88,7 +89,7 @@ both_of (i ∷ more) spots same =
       );
     })
 
-some_spots : (o : Option (List Spot)) (spots : List Spot) → removable o ≡ Ok spots → o ≡ Some spots
+some_spots : (o : Option (List Spot)) (spots : List Spot) → ok_or o NotRemovable ≡ Ok spots → o ≡ Some spots
 some_spots None spots is = absurd cc
 some_spots (Some found) spots is = let same : found ≡ spots = cc in ap Some same
 

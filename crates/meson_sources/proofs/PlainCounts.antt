@@ -12,9 +12,10 @@ use Rattle.meson_syntax.specs.Paths as paths
 use Rattle.meson_edit.specs.Edits.{elements}
 use Rattle.meson_calls.specs.declared.call.CallRef.{CallRef}
 use Rattle.meson_calls.specs.Project.{Project, BuildFile}
-use Rattle.meson_sources.specs.SourceEdits.{is_plain, elements_of, elements_there}
+use Rattle.meson_sources.specs.SourceEdits.{is_plain, elements_there}
 use Rattle.meson_calls.specs.CallPlaces.{ListThere}
 use Rattle.meson_calls.proofs.ListNodes.{list_node}
+use Rattle.meson_sources.proofs.Plains.{elements_of}
 
 -- ---- how many
 

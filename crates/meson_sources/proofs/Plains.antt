@@ -1,6 +1,7 @@
 -- Elements without a name, counted; and the elements of the list at a place.
 use Rattle.std.proofs.Common.{◌≡◌, ℕ, suc, ◌+◌, ◌<◌, ◌≤◌, List, [], ◌∷◌, length, drop, get_or, refl, sym, ap, ◌∙◌}
 use Rattle.std.specs.Prelude.{true, false, Option, Some, None, is_some, option_map, option_and_then, if◌then◌else◌}
+use Rattle.std.specs.Option.{option_map_or}
 use Rattle.std.specs.List.{filter}
 use Rattle.std.proofs.lemmas.List.{at_drop_more, at_drop_all}
 use Rattle.meson_lex.specs.declared.kinds.Span.{Span}
@@ -20,7 +21,7 @@ use Rattle.meson_calls.specs.Project.{Project, BuildFile}
 use Rattle.meson_edit.proofs.lists.CodeElements.{list_elements}
 use Rattle.meson_calls.proofs.Standing.{nth_there, nth_past}
 use Rattle.meson_calls.specs.Calls.{value_without_name}
-use Rattle.meson_sources.specs.SourceEdits.{is_plain, elements_of, plain_len}
+use Rattle.meson_sources.specs.SourceEdits.{is_plain, plain_len}
 
 pub plain_is : {S : Type 0} (a : Argument S) → is_some (value_without_name a) ≡ is_plain a
 plain_is (plain e) = refl
@@ -55,6 +56,10 @@ module _ (source : List ℕ) where
 abbrev pub elements_or_none : {S : Type 0} → Option (Listing S) → List (Argument S)
 elements_or_none None = []
 elements_or_none (Some l) = elements l
+
+-- those of a list, if there is one
+abbrev pub elements_of : {S : Type 0} → Option (ListIn S) → List (Argument S)
+elements_of {S} o = option_map_or (λ (l : ListIn S). elements l.list) o []
 
 by_list : {S : Type 0} (o : Option (ListIn S)) → elements_of o ≡ elements_or_none (option_map (λ l. l.list) o)
 by_list None = refl

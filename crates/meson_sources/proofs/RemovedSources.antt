@@ -1,5 +1,5 @@
 -- The spots of names are those of items that stand, so that sources and extra files may be removed.
-use Rattle.std.specs.Prelude.{All, option_map, if◌then◌else◌, Result, Ok}
+use Rattle.std.specs.Prelude.{All, ok_or, option_map, if◌then◌else◌, Result, Ok}
 use Rattle.std.specs.List.{filter}
 use Rattle.std.proofs.Common.{◌≡◌, ℕ, Bool, true, false, List, [], ◌∷◌, ◌++◌, Option, Some, None, ap, ◌∙◌, subst}
 use Rattle.std.proofs.lemmas.List.Elements.{All-cons, All-head, All-tail, All-nil}
@@ -17,7 +17,8 @@ use Rattle.meson_calls.specs.Project.{Project, Placed}
 use Rattle.meson_variables.specs.TargetSources.{items, opaque_count, source_marks}
 use Rattle.meson_calls.specs.NamedArguments.{once, sources_key, kwargs_key, not_hidden}
 use Rattle.meson_calls.specs.Calls as calls
-use Rattle.meson_sources.specs.SourceEdits.{Spot, spot_of, spots_of, spots_by, spots_named, removable, items_of, has_text, distinct_spots, removal_steps, removed_at, extra_marks, extra_key, checked_extra}
+use Rattle.meson_calls.specs.declared.refusal.Refusal.TheVariants.{NotRemovable}
+use Rattle.meson_sources.specs.SourceEdits.{Spot, spot_of, spots_of, spots_by, spots_named, items_of, has_text, distinct_spots, removal_steps, removed_at, extra_marks, extra_key, checked_extra}
 use Rattle.meson_steps.specs.Names.{distinct, checked_names}
 use Rattle.meson_sources.proofs.Standings.{SlotStands, MarkStands, SpotStands, SourcesMayBeRemoved, ExtrasMayBeRemoved}
 use Rattle.meson_steps.specs.Steps.{Step}
@@ -67,7 +68,7 @@ module _ (p : Project Span) where
       subst (All (SpotStands p)) b.2
       (All-cons (SpotStands p) a.0 b.0 (slot_stands i.slot a.0 a.1 (All-head ItemStands i more all)) (spots_stand more b.0 b.1 (All-tail ItemStands i more all)))
 
-  removable_is : (o : Option (List Spot)) (spots : List Spot) → removable o ≡ Ok spots → o ≡ Some spots
+  removable_is : (o : Option (List Spot)) (spots : List Spot) → ok_or o NotRemovable ≡ Ok spots → o ≡ Some spots
   removable_is None spots is = absurd cc
   removable_is (Some found) spots is = ap Some (ok-injective found spots is)
 

@@ -1,12 +1,13 @@
 -- Where the items of a name stand, gathered one after another.
 use Rattle.std.proofs.Common.{◌≡◌, ℕ, ◌+◌, ◌<◌, List, [], ◌∷◌, ◌++◌, length, get_or, drop, refl, sym, ap, ◌∙◌, add-one}
-use Rattle.std.specs.Prelude.{Bool, true, false, ◌||◌, Option, Some, None, option_map, Result, Ok, Err, if◌then◌else◌}
+use Rattle.std.specs.Prelude.{Bool, true, false, ◌||◌, Option, Some, None, ok_or, option_map, Result, Ok, Err, if◌then◌else◌}
 use Rattle.std.proofs.Math.Seq.{drop-cons}
 use Rattle.std.proofs.lemmas.List.{append_assoc}
 use Rattle.meson_splice.specs.Patch.{then_ok}
 use Rattle.meson_variables.specs.declared.source.SourceItem.{SourceItem}
 use Rattle.meson_calls.specs.declared.refusal.Refusal.{Refusal}
-use Rattle.meson_sources.specs.SourceEdits.{Spot, removable}
+use Rattle.meson_calls.specs.declared.refusal.Refusal.TheVariants.{NotRemovable}
+use Rattle.meson_sources.specs.SourceEdits.{Spot}
 use Rattle.meson_sources.specs.inside.Naming.{has_value}
 use Rattle.meson_sources.specs.inside.CodeSpots.{spot_if_there, spots_at, all_there, spots_from, before_all, joined_spots, is_some_there}
 
@@ -49,7 +50,7 @@ behind_more first here (Ok later) = ap Ok (append_assoc first here later)
 behind_more first here (Err e) = refl
 
 by_spots : (first new : List Spot) (o : Option (List Spot)) (rest : Result (List Spot) Refusal) → before_all first o ≡ Some new
-    → joined_spots new rest ≡ joined_spots first (then_ok (removable o) (λ here. then_ok rest (λ later. Ok (here ++ later))))
+    → joined_spots new rest ≡ joined_spots first (then_ok (ok_or o NotRemovable) (λ here. then_ok rest (λ later. Ok (here ++ later))))
 by_spots first new None rest is = absurd cc
 by_spots first new (Some here) rest is = let same : new ≡ first ++ here = cc in ap (λ xs. joined_spots xs rest) same ∙ behind_more first here rest
 

@@ -28,7 +28,7 @@ use Rattle.meson_calls.specs.Notes.{note_views}
 use Rattle.meson_calls.specs.OnePlace.{the_place}
 use Rattle.meson_calls.specs.ChosenNotes.{call_with}
 use Rattle.meson_calls.specs.Project.{BuildFile, placed, expression_at}
-use Rattle.meson_sources.specs.SourceEdits.{elements_of, elements_there}
+use Rattle.meson_sources.specs.SourceEdits.{elements_there}
 use Rattle.meson_sources.specs.Targeted.{change_steps, target_steps}
 use Rattle.meson_edit.proofs.lists.CodeElements.{list_elements}
 use Rattle.meson_calls.proofs.CallsAt.{listing_good}
@@ -36,6 +36,7 @@ use Rattle.meson_calls.proofs.CallsFound.{CallAt, role_found}
 use Rattle.meson_calls.proofs.NotedCalls.{call_in, call_within, one_at, one_is, the_one, trees_as_many}
 use Rattle.meson_variables.proofs.NotedVariables.{same_project}
 use Rattle.meson_calls.proofs.Standing.{nth_there}
+use Rattle.meson_sources.proofs.Plains.{elements_of}
 
 call_elements : (e : Expression Span) (k : Call Span) → call_of e ≡ Some k → elements_of (list_in e) ≡ elements k.arguments
 call_elements (call s x l) k is = ap (λ (j : Call Span). elements j.arguments) (some-injective _ _ is)

@@ -1,11 +1,12 @@
 -- Sources put into a target and taken out of it, and the same for its extra files. Meson manual, Rewriter: `target add`, `target rm`, `target add_extra_files`,
 -- `target rm_extra_files`.
-use Rattle.std.specs.Prelude.{ℕ, zero, suc, ◌-◌, Bool, true, false, not, ◌&&◌, nat_eq, nat_lt, List, [], ◌∷◌, ◌++◌, length, codes, if◌then◌else◌, bytes_eq, Option, Some, None, option_map, option_and_then, Result, Ok, Err}
+use Rattle.std.specs.Prelude.{ℕ, zero, suc, ◌-◌, Bool, true, false, not, ◌&&◌, nat_eq, nat_lt, List, [], ◌∷◌, ◌++◌, length, codes, if◌then◌else◌, bytes_eq, Option, Some, None, ok_or, option_map, option_and_then, Result, Ok, Err}
 use Rattle.std.specs.List.{filter, list_any}
+use Rattle.std.specs.Option.{option_map_or}
 use Rattle.meson_lex.specs.Literals.{literal}
 use Rattle.meson_splice.specs.Patch.{then_ok}
-use Rattle.meson_syntax.specs.Tree.{bare_name, Nowhere, Expression, array, listing, Argument, plain, named, pair, arguments_of}
-use Rattle.meson_syntax.specs.Paths.{ListIn, list_in}
+use Rattle.meson_syntax.specs.Tree.{bare_name, Nowhere, Expression, array, listing, Argument, plain, named, arguments_of}
+use Rattle.meson_syntax.specs.Paths.{list_in}
 use Rattle.meson_edit.specs.Edits.{Written, First, After, Remove, Wrap, elements}
 use Rattle.meson_calls.specs.declared.call.CallRef.{CallRef}
 use Rattle.meson_calls.specs.declared.refusal.Refusal.{Refusal}
@@ -51,16 +52,11 @@ insertion_steps list (suc n) (name ∷ more) = step_in list (After list.path.ste
 
 abbrev pub is_plain : {S : Type 0} → Argument S → Bool
 is_plain (plain e) = true
-is_plain (named s x e) = false
-is_plain (pair s e f) = false
+is_plain _ = false
 
 -- the elements of the list at a place
-abbrev pub elements_of : {S : Type 0} → Option (ListIn S) → List (Argument S)
-elements_of None = []
-elements_of (Some l) = elements l.list
-
 abbrev pub elements_there : {S : Type 0} → Project S → CallRef → List (Argument S)
-elements_there p at_ = elements_of (option_and_then list_in (expression_at p at_))
+elements_there p at_ = option_map_or (λ l. elements l.list) (option_and_then list_in (expression_at p at_)) []
 
 abbrev pub plain_len : {S : Type 0} → Project S → CallRef → ℕ
 plain_len p list = length (filter is_plain (elements_there p list))
@@ -88,14 +84,10 @@ abbrev pub none_found : ℕ → Refusal
 none_found zero = SourceNotFound
 none_found (suc n) = Unresolved
 
-abbrev pub removable : Option (List Spot) → Result (List Spot) Refusal
-removable None = Err NotRemovable
-removable (Some spots) = Ok spots
-
 -- the places of all items of a name, of which there has to be one
 abbrev pub spots_by : {S : Type 0} → ℕ → List (Item S) → Result (List Spot) Refusal
 spots_by unknown [] = Err (none_found unknown)
-spots_by unknown (i ∷ more) = removable (spots_of (i ∷ more))
+spots_by unknown (i ∷ more) = ok_or (spots_of (i ∷ more)) NotRemovable
 
 abbrev pub spots_named : {S : Type 0} → List (Mark S) → List (List ℕ) → Result (List Spot) Refusal
 spots_named marks [] = Ok []
@@ -113,9 +105,8 @@ path_after (m ∷ list) gone (n ∷ path) = if nat_eq m n then n ∷ path_after 
 
 abbrev pub is_path : List ℕ → List ℕ → Bool
 is_path [] [] = true
-is_path [] (n ∷ path) = false
-is_path (m ∷ list) [] = false
 is_path (m ∷ list) (n ∷ path) = nat_eq m n && is_path list path
+is_path _ _ = false
 
 -- where an element stands after another one has gone
 abbrev pub spot_after : Spot → Spot → Spot

@@ -1,6 +1,6 @@
 -- A target to be: whether its name is taken, the file of its folder, and what is written.
 use Rattle.std.proofs.Common.{◌≡◌, ℕ, suc, ◌+◌, ◌<◌, List, [], ◌∷◌, ◌++◌, map, take, length, get_or, codes, Option, Some, None, refl, sym, ap, ap₂, ◌∙◌, append_assoc, arith}
-use Rattle.std.specs.Prelude.{All, not, cond, nat_lt, bytes_eq, option_and_then, Result, Ok, Err, IfOk, OnOk}
+use Rattle.std.specs.Prelude.{All, not, cond, nat_lt, bytes_eq, ok_or, option_and_then, Result, Ok, Err, IfOk, OnOk}
 use Rattle.std.specs.List.{position_or_len}
 use Rattle.std.specs.Str.{IsUtf8}
 use Rattle.std.proofs.lemmas.List.{map-append, take_more}
@@ -11,14 +11,14 @@ use Rattle.meson_splice.specs.declared.file_set.File.{File}
 use Rattle.meson_splice.specs.Files.{position_of_file}
 use Rattle.meson_syntax.specs.declared.tree.Parsed.{Parsed}
 use Rattle.meson_calls.specs.declared.call.CallRef.{CallRef}
-use Rattle.meson_calls.specs.declared.refusal.Refusal.TheVariants.{NameTaken}
+use Rattle.meson_calls.specs.declared.refusal.Refusal.TheVariants.{NameTaken, NoFile}
 use Rattle.meson_calls.specs.Calls.{Call}
 use Rattle.meson_calls.specs.Folders.{build_file, file_in}
 use Rattle.meson_calls.specs.Loading.{named_trees, views}
 use Rattle.meson_calls.specs.Project.{BuildFile, Placed}
 use Rattle.meson_calls.specs.Roles.{places}
 use Rattle.meson_steps.specs.WrittenTexts.{comma_between}
-use Rattle.meson_targets.specs.TargetEdits.{not_taken, file_of_folder, file_number, some_file, number_in}
+use Rattle.meson_targets.specs.TargetEdits.{not_taken, file_of_folder, file_number, number_in}
 use Rattle.meson_steps.proofs.SetLiterals.{more_between}
 
 -- ---- names
@@ -54,10 +54,10 @@ module _ (name : List ℕ) where
   number_is files trees many = ap₂ (λ n m. cond (nat_lt n m) (Some n) None) (place_alike files trees many) (as_many_named files trees many)
 
 module _ (files : List File) (trees : List Parsed) (many : length trees ≡ length files) where
-  in_root : (o : Option ℕ) → o ≡ position_of_file build_file files → some_file o ≡ number_in (named_trees files (views files trees)) []
-  in_root o is = ap some_file (is ∙ sym (number_is build_file files trees many))
+  in_root : (o : Option ℕ) → o ≡ position_of_file build_file files → ok_or o NoFile ≡ number_in (named_trees files (views files trees)) []
+  in_root o is = ap (λ n. ok_or n NoFile) (is ∙ sym (number_is build_file files trees many))
 
-  pub root_number : (folder : List ℕ) → length folder ≡ 0 → (o : Option ℕ) → o ≡ position_of_file build_file files → number_in (named_trees files (views files trees)) folder ≡ some_file o
+  pub root_number : (folder : List ℕ) → length folder ≡ 0 → (o : Option ℕ) → o ≡ position_of_file build_file files → number_in (named_trees files (views files trees)) folder ≡ ok_or o NoFile
   root_number [] none o is = sym (in_root o is)
   root_number (c ∷ cs) none o is = absurd (omega (arith, none))
 
@@ -66,10 +66,10 @@ module _ (files : List File) (trees : List Parsed) (many : length trees ≡ leng
   folder_file (c ∷ cs) some = refl
 
   pub folder_number : (folder : List ℕ) → (length folder ≡ 0 → ⊥) → (name : List ℕ) → file_in build_file folder ≡ Some name → (o : Option ℕ) → o ≡ position_of_file name files
-      → number_in (named_trees files (views files trees)) folder ≡ some_file o
+      → number_in (named_trees files (views files trees)) folder ≡ ok_or o NoFile
   folder_number folder some name is o there =
-      ap (λ n. some_file (option_and_then (file_number (named_trees files (views files trees))) n)) (folder_file folder some ∙ is)
-      ∙ ap some_file (number_is name files trees many ∙ sym there)
+      ap (λ n. ok_or (option_and_then (file_number (named_trees files (views files trees))) n) NoFile) (folder_file folder some ∙ is)
+      ∙ ap (λ n. ok_or n NoFile) (number_is name files trees many ∙ sym there)
 
 -- ---- what is written
 

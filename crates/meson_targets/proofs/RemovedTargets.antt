@@ -1,6 +1,6 @@
 -- A target that is removed is gone with its statement: no target has its name, and the other targets stay.
 use Rattle.std.proofs.Common.{◌≡◌, ℕ, zero, suc, true, false, List, [], ◌∷◌, ◌++◌, map, Option, Some, None, refl, sym, ap, ◌∙◌, subst, inl, inr}
-use Rattle.std.specs.Prelude.{Bool, ◌⊎◌, if◌then◌else◌, option_and_then, option_map, Ok}
+use Rattle.std.specs.Prelude.{Bool, ◌⊎◌, if◌then◌else◌, ok_or, option_and_then, option_map, Ok}
 use Rattle.std.specs.List.{cons_option}
 use Rattle.meson_lex.specs.declared.kinds.Span.{Span}
 use Rattle.meson_splice.specs.Patch.{then_ok}
@@ -30,8 +30,9 @@ use Rattle.meson_steps.specs.ResultLimits.{plain_trees}
 use Rattle.meson_steps.specs.Steps.{all_stepped}
 use Rattle.meson_steps.proofs.PlainTrees.{tree_there}
 use Rattle.meson_steps.proofs.WentWell.{then_was}
+use Rattle.meson_calls.specs.declared.refusal.Refusal.TheVariants.{NotStatement}
 use Rattle.meson_targets.specs.Effects.{CallsGone, RemovedTargetsAreGone, StatementGone}
-use Rattle.meson_targets.specs.TargetEdits.{Held, Holder, StatementPlace, held_by, holder, not_in_use, some_holder, statement_of, statement_removal, statement_there, targets_named}
+use Rattle.meson_targets.specs.TargetEdits.{Held, Holder, StatementPlace, held_by, holder, not_in_use, statement_of, statement_removal, statement_there, targets_named}
 use Rattle.meson_targets.proofs.ChosenParts.{chosen_its, chosen_told, nothing_left, only_it, unmapped}
 use Rattle.meson_steps.proofs.ErasedParts.{bare_call, name_alike, named_alike, named_among, parts_erased, role_alike}
 use Rattle.meson_targets.proofs.GoneStatements.{gone, made, only_step, removed}
@@ -219,7 +220,7 @@ module _ (old : Loaded) (id : List ℕ) (c : Placed (Call Span)) (named : the_ca
 pub removed-targets-are-gone : RemovedTargetsAreGone
 removed-targets-are-gone old is id c named steps after made done =
     let p = project old in
-    let a = then_was (some_holder (holder p c.place)) (λ h. then_ok (not_in_use p h.statement h.held) (λ _. Ok (statement_removal h.statement))) steps made in
+    let a = then_was (ok_or (holder p c.place) NotStatement) (λ h. then_ok (not_in_use p h.statement h.held) (λ _. Ok (statement_removal h.statement))) steps made in
     let b = then_was (not_in_use p a.0.statement a.0.held) (λ _. Ok (statement_removal a.0.statement)) steps a.2 in
     let same : statement_removal a.0.statement ≡ steps = let g = b.2 in cc in
     let o = and-then-some (λ line. option_map (λ held. record { statement = line; held = held }) (option_and_then held_by (statement_there p line))) (statement_of c.place) a.0 (some_there (holder p c.place) a.0 a.1) in

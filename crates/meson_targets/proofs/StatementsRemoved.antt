@@ -1,6 +1,6 @@
 -- The statement of a target, and the step that removes it.
 use Rattle.std.proofs.Common.{◌≡◌, ℕ, zero, suc, ◌+◌, ◌<◌, ◌≤◌, List, [], ◌∷◌, take, length, get_or, map, Option, Some, None, refl, sym, ap, ◌∙◌, arith}
-use Rattle.std.specs.Prelude.{option_map, option_and_then, Result, Ok, Err, IfOk}
+use Rattle.std.specs.Prelude.{ok_or, option_map, option_and_then, Result, Ok, Err, IfOk}
 use Rattle.meson_lex.specs.declared.kinds.Span.{Span}
 use Rattle.meson_splice.specs.Patch.{then_ok}
 use Rattle.meson_splice.specs.declared.file_set.File.{File}
@@ -19,7 +19,7 @@ use Rattle.meson_calls.specs.Loading.{named_trees, views}
 use Rattle.meson_calls.specs.Finding.{the_call}
 use Rattle.meson_calls.specs.Project.{Project, BuildFile, nth_file, place}
 use Rattle.meson_steps.specs.Steps.{Step}
-use Rattle.meson_targets.specs.TargetEdits.{StatementPlace, Holder, statement_path, statement_of, statement_there, held_by, holder, some_holder, named_removed, not_in_use, call_removed, statement_removal, target_removed}
+use Rattle.meson_targets.specs.TargetEdits.{StatementPlace, Holder, statement_path, statement_of, statement_there, held_by, holder, named_removed, not_in_use, call_removed, statement_removal, target_removed}
 use Rattle.meson_steps.specs.Meanings.{AreMeant}
 use Rattle.meson_calls.proofs.Standing.{nth_there}
 use Rattle.meson_calls.proofs.OneCall.{placed_at, call_there}
@@ -72,7 +72,7 @@ statement_is files trees line d many within = ap (option_and_then (in_build_file
 
 module _ (p : Project Span) (call : CallRef) where
   abbrev from_holder : Option Holder → Result (List Step) Refusal
-  from_holder o = then_ok (some_holder o) (λ h. then_ok (not_in_use p h.statement h.held) (λ _. Ok (statement_removal h.statement)))
+  from_holder o = then_ok (ok_or o NotStatement) (λ h. then_ok (not_in_use p h.statement h.held) (λ _. Ok (statement_removal h.statement)))
 
   pub not_held : None ≡ holder p call → call_removed p call ≡ Err NotStatement
   not_held none = ap from_holder (sym none)

@@ -1,6 +1,6 @@
 -- A target may be put at the end of the file of its folder, and taken out with its statement.
 use Rattle.std.proofs.Common.{◌≡◌, ℕ, zero, suc, ◌<◌, List, [], ◌∷◌, map, length, true, false, Option, Some, None, refl, ap, ◌∙◌, subst, arith}
-use Rattle.std.specs.Prelude.{All, Bool, bytes_eq, if◌then◌else◌, position, option_map, option_and_then, Result, Ok, Err, IfOk}
+use Rattle.std.specs.Prelude.{All, Bool, bytes_eq, if◌then◌else◌, position, ok_or, option_map, option_and_then, Result, Ok, Err, IfOk}
 use Rattle.std.specs.Str.{IsUtf8}
 use Rattle.std.proofs.lemmas.List.Elements.{All-head, All-tail, All-cons}
 use Rattle.std.proofs.lemmas.List.Quantifiers.{position-Some}
@@ -17,7 +17,7 @@ use Rattle.meson_syntax.proofs.paths.Reaching.{map-some, and-then-some}
 use Rattle.meson_edit.specs.Edits.{RemoveStatement, edited}
 use Rattle.meson_calls.specs.declared.call.Role.TheVariants as role
 use Rattle.meson_calls.specs.declared.refusal.Refusal.{Refusal}
-use Rattle.meson_calls.specs.declared.refusal.Refusal.TheVariants.{WrongKind}
+use Rattle.meson_calls.specs.declared.refusal.Refusal.TheVariants.{WrongKind, NoFile, NotStatement}
 use Rattle.meson_steps.specs.declared.step.ListStep.{ListStep}
 use Rattle.meson_calls.specs.Calls.{Call}
 use Rattle.meson_steps.specs.ListSteps.{AreDoable}
@@ -28,7 +28,7 @@ use Rattle.meson_steps.specs.Plans.{ArePlanned}
 use Rattle.meson_calls.specs.Project.{Project, BuildFile, Placed, nth_file}
 use Rattle.meson_steps.specs.Names.{checked_names, distinct}
 use Rattle.meson_steps.specs.Steps.{Step}
-use Rattle.meson_targets.specs.TargetEdits.{StatementPlace, Holder, is_target_kind, kind_key, checked_kind, targets_named, not_taken, file_number, file_of_folder, some_file, number_in, append_steps, target_added, statement_there, held_by, holder, some_holder, statement_of, not_in_use, statement_removal, target_removed, written_target}
+use Rattle.meson_targets.specs.TargetEdits.{StatementPlace, Holder, is_target_kind, kind_key, checked_kind, targets_named, not_taken, file_number, file_of_folder, number_in, append_steps, target_added, statement_there, held_by, holder, statement_of, not_in_use, statement_removal, target_removed, written_target}
 use Rattle.meson_steps.specs.Meanings.{AreMeant}
 use Rattle.meson_calls.proofs.Loads.{as_many}
 use Rattle.meson_targets.proofs.NewTargets.{as_many_named}
@@ -66,7 +66,7 @@ passed false e u is = absurd cc
 kind_checked : (kind : List ℕ) (u : Unit {0}) → checked_kind kind ≡ Ok u → is_target_kind kind ≡ true
 kind_checked kind u is = passed (is_target_kind kind) (WrongKind kind_key) u is
 
-some_number : (o : Option ℕ) (n : ℕ) → some_file o ≡ Ok n → o ≡ Some n
+some_number : (o : Option ℕ) (n : ℕ) → ok_or o NoFile ≡ Ok n → o ≡ Some n
 some_number None n is = absurd cc
 some_number (Some m) n is = let same : m ≡ n = cc in ap Some same
 
@@ -85,7 +85,7 @@ nth_erased (statement s more) (suc n) = nth_erased more n
 pub statement_erased : (b : Block Span) (n : ℕ) → statement_in (erase_block b) n ≡ option_map erase_statement (statement_in b n)
 statement_erased (block s list) n = nth_erased list n
 
-pub some_there : (o : Option Holder) (h : Holder) → some_holder o ≡ Ok h → o ≡ Some h
+pub some_there : (o : Option Holder) (h : Holder) → ok_or o NotStatement ≡ Ok h → o ≡ Some h
 some_there None h is = absurd cc
 some_there (Some g) h is = let same : g ≡ h = cc in ap Some same
 
@@ -138,7 +138,7 @@ module _ (old : Loaded) (whole : IsProject old) where
 
   removed_doable : (c : Placed (Call Span)) (steps : List Step) → target_removed p c ≡ Ok steps → AreDoable steps (plain_trees old)
   removed_doable c steps is =
-      let a = then_was (some_holder (holder p c.place)) _ steps is in
+      let a = then_was (ok_or (holder p c.place) NotStatement) _ steps is in
       let h = a.0 in
       let b = then_was (not_in_use p h.statement h.held) _ steps a.2 in
       let same : statement_removal h.statement ≡ steps = let g = b.2 in cc in

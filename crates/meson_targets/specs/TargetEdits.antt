@@ -1,5 +1,5 @@
 -- Targets as whole statements: put at the end of a build file, and taken out of it. Meson manual, Rewriter: `target add_target`, `target rm_target`.
-use Rattle.std.specs.Prelude.{ℕ, Bool, true, false, not, ◌&&◌, nat_eq, List, [], ◌∷◌, ◌++◌, map, codes, if◌then◌else◌, bytes_eq, position, Option, Some, None, option_map, option_and_then, Result, Ok, Err}
+use Rattle.std.specs.Prelude.{ℕ, Bool, true, false, not, ◌&&◌, nat_eq, List, [], ◌∷◌, ◌++◌, map, codes, if◌then◌else◌, bytes_eq, position, Option, Some, None, ok_or, option_map, option_and_then, Result, Ok, Err}
 use Rattle.std.specs.List.{list_any}
 use Rattle.meson_lex.specs.Literals.{literal}
 use Rattle.meson_splice.specs.Patch.{then_ok}
@@ -53,13 +53,9 @@ file_of_folder (c ∷ cs) = file_in build_file (c ∷ cs)
 abbrev pub file_number : {S : Type 0} → Project S → List ℕ → Option ℕ
 file_number p name = position (λ f. bytes_eq f.name name) p
 
-abbrev pub some_file : Option ℕ → Result ℕ Refusal
-some_file None = Err NoFile
-some_file (Some n) = Ok n
-
 -- the number of a folder's build file
 abbrev pub number_in : {S : Type 0} → Project S → List ℕ → Result ℕ Refusal
-number_in p folder = some_file (option_and_then (file_number p) (file_of_folder folder))
+number_in p folder = ok_or (option_and_then (file_number p) (file_of_folder folder)) NoFile
 
 -- `KIND('NAME', 'SOURCE', ..)`, where the texts are the name and the sources
 abbrev pub target_statement : List ℕ → List (List ℕ) → Statement Nowhere
@@ -124,10 +120,6 @@ name_set (set_to x) = Some x
 abbrev pub variable_of : {S : Type 0} → Project S → CallRef → Option (List ℕ)
 variable_of p c = option_and_then (λ h. name_set h.held) (holder p c)
 
-abbrev pub some_holder : Option Holder → Result Holder Refusal
-some_holder None = Err NotStatement
-some_holder (Some h) = Ok h
-
 -- ---- uses of a variable
 
 -- the functions whose first argument names a variable: Meson manual, Reference manual
@@ -175,7 +167,7 @@ abbrev pub statement_removal : StatementPlace → List Step
 statement_removal statement = record { file = statement.block.file; edit = RemoveStatement statement.block.path.steps statement.number } ∷ []
 
 abbrev pub call_removed : {S : Type 0} → Project S → CallRef → Result (List Step) Refusal
-call_removed p c = then_ok (some_holder (holder p c)) (λ h. then_ok (not_in_use p h.statement h.held) (λ _. Ok (statement_removal h.statement)))
+call_removed p c = then_ok (ok_or (holder p c) NotStatement) (λ h. then_ok (not_in_use p h.statement h.held) (λ _. Ok (statement_removal h.statement)))
 
 abbrev pub target_removed : {S : Type 0} → Project S → Placed (Call S) → Result (List Step) Refusal
 target_removed p c = call_removed p c.place

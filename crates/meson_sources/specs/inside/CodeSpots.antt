@@ -1,11 +1,12 @@
 -- Spots of the code, and those of the items that it keeps.
-use Rattle.std.specs.Prelude.{ℕ, Bool, true, false, List, [], ◌∷◌, ◌++◌, length, if◌then◌else◌, Option, Some, None, option_map, option_and_then, Result, Ok, Err}
+use Rattle.std.specs.Prelude.{ℕ, Bool, true, false, List, [], ◌∷◌, ◌++◌, length, if◌then◌else◌, Option, Some, None, ok_or, option_map, option_and_then, Result, Ok, Err}
 use Rattle.meson_splice.specs.Patch.{then_ok}
 use Rattle.meson_calls.specs.declared.call.CallRef.{CallRef}
 use Rattle.meson_variables.specs.declared.source.SourceItem.{SourceItem}
 use Rattle.meson_variables.specs.declared.marks.Marks.{Marks}
 use Rattle.meson_calls.specs.declared.refusal.Refusal.{Refusal}
-use Rattle.meson_sources.specs.SourceEdits.{Spot, none_found, removable}
+use Rattle.meson_calls.specs.declared.refusal.Refusal.TheVariants.{NotRemovable}
+use Rattle.meson_sources.specs.SourceEdits.{Spot, none_found}
 use Rattle.meson_sources.specs.declared.removing.ElementSpot as code
 use Rattle.meson_sources.specs.inside.Naming.{has_value}
 use Rattle.meson_calls.specs.Project.{place}
@@ -34,7 +35,7 @@ all_there (s ∷ more) = option_and_then (λ spot. option_map (λ spots. spot �
 -- of which there has to be one
 abbrev pub spots_from : ℕ → List (Option Spot) → Result (List Spot) Refusal
 spots_from unknown [] = Err (none_found unknown)
-spots_from unknown (s ∷ more) = removable (all_there (s ∷ more))
+spots_from unknown (s ∷ more) = ok_or (all_there (s ∷ more)) NotRemovable
 
 abbrev pub spots_of_names : List SourceItem → List (Option ℕ) → ℕ → List (List ℕ) → Result (List Spot) Refusal
 spots_of_names items numbers unknown [] = Ok []

@@ -2,9 +2,9 @@ use Rattle.std.proofs.Common.{map, sym, subst}
 use Rattle.meson_calls.specs.Refusals.{RefusedAs}
 use Rattle.std.specs.Prelude.{IfOk}
 use Rattle.meson_syntax.specs.View.{args_view}
-use Rattle.meson_keywords.specs.KeywordEdits.{add_steps}
 use Rattle.meson_steps.specs.Meanings.{AreMeant}
 use Rattle.meson_keywords.specs.Tasking.{TaskIs}
+use Rattle.meson_keywords.specs.Tasks.{add}
 use Rattle.meson_keywords.specs.TaskSteps.{task_steps}
 use Rattle.meson_keywords.proofs.changing.task_steps.Goals as goal
 
@@ -26,4 +26,4 @@ returns-in-Add-clause-refused c = λ t is.
     let it = subst (λ k. TaskIs k t) c.in-Add.is is in
     let xs = args_view s.source.now s.args.now in
     subst (λ u. RefusedAs c.add_steps.result (task_steps u s.call.now xs)) (sym it)
-    (subst (λ vs. RefusedAs c.add_steps.result (add_steps s.call.now xs c.in-Add.key.now c.in-Add.kind (map (λ x. x.now) vs))) c.as_slice.ensures.value c.add_steps.ensures.refused)
+    (subst (λ vs. RefusedAs c.add_steps.result (task_steps (add c.in-Add.key.now c.in-Add.kind (map (λ x. x.now) vs)) s.call.now xs)) c.as_slice.ensures.value c.add_steps.ensures.refused)

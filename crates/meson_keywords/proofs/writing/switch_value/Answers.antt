@@ -1,6 +1,7 @@
 use Rattle.std.proofs.Common.{subst}
-use Rattle.std.specs.Prelude.{option_map}
-use Rattle.meson_keywords.specs.ValueKinds.{of_kind, written_switch}
+use Rattle.std.specs.Prelude.{ok_or, option_map}
+use Rattle.meson_calls.specs.declared.refusal.Refusal.TheVariants.{WrongKind}
+use Rattle.meson_keywords.specs.ValueKinds.{written_switch}
 use Rattle.meson_steps.specs.inside.WrittenValues.{IsSet}
 use Rattle.meson_keywords.proofs.WrittenElements.{switch_is}
 use Rattle.meson_keywords.proofs.writing.switch_value.Goals as goal
@@ -8,4 +9,4 @@ use Rattle.meson_keywords.proofs.writing.switch_value.Goals as goal
 pub returns-in_ok-written-in-Some-clause-done : goal.returns-in_ok-written-in-Some-clause-done
 returns-in_ok-written-in-Some-clause-done c =
     let bytes = c.in_ok-written-in-Some.written in
-    subst (λ o. IsSet (of_kind c.args.key.now (option_map written_switch o)) bytes) c.in-Some.ensures (switch_is c.in-Some.truth bytes c.in_ok-written-in-Some.ensures)
+    subst (λ o. IsSet (ok_or (option_map written_switch o) (WrongKind c.args.key.now)) bytes) c.in-Some.ensures (switch_is c.in-Some.truth bytes c.in_ok-written-in-Some.ensures)
