@@ -2,6 +2,7 @@ pub mod PathNodes
 pub mod PartsOf
 pub mod Looks
 pub mod Moved
+pub mod MovedStatements
 pub mod Rows
 pub mod Alone
 pub mod Turns
