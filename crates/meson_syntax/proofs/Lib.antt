@@ -1,6 +1,8 @@
 pub mod PathNodes
 pub mod PartsOf
 pub mod Looks
+pub mod Moved
+pub mod MovedStatements
 pub mod Rows
 pub mod Alone
 pub mod Turns

@@ -1,12 +1,37 @@
-use Rattle.std.proofs.Common.{rules, ◌≡◌, ◌<◌, length, ap, arith}
+use Rattle.std.proofs.Common.{rules, ◌≡◌, ◌<◌, map, option_map, length, ap, ◌∙◌, arith}
 use denote.Param.Weighed.{at_most}
 use Rattle.meson_syntax.proofs.tree.Stmt.TheLaws as stmts
 use Rattle.meson_syntax.proofs.tree.Branch.TheLaws as branches
 use Rattle.meson_syntax.specs.Furthest.{furthest_branch, furthest_stmt}
-use Rattle.meson_syntax.specs.MovedCode.{moved_branch, moved_stmt}
-use Rattle.meson_syntax.specs.Moving.{border_by}
+use Rattle.meson_syntax.specs.MovedCode.{moved_block, moved_branch, moved_expr, moved_stmt}
+use Rattle.meson_syntax.specs.Moving.{span_by, border_by}
 use Rattle.meson_syntax.proofs.InPlace.{at_most_greatest, next_exchanged}
+use Rattle.meson_syntax.proofs.Moved.{written_back}
+use Rattle.meson_syntax.proofs.MovedStatements.{moved_if, moved_foreach}
 use Rattle.meson_syntax.proofs.shift.+shift_statement.Goals as goal
+
+-- ---- statements
+
+pub shift_stmt-returns-in-If : goal.shift_stmt-returns-in-If
+shift_stmt-returns-in-If t c =
+    let g = border_by c.args.by in
+    moved_if g c.args.stmt.now c.in-If.span _ c.in-If.branches _ c.in-If.otherwise _ c.in-If.is
+    (c.shift-in-If.ensures ∙ ap (span_by g) c.in-If.span-is)
+    (written_back (moved_branch g) _ c.shift_branches.new.branches (c.shift_branches.ensures ∙ ap (map (moved_branch g)) c.get_mut.ensures.value)
+    ∙ ap (map (moved_branch g)) c.in-If.branches-is)
+    (c.shift_otherwise.ensures ∙ ap (option_map (moved_block g)) c.in-If.otherwise-is)
+
+pub shift_stmt-returns-in-Foreach : goal.shift_stmt-returns-in-Foreach
+shift_stmt-returns-in-Foreach t c =
+    let g = border_by c.args.by in
+    moved_foreach g c.args.stmt.now c.in-Foreach.span _ c.in-Foreach.names _ c.in-Foreach.items _ c.in-Foreach.body _ c.in-Foreach.is
+    (c.shift-in-Foreach.ensures ∙ ap (span_by g) c.in-Foreach.span-is)
+    (written_back (span_by g) _ c.shift_spans.new.spans (c.shift_spans.ensures ∙ ap (map (span_by g)) c.get_mut-in-Foreach.ensures.value)
+    ∙ ap (map (span_by g)) c.in-Foreach.names-is)
+    (c.shift_expr-in-Foreach.ensures ∙ ap (moved_expr g) c.in-Foreach.items-is)
+    (c.shift_block.ensures ∙ ap (moved_block g) c.in-Foreach.body-is)
+
+-- ---- lists
 
 pub shift_stmts-shift_stmt-requires : goal.shift_stmts-shift_stmt-requires
 shift_stmts-shift_stmt-requires t c =
