@@ -20,7 +20,7 @@ returns-in_ok-miss c =
     c.in_ok-expand_plains.ensures.all (c.behind_first-from.ensures.others source) c.in_ok-expand_nameds.ensures.all in
     let count = c.count_named.ensures ∙ ap (λ k. length (kept_args source (value_with_name k) 0 args)) c.as_slice.ensures in
     let some : 0 < length hidden = omega arith in
-    c.in_ok-miss.ensures ∙ ap (λ h. with_mark h opaque) is_both ∙ sym (hidden_some g hidden some)
+    c.in_ok-miss.ensures.done ∙ ap (λ h. with_mark h opaque) is_both ∙ sym (hidden_some g hidden some)
 
 pub returns-else-count_named-gt0 : goal.returns-else-count_named-gt0
 returns-else-count_named-gt0 c =
