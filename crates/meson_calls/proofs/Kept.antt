@@ -7,7 +7,7 @@ use Rattle.meson_lex.specs.declared.kinds.Span.{Span}
 use Rattle.meson_syntax.specs.declared.tree.Arg.{Arg}
 use Rattle.meson_syntax.specs.Tree.{Argument}
 use Rattle.meson_syntax.specs.View.{arg_view}
-use Rattle.meson_calls.specs.NamedArguments.{rest, kept_args, kept_arg}
+use Rattle.meson_calls.specs.NamedArguments.{rest, kept_args, kept_arg, number_behind}
 
 module _ {Y : Type 0} (source : List ℕ) (choose : Argument Span → Option Y) where
   pub kept_here : (args : List Arg) (i : ℕ) (d : Arg) → i < length args →
@@ -22,6 +22,14 @@ module _ {Y : Type 0} (source : List ℕ) (choose : Argument Span → Option Y) 
   rest_found args i d within some = ap rest (kept_here args i d within) ∙ go (choose (arg_view source (get_or args i d))) some
     where
       go : (o : Option Y) → is_some o ≡ true → rest (cons_option (option_map (λ y. record { number = i; value = y }) o) (kept_args source choose (i + 1) (drop (i + 1) args))) ≡ kept_args source choose (i + 1) (drop (i + 1) args)
+      go None is = cc
+      go (Some y) is = refl
+
+  pub number_found : (args : List Arg) (i all : ℕ) (d : Arg) → i < length args → is_some (choose (arg_view source (get_or args i d))) ≡ true →
+      number_behind all (kept_args source choose i (drop i args)) ≡ i + 1
+  number_found args i all d within some = ap (number_behind all) (kept_here args i d within) ∙ go (choose (arg_view source (get_or args i d))) some
+    where
+      go : (o : Option Y) → is_some o ≡ true → number_behind all (cons_option (option_map (λ y. record { number = i; value = y }) o) (kept_args source choose (i + 1) (drop (i + 1) args))) ≡ i + 1
       go None is = cc
       go (Some y) is = refl
 

@@ -1,5 +1,5 @@
 -- Arguments of a call as the code has them: those that a test keeps, the first of a name, and what is refused where a name is there twice.
-use Rattle.std.specs.Prelude.{◌≡◌, ℕ, List, ◌∷◌, Some, [], codes, Result, Ok, Err, Option}
+use Rattle.std.specs.Prelude.{◌≡◌, ◌+◌, ℕ, List, ◌∷◌, Some, [], codes, Result, Ok, Err, Option}
 use Rattle.meson_lex.specs.declared.kinds.Span.{Span}
 use Rattle.meson_syntax.specs.declared.tree.Arg.{Arg}
 use Rattle.meson_syntax.specs.Paths.{nth}
@@ -35,6 +35,11 @@ kwargs_key = codes "kwargs"
 abbrev pub rest : {X : Type 0} → List X → List X
 rest [] = []
 rest (x ∷ xs) = xs
+
+-- the number behind the first one's, of so many of which each has its number
+abbrev pub number_behind : {X : Type 0} → ℕ → List (Numbered X) → ℕ
+number_behind all [] = all
+number_behind all (x ∷ xs) = x.number + 1
 
 -- a call with a keyword twice is refused
 abbrev pub once : {X Y : Type 0} → List ℕ → List X → Y → Result Y Refusal

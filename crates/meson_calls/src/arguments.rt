@@ -5,7 +5,7 @@ ghost use Rattle.std.specs.Str.{IsUtf8};
 ghost use Rattle.meson_syntax.specs.View.{arg_view};
 ghost use Rattle.meson_calls.specs.ChosenNotes.{Source};
 ghost use Rattle.meson_calls.specs.Calls.{value_without_name, value_with_name};
-ghost use Rattle.meson_calls.specs.NamedArguments.{rest, kept_args, IsFirstNamed};
+ghost use Rattle.meson_calls.specs.NamedArguments.{rest, kept_args, number_behind, IsFirstNamed};
 ghost use Rattle.meson_calls.specs.Refusals.{IfRefused};
 
 use crate::refusal::Refusal;
@@ -81,9 +81,10 @@ pub fn is_plain(arg: &Arg) -> bool
     }
 }
 
-/// The number behind that of the first argument without a name.
+/// The number behind that of the first argument without a name, or how many arguments there are, where each has one.
 pub fn behind_first(args: &[Arg]) -> usize
-    ensures { (source : Source) → rest (kept_args source value_without_name 0 args.now)
+    ensures number { (source : Source) → result ≡ number_behind (length args.now) (kept_args source value_without_name 0 args.now) }
+    ensures others { (source : Source) → rest (kept_args source value_without_name 0 args.now)
         ≡ kept_args source value_without_name result (drop result args.now) }
 {
     for i in 0..args.len() {

@@ -1,6 +1,6 @@
 //! Texts as they are written.
 
-ghost use Rattle.std.specs.Prelude.{◌≡◌, ◌++◌, IfErr, IfOk, OnOk};
+ghost use Rattle.std.specs.Prelude.{◌≡◌, ◌++◌, IfErr, IfOk, OnErr, OnOk};
 ghost use Rattle.std.specs.Str.{IsUtf8};
 ghost use Rattle.meson_lex.specs.Literals.{literal};
 
@@ -21,6 +21,7 @@ pub fn key_of(key: &Text) -> Result<Text, Refusal>
 /// Writes a text's literal behind what is there.
 pub fn push_literal(alloc: Global, to: &mut Vec<u8>, text: &str) -> Result<(), Refusal>
     ensures done { OnOk result (to.new.items ≡ to.old.items ++ literal text.now) }
+    ensures kept { OnErr result (to.new.items ≡ to.old.items) }
     ensures utf8 { IsUtf8 text.now }
     ensures refused { IfErr result (λ e. e ≡ Refusal.OutOfMemory) }
 {

@@ -1,6 +1,6 @@
 //! The steps of a command: edits of lists and of whole statements, one after another.
 
-ghost use Rattle.std.specs.Prelude.{◌≡◌, ◌++◌, ◌∷◌, [], OnOk};
+ghost use Rattle.std.specs.Prelude.{◌≡◌, ◌++◌, ◌∷◌, [], OnErr, OnOk};
 ghost use Rattle.meson_steps.specs.ListSteps.{edits_list};
 
 use meson_calls::CallRef;
@@ -44,7 +44,8 @@ pub struct ListStep {
 
 /// Adds a step behind the others.
 pub fn push_step(steps: &mut Vec<ListStep>, list: CallRef, edit: ListEdit) -> Result<(), AllocError>
-    ensures { OnOk result (steps.new.items ≡ steps.old.items ++ record { list = list; edit = edit } ∷ []) }
+    ensures added { OnOk result (steps.new.items ≡ steps.old.items ++ record { list = list; edit = edit } ∷ []) }
+    ensures kept { OnErr result (steps.new.items ≡ steps.old.items) }
 {
     steps.push(ListStep { list, edit })?;
     Ok(())

@@ -35,6 +35,13 @@ impl From<AllocError> for StoreError {
 }
 
 impl From<io::Error> for StoreError {
+    ghost use Rattle.std.specs.Prelude.{◌≡◌, ◌≢◌, ◌⊎◌};
+    ghost use Rattle.std.specs.IoError.{error_kind};
+    ghost use Rattle.std.specs.declared.io.ErrorKind.TheVariants as kind;
+    ghost use Rattle.meson_store.specs.declared.store.StoreError.TheVariants.{OutOfMemory, Unchanged};
+
+    ghost from_gives = { λ error e. ((error_kind error ≡ kind.OutOfMemory) × (e ≡ OutOfMemory)) ⊎ ((error_kind error ≢ kind.OutOfMemory) × (e ≡ Unchanged)) };
+
     fn from(e: io::Error) -> StoreError {
         match e.kind() {
             ErrorKind::OutOfMemory => StoreError::OutOfMemory,

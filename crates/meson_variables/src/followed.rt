@@ -16,7 +16,7 @@ pub struct Followed<'t> {
 }
 
 impl<'t> Followed<'t> {
-    ghost use Rattle.std.specs.Prelude.{[], ◌∷◌, OnOk};
+    ghost use Rattle.std.specs.Prelude.{[], ◌∷◌, OnErr, OnOk};
     ghost use Rattle.meson_variables.specs.Tallies.{followed_names};
 
     /// None so far. Takes no memory.
@@ -41,7 +41,8 @@ impl<'t> Followed<'t> {
     /// # Errors
     /// Memory was refused.
     pub fn put(&mut self, name: &'t [u8]) -> Result<(), AllocError>
-        ensures { OnOk result (followed_names self.new ≡ name.entry.now ∷ followed_names self.old) }
+        ensures put { OnOk result (followed_names self.new ≡ name.entry.now ∷ followed_names self.old) }
+        ensures kept { OnErr result (followed_names self.new ≡ followed_names self.old) }
     {
         self.names.reserve(1)?;
         self.set.insert(name)?;

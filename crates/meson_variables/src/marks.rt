@@ -1,6 +1,6 @@
 //! What is met in the sources of a target, gathered in one place.
 
-ghost use Rattle.std.specs.Prelude.{◌≡◌, ◌∷◌, IfOk, OnOk};
+ghost use Rattle.std.specs.Prelude.{◌≡◌, ◌∷◌, IfOk, OnErr, OnOk};
 ghost use Rattle.meson_calls.specs.Project.{place};
 ghost use Rattle.meson_calls.specs.Roles.{one_of};
 
@@ -18,8 +18,8 @@ pub struct Site<'t> {
     pub variable: Option<&'t str>,
 }
 
-/// The items, their numbers in their lists, the file of each opaque mark, the list of the first item that stands in one, the first list that holds nothing, and the
-/// variables that were followed.
+/// The items, their numbers in their lists, the file of each opaque mark (of which only how many there are is asked), the list of the first
+/// item that stands in one, the first list that holds nothing, and the variables that were followed.
 #[derive(Drop)]
 pub struct Marks<'t> {
     pub items: Vec<SourceItem>,
@@ -57,8 +57,9 @@ impl<'t> Marks<'t> {
 
     /// Follows a variable.
     pub fn follow(&mut self, name: &'t [u8]) -> Result<(), AllocError>
-        ensures { OnOk result (gathered self.new
+        ensures done { OnOk result (gathered self.new
             ≡ record { tally = (gathered self.old).tally; followed = name.entry.now ∷ (gathered self.old).followed }) }
+        ensures kept { OnErr result (gathered self.new ≡ gathered self.old) }
     {
         self.followed.put(name)?;
         Ok(())
@@ -66,7 +67,8 @@ impl<'t> Marks<'t> {
 
     /// Meets something opaque in this file.
     pub fn miss(&mut self, file: usize) -> Result<(), AllocError>
-        ensures { OnOk result (gathered self.new ≡ with_mark (gathered self.old) opaque) }
+        ensures done { OnOk result (gathered self.new ≡ with_mark (gathered self.old) opaque) }
+        ensures kept { OnErr result (gathered self.new ≡ gathered self.old) }
     {
         self.unknown.push(file)?;
         Ok(())
@@ -79,7 +81,8 @@ impl<'t> Marks<'t> {
         file: usize,
         path: &[usize],
     ) -> Result<(), AllocError>
-        ensures { OnOk result (gathered self.new ≡ with_mark (gathered self.old) (empty (place file path.now))) }
+        ensures done { OnOk result (gathered self.new ≡ with_mark (gathered self.old) (empty (place file path.now))) }
+        ensures kept { OnErr result (gathered self.new ≡ gathered self.old) }
     {
         if self.vacant.is_none() {
             let place = place_of(alloc, file, path)?;
@@ -95,14 +98,17 @@ impl<'t> Marks<'t> {
         item: SourceItem,
         number: Option<usize>,
     ) -> Result<(), AllocError>
-        ensures { OnOk result (gathered self.new
+        ensures done { OnOk result (gathered self.new
             ≡ record { tally = with_item (gathered self.old).tally item number; followed = (gathered self.old).followed }) }
+        ensures kept { OnErr result (gathered self.new ≡ gathered self.old) }
     {
+        self.numbers.reserve(1)?;
+        self.items.reserve(1)?;
         if self.list.is_none() {
             self.list = copy_list(alloc, &item.list)?;
         }
-        self.numbers.push(number)?;
-        self.items.push(item)?;
+        self.numbers.push_reserved(number);
+        self.items.push_reserved(item);
         Ok(())
     }
 }

@@ -30,7 +30,7 @@ returns-clause-done c =
     ∙ ap (λ k. some_step (record { list = call; edit = code.After k c.in_ok-new.new })) c.saturating_sub.ensures
     ∙ ap (λ b. some_step (record { list = call; edit = code.After (n - 1) b })) c.in_ok-new.ensures.done in
     let all =
-    ap (λ xs. map Some xs ++ later) c.in_ok-push_step.ensures ∙ ap (λ xs. xs ++ later) (map-append Some old (step ∷ [])) ∙ append_assoc (map Some old) (Some step ∷ []) later
+    ap (λ xs. map Some xs ++ later) c.in_ok-push_step.ensures.added ∙ ap (λ xs. xs ++ later) (map-append Some old (step ∷ [])) ∙ append_assoc (map Some old) (Some step ∷ []) later
     ∙ ap (λ o. map Some old ++ (o ∷ later)) first
     ∙ ap (λ l. map Some old ++ (bare (step_in call (After call.path.steps (n - 1) (written_keyword x.now))) ∷ map bare (insertion_steps l 1 (map (λ x. x.now) rest)))) c.in_ok-list-2.ensures
     ∙ ap (λ r. map Some old ++ map bare (new_list_steps call n (x.now ∷ map (λ x. x.now) r))) rest_is

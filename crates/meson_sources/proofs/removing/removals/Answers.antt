@@ -35,7 +35,7 @@ loop-i-preserved c =
     let done_is = ap (map spot_view) c.in_ok-push.ensures.items ∙ map-append spot_view c.loop-i.done.items (spot ∷ []) ∙ ap (λ s. done ++ s ∷ []) is in
     let rest = drop (i + 1) spots in
     let left = steps_left view (map spot_view c.push.new.self.items) rest in
-    ap (λ xs. map Some xs ++ left) c.in_ok-push_step.ensures
+    ap (λ xs. map Some xs ++ left) c.in_ok-push_step.ensures.added
     ∙ ap (λ xs. xs ++ left) (map-append Some steps (record { list = c.in_ok-list.list; edit = code.Remove spot.number } ∷ []))
     ∙ append_assoc (map Some steps) (Some (record { list = c.in_ok-list.list; edit = code.Remove spot.number }) ∷ []) left
     ∙ ap (λ o. map Some steps ++ (o ∷ left)) step_is

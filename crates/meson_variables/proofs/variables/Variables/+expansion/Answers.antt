@@ -77,7 +77,7 @@ expand-returns-else-is_files-clause-all t c =
     let is = ap (expr_view source) c.in-Call.is ∙ call_view source c.in-Call.span c.in-Call.name c.in-Call.arguments in
     subst (λ e. OnOk c.miss.result (gathered c.miss.new.self ≡ expanded g (expand_left p c.args.left e s))) (sym is)
     (second_of c.miss.result g (gathered c.miss.new.self) (λ f. within s.place (listing_left p c.args.left l s f)) (λ f. met opaque f)
-    (is_files (text_at source c.in-Call.name) l) (sym c.is_files.ensures ∙ c.if-is_files.false) c.miss.ensures)
+    (is_files (text_at source c.in-Call.name) l) (sym c.is_files.ensures ∙ c.if-is_files.false) c.miss.ensures.done)
 
 pub expand-expand_row-requires : goal.expand-expand_row-requires
 expand-expand_row-requires t c =
@@ -144,7 +144,7 @@ expand_own-returns-then-is_empty-clause-all t c =
     let after = gathered c.meet_vacant.new.self in
     vacant_list (project_of c.args.self.now) c.args.left c.args.site.source.now c.args.list.now (stand_at c.args.site c.args.path.now.items None) g
     c.meet_vacant.result after c.get-args.result.now (sym c.is_empty.ensures ∙ c.if-is_empty.true) c.get-args.ensures
-    (subst (λ path. OnOk c.meet_vacant.result (after ≡ with_mark g (empty (place c.args.site.file path)))) c.as_slice.ensures.value c.meet_vacant.ensures)
+    (subst (λ path. OnOk c.meet_vacant.result (after ≡ with_mark g (empty (place c.args.site.file path)))) c.as_slice.ensures.value c.meet_vacant.ensures.done)
 
 pub expand_own-returns-else-is_empty-clause-all : goal.expand_own-returns-else-is_empty-clause-all
 expand_own-returns-else-is_empty-clause-all t c =
@@ -209,7 +209,7 @@ expand_row-returns-then-not-branch-clause-all t c =
     let e = expr_view source c.args.first.now in
     let os = operands_of (operands_view source c.args.rest.now) in
     second_of c.miss.result (gathered c.args.marks.now) (gathered c.miss.new.self) (sum_left p c.args.left e os (stand_at c.args.site c.args.path.now.items c.args.slot)) (λ f. met opaque f)
-    (are_plus os && is_list_operand p e) (sym c.in_ok-is_sum.ensures ∙ c.if-not-branch.true) c.miss.ensures
+    (are_plus os && is_list_operand p e) (sym c.in_ok-is_sum.ensures ∙ c.if-not-branch.true) c.miss.ensures.done
 
 pub expand_row-returns-in_ok-expand_operands-in-Some-clause-all : goal.expand_row-returns-in_ok-expand_operands-in-Some-clause-all
 expand_row-returns-in_ok-expand_operands-in-Some-clause-all t c =
@@ -325,7 +325,7 @@ follow-returns-in_ok-follow-in-Some t c =
     let stands : List ℕ → List ℕ → Stand = λ y steps. record { place = place v.file steps; slot = fixed; variable = Some y } in
     let later : Gathered = record { tally = g.tally; followed = x ∷ g.followed } in
     on_ok_weaker c.expand.result (λ so. so
-    ∙ ap (λ h. expanded h (expand_left p k (value_view v).it (stands c.identifier_text.result.now c.push-in-Some.new.self.items))) c.in_ok-follow-in-Some.ensures
+    ∙ ap (λ h. expanded h (expand_left p k (value_view v).it (stands c.identifier_text.result.now c.push-in-Some.new.self.items))) c.in_ok-follow-in-Some.ensures.done
     ∙ ap (λ y. expanded later (expand_left p k (value_view v).it (stands y c.push-in-Some.new.self.items))) c.identifier_text.ensures
     ∙ ap (λ steps. expanded later (expand_left p k (value_view v).it (stands x steps))) path
     ∙ sym (followed_value p k x (value_view v) g is new)
