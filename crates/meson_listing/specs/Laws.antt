@@ -1,56 +1,13 @@
--- What the listings promise, in the words of the commands and of the names of keyword arguments.
-use Rattle.std.specs.Prelude.{◌≡◌, ◌≢◌, ℕ, List, [], ◌∷◌, Result, Ok, Err, Some, All}
+-- The names of keyword arguments rise, and each has its value.
+use Rattle.std.specs.Prelude.{◌≡◌, ◌≢◌, ℕ, List, [], ◌∷◌, Some, All}
 use Rattle.std.specs.List.{AllPairs}
 use Rattle.std.specs.List.Sorted.{IsStrictlySortedBy}
 use Rattle.std.specs.Ordering.{nat_cmp}
 use Rattle.std.specs.Cmp.Lexicographic.{slice_cmp}
-use Rattle.serde_json.specs.Data.{Data, Members, no_members, member}
+use Rattle.serde_json.specs.Data.{Members, no_members, member}
 use Rattle.serde_json.specs.Find.{get_member}
-use Rattle.meson_splice.specs.Patch.{then_ok}
-use Rattle.meson_calls.specs.declared.call.Role.{Role}
-use Rattle.meson_calls.specs.declared.refusal.Refusal.{Refusal}
-use Rattle.meson_calls.specs.Loading.{Loaded, IsProject, project}
-use Rattle.meson_steps.specs.declared.command.Command.{Command}
-use Rattle.meson_steps.specs.declared.command.Command.TheVariants as command
-use Rattle.meson_steps.specs.declared.command.Done.{Done}
-use Rattle.meson_steps.specs.Steps.{Step}
 use Rattle.meson_details.specs.declared.details.Shown.{Shown}
-use Rattle.meson_plan.specs.Performing.{MayRefuse, Performs}
-use Rattle.meson_plan.specs.Planning.{planned}
 use Rattle.meson_listing.specs.Entries.{put_each, shown_data}
-use Rattle.meson_listing.specs.Listing.{target_listing, kwargs_listing}
-
--- ---- A listing is made where its info command is planned, which has no steps, and refused as that is.
-
--- a listing that is made stands for no steps
-abbrev pub no_steps : Result Data Refusal → Result (List Step) Refusal
-no_steps listing = then_ok listing (λ d. Ok [])
-
-abbrev pub TargetsAgree : Type 0
-TargetsAgree = (l : Loaded) (id : List ℕ) → no_steps (target_listing l id) ≡ planned (project l) (command.TargetInfo id)
-
-abbrev pub CallsAgree : Type 0
-CallsAgree = (l : Loaded) (r : Role) (id : List ℕ) → no_steps (kwargs_listing l r id) ≡ planned (project l) (command.KwargsInfo r id)
-
--- ---- And so where the command is done on a project, which it leaves as it is, or refused.
-
-pub record DoesNothing (done : Done) : Type 0 where
-  pub no_splices : done.change.splices ≡ []
-  pub untitled : done.change.title ≡ []
-  pub nothing_lexed : done.relexed ≡ 0
-
-pub record IsListedAs (l : Loaded) (c : Command) (listing : Result Data Refusal) : Type 0 where
-  pub done : (d : Data) (done : Done) → listing ≡ Ok d → IsProject l → DoesNothing done → Performs l c done l
-  pub made : (done : Done) (new : Loaded) → Performs l c done new → (d : Data) × (listing ≡ Ok d)
-  pub refused : (e : Refusal) → MayRefuse l c e → IsProject l → listing ≡ Err e
-
-abbrev pub TargetsListed : Type 0
-TargetsListed = (l : Loaded) (id : List ℕ) → IsListedAs l (command.TargetInfo id) (target_listing l id)
-
-abbrev pub CallsListed : Type 0
-CallsListed = (l : Loaded) (r : Role) (id : List ℕ) → IsListedAs l (command.KwargsInfo r id) (kwargs_listing l r id)
-
--- ---- The names of keyword arguments rise, and each has its value.
 
 abbrev pub member_names : Members → List (List ℕ)
 member_names no_members = []

@@ -1,4 +1,2 @@
 pub mod Entries
-pub mod Listing
 pub mod Laws
-pub mod Rows

@@ -6,8 +6,9 @@ ghost use Rattle.serde_json.specs.View.{members_view, view};
 ghost use Rattle.meson_calls.specs.Loading.{name_of_file};
 ghost use Rattle.meson_listing.specs.Entries.{id_data, ids_data, item_data, items_data, keywords_data, shown_data, text_or_null, texts_data};
 
-use meson_plan::{Shown, SourceItem};
+use meson_details::Shown;
 use meson_splice::{FileSet, Many, Text};
+use meson_variables::SourceItem;
 use serde_json::{Map, Value, json, put};
 use std::alloc::{AllocError, Global};
 

@@ -1,9 +1,8 @@
-//! Listings: what an info command tells of a target, or of the keyword arguments of a call, as JSON.
+//! Listings: JSON of what is told of a call, of its sources and of its keyword arguments.
 #![tactic(auto)]
 
 pub mod entries;
 pub mod laws;
-mod listing;
 mod objects;
 
-pub use listing::{info_kwargs, info_target};
+pub use objects::{call_object, target_object};

@@ -6,8 +6,9 @@ ghost use Rattle.serde_json.specs.View.{members_view, view};
 ghost use Rattle.meson_listing.specs.Entries.{call_data, items_data, target_data};
 
 use crate::entries::{file_name, items_value, keywords_value, spot_members, text_or_null};
-use meson_plan::{Head, Shown, Sources};
+use meson_details::{Head, Shown};
 use meson_splice::{FileSet, Text};
+use meson_variables::Sources;
 use serde_json::{Map, Value, put};
 use std::alloc::{AllocError, Global};
 
@@ -61,8 +62,11 @@ fn put_sources(
 }
 
 /// The listing of a target, whose call stands in the file of this number.
+///
+/// # Errors
+/// Memory is refused.
 #[tactic(auto, unfolding(crate::specs::Entries::target_data))]
-pub(crate) fn target_object(
+pub fn target_object(
     alloc: Global,
     files: &FileSet,
     file: usize,
@@ -95,8 +99,11 @@ pub(crate) fn target_object(
 }
 
 /// The listing of the keyword arguments of a call that stands in the file of this number.
+///
+/// # Errors
+/// Memory is refused.
 #[tactic(auto, unfolding(crate::specs::Entries::call_data))]
-pub(crate) fn call_object(
+pub fn call_object(
     alloc: Global,
     files: &FileSet,
     file: usize,

@@ -3,9 +3,8 @@
 use crate::rows::Row;
 use crate::trial::{Call, Fault, Wrong, each_growth_refused, grows_less};
 use meson_inventory::{project_lines, project_object};
-use meson_listing::{info_kwargs, info_target};
 use meson_plan::{CallRef, Done, LoadFault, Project, Refusal, Role, Sources, Unloaded};
-use meson_script::Script;
+use meson_script::{Script, info_kwargs, info_target};
 use meson_splice::FileSet;
 use serde_json::Value;
 use std::alloc::{AllocError, Global};

@@ -1,3 +1,8 @@
+pub mod Agreeing
+mod TargetsTold
+pub mod ByTrees
+pub mod ReadTexts
+pub mod OnTexts
 pub mod StackFacts
 pub mod Loading
 pub mod RunFacts

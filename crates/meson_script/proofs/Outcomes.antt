@@ -19,8 +19,8 @@ Planned = Result (List Step) Refusal
 same_steps : (r : Planned) (s t : List Step) → r ≡ Ok s → r ≡ Ok t → s ≡ t
 same_steps r s t p q = let both : ◌≡◌ {A = Planned} (Ok s) (Ok t) = sym p ∙ q in cc
 
-no_steps : (r : Planned) (s : List Step) (e : Refusal) → r ≡ Ok s → r ≡ Err e → ⊥
-no_steps r s e p q = let both : ◌≡◌ {A = Planned} (Ok s) (Err e) = sym p ∙ q in let bad : ⊥ = cc in bad
+not_both : (r : Planned) (s : List Step) (e : Refusal) → r ≡ Ok s → r ≡ Err e → ⊥
+not_both r s e p q = let both : ◌≡◌ {A = Planned} (Ok s) (Err e) = sym p ∙ q in let bad : ⊥ = cc in bad
 
 same_refusal : (r : Planned) (e f : Refusal) → r ≡ Err e → r ≡ Err f → e ≡ f
 same_refusal r e f p q = let both : ◌≡◌ {A = Planned} (Err e) (Err f) = sym p ∙ q in cc
@@ -61,7 +61,7 @@ one-outcome old c done other new next p q =
     )
 
 pub not-refused : NotRefused
-not-refused old c done new e p (unplanned f is) = no_steps (planned (project old) c) p.made.steps e p.made.are_planned is
+not-refused old c done new e p (unplanned f is) = not_both (planned (project old) c) p.made.steps e p.made.are_planned is
 not-refused old c done new e p (deep steps trees is stepped high) =
     let same = same_steps (planned (project old) c) p.made.steps steps p.made.are_planned is in
     high (subst AreShallow (same_trees p.made.steps steps (plain_trees old) p.made.trees trees same p.made.are_trees stepped) p.shallow)
@@ -69,14 +69,14 @@ not-refused old c done new e p (large made shallow wide) = wide (subst AreSmall 
 
 pub one-refusal : OneRefusal
 one-refusal old c e f (unplanned g is) (unplanned h other) = same_refusal (planned (project old) c) e f is other
-one-refusal old c e f (unplanned g is) (deep steps trees ok stepped high) = absurd (no_steps (planned (project old) c) steps e ok is)
-one-refusal old c e f (unplanned g is) (large made shallow wide) = absurd (no_steps (planned (project old) c) made.steps e made.are_planned is)
-one-refusal old c e f (deep steps trees ok stepped high) (unplanned h other) = absurd (no_steps (planned (project old) c) steps f ok other)
+one-refusal old c e f (unplanned g is) (deep steps trees ok stepped high) = absurd (not_both (planned (project old) c) steps e ok is)
+one-refusal old c e f (unplanned g is) (large made shallow wide) = absurd (not_both (planned (project old) c) made.steps e made.are_planned is)
+one-refusal old c e f (deep steps trees ok stepped high) (unplanned h other) = absurd (not_both (planned (project old) c) steps f ok other)
 one-refusal old c e f (deep steps trees ok stepped high) (deep more others okay through higher) = refl
 one-refusal old c e f (deep steps trees ok stepped high) (large made shallow wide) =
     let same = same_steps (planned (project old) c) made.steps steps made.are_planned ok in
     absurd (high (subst AreShallow (same_trees made.steps steps (plain_trees old) made.trees trees same made.are_trees stepped) shallow))
-one-refusal old c e f (large made shallow wide) (unplanned h other) = absurd (no_steps (planned (project old) c) made.steps f made.are_planned other)
+one-refusal old c e f (large made shallow wide) (unplanned h other) = absurd (not_both (planned (project old) c) made.steps f made.are_planned other)
 one-refusal old c e f (large made shallow wide) (deep steps trees ok stepped high) =
     let same = same_steps (planned (project old) c) made.steps steps made.are_planned ok in
     absurd (high (subst AreShallow (same_trees made.steps steps (plain_trees old) made.trees trees same made.are_trees stepped) shallow))

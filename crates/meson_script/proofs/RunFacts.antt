@@ -18,9 +18,9 @@ use Rattle.meson_steps.specs.ResultLimits.{saturated}
 use Rattle.meson_calls.specs.declared.refusal.Refusal.{Refusal}
 use Rattle.meson_plan.specs.Performing.{MayRefuse, Performs, unplanned}
 use Rattle.meson_plan.proofs.SplicesDone.{joined, performs-patch, performs-text, texts-append}
-use Rattle.meson_listing.specs.Laws.{DoesNothing, no_steps}
-use Rattle.meson_listing.specs.Listing.{kwargs_listing, target_listing}
-use Rattle.meson_listing.proofs.Agreeing.{calls_agree, calls_listed, targets_agree, targets_listed}
+use Rattle.meson_script.specs.ListingLaws.{DoesNothing, no_steps}
+use Rattle.meson_script.specs.Listing.{kwargs_listing, target_listing}
+use Rattle.meson_script.proofs.Agreeing.{calls_agree, calls_listed, targets_agree, targets_listed}
 use Rattle.meson_script.specs.Running.{MayStop, Reaches, Runs, nothing_ran, ran_more, told}
 use Rattle.meson_script.specs.Laws.{RunsPatch, RunsText}
 

@@ -9,7 +9,7 @@ use Rattle.meson_syntax.specs.View.{view}
 use Rattle.meson_syntax.proofs.parsing.Unique.{one-spanned}
 use Rattle.meson_calls.specs.declared.refusal.Refusal.{Refusal}
 use Rattle.meson_calls.specs.Loading.{AreParsed, Loaded, project, named_trees, trees, views}
-use Rattle.meson_listing.proofs.ByTrees.{calls-same, targets-same}
+use Rattle.meson_script.proofs.ByTrees.{calls-same, targets-same}
 use Rattle.meson_steps.specs.declared.command.Command.{Command}
 use Rattle.meson_steps.specs.declared.command.Command.TheVariants as command
 use Rattle.meson_steps.specs.declared.command.Done.{Done}

@@ -1,4 +1,7 @@
 pub mod Reports
+pub mod Listing
+pub mod ListingLaws
+pub mod ListingRows
 pub mod Running
 pub mod Stack
 pub mod Undoing

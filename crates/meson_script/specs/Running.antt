@@ -14,7 +14,7 @@ use Rattle.meson_steps.specs.declared.command.Command.TheVariants as command
 use Rattle.meson_steps.specs.declared.command.Done.{Done}
 use Rattle.meson_steps.specs.ResultLimits.{saturated}
 use Rattle.meson_plan.specs.Performing.{MayRefuse, Performs}
-use Rattle.meson_listing.specs.Listing.{kwargs_listing, target_listing}
+use Rattle.meson_script.specs.Listing.{kwargs_listing, target_listing}
 
 -- what a command tells of the files and trees as they stand: an info command its listing, the others nothing
 abbrev pub told : Loaded → Command → Result (List Data) Refusal

@@ -10,7 +10,7 @@ ghost use Rattle.meson_plan.specs.Performing.{MayRefuse, Performs};
 ghost use Rattle.meson_script.specs.Running.{MayStop, Reaches, Runs, told};
 
 use crate::fault::RunFault;
-use meson_listing::{info_kwargs, info_target};
+use crate::listing::{info_kwargs, info_target};
 use meson_plan::{Command, Done, Project, Refusal};
 use meson_splice::{Change, Many, Splice};
 use serde_json::Value;

@@ -5,7 +5,7 @@ use Rattle.serde_json.specs.View.{view}
 use Rattle.serde_json.specs.declared.value.Value.{Value}
 use Rattle.meson_calls.specs.declared.refusal.Refusal.{Refusal}
 use Rattle.meson_splice.specs.Patch.{then_ok}
-use Rattle.meson_listing.specs.Listing.{target_listing}
+use Rattle.meson_script.specs.Listing.{target_listing}
 use Rattle.meson_script.proofs.performing.listed.Goals as goal
 
 alone : (r : Result Data Refusal) (v : Value) → r ≡ Ok (view v) → (all : List Value) → all ≡ v ∷ [] → then_ok r (λ x. Ok (x ∷ [])) ≡ Ok (map view all)

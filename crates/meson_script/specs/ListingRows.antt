@@ -8,7 +8,7 @@ use Rattle.meson_calls.specs.declared.call.Role.TheVariants as role
 use Rattle.meson_calls.specs.declared.refusal.Refusal.{Refusal}
 use Rattle.meson_calls.specs.declared.refusal.Refusal.TheVariants.{DuplicateKeyword, NotFound}
 use Rattle.meson_calls.specs.Loading.{IsProject, Loaded}
-use Rattle.meson_listing.specs.Listing.{kwargs_listing, target_listing}
+use Rattle.meson_script.specs.Listing.{kwargs_listing, target_listing}
 
 abbrev build_file : List ℕ → List File
 build_file text = record { name = codes "meson.build"; bytes = text } ∷ []

@@ -3,9 +3,9 @@
 ghost use Rattle.std.specs.Prelude.{◌≡◌, IfOk, Ok};
 ghost use Rattle.serde_json.specs.View.{view};
 ghost use Rattle.meson_calls.specs.Refusals.{RefusedAs};
-ghost use Rattle.meson_listing.specs.Listing.{kwargs_listing, target_listing};
+ghost use Rattle.meson_script.specs.Listing.{kwargs_listing, target_listing};
 
-use crate::objects::{call_object, target_object};
+use meson_listing::{call_object, target_object};
 use meson_plan::{Project, Refusal, Role, TargetDetails};
 use serde_json::Value;
 use std::alloc::Global;
@@ -37,8 +37,8 @@ pub fn info_kwargs(alloc: Global, project: &Project, role: Role, id: &str) -> Re
     ensures refused { RefusedAs result (kwargs_listing project.now role id.now) }
 {
     let call = project.find_one(alloc, role, id)?;
-    let keywords = project.keywords(alloc, role, &call)?;
     let head = project.head(alloc, &call)?;
+    let keywords = project.keywords(alloc, role, &call)?;
     let listing = call_object(alloc, project.files(), call.file, head, keywords)?;
     Ok(listing)
 }

@@ -8,10 +8,10 @@ use Rattle.meson_calls.specs.declared.call.Role.{Role}
 use Rattle.meson_calls.specs.declared.call.Role.TheVariants as role
 use Rattle.meson_calls.specs.declared.refusal.Refusal.{Refusal}
 use Rattle.meson_calls.specs.Project.{Project}
-use Rattle.meson_listing.proofs.ByTrees.{call_of, target_of}
-use Rattle.meson_listing.proofs.OnTexts.{on_texts}
-use Rattle.meson_listing.proofs.ReadTexts.{by-tree}
-use Rattle.meson_listing.proofs.laws.rows.Goals as goal
+use Rattle.meson_script.proofs.ByTrees.{call_of, target_of}
+use Rattle.meson_script.proofs.OnTexts.{on_texts}
+use Rattle.meson_script.proofs.ReadTexts.{by-tree}
+use Rattle.meson_script.proofs.laws.rows.Goals as goal
 
 abbrev text_of : Result Data Refusal → Result (List ℕ) Refusal
 text_of listing = then_ok listing (λ d. Ok (compact_text d))

@@ -1,10 +1,11 @@
--- The listing of a target is refused as what is told of it.
+-- A listing is refused as what is told of its call.
 use Rattle.std.proofs.Common.{◌≡◌, ℕ, List, Some, sym, ap, ◌∙◌, subst}
 use Rattle.std.specs.Prelude.{Result, Ok, Err, option_map, option_and_then}
 use Rattle.serde_json.specs.Data.{Data}
 use Rattle.meson_lex.specs.declared.kinds.Span.{Span}
 use Rattle.meson_splice.specs.Patch.{then_ok}
 use Rattle.meson_calls.specs.declared.call.CallRef.{CallRef}
+use Rattle.meson_calls.specs.declared.call.Role.{Role}
 use Rattle.meson_calls.specs.declared.call.Role.TheVariants as role
 use Rattle.meson_variables.specs.declared.source.Sources.{Sources}
 use Rattle.meson_calls.specs.declared.refusal.Refusal.{Refusal}
@@ -16,11 +17,11 @@ use Rattle.meson_variables.specs.TargetSources.{sources}
 use Rattle.meson_sources.specs.Extras.{extra_files, extra_of_call}
 use Rattle.meson_calls.proofs.CallsFound.{role_found}
 use Rattle.meson_details.specs.declared.details.Head.{Head}
-use Rattle.meson_details.specs.Details.{head}
+use Rattle.meson_details.specs.Details.{head, keywords}
 use Rattle.meson_plan.specs.Details.{NoTarget, no_extra, no_sources, not_found, place_found, target_place, untold}
-use Rattle.meson_listing.specs.Entries.{target_data}
-use Rattle.meson_listing.specs.Listing.{or_not_found, target_at, target_listing}
-use Rattle.meson_listing.proofs.Agreeing.{extras_are, head_is, its_head}
+use Rattle.meson_listing.specs.Entries.{call_data, target_data}
+use Rattle.meson_script.specs.Listing.{call_listing, kwargs_listing, or_not_found, target_at, target_listing}
+use Rattle.meson_script.proofs.Agreeing.{extras_are, head_is, its_head}
 use Rattle.meson_plan.proofs.PlacesFound.{at_place}
 
 -- ---- the listing of a call with this head, these sources and these extra files
@@ -64,3 +65,13 @@ target_unlisted l id e (untold place f is (no_extra found g once twice)) =
     let first = subst (λ q. sources (project l) q ≡ Some (Ok found)) (sym a.is_place) once in
     let there = subst (λ q. extra_files (project l) q ≡ Some (Err g)) (sym a.is_place) twice in
     listed l a.one.place (its_head l a.one at).told (Ok found) (Err g) id (ap place_found a.is_one) (head_is l a.one at) first there
+
+-- of a call that has this head
+pub call_unlisted : (l : Loaded) (r : Role) (id : List ℕ) (place : CallRef) (h : Head) (e : Refusal)
+    → place_found (the_call (project l) r id) ≡ Ok place → head (project l) place ≡ Some h → keywords l r place ≡ Some (Err e) → kwargs_listing l r id ≡ Err e
+call_unlisted l r id place h e found heads twice =
+    let a = at_place (the_call (project l) r id) place found in
+    ap (λ one. then_ok one (λ (c : Placed (Call Span)). or_not_found (call_listing l r c.place))) a.is_one
+    ∙ ap (λ q. or_not_found (call_listing l r q)) a.is_place
+    ∙ ap (λ o. or_not_found (option_and_then (λ k. option_map (λ ks. then_ok ks (λ pairs. Ok (call_data l.files place.file k pairs))) (keywords l r place)) o)) heads
+    ∙ ap (λ o. or_not_found (option_map (λ ks. then_ok ks (λ pairs. Ok (call_data l.files place.file h pairs))) o)) twice
