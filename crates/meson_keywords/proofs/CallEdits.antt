@@ -15,7 +15,8 @@ use Rattle.meson_edit.specs.Places.{IsWritten, Writes}
 use Rattle.meson_edit.specs.Sequences.{MayFollow}
 use Rattle.meson_edit.proofs.sequences.Levelled.{firsts-keep-levels, insertions-keep-levels, removals-keep-levels, replacements-keep-levels, wraps-keep-levels}
 use Rattle.meson_calls.specs.declared.call.CallRef.{CallRef}
-use Rattle.meson_keywords.specs.Changing.{CallStands, LeavesCall}
+use Rattle.meson_keywords.specs.Changing.{CallStands}
+use Rattle.meson_keywords.specs.inside.Leaving.{LeavesCall}
 use Rattle.meson_keywords.specs.Keys.{written_named}
 use Rattle.meson_keywords.specs.KeywordEdits.{behind_all}
 use Rattle.meson_steps.specs.ListSteps.{AreDoable, MayStandBetween, none, one, wide_depth}
