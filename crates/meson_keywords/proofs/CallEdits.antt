@@ -15,12 +15,12 @@ use Rattle.meson_edit.specs.Places.{IsWritten, Writes}
 use Rattle.meson_edit.specs.Sequences.{MayFollow}
 use Rattle.meson_edit.proofs.sequences.Levelled.{firsts-keep-levels, insertions-keep-levels, removals-keep-levels, replacements-keep-levels, wraps-keep-levels}
 use Rattle.meson_calls.specs.declared.call.CallRef.{CallRef}
-use Rattle.meson_keywords.specs.Changing.{CallStands, LeavesCall}
+use Rattle.meson_keywords.specs.Changing.{CallStands}
+use Rattle.meson_keywords.specs.inside.Leaving.{LeavesCall}
 use Rattle.meson_keywords.specs.ValueKinds.{written_named}
 use Rattle.meson_keywords.specs.KeywordEdits.{behind_all}
 use Rattle.meson_steps.specs.ListSteps.{AreDoable, MayStandBetween, none, one, wide_depth}
-use Rattle.meson_steps.specs.Steps.{step_in}
-use Rattle.meson_steps.specs.Steps.{Step, all_stepped, stepped}
+use Rattle.meson_steps.specs.Steps.{step_in, Step, all_stepped, stepped}
 use Rattle.meson_keywords.specs.TaskSteps.{elements_in, trees_after}
 use Rattle.meson_steps.proofs.Insertable.{edited_there, elements_with, first_there, there_again}
 use Rattle.meson_steps.proofs.StepsDoable.{step_doable}

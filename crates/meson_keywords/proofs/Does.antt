@@ -5,7 +5,8 @@ use Rattle.meson_syntax.specs.Tree.{Nowhere, Plain, Argument}
 use Rattle.meson_calls.specs.declared.call.CallRef.{CallRef}
 use Rattle.meson_steps.specs.ListSteps.{MayStandBetween}
 use Rattle.meson_steps.specs.Steps.{Step}
-use Rattle.meson_keywords.specs.Changing.{CallStands, LeavesCall}
+use Rattle.meson_keywords.specs.Changing.{CallStands}
+use Rattle.meson_keywords.specs.inside.Leaving.{LeavesCall}
 use Rattle.meson_keywords.specs.Effects.{TaskLeaves}
 use Rattle.meson_keywords.specs.Tasks.{Task}
 use Rattle.meson_keywords.specs.TaskSteps.{elements_in, task_steps, trees_after}

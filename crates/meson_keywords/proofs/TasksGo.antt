@@ -14,7 +14,8 @@ use Rattle.meson_edit.specs.Edits.{elements}
 use Rattle.meson_calls.specs.declared.call.CallRef.{CallRef}
 use Rattle.meson_steps.specs.declared.step.ListStep.{ListStep}
 use Rattle.meson_steps.specs.declared.work.Work.{Work}
-use Rattle.meson_keywords.specs.Changing.{Between, CallStands, LeavesCall, TaskDone, steps_of_task}
+use Rattle.meson_keywords.specs.Changing.{Between, CallStands, TaskDone, steps_of_task}
+use Rattle.meson_keywords.specs.inside.Leaving.{LeavesCall}
 use Rattle.meson_calls.specs.GoodLists.{GoodArgs, GoodListing}
 use Rattle.meson_steps.specs.ListSteps.{AreBare}
 use Rattle.meson_calls.specs.Loading.{Loaded}

@@ -8,14 +8,14 @@ use Rattle.meson_calls.specs.declared.call.CallRef.{CallRef}
 use Rattle.meson_calls.specs.declared.refusal.Refusal.{Refusal}
 use Rattle.meson_keywords.specs.declared.tasks.Task as code
 use Rattle.meson_steps.specs.declared.work.Work.{Work}
-use Rattle.meson_steps.specs.ListSteps.{AreDoable, wide_depth}
+use Rattle.meson_steps.specs.ListSteps.{wide_depth}
 use Rattle.meson_calls.specs.Loading.{Loaded}
 use Rattle.meson_steps.specs.ResultLimits.{plain_trees}
 use Rattle.meson_calls.specs.Finding.{the_call}
 use Rattle.meson_steps.specs.Steps.{Step}
 use Rattle.meson_keywords.specs.Tasking.{Asked, MayBeWritten, TaskIs, asked_tasks}
 use Rattle.meson_keywords.specs.Tasks.{Task}
-use Rattle.meson_keywords.specs.TaskSteps.{call_changed, elements_in, task_steps, trees_after}
+use Rattle.meson_keywords.specs.TaskSteps.{call_changed, elements_in, task_steps}
 use Rattle.meson_steps.specs.Working.{Reached, so_far}
 use Rattle.meson_calls.specs.Project.{Project}
 use Rattle.meson_calls.specs.declared.call.Role.{Role}
@@ -33,11 +33,6 @@ pub record CallStands (c : CallRef) (trees : List Plain) : Type 0 where
   pub array_fits : 2 ≤ limit
   pub call_fits : listing_depth place.list ≤ limit
   pub file_fits : (l : Listing Nowhere) → listing_depth l ≤ limit → file_depth (place.back l) ≤ wide_depth
-
--- What a task means may be done where the call stands, and leaves the call standing.
-pub record LeavesCall (c : CallRef) (steps : List Step) (trees : List Plain) : Type 0 where
-  pub doable : AreDoable steps trees
-  pub stands : CallStands c (trees_after steps trees)
 
 -- ---- the answers of the work
 

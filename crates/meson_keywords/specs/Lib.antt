@@ -6,3 +6,4 @@ pub mod Options
 pub mod TaskSteps
 pub mod Tasking
 pub mod Tasks
+pub mod inside

@@ -3,7 +3,6 @@ use Rattle.std.specs.Prelude.{◌≡◌, ◌≤◌, ℕ, Bool, List, [], ◌∷�
 use Rattle.std.specs.Str.{IsUtf8}
 use Rattle.meson_lex.specs.declared.kinds.Span.{Span}
 use Rattle.meson_lex.specs.Kinds.{IsIdentifier}
-use Rattle.meson_splice.specs.Patch.{then_ok}
 use Rattle.meson_syntax.specs.Grammar.{LevelExpression, expression_depth, expression_words}
 use Rattle.meson_syntax.specs.Tree.{Nowhere, Expression, Argument}
 use Rattle.meson_syntax.specs.View.{args_view, expr_view}
@@ -115,12 +114,6 @@ pub record AreTasksBehind (meant : Result (List Task) Refusal) (before after : L
   pub more : List code.Task
   pub joined : after ≡ before ++ more
   pub are : AreTasks meant more
-
--- Those that are meant are these of the code, and then the rest.
-pub record TasksSoFar (whole rest : Result (List Task) Refusal) (cs : List code.Task) : Type 0 where
-  pub so_far : List Task
-  pub are : TasksAre cs so_far
-  pub joined : whole ≡ then_ok rest (λ later. Ok (so_far ++ later))
 
 -- ---- elements
 

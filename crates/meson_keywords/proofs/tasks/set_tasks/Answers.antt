@@ -3,7 +3,7 @@ use Rattle.std.proofs.Common.{◌+◌, drop, refl, sym, ap, ◌∙◌, subst}
 use Rattle.std.proofs.lemmas.Result.{err_from_is_err_and}
 use Rattle.meson_keywords.proofs.TasksSoFar.{none_so_far, not_made, one_is, one_made, set_made, set_no_kind, set_no_value, value_may}
 use Rattle.meson_keywords.specs.Tasks.{each_made, set_entry}
-use Rattle.meson_keywords.specs.Tasking.{TasksSoFar}
+use Rattle.meson_keywords.specs.inside.Making.{TasksSoFar}
 use Rattle.meson_keywords.proofs.tasks.set_tasks.Goals as goal
 
 pub returns-in_err-kind-clause-refused : goal.returns-in_err-kind-clause-refused
