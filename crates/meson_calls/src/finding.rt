@@ -11,9 +11,9 @@ ghost use Rattle.meson_calls.specs.CallPlaces.{CallIn};
 ghost use Rattle.meson_calls.specs.Refusals.{RefusedAs};
 ghost use Rattle.meson_calls.specs.Strings.{NotesGood};
 
+use crate::chosen_notes::with_role;
 use crate::naming::found;
 use crate::note::Note;
-use crate::chosen_notes::with_role;
 use crate::{CallRef, Refusal, Role};
 use meson_syntax::{List, Parsed};
 use std::alloc::Global;

@@ -10,9 +10,9 @@ ghost use Rattle.meson_calls.specs.ChosenNotes.{note_has_name, note_sets_call, i
 ghost use Rattle.meson_calls.specs.Strings.{AreGood, NotesGood, note_words};
 
 use crate::call::{CallRef, Role};
+use crate::chosen_notes::with_role;
 use crate::literals::first_literal_is;
 use crate::note::{Note, What};
-use crate::chosen_notes::with_role;
 use crate::place::{child_place, place_of};
 use crate::roles::{has_role, text_of};
 use meson_syntax::Expr;

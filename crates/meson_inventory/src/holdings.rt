@@ -7,10 +7,10 @@ ghost use Rattle.meson_calls.specs.Notes.{note_view, note_views};
 ghost use Rattle.meson_calls.specs.ChosenNotes.{places_that};
 ghost use Rattle.meson_inventory.specs.Holdings.{AreAllNotes, IsCall, enters_one, held_call, held_calls, holdings, not_entered, note_calls, subdirs_held, targets_held};
 
+use meson_calls::chosen_notes::with_role;
 use meson_calls::file_names::{enters, names_of};
 use meson_calls::note::{Note, What};
 use meson_calls::notes::notes_of;
-use meson_calls::chosen_notes::with_role;
 use meson_calls::place::place_of;
 use meson_calls::roles::text_of;
 use meson_plan::{CallRef, Head, Project, Role};

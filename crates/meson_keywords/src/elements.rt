@@ -16,8 +16,8 @@ ghost use Rattle.meson_steps.specs.Names.{distinct_by};
 ghost use Rattle.meson_calls.specs.Strings.{AreGood};
 ghost use Rattle.meson_keywords.specs.Tasking.{args_of, found_argument, test_of};
 
-use crate::value_kinds::ElementKind;
 use crate::tasks::before_equals;
+use crate::value_kinds::ElementKind;
 use meson_calls::arguments::{count_named, first_named};
 use meson_calls::literals::literal;
 use meson_calls::roles::{text_of, text_of_name};

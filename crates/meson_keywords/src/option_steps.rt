@@ -23,8 +23,8 @@ use crate::elements::{
     NumberedValue, Subject, Test, all_known, array_in, entries_in, is_element, is_entry,
     keys_known, passing, the_value,
 };
-use crate::value_kinds::ElementKind;
 use crate::keyword_steps::{not_literal, push_edit, put_behind, remove_all};
+use crate::value_kinds::ElementKind;
 use crate::writing::{written_element, written_list, written_literal, written_named, written_pair};
 use meson_calls::place::value_place;
 use meson_calls::{CallRef, Refusal};

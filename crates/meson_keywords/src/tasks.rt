@@ -8,8 +8,8 @@ ghost use Rattle.meson_keywords.specs.ValueKinds as keys;
 ghost use Rattle.meson_keywords.specs.Tasks.{add_entry, before_equals, checked_option, delete_entry, delete_option_entry, each_made, remove_entry, set_entry, set_option_entry};
 ghost use Rattle.meson_keywords.specs.Tasking.{AreTasks, AreTasksBehind, IsKey, words_tasks};
 
-use crate::value_kinds::{ElementKind, kind_of, list_kind};
 use crate::request::AskedWords;
+use crate::value_kinds::{ElementKind, kind_of, list_kind};
 use crate::writing::{list_values, written_value};
 use meson_calls::{Refusal, Role};
 use meson_splice::{Bytes, Text};

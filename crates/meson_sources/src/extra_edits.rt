@@ -33,8 +33,8 @@ use meson_steps::literals::push_literal;
 use meson_steps::names::checked_names;
 use meson_steps::step::{ListEdit, ListStep, push_step};
 use meson_syntax::{Arg, Expr, List};
-use meson_variables::marks::{Marks, Site};
 use meson_variables::call_sources::MAX_FOLLOWED;
+use meson_variables::marks::{Marks, Site};
 use meson_variables::variables::Variables;
 use std::alloc::{AllocError, Global};
 

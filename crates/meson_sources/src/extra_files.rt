@@ -14,8 +14,8 @@ use meson_calls::{CallRef, Refusal};
 use meson_splice::Many;
 use meson_syntax::List;
 use meson_variables::Sources;
-use meson_variables::marks::Marks;
 use meson_variables::call_sources::{MAX_FOLLOWED, home_of};
+use meson_variables::marks::Marks;
 use meson_variables::variables::Variables;
 
 /// The extra files of the call at a place.

@@ -7,8 +7,8 @@ ghost use Rattle.meson_variables.specs.Expansion.{is_plus, are_plus, is_operand_
 ghost use Rattle.meson_variables.specs.CodeVariables.{AreVariables, project_of};
 ghost use Rattle.meson_calls.specs.ChosenNotes.{Source};
 
-use crate::meeting::is_files;
 use crate::call_sources::MAX_FOLLOWED;
+use crate::meeting::is_files;
 use crate::variables::Variables;
 use meson_calls::roles::text_of;
 use meson_syntax::{Expr, Operand, Operator};

@@ -10,8 +10,8 @@ ghost use Rattle.meson_calls.specs.Refusals.{IfRefused};
 ghost use Rattle.meson_calls.specs.Roles.{is_target};
 ghost use Rattle.meson_variables.specs.TargetSources.{sources};
 
-use crate::source::Sources;
 use crate::call_sources::sources_of;
+use crate::source::Sources;
 use crate::variables::Variables;
 use meson_calls::call::CallRef;
 use meson_calls::refusal::Refusal;

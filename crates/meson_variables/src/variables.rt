@@ -12,9 +12,9 @@ ghost use Rattle.meson_variables.specs.CodeValues.{value_in, value_view};
 ghost use Rattle.meson_variables.specs.Variables.{single};
 ghost use Rattle.meson_calls.specs.declared.call.Role.{Role};
 
-use crate::unknown_setters::all_known;
 use crate::mentions::{Mentions, is_among};
 use crate::target_sources::arguments_of;
+use crate::unknown_setters::all_known;
 use crate::values::{Value, Values};
 use meson_calls::call::CallRef;
 use meson_calls::note::Note;
