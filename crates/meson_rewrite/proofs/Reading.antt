@@ -13,7 +13,7 @@ use Rattle.meson_store.specs.declared.store_fault.StoreFault.{StoreFault}
 use Rattle.meson_store.specs.declared.store_fault.StoreFault.TheVariants as store
 use Rattle.meson_gathering.specs.Gathering.{Finds, whole}
 use Rattle.meson_rewrite.specs.Lines.{status, store_fault_status, usage_status}
-use Rattle.meson_rewrite.specs.StoreReads.{MayRead, ReadsAll, ReadsAtMost, ReadsFor, ReadsProject, ReadsWithLog, file_read}
+use Rattle.meson_rewrite.specs.StoreReads.{AsksForProject, MayRead, ReadsAll, ReadsAtMost, ReadsFor, ReadsProject, ReadsWithLog, file_read}
 use Rattle.meson_rewrite.specs.Requests.{AsksFor}
 use Rattle.meson_rewrite.specs.declared.request.Listing.{Listing}
 use Rattle.meson_rewrite.specs.declared.request.ProgramRequest.TheVariants as request
@@ -59,15 +59,33 @@ same-file action.Sums reads = refl
 same-file (action.Help text) reads = refl
 same-file action.Version reads = refl
 
+same-project : (title : List ℕ) (a : Action) (before : Option Content) → AsksForProject title a before → AsksForProject title (without_help_text a) before
+same-project title (action.Run s) before asks = asks
+same-project title (action.Info c) before asks = asks
+same-project title (action.ScriptText text) before asks = asks
+same-project title (action.ScriptFile n) before asks = asks
+same-project title action.Undo before asks = asks
+same-project title (action.UndoTo count) before asks = asks
+same-project title (action.UndoChecked count name) before asks = asks
+same-project title (action.ForgetOldest count) before asks = asks
+same-project title action.ForgetAll before asks = asks
+same-project title action.Redo before asks = asks
+same-project title action.History before asks = asks
+same-project title (action.List json) before asks = asks
+same-project title action.Sums before asks = asks
+same-project title (action.Help text) before (inl (step, is)) = absurd (let no : ⊥ = cc in no)
+same-project title (action.Help text) before (inr (listing, is)) = absurd (let no : ⊥ = cc in no)
+same-project title action.Version before asks = asks
+
 module _ (a : Asked) (before : Option Content) (reads : ℕ) where
   pub asked-alone : (reads' : ℕ) → (reads' ≡ reads) ⊎ (reads' ≡ file_read a.action reads) → MayRead (Ok (without_text a)) before reads reads'
   asked-alone reads' (inl e) = inl e
   asked-alone reads' (inr e) = inr (inl (e ∙ sym (same-file a.action reads)))
 
   module _ (middle : Option Content) (dir : Option (List ℕ)) (n reads' : ℕ) (kept : middle ≡ before) (named : dir ≡ a.dir) (is_read : n ≡ file_read a.action reads) where
-    pub step-may-read : ReadsAtMost middle dir n reads' → MayRead (Ok (without_text a)) before reads reads'
-    step-may-read h =
-        inr (inr (subst (λ k. ReadsAtMost before a.dir k reads') (is_read ∙ sym (same-file a.action reads)) (subst (λ d. ReadsAtMost before d n reads') named (subst (λ b. ReadsAtMost b dir n reads') kept h))))
+    pub step-may-read : AsksForProject a.title a.action before → ReadsAtMost middle dir n reads' → MayRead (Ok (without_text a)) before reads reads'
+    step-may-read asks h =
+        inr (inr (same-project a.title a.action before asks, subst (λ k. ReadsAtMost before a.dir k reads') (is_read ∙ sym (same-file a.action reads)) (subst (λ d. ReadsAtMost before d n reads') named (subst (λ b. ReadsAtMost b dir n reads') kept h))))
 
     pub step-reads-all : {E : Type 0} (step : Step) → AsksFor a.title a.action before (request.Step step) → (end : Result Said E) → OnOk end (ReadsProject middle dir n reads')
         → OnOk end (ReadsAll (Ok (without_text a)) before reads reads')

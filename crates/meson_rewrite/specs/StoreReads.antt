@@ -9,6 +9,10 @@ use Rattle.meson_store.specs.StoreCalls.{one_more}
 use Rattle.meson_store.specs.Content.{Content}
 use Rattle.meson_gathering.specs.Gathering.{Finds, whole}
 use Rattle.meson_gathering.specs.ReadCounts.{OnceAtMost, ReadsFiles, StopsReading}
+use Rattle.meson_rewrite.specs.Requests.{AsksFor}
+use Rattle.meson_rewrite.specs.declared.request.Listing.{Listing}
+use Rattle.meson_rewrite.specs.declared.request.ProgramRequest.TheVariants as request
+use Rattle.meson_rewrite.specs.declared.request.Step.{Step}
 
 -- the file that the words name: a script, or digests
 abbrev pub file_read : Action → ℕ → ℕ
@@ -33,10 +37,15 @@ module _ (before : Option Content) (dir : Option (List ℕ)) where
 
 -- ---- a whole run, by what the words ask for
 
--- nothing; the file that the words name; or that and then the project's files and the log, or a part of them
+-- a step on the project, or a listing of it, and no script that is none
+abbrev pub AsksForProject : List ℕ → Action → Option Content → Type 0
+AsksForProject title a before =
+    ((step : Step) × AsksFor title a before (request.Step step)) ⊎ ((listing : Listing) × AsksFor title a before (request.List listing))
+
+-- nothing; the file that the words name; or, where they ask for something of the project, that and then its files and the log, or a part of them
 abbrev pub MayRead : Result Asked UsageFault → Option Content → ℕ → ℕ → Type 0
 MayRead (Err fault) before reads reads' = reads' ≡ reads
-MayRead (Ok a) before reads reads' = (reads' ≡ reads) ⊎ (reads' ≡ file_read a.action reads) ⊎ ReadsAtMost before a.dir (file_read a.action reads) reads'
+MayRead (Ok a) before reads reads' = (reads' ≡ reads) ⊎ (reads' ≡ file_read a.action reads) ⊎ (AsksForProject a.title a.action before × ReadsAtMost before a.dir (file_read a.action reads) reads')
 
 abbrev pub ReadsFor : Action → Option Content → Option (List ℕ) → ℕ → ℕ → Type 0
 ReadsFor (action.Help text) before dir reads reads' = reads' ≡ reads

@@ -1,5 +1,5 @@
 -- What notes say of variables, without the files in which none of some words stands.
-use Rattle.std.proofs.Common.{◌≡◌, ℕ, ◌+◌, List, [], ◌∷◌, ◌++◌, Bor, false, codes, refl, ap, subst}
+use Rattle.std.proofs.Common.{◌≡◌, ℕ, List, [], ◌∷◌, ◌++◌, Bor, false, codes, refl, ap, subst}
 use Rattle.std.specs.Prelude.{◌||◌, Bool, true, bytes_eq, map, option_map}
 use Rattle.std.proofs.lemmas.Slice.Eq.{bytes_eq-Decides}
 use Rattle.meson_splice.specs.declared.file_set.File.{File}

@@ -1,4 +1,4 @@
-use Rattle.std.proofs.Common.{Ok, refl, subst, sym}
+use Rattle.std.proofs.Common.{Ok, inl, inr, refl, subst, sym}
 use Rattle.meson_command.specs.Asking.{without_text}
 use Rattle.meson_rewrite.proofs.Endings.{listing-before, not-asked, shown-ends, step-before}
 use Rattle.meson_rewrite.proofs.Reading.{asked-alone, listing-reads-all, shown-reads-none, step-may-read, step-reads-all}
@@ -44,8 +44,9 @@ returns-in-Ok-List-clause-ends g c =
 pub returns-in-Ok-List-clause-reads : goal.returns-in-Ok-List-clause-reads
 returns-in-Ok-List-clause-reads g c =
     let S = g.S.Store in
+    let asks = rw c.in-Ok-List.field-0-is at c.in-Ok-List.ensures.asks in
     step-may-read c.args.asked (S.content c.args.store.now) (S.reads c.args.store.now) (S.content c.request_of.new.store) _ (S.reads c.request_of.new.store) (S.reads c.list.new.store)
-    c.request_of.ensures.kept c.folder-in-Ok-List.ensures c.in-Ok-List.ensures.reads c.list.ensures.reads
+    c.request_of.ensures.kept c.folder-in-Ok-List.ensures c.in-Ok-List.ensures.reads (inr (c.in-Ok-List.listing, asks)) c.list.ensures.reads
 
 pub returns-in-Ok-List-clause-reads_all : goal.returns-in-Ok-List-clause-reads_all
 returns-in-Ok-List-clause-reads_all g c =
@@ -80,8 +81,9 @@ returns-in-Ok-Show-clause-reads_all g c =
 pub returns-in-Ok-Step-clause-reads : goal.returns-in-Ok-Step-clause-reads
 returns-in-Ok-Step-clause-reads g c =
     let S = g.S.Store in
+    let asks = rw c.in-Ok-Step.field-0-is at c.in-Ok-Step.ensures.asks in
     step-may-read c.args.asked (S.content c.args.store.now) (S.reads c.args.store.now) (S.content c.request_of.new.store) _ (S.reads c.request_of.new.store) (S.reads c.do_step.new.store)
-    c.request_of.ensures.kept c.folder.ensures c.in-Ok-Step.ensures.reads c.do_step.ensures.reads
+    c.request_of.ensures.kept c.folder.ensures c.in-Ok-Step.ensures.reads (inl (c.in-Ok-Step.step, asks)) c.do_step.ensures.reads
 
 pub returns-in-Ok-Step-clause-reads_all : goal.returns-in-Ok-Step-clause-reads_all
 returns-in-Ok-Step-clause-reads_all g c =
