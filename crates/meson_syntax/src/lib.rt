@@ -4,6 +4,7 @@
 mod block;
 mod boxed;
 mod copy;
+mod copy_statements;
 mod expression;
 mod fault;
 mod file;
