@@ -1,5 +1,5 @@
 -- The edits that a command means, or why it is refused. Meson manual, Rewriter.
-use Rattle.std.specs.Prelude.{ℕ, List, [], codes, Result, Ok}
+use Rattle.std.specs.Prelude.{List, [], codes, Result, Ok}
 use Rattle.meson_splice.specs.Patch.{then_ok}
 use Rattle.meson_calls.specs.declared.call.Role.{Role}
 use Rattle.meson_calls.specs.declared.call.Role.TheVariants as role
@@ -25,13 +25,6 @@ target_told c = then_ok (only_once sources_key c) (λ _. then_ok (only_once extr
 abbrev pub call_asked : {S : Type 0} → Role → Call S → Result (List Step) Refusal
 call_asked r c = then_ok (call_told r c) (λ _. Ok [])
 
--- of the target, and of the call, that an id names
-abbrev pub target_info : {S : Type 0} → Project S → List ℕ → Result (List Step) Refusal
-target_info p id = then_ok (the_call p role.Target id) (λ c. target_told c.it)
-
-abbrev pub call_info : {S : Type 0} → Project S → Role → List ℕ → Result (List Step) Refusal
-call_info p r id = then_ok (the_call p r id) (λ c. call_asked r c.it)
-
 -- ---- commands
 
 abbrev pub planned : {S : Type 0} → Project S → Command → Result (List Step) Refusal
@@ -41,11 +34,11 @@ planned p (command.ExtraAdd target sources) = then_ok (the_call p role.Target ta
 planned p (command.ExtraRemove target sources) = then_ok (the_call p role.Target target) (λ c. extra_removed p c sources)
 planned p (command.TargetAdd target kind subdir sources) = target_added p target kind subdir sources
 planned p (command.TargetRemove target) = then_ok (the_call p role.Target target) (λ c. target_removed p c)
-planned p (command.TargetInfo target) = target_info p target
+planned p (command.TargetInfo target) = then_ok (the_call p role.Target target) (λ c. target_told c.it)
 planned p (command.KwargsSet r id pairs) = then_ok (the_call p r id) (call_changed p (each_made (set_entry r) pairs))
 planned p (command.KwargsAdd r id pairs) = then_ok (the_call p r id) (call_changed p (each_made (add_entry r) pairs))
 planned p (command.KwargsRemove r id pairs) = then_ok (the_call p r id) (call_changed p (each_made (remove_entry r) pairs))
 planned p (command.KwargsDelete r id keys) = then_ok (the_call p r id) (call_changed p (each_made (delete_entry r) keys))
-planned p (command.KwargsInfo r id) = call_info p r id
+planned p (command.KwargsInfo r id) = then_ok (the_call p r id) (λ c. call_asked r c.it)
 planned p (command.OptionsSet pairs) = then_ok (the_call p role.Project (codes "/")) (call_changed p (each_made set_option_entry pairs))
 planned p (command.OptionsDelete names) = then_ok (the_call p role.Project (codes "/")) (call_changed p (each_made delete_option_entry names))

@@ -5,8 +5,9 @@ ghost use Rattle.meson_syntax.specs.View.{list_view};
 ghost use Rattle.meson_calls.specs.NotedProjects.{IsNotedFor, loaded_in, project_in};
 ghost use Rattle.meson_calls.specs.ChosenNotes.{Source, call_with};
 ghost use Rattle.meson_calls.specs.Refusals.{RefusedAs};
-ghost use Rattle.meson_plan.specs.Planning.{call_info, target_info, target_told};
+ghost use Rattle.meson_plan.specs.Planning.{planned, target_told};
 ghost use Rattle.meson_steps.specs.Plans.{ArePlanned};
+ghost use Rattle.meson_steps.specs.declared.command.Command.TheVariants as command;
 
 use meson_calls::arguments::at_most_once;
 use meson_calls::finding::{list_of_call, the_call};
@@ -41,8 +42,8 @@ pub(crate) fn target_info(
     target: &str,
 ) -> Result<Vec<ListStep>, Refusal>
     requires { IsNotedFor Role.Target target.now noted.now }
-    ensures plan { IfOk result (λ steps. ArePlanned (loaded_in noted.now) (target_info (project_in noted.now) target.now) steps.items) }
-    ensures refused { RefusedAs result (target_info (project_in noted.now) target.now) }
+    ensures plan { IfOk result (λ steps. ArePlanned (loaded_in noted.now) (planned (project_in noted.now) (command.TargetInfo target.now)) steps.items) }
+    ensures refused { RefusedAs result (planned (project_in noted.now) (command.TargetInfo target.now)) }
 {
     let call = the_call(alloc, Role::Target, target, noted.notes)?;
     let source = noted.files.bytes(call.file);
@@ -61,8 +62,8 @@ pub(crate) fn call_info(
     id: &str,
 ) -> Result<Vec<ListStep>, Refusal>
     requires { IsNotedFor role id.now noted.now }
-    ensures plan { IfOk result (λ steps. ArePlanned (loaded_in noted.now) (call_info (project_in noted.now) role id.now) steps.items) }
-    ensures refused { RefusedAs result (call_info (project_in noted.now) role id.now) }
+    ensures plan { IfOk result (λ steps. ArePlanned (loaded_in noted.now) (planned (project_in noted.now) (command.KwargsInfo role id.now)) steps.items) }
+    ensures refused { RefusedAs result (planned (project_in noted.now) (command.KwargsInfo role id.now)) }
 {
     let call = the_call(alloc, role, id, noted.notes)?;
     let source = noted.files.bytes(call.file);

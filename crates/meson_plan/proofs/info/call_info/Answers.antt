@@ -4,7 +4,8 @@ use Rattle.std.specs.Prelude.{Ok}
 use Rattle.std.proofs.lemmas.Result.{err_from_is_err_and}
 use Rattle.meson_splice.specs.Patch.{then_ok}
 use Rattle.meson_calls.specs.NotedProjects.{loaded_in, project_in}
-use Rattle.meson_plan.specs.Planning.{call_asked, call_info}
+use Rattle.meson_steps.specs.declared.command.Command.TheVariants as command
+use Rattle.meson_plan.specs.Planning.{call_asked, planned}
 use Rattle.meson_calls.proofs.NotedCalls.{call_file, call_in, none_noted, noted_good}
 use Rattle.meson_plan.proofs.CallsIn.{function, told_is, nothing_planned}
 use Rattle.meson_plan.proofs.info.call_info.Goals as goal
@@ -29,7 +30,7 @@ pub returns-clause-plan : goal.returns-clause-plan
 returns-clause-plan c =
     let n = c.args.noted.now in
     let is = told_is n c.args.role c.args.id.now c.requires c.in_ok-call.call c.in_ok-call.ensures.found (call_asked c.args.role) c.bytes-source.result.now c.list_of_call.result.now c.bytes-source.ensures c.list_of_call.ensures in
-    nothing_planned (loaded_in n) (call_info (project_in n) c.args.role c.args.id.now) c.new.result.items (is ∙ ap (λ r. then_ok r (λ _. Ok [])) (c.in_ok-call_told.ensures.told (function n c.args.role c.args.id.now c.requires c.in_ok-call.call c.in_ok-call.ensures.found))) c.new.ensures.items
+    nothing_planned (loaded_in n) (planned (project_in n) (command.KwargsInfo c.args.role c.args.id.now)) c.new.result.items (is ∙ ap (λ r. then_ok r (λ _. Ok [])) (c.in_ok-call_told.ensures.told (function n c.args.role c.args.id.now c.requires c.in_ok-call.call c.in_ok-call.ensures.found))) c.new.ensures.items
 
 pub returns-in_err-call_told-clause-refused : goal.returns-in_err-call_told-clause-refused
 returns-in_err-call_told-clause-refused c =

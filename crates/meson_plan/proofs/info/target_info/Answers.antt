@@ -4,7 +4,8 @@ use Rattle.std.proofs.lemmas.Result.{err_from_is_err_and}
 use Rattle.meson_splice.specs.Patch.{then_ok}
 use Rattle.meson_calls.specs.declared.call.Role.TheVariants as role
 use Rattle.meson_calls.specs.NotedProjects.{loaded_in, project_in}
-use Rattle.meson_plan.specs.Planning.{target_info, target_told}
+use Rattle.meson_steps.specs.declared.command.Command.TheVariants as command
+use Rattle.meson_plan.specs.Planning.{planned, target_told}
 use Rattle.meson_calls.proofs.NotedCalls.{call_file, call_in, none_noted, noted_good}
 use Rattle.meson_plan.proofs.CallsIn.{function, told_is, nothing_planned}
 use Rattle.meson_plan.proofs.info.target_info.Goals as goal
@@ -29,7 +30,7 @@ pub returns-clause-plan : goal.returns-clause-plan
 returns-clause-plan c =
     let n = c.args.noted.now in
     let is = told_is n role.Target c.args.target.now c.requires c.in_ok-call.call c.in_ok-call.ensures.found target_told c.bytes-source.result.now c.list_of_call.result.now c.bytes-source.ensures c.list_of_call.ensures in
-    nothing_planned (loaded_in n) (target_info (project_in n) c.args.target.now) c.new.result.items (is ∙ c.in_ok-target_told.ensures.told (function n role.Target c.args.target.now c.requires c.in_ok-call.call c.in_ok-call.ensures.found)) c.new.ensures.items
+    nothing_planned (loaded_in n) (planned (project_in n) (command.TargetInfo c.args.target.now)) c.new.result.items (is ∙ c.in_ok-target_told.ensures.told (function n role.Target c.args.target.now c.requires c.in_ok-call.call c.in_ok-call.ensures.found)) c.new.ensures.items
 
 pub returns-in_err-target_told-clause-refused : goal.returns-in_err-target_told-clause-refused
 returns-in_err-target_told-clause-refused c =
