@@ -45,7 +45,8 @@ AsksForProject title a before =
 -- nothing; the file that the words name; or, where they ask for something of the project, that and then its files and the log, or a part of them
 abbrev pub MayRead : Result Asked UsageFault → Option Content → ℕ → ℕ → Type 0
 MayRead (Err fault) before reads reads' = reads' ≡ reads
-MayRead (Ok a) before reads reads' = (reads' ≡ reads) ⊎ (reads' ≡ file_read a.action reads) ⊎ (AsksForProject a.title a.action before × ReadsAtMost before a.dir (file_read a.action reads) reads')
+MayRead (Ok a) before reads reads' =
+    (reads' ≡ reads) ⊎ (reads' ≡ file_read a.action reads) ⊎ (AsksForProject a.title a.action before × ReadsAtMost before a.dir (file_read a.action reads) reads')
 
 abbrev pub ReadsFor : Action → Option Content → Option (List ℕ) → ℕ → ℕ → Type 0
 ReadsFor (action.Help text) before dir reads reads' = reads' ≡ reads
