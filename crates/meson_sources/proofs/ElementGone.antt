@@ -13,7 +13,8 @@ use Rattle.meson_syntax.proofs.paths.Reaching.{map-some, and-then-some}
 use Rattle.meson_edit.specs.Edits.{Remove, edited, element_removed, elements, with_elements}
 use Rattle.meson_edit.proofs.sequences.Changed.{changed}
 use Rattle.meson_edit.proofs.paths.Positions.{every-at-nth}
-use Rattle.meson_sources.specs.SourceEdits.{is_path, moved_up, path_after}
+use Rattle.meson_sources.specs.SourceEdits.{is_path}
+use Rattle.meson_sources.proofs.SpotsAfter.{moved_up, path_after}
 use Rattle.meson_sources.specs.Without.{Gone, arguments_without, but, expression_without, from_child, listing_without, tree_without}
 use Rattle.meson_sources.proofs.ChildFollows.{Follows, node_follows, node_without}
 use Rattle.meson_sources.proofs.ListsBut.{but_without}

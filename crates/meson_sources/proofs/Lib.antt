@@ -1,3 +1,4 @@
+mod SpotsAfter
 mod Renaming
 mod Standings
 mod ArgumentsGrow
@@ -30,7 +31,11 @@ mod PutAlong
 mod RemovalsRename
 mod RemovedSources
 mod RemovedSpots
-mod Renamed
+mod NumbersLeft
+mod PathsLeft
+mod SpotsCounted
+mod SpotsWithout
+mod RemovalsInTurn
 mod RenamedStrings
 mod SourcesAddable
 pub mod SourcesAdded

@@ -6,7 +6,8 @@ use Rattle.std.proofs.lemmas.Bool.{eqb-true, eq-eqb, ltb-true, ltb-false}
 use Rattle.meson_syntax.proofs.paths.Every.{Every}
 use Rattle.meson_calls.specs.Project.{place}
 use Rattle.meson_sources.specs.Without.{but}
-use Rattle.meson_sources.specs.SourceEdits.{Spot, is_path, moved_up, same_spot, spot_after, spots_after}
+use Rattle.meson_sources.specs.SourceEdits.{Spot, is_path, same_spot}
+use Rattle.meson_sources.proofs.SpotsAfter.{moved_up, spot_after, spots_after}
 use Rattle.meson_sources.proofs.DistinctSpots.{apart_of}
 use Rattle.meson_sources.proofs.OneGone.{without}
 use Rattle.meson_sources.proofs.PathsAfter.{path_itself, same_paths}

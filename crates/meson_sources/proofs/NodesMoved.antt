@@ -24,13 +24,9 @@ use Rattle.meson_sources.proofs.RenamedStrings.{Node}
 use Rattle.meson_sources.proofs.Scenes.{NodeIn}
 use Rattle.meson_sources.proofs.StringsStay.{list_any}
 use Rattle.meson_sources.proofs.WithoutLoses.{Lost, at_child, at_itself, child_in, gone_at}
-use Rattle.meson_sources.proofs.WithoutPlaces.{Fits, Stands, any_without, before_all, left_before, node_left, path_left, under_path}
+use Rattle.meson_sources.proofs.WithoutPlaces.{Fits, Stands, any_without, before_all, left_before, node_left, path_left, under_is}
 use Rattle.meson_syntax.specs.declared.operator.StringKind.{StringKind}
 use Rattle.meson_syntax.proofs.paths.Every.{Every}
-
-under_is : (path : List ℕ) (g : Gone) → under_path g path ≡ (λ q k. g (path ++ q) k)
-under_is [] g = refl
-under_is (n ∷ path) g = under_is path (from_child n g)
 
 pub nth_without : (gone : ℕ → Gone) (ts : List Plain) (i : ℕ) → nth (each_without gone ts) i ≡ option_map (tree_without (gone i)) (nth ts i)
 nth_without gone [] i = refl

@@ -9,7 +9,7 @@ use Rattle.meson_syntax.specs.Grammar.{LevelArguments}
 use Rattle.meson_syntax.specs.Paths.{nth}
 use Rattle.meson_syntax.specs.Children.{Any, an_expression, argument_parts, arguments_parts}
 use Rattle.meson_syntax.proofs.paths.Every.{Every}
-use Rattle.meson_sources.specs.SourceEdits.{moved_up}
+use Rattle.meson_sources.proofs.SpotsAfter.{moved_up}
 
 -- ---- any lists
 

@@ -1,33 +1,11 @@
--- A path after an element of a list has gone: it changes at the number behind the list's path alone.
-use Rattle.std.proofs.Common.{◌≡◌, ℕ, suc, ◌<◌, List, [], ◌∷◌, length, get_or, take, refl, sym, ap, ◌∙◌, arith}
-use Rattle.std.specs.Prelude.{Bool, true, false, ◌&&◌, nat_eq, slice_set, if◌then◌else◌}
+-- Paths that are the same, and where a spot is after another one has gone.
+use Rattle.std.proofs.Common.{◌≡◌, ℕ, suc, List, [], ◌∷◌, length, refl, sym, ap, ◌∙◌}
+use Rattle.std.specs.Prelude.{Bool, true, false, ◌&&◌, nat_eq, if◌then◌else◌}
 use Rattle.std.specs.Cmp.Lexicographic.{pointwise}
 use Rattle.std.proofs.lemmas.Bool.{eq-eqb, eqb-true}
 use Rattle.meson_calls.specs.Project.{place}
-use Rattle.meson_sources.specs.SourceEdits.{moved_up, path_after, is_path, Spot, spot_after}
-
-pub put_there : (list path : List ℕ) (gone : ℕ) → length list < length path → take (length list) path ≡ list
-    → slice_set path (length list) (moved_up gone (get_or path (length list) 0)) ≡ path_after list gone path
-put_there [] [] gone within front = absurd (omega arith)
-put_there [] (n ∷ path) gone within front = refl
-put_there (m ∷ list) [] gone within front = absurd (omega arith)
-put_there (m ∷ list) (n ∷ path) gone within front =
-    let same : m ≡ n = cc in
-    let rest : take (length list) path ≡ list = cc in
-    ap (λ ys. n ∷ ys) (put_there list path gone (omega arith) rest)
-    ∙ ap (λ b. if b then n ∷ path_after list gone path else n ∷ path) (sym (eq-eqb m n same))
-
-by_head : (m n : ℕ) (list path : List ℕ) (gone : ℕ) → (m ≡ n → path ≡ path_after list gone path) → (b : Bool) → nat_eq m n ≡ b
-    → n ∷ path ≡ (if b then n ∷ path_after list gone path else n ∷ path)
-by_head m n list path gone rest true same = ap (λ ys. n ∷ ys) (rest (eqb-true m n same))
-by_head m n list path gone rest false same = refl
-
-pub not_there : (list path : List ℕ) (gone : ℕ) → (length list < length path → take (length list) path ≡ list → ⊥) → path ≡ path_after list gone path
-not_there [] [] gone other = refl
-not_there [] (n ∷ path) gone other = absurd (other (omega arith) refl)
-not_there (m ∷ list) [] gone other = refl
-not_there (m ∷ list) (n ∷ path) gone other =
-    by_head m n list path gone (λ same. not_there list path gone (λ within front. other (omega arith) (ap (λ ys. n ∷ ys) front ∙ ap (λ k. k ∷ list) (sym same)))) (nat_eq m n) refl
+use Rattle.meson_sources.specs.SourceEdits.{is_path, Spot}
+use Rattle.meson_sources.proofs.SpotsAfter.{moved_up, path_after, spot_after}
 
 pub path_itself : (list : List ℕ) → is_path list list ≡ true
 path_itself [] = refl

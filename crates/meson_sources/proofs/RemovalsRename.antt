@@ -14,7 +14,7 @@ use Rattle.meson_syntax.proofs.paths.Reaching.{map-some, list-fits}
 use Rattle.meson_edit.specs.Edits.{Remove, elements, with_elements, element_removed, edited}
 use Rattle.meson_edit.proofs.sequences.Changed.{changed}
 use Rattle.meson_sources.proofs.Renaming.{IsElementAt, IsStringElement, RemovalsRename, number_after}
-use Rattle.meson_sources.specs.SourceEdits.{path_after}
+use Rattle.meson_sources.proofs.SpotsAfter.{path_after}
 use Rattle.meson_sources.proofs.ElementsThere.{root, stands_at, at_stands}
 use Rattle.meson_calls.proofs.ListNodes.{plain_holds, values_no_pairs}
 use Rattle.meson_sources.proofs.OneGone.{without, every_without, HasOnePart, one_part_each, parts_of_each}

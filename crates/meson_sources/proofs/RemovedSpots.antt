@@ -1,6 +1,6 @@
 -- Strings that go one after another: each step may be done, and the strings that are left stand at their new spots.
 use Rattle.std.specs.Prelude.{All, nat_eq, if◌then◌else◌, option_map, option_and_then, slice_set}
-use Rattle.std.proofs.Common.{◌≡◌, ℕ, zero, suc, ◌≤◌, Bool, true, false, List, [], ◌∷◌, length, Some, refl, sym, ap, ◌∙◌, subst, arith}
+use Rattle.std.proofs.Common.{◌≡◌, ℕ, zero, suc, ◌≤◌, Bool, true, false, List, [], ◌∷◌, Some, refl, sym, ap, ◌∙◌, subst, arith}
 use Rattle.std.proofs.lemmas.Bool.{eqb-true, eq-eqb}
 use Rattle.std.proofs.lemmas.List.Elements.{All-head, All-tail, All-set}
 use Rattle.meson_syntax.specs.Grammar.{LevelFile, file_depth}
@@ -17,11 +17,11 @@ use Rattle.meson_steps.specs.ResultLimits.{plain_trees}
 use Rattle.meson_calls.specs.Project.{place}
 use Rattle.meson_sources.proofs.Renaming.{IsElementAt}
 use Rattle.meson_steps.specs.Steps.{step_in}
-use Rattle.meson_sources.specs.SourceEdits.{Spot, moved_up, path_after, is_path, spot_after, spots_after, removed_by, distinct_spots}
-use Rattle.meson_sources.proofs.Standings.{SpotStands, RemovalsDoable}
-use Rattle.meson_sources.proofs.DistinctSpots.{AreApart, distinct_apart, every_distinct}
+use Rattle.meson_sources.specs.SourceEdits.{Spot, is_path}
+use Rattle.meson_sources.proofs.SpotsAfter.{moved_up, path_after, spot_after, spots_after, removed_by}
+use Rattle.meson_sources.proofs.Standings.{SpotStands}
+use Rattle.meson_sources.proofs.DistinctSpots.{AreApart}
 use Rattle.meson_sources.proofs.StringsThere.{StringIn, spot_in}
-use Rattle.meson_steps.proofs.PlainTrees.{trees_stand}
 use Rattle.meson_sources.proofs.RemovalsRename.{removals_rename, removals_apart}
 use Rattle.meson_sources.proofs.SpotsApart.{Apart, Clear, apart_after}
 use Rattle.meson_steps.proofs.WithOne.{change_there, changed_there, others_there, all_nth}
@@ -121,7 +121,7 @@ module _ (trees : List Plain) (all : All MayStandBetween trees) (s : Spot) (ther
 
 -- ---- all of them
 
-removed_doable : (left : ℕ) (spots : List Spot) (trees : List Plain) → All MayStandBetween trees → Every (StringIn trees) spots → AreApart spots → AreDoable (removed_by left spots) trees
+pub removed_doable : (left : ℕ) (spots : List Spot) (trees : List Plain) → All MayStandBetween trees → Every (StringIn trees) spots → AreApart spots → AreDoable (removed_by left spots) trees
 removed_doable zero spots trees all are apart = none trees
 removed_doable (suc left) [] trees all are apart = none trees
 removed_doable (suc left) (s ∷ more) trees all are apart =
@@ -135,8 +135,3 @@ removed_doable (suc left) (s ∷ more) trees all are apart =
 pub all_in : (old : Loaded) (spots : List Spot) → All (SpotStands (project old)) spots → Every (StringIn (plain_trees old)) spots
 all_in old [] all = tt
 all_in old (s ∷ more) all = (spot_in old s (All-head (SpotStands (project old)) s more all), all_in old more (All-tail (SpotStands (project old)) s more all))
-
-pub removals_doable : RemovalsDoable
-removals_doable old parsed spots all =
-    let there = distinct_spots spots in
-    removed_doable (length there) there (plain_trees old) (trees_stand old.files old.parsed parsed) (every_distinct (StringIn (plain_trees old)) spots (all_in old spots all)) (distinct_apart spots)

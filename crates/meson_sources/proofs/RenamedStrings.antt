@@ -7,7 +7,8 @@ use Rattle.meson_syntax.specs.Tree.{Nowhere, string, Argument, plain}
 use Rattle.meson_syntax.specs.Paths.{nth}
 use Rattle.meson_syntax.specs.Children.{Any, an_expression, child_nodes, node_at}
 use Rattle.meson_sources.proofs.Renaming.{number_after}
-use Rattle.meson_sources.specs.SourceEdits.{moved_up, path_after, is_path}
+use Rattle.meson_sources.specs.SourceEdits.{is_path}
+use Rattle.meson_sources.proofs.SpotsAfter.{moved_up, path_after}
 use Rattle.meson_sources.proofs.OneGone.{without, moved, part}
 use Rattle.meson_edit.proofs.paths.Mapped.{nth_map}
 use Rattle.meson_sources.proofs.PartsPut.{differ_old, differ_new, differ_other}

@@ -5,7 +5,8 @@ use Rattle.meson_syntax.specs.declared.operator.StringKind.{StringKind}
 use Rattle.meson_syntax.specs.Grammar.{LevelFile}
 use Rattle.meson_syntax.specs.Paths.{ListAt, list_at, nth}
 use Rattle.meson_edit.specs.Edits.{Remove, elements, edited}
-use Rattle.meson_sources.specs.SourceEdits.{moved_up, path_after, is_path}
+use Rattle.meson_sources.specs.SourceEdits.{is_path}
+use Rattle.meson_sources.proofs.SpotsAfter.{moved_up, path_after}
 
 -- The element of this number in the list that the path names is this one.
 pub record IsElementAt (t : Plain) (path : List ℕ) (n : ℕ) (it : Argument Nowhere) : Type 0 where

@@ -3,7 +3,8 @@ use Rattle.std.specs.Prelude.{nat_eq, nat_lt, if◌then◌else◌}
 use Rattle.std.proofs.Common.{◌≡◌, ℕ, ◌-◌, ◌<◌, ◌≤◌, Bool, true, false, List, [], ◌∷◌, length, refl, sym, ap, ◌∙◌, arith}
 use Rattle.std.proofs.lemmas.Bool.{eqb-true, eq-eqb, ltb-true, ltb-false}
 use Rattle.meson_calls.specs.Project.{place}
-use Rattle.meson_sources.specs.SourceEdits.{moved_up, path_after, is_path, Spot, spot_after}
+use Rattle.meson_sources.specs.SourceEdits.{is_path, Spot}
+use Rattle.meson_sources.proofs.SpotsAfter.{moved_up, path_after, spot_after}
 use Rattle.meson_sources.proofs.PathsAfter.{length_after, same_paths}
 use Rattle.meson_sources.proofs.RenamedStrings.{NotThrough}
 

@@ -15,7 +15,8 @@ use Rattle.meson_steps.specs.ListSteps.{MayStandBetween}
 use Rattle.meson_steps.specs.Steps.{all_stepped, step_in, stepped}
 use Rattle.meson_steps.proofs.WithOne.{change_there}
 use Rattle.meson_sources.specs.Effects.{goes, spot_at, trees_without}
-use Rattle.meson_sources.specs.SourceEdits.{Spot, path_after, removed_by, same_spot, spot_after, spots_after}
+use Rattle.meson_sources.specs.SourceEdits.{Spot, removal_steps, same_spot}
+use Rattle.meson_sources.proofs.SpotsAfter.{path_after, removed_by, spot_after, spots_after}
 use Rattle.meson_sources.specs.Without.{Gone, each_without, tree_without}
 use Rattle.meson_sources.proofs.DistinctSpots.{AreApart}
 use Rattle.meson_sources.proofs.ElementGone.{renamed, string_gone}
@@ -26,6 +27,7 @@ use Rattle.meson_sources.proofs.RemovedSpots.{all_apart, all_between, between, b
 use Rattle.meson_sources.proofs.RemovedSpots as removing
 use Rattle.meson_sources.proofs.Renaming.{number_after}
 use Rattle.meson_sources.proofs.SpotsApart.{Clear}
+use Rattle.meson_sources.proofs.SpotsWithout.{steps_are}
 use Rattle.meson_sources.proofs.StringsThere.{StringIn}
 
 -- ---- files
@@ -100,6 +102,7 @@ left_by (suc left) (s ∷ more) many trees after all are apart done =
     (ap (all_stepped (removed_by left (spots_after s more))) same ∙ o.2)
     ∙ one_gone trees all s are.0 more (all_clear trees all s are.0 more are.1 apart.0)
 
-pub trees_left : (spots : List Spot) (trees after : List Plain) → All MayStandBetween trees → Every (StringIn trees) spots → AreApart spots → all_stepped (removed_by (length spots) spots) trees ≡ Some after
+pub trees_left : (spots : List Spot) (trees after : List Plain) → All MayStandBetween trees → Every (StringIn trees) spots → AreApart spots → all_stepped (removal_steps spots) trees ≡ Some after
     → after ≡ trees_without spots trees
-trees_left spots trees after all are apart done = left_by (length spots) spots refl trees after all are apart done
+trees_left spots trees after all are apart done =
+    left_by (length spots) spots refl trees after all are apart (ap (λ steps. all_stepped steps trees) (sym (steps_are trees all spots are apart)) ∙ done)

@@ -34,6 +34,10 @@ abbrev pub under_path : Gone → List ℕ → Gone
 under_path g [] = g
 under_path g (n ∷ path) = under_path (from_child n g) path
 
+pub under_is : (path : List ℕ) (g : Gone) → under_path g path ≡ (λ q k. g (path ++ q) k)
+under_is [] g = refl
+under_is (n ∷ path) g = under_is path (from_child n g)
+
 nth_but : {X : Type 0} (gone : ℕ → Bool) (xs : List X) (n : ℕ) (x : X) → nth xs n ≡ Some x → gone n ≡ false → nth (but gone xs) (left_before gone n) ≡ Some x
 nth_but gone [] n x is stays = absurd cc
 nth_but gone (y ∷ ys) zero x is stays = ap (λ b. nth (if b then but (λ k. gone (suc k)) ys else y ∷ but (λ k. gone (suc k)) ys) 0) stays ∙ is

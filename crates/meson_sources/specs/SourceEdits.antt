@@ -1,7 +1,7 @@
 -- Sources put into a target and taken out of it, and the same for its extra files. Meson manual, Rewriter: `target add`, `target rm`, `target add_extra_files`,
 -- `target rm_extra_files`.
 use Rattle.std.specs.Prelude.{ℕ, zero, suc, ◌-◌, Bool, true, false, not, ◌&&◌, nat_eq, nat_lt, List, [], ◌∷◌, ◌++◌, length, codes, if◌then◌else◌, bytes_eq, Option, Some, None, ok_or, option_map, option_and_then, Result, Ok, Err}
-use Rattle.std.specs.List.{filter, list_any}
+use Rattle.std.specs.List.{count_by, filter, list_any}
 use Rattle.std.specs.Option.{option_map_or}
 use Rattle.meson_lex.specs.Literals.{literal}
 use Rattle.meson_splice.specs.Patch.{then_ok}
@@ -93,43 +93,38 @@ abbrev pub spots_named : {S : Type 0} → List (Mark S) → List (List ℕ) → 
 spots_named marks [] = Ok []
 spots_named marks (name ∷ more) = then_ok (spots_by (opaque_count marks) (items_of name marks)) (λ here. then_ok (spots_named marks more) (λ later. Ok (here ++ later)))
 
--- a number behind another one that has gone
-abbrev pub moved_up : ℕ → ℕ → ℕ
-moved_up gone n = if nat_lt gone n then n - 1 else n
-
--- a path after the n-th element of a list has gone
-abbrev pub path_after : List ℕ → ℕ → List ℕ → List ℕ
-path_after list gone [] = []
-path_after [] gone (n ∷ path) = moved_up gone n ∷ path
-path_after (m ∷ list) gone (n ∷ path) = if nat_eq m n then n ∷ path_after list gone path else n ∷ path
-
 abbrev pub is_path : List ℕ → List ℕ → Bool
 is_path [] [] = true
 is_path (m ∷ list) (n ∷ path) = nat_eq m n && is_path list path
 is_path _ _ = false
 
--- where an element stands after another one has gone
-abbrev pub spot_after : Spot → Spot → Spot
-spot_after gone s =
-    if nat_eq gone.list.file s.list.file
-    then record {
-      list = place s.list.file (path_after gone.list.path.steps gone.number s.list.path.steps);
-      number = if is_path gone.list.path.steps s.list.path.steps then moved_up gone.number s.number else s.number;
-    }
-    else s
+-- whether it is an element of this list, before the one of this number
+abbrev pub is_before : CallRef → ℕ → Spot → Bool
+is_before list n s = nat_eq s.list.file list.file && (is_path s.list.path.steps list.path.steps && nat_lt s.number n)
 
-abbrev pub spots_after : Spot → List Spot → List Spot
-spots_after gone [] = []
-spots_after gone (s ∷ more) = spot_after gone s ∷ spots_after gone more
+-- the number of an element of the list, once these elements have gone
+abbrev pub number_without : List Spot → CallRef → ℕ → ℕ
+number_without gone list n = n - count_by (is_before list n) gone
 
--- one after the other, each where it stands then
-abbrev pub removed_by : ℕ → List Spot → List Step
-removed_by zero spots = []
-removed_by (suc left) [] = []
-removed_by (suc left) (s ∷ more) = step_in s.list (Remove s.list.path.steps s.number) ∷ removed_by left (spots_after s more)
+-- the path of what stands here, or under it, once they have gone
+abbrev pub path_without : List Spot → CallRef → List ℕ → List ℕ
+path_without gone here [] = []
+path_without gone here (n ∷ path) = number_without gone here n ∷ path_without gone (child here n) path
+
+-- where an element stands then
+abbrev pub spot_without : List Spot → Spot → Spot
+spot_without gone s = record { list = place s.list.file (path_without gone (place s.list.file []) s.list.path.steps); number = number_without gone s.list s.number }
+
+abbrev pub removal : Spot → Step
+removal s = step_in s.list (Remove s.list.path.steps s.number)
+
+-- one after the other, each from where it stands once those before it have gone
+abbrev pub removals_after : List Spot → List Spot → List Step
+removals_after gone [] = []
+removals_after gone (s ∷ more) = removal (spot_without gone s) ∷ removals_after (s ∷ gone) more
 
 abbrev pub removal_steps : List Spot → List Step
-removal_steps spots = removed_by (length spots) spots
+removal_steps spots = removals_after [] spots
 
 -- each spot once
 abbrev pub same_spot : Spot → Spot → Bool

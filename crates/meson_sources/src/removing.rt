@@ -6,9 +6,11 @@ ghost use Rattle.meson_calls.specs.Refusals.{IfRefused, RefusedAs};
 ghost use Rattle.meson_steps.specs.ListSteps.{bare};
 ghost use Rattle.meson_steps.specs.Meanings.{AreMeant};
 ghost use Rattle.meson_steps.specs.Names.{distinct};
-ghost use Rattle.meson_sources.specs.inside.CodeSpots.{after_each, all_spots_in, all_there, before_all, is_some_there, spot_if_there, spot_view, spots_in};
-ghost use Rattle.meson_sources.specs.SourceEdits.{distinct_spots, moved_up, path_after, removal_steps, removed_at, same_spot, spot_after};
+ghost use Rattle.meson_calls.specs.Project.{place, place_at};
+ghost use Rattle.meson_sources.specs.inside.CodeSpots.{all_spots_in, all_there, before_all, is_some_there, spot_if_there, spot_view, spots_in};
+ghost use Rattle.meson_sources.specs.SourceEdits.{distinct_spots, is_before, number_without, path_without, removal_steps, removed_at, same_spot, spot_without};
 
+use meson_calls::call::BorrowedPlace;
 use meson_calls::place::place_of;
 use meson_calls::{CallRef, Refusal};
 use meson_splice::Text;
@@ -26,52 +28,61 @@ pub(crate) struct ElementSpot {
     pub number: usize,
 }
 
-/// A number behind another one that has gone.
-fn moved_up(gone: usize, number: usize) -> usize
-    ensures { result ≡ moved_up gone number }
+/// Whether a spot is an element of this list, before the one of this number.
+fn is_before(spot: &ElementSpot, list: BorrowedPlace<'_>, number: usize) -> bool
+    ensures { result ≡ is_before (place_at list.entry) number (spot_view spot.now) }
 {
-    if gone < number { number - 1 } else { number }
+    spot.file == list.file && (spot.list.as_slice() == list.path && spot.number < number)
 }
 
-/// A path after this element of a list has gone.
-fn renumber(path: &mut [usize], list: &[usize], gone: usize)
-    ensures { path.new ≡ path_after list.now gone path.old }
+/// The number of an element of a list, once others have gone.
+fn number_without(gone: &[&ElementSpot], list: BorrowedPlace<'_>, number: usize) -> usize
+    ensures { result ≡ number_without (map (λ x. spot_view x.now) gone.now) (place_at list.entry) number }
 {
-    let depth = list.len();
-    if path.len() > depth && &path[..depth] == list {
-        path[depth] = moved_up(gone, path[depth]);
-    }
-}
-
-/// A spot after another element has gone.
-fn rename(gone: &ElementSpot, spot: &mut ElementSpot)
-    ensures { spot_view spot.new ≡ spot_after (spot_view gone.now) (spot_view spot.old) }
-{
-    if gone.file == spot.file {
-        if gone.list.as_slice() == spot.list.as_slice() {
-            spot.number = moved_up(gone.number, spot.number);
+    let mut before = 0;
+    for i in 0..gone.len() {
+        if is_before(gone[i], list, number) {
+            before += 1;
         }
-        renumber(spot.list.as_mut_slice(), gone.list.as_slice(), gone.number);
     }
+    number.saturating_sub(before)
 }
 
-/// A spot after each of these has gone, one after the other.
-fn rename_after(done: &[ElementSpot], spot: &mut ElementSpot)
-    ensures { spot_view spot.new ≡ after_each spot_after (map spot_view done.now) (spot_view spot.old) }
+/// The path of a list, once elements have gone.
+fn path_without(
+    alloc: Global,
+    gone: &[&ElementSpot],
+    list: BorrowedPlace<'_>,
+) -> Result<Vec<usize>, AllocError>
+    ensures { IfOk result (λ path. path.items ≡ path_without (map (λ x. spot_view x.now) gone.now) (place list.entry.file []) list.entry.path.now) }
 {
-    for i in 0..done.len() {
-        rename(&done[i], spot);
+    let mut path = Vec::new(alloc);
+    for depth in 0..list.path.len() {
+        let above = BorrowedPlace {
+            file: list.file,
+            path: &list.path[..depth],
+        };
+        path.push(number_without(gone, above, list.path[depth]))?;
     }
+    Ok(path)
 }
 
-fn copy_spot(alloc: Global, spot: &ElementSpot) -> Result<ElementSpot, AllocError>
-    ensures { IfOk result (λ copy. spot_view copy ≡ spot_view spot.now) }
+/// Where a spot stands, once others have gone.
+fn spot_without(
+    alloc: Global,
+    gone: &[&ElementSpot],
+    spot: &ElementSpot,
+) -> Result<ElementSpot, AllocError>
+    ensures { IfOk result (λ left. spot_view left ≡ spot_without (map (λ x. spot_view x.now) gone.now) (spot_view spot.now)) }
 {
-    let list = Vec::from_slice(alloc, spot.list.as_slice())?;
+    let list = BorrowedPlace {
+        file: spot.file,
+        path: spot.list.as_slice(),
+    };
     Ok(ElementSpot {
         file: spot.file,
-        list,
-        number: spot.number,
+        list: path_without(alloc, gone, list)?,
+        number: number_without(gone, list, spot.number),
     })
 }
 
@@ -115,15 +126,11 @@ fn distinct_spots<'s>(
 fn removals(alloc: Global, spots: &[&ElementSpot]) -> Result<Vec<ListStep>, AllocError>
     ensures { IfOk result (λ steps. map Some steps.items ≡ map bare (removal_steps (map (λ x. spot_view x.now) spots.now))) }
 {
-    let mut done = Vec::new(alloc);
     let mut steps = Vec::new(alloc);
     for i in 0..spots.len() {
-        let mut spot = copy_spot(alloc, spots[i])?;
-        rename_after(done.as_slice(), &mut spot);
+        let spot = spot_without(alloc, &spots[..i], spots[i])?;
         let list = place_of(alloc, spot.file, spot.list.as_slice())?;
-        let edit = ListEdit::Remove(spot.number);
-        push_step(&mut steps, list, edit)?;
-        done.push(spot)?;
+        push_step(&mut steps, list, ListEdit::Remove(spot.number))?;
     }
     Ok(steps)
 }

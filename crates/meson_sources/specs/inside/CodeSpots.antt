@@ -52,13 +52,6 @@ spots_in m name = spots_at name m.items.items m.numbers.items
 abbrev pub all_spots_in : Marks → List (List ℕ) → Result (List Spot) Refusal
 all_spots_in m names = spots_of_names m.items.items m.numbers.items (length m.unknown.items) names
 
--- ---- spots after others
-
--- where a spot stands after each of these has gone, one after the other
-abbrev pub after_each : (Spot → Spot → Spot) → List Spot → Spot → Spot
-after_each after [] s = s
-after_each after (g ∷ gone) s = after_each after gone (after g s)
-
 -- ---- spots gathered behind others
 
 abbrev pub before_all : List Spot → Option (List Spot) → Option (List Spot)

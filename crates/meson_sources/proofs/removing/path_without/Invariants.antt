@@ -1,0 +1,10 @@
+use Rattle.std.proofs.Common.{◌≡◌, ◌++◌, [], drop, map, take}
+use Rattle.meson_calls.specs.Project.{place}
+use Rattle.meson_sources.specs.SourceEdits.{path_without}
+use Rattle.meson_sources.specs.inside.CodeSpots.{spot_view}
+use Rattle.meson_sources.proofs.removing.path_without.Given as goal
+
+abbrev pub invariant-loop-depth : goal.invariant-loop-depth
+invariant-loop-depth l =
+    l.path.items ++ path_without (map (λ x. spot_view x.now) l.gone) (place l.list.file (take l.depth l.list.path.now)) (drop l.depth l.list.path.now)
+    ≡ path_without (map (λ x. spot_view x.now) l.gone) (place l.list.file []) l.list.path.now
