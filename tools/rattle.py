@@ -1,5 +1,6 @@
 """The crates that crates.txt lists, and the prover's words for one of them."""
 
+import hashlib
 import os
 import shutil
 
@@ -8,6 +9,7 @@ RT = shutil.which("rt") or "/opt/rattle/bin/rt"
 KIT = os.path.dirname(os.path.dirname(os.path.realpath(RT)))
 RATTLE = os.path.join(KIT, "bin", "rattle")
 PARTS = ("src", "specs", "proofs")
+SOURCES = (".rt", ".antt")
 
 
 def folder_of(crate):
@@ -32,11 +34,28 @@ def age_of(path):
     return os.stat(path).st_mtime if os.path.exists(path) else 0
 
 
-def newest_source(crate):
-    """When a source of the crate was last saved or removed."""
+def sources_of(crate):
+    """The paths of the crate's sources."""
     places = [os.path.join(folder_of(crate), part) for part in PARTS]
-    found = [it for place in places for at, _, names in os.walk(place) for it in [at, *(os.path.join(at, name) for name in names)]]
-    return max(map(age_of, found), default=0)
+    found = [os.path.join(at, name) for place in places for at, _, names in os.walk(place) for name in names if name.endswith(SOURCES)]
+    return sorted(it for it in found if not os.path.basename(it).startswith("."))
+
+
+def newest_source(crate):
+    """When a source of the crate was last saved, or a file was made, renamed or removed beside one."""
+    sources = sources_of(crate)
+    return max(map(age_of, [os.path.join(TOP, "crates.txt"), *sources, *map(os.path.dirname, sources)]), default=0)
+
+
+def note_of(crate):
+    return os.path.join(folder_of(crate), "out", "sources")
+
+
+def write_note(crate, digest, at):
+    """Notes of which sources the crate was made, by their digest, with the time of what was made."""
+    with open(note_of(crate), "w", encoding="ascii") as note:
+        note.write(digest)
+    os.utime(note_of(crate), (at, at))
 
 
 class Crates:
@@ -58,13 +77,32 @@ class Crates:
             found += [it for it in [*self.below(used), used] if it not in found]
         return found
 
+    def digest(self, crate):
+        """A digest of what the crate is made of: its sources with their names, and the names of its libraries."""
+        digest = hashlib.sha256(" ".join(self.uses[crate]).encode())
+        for path in sources_of(crate):
+            with open(path, "rb") as file:
+                source = file.read()
+            digest.update(f"\n{os.path.relpath(path, folder_of(crate))} {len(source)}\n".encode() + source)
+        return digest.hexdigest()
+
+    def is_made(self, crate):
+        """Whether the crate was made of its sources as they are. Where rt made it, which notes no digest, the times tell."""
+        made = age_of(made_of(crate))
+        if age_of(note_of(crate)) != made:
+            return newest_source(crate) <= made
+        if not made:
+            return False
+        with open(note_of(crate), encoding="ascii") as note:
+            return note.read() == self.digest(crate)
+
     def stale(self, crates):
-        """Those of the crates, lowest first, whose sources, libraries or toolchain are newer than what was made of them."""
-        stale, toolchain = [], max(age_of(RT), age_of(os.path.join(TOP, "crates.txt")))
+        """Those of the crates, lowest first, that are not made of their sources, or of older libraries or by an older toolchain."""
+        stale = []
         for crate in crates:
             libraries = self.own(crate)
-            newest = max([toolchain, newest_source(crate), *(age_of(library_of(it)) for it in libraries)])
-            if age_of(made_of(crate)) < newest or any(it in stale for it in libraries):
+            newest = max([age_of(RT), *(age_of(library_of(it)) for it in libraries)])
+            if age_of(made_of(crate)) < newest or any(it in stale for it in libraries) or not self.is_made(crate):
                 stale.append(crate)
         return stale
 
