@@ -2,6 +2,7 @@
 use Rattle.std.proofs.Common.{◌≡◌, ◌<◌, ◌≤◌, ◌+◌, ℕ, zero, suc, Bool, true, false, not, cond, List, [], ◌∷◌, length, drop, refl, sym, ap, ◌∙◌, arith}
 use Rattle.std.specs.Prelude.{bytes_eq}
 use Rattle.std.proofs.lemmas.List.{at_drop_all}
+use Rattle.std.proofs.lemmas.Slice.Eq.{bytes_eq-Decides}
 use Rattle.meson_splice.specs.Files.{bytes_at}
 use Rattle.meson_splice.specs.declared.file_set.File.{File}
 use Rattle.meson_script.specs.Reports.{differing}
@@ -44,6 +45,11 @@ module _ (before after : List File) (i : ℕ) (was bytes : List ℕ) (differs : 
   count_kept f =
       let here : differing (drop i before) (drop i after) ≡ rest = step true (not-false differs _ test f) in
       next count (ap (λ n. count + n) (sym here) ∙ so_far)
+
+-- of files that stay as they are none differs
+pub differing-same : (files : List File) → differing files files ≡ 0
+differing-same [] = refl
+differing-same (f ∷ files) = rw ((bytes_eq-Decides f.bytes f.bytes).1 refl) (differing-same files)
 
 -- no file is left
 pub count_ended : (before after : List File) (i count total : ℕ) → length before ≤ i → length after ≤ i → count + differing (drop i before) (drop i after) ≡ total → count ≡ total

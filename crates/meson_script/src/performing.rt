@@ -1,14 +1,16 @@
 //! The commands of a script, one after another.
 
-ghost use Rattle.std.specs.Prelude.{◌≡◌, ◌≢◌, ◌+◌, ◌++◌, IfErr, IfOk, Ok, OnErr, OnOk, map};
+ghost use Rattle.std.specs.Prelude.{◌≡◌, ◌≢◌, ◌+◌, ◌++◌, [], IfErr, IfOk, Ok, OnErr, OnOk, map};
 ghost use Rattle.serde_json.specs.View.{view};
 ghost use Rattle.meson_steps.specs.ResultLimits.{saturated};
 ghost use Rattle.meson_calls.specs.declared.refusal.Refusal.TheVariants.{OutOfMemory};
 ghost use Rattle.meson_calls.specs.Loading.{IsProject};
 ghost use Rattle.meson_calls.specs.Refusals.{IfRefused, RefusedAs};
 ghost use Rattle.meson_plan.specs.Performing.{MayRefuse, Performs};
+ghost use Rattle.meson_script.specs.Reports.{differing};
 ghost use Rattle.meson_script.specs.Running.{MayStop, Reaches, Runs, told};
 
+use crate::counting::count_differing;
 use crate::fault::RunFault;
 use crate::listing::{info_kwargs, info_target};
 use meson_plan::{Command, Done, Project, Refusal};
@@ -82,6 +84,7 @@ pub(crate) fn performed(
     ensures done { IfOk result (λ done. Performs project.old command.now done project.new) }
     ensures refused { IfRefused result (MayRefuse project.old command.now) }
     ensures kept { OnErr result (project.new ≡ project.old) }
+    ensures untouched { listings.now ≢ [] → project.new ≡ project.old }
     ensures project { IsProject project.new }
 {
     if listings.is_empty() {
@@ -92,6 +95,35 @@ pub(crate) fn performed(
         change: Change::untitled(alloc, Many::new(alloc)),
         relexed: 0,
     })
+}
+
+/// Does a command that tells this, or nothing, and counts the files that have other bytes then. For one that tells something no
+/// file is copied, since none changes.
+///
+/// # Errors
+/// The first refusal that holds, or want of memory.
+pub(crate) fn counted(
+    alloc: Global,
+    project: &mut Project,
+    command: &Command,
+    listings: &[Value],
+) -> Result<(Done, usize), Refusal>
+    requires { told project.old command.now ≡ Ok (map view listings.now) }
+    ensures done { IfOk result (λ both. Performs project.old command.now both.0 project.new) }
+    ensures files { IfOk result (λ both. both.1 ≡ differing project.old.files project.new.files) }
+    ensures refused { IfRefused result (MayRefuse project.old command.now) }
+    ensures kept { OnErr result (project.new ≡ project.old) }
+    ensures project { IsProject project.new }
+{
+    project.reads();
+    if listings.is_empty() {
+        let before = project.files().clone()?;
+        let done = project.perform(alloc, command)?;
+        let files = count_differing(&before, project.files());
+        return Ok((done, files));
+    }
+    let told = performed(alloc, project, command, listings)?;
+    Ok((told, 0))
 }
 
 /// Does the commands in order. Where one is refused, those before it are done.

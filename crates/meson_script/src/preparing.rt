@@ -9,14 +9,13 @@ ghost use Rattle.meson_script.specs.Running.{MayStop, told};
 use crate::fault::RunFault;
 use crate::performing::listed;
 use meson_plan::{Command, Project, Refusal};
-use meson_splice::{FileSet, Text};
+use meson_splice::Text;
 use serde_json::Value;
 use std::alloc::{AllocError, Global};
 
-/// The files as they were, what the command tells, and its title twice: for the change and for the report.
+/// What the command tells, and its title twice: for the change and for the report.
 #[derive(Drop)]
 pub(crate) struct Prepared {
-    pub before: FileSet,
     pub listings: Vec<Value>,
     pub kept: Text,
     pub told: Text,
@@ -49,7 +48,7 @@ pub(crate) fn prepare(
     title: &str,
 ) -> Result<Prepared, RunFault>
     ensures told { IfOk result (λ p. told project.now command.now ≡ Ok (map view p.listings.items)) }
-    ensures kept { IfOk result (λ p. (p.before ≡ project.now.files) × (p.kept ≡ title.now) × (p.told ≡ title.now)) }
+    ensures titles { IfOk result (λ p. (p.kept ≡ title.now) × (p.told ≡ title.now)) }
     ensures project { IsProject project.now }
     ensures refused { IfErr result (λ f. f.refusal ≢ OutOfMemory → MayStop project.now (command.now ∷ []) f.index f.refusal) }
     ensures index { IfErr result (λ f. f.index ≡ 0) }
@@ -59,13 +58,8 @@ pub(crate) fn prepare(
         Ok(listings) => listings,
         Err(refusal) => return Err(RunFault { index: 0, refusal }),
     };
-    let before = match project.files().clone() {
-        Ok(files) => files,
-        Err(refused) => return Err(unmade(refused)),
-    };
     match titles(alloc, title) {
         Ok((kept, told)) => Ok(Prepared {
-            before,
             listings,
             kept,
             told,

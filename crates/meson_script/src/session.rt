@@ -12,7 +12,7 @@ ghost use Rattle.meson_splice.specs.Past.{redone, undone};
 
 use crate::counting::count_differing;
 use crate::fault::{RunFault, UndoFault, Unstarted};
-use crate::performing::{perform_all, performed};
+use crate::performing::{counted, perform_all};
 use crate::preparing::{Prepared, prepare, titles, unmade};
 use crate::stepping::{done_again, taken_back};
 use meson_json::Script;
@@ -165,7 +165,6 @@ impl Session {
             Err(fault) => return Err(fault),
         };
         let Prepared {
-            before,
             listings,
             kept,
             told,
@@ -175,12 +174,11 @@ impl Session {
             self.history.past = Many::of(past);
             return Err(unmade(refused));
         }
-        match performed(alloc, &mut self.project, command, listings.as_slice()) {
-            Ok(done) => {
-                self.project.reads();
+        match counted(alloc, &mut self.project, command, listings.as_slice()) {
+            Ok((done, files)) => {
                 let Done { change, relexed } = done;
                 let report = Report {
-                    files: count_differing(&before, self.project.files()),
+                    files,
                     splices: change.splices.get().len(),
                     relexed,
                     info: Value::Array(listings),
