@@ -17,7 +17,7 @@ use Rattle.meson_steps.specs.declared.command.Command.{Command}
 use Rattle.meson_script.specs.Running.{Runs}
 use Rattle.meson_script.specs.declared.fault.UndoFault.{UndoFault}
 use Rattle.meson_script.specs.declared.fault.UndoFault.TheVariants.{Splice, Load}
-use Rattle.meson_script.specs.Stack.{KeptSet, Stack, Stands, Loads, ran, back, forth, taken_back, done_again, RefusesUndo, RefusesRedo}
+use Rattle.meson_script.specs.Stack.{KeptSet, Stack, Stands, Loads, ran, back, forth, taken_back, done_again, RefusesStep, RefusesUndo, RefusesRedo}
 use Rattle.meson_script.specs.Undoing.{MayNotChange, MayNotStep}
 use Rattle.meson_script.proofs.Loading.{loads-or-wants-memory, project-loads}
 use Rattle.meson_script.proofs.RunFacts.{runs-patch}
@@ -127,31 +127,14 @@ loads_or r k gs f done loads h files is why told =
     let same = same_step h k files gs (sym is ∙ done) in
     loads-or-wants-memory gs f loads (subst (λ fs. MayNotLoad fs f) same.1 why) told
 
-undo-refuses-done : (s t : Stack) (h k : History) (fs : List File) (f : UndoFault) → undone h fs ≡ Ok (k, t.present) → Loads t.present → MayNotStep (undone h fs) f → RefusesUndo s f
-undo-refuses-done s t h k fs (Splice (splice.NoFile name)) done loads why = done_or (undone h fs) k t.present (splice.NoFile name) done why (λ q. cc)
-undo-refuses-done s t h k fs (Splice (splice.OutOfRange name at)) done loads why = done_or (undone h fs) k t.present (splice.OutOfRange name at) done why (λ q. cc)
-undo-refuses-done s t h k fs (Splice (splice.Stale name at)) done loads why = done_or (undone h fs) k t.present (splice.Stale name at) done why (λ q. cc)
-undo-refuses-done s t h k fs (Splice splice.NothingToUndo) done loads why = absurd (done_or (undone h fs) k t.present splice.NothingToUndo done why (λ q. cc))
-undo-refuses-done s t h k fs (Splice splice.NothingToRedo) done loads why = done_or (undone h fs) k t.present splice.NothingToRedo done why (λ q. cc)
-undo-refuses-done s t h k fs (Splice splice.OutOfMemory) done loads why = tt
-undo-refuses-done s t h k fs (Load load.TooManyFiles) done loads why = loads_or (undone h fs) k t.present load.TooManyFiles done loads why.0 why.1 why.2 why.3 (λ q. cc)
-undo-refuses-done s t h k fs (Load (load.BadFileName i)) done loads why = loads_or (undone h fs) k t.present (load.BadFileName i) done loads why.0 why.1 why.2 why.3 (λ q. cc)
-undo-refuses-done s t h k fs (Load (load.Parse i fault)) done loads why = loads_or (undone h fs) k t.present (load.Parse i fault) done loads why.0 why.1 why.2 why.3 (λ q. cc)
-undo-refuses-done s t h k fs (Load load.OutOfMemory) done loads why = tt
+-- a step that is done is refused for want of memory alone
+refuses-done : (nothing : SpliceFault) (is_none : Type 0) (r : Stepped) (k : History) (gs : List File) (f : UndoFault) → r ≡ Ok (k, gs) → Loads gs → MayNotStep r f → RefusesStep nothing is_none f
+refuses-done nothing is_none r k gs (Splice e) done loads why = λ told. absurd (done_or r k gs e done why told)
+refuses-done nothing is_none r k gs (Load load.TooManyFiles) done loads why = absurd (loads_or r k gs load.TooManyFiles done loads why.0 why.1 why.2 why.3 (λ q. cc))
+refuses-done nothing is_none r k gs (Load (load.BadFileName i)) done loads why = absurd (loads_or r k gs (load.BadFileName i) done loads why.0 why.1 why.2 why.3 (λ q. cc))
+refuses-done nothing is_none r k gs (Load (load.Parse i fault)) done loads why = absurd (loads_or r k gs (load.Parse i fault) done loads why.0 why.1 why.2 why.3 (λ q. cc))
+refuses-done nothing is_none r k gs (Load load.OutOfMemory) done loads why = refl
 
-redo-refuses-done : (s t : Stack) (h k : History) (fs : List File) (f : UndoFault) → redone h fs ≡ Ok (k, t.present) → Loads t.present → MayNotStep (redone h fs) f → RefusesRedo s f
-redo-refuses-done s t h k fs (Splice (splice.NoFile name)) done loads why = done_or (redone h fs) k t.present (splice.NoFile name) done why (λ q. cc)
-redo-refuses-done s t h k fs (Splice (splice.OutOfRange name at)) done loads why = done_or (redone h fs) k t.present (splice.OutOfRange name at) done why (λ q. cc)
-redo-refuses-done s t h k fs (Splice (splice.Stale name at)) done loads why = done_or (redone h fs) k t.present (splice.Stale name at) done why (λ q. cc)
-redo-refuses-done s t h k fs (Splice splice.NothingToUndo) done loads why = done_or (redone h fs) k t.present splice.NothingToUndo done why (λ q. cc)
-redo-refuses-done s t h k fs (Splice splice.NothingToRedo) done loads why = absurd (done_or (redone h fs) k t.present splice.NothingToRedo done why (λ q. cc))
-redo-refuses-done s t h k fs (Splice splice.OutOfMemory) done loads why = tt
-redo-refuses-done s t h k fs (Load load.TooManyFiles) done loads why = loads_or (redone h fs) k t.present load.TooManyFiles done loads why.0 why.1 why.2 why.3 (λ q. cc)
-redo-refuses-done s t h k fs (Load (load.BadFileName i)) done loads why = loads_or (redone h fs) k t.present (load.BadFileName i) done loads why.0 why.1 why.2 why.3 (λ q. cc)
-redo-refuses-done s t h k fs (Load (load.Parse i fault)) done loads why = loads_or (redone h fs) k t.present (load.Parse i fault) done loads why.0 why.1 why.2 why.3 (λ q. cc)
-redo-refuses-done s t h k fs (Load load.OutOfMemory) done loads why = tt
-
--- nothing to undo: that alone is the refusal
 none_undo : (past : List KeptSet) (present : List File) (future : List KeptSet) → back past present future ≡ None → past ≡ []
 none_undo [] present future is = refl
 none_undo (p ∷ past) present future is = absurd (let bad : ⊥ = cc in bad)
@@ -160,50 +143,28 @@ none_redo : (past : List KeptSet) (future : List KeptSet) (present : List File) 
 none_redo past [] present is = refl
 none_redo past (n ∷ future) present is = absurd (let bad : ⊥ = cc in bad)
 
-other_fault : (r : Stepped) (e f : SpliceFault) → r ≡ Err e → (f ≢ splice.OutOfMemory → r ≡ Err f) → f ≢ splice.OutOfMemory → f ≢ e → ⊥
-other_fault r e f is refused told apart =
-    let same : ◌≡◌ {A = Stepped} (Err e) (Err f) = sym is ∙ refused told in
-    apart (let back : f ≡ e = cc in back)
-
 not_done : (r : Stepped) (e : SpliceFault) (h : History) (files : List File) → r ≡ Err e → r ≡ Ok (h, files) → ⊥
 not_done r e h files is done =
     let same : ◌≡◌ {A = Stepped} (Err e) (Ok (h, files)) = sym is ∙ done in
     let bad : ⊥ = cc in bad
 
-undo-refuses-none : (s : Stack) (h : History) (fs : List File) (f : UndoFault) → undone h fs ≡ Err splice.NothingToUndo → s.past ≡ [] → MayNotStep (undone h fs) f → RefusesUndo s f
-undo-refuses-none s h fs (Splice (splice.NoFile name)) none empty why = other_fault (undone h fs) splice.NothingToUndo (splice.NoFile name) none why (λ q. cc) (λ q. cc)
-undo-refuses-none s h fs (Splice (splice.OutOfRange name at)) none empty why = other_fault (undone h fs) splice.NothingToUndo (splice.OutOfRange name at) none why (λ q. cc) (λ q. cc)
-undo-refuses-none s h fs (Splice (splice.Stale name at)) none empty why = other_fault (undone h fs) splice.NothingToUndo (splice.Stale name at) none why (λ q. cc) (λ q. cc)
-undo-refuses-none s h fs (Splice splice.NothingToUndo) none empty why = empty
-undo-refuses-none s h fs (Splice splice.NothingToRedo) none empty why = other_fault (undone h fs) splice.NothingToUndo splice.NothingToRedo none why (λ q. cc) (λ q. cc)
-undo-refuses-none s h fs (Splice splice.OutOfMemory) none empty why = tt
-undo-refuses-none s h fs (Load load.TooManyFiles) none empty why = not_done (undone h fs) splice.NothingToUndo why.0 why.1 none why.2
-undo-refuses-none s h fs (Load (load.BadFileName i)) none empty why = not_done (undone h fs) splice.NothingToUndo why.0 why.1 none why.2
-undo-refuses-none s h fs (Load (load.Parse i fault)) none empty why = not_done (undone h fs) splice.NothingToUndo why.0 why.1 none why.2
-undo-refuses-none s h fs (Load load.OutOfMemory) none empty why = tt
-
-redo-refuses-none : (s : Stack) (h : History) (fs : List File) (f : UndoFault) → redone h fs ≡ Err splice.NothingToRedo → s.future ≡ [] → MayNotStep (redone h fs) f → RefusesRedo s f
-redo-refuses-none s h fs (Splice (splice.NoFile name)) none empty why = other_fault (redone h fs) splice.NothingToRedo (splice.NoFile name) none why (λ q. cc) (λ q. cc)
-redo-refuses-none s h fs (Splice (splice.OutOfRange name at)) none empty why = other_fault (redone h fs) splice.NothingToRedo (splice.OutOfRange name at) none why (λ q. cc) (λ q. cc)
-redo-refuses-none s h fs (Splice (splice.Stale name at)) none empty why = other_fault (redone h fs) splice.NothingToRedo (splice.Stale name at) none why (λ q. cc) (λ q. cc)
-redo-refuses-none s h fs (Splice splice.NothingToUndo) none empty why = other_fault (redone h fs) splice.NothingToRedo splice.NothingToUndo none why (λ q. cc) (λ q. cc)
-redo-refuses-none s h fs (Splice splice.NothingToRedo) none empty why = empty
-redo-refuses-none s h fs (Splice splice.OutOfMemory) none empty why = tt
-redo-refuses-none s h fs (Load load.TooManyFiles) none empty why = not_done (redone h fs) splice.NothingToRedo why.0 why.1 none why.2
-redo-refuses-none s h fs (Load (load.BadFileName i)) none empty why = not_done (redone h fs) splice.NothingToRedo why.0 why.1 none why.2
-redo-refuses-none s h fs (Load (load.Parse i fault)) none empty why = not_done (redone h fs) splice.NothingToRedo why.0 why.1 none why.2
-redo-refuses-none s h fs (Load load.OutOfMemory) none empty why = tt
+-- where nothing is there for a step, that alone is its refusal
+refuses-none : (nothing : SpliceFault) (is_none : Type 0) (r : Stepped) (f : UndoFault) → r ≡ Err nothing → is_none → MayNotStep r f → RefusesStep nothing is_none f
+refuses-none nothing is_none r (Splice e) none there why = λ told.
+    let same : ◌≡◌ {A = Stepped} (Err nothing) (Err e) = sym none ∙ why told in
+    let is : e ≡ nothing = cc in (is, there)
+refuses-none nothing is_none r (Load e) none there why = absurd (not_done r nothing why.0 why.1 none why.2)
 
 undo-refuses-by : (o : Option Stack) (s : Stack) (h : History) (fs : List File) (f : UndoFault) → taken_back s ≡ o → Stands h fs s → MayNotStep (undone h fs) f → RefusesUndo s f
-undo-refuses-by None s h fs f is st why = undo-refuses-none s h fs f (nothing-is-undone h fs s st is) (none_undo s.past s.present s.future is) why
-undo-refuses-by (Some t) s h fs f is st why = let n = undo-is-a-step h fs s t st is in undo-refuses-done s t h n.0 fs f n.1 n.2.loads why
+undo-refuses-by None s h fs f is st why = refuses-none splice.NothingToUndo (s.past ≡ []) (undone h fs) f (nothing-is-undone h fs s st is) (none_undo s.past s.present s.future is) why
+undo-refuses-by (Some t) s h fs f is st why = let n = undo-is-a-step h fs s t st is in refuses-done splice.NothingToUndo (s.past ≡ []) (undone h fs) n.0 t.present f n.1 n.2.loads why
 
 pub undo-refuses : (s : Stack) (h : History) (fs : List File) (f : UndoFault) → Stands h fs s → MayNotStep (undone h fs) f → RefusesUndo s f
 undo-refuses s h fs f st why = undo-refuses-by (taken_back s) s h fs f refl st why
 
 redo-refuses-by : (o : Option Stack) (s : Stack) (h : History) (fs : List File) (f : UndoFault) → done_again s ≡ o → Stands h fs s → MayNotStep (redone h fs) f → RefusesRedo s f
-redo-refuses-by None s h fs f is st why = redo-refuses-none s h fs f (nothing-is-redone h fs s st is) (none_redo s.past s.future s.present is) why
-redo-refuses-by (Some t) s h fs f is st why = let n = redo-is-a-step h fs s t st is in redo-refuses-done s t h n.0 fs f n.1 n.2.loads why
+redo-refuses-by None s h fs f is st why = refuses-none splice.NothingToRedo (s.future ≡ []) (redone h fs) f (nothing-is-redone h fs s st is) (none_redo s.past s.future s.present is) why
+redo-refuses-by (Some t) s h fs f is st why = let n = redo-is-a-step h fs s t st is in refuses-done splice.NothingToRedo (s.future ≡ []) (redone h fs) n.0 t.present f n.1 n.2.loads why
 
 pub redo-refuses : (s : Stack) (h : History) (fs : List File) (f : UndoFault) → Stands h fs s → MayNotStep (redone h fs) f → RefusesRedo s f
 redo-refuses s h fs f st why = redo-refuses-by (done_again s) s h fs f refl st why

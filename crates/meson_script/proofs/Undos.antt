@@ -136,7 +136,7 @@ no-memory-back count old fault is = record {
 }
 
 pub no-memory-stops : (count : ℕ) (s : Stack) (fault : UndoFault) → fault ≡ Splice OutOfMemory → RefusesUndos count s fault
-no-memory-stops count s fault is = (0, s, (λ other. absurd (other is)), refl, subst (RefusesUndo s) (sym is) tt)
+no-memory-stops count s fault is = (0, s, (λ other. absurd (other is)), refl, subst (RefusesUndo s) (sym is) (λ other. absurd (other refl)))
 
 -- ---- of a history that fits
 

@@ -1,6 +1,7 @@
 -- The undo stack: whole file sets, and which history and files stand for one.
-use Rattle.std.specs.Prelude.{◌≡◌, ◌≢◌, ◌<◌, ◌≤◌, ⊤, ℕ, zero, suc, All, List, [], ◌∷◌, length, reverse, Option, Some, None, option_map, option_and_then, Result, Ok, Err}
+use Rattle.std.specs.Prelude.{◌≡◌, ◌≢◌, ◌<◌, ◌≤◌, ℕ, zero, suc, All, List, [], ◌∷◌, length, reverse, Option, Some, None, option_map, option_and_then, Result, Ok, Err}
 use Rattle.meson_splice.specs.declared.change.Change.{Change}
+use Rattle.meson_splice.specs.declared.fault.SpliceFault.{SpliceFault}
 use Rattle.meson_splice.specs.declared.fault.SpliceFault.TheVariants as splice
 use Rattle.meson_splice.specs.declared.file_set.File.{File}
 use Rattle.meson_splice.specs.declared.history.History.{History}
@@ -88,32 +89,17 @@ pub record Stands (h : History) (files : List File) (s : Stack) : Type 0 where
 
 -- ---- what is refused where they stand for a stack
 
--- nothing is there to undo, or memory is refused
+-- nothing is there for the step, which is this fault, or memory is refused
+abbrev pub RefusesStep : SpliceFault → Type 0 → UndoFault → Type 0
+RefusesStep nothing is_none (Splice e) = e ≢ splice.OutOfMemory → (e ≡ nothing) × is_none
+RefusesStep nothing is_none (Load e) = e ≡ load.OutOfMemory
+
 abbrev pub RefusesUndo : Stack → UndoFault → Type 0
-RefusesUndo s (Splice (splice.NoFile name)) = ⊥
-RefusesUndo s (Splice (splice.OutOfRange name at)) = ⊥
-RefusesUndo s (Splice (splice.Stale name at)) = ⊥
-RefusesUndo s (Splice splice.NothingToUndo) = s.past ≡ []
-RefusesUndo s (Splice splice.NothingToRedo) = ⊥
-RefusesUndo s (Splice splice.OutOfMemory) = ⊤
-RefusesUndo s (Load load.TooManyFiles) = ⊥
-RefusesUndo s (Load (load.BadFileName i)) = ⊥
-RefusesUndo s (Load (load.Parse i fault)) = ⊥
-RefusesUndo s (Load load.OutOfMemory) = ⊤
+RefusesUndo s = RefusesStep splice.NothingToUndo (s.past ≡ [])
 
 -- the same of one among so many undos, on what those before it left
 abbrev pub RefusesUndos : ℕ → Stack → UndoFault → Type 0
 RefusesUndos count s fault = (done : ℕ) × (t : Stack) × (fault ≢ Splice splice.OutOfMemory → done < count) × (undos done s ≡ Some t) × RefusesUndo t fault
 
--- nothing is there to redo, or memory is refused
 abbrev pub RefusesRedo : Stack → UndoFault → Type 0
-RefusesRedo s (Splice (splice.NoFile name)) = ⊥
-RefusesRedo s (Splice (splice.OutOfRange name at)) = ⊥
-RefusesRedo s (Splice (splice.Stale name at)) = ⊥
-RefusesRedo s (Splice splice.NothingToUndo) = ⊥
-RefusesRedo s (Splice splice.NothingToRedo) = s.future ≡ []
-RefusesRedo s (Splice splice.OutOfMemory) = ⊤
-RefusesRedo s (Load load.TooManyFiles) = ⊥
-RefusesRedo s (Load (load.BadFileName i)) = ⊥
-RefusesRedo s (Load (load.Parse i fault)) = ⊥
-RefusesRedo s (Load load.OutOfMemory) = ⊤
+RefusesRedo s = RefusesStep splice.NothingToRedo (s.future ≡ [])

@@ -6,8 +6,19 @@ ghost use Rattle.meson_splice.specs.Patch.{inverses_of, patched_all};
 
 use crate::fault::UndoFault;
 use meson_plan::Project;
-use meson_splice::{Change, apply_all, revert};
+use meson_splice::{Change, FileSet, apply_all, revert};
 use std::alloc::Global;
+
+/// The project of files that splices gave.
+fn loaded(alloc: Global, files: FileSet) -> Result<Project, UndoFault>
+    ensures done { IfOk result (λ p. p.files ≡ files) }
+    ensures refused { IfErr result (MayNotChange (Ok files)) }
+{
+    match Project::load(alloc, files) {
+        Ok(project) => Ok(project),
+        Err(unloaded) => Err(UndoFault::Load(unloaded.fault)),
+    }
+}
 
 /// The project before a change.
 pub(crate) fn taken_back(
@@ -18,17 +29,10 @@ pub(crate) fn taken_back(
     ensures done { IfOk result (λ p. patched_all project.now.files (inverses_of change.now.splices) ≡ Ok p.files) }
     ensures refused { IfErr result (λ f. MayNotChange (patched_all project.now.files (inverses_of change.now.splices)) f) }
 {
-    let mut files = match project.files().copy(alloc) {
-        Ok(files) => files,
-        Err(fault) => return Err(UndoFault::Splice(fault)),
-    };
+    let mut files = project.files().clone()?;
     match revert(alloc, &mut files, change) {
-        Ok(()) => {}
-        Err(fault) => return Err(UndoFault::Splice(fault)),
-    }
-    match Project::load(alloc, files) {
-        Ok(project) => Ok(project),
-        Err(unloaded) => Err(UndoFault::Load(unloaded.fault)),
+        Ok(()) => loaded(alloc, files),
+        Err(fault) => Err(UndoFault::Splice(fault)),
     }
 }
 
@@ -41,16 +45,9 @@ pub(crate) fn done_again(
     ensures done { IfOk result (λ p. patched_all project.now.files change.now.splices ≡ Ok p.files) }
     ensures refused { IfErr result (λ f. MayNotChange (patched_all project.now.files change.now.splices) f) }
 {
-    let mut files = match project.files().copy(alloc) {
-        Ok(files) => files,
-        Err(fault) => return Err(UndoFault::Splice(fault)),
-    };
+    let mut files = project.files().clone()?;
     match apply_all(alloc, &mut files, change) {
-        Ok(()) => {}
-        Err(fault) => return Err(UndoFault::Splice(fault)),
-    }
-    match Project::load(alloc, files) {
-        Ok(project) => Ok(project),
-        Err(unloaded) => Err(UndoFault::Load(unloaded.fault)),
+        Ok(()) => loaded(alloc, files),
+        Err(fault) => Err(UndoFault::Splice(fault)),
     }
 }
