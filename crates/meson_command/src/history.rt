@@ -8,8 +8,9 @@ ghost use Rattle.meson_command.specs.declared.fault.UsageFault.TheVariants.{OutO
 use crate::asked::Action;
 use crate::count::count_of;
 use crate::fault::UsageFault;
-use crate::words::{is_set, owned};
+use crate::words::is_set;
 use clap::ArgMatches;
+use meson_json::owned;
 use std::alloc::{AllocError, Global};
 
 /// The number that a word says, where one is given.

@@ -8,10 +8,11 @@ ghost use Rattle.meson_command.specs.declared.fault.UsageFault.TheVariants.{OutO
 use crate::asked::Action;
 use crate::fault::UsageFault;
 use crate::pairs::{names, pairs_at};
-use crate::words::{owned, run, word_or};
+use crate::words::{run, word_or};
 use clap::ArgMatches;
 use meson_calls::Role;
 use meson_json::names::{KwargsOperation, find_kwargs_operation, find_role};
+use meson_json::owned;
 use meson_splice::{Many, Text};
 use meson_steps::command::{Command, Setting};
 use std::alloc::{AllocError, Global};

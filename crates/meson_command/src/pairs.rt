@@ -8,8 +8,8 @@ ghost use Rattle.meson_command.specs.Pairs.{in_pairs, pair_names, pairs_of, repe
 ghost use Rattle.meson_command.specs.declared.fault.UsageFault.TheVariants.{OutOfMemory};
 
 use crate::fault::UsageFault;
-use crate::words::owned;
 use clap::ArgMatches;
+use meson_json::owned;
 use meson_splice::{Many, Text};
 use std::alloc::{AllocError, Global};
 

@@ -5,8 +5,9 @@ ghost use Rattle.clap.specs.Words.{found_of, rows_of};
 ghost use Rattle.meson_command.specs.Actions.{is_json, script_action};
 
 use crate::asked::Action;
-use crate::words::{owned, word_or};
+use crate::words::word_or;
 use clap::ArgMatches;
+use meson_json::owned;
 use std::alloc::{AllocError, Global};
 
 /// Whether a word is JSON text: what follows its blanks begins as an array or an object.

@@ -8,8 +8,9 @@ ghost use Rattle.meson_command.specs.declared.fault.UsageFault.TheVariants.{OutO
 use crate::asked::Action;
 use crate::fault::UsageFault;
 use crate::operations::find_target_operation;
-use crate::words::{owned, run, word_or, words_at};
+use crate::words::{run, word_or, words_at};
 use clap::ArgMatches;
+use meson_json::owned;
 use meson_json::target::{TargetMembers, TargetOperation, target_command};
 use std::alloc::{AllocError, Global};
 

@@ -8,7 +8,7 @@ ghost use Rattle.meson_command.specs.declared.fault.UsageFault.TheVariants.{OutO
 use crate::asked::Action;
 use crate::fault::UsageFault;
 use clap::ArgMatches;
-use meson_json::Script;
+use meson_json::{Script, owned};
 use meson_splice::{Many, Text};
 use meson_steps::command::Command;
 use std::alloc::{AllocError, Global};
@@ -25,12 +25,6 @@ pub(crate) fn is_set(matches: &ArgMatches<'_>, name: &str) -> bool
     ensures { result ≡ has_flag name.now (rows_of (found_of matches.now)) }
 {
     word_or(matches, name, "") == "true"
-}
-
-pub(crate) fn owned(alloc: Global, word: &str) -> Result<Text, AllocError>
-    ensures { IfOk result (λ t. t ≡ word.now) }
-{
-    Ok(Text::of(String::from_str(alloc, word)?))
 }
 
 fn all_owned(alloc: Global, words: &[&str]) -> Result<Many<Text>, AllocError>

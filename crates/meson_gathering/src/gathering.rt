@@ -19,18 +19,10 @@ use meson_plan::Project;
 use meson_splice::Text;
 use meson_store::{Store, StoreError, StoreFault, path_in};
 use meson_syntax::{ParseFault, Parsed, parse};
-use std::alloc::{AllocError, Global};
+use std::alloc::Global;
 
 /// The root build file's name.
 const ROOT: &str = "meson.build";
-
-/// A copy of a file's name.
-fn text_of(alloc: Global, name: &str) -> Result<Text, AllocError>
-    ensures { IfOk result (λ text. text ≡ name.now) }
-{
-    let name = String::from_str(alloc, name)?;
-    Ok(Text::of(name))
-}
 
 /// The bytes of a file NAME of the folder's project, or none where the store has no such file.
 ///
@@ -51,7 +43,7 @@ pub fn read_file<S: Store>(
     ensures once { OnOk result (S.reads store.new ≡ one_more (S.reads store.old)) }
     ensures at_most_once { OnceAtMost (S.reads store.old) (S.reads store.new) }
 {
-    let told = text_of(alloc, name)?;
+    let told = Text::of(String::from_str(alloc, name)?);
     let path = path_in(alloc, folder, name)?;
     match store.read(alloc, path.as_str()) {
         Ok(bytes) => Ok(bytes),
@@ -151,8 +143,11 @@ fn unparsed(alloc: Global, name: &str, fault: ParseFault) -> GatherFault
 {
     match fault {
         ParseFault::OutOfMemory => GatherFault::Store(StoreFault::OutOfMemory),
-        fault => match text_of(alloc, name) {
-            Ok(name) => GatherFault::Parse { name, fault },
+        fault => match String::from_str(alloc, name) {
+            Ok(name) => GatherFault::Parse {
+                name: Text::of(name),
+                fault,
+            },
             Err(refused) => GatherFault::from(refused),
         },
     }
@@ -223,7 +218,7 @@ fn root_set<S: Store>(
     ensures once { OnOk result (S.reads store.new ≡ one_more (S.reads store.old)) }
     ensures at_most_once { OnceAtMost (S.reads store.old) (S.reads store.new) }
 {
-    let name = text_of(alloc, ROOT)?;
+    let name = Text::of(String::from_str(alloc, ROOT)?);
     let bytes = match read_file(alloc, store, folder, ROOT) {
         Ok(Some(bytes)) => bytes,
         Ok(None) => return Err(GatherFault::Store(StoreFault::NoFile(name))),

@@ -14,5 +14,6 @@ mod version;
 
 pub use fault::ScriptFault;
 pub use log::{empty_log, history_text, read_log};
+pub use members::owned;
 pub use script::Script;
 pub use title::is_title;

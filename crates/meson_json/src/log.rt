@@ -12,10 +12,10 @@ ghost use Rattle.meson_json.specs.declared.fault.ScriptFault.TheVariants.{BadLog
 ghost use Rattle.meson_json.specs.declared.version.Version.TheVariants.{Bare};
 
 use crate::fault::ScriptFault;
-use crate::members::text_at;
+use crate::members::{owned, text_at};
 use crate::title::is_title;
 use crate::version::{Version, version_of};
-use meson_splice::{Bytes, Change, History, Many, Splice, Text};
+use meson_splice::{Bytes, Change, History, Many, Splice};
 use serde_json::{Value, json};
 use std::alloc::{AllocError, Global};
 use std::str::from_utf8;
@@ -186,7 +186,7 @@ fn splice_from(alloc: Global, value: &Value) -> Result<Splice, ScriptFault>
         return Err(ScriptFault::BadLog);
     };
     Ok(Splice {
-        file: Text::of(String::from_str(alloc, file)?),
+        file: owned(alloc, file)?,
         at: at as usize,
         was: bytes_of(alloc, was)?,
         now: bytes_of(alloc, now)?,
@@ -241,7 +241,7 @@ fn titled_change(alloc: Global, value: &Value) -> Result<Change, ScriptFault>
     }
     Ok(Change {
         splices,
-        title: Text::of(String::from_str(alloc, title)?),
+        title: owned(alloc, title)?,
     })
 }
 

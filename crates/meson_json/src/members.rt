@@ -21,7 +21,8 @@ pub(crate) fn text_at<'a>(value: &'a Value, name: &str) -> Option<&'a str>
     value.get(name).and_then(Value::as_str)
 }
 
-fn owned(alloc: Global, text: &str) -> Result<Text, AllocError>
+/// A copy of a text.
+pub fn owned(alloc: Global, text: &str) -> Result<Text, AllocError>
     ensures { IfOk result (λ t. t ≡ text.now) }
 {
     Ok(Text::of(String::from_str(alloc, text)?))

@@ -7,7 +7,7 @@ use Rattle.meson_gathering.proofs.gathering.root_set.Goals as goal
 pub returns-in-Ok-None-clause-stopped : goal.returns-in-Ok-None-clause-stopped
 returns-in-Ok-None-clause-stopped g c =
     let read = rw c.in-Ok-None.field-0-is at c.in-Ok-None.ensures.read in
-    (c.in_ok-name.ensures, λ content is. no_root (sym (read content is)))
+    (c.of-name.ensures ∙ c.in_ok-from_str.ensures.ok, λ content is. no_root (sym (read content is)))
 
 pub returns-in-Err-clause-stopped : goal.returns-in-Err-clause-stopped
 returns-in-Err-clause-stopped g c =
