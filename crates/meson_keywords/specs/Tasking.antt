@@ -55,9 +55,6 @@ asked_tasks r (to_remove pairs) = each_made (remove_entry r) pairs
 asked_tasks r (to_set_options pairs) = each_made set_option_entry pairs
 asked_tasks r (to_delete_options names) = each_made delete_option_entry names
 
-abbrev pub words_tasks : Role → AskedWords → Result (List Task) Refusal
-words_tasks r w = asked_tasks r (asked w)
-
 -- ---- what may be written
 
 -- a text may be written as an element

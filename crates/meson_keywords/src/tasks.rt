@@ -6,7 +6,7 @@ ghost use Rattle.meson_calls.specs.Refusals.{RefusedAs};
 ghost use Rattle.meson_splice.specs.Patch.{then_ok};
 ghost use Rattle.meson_keywords.specs.ValueKinds as keys;
 ghost use Rattle.meson_keywords.specs.Tasks.{add_entry, before_equals, checked_option, delete_entry, delete_option_entry, each_made, remove_entry, set_entry, set_option_entry};
-ghost use Rattle.meson_keywords.specs.Tasking.{AreTasks, AreTasksBehind, IsKey, words_tasks};
+ghost use Rattle.meson_keywords.specs.Tasking.{AreTasks, AreTasksBehind, IsKey, asked, asked_tasks};
 
 use crate::request::AskedWords;
 use crate::value_kinds::{ElementKind, kind_of, list_kind};
@@ -229,8 +229,8 @@ pub(crate) fn tasks_of<'c>(
     role: Role,
     words: AskedWords<'c>,
 ) -> Result<Vec<Task<'c>>, Refusal>
-    ensures made { IfOk result (λ tasks. AreTasks (words_tasks role words.entry) tasks.items) }
-    ensures refused { RefusedAs result (words_tasks role words.entry) }
+    ensures made { IfOk result (λ tasks. AreTasks (asked_tasks role (asked words.entry)) tasks.items) }
+    ensures refused { RefusedAs result (asked_tasks role (asked words.entry)) }
 {
     match words {
         AskedWords::Set(pairs) => set_tasks(alloc, role, pairs),

@@ -7,7 +7,7 @@ use Rattle.meson_calls.specs.declared.load_fault.LoadFault.TheVariants as load
 use Rattle.meson_calls.specs.Messages.{load_fault_text}
 use Rattle.meson_splice.specs.Messages.{splice_fault_text}
 use Rattle.meson_json.specs.Messages.{script_fault_text}
-use Rattle.meson_script.specs.Messages.{run_fault_text}
+use Rattle.meson_script.specs.Messages.{refused_text}
 use Rattle.meson_command.specs.declared.fault.UsageFault.{UsageFault}
 use Rattle.meson_command.specs.declared.fault.UsageFault.TheVariants as usage
 use Rattle.meson_command.specs.Messages.{usage_fault_text}
@@ -35,7 +35,7 @@ stop_text (Script fault) = script_fault_text fault
 stop_text (Parse name fault) = file_text name fault
 stop_text TooManyFiles = load_fault_text load.TooManyFiles
 stop_text (BadFileName place) = load_fault_text (load.BadFileName place)
-stop_text (Refused fault) = run_fault_text fault
+stop_text (Refused fault) = refused_text fault.index fault.refusal
 stop_text (Splice fault) = splice_fault_text fault
 stop_text (OtherFiles name) = codes "P6 files are not as " ++ (name ++ codes " has them")
 stop_text (Store fault) = store_fault_text fault

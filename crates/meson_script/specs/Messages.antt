@@ -3,12 +3,8 @@ use Rattle.std.specs.Prelude.{ℕ, List, ◌++◌, codes, decimal}
 use Rattle.meson_calls.specs.Messages.{refusal_text}
 use Rattle.meson_calls.specs.declared.refusal.Refusal.{Refusal}
 use Rattle.meson_calls.specs.declared.refusal.Refusal.TheVariants.{OutOfMemory}
-use Rattle.meson_script.specs.declared.fault.RunFault.{RunFault}
 
 -- the command that is refused, by its number, and why; of want of memory no command
 abbrev pub refused_text : ℕ → Refusal → List ℕ
 refused_text index OutOfMemory = refusal_text OutOfMemory
 refused_text index refusal = codes "command " ++ (decimal index ++ (codes ": " ++ refusal_text refusal))
-
-abbrev pub run_fault_text : RunFault → List ℕ
-run_fault_text fault = refused_text fault.index fault.refusal

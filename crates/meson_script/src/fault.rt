@@ -25,9 +25,9 @@ pub struct RunFault {
 
 impl fmt::Display for RunFault {
     ghost use Rattle.std.specs.Prelude.{Some};
-    ghost use Rattle.meson_script.specs.Messages.{run_fault_text};
+    ghost use Rattle.meson_script.specs.Messages.{refused_text};
 
-    ghost output = { λ fault. Some (run_fault_text fault) };
+    ghost output = { λ fault. Some (refused_text fault.index fault.refusal) };
 
     fn fmt<W: fmt::Write>(&self, f: &mut fmt::Formatter<W>) -> fmt::Result {
         let RunFault { index, refusal } = self;
