@@ -1,6 +1,8 @@
 //! A project with the history of what was done to it.
 
 ghost use Rattle.std.specs.Prelude.{◌≡◌, ◌≢◌, ◌∷◌, [], IfErr, IfOk, OnErr, OnOk, Some, length, true};
+ghost use Rattle.serde_json.specs.Data.{array, no_items};
+ghost use Rattle.serde_json.specs.View.{view};
 ghost use Rattle.meson_calls.specs.Loading.{IsProject, MayNotLoad};
 ghost use Rattle.meson_calls.specs.declared.refusal.Refusal.TheVariants.{OutOfMemory};
 ghost use Rattle.meson_json.specs.Log.{is_text_history};
@@ -50,6 +52,21 @@ fn titled(change: Change, title: Text) -> Change
 {
     let Change { splices, title: _ } = change;
     Change { splices, title }
+}
+
+/// What is reported of steps of the history: they lex nothing again, and list nothing.
+fn stepped(alloc: Global, files: usize, splices: usize, title: Text) -> Report
+    ensures counts { (result.files ≡ files) × (result.splices ≡ splices) × (result.relexed ≡ 0) }
+    ensures title { result.title ≡ title }
+    ensures info { view result.info ≡ array no_items }
+{
+    Report {
+        files,
+        splices,
+        relexed: 0,
+        info: Value::Array(Vec::new(alloc)),
+        title,
+    }
 }
 
 /// How many splices were done, and what the change is for.
@@ -265,13 +282,7 @@ impl Session {
         self.history.past.move_last(&mut self.history.future)?;
         let files = count_differing(self.project.files(), project.files());
         self.project = project;
-        Ok(Report {
-            files,
-            splices,
-            relexed: 0,
-            info: Value::Array(Vec::new(alloc)),
-            title,
-        })
+        Ok(stepped(alloc, files, splices, title))
     }
 
     /// Takes the newest changes back, so many, one after another as that many undos do. The report counts the splices of all of them,
@@ -299,13 +310,8 @@ impl Session {
             title = last;
         }
         self.project.reads();
-        Ok(Report {
-            files: count_differing(&before, self.project.files()),
-            splices,
-            relexed: 0,
-            info: Value::Array(Vec::new(alloc)),
-            title,
-        })
+        let files = count_differing(&before, self.project.files());
+        Ok(stepped(alloc, files, splices, title))
     }
 
     /// Does the change that was undone last again.
@@ -333,12 +339,6 @@ impl Session {
         self.history.future.move_last(&mut self.history.past)?;
         let files = count_differing(self.project.files(), project.files());
         self.project = project;
-        Ok(Report {
-            files,
-            splices,
-            relexed: 0,
-            info: Value::Array(Vec::new(alloc)),
-            title,
-        })
+        Ok(stepped(alloc, files, splices, title))
     }
 }

@@ -1,8 +1,5 @@
-use Rattle.std.proofs.Common.{◌≡◌, List, [], ◌∷◌, ◌++◌, refl, sym, ap, ◌∙◌, subst, rules}
+use Rattle.std.proofs.Common.{◌≡◌, List, [], ◌∷◌, ◌++◌, sym, ap, ◌∙◌, subst, rules}
 use Rattle.std.proofs.lemmas.Result.{err_from_is_err_and}
-use Rattle.serde_json.specs.Data.{array}
-use Rattle.serde_json.specs.View.{items_view}
-use Rattle.serde_json.proofs.Views.{view-Array}
 use Rattle.meson_splice.specs.Patch.{inverses_of, patched_all}
 use Rattle.meson_splice.specs.Past.{undone}
 use Rattle.meson_splice.specs.declared.change.Change.{Change}
@@ -66,6 +63,6 @@ returns-clause-done c =
       files = search rules;
       splices = search rules;
       title = search rules;
-      relexed = refl;
-      info = view-Array c.new.result ∙ ap (λ vs. array (items_view vs)) c.new.ensures.items;
+      relexed = c.stepped.ensures.counts.2;
+      info = c.stepped.ensures.info;
     }

@@ -1,8 +1,5 @@
 use Rattle.std.proofs.Common.{◌≡◌, ◌+◌, refl, sym, ap, ◌∙◌, subst, arith, rules}
 use Rattle.std.proofs.lemmas.Result.{err_from_is_err_and}
-use Rattle.serde_json.specs.Data.{array}
-use Rattle.serde_json.specs.View.{items_view}
-use Rattle.serde_json.proofs.Views.{view-Array}
 use Rattle.meson_splice.specs.declared.fault.SpliceFault.TheVariants.{OutOfMemory}
 use Rattle.meson_steps.specs.ResultLimits.{saturated}
 use Rattle.meson_script.specs.Undoing.{StopsBack}
@@ -45,8 +42,8 @@ returns-in_err-undo-clause-fits c =
     let error = err_from_is_err_and c.from_residual-in_err-undo.result c.from_residual-in_err-undo.ensures.1 in
     rw (error.1, error.2) (stack-stops c.args.count l.counter c.args.self.now l.self l.splices l.title c.in_err-undo.field-0.0 l.invariant c.loop-test.true c.in_err-undo.ensures.fits)
 
-pub count_differing-requires : goal.count_differing-requires
-count_differing-requires c =
+pub count_differing-files-requires : goal.count_differing-files-requires
+count_differing-files-requires c =
     let l = c.loop in
     ap names (c.in_ok-before.ensures.cases ∙ c.files.ensures)
     ∙ times-names l.counter c.args.self.now.history l.self.history c.args.self.now.project.files l.self.project.files l.invariant.are_steps
@@ -64,10 +61,10 @@ returns-clause-done c =
       many = b.as_many;
       are_steps = b.are_steps;
       files = search rules;
-      splices = b.counted;
-      title = b.titled;
-      relexed = refl;
-      info = view-Array c.new-2.result ∙ ap (λ vs. array (items_view vs)) c.new-2.ensures.items;
+      splices = c.stepped.ensures.counts.1 ∙ b.counted;
+      title = c.stepped.ensures.title ∙ b.titled;
+      relexed = c.stepped.ensures.counts.2;
+      info = c.stepped.ensures.info;
     }
 
 pub returns-clause-step : goal.returns-clause-step
