@@ -1,5 +1,6 @@
 """The crates that crates.txt lists, and the prover's words for one of them."""
 
+import json
 import os
 import shutil
 
@@ -8,6 +9,7 @@ RT = shutil.which("rt") or "/opt/rattle/bin/rt"
 KIT = os.path.dirname(os.path.dirname(os.path.realpath(RT)))
 RATTLE = os.path.join(KIT, "bin", "rattle")
 PARTS = ("src", "specs", "proofs")
+SOURCES = (".rt", ".antt")
 
 
 def folder_of(crate):
@@ -32,11 +34,42 @@ def age_of(path):
     return os.stat(path).st_mtime if os.path.exists(path) else 0
 
 
+def walk(crate):
+    """The crate's folders of sources and what stands in them, as os.walk has it."""
+    return [it for part in PARTS for it in os.walk(os.path.join(folder_of(crate), part))]
+
+
+def sources_of(crate):
+    """The crate's sources, each with the time at which it was last saved."""
+    found = [os.path.join(at, name) for at, _, names in walk(crate) for name in names if name.endswith(SOURCES) and name[0] != "."]
+    return {os.path.relpath(it, folder_of(crate)): age_of(it) for it in found}
+
+
+def note_of(crate):
+    return os.path.join(folder_of(crate), "out", "sources")
+
+
+def write_note(crate, sources, at):
+    """Notes of which sources the crate was made, with the time of what was made."""
+    with open(note_of(crate), "w", encoding="utf-8") as note:
+        json.dump(sources, note)
+    os.utime(note_of(crate), (at, at))
+
+
+def noted(crate):
+    """The sources of which the crate was made. None where rt made it, which notes nothing."""
+    if not os.path.exists(note_of(crate)) or age_of(note_of(crate)) != age_of(made_of(crate)):
+        return None
+    with open(note_of(crate), encoding="utf-8") as note:
+        return json.load(note)
+
+
 def newest_source(crate):
-    """When a source of the crate was last saved or removed."""
-    places = [os.path.join(folder_of(crate), part) for part in PARTS]
-    found = [it for place in places for at, _, names in os.walk(place) for it in [at, *(os.path.join(at, name) for name in names)]]
-    return max(map(age_of, found), default=0)
+    """When a source of the crate was last saved, renamed or removed. A folder tells of the latter two, and of any other file in
+    it: so folders count only where the sources are not those that are noted."""
+    sources = sources_of(crate)
+    folders = [age_of(at) for at, _, _ in walk(crate)] if sources != noted(crate) else []
+    return max([*sources.values(), *folders], default=0)
 
 
 class Crates:
