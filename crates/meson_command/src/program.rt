@@ -2,7 +2,6 @@
 
 ghost use Rattle.std.specs.Prelude.{◌≡◌, IfOk, false};
 ghost use Rattle.clap.specs.Words.{App, app_of, new_app, rule_of, with_rule, with_subcommand};
-ghost use Rattle.clap.specs.declared.builder.command.Command.TheViews.{out-Command};
 ghost use Rattle.meson_command.specs.Program.{IsToldToClap, command, default_options, flag, help, history, kwargs, list, many, required_word, option, own_words, program, redo, target, undo, version};
 
 use crate::help;
@@ -16,23 +15,25 @@ fn described<'h>(alloc: Global, name: &'h str, about: &'h str, below: &'h str) -
     Command::new(alloc, name).about(about).after_help(below)
 }
 
-fn with_arg<'h>(command: Command<'h>, arg: Arg<'h>) -> Result<Command<'h>, AllocError>
-    requires command { (out-Command command).has_globals ≡ false }
-    requires arg { arg.global ≡ false }
-    ensures { IfOk result (IsToldToClap (with_rule (app_of command.entry) (rule_of arg.entry))) }
+/// With an argument, if there is a command: nothing else asks whether memory was refused on the way.
+fn with_arg<'h>(
+    command: Result<Command<'h>, AllocError>,
+    arg: Arg<'h>,
+) -> Result<Command<'h>, AllocError>
+    requires { arg.global ≡ false }
+    ensures { (a : App) → IfOk command.entry (IsToldToClap a) → IfOk result (IsToldToClap (with_rule a (rule_of arg.entry))) }
 {
-    command.arg(arg)
+    command?.arg(arg)
 }
 
 /// With a word that has to be there.
 fn with_one<'h>(
     alloc: Global,
-    command: Command<'h>,
+    command: Result<Command<'h>, AllocError>,
     name: &'h str,
     about: &'h str,
 ) -> Result<Command<'h>, AllocError>
-    requires { (out-Command command).has_globals ≡ false }
-    ensures { IfOk result (IsToldToClap (with_rule (app_of command.entry) (required_word name.entry.now))) }
+    ensures { (a : App) → IfOk command.entry (IsToldToClap a) → IfOk result (IsToldToClap (with_rule a (required_word name.entry.now))) }
 {
     let arg = Arg::new(alloc, name).required(true).action(ArgAction::Set);
     with_arg(command, arg.help(about))
@@ -41,12 +42,11 @@ fn with_one<'h>(
 /// With any number of words.
 fn with_many<'h>(
     alloc: Global,
-    command: Command<'h>,
+    command: Result<Command<'h>, AllocError>,
     name: &'h str,
     about: &'h str,
 ) -> Result<Command<'h>, AllocError>
-    requires { (out-Command command).has_globals ≡ false }
-    ensures { IfOk result (IsToldToClap (with_rule (app_of command.entry) (many name.entry.now))) }
+    ensures { (a : App) → IfOk command.entry (IsToldToClap a) → IfOk result (IsToldToClap (with_rule a (many name.entry.now))) }
 {
     let arg = Arg::new(alloc, name).action(ArgAction::Append).help(about);
     with_arg(command, arg)
@@ -55,13 +55,12 @@ fn with_many<'h>(
 /// With an option that has one value.
 fn with_option<'h>(
     alloc: Global,
-    command: Command<'h>,
+    command: Result<Command<'h>, AllocError>,
     name: &'h str,
     long: &'h str,
     about: &'h str,
 ) -> Result<Command<'h>, AllocError>
-    requires { (out-Command command).has_globals ≡ false }
-    ensures { IfOk result (IsToldToClap (with_rule (app_of command.entry) (option name.entry.now long.entry.now))) }
+    ensures { (a : App) → IfOk command.entry (IsToldToClap a) → IfOk result (IsToldToClap (with_rule a (option name.entry.now long.entry.now))) }
 {
     let arg = Arg::new(alloc, name).long(long).action(ArgAction::Set);
     with_arg(command, arg.help(about))
@@ -70,31 +69,34 @@ fn with_option<'h>(
 /// With an option that has no value.
 fn with_flag<'h>(
     alloc: Global,
-    command: Command<'h>,
+    command: Result<Command<'h>, AllocError>,
     name: &'h str,
     long: &'h str,
     about: &'h str,
 ) -> Result<Command<'h>, AllocError>
-    requires { (out-Command command).has_globals ≡ false }
-    ensures { IfOk result (IsToldToClap (with_rule (app_of command.entry) (flag name.entry.now long.entry.now))) }
+    ensures { (a : App) → IfOk command.entry (IsToldToClap a) → IfOk result (IsToldToClap (with_rule a (flag name.entry.now long.entry.now))) }
 {
     let arg = Arg::new(alloc, name).long(long).action(ArgAction::SetTrue);
     with_arg(command, arg.help(about))
 }
 
 /// With `--help`.
-fn with_help<'h>(alloc: Global, command: Command<'h>) -> Result<Command<'h>, AllocError>
-    requires { (out-Command command).has_globals ≡ false }
-    ensures { IfOk result (IsToldToClap (with_rule (app_of command.entry) help)) }
+fn with_help<'h>(
+    alloc: Global,
+    command: Result<Command<'h>, AllocError>,
+) -> Result<Command<'h>, AllocError>
+    ensures { (a : App) → IfOk command.entry (IsToldToClap a) → IfOk result (IsToldToClap (with_rule a help)) }
 {
     let arg = Arg::new(alloc, "help").long("help").action(ArgAction::Help);
     with_arg(command, arg.help("Print this"))
 }
 
 /// With `--version`.
-fn with_version<'h>(alloc: Global, command: Command<'h>) -> Result<Command<'h>, AllocError>
-    requires { (out-Command command).has_globals ≡ false }
-    ensures { IfOk result (IsToldToClap (with_rule (app_of command.entry) version)) }
+fn with_version<'h>(
+    alloc: Global,
+    command: Result<Command<'h>, AllocError>,
+) -> Result<Command<'h>, AllocError>
+    ensures { (a : App) → IfOk command.entry (IsToldToClap a) → IfOk result (IsToldToClap (with_rule a version)) }
 {
     let arg = Arg::new(alloc, "version").long("version");
     with_arg(
@@ -106,33 +108,33 @@ fn with_version<'h>(alloc: Global, command: Command<'h>) -> Result<Command<'h>, 
 fn target<'h>(alloc: Global) -> Result<Command<'h>, AllocError>
     ensures { IfOk result (IsToldToClap target) }
 {
-    let command = described(alloc, "target", help::TARGET, help::BELOW_TARGET);
-    let command = with_one(alloc, command, "ID", "Name of the target, or its variable")?;
-    let command = with_one(alloc, command, "OPERATION", "What is done, see below")?;
-    let command = with_many(alloc, command, "SOURCE", "Names of sources or extra files")?;
-    let command = with_option(alloc, command, "SUBDIR", "subdir", help::SUBDIR)?;
-    let command = with_option(alloc, command, "KIND", "type", help::KIND)?;
+    let command = Ok(described(alloc, "target", help::TARGET, help::BELOW_TARGET));
+    let command = with_one(alloc, command, "ID", "Name of the target, or its variable");
+    let command = with_one(alloc, command, "OPERATION", "What is done, see below");
+    let command = with_many(alloc, command, "SOURCE", "Names of sources or extra files");
+    let command = with_option(alloc, command, "SUBDIR", "subdir", help::SUBDIR);
+    let command = with_option(alloc, command, "KIND", "type", help::KIND);
     with_help(alloc, command)
 }
 
 fn kwargs<'h>(alloc: Global) -> Result<Command<'h>, AllocError>
     ensures { IfOk result (IsToldToClap kwargs) }
 {
-    let command = described(alloc, "kwargs", help::KWARGS, help::BELOW_KWARGS);
-    let command = with_one(alloc, command, "OPERATION", "What is done, see below")?;
+    let command = Ok(described(alloc, "kwargs", help::KWARGS, help::BELOW_KWARGS));
+    let command = with_one(alloc, command, "OPERATION", "What is done, see below");
     let command = with_one(
         alloc,
         command,
         "FUNCTION",
         "One of project, target, dependency",
-    )?;
+    );
     let command = with_one(
         alloc,
         command,
         "ID",
         "Name of the target or dependency, or /",
-    )?;
-    let command = with_many(alloc, command, "KEY VALUE", "Keys, each with its value")?;
+    );
+    let command = with_many(alloc, command, "KEY VALUE", "Keys, each with its value");
     with_help(alloc, command)
 }
 
@@ -140,19 +142,19 @@ fn kwargs<'h>(alloc: Global) -> Result<Command<'h>, AllocError>
 fn default_options<'h>(alloc: Global) -> Result<Command<'h>, AllocError>
     ensures { IfOk result (IsToldToClap default_options) }
 {
-    let command = described(
+    let command = Ok(described(
         alloc,
         "default-options",
         help::DEFAULT_OPTIONS,
         help::BELOW_DEFAULT_OPTIONS,
-    );
-    let command = with_one(alloc, command, "OPERATION", "What is done, see below")?;
+    ));
+    let command = with_one(alloc, command, "OPERATION", "What is done, see below");
     let command = with_many(
         alloc,
         command,
         "OPTION VALUE",
         "Options, each with its value",
-    )?;
+    );
     with_help(alloc, command)
 }
 
@@ -160,8 +162,8 @@ fn default_options<'h>(alloc: Global) -> Result<Command<'h>, AllocError>
 fn command<'h>(alloc: Global) -> Result<Command<'h>, AllocError>
     ensures { IfOk result (IsToldToClap command) }
 {
-    let command = described(alloc, "command", help::COMMAND, help::BELOW_COMMAND);
-    let command = with_one(alloc, command, "JSON", "Script, or name of its file, or -")?;
+    let command = Ok(described(alloc, "command", help::COMMAND, help::BELOW_COMMAND));
+    let command = with_one(alloc, command, "JSON", "Script, or name of its file, or -");
     with_help(alloc, command)
 }
 
@@ -169,9 +171,9 @@ fn command<'h>(alloc: Global) -> Result<Command<'h>, AllocError>
 fn undo<'h>(alloc: Global) -> Result<Command<'h>, AllocError>
     ensures { IfOk result (IsToldToClap undo) }
 {
-    let command = described(alloc, "undo", help::UNDO, help::BELOW_UNDO);
-    let command = with_option(alloc, command, "N", "to", help::TO)?;
-    let command = with_option(alloc, command, "FILE", "check", help::CHECK)?;
+    let command = Ok(described(alloc, "undo", help::UNDO, help::BELOW_UNDO));
+    let command = with_option(alloc, command, "N", "to", help::TO);
+    let command = with_option(alloc, command, "FILE", "check", help::CHECK);
     with_help(alloc, command)
 }
 
@@ -179,7 +181,7 @@ fn undo<'h>(alloc: Global) -> Result<Command<'h>, AllocError>
 fn redo<'h>(alloc: Global) -> Result<Command<'h>, AllocError>
     ensures { IfOk result (IsToldToClap redo) }
 {
-    let command = described(alloc, "redo", help::REDO, help::BELOW_REDO);
+    let command = Ok(described(alloc, "redo", help::REDO, help::BELOW_REDO));
     with_help(alloc, command)
 }
 
@@ -187,8 +189,8 @@ fn redo<'h>(alloc: Global) -> Result<Command<'h>, AllocError>
 fn history<'h>(alloc: Global) -> Result<Command<'h>, AllocError>
     ensures { IfOk result (IsToldToClap history) }
 {
-    let command = described(alloc, "history", help::HISTORY, help::BELOW_HISTORY);
-    let command = with_option(alloc, command, "N", "forget", help::FORGET)?;
+    let command = Ok(described(alloc, "history", help::HISTORY, help::BELOW_HISTORY));
+    let command = with_option(alloc, command, "N", "forget", help::FORGET);
     with_help(alloc, command)
 }
 
@@ -196,9 +198,9 @@ fn history<'h>(alloc: Global) -> Result<Command<'h>, AllocError>
 fn list<'h>(alloc: Global) -> Result<Command<'h>, AllocError>
     ensures { IfOk result (IsToldToClap list) }
 {
-    let command = described(alloc, "list", help::LIST, help::BELOW_LIST);
-    let command = with_flag(alloc, command, "json", "json", help::JSON)?;
-    let command = with_flag(alloc, command, "sums", "sums", help::SUMS)?;
+    let command = Ok(described(alloc, "list", help::LIST, help::BELOW_LIST));
+    let command = with_flag(alloc, command, "json", "json", help::JSON);
+    let command = with_flag(alloc, command, "sums", "sums", help::SUMS);
     with_help(alloc, command)
 }
 
@@ -206,25 +208,26 @@ fn list<'h>(alloc: Global) -> Result<Command<'h>, AllocError>
 fn own_words<'h>(alloc: Global) -> Result<Command<'h>, AllocError>
     ensures { IfOk result (λ c. app_of c ≡ own_words) }
 {
-    let program = described(alloc, "meson_rewrite", help::PROGRAM, help::BELOW_PROGRAM)
+    let bare = described(alloc, "meson_rewrite", help::PROGRAM, help::BELOW_PROGRAM)
         .subcommand_required(true)
         .disable_help_flag(true)
         .disable_help_subcommand(true);
-    let program = with_option(alloc, program, "DIR", "sourcedir", help::DIR)?;
-    let program = with_option(alloc, program, "TEXT", "title", help::TITLE)?;
-    let program = with_flag(alloc, program, "dry-run", "dry-run", help::DRY_RUN)?;
-    let program = with_help(alloc, program)?;
+    let program = with_option(alloc, Ok(bare), "DIR", "sourcedir", help::DIR);
+    let program = with_option(alloc, program, "TEXT", "title", help::TITLE);
+    let program = with_flag(alloc, program, "dry-run", "dry-run", help::DRY_RUN);
+    let program = with_help(alloc, program);
     with_version(alloc, program)
 }
 
 /// With a subcommand, if that was made.
 fn with_subcommand<'h>(
-    command: Command<'h>,
+    command: Result<Command<'h>, AllocError>,
     subcommand: Result<Command<'h>, AllocError>,
 ) -> Result<Command<'h>, AllocError>
-    ensures { (a : App) → IfOk subcommand.entry (IsToldToClap a) → IfOk result (λ c. app_of c ≡ with_subcommand (app_of command.entry) a.top) }
+    ensures { (p a : App) → IfOk command.entry (λ c. app_of c ≡ p) → IfOk subcommand.entry (IsToldToClap a)
+        → IfOk result (λ c. app_of c ≡ with_subcommand p a.top) }
 {
-    command.subcommand(subcommand?)
+    command?.subcommand(subcommand?)
 }
 
 /// The program's command line.
@@ -232,14 +235,13 @@ fn with_subcommand<'h>(
 fn program<'h>(alloc: Global) -> Result<Command<'h>, AllocError>
     ensures { IfOk result (λ c. app_of c ≡ program) }
 {
-    let program = own_words(alloc)?;
-    let program = with_subcommand(program, target(alloc))?;
-    let program = with_subcommand(program, kwargs(alloc))?;
-    let program = with_subcommand(program, default_options(alloc))?;
-    let program = with_subcommand(program, command(alloc))?;
-    let program = with_subcommand(program, undo(alloc))?;
-    let program = with_subcommand(program, redo(alloc))?;
-    let program = with_subcommand(program, history(alloc))?;
+    let program = with_subcommand(own_words(alloc), target(alloc));
+    let program = with_subcommand(program, kwargs(alloc));
+    let program = with_subcommand(program, default_options(alloc));
+    let program = with_subcommand(program, command(alloc));
+    let program = with_subcommand(program, undo(alloc));
+    let program = with_subcommand(program, redo(alloc));
+    let program = with_subcommand(program, history(alloc));
     with_subcommand(program, list(alloc))
 }
 

@@ -140,7 +140,10 @@ impl Session {
         // The new files read as the new trees.
         ensures project { OnOk result (IsProject self.new.project) }
     {
-        self.run_titled(alloc, script, "")
+        match script.commands.get() {
+            [command] => self.run_one(alloc, command, ""),
+            commands => self.run_all(alloc, commands, ""),
+        }
     }
 
     /// The same, with a title for the change: `is_title` says which texts are one.

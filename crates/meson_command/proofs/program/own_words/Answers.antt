@@ -1,8 +1,9 @@
-use Rattle.std.proofs.Common.{◌≡◌, ◌∙◌, ap, codes, true}
+use Rattle.std.proofs.Common.{◌≡◌, ◌∙◌, ap, codes, false, true}
 use Rattle.std.proofs.lemmas.Result.{IfOk-weaker}
 use Rattle.clap.specs.Simple.{app_of_fields}
-use Rattle.clap.specs.Words.{App, app_of, with_rule}
-use Rattle.meson_command.specs.Program.{bare_command, flag, help, option, version}
+use Rattle.clap.specs.Words.{App, app_of}
+use Rattle.clap.specs.declared.builder.command.Command.TheViews.{out-Command}
+use Rattle.meson_command.specs.Program.{bare_command}
 use Rattle.meson_command.proofs.program.own_words.Goals as goal
 
 abbrev flags : App → App
@@ -10,13 +11,12 @@ flags a = record a { top = record a.top { subcommand_required = true; disable_he
 
 pub returns : goal.returns
 returns c =
-    let bare_is : app_of c.disable_help_subcommand-program.result ≡ bare_command (codes "meson_rewrite") =
-    ap app_of_fields c.disable_help_subcommand-program.ensures
+    let bare_is : app_of c.disable_help_subcommand-bare.result ≡ bare_command (codes "meson_rewrite") =
+    ap app_of_fields c.disable_help_subcommand-bare.ensures
     ∙ ap (λ f. app_of_fields (record f { disable_help_subcommand = true })) c.disable_help_flag.ensures
     ∙ ap (λ f. app_of_fields (record f { disable_help_flag = true; disable_help_subcommand = true })) c.subcommand_required.ensures
     ∙ ap flags c.described.ensures.0 in
-    let dir_is = c.in_ok-program.ensures.0 ∙ ap (λ a. with_rule a (option (codes "DIR") (codes "sourcedir"))) bare_is in
-    let title_is = c.in_ok-program-2.ensures.0 ∙ ap (λ a. with_rule a (option (codes "TEXT") (codes "title"))) dir_is in
-    let dry_is = c.in_ok-program-3.ensures.0 ∙ ap (λ a. with_rule a (flag (codes "dry-run") (codes "dry-run"))) title_is in
-    let help_is = c.in_ok-program-4.ensures.0 ∙ ap (λ a. with_rule a help) dry_is in
-    IfOk-weaker c.with_version.result _ _ (λ r h. h.0 ∙ ap (λ a. with_rule a version) help_is) c.with_version.ensures
+    let has_none : (out-Command c.disable_help_subcommand-bare.result).has_globals ≡ false =
+    ap (λ f. f.has_globals) c.disable_help_subcommand-bare.ensures ∙ ap (λ f. f.has_globals) c.disable_help_flag.ensures
+    ∙ ap (λ f. f.has_globals) c.subcommand_required.ensures ∙ c.described.ensures.1 in
+    IfOk-weaker c.with_version.result _ _ (λ r h. h.0) (c.with_version.ensures _ (c.with_help-program.ensures _ (c.with_flag-program.ensures _ (c.with_option-program-2.ensures _ (c.with_option-program.ensures _ (bare_is, has_none))))))
