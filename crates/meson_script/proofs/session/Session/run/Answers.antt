@@ -1,4 +1,4 @@
-use Rattle.std.proofs.Common.{Ok, Err, Result, arith}
+use Rattle.std.proofs.Common.{[], Ok, Err, Result, arith, refl}
 use Rattle.std.specs.Prelude.{IfOk, OnOk}
 use Rattle.std.proofs.lemmas.Grind.{common_steps}
 use Rattle.std.proofs.lemmas.Result.{IfErr-weaker}
