@@ -1,5 +1,6 @@
 -- What a script that is kept makes of a history.
-use Rattle.std.proofs.Common.{◌≡◌, ℕ, true, List, refl, ap, ◌∙◌}
+use Rattle.std.specs.Prelude.{IfOk, OnOk}
+use Rattle.std.proofs.Common.{◌≡◌, ℕ, true, List, Ok, Err, Result, refl, ap, ◌∙◌}
 use Rattle.meson_calls.specs.Loading.{IsProject}
 use Rattle.meson_json.specs.Log.{is_text_history}
 use Rattle.meson_json.specs.Titles.{is_title}
@@ -11,6 +12,11 @@ use Rattle.meson_script.specs.Stack.{Stack, Stands, ran}
 use Rattle.meson_script.proofs.RunFacts.{runs-text}
 use Rattle.meson_script.proofs.StepFacts.{run-stands}
 use Rattle.meson_script.proofs.TextFacts.{kept-text}
+
+-- what follows where there is a value, from a clause on it and another one
+pub if_ok : {T E : Type 0} {Q : T → Type 0} {R P : Type 0} (r : Result T E) → IfOk r Q → OnOk r R → ((x : T) → Q x → R → P) → OnOk r P
+if_ok (Ok x) q held f = f x q held
+if_ok (Err e) q held f = tt
 
 pub keeps-stands : (old new : Session) (commands : List Command) (title : List ℕ) (report : Report) → KeepsChange old commands title report new → IsProject new.project
     → (s : Stack) → Stands old.history old.project.files s → Stands new.history new.project.files (ran s title new.project.files)

@@ -1,15 +1,9 @@
-use Rattle.std.proofs.Common.{Ok, Err, Result, arith}
-use Rattle.std.specs.Prelude.{IfOk, OnOk}
+use Rattle.std.proofs.Common.{arith}
 use Rattle.std.proofs.lemmas.Grind.{common_steps}
 use Rattle.std.proofs.lemmas.Result.{IfErr-weaker}
-use Rattle.meson_script.proofs.Keeping.{keeps-stands, keeps-text}
+use Rattle.meson_script.proofs.Keeping.{if_ok, keeps-stands, keeps-text}
 use Rattle.meson_script.proofs.RunFacts.{reaches-none}
 use Rattle.meson_script.proofs.session.Session.run_titled.Goals as goal
-
--- what follows where there is a value, from a clause on it and another one
-if_ok : {T E : Type 0} {Q : T → Type 0} {R P : Type 0} (r : Result T E) → IfOk r Q → OnOk r R → ((x : T) → Q x → R → P) → OnOk r P
-if_ok (Ok x) q held f = f x q held
-if_ok (Err e) q held f = tt
 
 pub returns-in-len1-clause-step : goal.returns-in-len1-clause-step
 returns-in-len1-clause-step c = if_ok c.run_one.result c.run_one.ensures.done c.run_one.ensures.project (keeps-stands c.args.self.now c.run_one.new.self _ c.args.title.now)
