@@ -1,4 +1,4 @@
--- Notes by which the values of some variables are known: all those of a file in which a call may set one, and of the others the assignments to these and the loops.
+-- Notes by which the values of some variables are known: all of a file in which a call may set one, and of the others the setters alone.
 use Rattle.std.specs.Prelude.{◌≡◌, ℕ, ◌+◌, Bool, true, false, List, [], ◌∷◌, ◌++◌, bytes_eq, if◌then◌else◌}
 use Rattle.std.specs.Borrow.{Bor}
 use Rattle.std.specs.List.{filter, list_any}
