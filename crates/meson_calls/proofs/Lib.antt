@@ -2,6 +2,7 @@ pub mod IdentifierTexts
 pub mod SlashParts
 pub mod FileNames
 pub mod Loads
+pub mod SettersApart
 pub mod Visits
 pub mod WordCounts
 pub mod WalkedWords
@@ -38,12 +39,14 @@ pub mod PartsContained
 mod PartsOrdered
 pub mod Spelled
 pub mod NoteTurns
+pub mod SetterTurns
 mod SpelledLiterals
 mod StandingParts
 pub mod StandingNotes
 mod NothingRead
 pub mod NoteReadings
 pub mod NotesWith
+pub mod SetterReadings
 mod NoSubdirs
 pub mod KeywordArguments
 pub mod AtMostOnce

@@ -24,15 +24,15 @@ use Rattle.meson_calls.proofs.NothingRead.{names_nothing, no_project, value_unna
 
 -- ---- good notes
 
-good_left : (xs ys : Notes) → NotesGood (xs ++ ys) → NotesGood xs
+pub good_left : (xs ys : Notes) → NotesGood (xs ++ ys) → NotesGood xs
 good_left [] ys good = tt
 good_left (x ∷ xs) ys good = (good.0, good_left xs ys good.1)
 
-good_right : (xs ys : Notes) → NotesGood (xs ++ ys) → NotesGood ys
+pub good_right : (xs ys : Notes) → NotesGood (xs ++ ys) → NotesGood ys
 good_right [] ys good = good
 good_right (x ∷ xs) ys good = good_right xs ys good.1
 
-good_join : (xs ys : Notes) → NotesGood xs → NotesGood ys → NotesGood (xs ++ ys)
+pub good_join : (xs ys : Notes) → NotesGood xs → NotesGood ys → NotesGood (xs ++ ys)
 good_join [] ys a b = b
 good_join (x ∷ xs) ys a b = (a.0, good_join xs ys a.1 b)
 

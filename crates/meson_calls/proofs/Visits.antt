@@ -1,15 +1,19 @@
 -- Parts that are visited one after another.
+use Rattle.std.specs.Prelude.{Bool, true, false, if◌then◌else◌}
 use Rattle.std.proofs.Common.{◌≡◌, ℕ, ◌+◌, ◌<◌, ◌≤◌, List, [], ◌∷◌, ◌++◌, length, drop, get_or, Option, Some, sym, ap, ◌∙◌, arith}
+use Rattle.std.specs.Borrow.{Bor}
 use Rattle.std.proofs.lemmas.List.{append_assoc, append-nil, at_drop_more, at_drop_all}
 use Rattle.std.proofs.lemmas.List.Elements.{filter_map-append}
 use Rattle.std.proofs.lemmas.List.Sums.{fold-append}
 use Rattle.meson_lex.specs.declared.kinds.Span.{Span}
-use Rattle.meson_calls.specs.Parts.{Part}
+use Rattle.meson_syntax.specs.Tree.{Expression}
+use Rattle.meson_calls.specs.Parts.{Part, parts_of_expression}
 use Rattle.meson_calls.specs.Project.{Placed}
 use Rattle.meson_calls.specs.declared.call.CallRef.{CallRef}
 use Rattle.meson_calls.specs.Calls.{chosen}
 use Rattle.meson_calls.specs.Notes.{Note, note_of, noted}
-use Rattle.meson_calls.specs.Walks.{KeptParts, notes_kept, reads_kept, with_part, with_parts, notes_of_kept, reads_of_kept, read_at, read_in}
+use Rattle.meson_calls.specs.Walks.{KeptParts, notes_kept, setters_kept, reads_kept, kept_so_far, with_part, with_parts, notes_of_kept, reads_of_kept, read_at, read_in}
+use Rattle.meson_calls.proofs.SettersApart.{none_within, setters_append, setters_of}
 
 pub two_parts : (before middle after : KeptParts) (a b : List (Placed (Part Span))) → middle ≡ with_parts before a → after ≡ with_parts middle b → after ≡ with_parts before (a ++ b)
 two_parts before middle after a b first last = last ∙ ap (λ m. with_parts m b) first ∙ sym (fold-append with_part before a b)
@@ -62,6 +66,23 @@ reads_come x cs [] = ap (reads_kept x) (sym (append-nil cs))
 reads_come x cs (q ∷ ps) =
     reads_come x (cs ++ read_in x (q ∷ [])) ps
     ∙ ap (reads_kept x) (append_assoc cs (read_in x (q ∷ [])) (read_in x ps) ∙ ap (λ l. cs ++ l) (sym (filter_map-append (read_at x) (q ∷ []) ps)))
+
+setters_come : (names : List (Bor (List ℕ))) (ns : List (Placed (Note Span))) (ps : List (Placed (Part Span))) → with_parts (setters_kept names ns) ps ≡ setters_kept names (ns ++ setters_of names ps)
+setters_come names ns [] = ap (setters_kept names) (sym (append-nil ns))
+setters_come names ns (q ∷ ps) =
+    setters_come names (ns ++ setters_of names (q ∷ [])) ps
+    ∙ ap (setters_kept names) (append_assoc ns (setters_of names (q ∷ [])) (setters_of names ps) ∙ ap (λ l. ns ++ l) (sym (setters_append names (q ∷ []) ps)))
+
+pub setters_stay : (names : List (Bor (List ℕ))) (ns : List (Placed (Note Span))) (p : CallRef) (e : Expression Span) → setters_kept names ns ≡ with_parts (setters_kept names ns) (parts_of_expression p e)
+setters_stay names ns p e =
+    let ps = parts_of_expression p e in
+    sym (setters_come names ns ps ∙ ap (λ l. setters_kept names (ns ++ l)) (none_within names p e) ∙ ap (setters_kept names) (append-nil ns))
+
+-- all of a file, or those of setters
+pub more_asked : (names : List (Bor (List ℕ))) (all : Bool) (ns : List (Placed (Note Span))) (found : Option (List (Placed (Note Span)))) (kept : KeptParts) (ps : List (Placed (Part Span))) → found ≡ notes_of_kept kept
+    → kept ≡ with_parts (kept_so_far names all ns) ps → found ≡ Some (ns ++ (if all then noted ps else setters_of names ps))
+more_asked names true ns found kept ps is comes = is ∙ ap notes_of_kept (comes ∙ notes_come ns ps)
+more_asked names false ns found kept ps is comes = is ∙ ap notes_of_kept (comes ∙ setters_come names ns ps)
 
 pub all_noted : (found : Option (List (Placed (Note Span)))) (kept : KeptParts) (ps : List (Placed (Part Span))) → found ≡ notes_of_kept kept → kept ≡ with_parts (notes_kept []) ps → found ≡ Some (noted ps)
 all_noted found kept ps is comes = is ∙ ap notes_of_kept (comes ∙ notes_come [] ps)

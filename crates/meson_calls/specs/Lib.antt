@@ -23,4 +23,5 @@ pub mod CallPlaces
 pub mod Messages
 pub mod AllParts
 pub mod Spelling
+pub mod Setters
 pub mod inside

@@ -1,5 +1,6 @@
 -- Walks through trees: what is kept of the parts that are visited, one after another.
-use Rattle.std.specs.Prelude.{◌≡◌, ℕ, ◌+◌, Bool, false, List, [], ◌∷◌, ◌++◌, if◌then◌else◌, bytes_eq, Option, Some, None}
+use Rattle.std.specs.Prelude.{◌≡◌, ℕ, ◌+◌, Bool, true, false, List, [], ◌∷◌, ◌++◌, if◌then◌else◌, bytes_eq, Option, Some, None}
+use Rattle.std.specs.Borrow.{Bor}
 use Rattle.std.specs.List.{fold, filter_map}
 use Rattle.meson_lex.specs.declared.kinds.Span.{Span}
 use Rattle.meson_syntax.specs.declared.tree.Block as rust_block
@@ -14,6 +15,7 @@ use Rattle.meson_calls.specs.declared.part.Walk.{Walk}
 use Rattle.meson_calls.specs.Project.{Placed, placed, place, child}
 use Rattle.meson_calls.specs.Parts.{Part, an_expression, a_statement, parts_of_expression, parts_of_statement, parts_of_block}
 use Rattle.meson_calls.specs.Notes.{Note, noted, taken_view}
+use Rattle.meson_calls.specs.Setters.{setters_in}
 
 -- ---- where a variable is read
 
@@ -32,18 +34,26 @@ read_at x q = if part_reads x q.it then Some q.place else None
 abbrev pub read_in : {S : Type 0} → List ℕ → List (Placed (Part S)) → List CallRef
 read_in x ps = filter_map (read_at x) ps
 
--- ---- what is kept: the notes, or the places where a variable is read
+-- ---- what is kept: the notes, those of setters alone, or the places where a variable is read
 
 pub data KeptParts : Type 0 where
   notes_kept : List (Placed (Note Span)) → KeptParts
+  setters_kept : List (Bor (List ℕ)) → List (Placed (Note Span)) → KeptParts
   reads_kept : List ℕ → List CallRef → KeptParts
 
 abbrev pub keeper_view : Keeper → KeptParts
 keeper_view (keeper.Notes found) = notes_kept (taken_view found)
+keeper_view (keeper.Setters s) = setters_kept s.names.now (taken_view s.found)
 keeper_view (keeper.Reads name found) = reads_kept name.now found.items
+
+-- where all notes are asked for, or those of setters
+abbrev pub kept_so_far : List (Bor (List ℕ)) → Bool → List (Placed (Note Span)) → KeptParts
+kept_so_far names true ns = notes_kept ns
+kept_so_far names false ns = setters_kept names ns
 
 abbrev pub with_part : KeptParts → Placed (Part Span) → KeptParts
 with_part (notes_kept ns) q = notes_kept (ns ++ noted (q ∷ []))
+with_part (setters_kept names ns) q = setters_kept names (ns ++ setters_in names (noted (q ∷ [])))
 with_part (reads_kept x cs) q = reads_kept x (cs ++ read_in x (q ∷ []))
 
 abbrev pub with_parts : KeptParts → List (Placed (Part Span)) → KeptParts
@@ -51,10 +61,12 @@ with_parts kept ps = fold with_part kept ps
 
 abbrev pub notes_of_kept : KeptParts → Option (List (Placed (Note Span)))
 notes_of_kept (notes_kept ns) = Some ns
+notes_of_kept (setters_kept names ns) = Some ns
 notes_of_kept (reads_kept x cs) = None
 
 abbrev pub reads_of_kept : KeptParts → Option (List CallRef)
 reads_of_kept (notes_kept ns) = None
+reads_of_kept (setters_kept names ns) = None
 reads_of_kept (reads_kept x cs) = Some cs
 
 -- the parts come to what a keeper has

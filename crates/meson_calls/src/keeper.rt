@@ -3,11 +3,20 @@
 use crate::call::CallRef;
 use crate::taken::Taken;
 
+/// Notes of what sets some variables, while they are taken.
+#[derive(Drop)]
+pub struct Setters<'n, 't> {
+    pub names: &'n [&'n [u8]],
+    pub found: Taken<'t>,
+}
+
 /// What a walk keeps of the parts that it visits.
 #[derive(Drop)]
-pub enum Keeper<'t> {
+pub enum Keeper<'n, 't> {
     /// The calls, assignments and loops.
     Notes(Taken<'t>),
+    /// Of these the assignments to some variables and the loops.
+    Setters(Setters<'n, 't>),
     /// The places of the identifiers that are this variable.
     Reads { name: &'t [u8], found: Vec<CallRef> },
 }

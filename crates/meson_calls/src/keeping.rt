@@ -6,14 +6,15 @@ ghost use Rattle.meson_calls.specs.declared.call.CallRef.{CallRef};
 ghost use Rattle.meson_calls.specs.Notes.{note_of, noted, taken_view, what_view, is_set};
 ghost use Rattle.meson_calls.specs.Parts.{parts_of_expression};
 ghost use Rattle.meson_calls.specs.ChosenNotes.{Source};
-ghost use Rattle.meson_calls.specs.Walks.{KeepsParts, keeper_view, notes_of_kept, part_at, part_reads, part_view, read_in, reads_of_kept};
+ghost use Rattle.meson_calls.specs.Setters.{is_setter, setters_in};
+ghost use Rattle.meson_calls.specs.Walks.{KeepsParts, keeper_view, kept_so_far, notes_of_kept, part_at, part_reads, part_view, read_in, reads_of_kept};
 
 use crate::call::CallRef;
-use crate::keeper::Keeper;
+use crate::keeper::{Keeper, Setters};
 use crate::note::What;
 use crate::part::{Part, Walk};
 use crate::place::place_of;
-use crate::roles::text_of;
+use crate::roles::{is_among, text_of};
 use crate::taken::Taken;
 use meson_syntax::{Assignment, Expr, Stmt};
 use std::alloc::AllocError;
@@ -78,13 +79,38 @@ fn is_plain(value: &Expr) -> bool
     }
 }
 
-impl<'t> Keeper<'t> {
+/// Whether it is an assignment to one of the variables, or a loop.
+fn is_setter(source: &[u8], names: &[&[u8]], what: What<'_>) -> bool
+    ensures { result ≡ is_setter names.now (what_view source.now what.entry) }
+{
+    match what {
+        What::Call { .. } => false,
+        What::Assign { name, .. } => is_among(names, text_of(source, name)),
+        What::Loop { .. } => true,
+    }
+}
+
+impl<'n, 't> Keeper<'n, 't> {
+    /// Of notes behind these: of all, or of the setters of some variables.
+    pub fn asked(names: &'n [&'n [u8]], all: bool, taken: Taken<'t>) -> Self
+        ensures { keeper_view result ≡ kept_so_far names.entry.now all (taken_view taken.entry) }
+    {
+        if all {
+            return Keeper::Notes(taken);
+        }
+        Keeper::Setters(Setters {
+            names,
+            found: taken,
+        })
+    }
+
     /// Whether nothing is kept of the expression, whatever place it has, and nothing in it. So a walk may pass it by.
     pub fn passes(&self, expr: &Expr) -> bool
         ensures { IsTrue result → (source : Source) (p : CallRef) → KeepsParts self.now (parts_of_expression p (expr_view source expr.now)) self.now }
     {
         match self {
             Keeper::Notes(_) => is_plain(expr),
+            Keeper::Setters(_) => true,
             Keeper::Reads { name: _, found: _ } => false,
         }
     }
@@ -95,6 +121,10 @@ impl<'t> Keeper<'t> {
     {
         match self {
             Keeper::Notes(found) => Some(found),
+            Keeper::Setters(setters) => {
+                let Setters { names: _, found } = setters;
+                Some(found)
+            },
             Keeper::Reads { name: _, found: _ } => None,
         }
     }
@@ -105,6 +135,7 @@ impl<'t> Keeper<'t> {
     {
         match self {
             Keeper::Notes(_) => None,
+            Keeper::Setters(_) => None,
             Keeper::Reads { name: _, found } => Some(found),
         }
     }
@@ -151,6 +182,25 @@ impl<'t> Walk<'t> {
         Ok(())
     }
 
+    /// Keeps a note of the part at the path, if it is an assignment to one of the variables or a loop.
+    fn keep_setter(
+        &self,
+        path: &[usize],
+        part: Part<'t>,
+        setters: &mut Setters<'_, 't>,
+    ) -> Result<(), AllocError>
+        ensures names { OnOk result (setters.new.names.now ≡ setters.old.names.now) }
+        ensures found { OnOk result (taken_view setters.new.found
+            ≡ taken_view setters.old.found ++ setters_in setters.old.names.now (noted (part_at self.now path.now part.entry ∷ []))) }
+    {
+        if let Some(what) = part.note() {
+            if is_setter(self.source, setters.names, what) {
+                setters.found.take(self.file, path, self.source, what)?;
+            }
+        }
+        Ok(())
+    }
+
     /// Keeps the place of the part at the path, if it is the variable.
     fn keep_read(
         &self,
@@ -173,12 +223,13 @@ impl<'t> Walk<'t> {
         &self,
         path: &[usize],
         part: Part<'t>,
-        keeper: &mut Keeper<'t>,
+        keeper: &mut Keeper<'_, 't>,
     ) -> Result<(), AllocError>
         ensures { OnOk result (KeepsParts keeper.old (part_at self.now path.now part.entry ∷ []) keeper.new) }
     {
         match keeper {
             Keeper::Notes(found) => self.keep_note(path, part, found),
+            Keeper::Setters(setters) => self.keep_setter(path, part, setters),
             Keeper::Reads { name, found } => self.keep_read(path, part, name, found),
         }
     }

@@ -1,12 +1,13 @@
 //! The notes of a project.
 
-ghost use Rattle.std.specs.Prelude.{◌≡◌, ◌++◌, if◌then◌else◌, IfOk, map};
+ghost use Rattle.std.specs.Prelude.{◌≡◌, ◌++◌, if◌then◌else◌, IfOk};
 ghost use Rattle.meson_syntax.specs.Reads.{IsSpanned};
 ghost use Rattle.meson_syntax.specs.View.{view};
 ghost use Rattle.meson_calls.specs.Parts.{parts_of_file};
 ghost use Rattle.meson_calls.specs.Loading.{AreParsed, named_trees, views};
 ghost use Rattle.meson_calls.specs.Notes.{noted, notes, taken_view};
-ghost use Rattle.meson_calls.specs.Spelling.{AreNotesWith, setter_words, sought_words};
+ghost use Rattle.meson_calls.specs.Setters.{AreSetters, notes_asked};
+ghost use Rattle.meson_calls.specs.Spelling.{AreNotesWith, sought_words};
 
 use crate::call::Role;
 use crate::keeper::Keeper;
@@ -119,7 +120,30 @@ pub fn notes_for<'t>(
     notes_with(alloc, &words, files, trees)
 }
 
-/// The notes by which these variables stand for something: those of files that can tell nothing of them are left out.
+/// The notes so far, and behind them those of a file: all, or its assignments to these variables and its loops.
+fn with_setters<'t>(
+    alloc: Global,
+    file: usize,
+    source: &'t [u8],
+    parsed: &'t Parsed,
+    names: &[&[u8]],
+    all: bool,
+    taken: Taken<'t>,
+) -> Result<Taken<'t>, AllocError>
+    requires { IsSpanned source.now (view source.now parsed.now) }
+    ensures { IfOk result (λ found. taken_view found
+        ≡ taken_view taken.entry ++ notes_asked names.now all file source.entry.now parsed.entry.now) }
+{
+    let mut keeper = Keeper::asked(names, all, taken);
+    walk_file(alloc, file, source, parsed, &mut keeper)?;
+    match keeper.notes() {
+        Some(found) => Ok(found),
+        None => unreachable!(),
+    }
+}
+
+/// The notes by which these variables stand for something: of a file in which no call sets one, its assignments to them and
+/// its loops are enough.
 ///
 /// # Errors
 /// Memory was refused.
@@ -130,9 +154,14 @@ pub fn notes_naming<'t>(
     trees: &'t [Parsed],
 ) -> Result<Taken<'t>, AllocError>
     requires { AreParsed files.now trees.now }
-    ensures { let words = map (λ name. name.now) names.now ++ setter_words in
-        IfOk result (λ found. AreNotesWith words 0 files.now trees.now (taken_view found)) }
+    ensures { IfOk result (λ found. AreSetters names.now 0 files.now trees.now (taken_view found)) }
 {
-    let words = Words::of_names(alloc, names)?;
-    notes_with(alloc, &words, files, trees)
+    let words = Words::of_setters(alloc)?;
+    let mut taken = Taken::new(alloc);
+    for i in 0..trees.len() {
+        let source = files.bytes(i);
+        let all = words.may_stand_in(source);
+        taken = with_setters(alloc, i, source, &trees[i], names, all, taken)?;
+    }
+    Ok(taken)
 }

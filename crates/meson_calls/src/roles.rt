@@ -7,6 +7,7 @@ ghost use Rattle.meson_syntax.specs.View.{text_at, expr_view, arg_view, list_vie
 ghost use Rattle.meson_calls.specs.Calls.{first_argument, value_without_name};
 ghost use Rattle.meson_calls.specs.Roles.{one_of, target_functions, has_role};
 ghost use Rattle.meson_calls.specs.Notes.{what_view};
+ghost use Rattle.meson_calls.specs.Setters.{is_among};
 ghost use Rattle.meson_calls.specs.ChosenNotes.{Source, call_with, note_has_role};
 
 use crate::call::Role;
@@ -24,6 +25,18 @@ pub fn text_of(source: &[u8], span: Span) -> &[u8]
     let to = span.to.min(source.len());
     let from = span.from.min(to);
     &source[from..to]
+}
+
+/// Whether a name is one of these.
+pub fn is_among(names: &[&[u8]], name: &[u8]) -> bool
+    ensures { result ≡ is_among names.now name.now }
+{
+    for i in 0..names.len() {
+        if names[i] == name {
+            return true;
+        }
+    }
+    false
 }
 
 /// The text of an identifier, which has ASCII characters alone.

@@ -1,6 +1,6 @@
 //! Words of which one stands in each file that matters.
 
-ghost use Rattle.std.specs.Prelude.{◌≡◌, ◌++◌, IfOk, false, map};
+ghost use Rattle.std.specs.Prelude.{◌≡◌, IfOk, false};
 ghost use Rattle.meson_calls.specs.Spelling.{HasNoneOf, setter_words, sought_words};
 
 use crate::call::Role;
@@ -32,17 +32,14 @@ impl<'w> Words<'w> {
         Ok(Words { words })
     }
 
-    /// Those of which one stands in each file in which one of these variables is set, or any may be.
+    /// Those of which one stands in each file in which a call sets a variable, or may set any.
     ///
     /// # Errors
     /// Memory was refused.
-    pub(crate) fn of_names(alloc: Global, names: &[&'w [u8]]) -> Result<Words<'w>, AllocError>
-        ensures { IfOk result (λ w. w.words.items ≡ map (λ name. name.now) names.now ++ setter_words) }
+    pub(crate) fn of_setters(alloc: Global) -> Result<Words<'w>, AllocError>
+        ensures { IfOk result (λ w. w.words.items ≡ setter_words) }
     {
         let mut words = Vec::new(alloc);
-        for i in 0..names.len() {
-            words.push(Finder::new(names[i]))?;
-        }
         words.push(Finder::new(b"subdir".as_slice()))?;
         words.push(Finder::new(b"set_variable".as_slice()))?;
         Ok(Words { words })

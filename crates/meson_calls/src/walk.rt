@@ -23,7 +23,7 @@ impl<'t> Walk<'t> {
         number: usize,
         expr: &'t Expr,
         path: &mut Vec<usize>,
-        keeper: &mut Keeper<'t>,
+        keeper: &mut Keeper<'_, 't>,
     ) -> Result<(), AllocError>
         requires fits { length (expression_words (expr_view self.now.source.now expr.now)) < 2 ^ 64 }
         ensures back { OnOk result (path.new.items ≡ path.old.items) }
@@ -46,7 +46,7 @@ impl<'t> Walk<'t> {
         &self,
         expr: &'t Expr,
         path: &mut Vec<usize>,
-        keeper: &mut Keeper<'t>,
+        keeper: &mut Keeper<'_, 't>,
     ) -> Result<(), AllocError>
         requires fits { length (expression_words (expr_view self.now.source.now expr.now)) < 2 ^ 64 }
         ensures back { OnOk result (path.new.items ≡ path.old.items) }
@@ -89,7 +89,7 @@ impl<'t> Walk<'t> {
         &self,
         list: &'t List,
         path: &mut Vec<usize>,
-        keeper: &mut Keeper<'t>,
+        keeper: &mut Keeper<'_, 't>,
     ) -> Result<(), AllocError>
         requires fits { length (arguments_words (arguments_of (args_view self.now.source.now list.now.items)) false) < 2 ^ 64 }
         ensures back { OnOk result (path.new.items ≡ path.old.items) }
@@ -107,7 +107,7 @@ impl<'t> Walk<'t> {
         first: usize,
         args: &'t [Arg],
         path: &mut Vec<usize>,
-        keeper: &mut Keeper<'t>,
+        keeper: &mut Keeper<'_, 't>,
     ) -> Result<usize, AllocError>
         requires fits { first + length (arguments_words (arguments_of (args_view self.now.source.now args.now)) false) < 2 ^ 64 }
         ensures back { OnOk result (path.new.items ≡ path.old.items) }
@@ -129,7 +129,7 @@ impl<'t> Walk<'t> {
         number: usize,
         arg: &'t Arg,
         path: &mut Vec<usize>,
-        keeper: &mut Keeper<'t>,
+        keeper: &mut Keeper<'_, 't>,
     ) -> Result<usize, AllocError>
         requires fits { number + length (argument_words (arg_view self.now.source.now arg.now)) < 2 ^ 64 }
         ensures back { OnOk result (path.new.items ≡ path.old.items) }
@@ -159,7 +159,7 @@ impl<'t> Walk<'t> {
         &self,
         operands: &'t [Operand],
         path: &mut Vec<usize>,
-        keeper: &mut Keeper<'t>,
+        keeper: &mut Keeper<'_, 't>,
     ) -> Result<(), AllocError>
         requires fits { length (operands_words (operands_of (operands_view self.now.source.now operands.now))) < 2 ^ 64 }
         ensures back { OnOk result (path.new.items ≡ path.old.items) }
@@ -177,7 +177,7 @@ impl<'t> Walk<'t> {
         &self,
         tails: &'t [Tail],
         path: &mut Vec<usize>,
-        keeper: &mut Keeper<'t>,
+        keeper: &mut Keeper<'_, 't>,
     ) -> Result<(), AllocError>
         requires fits { 1 + length (tails_words (tails_of (tails_view self.now.source.now tails.now))) < 2 ^ 64 }
         ensures back { OnOk result (path.new.items ≡ path.old.items) }
@@ -197,7 +197,7 @@ impl<'t> Walk<'t> {
         number: usize,
         tail: &'t Tail,
         path: &mut Vec<usize>,
-        keeper: &mut Keeper<'t>,
+        keeper: &mut Keeper<'_, 't>,
     ) -> Result<usize, AllocError>
         requires fits { number + length (tail_words (tail_view self.now.source.now tail.now)) < 2 ^ 64 }
         ensures back { OnOk result (path.new.items ≡ path.old.items) }

@@ -25,7 +25,7 @@ impl<'t> Walk<'t> {
         number: usize,
         stmt: &'t Stmt,
         path: &mut Vec<usize>,
-        keeper: &mut Keeper<'t>,
+        keeper: &mut Keeper<'_, 't>,
     ) -> Result<(), AllocError>
         requires fits { length (statement_words (stmt_view self.now.source.now stmt.now)) < 2 ^ 64 }
         ensures back { OnOk result (path.new.items ≡ path.old.items) }
@@ -45,7 +45,7 @@ impl<'t> Walk<'t> {
         &self,
         stmt: &'t Stmt,
         path: &mut Vec<usize>,
-        keeper: &mut Keeper<'t>,
+        keeper: &mut Keeper<'_, 't>,
     ) -> Result<(), AllocError>
         requires fits { length (statement_words (stmt_view self.now.source.now stmt.now)) < 2 ^ 64 }
         ensures back { OnOk result (path.new.items ≡ path.old.items) }
@@ -82,7 +82,7 @@ impl<'t> Walk<'t> {
         number: usize,
         block: &'t Block,
         path: &mut Vec<usize>,
-        keeper: &mut Keeper<'t>,
+        keeper: &mut Keeper<'_, 't>,
     ) -> Result<(), AllocError>
         requires fits { length (block_words (block_view self.now.source.now block.now)) < 2 ^ 64 }
         ensures back { OnOk result (path.new.items ≡ path.old.items) }
@@ -100,7 +100,7 @@ impl<'t> Walk<'t> {
         &self,
         stmts: &'t [Stmt],
         path: &mut Vec<usize>,
-        keeper: &mut Keeper<'t>,
+        keeper: &mut Keeper<'_, 't>,
     ) -> Result<(), AllocError>
         requires fits { length (statements_words (statements_of (stmts_view self.now.source.now stmts.now))) < 2 ^ 64 }
         ensures back { OnOk result (path.new.items ≡ path.old.items) }
@@ -119,7 +119,7 @@ impl<'t> Walk<'t> {
         &self,
         branches: &'t [Branch],
         path: &mut Vec<usize>,
-        keeper: &mut Keeper<'t>,
+        keeper: &mut Keeper<'_, 't>,
     ) -> Result<(), AllocError>
         requires fits { length (branches_words (branches_of (branches_view self.now.source.now branches.now)) WordIf) < 2 ^ 64 }
         ensures back { OnOk result (path.new.items ≡ path.old.items) }
@@ -139,7 +139,7 @@ impl<'t> Walk<'t> {
         number: usize,
         branch: &'t Branch,
         path: &mut Vec<usize>,
-        keeper: &mut Keeper<'t>,
+        keeper: &mut Keeper<'_, 't>,
     ) -> Result<(), AllocError>
         requires small { number < 2 ^ 63 }
         requires condition { length (expression_words (branch_view self.now.source.now branch.now).0) < 2 ^ 64 }
@@ -160,7 +160,7 @@ impl<'t> Walk<'t> {
         number: usize,
         otherwise: &'t Option<Block>,
         path: &mut Vec<usize>,
-        keeper: &mut Keeper<'t>,
+        keeper: &mut Keeper<'_, 't>,
     ) -> Result<(), AllocError>
         requires fits { length (otherwise_words (else_view self.now.source.now otherwise.now)) < 2 ^ 64 }
         ensures back { OnOk result (path.new.items ≡ path.old.items) }
@@ -183,7 +183,7 @@ pub fn walk_file<'t>(
     file: usize,
     source: &'t [u8],
     parsed: &'t Parsed,
-    keeper: &mut Keeper<'t>,
+    keeper: &mut Keeper<'_, 't>,
 ) -> Result<(), AllocError>
     requires { IsSpanned source.now (view source.now parsed.now) }
     ensures { OnOk result (KeepsParts keeper.old
@@ -207,7 +207,7 @@ pub fn walk_files<'t>(
     alloc: Global,
     files: &'t FileSet,
     trees: &'t [Parsed],
-    keeper: &mut Keeper<'t>,
+    keeper: &mut Keeper<'_, 't>,
 ) -> Result<(), AllocError>
     requires { AreParsed files.now trees.now }
     ensures { OnOk result (KeepsParts keeper.old

@@ -1,7 +1,5 @@
 -- The project of which the code's variables are, and which of their values it has at hand.
-use Rattle.std.specs.Prelude.{◌≡◌, ℕ, Bool, true, List, bytes_eq}
-use Rattle.std.specs.Borrow.{Bor}
-use Rattle.std.specs.List.{list_any}
+use Rattle.std.specs.Prelude.{◌≡◌, ℕ, Bool, true, List}
 use Rattle.meson_lex.specs.declared.kinds.Span.{Span}
 use Rattle.meson_variables.specs.declared.variables.Sought.{Sought}
 use Rattle.meson_variables.specs.declared.variables.Sought.TheVariants as sought
@@ -9,16 +7,13 @@ use Rattle.meson_variables.specs.declared.variables.Variables.{Variables}
 use Rattle.meson_calls.specs.Project.{Project}
 use Rattle.meson_calls.specs.Loading.{IsProject, loaded_from, named_trees, views}
 use Rattle.meson_calls.specs.Notes.{notes}
+use Rattle.meson_calls.specs.Setters.{is_among}
 use Rattle.meson_calls.specs.Strings.{NotesGood}
 use Rattle.meson_variables.specs.CodeValues.{value_in}
 use Rattle.meson_variables.specs.Variables.{single}
 
 abbrev pub project_of : Variables → Project Span
 project_of v = named_trees v.files.now (views v.files.now v.trees.now)
-
--- whether a name is among the code's names
-abbrev pub is_among : List (Bor (List ℕ)) → List ℕ → Bool
-is_among names x = list_any (λ name. bytes_eq name.now x) names
 
 -- whether the value of a variable is at hand
 abbrev pub is_sought : Sought → List ℕ → Bool

@@ -1,28 +1,13 @@
 //! The variables that are followed from an expression on.
 
-ghost use Rattle.std.specs.Prelude.{◌≡◌};
-ghost use Rattle.meson_variables.specs.CodeVariables.{is_among};
-
 use crate::meeting::is_files;
 use crate::values::Values;
-use meson_calls::roles::text_of;
+use meson_calls::roles::{is_among, text_of};
 use meson_syntax::{Arg, Expr, List};
 use std::alloc::{AllocError, Global};
 
 /// So many variables are looked for one by one; where there are more, all are.
 const MOST_NAMES: usize = 16;
-
-/// Whether a name is one of these.
-pub(crate) fn is_among(names: &[&[u8]], name: &[u8]) -> bool
-    ensures { result ≡ is_among names.now name.now }
-{
-    for i in 0..names.len() {
-        if names[i] == name {
-            return true;
-        }
-    }
-    false
-}
 
 /// Variables that are named, each once, and none that was known before.
 #[derive(Drop)]

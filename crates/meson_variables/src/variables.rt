@@ -1,7 +1,8 @@
 //! What the variables of a project stand for.
 
 ghost use Rattle.std.specs.Prelude.{◌≡◌, ℕ, List, not, true, All, IfOk, IfSome, IsTrue, option_map};
-ghost use Rattle.meson_variables.specs.CodeVariables.{AreVariables, is_among, is_sought, project_of};
+ghost use Rattle.meson_variables.specs.CodeVariables.{AreVariables, is_sought, project_of};
+ghost use Rattle.meson_calls.specs.Setters.{is_among};
 ghost use Rattle.meson_variables.specs.UnknownSetters.{has_unknown};
 ghost use Rattle.meson_calls.specs.Loading.{HasFileName, IsProject, loaded_from, project};
 ghost use Rattle.meson_variables.specs.Noted.{by_notes};
@@ -12,7 +13,7 @@ ghost use Rattle.meson_variables.specs.CodeValues.{value_in, value_view};
 ghost use Rattle.meson_variables.specs.Variables.{single};
 ghost use Rattle.meson_calls.specs.declared.call.Role.{Role};
 
-use crate::mentions::{Mentions, is_among};
+use crate::mentions::Mentions;
 use crate::target_sources::arguments_of;
 use crate::unknown_setters::all_known;
 use crate::values::{Value, Values};
@@ -20,6 +21,7 @@ use meson_calls::call::CallRef;
 use meson_calls::note::Note;
 use meson_calls::noted::Noted;
 use meson_calls::notes::{notes_naming, notes_of};
+use meson_calls::roles::is_among;
 use meson_splice::FileSet;
 use meson_syntax::Parsed;
 use std::alloc::{AllocError, Global};

@@ -1,10 +1,9 @@
-use Rattle.std.proofs.Common.{◌∙◌, ◌++◌, sym, ap, subst}
-use Rattle.std.specs.Prelude.{map}
+use Rattle.std.proofs.Common.{◌∙◌, sym, ap, subst}
 use Rattle.std.proofs.lemmas.Result.{IfOk-weaker}
 use Rattle.meson_calls.specs.Notes.{note_views}
-use Rattle.meson_calls.specs.Spelling.{AreNotesWith, setter_words}
+use Rattle.meson_calls.specs.Setters.{AreSetters}
 use Rattle.meson_calls.proofs.GoodNotes.{project_good}
-use Rattle.meson_calls.proofs.NotesWith.{good_with}
+use Rattle.meson_calls.proofs.SetterReadings.{setters_good}
 use Rattle.meson_variables.proofs.SoughtValues.{some_single}
 use Rattle.meson_variables.proofs.variables.some_values.Goals as goal
 
@@ -18,15 +17,15 @@ pub known_values-requires-clause-good : goal.known_values-requires-clause-good
 known_values-requires-clause-good c =
     let fs = c.args.files.now in
     let ts = c.args.trees.now in
-    let words = map (λ name. name.now) c.args.names.now ++ setter_words in
-    let are = subst (AreNotesWith words 0 fs ts) (sym (ap note_views c.as_slice.ensures.value ∙ c.in_ok-notes.ensures)) c.in_ok-taken.ensures in
-    good_with words fs ts (note_views c.as_slice.result.now) (project_good fs ts c.requires.parsed) are
+    let names = c.args.names.now in
+    let are = subst (AreSetters names 0 fs ts) (sym (ap note_views c.as_slice.ensures.value ∙ c.in_ok-notes.ensures)) c.in_ok-taken.ensures in
+    setters_good names fs ts (note_views c.as_slice.result.now) (project_good fs ts c.requires.parsed) are
 
 pub returns : goal.returns
 returns c =
     let fs = c.args.files.now in
     let ts = c.args.trees.now in
-    let words = map (λ name. name.now) c.args.names.now ++ setter_words in
-    let are = subst (AreNotesWith words 0 fs ts) (sym (ap note_views c.as_slice.ensures.value ∙ c.in_ok-notes.ensures)) c.in_ok-taken.ensures in
+    let names = c.args.names.now in
+    let are = subst (AreSetters names 0 fs ts) (sym (ap note_views c.as_slice.ensures.value ∙ c.in_ok-notes.ensures)) c.in_ok-taken.ensures in
     IfOk-weaker c.known_values.result _ _
-    (λ values so x among. so x ∙ some_single fs ts c.requires.parsed x c.args.names.now (note_views c.as_slice.result.now) are among) c.known_values.ensures
+    (λ values so x among. so x ∙ some_single fs ts c.requires.parsed x names (note_views c.as_slice.result.now) are among) c.known_values.ensures

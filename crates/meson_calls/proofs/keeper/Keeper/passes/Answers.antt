@@ -3,10 +3,15 @@ use Rattle.meson_syntax.specs.View.{expr_view}
 use Rattle.meson_calls.specs.Notes.{taken_view}
 use Rattle.meson_calls.specs.Parts.{parts_of_expression}
 use Rattle.meson_calls.specs.Walks.{keeper_view, with_parts}
-use Rattle.meson_calls.proofs.Visits.{notes_stay}
+use Rattle.meson_calls.proofs.Visits.{notes_stay, setters_stay}
 use Rattle.meson_calls.proofs.keeper.Keeper.passes.Goals as goal
 
 pub returns-in-Notes : goal.returns-in-Notes
 returns-in-Notes c = λ plain source p.
     let parts = parts_of_expression p (expr_view source c.args.expr.now) in
     subst (λ k. keeper_view k ≡ with_parts (keeper_view k) parts) (sym c.in-Notes.is) (notes_stay (taken_view c.in-Notes.field-0) parts (c.is_plain.ensures plain source p))
+
+pub returns-in-Setters : goal.returns-in-Setters
+returns-in-Setters c = λ plain source p.
+    subst (λ k. keeper_view k ≡ with_parts (keeper_view k) (parts_of_expression p (expr_view source c.args.expr.now))) (sym c.in-Setters.is)
+    (setters_stay c.in-Setters.field-0.names.now (taken_view c.in-Setters.field-0.found) p (expr_view source c.args.expr.now))

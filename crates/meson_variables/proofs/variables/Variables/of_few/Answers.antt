@@ -1,6 +1,6 @@
 use Rattle.std.proofs.Common.{◌≡◌, sym, subst}
 use Rattle.std.specs.Prelude.{true}
-use Rattle.meson_variables.specs.CodeVariables.{is_among}
+use Rattle.meson_calls.specs.Setters.{is_among}
 use Rattle.meson_calls.proofs.GoodNotes.{project_good}
 use Rattle.meson_variables.proofs.variables.Variables.of_few.Goals as goal
 
