@@ -1,5 +1,6 @@
 -- How often a store is read for a project's files: once for the root file, and once for each name that is entered and that no file there has.
-use Rattle.std.specs.Prelude.{◌≡◌, ◌<◌, ◌≤◌, ◌⊎◌, true, ℕ, suc, List, [], ◌∷◌, ◌++◌, length, Option, Some, None, is_some}
+-- The file of which a fault tells that it could not be read is the last that the store was asked for.
+use Rattle.std.specs.Prelude.{◌≡◌, ◌<◌, ◌≤◌, ◌⊎◌, true, ℕ, suc, List, [], ◌∷◌, ◌++◌, length, Option, Some, None, IfSome, is_some}
 use Rattle.meson_splice.specs.declared.file_set.File.{File}
 use Rattle.meson_splice.specs.Files.{bytes_at, position_of_file}
 use Rattle.meson_calls.specs.Folders.{build_file}
@@ -7,15 +8,41 @@ use Rattle.meson_calls.specs.Loading.{name_of_file}
 use Rattle.meson_calls.specs.Subdirs.{Enters}
 use Rattle.meson_store.specs.StoreCalls.{one_more}
 use Rattle.meson_store.specs.Content.{Content}
+use Rattle.meson_store.specs.declared.store_fault.StoreFault.{StoreFault}
+use Rattle.meson_store.specs.declared.store_fault.StoreFault.TheVariants.{ReadFailed}
 use Rattle.meson_gathering.specs.Gathering.{Told, file_of, held_bytes, files_with}
+use Rattle.meson_gathering.specs.declared.fault.GatherFault.{GatherFault}
+use Rattle.meson_gathering.specs.declared.fault.GatherFault.TheVariants.{Store}
 
--- it was read once, or not at all
-abbrev pub OnceAtMost : ℕ → ℕ → Type 0
-OnceAtMost reads reads' = (reads' ≡ reads) ⊎ (reads' ≡ one_more reads)
+-- ---- the file of which a fault tells that it could not be read, if there is one
 
--- the same of a file of that name, and not at all where it is there
-abbrev pub OnceIfNew : List ℕ → List File → ℕ → ℕ → Type 0
-OnceIfNew name files reads reads' = (reads' ≡ reads) ⊎ ((position_of_file name files ≡ None) × (reads' ≡ one_more reads))
+-- a fault of the store
+abbrev pub unread_name : StoreFault → Option (List ℕ)
+unread_name (ReadFailed name) = Some name
+unread_name _ = None
+
+-- one of gathering
+abbrev pub unread_file : GatherFault → Option (List ℕ)
+unread_file (Store fault) = unread_name fault
+unread_file _ = None
+
+-- ---- what the store is asked for at last, where it ends with a fault; `unread` is the file that the fault tells of so
+
+-- for nothing, and it tells of none
+abbrev pub AsksNone : ℕ → ℕ → Option (List ℕ) → Type 0
+AsksNone reads reads' unread = (reads' ≡ reads) × (unread ≡ None)
+
+-- for the file of that name, once, and it tells of no other
+abbrev pub Asks : List ℕ → ℕ → ℕ → Option (List ℕ) → Type 0
+Asks name reads reads' unread = (reads' ≡ one_more reads) × IfSome unread (λ n. n ≡ name)
+
+-- for nothing, or for that file
+abbrev pub MayAsk : List ℕ → ℕ → ℕ → Option (List ℕ) → Type 0
+MayAsk name reads reads' unread = AsksNone reads reads' unread ⊎ Asks name reads reads' unread
+
+-- the same, and for nothing where that file is there
+abbrev pub MayAskIfNew : List ℕ → List File → ℕ → ℕ → Option (List ℕ) → Type 0
+MayAskIfNew name files reads reads' unread = AsksNone reads reads' unread ⊎ ((position_of_file name files ≡ None) × Asks name reads reads' unread)
 
 -- of a store that told this before
 module _ (before : Option Content) (folder : Option (List ℕ)) where
@@ -34,7 +61,7 @@ module _ (before : Option Content) (folder : Option (List ℕ)) where
         → EntersEach files reads (names ++ name ∷ []) new m
 
   -- one of them is not: those before it were
-  pub record StopsEntering (files : List File) (reads : ℕ) (names : List (List ℕ)) (reads' : ℕ) : Type 0 where
+  pub record StopsEntering (files : List File) (reads : ℕ) (names : List (List ℕ)) (reads' : ℕ) (unread : Option (List ℕ)) : Type 0 where
     pub done : List (List ℕ)
     pub name : List ℕ
     pub rest : List (List ℕ)
@@ -42,7 +69,7 @@ module _ (before : Option Content) (folder : Option (List ℕ)) where
     pub there : List File
     pub so_far : ℕ
     pub entered : EntersEach files reads done there so_far
-    pub last : OnceIfNew name there so_far reads'
+    pub last : MayAskIfNew name there so_far reads' unread
 
   -- ---- the files, of which so many were looked at
 
@@ -51,9 +78,9 @@ module _ (before : Option Content) (folder : Option (List ℕ)) where
   EntersFor files place reads new reads' = (names : List (List ℕ)) × Enters (name_of_file place files) (bytes_at place files) names × EntersEach files reads names new reads'
 
   -- they are not known, or one of them is not entered
-  abbrev pub StopsFor : List File → ℕ → ℕ → ℕ → Type 0
-  StopsFor files place reads reads' =
-      (reads' ≡ reads) ⊎ ((names : List (List ℕ)) × Enters (name_of_file place files) (bytes_at place files) names × StopsEntering files reads names reads')
+  abbrev pub StopsFor : List File → ℕ → ℕ → ℕ → Option (List ℕ) → Type 0
+  StopsFor files place reads reads' unread = AsksNone reads reads' unread
+      ⊎ ((names : List (List ℕ)) × Enters (name_of_file place files) (bytes_at place files) names × StopsEntering files reads names reads' unread)
 
   pub data Looks (reads : ℕ) : List File → ℕ → ℕ → Type 0 where
     root_read : (bytes : List ℕ) → Told before (λ content. held_bytes content folder build_file ≡ Some bytes) → Looks reads (file_of build_file bytes ∷ []) 0 (one_more reads)
@@ -66,6 +93,6 @@ module _ (before : Option Content) (folder : Option (List ℕ)) where
     pub looks : Looks reads files place reads'
 
   -- the files are not all read
-  pub data StopsReading (reads reads' : ℕ) : Type 0 where
-    stops_at_root : OnceAtMost reads reads' → StopsReading reads reads'
-    stops_at_file : (files : List File) (place n : ℕ) → Looks reads files place n → StopsFor files place n reads' → StopsReading reads reads'
+  pub data StopsReading (reads reads' : ℕ) (unread : Option (List ℕ)) : Type 0 where
+    stops_at_root : MayAsk build_file reads reads' unread → StopsReading reads reads' unread
+    stops_at_file : (files : List File) (place n : ℕ) → Looks reads files place n → StopsFor files place n reads' unread → StopsReading reads reads' unread

@@ -1,6 +1,6 @@
 //! Reading the files of a project from a store.
 
-ghost use Rattle.std.specs.Prelude.{◌≡◌, ◌≤◌, ◌<◌, ◌∷◌, [], ℕ, List, Some, None, Option, All, IfOk, IfErr, IsNone, OnErr, OnOk, length, map, option_map, string_bytes, take, drop};
+ghost use Rattle.std.specs.Prelude.{◌≡◌, ◌≤◌, ◌<◌, ◌∷◌, [], ℕ, List, Some, None, Option, All, IfOk, IfErr, IsNone, OnOk, length, map, option_map, string_bytes, take, drop};
 ghost use Rattle.meson_splice.specs.Files.{bytes_at, position_of_file};
 ghost use Rattle.meson_syntax.specs.Reads.{IsSpanned, MayNotRead};
 ghost use Rattle.meson_syntax.specs.View.{view};
@@ -9,7 +9,7 @@ ghost use Rattle.meson_calls.specs.Loading.{HasFileName, IsProject, max_files, n
 ghost use Rattle.meson_calls.specs.Subdirs.{Enters};
 ghost use Rattle.meson_gathering.specs.Gathering.{Collects, Finds, Gathers, Told, files_entered, file_of, held_bytes, named_folder, whole, with_more};
 ghost use Rattle.meson_gathering.specs.Gathered.{Grows, IsNotAdded, IsNotEntered, IsUnread, LooksAt, StopsAt, StopsLooking};
-ghost use Rattle.meson_gathering.specs.ReadCounts.{EntersEach, EntersFor, EntersOne, OnceAtMost, OnceIfNew, ReadsFiles, StopsEntering, StopsFor, StopsReading};
+ghost use Rattle.meson_gathering.specs.ReadCounts.{EntersEach, EntersFor, EntersOne, MayAsk, MayAskIfNew, ReadsFiles, StopsEntering, StopsFor, StopsReading, unread_file, unread_name};
 ghost use Rattle.meson_store.specs.StoreCalls.{one_more};
 
 use crate::fault::GatherFault;
@@ -41,7 +41,7 @@ pub fn read_file<S: Store>(
     ensures counts { S.failures store.old ≤ S.failures store.new }
     ensures no_replace { S.replaces store.new ≡ S.replaces store.old }
     ensures once { OnOk result (S.reads store.new ≡ one_more (S.reads store.old)) }
-    ensures at_most_once { OnceAtMost (S.reads store.old) (S.reads store.new) }
+    ensures asks_at_most { IfErr result (λ fault. MayAsk name.now (S.reads store.old) (S.reads store.new) (unread_name fault)) }
 {
     let told = Text::of(String::from_str(alloc, name)?);
     let path = path_in(alloc, folder, name)?;
@@ -88,7 +88,7 @@ fn enter<S: Store>(
     ensures no_replace { S.replaces store.new ≡ S.replaces store.old }
     ensures asks { OnOk result (EntersOne (S.content store.old) (named_folder folder.entry) name.now files.old (S.reads store.old)
         files.new (S.reads store.new)) }
-    ensures asks_at_most { OnErr result (OnceIfNew name.now files.old (S.reads store.old) (S.reads store.new)) }
+    ensures asks_at_most { IfErr result (λ fault. MayAskIfNew name.now files.old (S.reads store.old) (S.reads store.new) (unread_file fault)) }
 {
     if files.has(name) {
         return Ok(());
@@ -120,8 +120,8 @@ fn enter_all<S: Store>(
     ensures no_replace { S.replaces store.new ≡ S.replaces store.old }
     ensures asks { OnOk result (EntersEach (S.content store.old) (named_folder folder.entry) files.old (S.reads store.old)
         (map string_bytes names.now) files.new (S.reads store.new)) }
-    ensures asks_at_most { OnErr result (StopsEntering (S.content store.old) (named_folder folder.entry) files.old (S.reads store.old)
-        (map string_bytes names.now) (S.reads store.new)) }
+    ensures asks_at_most { IfErr result (λ fault. StopsEntering (S.content store.old) (named_folder folder.entry) files.old (S.reads store.old)
+        (map string_bytes names.now) (S.reads store.new) (unread_file fault)) }
 {
     for i in 0..names.len() {
         enter(alloc, store, folder, files, names[i].as_str())?;
@@ -194,8 +194,8 @@ fn look<S: Store>(
     ensures no_replace { S.replaces store.new ≡ S.replaces store.old }
     ensures asks { OnOk result (EntersFor (S.content store.old) (named_folder folder.entry) files.old place (S.reads store.old)
         files.new (S.reads store.new)) }
-    ensures asks_at_most { OnErr result (StopsFor (S.content store.old) (named_folder folder.entry) files.old place (S.reads store.old)
-        (S.reads store.new)) }
+    ensures asks_at_most { IfErr result (λ fault. StopsFor (S.content store.old) (named_folder folder.entry) files.old place (S.reads store.old)
+        (S.reads store.new) (unread_file fault)) }
 {
     let ParsedFile { tree, names } = entry_at(alloc, files, place)?;
     enter_all(alloc, store, folder, files, names.as_slice())?;
@@ -216,7 +216,7 @@ fn root_set<S: Store>(
     ensures counts { S.failures store.old ≤ S.failures store.new }
     ensures no_replace { S.replaces store.new ≡ S.replaces store.old }
     ensures once { OnOk result (S.reads store.new ≡ one_more (S.reads store.old)) }
-    ensures at_most_once { OnceAtMost (S.reads store.old) (S.reads store.new) }
+    ensures asks_at_most { IfErr result (λ fault. MayAsk build_file (S.reads store.old) (S.reads store.new) (unread_file fault)) }
 {
     let name = Text::of(String::from_str(alloc, ROOT)?);
     let bytes = match read_file(alloc, store, folder, ROOT) {
@@ -234,7 +234,8 @@ fn root_set<S: Store>(
 /// each name that is entered and that no file has which was read before, and for no other.
 ///
 /// # Errors
-/// The store has no root file, a file can't be read or is none, there are too many, or want of memory.
+/// The store has no root file, a file can't be read or is none, there are too many, or want of memory. The file that can't be
+/// read is the last that the store was asked for.
 pub fn gather<S: Store>(
     alloc: Global,
     store: &mut S,
@@ -248,7 +249,8 @@ pub fn gather<S: Store>(
     ensures no_replace { S.replaces store.new ≡ S.replaces store.old }
     ensures asks { IfOk result (λ project. ReadsFiles (S.content store.old) (named_folder folder.entry) (S.reads store.old)
         project.files (S.reads store.new)) }
-    ensures asks_at_most { OnErr result (StopsReading (S.content store.old) (named_folder folder.entry) (S.reads store.old) (S.reads store.new)) }
+    ensures asks_at_most { IfErr result (λ fault. StopsReading (S.content store.old) (named_folder folder.entry) (S.reads store.old)
+        (S.reads store.new) (unread_file fault)) }
 {
     let mut files = root_set(alloc, store, folder)?;
     let mut trees = Vec::new(alloc);

@@ -10,6 +10,7 @@ pub mod Endings
 pub mod Opened
 pub mod Untold
 pub mod Reading
+pub mod Unread
 pub mod LogName
 mod Statuses
 pub mod Checking

@@ -1,5 +1,5 @@
 -- How often a run reads the store, from how often its steps do.
-use Rattle.std.proofs.Common.{◌≡◌, ◌⊎◌, ◌∙◌, ℕ, List, Option, Result, Ok, Err, inl, inr, refl, sym, subst}
+use Rattle.std.proofs.Common.{◌≡◌, ◌⊎◌, ◌∙◌, ℕ, List, Option, None, Result, Ok, Err, inl, inr, refl, sym, subst}
 use Rattle.std.specs.Prelude.{OnOk}
 use Rattle.meson_command.specs.Asking.{without_help_text, without_text}
 use Rattle.meson_command.specs.declared.asked.Action.{Action}
@@ -11,9 +11,12 @@ use Rattle.meson_splice.specs.declared.file_set.File.{File}
 use Rattle.meson_store.specs.Content.{Content}
 use Rattle.meson_store.specs.declared.store_fault.StoreFault.{StoreFault}
 use Rattle.meson_store.specs.declared.store_fault.StoreFault.TheVariants as store
+use Rattle.meson_gathering.proofs.Asking.{asks_and_reads}
 use Rattle.meson_gathering.specs.Gathering.{Finds, whole}
+use Rattle.meson_gathering.specs.ReadCounts.{AsksNone}
 use Rattle.meson_rewrite.specs.Lines.{status, store_fault_status, usage_status}
-use Rattle.meson_rewrite.specs.StoreReads.{AsksForProject, MayRead, ReadsAll, ReadsAtMost, ReadsFor, ReadsProject, ReadsWithLog, file_read}
+use Rattle.meson_rewrite.specs.Logs.{log_name}
+use Rattle.meson_rewrite.specs.StoreReads.{AsksForProject, AsksNamed, MayRead, ReadsAll, ReadsAtMost, ReadsFor, ReadsProject, ReadsWithLog, file_read}
 use Rattle.meson_rewrite.specs.Requests.{AsksFor}
 use Rattle.meson_rewrite.specs.declared.request.Listing.{Listing}
 use Rattle.meson_rewrite.specs.declared.request.ProgramRequest.TheVariants as request
@@ -30,17 +33,17 @@ on_ok (Err e) p = tt
 -- ---- a step
 
 module _ (before : Option Content) (dir : Option (List ℕ)) (reads : ℕ) (files : List File) (n m : ℕ) (same : m ≡ n) (all : ReadsWithLog before dir reads files n) where
-  pub with-log-at-most : ReadsAtMost before dir reads m
-  with-log-at-most = inr (files, all.0, all.1, inr (same ∙ all.2))
+  pub with-log-at-most : (unread : Option (List ℕ)) → unread ≡ None → ReadsAtMost before dir reads m unread
+  with-log-at-most unread none = inr (files, all.0, all.1, inr (asks_and_reads log_name all.0 m unread (same ∙ all.2) none))
 
   pub with-log-all : Finds before dir (whole files) → ReadsProject before dir reads m
   with-log-all found = (files, found, (all.0, all.1, same ∙ all.2))
 
 -- ---- a run
 
-pub nothing-read : (asked : Result Asked UsageFault) (before : Option Content) (reads : ℕ) → MayRead asked before reads reads
-nothing-read (Err fault) before reads = refl
-nothing-read (Ok a) before reads = inl refl
+pub nothing-read : (asked : Result Asked UsageFault) (before : Option Content) (reads : ℕ) → MayRead asked before reads reads None
+nothing-read (Err fault) before reads = (refl, refl)
+nothing-read (Ok a) before reads = inl (refl, refl)
 
 same-file : (a : Action) (reads : ℕ) → file_read (without_help_text a) reads ≡ file_read a reads
 same-file (action.Run s) reads = refl
@@ -58,6 +61,16 @@ same-file (action.List json) reads = refl
 same-file action.Sums reads = refl
 same-file (action.Help text) reads = refl
 same-file action.Version reads = refl
+
+same-named : (a : Action) (reads reads' : ℕ) (unread : Option (List ℕ)) → AsksNamed a reads reads' unread → AsksNamed (without_help_text a) reads reads' unread
+same-named (action.ScriptFile n) reads reads' unread h = h
+same-named (action.UndoChecked count name) reads reads' unread h = h
+same-named _ reads reads' unread h = absurd h
+
+shown-file : (title : List ℕ) (a : Action) (before : Option Content) (text : List ℕ) (reads : ℕ) → AsksFor title a before (request.Show text) → file_read a reads ≡ reads
+shown-file title (action.ScriptFile n) before text reads (cs, of, is) = absurd (let no : ⊥ = cc in no)
+shown-file title (action.UndoChecked count name) before text reads (file, of, is) = absurd (let no : ⊥ = cc in no)
+shown-file title _ before text reads is = refl
 
 same-project : (title : List ℕ) (a : Action) (before : Option Content) → AsksForProject title a before → AsksForProject title (without_help_text a) before
 same-project title (action.Run s) before asks = asks
@@ -78,14 +91,21 @@ same-project title (action.Help text) before (inr (listing, is)) = absurd (let n
 same-project title action.Version before asks = asks
 
 module _ (a : Asked) (before : Option Content) (reads : ℕ) where
-  pub asked-alone : (reads' : ℕ) → (reads' ≡ reads) ⊎ (reads' ≡ file_read a.action reads) → MayRead (Ok (without_text a)) before reads reads'
-  asked-alone reads' (inl e) = inl e
-  asked-alone reads' (inr e) = inr (inl (e ∙ sym (same-file a.action reads)))
+  pub asked-alone : (reads' : ℕ) (unread : Option (List ℕ)) → AsksNone reads reads' unread ⊎ AsksNamed a.action reads reads' unread
+      → MayRead (Ok (without_text a)) before reads reads' unread
+  asked-alone reads' unread (inl none) = inl none
+  asked-alone reads' unread (inr named) = inr (inl (same-named a.action reads reads' unread named))
+
+  pub shown-may-read : (text : List ℕ) (reads' : ℕ) → AsksFor a.title a.action before (request.Show text) → reads' ≡ file_read a.action reads → MayRead (Ok (without_text a)) before reads reads' None
+  shown-may-read text reads' asks e = inl (e ∙ shown-file a.title a.action before text reads asks, refl)
 
   module _ (middle : Option Content) (dir : Option (List ℕ)) (n reads' : ℕ) (kept : middle ≡ before) (named : dir ≡ a.dir) (is_read : n ≡ file_read a.action reads) where
-    pub step-may-read : AsksForProject a.title a.action before → ReadsAtMost middle dir n reads' → MayRead (Ok (without_text a)) before reads reads'
-    step-may-read asks h =
-        inr (inr (same-project a.title a.action before asks, subst (λ k. ReadsAtMost before a.dir k reads') (is_read ∙ sym (same-file a.action reads)) (subst (λ d. ReadsAtMost before d n reads') named (subst (λ b. ReadsAtMost b dir n reads') kept h))))
+    pub step-may-read : (unread : Option (List ℕ)) → AsksForProject a.title a.action before → ReadsAtMost middle dir n reads' unread → MayRead (Ok (without_text a)) before reads reads' unread
+    step-may-read unread asks h =
+        inr (inr (
+          same-project a.title a.action before asks,
+          subst (λ k. ReadsAtMost before a.dir k reads' unread) (is_read ∙ sym (same-file a.action reads)) (subst (λ d. ReadsAtMost before d n reads' unread) named (subst (λ b. ReadsAtMost b dir n reads' unread) kept h)),
+        ))
 
     pub step-reads-all : {E : Type 0} (step : Step) → AsksFor a.title a.action before (request.Step step) → (end : Result Said E) → OnOk end (ReadsProject middle dir n reads')
         → OnOk end (ReadsAll (Ok (without_text a)) before reads reads')

@@ -23,6 +23,7 @@ use Rattle.meson_rewrite.specs.Opening.{Opens, OpensNone}
 use Rattle.meson_rewrite.specs.Requests.{AsksFor, AsksForNone, only_asks, only_shows}
 use Rattle.meson_rewrite.specs.Steps.{Does, MayRefuseStep, Shows, only_tells, said_of}
 use Rattle.meson_rewrite.specs.Stops.{WantsMemory}
+use Rattle.meson_rewrite.specs.StoreReads.{MayRead, unread_in}
 use Rattle.meson_rewrite.specs.declared.request.Listing.{Listing}
 use Rattle.meson_rewrite.specs.declared.request.ProgramRequest.TheVariants as request
 use Rattle.meson_rewrite.specs.declared.request.Step.{Step}
@@ -155,9 +156,11 @@ CannotSay (Err stop) out out' err err' = Fails err err' × (out' ≡ out)
 abbrev pub Tells : ℕ → Heard → Heard → Heard → Heard → Result Said Stop → Type 0
 Tells code out out' err err' end = ((code ≡ status end) × Says end out out' err err') ⊎ ((code ≡ 3) × CannotSay end out out' err err')
 
-pub record Run (asked : Result Asked UsageFault) (before after : Seen) (code : ℕ) (out out' err err' : Heard) : Type 0 where
+pub record Run (asked : Result Asked UsageFault) (before after : Seen) (reads reads' code : ℕ) (out out' err err' : Heard) : Type 0 where
   pub end : Result Said Stop
   pub ends : Ends asked before after end
   pub tells : Tells code out out' err err' end
   -- where it was stopped
   pub kept : IfErr end (KeepsUntold (dir_of asked) before.content after.content)
+  -- so often the store was read, the last time for the file of which it tells that it could not be read, if there is one
+  pub may_read : MayRead asked before.content reads reads' (unread_in end)

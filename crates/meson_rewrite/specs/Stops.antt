@@ -1,5 +1,5 @@
 -- Why a run is stopped: the fault of the step that stopped it.
-use Rattle.std.specs.Prelude.{◌≡◌, List}
+use Rattle.std.specs.Prelude.{◌≡◌, ℕ, List, Option, None}
 use Rattle.meson_splice.specs.declared.fault.SpliceFault.TheVariants as splice
 use Rattle.meson_splice.specs.declared.file_set.File.{File}
 use Rattle.meson_calls.specs.declared.load_fault.LoadFault.TheVariants as load
@@ -12,6 +12,7 @@ use Rattle.meson_command.specs.declared.fault.UsageFault.TheVariants as usage
 use Rattle.meson_store.specs.declared.store_fault.StoreFault.TheVariants as store
 use Rattle.meson_gathering.specs.declared.fault.GatherFault.{GatherFault}
 use Rattle.meson_gathering.specs.declared.fault.GatherFault.TheVariants as gather
+use Rattle.meson_gathering.specs.ReadCounts.{unread_name}
 use Rattle.meson_rewrite.specs.declared.stop.Stop.{Stop}
 use Rattle.meson_rewrite.specs.declared.stop.Stop.TheVariants.{Usage, Script, Parse, TooManyFiles, BadFileName, Refused, Splice, Store}
 
@@ -20,6 +21,11 @@ abbrev pub gathering_stop : GatherFault → Stop
 gathering_stop (gather.Parse name fault) = Parse name fault
 gathering_stop gather.TooManyFiles = TooManyFiles
 gathering_stop (gather.Store fault) = Store fault
+
+-- the file of which it tells that it could not be read, if there is one
+abbrev pub unread_by : Stop → Option (List ℕ)
+unread_by (Store fault) = unread_name fault
+unread_by _ = None
 
 -- of an undo or a redo on files with these names
 abbrev pub undo_stop : List File → UndoFault → Stop

@@ -1,5 +1,6 @@
 -- How often a run reads the store: once for the file that the words name, where they name one, once for each file of the project that is asked for, and once for the log.
-use Rattle.std.specs.Prelude.{◌≡◌, ◌⊎◌, ℕ, List, Option, Result, Ok, Err}
+-- The file of which it tells that it could not be read is the last that the store was asked for.
+use Rattle.std.specs.Prelude.{◌≡◌, ◌⊎◌, ℕ, List, Option, None, Result, Ok, Err}
 use Rattle.meson_command.specs.declared.asked.Action.{Action}
 use Rattle.meson_command.specs.declared.asked.Action.TheVariants as action
 use Rattle.meson_command.specs.declared.asked.Asked.{Asked}
@@ -8,17 +9,32 @@ use Rattle.meson_splice.specs.declared.file_set.File.{File}
 use Rattle.meson_store.specs.StoreCalls.{one_more}
 use Rattle.meson_store.specs.Content.{Content}
 use Rattle.meson_gathering.specs.Gathering.{Finds, whole}
-use Rattle.meson_gathering.specs.ReadCounts.{OnceAtMost, ReadsFiles, StopsReading}
+use Rattle.meson_gathering.specs.ReadCounts.{Asks, AsksNone, MayAsk, ReadsFiles, StopsReading}
+use Rattle.meson_rewrite.specs.Logs.{log_name}
 use Rattle.meson_rewrite.specs.Requests.{AsksFor}
+use Rattle.meson_rewrite.specs.Stops.{unread_by}
 use Rattle.meson_rewrite.specs.declared.request.Listing.{Listing}
 use Rattle.meson_rewrite.specs.declared.request.ProgramRequest.TheVariants as request
 use Rattle.meson_rewrite.specs.declared.request.Step.{Step}
+use Rattle.meson_rewrite.specs.declared.said.Said.{Said}
+use Rattle.meson_rewrite.specs.declared.stop.Stop.{Stop}
+
+-- the file of which a run tells that it could not be read, if there is one
+abbrev pub unread_in : Result Said Stop → Option (List ℕ)
+unread_in (Ok said) = None
+unread_in (Err stop) = unread_by stop
 
 -- the file that the words name: a script, or digests
 abbrev pub file_read : Action → ℕ → ℕ
 file_read (action.ScriptFile name) reads = one_more reads
 file_read (action.UndoChecked count name) reads = one_more reads
 file_read _ reads = reads
+
+-- it alone is asked for
+abbrev pub AsksNamed : Action → ℕ → ℕ → Option (List ℕ) → Type 0
+AsksNamed (action.ScriptFile name) reads reads' unread = Asks name reads reads' unread
+AsksNamed (action.UndoChecked count name) reads reads' unread = Asks name reads reads' unread
+AsksNamed _ reads reads' unread = ⊥
 
 -- ---- the project of a folder, in a store that told this before
 
@@ -32,8 +48,9 @@ module _ (before : Option Content) (dir : Option (List ℕ)) where
   ReadsProject reads reads' = (files : List File) × Finds before dir (whole files) × ReadsWithLog reads files reads'
 
   -- the same, or no more than a part of them
-  abbrev pub ReadsAtMost : ℕ → ℕ → Type 0
-  ReadsAtMost reads reads' = StopsReading before dir reads reads' ⊎ ((files : List File) × (n : ℕ) × ReadsFiles before dir reads files n × OnceAtMost n reads')
+  abbrev pub ReadsAtMost : ℕ → ℕ → Option (List ℕ) → Type 0
+  ReadsAtMost reads reads' unread = StopsReading before dir reads reads' unread
+      ⊎ ((files : List File) × (n : ℕ) × ReadsFiles before dir reads files n × MayAsk log_name n reads' unread)
 
 -- ---- a whole run, by what the words ask for
 
@@ -43,10 +60,10 @@ AsksForProject title a before =
     ((step : Step) × AsksFor title a before (request.Step step)) ⊎ ((listing : Listing) × AsksFor title a before (request.List listing))
 
 -- nothing; the file that the words name; or, where they ask for something of the project, that and then its files and the log, or a part of them
-abbrev pub MayRead : Result Asked UsageFault → Option Content → ℕ → ℕ → Type 0
-MayRead (Err fault) before reads reads' = reads' ≡ reads
-MayRead (Ok a) before reads reads' =
-    (reads' ≡ reads) ⊎ (reads' ≡ file_read a.action reads) ⊎ (AsksForProject a.title a.action before × ReadsAtMost before a.dir (file_read a.action reads) reads')
+abbrev pub MayRead : Result Asked UsageFault → Option Content → ℕ → ℕ → Option (List ℕ) → Type 0
+MayRead (Err fault) before reads reads' unread = AsksNone reads reads' unread
+MayRead (Ok a) before reads reads' unread = AsksNone reads reads' unread ⊎ AsksNamed a.action reads reads' unread
+    ⊎ (AsksForProject a.title a.action before × ReadsAtMost before a.dir (file_read a.action reads) reads' unread)
 
 abbrev pub ReadsFor : Action → Option Content → Option (List ℕ) → ℕ → ℕ → Type 0
 ReadsFor (action.Help text) before dir reads reads' = reads' ≡ reads

@@ -1,6 +1,6 @@
 //! The session of a project in a store.
 
-ghost use Rattle.std.specs.Prelude.{◌≡◌, ◌≤◌, ◌⊎◌, IfOk, IfErr, None, OnErr, OnOk, Some, true};
+ghost use Rattle.std.specs.Prelude.{◌≡◌, ◌≤◌, ◌⊎◌, IfOk, IfErr, None, OnOk, Some, true};
 ghost use Rattle.meson_json.specs.Log.{is_text_history, logged};
 ghost use Rattle.meson_json.specs.declared.fault.ScriptFault.TheVariants.{BadLog};
 ghost use Rattle.meson_rewrite.specs.declared.stop.Stop.TheVariants.{Script};
@@ -8,9 +8,9 @@ ghost use Rattle.meson_gathering.specs.Gathering.{Told, held_bytes, named_folder
 ghost use Rattle.meson_rewrite.specs.Logs.{IsLog, log_name};
 ghost use Rattle.meson_rewrite.specs.Opening.{IsNoLog, Opens, OpensNone};
 ghost use Rattle.meson_rewrite.specs.StoreReads.{ReadsAtMost, ReadsWithLog};
-ghost use Rattle.meson_rewrite.specs.Stops.{WantsMemory};
+ghost use Rattle.meson_rewrite.specs.Stops.{WantsMemory, unread_by};
 ghost use Rattle.meson_store.specs.StoreCalls.{one_more};
-ghost use Rattle.meson_gathering.specs.ReadCounts.{OnceAtMost};
+ghost use Rattle.meson_gathering.specs.ReadCounts.{MayAsk};
 
 use crate::stop::Stop;
 use meson_gathering::{gather, read_file};
@@ -54,7 +54,7 @@ fn read_history<S: Store>(alloc: Global, store: &mut S, dir: Option<&str>) -> Re
     ensures counts { S.failures store.old ≤ S.failures store.new }
     ensures no_replace { S.replaces store.new ≡ S.replaces store.old }
     ensures once { OnOk result (S.reads store.new ≡ one_more (S.reads store.old)) }
-    ensures at_most_once { OnceAtMost (S.reads store.old) (S.reads store.new) }
+    ensures asks_at_most { IfErr result (λ why. MayAsk log_name (S.reads store.old) (S.reads store.new) (unread_by why)) }
 {
     match read_file(alloc, store, dir, LOG) {
         Ok(Some(text)) => log_in(alloc, text),
@@ -105,7 +105,8 @@ pub(crate) fn open<S: Store>(
     ensures no_replace { S.replaces store.new ≡ S.replaces store.old }
     ensures reads { IfOk result (λ o. ReadsWithLog (S.content store.old) (named_folder dir.entry) (S.reads store.old)
         o.session.project.files (S.reads store.new)) }
-    ensures reads_at_most { OnErr result (ReadsAtMost (S.content store.old) (named_folder dir.entry) (S.reads store.old) (S.reads store.new)) }
+    ensures reads_at_most { IfErr result (λ why. ReadsAtMost (S.content store.old) (named_folder dir.entry) (S.reads store.old)
+        (S.reads store.new) (unread_by why)) }
 {
     let project = match gather(alloc, store, dir) {
         Ok(project) => project,

@@ -5,7 +5,7 @@ ghost use Rattle.meson_command.specs.Asking.{asked_by, without_text};
 ghost use Rattle.meson_gathering.specs.Gathering.{named_folder};
 ghost use Rattle.meson_json.specs.Titles.{is_title};
 ghost use Rattle.meson_rewrite.specs.Lines.{status, store_fault_status, usage_status};
-ghost use Rattle.meson_rewrite.specs.StoreReads.{MayRead, ReadsAll, ReadsAtMost, ReadsProject};
+ghost use Rattle.meson_rewrite.specs.StoreReads.{MayRead, ReadsAll, ReadsAtMost, ReadsProject, unread_in};
 ghost use Rattle.meson_rewrite.specs.Requests.{only_shows};
 ghost use Rattle.meson_rewrite.specs.Steps.{IsTitled, only_tells};
 ghost use Rattle.meson_rewrite.specs.Runs.{CannotSay, Ends, IsUnchanged, KeepsFiles, ListingEnds, NeedsNoStore, OnlyAsks, Run, Says, StepEnds, Tells};
@@ -44,7 +44,7 @@ fn do_step<S: Store>(
     ensures ends { StepEnds (named_folder dir.entry) step.now dry_run (seen_by S.content S.failures S.replaces store.old)
         (seen_by S.content S.failures S.replaces store.new) result }
     ensures counts { S.failures store.old ≤ S.failures store.new }
-    ensures reads { ReadsAtMost (S.content store.old) (named_folder dir.entry) (S.reads store.old) (S.reads store.new) }
+    ensures reads { ReadsAtMost (S.content store.old) (named_folder dir.entry) (S.reads store.old) (S.reads store.new) (unread_in result) }
     ensures reads_all { OnOk result (ReadsProject (S.content store.old) (named_folder dir.entry) (S.reads store.old) (S.reads store.new)) }
 {
     let opened = open(alloc, store, dir)?;
@@ -71,7 +71,7 @@ fn list<S: Store>(
     ensures ends { ListingEnds (named_folder dir.entry) listing (seen_by S.content S.failures S.replaces store.old)
         (seen_by S.content S.failures S.replaces store.new) result }
     ensures counts { S.failures store.old ≤ S.failures store.new }
-    ensures reads { ReadsAtMost (S.content store.old) (named_folder dir.entry) (S.reads store.old) (S.reads store.new) }
+    ensures reads { ReadsAtMost (S.content store.old) (named_folder dir.entry) (S.reads store.old) (S.reads store.new) (unread_in result) }
     ensures reads_all { OnOk result (ReadsProject (S.content store.old) (named_folder dir.entry) (S.reads store.old) (S.reads store.new)) }
 {
     let opened = open(alloc, store, dir)?;
@@ -94,7 +94,7 @@ fn answer<S: Store>(alloc: Global, store: &mut S, asked: Asked) -> Result<Said, 
     ensures ends { Ends (Ok (without_text asked)) (seen_by S.content S.failures S.replaces store.old)
         (seen_by S.content S.failures S.replaces store.new) result }
     ensures untouched { IsTrue (only_shows asked.action) → store.new ≡ store.old }
-    ensures reads { MayRead (Ok (without_text asked)) (S.content store.old) (S.reads store.old) (S.reads store.new) }
+    ensures reads { MayRead (Ok (without_text asked)) (S.content store.old) (S.reads store.old) (S.reads store.new) (unread_in result) }
     ensures reads_all { OnOk result (ReadsAll (Ok (without_text asked)) (S.content store.old) (S.reads store.old) (S.reads store.new)) }
 {
     let Asked {
@@ -116,7 +116,8 @@ fn run<S: Store>(alloc: Global, store: &mut S, words: &[String]) -> Result<Said,
     ensures ends { Ends (asked_by (map string_bytes words.now)) (seen_by S.content S.failures S.replaces store.old)
         (seen_by S.content S.failures S.replaces store.new) result }
     ensures untouched { NeedsNoStore (asked_by (map string_bytes words.now)) → store.new ≡ store.old }
-    ensures reads { MayRead (asked_by (map string_bytes words.now)) (S.content store.old) (S.reads store.old) (S.reads store.new) }
+    ensures reads { MayRead (asked_by (map string_bytes words.now)) (S.content store.old) (S.reads store.old) (S.reads store.new)
+        (unread_in result) }
     ensures reads_all { OnOk result (ReadsAll (asked_by (map string_bytes words.now)) (S.content store.old) (S.reads store.old) (S.reads store.new)) }
 {
     match command_of(alloc, words) {
@@ -192,7 +193,8 @@ fn ended<O: Output, E: Output>(
 /// Where it is done, the store is read once for the file that the words name, if they name one (a script, or digests), once
 /// for the root file, once for each name that a `subdir` call enters and that no file has which was read before, and once for
 /// the log; help and the version read nothing.
-/// Where it ends early, the store is read as far as that, and no more.
+/// Where it ends early, the store is read as far as that, and no more; the file of which it tells that it can't be read is the
+/// last that the store was asked for.
 ///
 /// The status is 0 where it was done, 1 where a file, a script or the log is none, a command is refused, files are not as
 /// digests have them or memory ran out, 2 where the words ask for nothing, and 3 where the store or a writer failed. Help, the
@@ -205,14 +207,13 @@ pub fn rewrite<S: Store, O: Output, E: Output>(
     out: &mut O,
     err: &mut E,
 ) -> u8
-    ensures runs { Run (asked_by (map string_bytes words.now)) (seen_by S.content S.failures S.replaces store.old)
-        (seen_by S.content S.failures S.replaces store.new) result (O.heard out.old) (O.heard out.new) (E.heard err.old) (E.heard err.new) }
+    ensures runs { let known = seen_by S.content S.failures S.replaces in Run (asked_by (map string_bytes words.now)) (known store.old) (known store.new)
+        (S.reads store.old) (S.reads store.new) result (O.heard out.old) (O.heard out.new) (E.heard err.old) (E.heard err.new) }
     ensures untouched { NeedsNoStore (asked_by (map string_bytes words.now)) → store.new ≡ store.old }
     ensures asking { OnlyAsks (asked_by (map string_bytes words.now)) → IsUnchanged (seen_by S.content S.failures S.replaces store.old)
         (seen_by S.content S.failures S.replaces store.new) }
     ensures kept { (result ≡ 1) ⊎ (result ≡ 2) → KeepsFiles (asked_by (map string_bytes words.now)) (seen_by S.content S.failures S.replaces store.old)
         (seen_by S.content S.failures S.replaces store.new) result }
-    ensures reads { MayRead (asked_by (map string_bytes words.now)) (S.content store.old) (S.reads store.old) (S.reads store.new) }
     ensures reads_all { (result ≡ 0) → ReadsAll (asked_by (map string_bytes words.now)) (S.content store.old) (S.reads store.old) (S.reads store.new) }
 {
     let end = run(alloc, store, words);

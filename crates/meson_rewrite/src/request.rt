@@ -6,10 +6,10 @@ ghost use Rattle.meson_json.specs.Scripts.{script_of};
 ghost use Rattle.meson_json.specs.Titles.{is_title};
 ghost use Rattle.meson_rewrite.specs.Requests.{AsksFor, AsksForNone, IsBad, IsFileOf, IsNoFile, IsNoScript, IsScriptOf, StepsTitled, names_file, only_shows, script, script_in};
 ghost use Rattle.meson_rewrite.specs.Lines.{version_line};
-ghost use Rattle.meson_rewrite.specs.StoreReads.{file_read};
-ghost use Rattle.meson_rewrite.specs.Stops.{WantsMemory};
+ghost use Rattle.meson_rewrite.specs.StoreReads.{AsksNamed, file_read};
+ghost use Rattle.meson_rewrite.specs.Stops.{WantsMemory, unread_by};
 ghost use Rattle.meson_store.specs.StoreCalls.{one_more};
-ghost use Rattle.meson_gathering.specs.ReadCounts.{OnceAtMost};
+ghost use Rattle.meson_gathering.specs.ReadCounts.{AsksNone, MayAsk};
 
 use crate::lines::version_text;
 use crate::stop::Stop;
@@ -102,7 +102,7 @@ fn read_named<S: Store>(alloc: Global, store: &mut S, name: Text) -> Result<Name
     ensures counts { S.failures store.old ≤ S.failures store.new }
     ensures no_replace { S.replaces store.new ≡ S.replaces store.old }
     ensures once { OnOk result (S.reads store.new ≡ one_more (S.reads store.old)) }
-    ensures at_most_once { OnceAtMost (S.reads store.old) (S.reads store.new) }
+    ensures asks_at_most { IfErr result (λ why. MayAsk name (S.reads store.old) (S.reads store.new) (unread_by why)) }
 {
     match read_file(alloc, store, None, name.get()) {
         Ok(Some(bytes)) => Ok(NamedFile {
@@ -122,7 +122,7 @@ fn read_script<S: Store>(alloc: Global, store: &mut S, name: Text) -> Result<Scr
     ensures counts { S.failures store.old ≤ S.failures store.new }
     ensures no_replace { S.replaces store.new ≡ S.replaces store.old }
     ensures once { OnOk result (S.reads store.new ≡ one_more (S.reads store.old)) }
-    ensures at_most_once { OnceAtMost (S.reads store.old) (S.reads store.new) }
+    ensures asks_at_most { IfErr result (λ why. MayAsk name (S.reads store.old) (S.reads store.new) (unread_by why)) }
 {
     let file = read_named(alloc, store, name)?;
     script_in(alloc, file.bytes.get())
@@ -201,7 +201,8 @@ pub(crate) fn request_of<S: Store>(
     ensures counts { S.failures store.old ≤ S.failures store.new }
     ensures no_replace { S.replaces store.new ≡ S.replaces store.old }
     ensures reads { OnOk result (S.reads store.new ≡ file_read action (S.reads store.old)) }
-    ensures reads_at_most { (S.reads store.new ≡ S.reads store.old) ⊎ (S.reads store.new ≡ file_read action (S.reads store.old)) }
+    ensures reads_at_most { IfErr result (λ why. AsksNone (S.reads store.old) (S.reads store.new) (unread_by why)
+        ⊎ AsksNamed action (S.reads store.old) (S.reads store.new) (unread_by why)) }
     ensures untouched { IsTrue (only_shows action) → store.new ≡ store.old }
 {
     match action {

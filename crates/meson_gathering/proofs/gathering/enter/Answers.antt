@@ -1,9 +1,9 @@
 use Rattle.std.proofs.Common.{◌∷◌, [], None, inr, refl, sym, option_map}
 use Rattle.meson_splice.specs.Files.{position_of_file}
 use Rattle.meson_gathering.specs.Gathering.{Told, file_of, Ending}
-use Rattle.meson_gathering.specs.ReadCounts.{OnceIfNew}
+use Rattle.meson_gathering.specs.ReadCounts.{MayAskIfNew, unread_file}
 use Rattle.meson_gathering.specs.Gathered.{IsNotEntered, past_limit, at_name, IsNotAdded, StopsAt}
-use Rattle.meson_gathering.proofs.Asking.{asks_for_file, asks_for_none, asks_nothing, is_new, on_err, once_if_new}
+use Rattle.meson_gathering.proofs.Asking.{asks_and_reads, asks_for_file, asks_for_none, asks_nothing, is_new, may_ask_new, unadded_reads}
 use Rattle.meson_gathering.proofs.EnteredFiles.{enter_new, next_name}
 use Rattle.meson_gathering.proofs.Stopping.{if_err, unadded_stops, unread_stops}
 use Rattle.meson_gathering.proofs.gathering.enter.Goals as goal
@@ -52,9 +52,12 @@ returns-in-Ok-Some-clause-asks_at_most g c =
     let S = g.S.Store in
     let files = c.args.files.now in
     let name = c.args.name.now in
-    let before = S.content c.args.store.now in
-    let folder = option_map (λ f. f.now) c.args.folder in
-    on_err (OnceIfNew name files (S.reads c.args.store.now) (S.reads c.read_file.new.store)) (inr (is_new files name (position_of_file name files) refl (sym c.if-has.ensures), c.in-Ok-Some.ensures.once)) c.add.result
+    let f = file_of name c.in-Ok-Some.bytes.items in
+    let reads = S.reads c.args.store.now in
+    let reads' = S.reads c.read_file.new.store in
+    let absent = is_new files name (position_of_file name files) refl (sym c.if-has.ensures) in
+    if_err (IsNotAdded files f) (λ fault. MayAskIfNew name files reads reads' (unread_file fault))
+    (λ fault h. inr (absent, asks_and_reads name reads reads' (unread_file fault) c.in-Ok-Some.ensures.once (unadded_reads files f fault h))) c.add.result c.add.ensures.stopped
 
 pub returns-in-Ok-None-clause-asks : goal.returns-in-Ok-None-clause-asks
 returns-in-Ok-None-clause-asks g c =
@@ -71,4 +74,4 @@ returns-in-Err-clause-asks_at_most g c =
     let S = g.S.Store in
     let files = c.args.files.now in
     let name = c.args.name.now in
-    once_if_new name files (S.reads c.args.store.now) (S.reads c.read_file.new.store) (is_new files name (position_of_file name files) refl (sym c.if-has.ensures)) c.read_file.ensures.at_most_once
+    may_ask_new name files (S.reads c.args.store.now) (S.reads c.read_file.new.store) _ (is_new files name (position_of_file name files) refl (sym c.if-has.ensures)) c.in-Err.ensures.asks_at_most

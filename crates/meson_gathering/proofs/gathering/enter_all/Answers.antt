@@ -69,7 +69,7 @@ pub returns-in_err-enter-clause-asks_at_most : goal.returns-in_err-enter-clause-
 returns-in_err-enter-clause-asks_at_most g c =
     let name = c.as_str.result.now in
     let error = err_from_is_err_and c.from_residual.result c.from_residual.ensures.1 in
-    rw error.1 (record {
+    rw (error.1, error.2) (record {
       done = map string_bytes (take c.loop-i.i c.args.names.now);
       name = name;
       rest = map string_bytes (drop (c.loop-i.i + 1) c.args.names.now);

@@ -6,8 +6,7 @@ use Rattle.std.proofs.lemmas.Result.{err_from_is_err_and}
 use Rattle.meson_calls.specs.Folders.{build_file}
 use Rattle.meson_calls.specs.Loading.{max_files, HasFileName, AreParsed}
 use Rattle.meson_gathering.specs.Gathering.{Told, Finds, Collects, Ending, Gathers, file_of, from_root, whole}
-use Rattle.meson_gathering.specs.ReadCounts.{EntersFor, Looks, ReadsFiles, StopsFor, StopsReading, next_file, root_read, stops_at_file, stops_at_root}
-use Rattle.meson_gathering.proofs.Asking.{on_err}
+use Rattle.meson_gathering.specs.ReadCounts.{EntersFor, Looks, ReadsFiles, StopsFor, next_file, root_read, stops_at_file, stops_at_root, unread_file}
 use Rattle.meson_gathering.proofs.Places.{looks, ended_all}
 use Rattle.meson_gathering.proofs.Parsed.{parsed_more, all_parsed}
 use Rattle.meson_gathering.proofs.Stopping.{stops_within}
@@ -103,7 +102,7 @@ returns-clause-asks g c =
 pub returns-in_err-files-clause-asks_at_most : goal.returns-in_err-files-clause-asks_at_most
 returns-in_err-files-clause-asks_at_most g c =
     let p = err_from_is_err_and c.from_residual.result c.from_residual.ensures.1 in
-    rw p.1 (stops_at_root c.root_set.ensures.at_most_once)
+    rw (p.1, p.2) (stops_at_root c.in_err-files.ensures.asks_at_most)
 
 pub returns-in_err-tree-clause-asks_at_most : goal.returns-in_err-tree-clause-asks_at_most
 returns-in_err-tree-clause-asks_at_most g c =
@@ -113,7 +112,8 @@ returns-in_err-tree-clause-asks_at_most g c =
     let files = c.looking.files in
     let place = c.looking.looked in
     let n = S.reads c.looking.store in
-    rw error.1 (stops_at_file files place n c.looking.invariant.asks (subst (λ b. StopsFor b folder files place n (S.reads c.look.new.store)) c.looking.invariant.kept c.in_err-tree.ensures.asks_at_most))
+    rw (error.1, error.2) (stops_at_file files place n c.looking.invariant.asks
+    (subst (λ b. StopsFor b folder files place n (S.reads c.look.new.store) (unread_file c.in_err-tree.field-0.0)) c.looking.invariant.kept c.in_err-tree.ensures.asks_at_most))
 
 pub returns-in_err-push-clause-asks_at_most : goal.returns-in_err-push-clause-asks_at_most
 returns-in_err-push-clause-asks_at_most g c =
@@ -126,4 +126,5 @@ returns-in_err-push-clause-asks_at_most g c =
     let m = S.reads c.look.new.store in
     let within : place < length old = omega arith in
     let looked = next_file old new place n m c.looking.invariant.asks within (subst (λ b. EntersFor b folder old place n new m) c.looking.invariant.kept c.in_ok-tree.ensures.asks) in
-    on_err (StopsReading (S.content c.args.store.now) folder (S.reads c.args.store.now) m) (stops_at_file new (suc place) m looked (inl refl)) c.from_residual-in_err-push.result
+    let p = err_from_is_err_and c.from_residual-in_err-push.result c.from_residual-in_err-push.ensures.1 in
+    rw (p.1, p.2) (stops_at_file new (suc place) m looked (inl (refl, refl)))

@@ -4,7 +4,8 @@ use Rattle.meson_splice.specs.Files.{bytes_at}
 use Rattle.meson_calls.specs.Loading.{name_of_file}
 use Rattle.meson_gathering.specs.Gathering.{Told, Ending, Gathers, files_entered}
 use Rattle.meson_gathering.specs.Gathered.{IsNotEntered}
-use Rattle.meson_gathering.specs.ReadCounts.{EntersEach, StopsEntering}
+use Rattle.meson_gathering.specs.ReadCounts.{EntersEach, StopsEntering, unread_file}
+use Rattle.meson_gathering.proofs.Asking.{looking_reads}
 use Rattle.meson_gathering.proofs.Places.{not_entered, not_parsed}
 use Rattle.meson_gathering.proofs.Stopping.{stops_within, looking_stops}
 use Rattle.meson_gathering.proofs.gathering.look.Goals as goal
@@ -64,14 +65,16 @@ returns-in_err-enter_all-clause-asks_at_most g c =
     let folder = option_map (λ f. f.now) c.args.folder in
     let names = map string_bytes c.in_ok-tree.field-0.names.items in
     let p = err_from_is_err_and c.from_residual-in_err-enter_all.result c.from_residual-in_err-enter_all.ensures.1 in
-    rw p.1 (inr (
+    rw (p.1, p.2) (inr (
       names,
       c.in_ok-tree.ensures.names,
-      subst (λ ns. StopsEntering (S.content c.args.store.now) folder c.args.files.now (S.reads c.args.store.now) ns (S.reads c.enter_all.new.store))
+      subst (λ ns. StopsEntering (S.content c.args.store.now) folder c.args.files.now (S.reads c.args.store.now) ns (S.reads c.enter_all.new.store) (unread_file c.in_err-enter_all.field-0.0))
           (ap (map string_bytes) c.as_slice.ensures.value) c.in_err-enter_all.ensures.asks_at_most,
     ))
 
 pub returns-in_err-tree-clause-asks_at_most : goal.returns-in_err-tree-clause-asks_at_most
 returns-in_err-tree-clause-asks_at_most g c =
     let p = err_from_is_err_and c.from_residual.result c.from_residual.ensures.1 in
-    rw p.1 (inl refl)
+    let files = c.args.files.now in
+    let place = c.args.place in
+    rw (p.1, p.2) (inl (refl, looking_reads (name_of_file place files) (bytes_at place files) c.in_err-tree.field-0.0 c.in_err-tree.ensures.stopped))

@@ -1,8 +1,11 @@
-use Rattle.std.proofs.Common.{option_map, inl, inr, subst, sym}
+use Rattle.std.proofs.Common.{◌∙◌, ap, option_map, inl, inr, subst, sym}
 use Rattle.std.proofs.lemmas.Result.{err_from_is_err_and}
 use Rattle.meson_rewrite.proofs.Opened.{no-log-opens}
+use Rattle.meson_rewrite.proofs.Unread.{gathered-unread}
 use Rattle.meson_rewrite.specs.Opening.{OpensNone, no_project}
 use Rattle.meson_rewrite.specs.StoreReads.{ReadsWithLog}
+use Rattle.meson_rewrite.specs.Stops.{unread_by}
+use Rattle.meson_gathering.specs.ReadCounts.{StopsReading}
 use Rattle.meson_rewrite.proofs.opening.open.Goals as goal
 
 pub returns-in-Err-clause-none : goal.returns-in-Err-clause-none
@@ -17,12 +20,15 @@ returns-in_err-log-clause-none g c =
     c.gather.ensures.kept c.gather.ensures.counts c.read_history.ensures.counts c.in-Ok.project.files c.in-Ok.ensures.files c.in_err-log.field-0.0 c.in_err-log.ensures.none)
 
 pub returns-in-Err-clause-reads_at_most : goal.returns-in-Err-clause-reads_at_most
-returns-in-Err-clause-reads_at_most g c = inl c.in-Err.ensures.asks_at_most
+returns-in-Err-clause-reads_at_most g c =
+    let S = g.S.Store in
+    let dir = option_map (λ d. d.now) c.args.dir in
+    inl (subst (StopsReading (S.content c.args.store.now) dir (S.reads c.args.store.now) (S.reads c.gather.new.store)) (sym (ap unread_by c.from.ensures ∙ gathered-unread c.in-Err.fault)) c.in-Err.ensures.asks_at_most)
 
 pub returns-in_err-log-clause-reads_at_most : goal.returns-in_err-log-clause-reads_at_most
 returns-in_err-log-clause-reads_at_most g c =
     let p = err_from_is_err_and c.from_residual.result c.from_residual.ensures.1 in
-    rw p.1 (inr (c.in-Ok.project.files, g.S.Store.reads c.gather.new.store, c.in-Ok.ensures.asks, c.read_history.ensures.at_most_once))
+    rw (p.1, p.2) (inr (c.in-Ok.project.files, g.S.Store.reads c.gather.new.store, c.in-Ok.ensures.asks, c.in_err-log.ensures.asks_at_most))
 
 pub returns-clause-reads : goal.returns-clause-reads
 returns-clause-reads g c =

@@ -1,8 +1,10 @@
 use Rattle.std.proofs.Common.{Ok, inl, inr, refl, subst, sym}
 use Rattle.meson_command.specs.Asking.{without_text}
 use Rattle.meson_rewrite.proofs.Endings.{listing-before, not-asked, shown-ends, step-before}
-use Rattle.meson_rewrite.proofs.Reading.{asked-alone, listing-reads-all, shown-reads-none, step-may-read, step-reads-all}
+use Rattle.meson_rewrite.proofs.Reading.{asked-alone, listing-reads-all, shown-may-read, shown-reads-none, step-may-read, step-reads-all}
 use Rattle.meson_rewrite.specs.Runs.{Ends, ListingEnds, StepEnds, lists, steps}
+use Rattle.meson_rewrite.specs.StoreReads.{unread_in}
+use Rattle.meson_rewrite.specs.Stops.{unread_by}
 use Rattle.meson_store.specs.Seen.{Untouched, seen}
 use Rattle.meson_rewrite.proofs.program.answer.Goals as goal
 
@@ -46,7 +48,7 @@ returns-in-Ok-List-clause-reads g c =
     let S = g.S.Store in
     let asks = rw c.in-Ok-List.field-0-is at c.in-Ok-List.ensures.asks in
     step-may-read c.args.asked (S.content c.args.store.now) (S.reads c.args.store.now) (S.content c.request_of.new.store) _ (S.reads c.request_of.new.store) (S.reads c.list.new.store)
-    c.request_of.ensures.kept c.folder-in-Ok-List.ensures c.in-Ok-List.ensures.reads (inr (c.in-Ok-List.listing, asks)) c.list.ensures.reads
+    c.request_of.ensures.kept c.folder-in-Ok-List.ensures c.in-Ok-List.ensures.reads (unread_in c.list.result) (inr (c.in-Ok-List.listing, asks)) c.list.ensures.reads
 
 pub returns-in-Ok-List-clause-reads_all : goal.returns-in-Ok-List-clause-reads_all
 returns-in-Ok-List-clause-reads_all g c =
@@ -68,7 +70,8 @@ returns-clause-ends g c =
 pub returns-in-Ok-Show-clause-reads : goal.returns-in-Ok-Show-clause-reads
 returns-in-Ok-Show-clause-reads g c =
     let S = g.S.Store in
-    asked-alone c.args.asked (S.content c.args.store.now) (S.reads c.args.store.now) (S.reads c.request_of.new.store) c.request_of.ensures.reads_at_most
+    let asks = rw c.in-Ok-Show.field-0-is at c.in-Ok-Show.ensures.asks in
+    shown-may-read c.args.asked (S.content c.args.store.now) (S.reads c.args.store.now) c.in-Ok-Show.text (S.reads c.request_of.new.store) asks c.in-Ok-Show.ensures.reads
 
 pub returns-in-Ok-Show-clause-reads_all : goal.returns-in-Ok-Show-clause-reads_all
 returns-in-Ok-Show-clause-reads_all g c =
@@ -83,7 +86,7 @@ returns-in-Ok-Step-clause-reads g c =
     let S = g.S.Store in
     let asks = rw c.in-Ok-Step.field-0-is at c.in-Ok-Step.ensures.asks in
     step-may-read c.args.asked (S.content c.args.store.now) (S.reads c.args.store.now) (S.content c.request_of.new.store) _ (S.reads c.request_of.new.store) (S.reads c.do_step.new.store)
-    c.request_of.ensures.kept c.folder.ensures c.in-Ok-Step.ensures.reads (inl (c.in-Ok-Step.step, asks)) c.do_step.ensures.reads
+    c.request_of.ensures.kept c.folder.ensures c.in-Ok-Step.ensures.reads (unread_in c.do_step.result) (inl (c.in-Ok-Step.step, asks)) c.do_step.ensures.reads
 
 pub returns-in-Ok-Step-clause-reads_all : goal.returns-in-Ok-Step-clause-reads_all
 returns-in-Ok-Step-clause-reads_all g c =
@@ -95,4 +98,4 @@ returns-in-Ok-Step-clause-reads_all g c =
 pub returns-clause-reads : goal.returns-clause-reads
 returns-clause-reads g c =
     let S = g.S.Store in
-    asked-alone c.args.asked (S.content c.args.store.now) (S.reads c.args.store.now) (S.reads c.request_of.new.store) c.request_of.ensures.reads_at_most
+    asked-alone c.args.asked (S.content c.args.store.now) (S.reads c.args.store.now) (S.reads c.request_of.new.store) (unread_by c.in-Err.stop) c.in-Err.ensures.reads_at_most

@@ -1,13 +1,16 @@
-use Rattle.std.proofs.Common.{◌≡◌, ◌⊎◌, ℕ, Bool, List, Option, Result, Ok, Err, false, refl, true, option_map}
+use Rattle.std.proofs.Common.{◌≡◌, ◌⊎◌, ℕ, Bool, List, Option, None, Result, Ok, Err, false, refl, true, option_map}
 use Rattle.std.proofs.lemmas.Result.{err_from_is_err_and}
 use Rattle.std.specs.Prelude.{IfErr, IfOk}
 use Rattle.meson_rewrite.proofs.Endings.{done-ends, dry-ends, failed-ends, stopped-acting, stopped-opening, told-ends}
 use Rattle.meson_rewrite.proofs.Reading.{on_ok, with-log-all, with-log-at-most}
+use Rattle.meson_rewrite.proofs.Unread.{acting-unread, commit-unread, stop-unread}
 use Rattle.meson_rewrite.specs.inside.Edited.{IsShown, OnlyTells}
 use Rattle.meson_rewrite.specs.Opening.{Opens}
 use Rattle.meson_rewrite.specs.Runs.{StepEnds}
 use Rattle.meson_rewrite.specs.Steps.{MayRefuseStep, only_tells}
-use Rattle.meson_rewrite.specs.Stops.{WantsMemory}
+use Rattle.meson_rewrite.specs.StoreReads.{unread_in}
+use Rattle.meson_rewrite.specs.Stops.{WantsMemory, unread_by}
+use Rattle.meson_gathering.specs.ReadCounts.{unread_name}
 use Rattle.meson_rewrite.specs.declared.request.Step.{Step}
 use Rattle.meson_rewrite.specs.declared.said.Said.{Said}
 use Rattle.meson_rewrite.specs.declared.stop.Stop.{Stop}
@@ -93,13 +96,16 @@ returns-in-Err-clause-ends g c =
     failed-ends dir c.args.step.now c.args.dry_run b m a u writes wet c.in_ok-opened.opened.session c.in_ok-opened.opened.log.items c.in_ok-opened.ensures.opens c.in_ok-edit.edit c.in_ok-edit.ensures.edited c.in-Err.fault c.in-Err.ensures.failed
 
 pub returns-in_err-opened-clause-reads : goal.returns-in_err-opened-clause-reads
-returns-in_err-opened-clause-reads g c = c.in_err-opened.ensures.reads_at_most
+returns-in_err-opened-clause-reads g c =
+    let error = err_from_is_err_and c.from_residual.result c.from_residual.ensures.1 in
+    rw (error.1, error.2) c.in_err-opened.ensures.reads_at_most
 
 pub returns-then-only_tells-clause-reads : goal.returns-then-only_tells-clause-reads
 returns-then-only_tells-clause-reads g c =
     let S = g.S.Store in
     let dir = option_map (λ d. d.now) c.args.dir in
     with-log-at-most (S.content c.args.store.now) dir (S.reads c.args.store.now) c.in_ok-opened.opened.session.project.files (S.reads c.open.new.store) _ refl c.in_ok-opened.ensures.reads
+    (unread_in c.told.result) (acting-unread c.args.step.now c.in_ok-opened.opened.session c.told.result c.told.ensures.refused)
 
 pub returns-then-only_tells-clause-reads_all : goal.returns-then-only_tells-clause-reads_all
 returns-then-only_tells-clause-reads_all g c =
@@ -112,6 +118,7 @@ returns-then-dry_run-clause-reads g c =
     let S = g.S.Store in
     let dir = option_map (λ d. d.now) c.args.dir in
     with-log-at-most (S.content c.args.store.now) dir (S.reads c.args.store.now) c.in_ok-opened.opened.session.project.files (S.reads c.open.new.store) _ refl c.in_ok-opened.ensures.reads
+    (unread_in c.shown.result) (acting-unread c.args.step.now c.in_ok-opened.opened.session c.shown.result c.shown.ensures.refused)
 
 pub returns-then-dry_run-clause-reads_all : goal.returns-then-dry_run-clause-reads_all
 returns-then-dry_run-clause-reads_all g c =
@@ -123,13 +130,15 @@ pub returns-in_err-edit-clause-reads : goal.returns-in_err-edit-clause-reads
 returns-in_err-edit-clause-reads g c =
     let S = g.S.Store in
     let dir = option_map (λ d. d.now) c.args.dir in
-    with-log-at-most (S.content c.args.store.now) dir (S.reads c.args.store.now) c.in_ok-opened.opened.session.project.files (S.reads c.open.new.store) _ refl c.in_ok-opened.ensures.reads
+    let error = err_from_is_err_and c.from_residual-in_err-edit.result c.from_residual-in_err-edit.ensures.1 in
+    rw (error.1, error.2) (with-log-at-most (S.content c.args.store.now) dir (S.reads c.args.store.now) c.in_ok-opened.opened.session.project.files (S.reads c.open.new.store) _ refl c.in_ok-opened.ensures.reads
+    (unread_by c.in_err-edit.field-0.0) (stop-unread c.args.step.now c.in_ok-opened.opened.session c.in_err-edit.field-0.0 c.in_err-edit.ensures.refused))
 
 pub returns-in-Ok-clause-reads : goal.returns-in-Ok-clause-reads
 returns-in-Ok-clause-reads g c =
     let S = g.S.Store in
     let dir = option_map (λ d. d.now) c.args.dir in
-    with-log-at-most (S.content c.args.store.now) dir (S.reads c.args.store.now) c.in_ok-opened.opened.session.project.files (S.reads c.open.new.store) _ c.commit.ensures.no_read c.in_ok-opened.ensures.reads
+    with-log-at-most (S.content c.args.store.now) dir (S.reads c.args.store.now) c.in_ok-opened.opened.session.project.files (S.reads c.open.new.store) _ c.commit.ensures.no_read c.in_ok-opened.ensures.reads None refl
 
 pub returns-in-Ok-clause-reads_all : goal.returns-in-Ok-clause-reads_all
 returns-in-Ok-clause-reads_all g c =
@@ -142,3 +151,4 @@ returns-in-Err-clause-reads g c =
     let S = g.S.Store in
     let dir = option_map (λ d. d.now) c.args.dir in
     with-log-at-most (S.content c.args.store.now) dir (S.reads c.args.store.now) c.in_ok-opened.opened.session.project.files (S.reads c.open.new.store) _ c.commit.ensures.no_read c.in_ok-opened.ensures.reads
+    (unread_name c.in-Err.fault) (commit-unread _ _ _ c.in-Err.fault c.in-Err.ensures.failed)

@@ -9,6 +9,7 @@ returns-clause-runs g c = record {
   ends = c.run-end.ensures.ends;
   tells = c.ended-status.ensures;
   kept = run-untold _ _ _ _ c.run-end.ensures.ends;
+  may_read = c.run-end.ensures.reads;
 }
 
 pub returns-clause-asking : goal.returns-clause-asking

@@ -4,7 +4,7 @@ use Rattle.meson_rewrite.proofs.Endings.{not-used}
 use Rattle.meson_rewrite.proofs.Reading.{nothing-read}
 use Rattle.meson_rewrite.proofs.Wants.{usage-or-memory}
 use Rattle.meson_store.specs.Seen.{Untouched, seen}
-use Rattle.meson_rewrite.specs.StoreReads.{MayRead}
+use Rattle.meson_rewrite.specs.StoreReads.{MayRead, unread_in}
 use Rattle.meson_rewrite.proofs.program.run.Goals as goal
 
 pub returns-in-Err-clause-ends : goal.returns-in-Err-clause-ends
@@ -22,4 +22,4 @@ returns-in-Err-clause-reads g c = nothing-read (asked_by (map string_bytes c.arg
 
 pub returns-in-Ok-clause-reads : goal.returns-in-Ok-clause-reads
 returns-in-Ok-clause-reads g c =
-    subst (λ r. MayRead r (g.S.Store.content c.args.store.now) (g.S.Store.reads c.args.store.now) (g.S.Store.reads c.answer.new.store)) (sym c.in-Ok.ensures.ok) c.answer.ensures.reads
+    subst (λ r. MayRead r (g.S.Store.content c.args.store.now) (g.S.Store.reads c.args.store.now) (g.S.Store.reads c.answer.new.store) (unread_in c.answer.result)) (sym c.in-Ok.ensures.ok) c.answer.ensures.reads

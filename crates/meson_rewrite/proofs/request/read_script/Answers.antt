@@ -1,7 +1,11 @@
-use Rattle.std.proofs.Common.{◌∙◌, ap, subst, sym}
+use Rattle.std.proofs.Common.{◌∙◌, ap, inr, subst, sym}
 use Rattle.std.proofs.lemmas.Result.{IfErr-weaker, IfOk-weaker, err_from_is_err_and}
 use Rattle.meson_rewrite.specs.Requests.{HasBytes, script_in}
 use Rattle.meson_rewrite.proofs.Scripts.{bad-file, no-script}
+use Rattle.meson_gathering.proofs.Asking.{asks_and_reads}
+use Rattle.meson_rewrite.proofs.Unread.{bad-unread}
+use Rattle.meson_rewrite.specs.Stops.{unread_by}
+use Rattle.meson_gathering.specs.ReadCounts.{MayAsk}
 use Rattle.meson_rewrite.proofs.request.read_script.Goals as goal
 
 pub returns-clause-read : goal.returns-clause-read
@@ -20,3 +24,15 @@ returns-in_err-file-clause-none g c =
     let S = g.S.Store in
     let error = err_from_is_err_and c.from_residual.result c.from_residual.ensures.1 in
     rw (error.1, error.2) (no-script (S.content c.args.store.now) (S.failures c.args.store.now) (S.failures c.read_named.new.store) c.args.name c.in_err-file.field-0.0 c.in_err-file.ensures.none)
+
+pub returns-clause-asks_at_most : goal.returns-clause-asks_at_most
+returns-clause-asks_at_most g c =
+    let reads = g.S.Store.reads c.args.store.now in
+    let reads' = g.S.Store.reads c.read_named.new.store in
+    IfErr-weaker c.script_in.result _ (λ why. MayAsk c.args.name reads reads' (unread_by why))
+    (λ why none. inr (asks_and_reads c.args.name reads reads' (unread_by why) c.in_ok-file.ensures.once (bad-unread (script_in c.get.result.now) why none))) c.script_in.ensures.none
+
+pub returns-in_err-file-clause-asks_at_most : goal.returns-in_err-file-clause-asks_at_most
+returns-in_err-file-clause-asks_at_most g c =
+    let error = err_from_is_err_and c.from_residual.result c.from_residual.ensures.1 in
+    rw (error.1, error.2) c.in_err-file.ensures.asks_at_most

@@ -1,0 +1,118 @@
+-- Stops that tell of no file that could not be read.
+use Rattle.std.proofs.Common.{◌≡◌, ◌⊎◌, ◌∙◌, ℕ, List, [], ◌∷◌, None, false, Result, Ok, Err, inl, inr, refl, ap}
+use Rattle.std.specs.Prelude.{IfErr}
+use Rattle.meson_command.specs.declared.asked.Action.{Action}
+use Rattle.meson_command.specs.declared.asked.Action.TheVariants as action
+use Rattle.meson_calls.specs.declared.load_fault.LoadFault.TheVariants as load
+use Rattle.meson_script.specs.declared.fault.UndoFault.{UndoFault}
+use Rattle.meson_script.specs.declared.fault.UndoFault.TheVariants as undo
+use Rattle.meson_script.specs.declared.session.Session.{Session}
+use Rattle.meson_splice.specs.declared.fault.SpliceFault.{SpliceFault}
+use Rattle.meson_splice.specs.declared.file_set.File.{File}
+use Rattle.meson_splice.specs.declared.history.History.{History}
+use Rattle.meson_splice.specs.Past.{redone, undone}
+use Rattle.meson_json.specs.Log.{logged}
+use Rattle.meson_json.specs.declared.fault.ScriptFault.{ScriptFault}
+use Rattle.meson_json.specs.declared.fault.ScriptFault.TheVariants as script
+use Rattle.meson_steps.specs.declared.command.Command.{Command}
+use Rattle.meson_store.specs.Commit.{CommitFails, Put, fault_of}
+use Rattle.meson_store.specs.Seen.{Seen}
+use Rattle.meson_store.specs.declared.store.StoreError.{StoreError}
+use Rattle.meson_store.specs.declared.store.StoreError.TheVariants as error
+use Rattle.meson_store.specs.declared.store_fault.StoreFault.{StoreFault}
+use Rattle.meson_gathering.specs.ReadCounts.{unread_file, unread_name}
+use Rattle.meson_gathering.specs.declared.fault.GatherFault.{GatherFault}
+use Rattle.meson_gathering.specs.declared.fault.GatherFault.TheVariants as gather
+use Rattle.meson_rewrite.specs.Requests.{AsksForNone, IsBad, names_file}
+use Rattle.meson_rewrite.specs.Steps.{MayRefuseStep, StopsRun, StopsStep, StopsStepsBack}
+use Rattle.meson_rewrite.specs.StoreReads.{unread_in}
+use Rattle.meson_rewrite.specs.Stops.{WantsMemory, gathering_stop, undo_stop, unread_by}
+use Rattle.meson_rewrite.specs.declared.request.Step.{Step}
+use Rattle.meson_rewrite.specs.declared.request.Step.TheVariants.{Run, Tell, Undo, UndoTo, UndoChecked, Redo, ForgetOldest, ForgetAll}
+use Rattle.meson_rewrite.specs.declared.said.Said.{Said}
+use Rattle.meson_rewrite.specs.declared.stop.Stop.{Stop}
+use Rattle.meson_rewrite.specs.declared.stop.Stop.TheVariants.{Script, Refused, Store}
+
+pub memory-unread : (why : Stop) → WantsMemory why → unread_by why ≡ None
+memory-unread (Store fault) m = ap unread_name m
+memory-unread _ m = refl
+
+-- the files of the store
+pub gathered-unread : (fault : GatherFault) → unread_by (gathering_stop fault) ≡ unread_file fault
+gathered-unread (gather.Parse name fault) = refl
+gathered-unread gather.TooManyFiles = refl
+gathered-unread (gather.Store fault) = refl
+
+-- the log
+pub log-unread : (text : List ℕ) (why : Stop) → WantsMemory why ⊎ ((why ≡ Script script.BadLog) × (logged text ≡ None)) → unread_by why ≡ None
+log-unread text why (inl m) = memory-unread why m
+log-unread text why (inr bad) = ap unread_by bad.0
+
+-- ---- what is asked for
+
+pub bad-unread : (r : Result (List Command) ScriptFault) (why : Stop) → WantsMemory why ⊎ IsBad r why → unread_by why ≡ None
+bad-unread r why (inl m) = memory-unread why m
+bad-unread r why (inr bad) = ap unread_by bad.2
+
+pub asked-unread : (a : Action) (why : Stop) → names_file a ≡ false → WantsMemory why ⊎ AsksForNone a None 0 0 why → unread_by why ≡ None
+asked-unread a why unnamed (inl m) = memory-unread why m
+asked-unread (action.ScriptText text) why unnamed (inr bad) = ap unread_by bad.2
+asked-unread (action.ScriptFile name) why unnamed (inr none) = absurd (let no : ⊥ = cc in no)
+asked-unread (action.UndoChecked count name) why unnamed (inr none) = absurd (let no : ⊥ = cc in no)
+asked-unread _ why unnamed (inr none) = absurd none
+
+-- ---- a step that is refused
+
+undo-unread : (files : List File) (fault : UndoFault) → unread_by (undo_stop files fault) ≡ None
+undo-unread files (undo.Splice fault) = refl
+undo-unread files (undo.Load load.TooManyFiles) = refl
+undo-unread files (undo.Load (load.BadFileName place)) = refl
+undo-unread files (undo.Load (load.Parse place fault)) = refl
+undo-unread files (undo.Load load.OutOfMemory) = refl
+
+run-unread : (old : Session) (commands : List Command) (why : Stop) → StopsRun old commands why → unread_by why ≡ None
+run-unread old commands (Refused fault) h = refl
+run-unread old commands _ h = absurd h
+
+step-unread : (old : Session) (step : Result (History × List File) SpliceFault) (why : Stop) → StopsStep old step why → unread_by why ≡ None
+step-unread old step why h = ap unread_by h.2 ∙ undo-unread old.project.files h.0
+
+back-unread : (count : ℕ) (old : Session) (why : Stop) → StopsStepsBack count old why → unread_by why ≡ None
+back-unread count old why h = ap unread_by h.3 ∙ undo-unread old.project.files h.0
+
+refused-unread : (step : Step) (old : Session) (why : Stop) → MayRefuseStep step old why → unread_by why ≡ None
+refused-unread (Run script title) old why h = run-unread old script.commands why h
+refused-unread (Tell script) old why h = run-unread old script.commands why h
+refused-unread Undo old why h = step-unread old (undone old.history old.project.files) why h
+refused-unread (UndoTo count) old why h = back-unread count old why h
+refused-unread (UndoChecked count kept) old why (inl other) = ap unread_by other.1
+refused-unread (UndoChecked count kept) old why (inr (has, back)) = back-unread count old why back
+refused-unread (ForgetOldest count) old why h = ap unread_by h.1
+refused-unread ForgetAll old why h = absurd h
+refused-unread Redo old why h = step-unread old (redone old.history old.project.files) why h
+
+pub stop-unread : (step : Step) (old : Session) (why : Stop) → WantsMemory why ⊎ MayRefuseStep step old why → unread_by why ≡ None
+stop-unread step old why (inl m) = memory-unread why m
+stop-unread step old why (inr refused) = refused-unread step old why refused
+
+-- ---- by the whole ending
+
+pub acting-unread : (step : Step) (old : Session) (end : Result Said Stop) → IfErr end (λ why. WantsMemory why ⊎ MayRefuseStep step old why) → unread_in end ≡ None
+acting-unread step old (Ok said) h = refl
+acting-unread step old (Err why) h = stop-unread step old why h
+
+pub listing-unread : (end : Result Said Stop) → IfErr end WantsMemory → unread_in end ≡ None
+listing-unread (Ok said) h = refl
+listing-unread (Err why) h = memory-unread why h
+
+-- ---- a commit that failed
+
+fault-unread : (name : List ℕ) (why : StoreError) (still : List (List ℕ)) → unread_name (fault_of name why still) ≡ None
+fault-unread name error.OutOfMemory [] = refl
+fault-unread name error.OutOfMemory (n ∷ still) = refl
+fault-unread name error.Device still = refl
+fault-unread name error.Unchanged still = refl
+
+pub commit-unread : (files : List Put) (before after : Seen) (fault : StoreFault) → CommitFails files before after fault → unread_name fault ≡ None
+commit-unread files before after fault (inl none) = ap unread_name none.0
+commit-unread files before after fault (inr taken) = ap unread_name taken.told ∙ fault-unread taken.stops.failed.name taken.why taken.still
