@@ -27,7 +27,7 @@ use Rattle.meson_steps.specs.ResultLimits.{plain_trees}
 use Rattle.meson_steps.specs.Steps.{all_stepped}
 use Rattle.meson_sources.specs.Effects.{AreSpotsOf, goes, trees_without}
 use Rattle.meson_sources.specs.Without.{expression_without, from_child}
-use Rattle.meson_sources.proofs.NodesMoved.{first_place, node_moved, place_left}
+use Rattle.meson_sources.proofs.NodesMoved.{child_place, node_moved, place_left}
 use Rattle.meson_sources.proofs.TreesLeft.{trees_left}
 use Rattle.meson_sources.proofs.WithoutLoses.{Lost, gone_at, loses}
 use Rattle.meson_sources.proofs.WithoutPlaces.{any_without}
@@ -44,7 +44,7 @@ use Rattle.meson_sources.proofs.ItemsThere.{CallFrom, FirstOf, IsSources}
 use Rattle.meson_sources.proofs.Kins.{node_level, value_in}
 use Rattle.meson_sources.proofs.LeftFiles.{NamedGoes}
 use Rattle.meson_sources.proofs.Losses.{EachLoses, Loses}
-use Rattle.meson_sources.proofs.LostMarks.{Left, slot_gone}
+use Rattle.meson_sources.proofs.LostMarks.{Left, slot_gone, stand_left}
 use Rattle.meson_sources.proofs.LostArguments.{FirstStays}
 use Rattle.meson_sources.proofs.LostValues.{expand_left}
 use Rattle.meson_sources.proofs.RenamedStrings.{Node}
@@ -187,8 +187,8 @@ module _ (old : Loaded) (stand : All MayStandBetween (plain_trees old)) (c : Cal
         record { ys = m.1; node = record { name = o.0; trailing = m.0; node = at }; same_name = o.3; each = m.3 }
 
     -- what is met in each expression then
-    pub each_left : (e now : Expression Nowhere) (u v : Stand) (g k : List (List ℕ)) → k ≡ g → slot_gone gone u.slot ≡ false → Loses gone u.place e now
-        → Left gone (expand_with (values_of (project old)) max_followed e u g) (expand_with (values_of (project new)) max_followed now v k)
+    pub each_left : (e now : Expression Nowhere) (u : Stand) (g k : List (List ℕ)) → k ≡ g → slot_gone gone u.slot ≡ false → Loses gone u.place e now
+        → Left gone (expand_with (values_of (project old)) max_followed e u g) (expand_with (values_of (project new)) max_followed now (stand_left gone u) k)
     each_left =
         let tells = λ (i : ℕ). subst (λ ts. SameTells (0 + i) (nth trees i) (nth ts i)) (sym are_left) (tells_left trees stand gone lost may i) in
         expand_left gone (values_of (project old)) (values_of (project new)) (values_left old new same_names tells stand gone lost are_left) max_followed
@@ -201,7 +201,7 @@ module _ (old : Loaded) (stand : All MayStandBetween (plain_trees old)) (c : Cal
     set_left q x v is_place n =
         record {
           at = place_left gone q;
-          is_place = ap (place_left gone) is_place ∙ first_place gone q;
+          is_place = ap (place_left gone) is_place ∙ child_place gone q 0;
           r = tt;
           name = x;
           value = expression_without (from_child 0 (gone_at gone q)) v;

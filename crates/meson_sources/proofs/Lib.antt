@@ -84,6 +84,7 @@ mod SceneKins
 mod Arrivals
 mod NeverMet
 pub mod AllSources
+mod MarkContents
 mod Losses
 mod LostMarks
 mod LostValues
@@ -113,4 +114,8 @@ mod Functions
 mod GrownFiles
 mod KeyCounts
 mod LeftFiles
+mod SpotsLeft
+mod RemovalsJoined
+mod OthersNamed
+pub mod TakenInTurn
 mod ListTurns

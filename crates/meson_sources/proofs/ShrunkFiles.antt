@@ -38,10 +38,11 @@ use Rattle.meson_sources.proofs.FileKinds.{FileKind, met_in, of_extras, of_sourc
 use Rattle.meson_sources.proofs.FoundAgain.{Names}
 use Rattle.meson_sources.proofs.ItemsThere.{Holds, keyed_hold, whole_holds}
 use Rattle.meson_sources.proofs.KeyCounts.{few_once}
-use Rattle.meson_sources.proofs.LeftFiles.{FilesStay, left_answered}
+use Rattle.meson_sources.proofs.LeftFiles.{CallStays, FilesStay, NamedGoes, call_moved, left_answered}
 use Rattle.meson_sources.proofs.Losses.{EachLoses, Loses}
 use Rattle.meson_sources.proofs.LostArguments.{FirstStays, keyed_left, keys_stay, whole_left}
-use Rattle.meson_sources.proofs.LostMarks.{Left, slot_gone}
+use Rattle.meson_sources.proofs.LostMarks.{Left, slot_gone, stand_left}
+use Rattle.meson_sources.proofs.NodesMoved.{place_left}
 use Rattle.meson_sources.proofs.NamedSpots.{named_spots}
 use Rattle.meson_sources.proofs.RemovedSources.{named_stand}
 use Rattle.meson_sources.proofs.RemovedSpots.{all_in}
@@ -62,8 +63,8 @@ MetHolds what =
 abbrev pub MetLost : FileKind → Type 0
 MetLost what =
     (gone : CallRef → ℕ → Bool) (one two : Expand) (literals : (q : StringKind) (x : List ℕ) (s : Stand) (f : List (List ℕ)) → one (string tt q x) s f ≡ literal_item tt s f (value (string_kind q) x))
-    (each : (e now : Expression Nowhere) (s t : Stand) (f g : List (List ℕ)) → g ≡ f → slot_gone gone s.slot ≡ false → Loses gone s.place e now → Left gone (one e s f) (two now t g)) (c d : CallRef) (xs ys : Arguments Nowhere)
-    → FirstStays gone c 0 xs → EachLoses gone c 0 xs ys → Left gone (whole one c (what.look xs) []) (whole two d (what.look ys) [])
+    (each : (e now : Expression Nowhere) (s : Stand) (f g : List (List ℕ)) → g ≡ f → slot_gone gone s.slot ≡ false → Loses gone s.place e now → Left gone (one e s f) (two now (stand_left gone s) g)) (c : CallRef) (xs ys : Arguments Nowhere)
+    → FirstStays gone c 0 xs → EachLoses gone c 0 xs ys → Left gone (whole one c (what.look xs) []) (whole two (place_left gone c) (what.look ys) [])
 
 module _ (what : FileKind) (holds : MetHolds what) (lost : MetLost what) where
   module _ (old : Loaded) (stand : All MayStandBetween (plain_trees old)) (c : CallRef) (t : CallIn (project old) c) (target : one_of target_functions t.name.text ≡ true) where
@@ -82,15 +83,20 @@ module _ (what : FileKind) (holds : MetHolds what) (lost : MetLost what) where
 
     module _ (new : Loaded) (same_names : file_names new ≡ file_names old) (names : List (List ℕ)) (found : List Spot) (of_names : AreSpotsOf (items marks) (distinct names) found) (are : Every (StringIn (plain_trees old)) found)
         (done : all_stepped (removal_steps (distinct_spots found)) (plain_trees old) ≡ Some (plain_trees new)) where
-      pub stay : length (keyed what.key 0 t.arguments) ≤ 1 → FilesStay (goes (distinct_spots found)) names what.read c (moved_place found c) (project old) (project new)
-      stay few =
+      pub call_then : CallStays (goes (distinct_spots found)) what old new c (moved_place found c) t
+      call_then =
           let k = call_left old stand c t target new same_names names (items marks) all_held found of_names are done in
           let gone = goes (distinct_spots found) in
-          left_answered gone names what old new c (moved_place found c) t few k.ys k.node (λ key. keys_stay gone key c 0 (bare_arguments t) k.ys k.each)
+          call_moved gone what old new c (moved_place found c) t k.ys k.node (λ key. keys_stay gone key c 0 (bare_arguments t) k.ys k.each)
           (lost gone (expand_with (values_of (project old)) max_followed) (expand_with (values_of (project new)) max_followed) (literals (values_of (project old)) max_followed)
-          (each_left old stand c t target new same_names names (items marks) all_held found of_names are done) c (moved_place found c) (bare_arguments t) k.ys
+          (each_left old stand c t target new same_names names (items marks) all_held found of_names are done) c (bare_arguments t) k.ys
           (first old stand c t target new same_names names (items marks) all_held found of_names are done) k.each)
-          (are_named old stand c t target new same_names names (items marks) all_held found of_names are done)
+
+      pub named_go : Every (NamedGoes (goes (distinct_spots found)) names) (items marks)
+      named_go = are_named old stand c t target new same_names names (items marks) all_held found of_names are done
+
+      pub stay : length (keyed what.key 0 t.arguments) ≤ 1 → FilesStay (goes (distinct_spots found)) names what.read c (moved_place found c) (project old) (project new)
+      stay few = left_answered (goes (distinct_spots found)) names what old new c (moved_place found c) t few call_then named_go
 
       pub named : (id : List ℕ) → the_call (project old) role.Target id ≡ Ok (called t) → Names (project new) id (moved_place found c) (called t).it
       named = named_left old stand c t target new same_names names (items marks) all_held found of_names are done
@@ -132,13 +138,13 @@ module _ (what : FileKind) (holds : MetHolds what) (lost : MetLost what) where
 
 -- ---- sources
 
-sources_hold : MetHolds of_sources
+pub sources_hold : MetHolds of_sources
 sources_hold old stand c t target =
     whole_holds (plain_trees old) (Fine old stand c t target) (fine old stand c t target) (values_of (project old)) (values_stand old stand c t target) c _ (at_call old stand c t target)
     (λ n. FirstIs 0 n (bare_arguments t)) (own_fine old stand c t target) (bare_arguments t) (call_from old stand c t target) (first_of (bare_arguments t) 0) []
 
-sources_lost : MetLost of_sources
-sources_lost gone one two texts each c d xs ys kept loses = whole_left gone one two texts each c d xs ys kept loses [] [] refl
+pub sources_lost : MetLost of_sources
+sources_lost gone one two texts each c xs ys kept loses = whole_left gone one two texts each c xs ys kept loses [] [] refl
 
 pub all-sources-shrink : AllSourcesShrink
 all-sources-shrink old new is same_names id c found names steps made done =
@@ -158,9 +164,9 @@ extras_hold old stand c t target =
     (λ n. FirstIs 0 n (bare_arguments t)) (own_fine old stand c t target) extra_key (bare_arguments t) 0 false (call_from old stand c t target) [])
 
 pub extras_lost : MetLost of_extras
-extras_lost gone one two texts each c d xs ys kept loses =
-    subst (λ e. Left gone e (whole two d (as_sources ys) [])) (sym (as_whole one c xs))
-    (subst (Left gone (list_with one c (λ n. fixed) (keyed extra_key 0 xs) [])) (sym (as_whole two d ys)) (keyed_left gone one two texts each c d extra_key xs ys 0 0 loses [] [] refl))
+extras_lost gone one two texts each c xs ys kept loses =
+    subst (λ e. Left gone e (whole two (place_left gone c) (as_sources ys) [])) (sym (as_whole one c xs))
+    (subst (Left gone (list_with one c (λ n. fixed) (keyed extra_key 0 xs) [])) (sym (as_whole two (place_left gone c) ys)) (keyed_left gone one two texts each c extra_key xs ys 0 0 refl loses [] [] refl))
 
 pub all-extras-shrink : AllExtrasShrink
 all-extras-shrink old new is same_names id c found names steps made done =

@@ -28,7 +28,7 @@ use Rattle.meson_sources.proofs.WithoutLoses.{gone_at}
 use Rattle.meson_sources.proofs.WithoutPlaces.{path_left, under_is, under_path}
 
 -- it stays where these go
-abbrev Clears : List Spot → Spot → Type 0
+abbrev pub Clears : List Spot → Spot → Type 0
 Clears gone t = Every (λ g. Clear g t) gone
 
 -- ---- nothing on the way goes
@@ -145,15 +145,15 @@ module _ (gone : List Spot) (apart : AreApart gone) (s : Spot) (clear_s : Clears
 -- ---- all of them
 
 -- each stays where those before it go
-abbrev AllClear : List Spot → Type 0
+abbrev pub AllClear : List Spot → Type 0
 AllClear [] = Unit {0}
 AllClear (s ∷ more) = Every (Clear s) more × AllClear more
 
-one_clearer : (s : Spot) (gone ts : List Spot) → Every (Clear s) ts → Every (Clears gone) ts → Every (Clears (s ∷ gone)) ts
+pub one_clearer : (s : Spot) (gone ts : List Spot) → Every (Clear s) ts → Every (Clears gone) ts → Every (Clears (s ∷ gone)) ts
 one_clearer s gone [] clear clears = tt
 one_clearer s gone (t ∷ ts) clear clears = ((clear.0, clears.0), one_clearer s gone ts clear.1 clears.1)
 
-by_renaming : (more gone : List Spot) → AreApart gone → Every (Clears gone) more → AllClear more → removals_after gone more ≡ removed_by (length more) (map (spot_without gone) more)
+pub by_renaming : (more gone : List Spot) → AreApart gone → Every (Clears gone) more → AllClear more → removals_after gone more ≡ removed_by (length more) (map (spot_without gone) more)
 by_renaming [] gone apart clears all = refl
 by_renaming (s ∷ more) gone apart clears all =
     ap (λ steps. removal (spot_without gone s) ∷ steps)
@@ -170,12 +170,12 @@ none_gone (s ∷ spots) =
     let same : s.number - 0 ≡ s.number = omega arith in
     ap₂ (λ u us. u ∷ us) (ap₂ (λ path n. record { list = place s.list.file path; number = n }) (same_path (top s) s.list.path.steps) same) (none_gone spots)
 
-none_before : (spots : List Spot) → Every (Clears []) spots
+pub none_before : (spots : List Spot) → Every (Clears []) spots
 none_before [] = tt
 none_before (s ∷ spots) = (tt, none_before spots)
 
 module _ (trees : List Plain) (all : All MayStandBetween trees) where
-  all_are_clear : (spots : List Spot) → Every (StringIn trees) spots → AreApart spots → AllClear spots
+  pub all_are_clear : (spots : List Spot) → Every (StringIn trees) spots → AreApart spots → AllClear spots
   all_are_clear [] are apart = tt
   all_are_clear (s ∷ more) are apart = (all_clear trees all s are.0 more are.1 apart.0, all_are_clear more are.1 apart.1)
 

@@ -5,4 +5,5 @@ pub mod Without
 pub mod Effects
 pub mod WholeSources
 pub mod WholeExtras
+pub mod InTurn
 pub mod inside

@@ -1,6 +1,7 @@
 //! Laws of sources. The functions do nothing: what they ensure is the law.
 
 ghost use Rattle.meson_sources.specs.Effects.{ExtraIsAdded, ExtraIsRemoved, SourcesAreAdded, SourcesAreRemoved};
+ghost use Rattle.meson_sources.specs.InTurn.{ExtrasGoInTurn, SourcesGoInTurn};
 ghost use Rattle.meson_sources.specs.WholeExtras.{AllExtrasGrow, AllExtrasShrink};
 ghost use Rattle.meson_sources.specs.WholeSources.{AllSourcesGrow, AllSourcesShrink};
 
@@ -48,4 +49,14 @@ pub fn all_extras_grow()
 /// The law on all sources after a removal, of all extra files of the target.
 pub fn all_extras_shrink()
     ensures { AllExtrasShrink }
+{}
+
+/// What removes several sources removes the first, and then the others from the project that this leaves.
+pub fn sources_go_in_turn()
+    ensures { SourcesGoInTurn }
+{}
+
+/// The same of the extra files of a target.
+pub fn extras_go_in_turn()
+    ensures { ExtrasGoInTurn }
 {}
