@@ -53,7 +53,7 @@ module _ {X : Type 0} where
     by true here rest all = (λ named. all.0, rest all.1)
     by false here rest all = (λ named. let both : true ≡ false = sym named ∙ here in absurd cc, rest all)
 
-  every_weaker : (P Q : X → Type 0) → ((x : X) → P x → Q x) → (xs : List X) → Every P xs → Every Q xs
+  pub every_weaker : (P Q : X → Type 0) → ((x : X) → P x → Q x) → (xs : List X) → Every P xs → Every Q xs
   every_weaker P Q weaker [] every = tt
   every_weaker P Q weaker (x ∷ xs) every = (weaker x every.0, every_weaker P Q weaker xs every.1)
 
@@ -89,7 +89,7 @@ both_of (i ∷ more) spots same =
       );
     })
 
-some_spots : (o : Option (List Spot)) (spots : List Spot) → ok_or o NotRemovable ≡ Ok spots → o ≡ Some spots
+pub some_spots : (o : Option (List Spot)) (spots : List Spot) → ok_or o NotRemovable ≡ Ok spots → o ≡ Some spots
 some_spots None spots is = absurd cc
 some_spots (Some found) spots is = let same : found ≡ spots = cc in ap Some same
 
