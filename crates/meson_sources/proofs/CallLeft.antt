@@ -31,14 +31,14 @@ use Rattle.meson_sources.proofs.NodesMoved.{child_place, node_moved, place_left}
 use Rattle.meson_sources.proofs.TreesLeft.{trees_left}
 use Rattle.meson_sources.proofs.WithoutLoses.{Lost, gone_at, loses}
 use Rattle.meson_sources.proofs.WithoutPlaces.{any_without}
-use Rattle.meson_sources.specs.SourceEdits.{Spot, distinct_spots, removal_steps}
+use Rattle.meson_sources.specs.SourceEdits.{Spot, removal_steps}
 use Rattle.meson_sources.specs.WholeSources.{file_names}
 use Rattle.meson_sources.proofs.FoundAgain.{Names}
 use Rattle.meson_sources.proofs.NamedAgain.{SetStays, named_again}
 use Rattle.meson_sources.proofs.TargetNames.{by_bare, call_by, call_tells, first_plain, tell_call, SameNames}
 use Rattle.meson_sources.proofs.Bares.{Values, bare_value, expand_with, values_of}
 use Rattle.meson_sources.proofs.CallForms.{CallIn, CallNode, bare_arguments, bare_form, called, stands_bare}
-use Rattle.meson_sources.proofs.DistinctSpots.{distinct_apart, every_distinct}
+use Rattle.meson_sources.proofs.SpotsApart.{AreApart}
 use Rattle.meson_sources.proofs.Functions.{files_no_matter, target_no_files, target_no_matter}
 use Rattle.meson_sources.proofs.ItemsThere.{CallFrom, FirstOf, IsSources}
 use Rattle.meson_sources.proofs.Kins.{node_level, value_in}
@@ -59,7 +59,7 @@ use Rattle.meson_sources.proofs.TellsKept.{FirstIs, MayGo, first_stays, names_le
 
 -- where a place is after the elements at these spots have gone
 abbrev pub moved_place : List Spot → CallRef → CallRef
-moved_place spots c = place_left (goes (distinct_spots spots)) c
+moved_place spots c = place_left (goes spots) c
 
 -- ---- the first argument without a name
 
@@ -127,25 +127,19 @@ module _ (old : Loaded) (stand : All MayStandBetween (plain_trees old)) (c : Cal
 
   -- ---- after the removal
 
-  module _ (new : Loaded) (same_names : file_names new ≡ file_names old) (names : List (List ℕ)) (is : List (Item Span)) (held : Every (Held trees Fine fine) is) (found : List Spot) (of_names : AreSpotsOf is (distinct names) found)
-      (are_found : Every (StringIn trees) found) (done : all_stepped (removal_steps (distinct_spots found)) trees ≡ Some (plain_trees new)) where
-    abbrev spots : List Spot
-    spots = distinct_spots found
-
+  module _ (new : Loaded) (same_names : file_names new ≡ file_names old) (names : List (List ℕ)) (is : List (Item Span)) (held : Every (Held trees Fine fine) is) (spots : List Spot) (of_names : AreSpotsOf is (distinct names) spots)
+      (are : Every (StringIn trees) spots) (apart : AreApart spots) (done : all_stepped (removal_steps spots) trees ≡ Some (plain_trees new)) where
     abbrev after : List Plain
     after = plain_trees new
 
     abbrev pub gone : CallRef → ℕ → Bool
     gone = goes spots
 
-    are : Every (StringIn trees) spots
-    are = every_distinct (StringIn trees) found are_found
-
     are_left : after ≡ trees_without spots trees
-    are_left = trees_left spots trees after stand are (distinct_apart found) done
+    are_left = trees_left spots trees after stand are apart done
 
-    held_at : (q : CallRef) (n : ℕ) → gone q n ≡ true → SpotHeld trees Fine fine names is held found of_names q n
-    held_at = gone_held trees Fine fine names is held found of_names
+    held_at : (q : CallRef) (n : ℕ) → gone q n ≡ true → SpotHeld trees Fine fine names is held spots of_names q n
+    held_at = gone_held trees Fine fine names is held spots of_names
 
     lost : (q : CallRef) (n : ℕ) → gone q n ≡ true → (y : Node) → NodeIn trees q y → Lost y n
     lost q n is y h =
@@ -194,7 +188,7 @@ module _ (old : Loaded) (stand : All MayStandBetween (plain_trees old)) (c : Cal
         expand_left gone (values_of (project old)) (values_of (project new)) (values_left old new same_names tells stand gone lost are_left) max_followed
 
     pub are_named : Every (NamedGoes gone names) is
-    are_named = all_named trees Fine fine names is held found of_names
+    are_named = all_named trees Fine fine names is held spots of_names
 
     -- an assignment stays where it has moved to
     set_left : (q : CallRef) (x : Name Nowhere) (v : Expression Nowhere) → c ≡ child q 0 → NodeIn trees q (a_statement (assign tt x assignment.Set v)) → SetStays after (place_left gone c) x.text

@@ -2,7 +2,6 @@ mod SpotsAfter
 mod Renaming
 mod Standings
 mod ArgumentsGrow
-mod DistinctSpots
 mod ElementsAt
 mod ElementsThere
 pub mod ExtraAdded
@@ -43,7 +42,6 @@ mod SourcesMeant
 pub mod SourcesGone
 mod SpotsApart
 mod SpotsFound
-mod SpotsOnce
 mod StringsDoable
 mod NothingGone
 mod ChildFollows
@@ -91,6 +89,12 @@ mod LostValues
 mod LostArguments
 mod ItemsThere
 mod VariablesLeft
+mod Regions
+mod MetOnce
+mod WalkedOnce
+mod ArgumentsOnce
+mod SpotsDiffer
+pub mod SourcesMetOnce
 mod NamedGone
 mod SpotsHeld
 mod TargetNames
@@ -117,5 +121,5 @@ mod LeftFiles
 mod SpotsLeft
 mod RemovalsJoined
 mod OthersNamed
-pub mod TakenInTurn
+mod TakenInTurn
 mod ListTurns

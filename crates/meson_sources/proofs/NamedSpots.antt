@@ -89,7 +89,7 @@ both_of (i ∷ more) spots same =
       );
     })
 
-some_spots : (o : Option (List Spot)) (spots : List Spot) → ok_or o NotRemovable ≡ Ok spots → o ≡ Some spots
+pub some_spots : (o : Option (List Spot)) (spots : List Spot) → ok_or o NotRemovable ≡ Ok spots → o ≡ Some spots
 some_spots None spots is = absurd cc
 some_spots (Some found) spots is = let same : found ≡ spots = cc in ap Some same
 

@@ -6,7 +6,7 @@ use Rattle.meson_syntax.specs.Tree.{Plain}
 use Rattle.meson_syntax.proofs.paths.Every.{Every}
 use Rattle.meson_steps.specs.ListSteps.{MayStandBetween}
 use Rattle.meson_sources.specs.SourceEdits.{Spot, removal, removal_steps, removals_after, spot_without}
-use Rattle.meson_sources.proofs.DistinctSpots.{AreApart}
+use Rattle.meson_sources.proofs.SpotsApart.{AreApart}
 use Rattle.meson_sources.proofs.RemovalsInTurn.{turned}
 use Rattle.meson_sources.proofs.SpotsAfter.{removed_by}
 use Rattle.meson_sources.proofs.SpotsWithout.{AllClear, Clears, all_are_clear, by_renaming, more_apart, none_before, one_clearer, steps_are}

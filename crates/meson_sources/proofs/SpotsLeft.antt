@@ -14,7 +14,7 @@ use Rattle.meson_variables.specs.TargetSources.{items, opaque_count}
 use Rattle.meson_steps.proofs.WentWell.{then_was}
 use Rattle.meson_sources.specs.Effects.{goes}
 use Rattle.meson_sources.specs.SourceEdits.{Spot, has_text, items_of, spot_of, spot_without, spots_by, spots_named, spots_of}
-use Rattle.meson_sources.proofs.DistinctSpots.{AreApart}
+use Rattle.meson_sources.proofs.SpotsApart.{AreApart}
 use Rattle.meson_sources.proofs.LeftFiles.{unknown_left}
 use Rattle.meson_sources.proofs.LostMarks.{head_by, item_left, left_of, slot_gone, slot_left}
 use Rattle.meson_sources.proofs.NamedSpots.{every_weaker}

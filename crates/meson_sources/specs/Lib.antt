@@ -3,6 +3,7 @@ pub mod Extras
 pub mod Targeted
 pub mod Without
 pub mod Effects
+pub mod MetOnce
 pub mod WholeSources
 pub mod WholeExtras
 pub mod InTurn
