@@ -136,7 +136,7 @@ module _ (In : Option (List ℕ) → CallRef → Type 0) where
       both_once =
           let is = items e.marks in
           let js = items rest.marks in
-          let all = every-append (Comes Both v f rest.followed) is js 
+          let all = every-append (Comes Both v f rest.followed) is js
           (every_weaker _ _ (comes_too Own Both v f e.followed f rest.followed to (λ x is. is) r.more) is m.each)
           (every_weaker _ _ (comes_too Next Both v e.followed rest.followed f rest.followed next not_before (λ x is. is)) js r.each) in
           let crossed = every_weaker (Comes Own v f e.followed) (λ i. Every (OtherPlace i) js) (λ i a. every_weaker (Comes Next v e.followed rest.followed) (OtherPlace i) (λ j b. across i j a b) js r.each) is m.each in
