@@ -17,8 +17,9 @@ use Rattle.meson_steps.proofs.ArgumentValues.{named_value}
 use Rattle.meson_sources.specs.SourceEdits.{extra_key, extra_marks}
 use Rattle.meson_sources.proofs.CallForms.{CallIn, called}
 use Rattle.meson_sources.proofs.ElementsAt.{AreLevel, value_stands}
-use Rattle.meson_sources.proofs.MetOnce.{Beneath, Comes, ItemsApart, MetOnce, PlacesDiffer, SlotFits, both_once, items_both, none_met, other_child}
+use Rattle.meson_sources.proofs.Meetings.{Beneath, Comes, ItemsApart, MetOnce, OtherPlace, SlotFits, both_once, items_both, none_met, other_child}
 use Rattle.meson_sources.proofs.NamedSpots.{every_weaker}
+use Rattle.meson_sources.proofs.Pairwise.{Pairwise}
 use Rattle.meson_sources.proofs.Regions.{InRegion, argument_inside, child_inside, one_region, value_inside}
 use Rattle.meson_sources.proofs.TargetMarks.{every_rest, listed_each, nameless}
 use Rattle.meson_sources.proofs.WalkedOnce.{expand_once}
@@ -59,7 +60,7 @@ module _ (p : Project Span) (levels : AreLevel p) (c : CallRef) (t : CallIn p c)
     is_argument : nth (argument_list t.arguments) k ≡ Some argument
     is_kept : choose argument ≡ Some x
 
-  record Kept (choose : Argument Span → Option (Expression Span)) (a : Numbered (Expression Span)) : Type 0 where
+  record KeptAt (choose : Argument Span → Option (Expression Span)) (a : Numbered (Expression Span)) : Type 0 where
     is_at : expression_at p (child c a.number) ≡ Some a.value
     chosen : Chosen choose a.number a.value
 
@@ -67,14 +68,14 @@ module _ (p : Project Span) (levels : AreLevel p) (c : CallRef) (t : CallIn p c)
   abbrev Region : (Argument Span → Option (Expression Span)) → ℕ → CallRef → Type 0
   Region choose n q = (k : ℕ) × (n ≤ k) × (x : Expression Span) × Chosen choose k x × Beneath (child c k) q
 
-  all_kept : (choose : Argument Span → Option (Expression Span)) → ((a : Argument Span) (x : Expression Span) → choose a ≡ Some x → value_of a ≡ Some x) → Every (Kept choose) (filter_map (kept_number choose) (numbered 0 t.arguments))
-  all_kept choose value = listed_each choose (Kept choose) (listing t.brackets t.trailing t.arguments) (λ j a x is chosen. record {
+  all_kept : (choose : Argument Span → Option (Expression Span)) → ((a : Argument Span) (x : Expression Span) → choose a ≡ Some x → value_of a ≡ Some x) → Every (KeptAt choose) (filter_map (kept_number choose) (numbered 0 t.arguments))
+  all_kept choose value = listed_each choose (KeptAt choose) (listing t.brackets t.trailing t.arguments) (λ j a x is chosen. record {
     is_at = value_stands p levels c (call t.span t.name (listing t.brackets t.trailing t.arguments)) _ t.at refl refl j a x is (value a x chosen);
     chosen = record { argument = a; is_argument = is; is_kept = chosen };
   })
 
   arguments_once : (choose : Argument Span → Option (Expression Span)) (slot : ℕ → Slot) → ((n : ℕ) → SlotFits (slot n) (child c n)) → (list : List (Numbered (Expression Span))) (n : ℕ) (f : List (List ℕ))
-      → Rising n list → Every (Kept choose) list → MetOnce In (Region choose n) None f (expand_arguments p c slot list f)
+      → Rising n list → Every (KeptAt choose) list → MetOnce In (Region choose n) None f (expand_arguments p c slot list f)
   arguments_once choose slot fits [] n f r all = none_met In (Region choose n) None f
   arguments_once choose slot fits (a ∷ more) n f r all =
       let s : Stand = record { place = child c a.number; slot = slot a.number; variable = None } in
@@ -114,20 +115,20 @@ module _ (p : Project Span) (levels : AreLevel p) (c : CallRef) (t : CallIn p c)
   none_hidden [] = refl
   none_hidden (y ∷ ys) = refl
 
-  with_hidden : (ms : List (Mark Span)) (ys : List (Numbered (Expression Span))) → ItemsApart ms → ItemsApart (ms ++ hidden ys)
-  with_hidden ms ys a =
+  still_apart : (ms : List (Mark Span)) (ys : List (Numbered (Expression Span))) → ItemsApart ms → ItemsApart (ms ++ hidden ys)
+  still_apart ms ys a =
       let same : items ms ≡ items (ms ++ hidden ys) = sym (append-nil (items ms)) ∙ ap (λ l. items ms ++ l) (sym (none_hidden ys)) ∙ sym (items_both ms (hidden ys)) in
-      record { fit = subst (Every (λ (i : Item Span). SlotFits i.slot i.place)) same a.fit; differ = subst PlacesDiffer same a.differ }
+      record { fit = subst (Every (λ (i : Item Span). SlotFits i.slot i.place)) same a.fit; differ = subst (Pairwise OtherPlace) same a.differ }
 
   pub sources_apart : ItemsApart (source_marks p (called t))
   sources_apart =
       let it = (called t).it in
       let first = expand_arguments p c (in_list c) (rest (positional it)) [] in
       let second = expand_arguments p c (λ n. fixed) (keyword sources_key it) first.followed in
-      with_hidden (first.marks ++ second.marks) (keyword kwargs_key it)
+      still_apart (first.marks ++ second.marks) (keyword kwargs_key it)
       (apart_of_once (λ q. Unit {0}) [] _
       (both_once In (one_region p c) (Region value_without_name 0) (Region (value_with_name sources_key) 0) (λ q. Unit {0}) (λ q u. tt) (λ q w. tt) (both_apart sources_key) None [] (λ x none. absurd cc) first second
-      (arguments_once value_without_name (in_list c) (λ n. refl) (rest (positional it)) 0 [] (rest_rises 0 (positional it) (numbers_rise value_without_name t.arguments 0)) (every_rest (Kept value_without_name) (positional it) (all_kept value_without_name plain_value)))
+      (arguments_once value_without_name (in_list c) (λ n. refl) (rest (positional it)) 0 [] (rest_rises 0 (positional it) (numbers_rise value_without_name t.arguments 0)) (every_rest (KeptAt value_without_name) (positional it) (all_kept value_without_name plain_value)))
       (keyword_once sources_key first.followed)))
 
   pub extras_apart : ItemsApart (extra_marks p (called t))

@@ -89,8 +89,9 @@ mod LostValues
 mod LostArguments
 mod ItemsThere
 mod VariablesLeft
+mod Pairwise
 mod Regions
-mod MetOnce
+mod Meetings
 mod WalkedOnce
 mod ArgumentsOnce
 mod SpotsDiffer

@@ -71,7 +71,7 @@ spot_itself s =
     ap (λ b. b && (is_path s.list.path.steps s.list.path.steps && nat_eq s.number s.number)) (eq-eqb s.list.file s.list.file refl)
     ∙ ap (λ b. b && nat_eq s.number s.number) (path_itself s.list.path.steps) ∙ eq-eqb s.number s.number refl
 
-both_true : (b c : Bool) → (b && c) ≡ true → (b ≡ true) × (c ≡ true)
+pub both_true : (b c : Bool) → (b && c) ≡ true → (b ≡ true) × (c ≡ true)
 both_true true c is = (refl, is)
 both_true false c is = absurd cc
 

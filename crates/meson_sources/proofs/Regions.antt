@@ -25,14 +25,14 @@ child_below : (q : CallRef) (path : List ℕ) (n : ℕ) → child (below q path)
 child_below q path n = ap (place q.file) (append_assoc q.path.steps path (n ∷ []))
 
 -- what is met goes on below it, if it is a call
-abbrev pub GoesOn : Expression Span → Type 0
-GoesOn (call s f l) = is_files f.text l ≡ true
-GoesOn _ = Unit {0}
+abbrev pub MeetsWithin : Expression Span → Type 0
+MeetsWithin (call s f l) = is_files f.text l ≡ true
+MeetsWithin _ = Unit {0}
 
 module _ (p : Project Span) (c : CallRef) where
   -- below the call
-  abbrev pub Inside : CallRef → Type 0
-  Inside q = (n : ℕ) × (rest : List ℕ) × (q ≡ below c (n ∷ rest))
+  abbrev pub BelowCall : CallRef → Type 0
+  BelowCall q = (n : ℕ) × (rest : List ℕ) × (q ≡ below c (n ∷ rest))
 
   -- in the value of a variable, and not below the call
   pub record InValue (x : List ℕ) (q : CallRef) : Type 0 where
@@ -40,10 +40,10 @@ module _ (p : Project Span) (c : CallRef) where
     pub is_value : single p x ≡ Some value
     pub path : List ℕ
     pub leads : q ≡ below value.place path
-    pub outside : Inside q → ⊥
+    pub outside : BelowCall q → ⊥
 
   abbrev pub InRegion : Option (List ℕ) → CallRef → Type 0
-  InRegion None q = Inside q
+  InRegion None q = BelowCall q
   InRegion (Some x) q = InValue x q
 
   pub argument_inside : (n : ℕ) → InRegion None (child c n)
@@ -92,11 +92,11 @@ module _ (p : Project Span) (c : CallRef) where
     abbrev it : Expression Span
     it = call t.span t.name (listing t.brackets t.trailing t.arguments)
 
-    goes_not_on : GoesOn it → ⊥
-    goes_not_on way = let both : true ≡ false = sym way ∙ no_list in cc
+    not_within : MeetsWithin it → ⊥
+    not_within way = let both : true ≡ false = sym way ∙ no_list in cc
 
     -- nor does what is met below it
-    still_outside : (q : CallRef) (e : Expression Span) (n : ℕ) → expression_at p q ≡ Some e → GoesOn e → (Inside q → ⊥) → Inside (child q n) → ⊥
+    still_outside : (q : CallRef) (e : Expression Span) (n : ℕ) → expression_at p q ≡ Some e → MeetsWithin e → (BelowCall q → ⊥) → BelowCall (child q n) → ⊥
     still_outside q e n is way outside w =
         let file : q.file ≡ c.file = ap (λ (r : CallRef). r.file) w.2 in
         let up = without_last q.path.steps c.path.steps w.1 n w.0 (ap (λ (r : CallRef). r.path.steps) w.2) in
@@ -106,10 +106,10 @@ module _ (p : Project Span) (c : CallRef) where
         by file [] path =
             let same : q ≡ c = ap₂ place file (path ∙ append-nil c.path.steps) in
             let one : e ≡ it = some-injective e it (sym is ∙ ap (expression_at p) same ∙ t.at) in
-            goes_not_on (subst GoesOn one way)
+            not_within (subst MeetsWithin one way)
         by file (k ∷ more) path = outside (k, more, ap₂ place file path)
 
-    pub child_inside : (v : Option (List ℕ)) (q : CallRef) (e : Expression Span) → expression_at p q ≡ Some e → GoesOn e → InRegion v q → (n : ℕ) → InRegion v (child q n)
+    pub child_inside : (v : Option (List ℕ)) (q : CallRef) (e : Expression Span) → expression_at p q ≡ Some e → MeetsWithin e → InRegion v q → (n : ℕ) → InRegion v (child q n)
     child_inside None q e is way i n = (i.0, i.1 ++ n ∷ [], ap (λ r. child r n) i.2 ∙ child_below c (i.0 ∷ i.1) n)
     child_inside (Some x) q e is way i n = record {
       value = i.value;
@@ -120,7 +120,7 @@ module _ (p : Project Span) (c : CallRef) where
     }
 
     -- the value of a variable stands in no expression
-    value_outside : (x : List ℕ) (v : Placed (Expression Span)) → single p x ≡ Some v → Inside v.place → ⊥
+    value_outside : (x : List ℕ) (v : Placed (Expression Span)) → single p x ≡ Some v → BelowCall v.place → ⊥
     value_outside x v is w =
         let s = single_named p x v is in
         let at = s.0 in

@@ -22,7 +22,7 @@ use Rattle.meson_sources.specs.SourceEdits.{Spot, spot_of, spots_of, spots_by, s
 use Rattle.meson_steps.specs.Names.{distinct, checked_names}
 use Rattle.meson_sources.proofs.Standings.{SlotStands, MarkStands, SpotStands, SourcesMayBeRemoved, ExtrasMayBeRemoved}
 use Rattle.meson_steps.specs.Steps.{Step}
-use Rattle.meson_sources.proofs.MetOnce.{ItemsApart}
+use Rattle.meson_sources.proofs.Meetings.{ItemsApart}
 use Rattle.meson_sources.proofs.SpotsDiffer.{spots_apart}
 use Rattle.meson_sources.proofs.SpotsWithout.{removals_doable}
 use Rattle.meson_steps.proofs.WentWell.{then_was, once_was}

@@ -42,7 +42,7 @@ use Rattle.meson_sources.proofs.LeftFiles.{CallStays, FilesStay, NamedGoes, call
 use Rattle.meson_sources.proofs.Losses.{EachLoses, Loses}
 use Rattle.meson_sources.proofs.LostArguments.{FirstStays, keyed_left, keys_stay, whole_left}
 use Rattle.meson_sources.proofs.LostMarks.{Left, slot_gone, stand_left}
-use Rattle.meson_sources.proofs.MetOnce.{ItemsApart}
+use Rattle.meson_sources.proofs.Meetings.{ItemsApart}
 use Rattle.meson_sources.proofs.NamedSpots.{named_spots}
 use Rattle.meson_sources.proofs.NodesMoved.{place_left}
 use Rattle.meson_sources.proofs.RemovedSources.{named_stand}

@@ -19,7 +19,7 @@ use Rattle.meson_sources.specs.Effects.{ExtraIsRemoved, NamesGo, SourcesAreRemov
 use Rattle.meson_sources.specs.SourceEdits.{checked_extra, extra_marks, removal_steps, removed_at, spots_named}
 use Rattle.meson_sources.proofs.Standings.{MarkStands}
 use Rattle.meson_sources.proofs.ExtrasAddable.{checked_marks}
-use Rattle.meson_sources.proofs.MetOnce.{ItemsApart}
+use Rattle.meson_sources.proofs.Meetings.{ItemsApart}
 use Rattle.meson_sources.proofs.NamedSpots.{named_spots}
 use Rattle.meson_sources.proofs.TreesLeft.{trees_left}
 use Rattle.meson_sources.proofs.RemovedSources.{named_stand}

@@ -1,12 +1,12 @@
 -- Spots that are not the same are not the same after another one has gone, where none stands under that one.
-use Rattle.std.specs.Prelude.{⊤, nat_eq, nat_lt, if◌then◌else◌}
+use Rattle.std.specs.Prelude.{nat_eq, nat_lt, if◌then◌else◌}
 use Rattle.std.proofs.Common.{◌≡◌, ℕ, ◌-◌, ◌<◌, ◌≤◌, Bool, true, false, List, [], ◌∷◌, length, refl, sym, ap, ◌∙◌, arith}
 use Rattle.std.proofs.lemmas.Bool.{eqb-true, eq-eqb, ltb-true, ltb-false}
-use Rattle.meson_syntax.proofs.paths.Every.{Every}
 use Rattle.meson_calls.specs.Project.{place}
 use Rattle.meson_sources.specs.SourceEdits.{is_path, Spot}
 use Rattle.meson_sources.proofs.SpotsAfter.{moved_up, path_after, spot_after}
 use Rattle.meson_sources.proofs.PathsAfter.{length_after, same_paths}
+use Rattle.meson_sources.proofs.Pairwise.{Pairwise}
 use Rattle.meson_sources.proofs.RenamedStrings.{NotThrough}
 
 -- ---- numbers
@@ -65,8 +65,7 @@ Apart s t = (s.list.file ≡ t.list.file) × (s.list.path.steps ≡ t.list.path.
 
 -- each is another one than those behind it
 abbrev pub AreApart : List Spot → Type 0
-AreApart [] = ⊤
-AreApart (s ∷ more) = Every (Apart s) more × AreApart more
+AreApart = Pairwise Apart
 
 -- The second stays when the first goes: it is another one, and not under it.
 pub record Clear (s t : Spot) : Type 0 where

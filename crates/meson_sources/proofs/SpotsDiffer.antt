@@ -1,13 +1,13 @@
 -- Where no item is met twice, no spot of names is there twice.
-use Rattle.std.specs.Prelude.{⊤, ◌⊎◌, ◌||◌, bytes_eq, if◌then◌else◌, option_map, Ok}
-use Rattle.std.specs.List.{filter}
-use Rattle.std.proofs.Common.{◌≡◌, ℕ, Bool, true, false, List, [], ◌∷◌, ◌++◌, Some, refl, sym, ap, ap₂, ◌∙◌, subst, inl, inr}
+use Rattle.std.specs.Prelude.{◌&&◌, bytes_eq, if◌then◌else◌, option_map, Ok}
+use Rattle.std.specs.List.{filter, list_any}
+use Rattle.std.proofs.Common.{◌≡◌, ℕ, Bool, true, false, List, [], ◌∷◌, ◌++◌, Some, refl, sym, ap, ap₂, ◌∙◌, subst}
 use Rattle.std.proofs.lemmas.Bool.{or_left, or_right}
 use Rattle.std.proofs.lemmas.Slice.Eq.{bytes_eq-Decides}
 use Rattle.meson_lex.specs.declared.kinds.Span.{Span}
 use Rattle.meson_splice.specs.Patch.{then_ok}
 use Rattle.meson_syntax.proofs.parsing.Steps.{some-injective}
-use Rattle.meson_syntax.proofs.paths.Every.{Every, every-append}
+use Rattle.meson_syntax.proofs.paths.Every.{Every}
 use Rattle.meson_syntax.proofs.paths.Reaching.{and-then-some, map-some}
 use Rattle.meson_calls.specs.declared.call.CallRef.{CallRef}
 use Rattle.meson_calls.specs.Project.{child, place}
@@ -16,177 +16,119 @@ use Rattle.meson_variables.specs.Expansion.{Item, Mark, Slot, fixed, in_list}
 use Rattle.meson_variables.specs.TargetSources.{items, opaque_count}
 use Rattle.meson_steps.specs.Names.{distinct, distinct_by}
 use Rattle.meson_steps.proofs.WentWell.{then_was}
+use Rattle.meson_sources.specs.Effects.{has_one_of, is_at, spot_at}
 use Rattle.meson_sources.specs.SourceEdits.{Spot, has_text, items_of, spot_of, spots_by, spots_named, spots_of}
-use Rattle.meson_sources.proofs.MetOnce.{ItemsApart, OtherPlace, PlacesDiffer, SlotFits}
-use Rattle.meson_sources.proofs.NamedSpots.{every_weaker, some_spots}
+use Rattle.meson_sources.proofs.ListsBut.{both_true, same_one}
+use Rattle.meson_sources.proofs.Meetings.{ItemsApart, OtherPlace, SlotFits}
+use Rattle.meson_sources.proofs.NamedGone.{some_of}
+use Rattle.meson_sources.proofs.NamedSpots.{any_filtered, both_of, every_both, every_weaker, its_spot, named_spots, of_one, some_spots}
+use Rattle.meson_sources.proofs.Pairwise.{Pairwise, pairwise_append}
 use Rattle.meson_sources.proofs.SpotsApart.{Apart, AreApart}
 
 -- ---- names each once
 
-abbrev Different : List (List ℕ) → Type 0
-Different [] = ⊤
-Different (x ∷ xs) = (one_of xs x ≡ false) × Different xs
+abbrev Differs : List ℕ → List ℕ → Type 0
+Differs x y = x ≡ y → ⊥
 
-not_again : (x : List ℕ) (seen ys : List (List ℕ)) → one_of seen x ≡ true → one_of (distinct_by seen ys) x ≡ false
-not_again x seen [] is = refl
-not_again x seen (y ∷ ys) is = go (one_of seen y) refl (not_again x seen ys is) (not_again x (y ∷ seen) ys (or_right (bytes_eq y x) (one_of seen x) is))
+unseen : (x : List ℕ) (seen ys : List (List ℕ)) → one_of seen x ≡ true → Every (Differs x) (distinct_by seen ys)
+unseen x seen [] is = tt
+unseen x seen (y ∷ ys) is = go (one_of seen y) refl (unseen x seen ys is) (unseen x (y ∷ seen) ys (or_right (bytes_eq y x) (one_of seen x) is))
   where
-    other : one_of seen y ≡ false → (b : Bool) → bytes_eq y x ≡ b → b ≡ false
-    other new false same = refl
-    other new true same = let both : true ≡ false = sym is ∙ ap (one_of seen) (sym ((bytes_eq-Decides y x).0 same)) ∙ new in absurd cc
-
-    go : (b : Bool) → one_of seen y ≡ b → one_of (distinct_by seen ys) x ≡ false → one_of (distinct_by (y ∷ seen) ys) x ≡ false → one_of (if b then distinct_by seen ys else y ∷ distinct_by (y ∷ seen) ys) x ≡ false
+    go : (b : Bool) → one_of seen y ≡ b → Every (Differs x) (distinct_by seen ys) → Every (Differs x) (distinct_by (y ∷ seen) ys) → Every (Differs x) (if b then distinct_by seen ys else y ∷ distinct_by (y ∷ seen) ys)
     go true known without with_it = without
-    go false known without with_it = ap₂ (λ b d. b || d) (other known (bytes_eq y x) refl) with_it
+    go false known without with_it = (λ same. let both : true ≡ false = sym is ∙ ap (one_of seen) same ∙ known in cc, with_it)
 
-different_by : (seen names : List (List ℕ)) → Different (distinct_by seen names)
-different_by seen [] = tt
-different_by seen (x ∷ xs) = go (one_of seen x) (different_by seen xs) (different_by (x ∷ seen) xs)
+names_differ : (seen names : List (List ℕ)) → Pairwise Differs (distinct_by seen names)
+names_differ seen [] = tt
+names_differ seen (x ∷ xs) = go (one_of seen x) (names_differ seen xs) (names_differ (x ∷ seen) xs)
   where
-    go : (b : Bool) → Different (distinct_by seen xs) → Different (distinct_by (x ∷ seen) xs) → Different (if b then distinct_by seen xs else x ∷ distinct_by (x ∷ seen) xs)
+    go : (b : Bool) → Pairwise Differs (distinct_by seen xs) → Pairwise Differs (distinct_by (x ∷ seen) xs) → Pairwise Differs (if b then distinct_by seen xs else x ∷ distinct_by (x ∷ seen) xs)
     go true without with_it = without
-    go false without with_it = (not_again x (x ∷ seen) xs (or_left (bytes_eq x x) (one_of seen x) ((bytes_eq-Decides x x).1 refl)), with_it)
-
--- ---- items of a list
-
-abbrev IsIn : List (Item Span) → Item Span → Type 0
-IsIn [] i = ⊥
-IsIn (j ∷ js) i = (i ≡ j) ⊎ IsIn js i
-
-all_in_it : (is : List (Item Span)) → Every (IsIn is) is
-all_in_it [] = tt
-all_in_it (i ∷ is) = (inl refl, every_weaker (IsIn is) (IsIn (i ∷ is)) (λ j one. inr one) is (all_in_it is))
-
-its_own : (P : Item Span → Type 0) (is : List (Item Span)) → Every P is → (i : Item Span) → IsIn is i → P i
-its_own P [] all i one = absurd one
-its_own P (j ∷ js) all i (inl same) = subst P (sym same) all.0
-its_own P (j ∷ js) all i (inr later) = its_own P js all.1 i later
-
-same_item : (is : List (Item Span)) → PlacesDiffer is → (i j : Item Span) → IsIn is i → IsIn is j → i.place ≡ j.place → i ≡ j
-same_item [] differ i j one other same = absurd one
-same_item (x ∷ xs) differ i j (inl a) (inl b) same = a ∙ sym b
-same_item (x ∷ xs) differ i j (inl a) (inr b) same = absurd (its_own (OtherPlace x) xs differ.0 j b (ap (λ (k : Item Span). k.place) (sym a) ∙ same))
-same_item (x ∷ xs) differ i j (inr a) (inl b) same = absurd (its_own (OtherPlace x) xs differ.0 i a (ap (λ (k : Item Span). k.place) (sym b) ∙ sym same))
-same_item (x ∷ xs) differ i j (inr a) (inr b) same = same_item xs differ.1 i j a b same
-
-module _ (f : Item Span → Bool) where
-  kept_each : (P : Item Span → Type 0) (is : List (Item Span)) → Every P is → Every (λ i. P i × (f i ≡ true)) (filter f is)
-  kept_each P [] all = tt
-  kept_each P (i ∷ is) all = go (f i) refl (kept_each P is all.1)
-    where
-      go : (b : Bool) → f i ≡ b → Every (λ j. P j × (f j ≡ true)) (filter f is) → Every (λ j. P j × (f j ≡ true)) (if b then i ∷ filter f is else filter f is)
-      go true test others = ((all.0, test), others)
-      go false test others = others
-
-  kept_differ : (is : List (Item Span)) → PlacesDiffer is → PlacesDiffer (filter f is)
-  kept_differ [] differ = tt
-  kept_differ (i ∷ is) differ = go (f i) (kept_differ is differ.1)
-    where
-      go : (b : Bool) → PlacesDiffer (filter f is) → PlacesDiffer (if b then i ∷ filter f is else filter f is)
-      go true others = (every_weaker (λ j. OtherPlace i j × (f j ≡ true)) (OtherPlace i) (λ j both. both.0) (filter f is) (kept_each (OtherPlace i) is differ.0), others)
-      go false others = others
+    go false without with_it = (unseen x (x ∷ seen) xs (or_left (bytes_eq x x) (one_of seen x) ((bytes_eq-Decides x x).1 refl)), with_it)
 
 -- ---- spots of items
 
-abbrev spot_place : Spot → CallRef
-spot_place s = child s.list s.number
+-- no spot is that of both
+abbrev OtherSlot : Item Span → Item Span → Type 0
+OtherSlot i j = (s : Spot) → is_at s i.slot ≡ true → is_at s j.slot ≡ true → ⊥
 
--- spots that differ in their places
-apart_by : (s t : Spot) → (spot_place s ≡ spot_place t → ⊥) → Apart s t
-apart_by s t other = λ same. other (ap₂ place same.0 (ap₂ (λ path n. path ++ n ∷ []) same.1 same.2))
+place_of_spot : (s : Spot) (slot : Slot) (q : CallRef) → SlotFits slot q → is_at s slot ≡ true → q ≡ child s.list s.number
+place_of_spot s (in_list c n) q fits at = fits ∙ ap (λ (t : Spot). child t.list t.number) (sym (same_one s (spot_at c n) at))
+place_of_spot s fixed q fits at = absurd cc
 
-fit_spot : (slot : Slot) (q : CallRef) (s : Spot) → SlotFits slot q → spot_of slot ≡ Some s → q ≡ spot_place s
-fit_spot (in_list c n) q s fits is = fits ∙ ap spot_place (some-injective _ s is)
-fit_spot fixed q s fits is = absurd cc
+slots_differ : (is : List (Item Span)) → Every (λ (i : Item Span). SlotFits i.slot i.place) is → Pairwise OtherPlace is → Pairwise OtherSlot is
+slots_differ [] fit differ = tt
+slots_differ (i ∷ is) fit differ = (
+  every_both (λ (j : Item Span). SlotFits j.slot j.place) (OtherPlace i) (OtherSlot i) (λ j fits other s at its. other (place_of_spot s i.slot i.place fit.0 at ∙ sym (place_of_spot s j.slot j.place fits its))) is fit.1 differ.0,
+  slots_differ is fit.1 differ.1,
+)
 
--- the spots are those of the items, in their order
-abbrev Match : List (Item Span) → List Spot → Type 0
-Match [] [] = ⊤
-Match (i ∷ is) (s ∷ spots) = (i.place ≡ spot_place s) × Match is spots
-Match _ _ = ⊥
+-- two items of one list, if one is not the other
+abbrev IfOther : Item Span → Item Span → Type 0
+IfOther i j = Differs i.text j.text → OtherSlot i j
 
-spots_match : (is : List (Item Span)) (spots : List Spot) → spots_of is ≡ Some spots → Every (λ (i : Item Span). SlotFits i.slot i.place) is → Match is spots
-spots_match [] spots is fit = subst (Match []) (some-injective _ spots is) tt
-spots_match (i ∷ more) spots is fit =
-    let a = and-then-some (λ spot. option_map (λ spots. spot ∷ spots) (spots_of more)) (spot_of i.slot) spots is in
-    let b = map-some (λ spots. a.0 ∷ spots) (spots_of more) spots a.2 in
-    subst (Match (i ∷ more)) b.2 (fit_spot i.slot i.place a.0 fit.0 a.1, spots_match more b.0 b.1 fit.1)
+all_others : (is : List (Item Span)) → Pairwise OtherSlot is → Every (λ i. Every (IfOther i) is) is
+all_others [] differ = tt
+all_others (x ∷ xs) differ = (
+  (λ other. absurd (other refl), every_weaker (OtherSlot x) (IfOther x) (λ j slots other. slots) xs differ.0),
+  every_both (OtherSlot x) (λ i. Every (IfOther i) xs) (λ i. Every (IfOther i) (x ∷ xs)) (λ i slots others. (λ other s at its. slots s its at, others)) xs differ.0 (all_others xs differ.1),
+)
 
-one_apart : (i : Item Span) (s : Spot) → i.place ≡ spot_place s → (is : List (Item Span)) (spots : List Spot) → Match is spots → Every (OtherPlace i) is → Every (Apart s) spots
-one_apart i s here [] [] m others = tt
-one_apart i s here [] (t ∷ spots) m others = absurd m
-one_apart i s here (j ∷ is) [] m others = absurd m
-one_apart i s here (j ∷ is) (t ∷ spots) m others = (apart_by s t (λ same. others.0 (here ∙ same ∙ sym m.0)), one_apart i s here is spots m.1 others.1)
+apart_at : (s t : Spot) (i j : Item Span) → OtherSlot i j → is_at s i.slot ≡ true → is_at t j.slot ≡ true → Apart s t
+apart_at s t i j other at its = λ same.
+    let one : s ≡ t = ap₂ (λ list n. record { list = list; number = n }) (ap₂ place same.0 same.1) same.2 in
+    other t (subst (λ u. is_at u i.slot ≡ true) one at) its
 
-match_apart : (is : List (Item Span)) (spots : List Spot) → Match is spots → PlacesDiffer is → AreApart spots
-match_apart [] [] m differ = tt
-match_apart [] (t ∷ spots) m differ = absurd m
-match_apart (i ∷ is) [] m differ = absurd m
-match_apart (i ∷ is) (s ∷ spots) m differ = (one_apart i s m.0 is spots m.1 differ.0, match_apart is spots m.1 differ.1)
+-- the spots of the items that pass a test
+module _ (f : Item Span → Bool) where
+  kept_apart : (is : List (Item Span)) (spots : List Spot) → spots_of (filter f is) ≡ Some spots → Pairwise OtherSlot is → AreApart spots
+  kept_apart [] spots is differ = subst AreApart (some-injective [] spots is) tt
+  kept_apart (x ∷ xs) spots is differ = go (f x) is (λ more made. kept_apart xs more made differ.1)
+    where
+      go : (b : Bool) → spots_of (if b then x ∷ filter f xs else filter f xs) ≡ Some spots → ((more : List Spot) → spots_of (filter f xs) ≡ Some more → AreApart more) → AreApart spots
+      go false made rest = rest spots made
+      go true made rest =
+          let a = and-then-some (λ spot. option_map (λ spots. spot ∷ spots) (spots_of (filter f xs))) (spot_of x.slot) spots made in
+          let b = map-some (λ spots. a.0 ∷ spots) (spots_of (filter f xs)) spots a.2 in
+          let others = every_weaker (λ t. list_any (λ (i : Item Span). is_at t i.slot) (filter f xs) ≡ true) (Apart a.0) (λ t found.
+          let o = some_of (λ i. f i && is_at t i.slot) (OtherSlot x) xs differ.0 (any_filtered f (λ i. is_at t i.slot) xs found) in
+          apart_at a.0 t x o.it o.holds (its_spot x.slot a.0 a.1) (both_true (f o.it) (is_at t o.it.slot) o.is).1) b.0 (both_of (filter f xs) b.0 b.1).only in
+          subst AreApart b.2 (others, rest b.0 b.1)
 
 -- ---- spots of names
 
-module _ (marks : List (Mark Span)) (a : ItemsApart marks) where
-  -- an item with such a text stands there
-  record Of (P : List ℕ → Type 0) (s : Spot) : Type 0 where
-    item : Item Span
-    is_in : IsIn (items marks) item
-    holds : P item.text
-    stands : item.place ≡ spot_place s
+module _ (marks : List (Mark Span)) (differ : Pairwise OtherSlot (items marks)) where
+  abbrev named_at : List ℕ → Spot → Item Span → Bool
+  named_at name s i = has_text name i && is_at s i.slot
 
-  match_of : (P : List ℕ → Type 0) (is : List (Item Span)) (spots : List Spot) → Match is spots → Every (λ i. IsIn (items marks) i × P i.text) is → Every (Of P) spots
-  match_of P [] [] m all = tt
-  match_of P [] (s ∷ spots) m all = absurd m
-  match_of P (i ∷ is) [] m all = absurd m
-  match_of P (i ∷ is) (s ∷ spots) m all = (record { item = i; is_in = all.0.0; holds = all.0.1; stands = m.0 }, match_of P is spots m.1 all.1)
+  abbrev one_of_at : List (List ℕ) → Spot → Item Span → Bool
+  one_of_at names s i = has_one_of names i && is_at s i.slot
 
-  record Found (P : List ℕ → Type 0) (spots : List Spot) : Type 0 where
-    apart : AreApart spots
-    each : Every (Of P) spots
+  names_apart : (name : List ℕ) (more : List (List ℕ)) → Every (Differs name) more → (s t : Spot) → list_any (named_at name s) (items marks) ≡ true → list_any (one_of_at more t) (items marks) ≡ true → Apart s t
+  names_apart name more others s t here later =
+      let o = some_of (named_at name s) (λ i. Every (IfOther i) (items marks)) (items marks) (all_others (items marks) differ) here in
+      let u = some_of (one_of_at more t) (IfOther o.it) (items marks) o.holds later in
+      let one = both_true (has_text name o.it) (is_at s o.it.slot) o.is in
+      let other = both_true (has_one_of more u.it) (is_at t u.it.slot) u.is in
+      let n = some_of (λ y. bytes_eq u.it.text y) (Differs name) more others other.0 in
+      apart_at s t o.it u.it (u.holds (λ same. n.holds (sym ((bytes_eq-Decides o.it.text name).0 one.0) ∙ same ∙ (bytes_eq-Decides u.it.text n.it).0 n.is))) one.1 other.1
 
-  found_one : (name : List ℕ) (spots : List Spot) → spots_by (opaque_count marks) (items_of name marks) ≡ Ok spots → Found (λ text. text ≡ name) spots
-  found_one name spots is =
-      let own = items_of name marks in
-      let fit = every_weaker (λ (i : Item Span). SlotFits i.slot i.place × (has_text name i ≡ true)) (λ (i : Item Span). SlotFits i.slot i.place) (λ i both. both.0) own (kept_each (has_text name) (λ i. SlotFits i.slot i.place) (items marks) a.fit) in
-      let m = spots_match own spots (all_there own is) fit in
-      let named = every_weaker (λ (i : Item Span). IsIn (items marks) i × (has_text name i ≡ true)) (λ i. IsIn (items marks) i × (i.text ≡ name)) (λ i both. (both.0, (bytes_eq-Decides i.text name).0 both.1)) own (kept_each (has_text name) (IsIn (items marks)) (items marks) (all_in_it (items marks))) in
-      record { apart = match_apart own spots m (kept_differ (has_text name) (items marks) a.differ); each = match_of (λ text. text ≡ name) own spots m named }
+  found_apart : (names : List (List ℕ)) → Pairwise Differs names → (spots : List Spot) → spots_named marks names ≡ Ok spots → AreApart spots
+  found_apart [] differs spots is = let same : [] ≡ spots = cc in subst AreApart same tt
+  found_apart (name ∷ more) differs spots is =
+      let a = then_was (spots_by (opaque_count marks) (items_of name marks)) (λ here. then_ok (spots_named marks more) (λ later. Ok (here ++ later))) spots is in
+      let b = then_was (spots_named marks more) (λ later. Ok (a.0 ++ later)) spots a.2 in
+      let same : a.0 ++ b.0 ≡ spots = let h = b.2 in cc in
+      let across =
+      every_weaker (λ s. list_any (λ (i : Item Span). is_at s i.slot) (items_of name marks) ≡ true) (λ s. Every (Apart s) b.0) (λ s here.
+      every_weaker (λ t. list_any (one_of_at more t) (items marks) ≡ true) (Apart s) (λ t. names_apart name more differs.0 s t (any_filtered (has_text name) (λ i. is_at s i.slot) (items marks) here)) b.0
+      (named_spots marks more b.0 b.1).only) a.0 (of_one (opaque_count marks) (items_of name marks) a.0 a.1).only in
+      subst AreApart same (pairwise_append Apart a.0 b.0 (kept_apart (has_text name) (items marks) a.0 (spots_there (items_of name marks) a.0 a.1) differ) (found_apart more differs.1 b.0 b.1) across)
     where
-      all_there : (is : List (Item Span)) → spots_by (opaque_count marks) is ≡ Ok spots → spots_of is ≡ Some spots
-      all_there [] made = absurd cc
-      all_there (i ∷ more) made = some_spots (spots_of (i ∷ more)) spots made
+      spots_there : (is : List (Item Span)) (here : List Spot) → spots_by (opaque_count marks) is ≡ Ok here → spots_of is ≡ Some here
+      spots_there [] here made = absurd cc
+      spots_there (i ∷ others) here made = some_spots (spots_of (i ∷ others)) here made
 
-  wider_of : (P Q : List ℕ → Type 0) → ((text : List ℕ) → P text → Q text) → (spots : List Spot) → Every (Of P) spots → Every (Of Q) spots
-  wider_of P Q to spots all = every_weaker (Of P) (Of Q) (λ s o. record { item = o.item; is_in = o.is_in; holds = to o.item.text o.holds; stands = o.stands }) spots all
-
-  append_apart : (ss ts : List Spot) → AreApart ss → AreApart ts → Every (λ s. Every (Apart s) ts) ss → AreApart (ss ++ ts)
-  append_apart [] ts one other across = other
-  append_apart (s ∷ ss) ts one other across = (every-append (Apart s) ss ts one.0 across.0, append_apart ss ts one.1 other across.1)
-
-  -- no item has two texts
-  two_apart : (name : List ℕ) (more : List (List ℕ)) → one_of more name ≡ false → (s t : Spot) → Of (λ text. text ≡ name) s → Of (λ text. one_of more text ≡ true) t → Apart s t
-  two_apart name more none s t o u = apart_by s t (λ same.
-      let one = same_item (items marks) a.differ o.item u.item o.is_in u.is_in (o.stands ∙ same ∙ sym u.stands) in
-      let both : true ≡ false = sym u.holds ∙ ap (λ (i : Item Span). one_of more i.text) (sym one) ∙ ap (one_of more) o.holds ∙ none in cc)
-
-  found_all : (names : List (List ℕ)) → Different names → (spots : List Spot) → spots_named marks names ≡ Ok spots → Found (λ text. one_of names text ≡ true) spots
-  found_all [] different spots is = let same : [] ≡ spots = cc in subst (Found (λ text. one_of [] text ≡ true)) same (record { apart = tt; each = tt })
-  found_all (name ∷ more) different spots is =
-      let x = then_was (spots_by (opaque_count marks) (items_of name marks)) (λ here. then_ok (spots_named marks more) (λ later. Ok (here ++ later))) spots is in
-      let y = then_was (spots_named marks more) (λ later. Ok (x.0 ++ later)) spots x.2 in
-      let same : x.0 ++ y.0 ≡ spots = let h = y.2 in cc in
-      let one = found_one name x.0 x.1 in
-      let rest = found_all more different.1 y.0 y.1 in
-      let All = λ (text : List ℕ). one_of (name ∷ more) text ≡ true in
-      let across = every_weaker (Of (λ text. text ≡ name)) (λ s. Every (Apart s) y.0) (λ s o. every_weaker (Of (λ text. one_of more text ≡ true)) (Apart s) (λ t u. two_apart name more different.0 s t o u) y.0 rest.each) x.0 one.each in
-      subst (Found All) same (record {
-        apart = append_apart x.0 y.0 one.apart rest.apart across;
-        each =
-            every-append (Of All) x.0 y.0
-            (wider_of (λ text. text ≡ name) All (λ text is. or_left (bytes_eq name text) (one_of more text) ((bytes_eq-Decides name text).1 (sym is))) x.0 one.each)
-            (wider_of (λ text. one_of more text ≡ true) All (λ text is. or_right (bytes_eq name text) (one_of more text) is) y.0 rest.each);
-      })
-
-  -- no spot is there twice
-  pub spots_apart : (names : List (List ℕ)) (spots : List Spot) → spots_named marks (distinct names) ≡ Ok spots → AreApart spots
-  spots_apart names spots is = (found_all (distinct names) (different_by [] names) spots is).apart
+-- no spot is there twice
+pub spots_apart : (marks : List (Mark Span)) → ItemsApart marks → (names : List (List ℕ)) (spots : List Spot) → spots_named marks (distinct names) ≡ Ok spots → AreApart spots
+spots_apart marks a names spots is = found_apart marks (slots_differ (items marks) a.fit a.differ) (distinct names) (names_differ [] names) spots is

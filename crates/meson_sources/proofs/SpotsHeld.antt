@@ -1,7 +1,7 @@
 -- At each spot that goes stands a source with one of the names that are removed, and each such source stands at one.
 use Rattle.std.specs.Prelude.{◌&&◌}
 use Rattle.std.specs.List.{list_any}
-use Rattle.std.proofs.Common.{◌≡◌, ℕ, Bool, true, false, List, [], ◌∷◌, map, refl, sym, ap, ◌∙◌, subst}
+use Rattle.std.proofs.Common.{◌≡◌, ℕ, true, false, List, [], ◌∷◌, map, sym, ap, ◌∙◌, subst}
 use Rattle.meson_lex.specs.Literals.{value}
 use Rattle.meson_lex.specs.declared.kinds.Span.{Span}
 use Rattle.meson_syntax.specs.Operators.{string_kind}
@@ -20,7 +20,7 @@ use Rattle.meson_sources.proofs.Bares.{bare_mark}
 use Rattle.meson_sources.proofs.ElementsThere.{root}
 use Rattle.meson_sources.proofs.ItemsThere.{Holds, IsSources, StringHeld, TextHeld}
 use Rattle.meson_sources.proofs.LeftFiles.{NamedGoes}
-use Rattle.meson_sources.proofs.ListsBut.{same_one}
+use Rattle.meson_sources.proofs.ListsBut.{both_true, same_one}
 use Rattle.meson_sources.proofs.LostMarks.{slot_gone}
 use Rattle.meson_sources.proofs.NamedGone.{alike, distinct_named, named_distinct, some_of}
 use Rattle.meson_sources.proofs.RenamedStrings.{Node}
@@ -31,10 +31,6 @@ pub same_there : (trees : List Plain) (p : CallRef) (y z : Node) → NodeIn tree
 same_there trees p y z m n =
     let same_tree : n.tree ≡ m.tree = some-injective _ _ (sym n.is_tree ∙ m.is_tree) in
     some-injective z y (sym n.is_node ∙ ap (λ t. node_at (root t) p.path.steps) same_tree ∙ m.is_node)
-
-both_true : (a b : Bool) → (a && b) ≡ true → (a ≡ true) × (b ≡ true)
-both_true true b is = (refl, is)
-both_true false b is = absurd cc
 
 no_true : (xs : List Spot) → list_any (λ s. false) xs ≡ true → ⊥
 no_true [] is = cc

@@ -22,7 +22,7 @@ use Rattle.meson_steps.specs.ResultLimits.{plain_trees}
 use Rattle.meson_steps.specs.ListSteps.{AreDoable}
 use Rattle.meson_steps.specs.Steps.{Step}
 use Rattle.meson_syntax.specs.Operators.{holds_values}
-use Rattle.meson_sources.proofs.MetOnce.{ItemsApart}
+use Rattle.meson_sources.proofs.Meetings.{ItemsApart}
 use Rattle.meson_sources.proofs.SpotsApart.{AreApart}
 
 -- ---- places

@@ -35,7 +35,7 @@ use Rattle.meson_sources.proofs.ExtrasAddable.{checked_marks}
 use Rattle.meson_sources.proofs.FileKinds.{FileKind, of_extras, of_sources}
 use Rattle.meson_sources.proofs.KeyCounts.{few_once}
 use Rattle.meson_sources.proofs.LeftFiles.{CallStays, NamedGoes}
-use Rattle.meson_sources.proofs.MetOnce.{ItemsApart}
+use Rattle.meson_sources.proofs.Meetings.{ItemsApart}
 use Rattle.meson_sources.proofs.NamedGone.{distinct_named}
 use Rattle.meson_sources.proofs.NamedSpots.{every_weaker, named_spots}
 use Rattle.meson_sources.proofs.OthersNamed.{distinct_others, not_name}

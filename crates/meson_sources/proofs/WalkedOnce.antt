@@ -19,9 +19,9 @@ use Rattle.meson_sources.proofs.ElementsAt.{AreLevel}
 use Rattle.meson_sources.proofs.MarkLists.{below_itself}
 use Rattle.meson_sources.proofs.MarksStand.{Elements, Operated, StandsAs, elements_stand, row_stands}
 use Rattle.meson_sources.proofs.MarksThere.{single_stands}
-use Rattle.meson_sources.proofs.MetOnce.{From, Known, MetOnce, New, SlotFits, Beneath, both_once, from_beneath, none_met, opaque_once, other_child, wider, within_once}
+use Rattle.meson_sources.proofs.Meetings.{From, Known, MetOnce, New, SlotFits, Beneath, both_once, from_beneath, none_met, opaque_once, other_child, wider, within_once}
 use Rattle.meson_sources.proofs.NamedSpots.{every_weaker}
-use Rattle.meson_sources.proofs.Regions.{GoesOn}
+use Rattle.meson_sources.proofs.Regions.{MeetsWithin}
 
 abbrev NoPlace : CallRef → Type 0
 NoPlace q = ⊥
@@ -31,7 +31,7 @@ either_false true c is = absurd cc
 either_false false c is = is
 
 module _ (p : Project Span) (levels : AreLevel p) (In : Option (List ℕ) → CallRef → Type 0) (one_region : (a b : Option (List ℕ)) (q : CallRef) → In a q → In b q → a ≡ b)
-    (child_inside : (v : Option (List ℕ)) (q : CallRef) (e : Expression Span) → expression_at p q ≡ Some e → GoesOn e → In v q → (n : ℕ) → In v (child q n)) where
+    (child_inside : (v : Option (List ℕ)) (q : CallRef) (e : Expression Span) → expression_at p q ≡ Some e → MeetsWithin e → In v q → (n : ℕ) → In v (child q n)) where
   -- an expression of which what is met is met once
   pub record Here (s : Stand) (e : Expression Span) (f : List (List ℕ)) : Type 0 where
     pub is_at : expression_at p s.place ≡ Some e
@@ -46,8 +46,8 @@ module _ (p : Project Span) (levels : AreLevel p) (In : Option (List ℕ) → Ca
   OnceFrom n c v f e = MetOnce In (From n c) v f e
 
   -- one child, and those behind it
-  one_more : (n : ℕ) (c : CallRef) (v : Option (List ℕ)) (f : List (List ℕ)) (e rest : Expansion Span) → Known In v f → Once (child c n) v f e → OnceFrom (n + 1) c v e.followed rest → OnceFrom n c v f (both_expanded e rest)
-  one_more n c v f e rest known m r =
+  child_then : (n : ℕ) (c : CallRef) (v : Option (List ℕ)) (f : List (List ℕ)) (e rest : Expansion Span) → Known In v f → Once (child c n) v f e → OnceFrom (n + 1) c v e.followed rest → OnceFrom n c v f (both_expanded e rest)
+  child_then n c v f e rest known m r =
       both_once In one_region (Beneath (child c n)) (From (n + 1) c) (From n c) (λ q u. let le : n ≤ n = omega arith in (n, le, u)) (λ q w. let more = w.1 in let le : n ≤ w.0 = omega (arith, more) in (w.0, le, w.2))
       (λ q u w. let same = other_child c q n w.0 u w.2 in let more = w.1 in omega (arith, same, more)) v f known e rest m r
 
@@ -84,7 +84,7 @@ module _ (p : Project Span) (levels : AreLevel p) (In : Option (List ℕ) → Ca
           let first = expression_once e (operand_at s 0) f (record { is_at = child_stands p s.place (row at e os) h.is_at 0 e refl; inside = inside 0; fits = tt; known = h.known }) in
           let now = (one e (operand_at s 0) f).followed in
           sum_if (are_plus os && lists e) s.place s.variable f _
-          (one_more 0 s.place s.variable f _ _ h.known first (operands_once os 1 s now (λ x is. first.more x (h.known x is)) inside (row_stands p s.place at e os h.is_at)))
+          (child_then 0 s.place s.variable f _ _ h.known first (operands_once os 1 s now (λ x is. first.more x (h.known x is)) inside (row_stands p s.place at e os h.is_at)))
       expression_once _ s f h = opaque_once In (Beneath s.place) s.variable f
 
       operands_once : (os : Operands Span) (n : ℕ) (s : Stand) (f : List (List ℕ)) → Known In s.variable f → ((k : ℕ) → In s.variable (child s.place k)) → Operated p s.place n os
@@ -92,9 +92,9 @@ module _ (p : Project Span) (levels : AreLevel p) (In : Option (List ℕ) → Ca
       operands_once no_operands n s f known inside all = none_met In (From n s.place) s.variable f
       operands_once (operand o e more) n s f known inside all =
           let first = expression_once e (operand_at s n) f (record { is_at = all.0; inside = inside n; fits = tt; known = known }) in
-          one_more n s.place s.variable f _ _ known first (operands_once more (n + 1) s (one e (operand_at s n) f).followed (λ x is. first.more x (known x is)) inside all.1)
+          child_then n s.place s.variable f _ _ known first (operands_once more (n + 1) s (one e (operand_at s n) f).followed (λ x is. first.more x (known x is)) inside all.1)
 
-      list_once : (l : Listing Span) (e : Expression Span) (s : Stand) (f : List (List ℕ)) → Here s e f → GoesOn e → Elements p s.place 0 (elements l) → Once s.place s.variable f (within s.place (expand_listing lists follow l s f))
+      list_once : (l : Listing Span) (e : Expression Span) (s : Stand) (f : List (List ℕ)) → Here s e f → MeetsWithin e → Elements p s.place 0 (elements l) → Once s.place s.variable f (within s.place (expand_listing lists follow l s f))
       list_once (listing at trailing list) e s f h way all =
           within_once In (Beneath s.place) s.variable f s.place _
           (wider In (From 0 s.place) (Beneath s.place) s.variable f _ (from_beneath s.place 0) (each_once list 0 s f h.known (child_inside s.variable s.place e h.is_at way h.inside) all))
@@ -107,7 +107,7 @@ module _ (p : Project Span) (levels : AreLevel p) (In : Option (List ℕ) → Ca
           (λ e is. let k : n + 0 ≡ n = omega arith in subst (λ i. expression_at p (child s.place i) ≡ Some e) k (all 0 e (ap (λ y. Some y) is)).is_at) in
           let first = argument_once a (element s n) f (λ e is. record { is_at = here e is; inside = inside n; fits = refl; known = known }) in
           let others : Elements p s.place (n + 1) (argument_list more) = (λ j e is. let k : n + suc j ≡ (n + 1) + j = omega arith in subst (λ i. StandsAs p (record { place = child s.place i; slot = in_list s.place i; variable = None }) e) k (all (suc j) e is)) in
-          one_more n s.place s.variable f _ _ known first (each_once more (n + 1) s (expand_argument lists follow a (element s n) f).followed (λ x is. first.more x (known x is)) inside others)
+          child_then n s.place s.variable f _ _ known first (each_once more (n + 1) s (expand_argument lists follow a (element s n) f).followed (λ x is. first.more x (known x is)) inside others)
 
       argument_once : (a : Argument Span) (s : Stand) (f : List (List ℕ)) → ((e : Expression Span) → a ≡ plain e → Here s e f) → Once s.place s.variable f (expand_argument lists follow a s f)
       argument_once (plain e) s f h = expression_once e s f (h e refl)

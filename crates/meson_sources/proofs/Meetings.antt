@@ -1,5 +1,5 @@
 -- What is met in an expression is met once: its items stand at different places.
-use Rattle.std.specs.Prelude.{⊤, ◌⊎◌}
+use Rattle.std.specs.Prelude.{◌⊎◌}
 use Rattle.std.proofs.Common.{◌≡◌, ℕ, ◌≤◌, Bool, true, false, List, [], ◌∷◌, ◌++◌, Option, Some, refl, sym, ap, ◌∙◌, subst, inl, inr}
 use Rattle.meson_lex.specs.declared.kinds.Span.{Span}
 use Rattle.meson_syntax.proofs.parsing.Steps.{some-injective}
@@ -11,21 +11,13 @@ use Rattle.meson_variables.specs.Expansion.{Expansion, Item, Mark, Slot, both_ex
 use Rattle.meson_variables.specs.TargetSources.{items}
 use Rattle.meson_sources.proofs.MarkLists.{below, below_child}
 use Rattle.meson_sources.proofs.NamedSpots.{every_weaker}
+use Rattle.meson_sources.proofs.Pairwise.{Pairwise, pairwise_append}
 use Rattle.meson_sources.proofs.PlacesBelow.{below_steps}
 
 -- ---- lists of items
 
 abbrev pub OtherPlace : Item Span → Item Span → Type 0
 OtherPlace i j = i.place ≡ j.place → ⊥
-
--- each stands at another place than those behind it
-abbrev pub PlacesDiffer : List (Item Span) → Type 0
-PlacesDiffer [] = ⊤
-PlacesDiffer (i ∷ is) = Every (OtherPlace i) is × PlacesDiffer is
-
-both_differ : (is js : List (Item Span)) → PlacesDiffer is → PlacesDiffer js → Every (λ i. Every (OtherPlace i) js) is → PlacesDiffer (is ++ js)
-both_differ [] js one other across = other
-both_differ (i ∷ is) js one other across = (every-append (OtherPlace i) is js one.0 across.0, both_differ is js one.1 other across.1)
 
 pub items_both : (ms ns : List (Mark Span)) → items (ms ++ ns) ≡ items ms ++ items ns
 items_both [] ns = refl
@@ -63,7 +55,7 @@ SlotFits fixed q = Unit {0}
 -- Each item of marks stands at another place than the others, and its slot is its place.
 pub record ItemsApart (ms : List (Mark Span)) : Type 0 where
   pub fit : Every (λ (i : Item Span). SlotFits i.slot i.place) (items ms)
-  pub differ : PlacesDiffer (items ms)
+  pub differ : Pairwise OtherPlace (items ms)
 
 module _ (In : Option (List ℕ) → CallRef → Type 0) where
   -- of a variable that was followed between
@@ -83,7 +75,7 @@ module _ (In : Option (List ℕ) → CallRef → Type 0) where
   pub record MetOnce (Own : CallRef → Type 0) (v : Option (List ℕ)) (f : List (List ℕ)) (e : Expansion Span) : Type 0 where
     pub more : (x : List ℕ) → one_of f x ≡ true → one_of e.followed x ≡ true
     pub each : Every (Comes Own v f e.followed) (items e.marks)
-    pub differ : PlacesDiffer (items e.marks)
+    pub differ : Pairwise OtherPlace (items e.marks)
 
   abbrev pub Known : Option (List ℕ) → List (List ℕ) → Type 0
   Known v f = (x : List ℕ) → v ≡ Some x → one_of f x ≡ true
@@ -94,25 +86,30 @@ module _ (In : Option (List ℕ) → CallRef → Type 0) where
   pub opaque_once : (Own : CallRef → Type 0) (v : Option (List ℕ)) (f : List (List ℕ)) → MetOnce Own v f (met opaque f)
   opaque_once Own v f = record { more = λ x is. is; each = tt; differ = tt }
 
+  -- the same of other regions, and where more was followed behind it, or less before it
+  comes_too : (Own Wide : CallRef → Type 0) (v : Option (List ℕ)) (f g f2 g2 : List (List ℕ)) → ((q : CallRef) → Own q → Wide q) → ((x : List ℕ) → one_of f x ≡ false → one_of f2 x ≡ false)
+      → ((x : List ℕ) → one_of g x ≡ true → one_of g2 x ≡ true) → (i : Item Span) → Comes Own v f g i → Comes Wide v f2 g2 i
+  comes_too Own Wide v f g f2 g2 to not_yet now i o = record { inside = o.inside; fits = o.fits; from = go o.from }
+    where
+      go : ((i.variable ≡ v) × Own i.place) ⊎ New f g i.variable → ((i.variable ≡ v) × Wide i.place) ⊎ New f2 g2 i.variable
+      go (inl own) = inl (own.0, to i.place own.1)
+      go (inr new) = inr (record { name = new.name; is = new.is; not_yet = not_yet new.name new.not_yet; now = now new.name new.now })
+
   pub wider : (Own Wide : CallRef → Type 0) (v : Option (List ℕ)) (f : List (List ℕ)) (e : Expansion Span) → ((q : CallRef) → Own q → Wide q) → MetOnce Own v f e → MetOnce Wide v f e
   wider Own Wide v f e to m = record {
     more = m.more;
-    each = every_weaker (Comes Own v f e.followed) (Comes Wide v f e.followed) (λ i o. record { inside = o.inside; fits = o.fits; from = go i o.from }) (items e.marks) m.each;
+    each = every_weaker _ _ (comes_too Own Wide v f e.followed f e.followed to (λ x is. is) (λ x is. is)) (items e.marks) m.each;
     differ = m.differ;
   }
-    where
-      go : (i : Item Span) → ((i.variable ≡ v) × Own i.place) ⊎ New f e.followed i.variable → ((i.variable ≡ v) × Wide i.place) ⊎ New f e.followed i.variable
-      go i (inl own) = inl (own.0, to i.place own.1)
-      go i (inr new) = inr new
 
   pub within_once : (Own : CallRef → Type 0) (v : Option (List ℕ)) (f : List (List ℕ)) (c : CallRef) (e : Expansion Span) → MetOnce Own v f e → MetOnce Own v f (within c e)
-  within_once Own v f c e m = record { more = m.more; each = subst (Every (Comes Own v f e.followed)) (items_kept c e.marks) m.each; differ = subst PlacesDiffer (items_kept c e.marks) m.differ }
+  within_once Own v f c e m = record { more = m.more; each = subst (Every (Comes Own v f e.followed)) (items_kept c e.marks) m.each; differ = subst (Pairwise OtherPlace) (items_kept c e.marks) m.differ }
 
   module _ (one_region : (a b : Option (List ℕ)) (q : CallRef) → In a q → In b q → a ≡ b) where
     module _ (Own Next Both : CallRef → Type 0) (to : (q : CallRef) → Own q → Both q) (next : (q : CallRef) → Next q → Both q) (apart : (q : CallRef) → Own q → Next q → ⊥)
         (v : Option (List ℕ)) (f : List (List ℕ)) (known : Known v f) (e rest : Expansion Span) (m : MetOnce Own v f e) (r : MetOnce Next v e.followed rest) where
-      before : (x : List ℕ) → one_of e.followed x ≡ false → one_of f x ≡ false
-      before x not = go (one_of f x) refl
+      not_before : (x : List ℕ) → one_of e.followed x ≡ false → one_of f x ≡ false
+      not_before x not = go (one_of f x) refl
         where
           go : (b : Bool) → one_of f x ≡ b → b ≡ false
           go false is = refl
@@ -135,28 +132,16 @@ module _ (In : Option (List ℕ) → CallRef → Type 0) where
               let names : new.name ≡ its.name = some-injective _ _ (sym new.is ∙ one ∙ its.is) in
               let both : true ≡ false = sym new.now ∙ ap (one_of e.followed) names ∙ its.not_yet in cc
 
-      first_comes : (i : Item Span) → Comes Own v f e.followed i → Comes Both v f rest.followed i
-      first_comes i o = record { inside = o.inside; fits = o.fits; from = go o.from }
-        where
-          go : ((i.variable ≡ v) × Own i.place) ⊎ New f e.followed i.variable → ((i.variable ≡ v) × Both i.place) ⊎ New f rest.followed i.variable
-          go (inl own) = inl (own.0, to i.place own.1)
-          go (inr new) = inr (record { name = new.name; is = new.is; not_yet = new.not_yet; now = r.more new.name new.now })
-
-      then_comes : (j : Item Span) → Comes Next v e.followed rest.followed j → Comes Both v f rest.followed j
-      then_comes j o = record { inside = o.inside; fits = o.fits; from = go o.from }
-        where
-          go : ((j.variable ≡ v) × Next j.place) ⊎ New e.followed rest.followed j.variable → ((j.variable ≡ v) × Both j.place) ⊎ New f rest.followed j.variable
-          go (inl its) = inl (its.0, next j.place its.1)
-          go (inr new) = inr (record { name = new.name; is = new.is; not_yet = before new.name new.not_yet; now = new.now })
-
       pub both_once : MetOnce Both v f (both_expanded e rest)
       both_once =
           let is = items e.marks in
           let js = items rest.marks in
-          let all = every-append (Comes Both v f rest.followed) is js (every_weaker _ _ first_comes is m.each) (every_weaker _ _ then_comes js r.each) in
+          let all = every-append (Comes Both v f rest.followed) is js
+          (every_weaker _ _ (comes_too Own Both v f e.followed f rest.followed to (λ x is. is) r.more) is m.each)
+          (every_weaker _ _ (comes_too Next Both v e.followed rest.followed f rest.followed next not_before (λ x is. is)) js r.each) in
           let crossed = every_weaker (Comes Own v f e.followed) (λ i. Every (OtherPlace i) js) (λ i a. every_weaker (Comes Next v e.followed rest.followed) (OtherPlace i) (λ j b. across i j a b) js r.each) is m.each in
           record {
             more = λ x is. r.more x (m.more x is);
             each = subst (Every (Comes Both v f rest.followed)) (sym (items_both e.marks rest.marks)) all;
-            differ = subst PlacesDiffer (sym (items_both e.marks rest.marks)) (both_differ is js m.differ r.differ crossed);
+            differ = subst (Pairwise OtherPlace) (sym (items_both e.marks rest.marks)) (pairwise_append OtherPlace is js m.differ r.differ crossed);
           }
