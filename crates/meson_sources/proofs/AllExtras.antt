@@ -73,7 +73,7 @@ module _ (old new : Loaded) (is : IsProject old) (same_names : file_names new �
 
   nothing_new : plain_trees new ≡ plain_trees old → FilesGrown extra_files [] c (project old) (project new)
   nothing_new same =
-      let s = stay of_extras extras_hold extras_lost old (trees_stand old.files old.parsed is.parsed) c t target new same_names [] [] (no_spots (items marks)) tt (ap Some (sym same)) few in
+      let s = stay of_extras extras_hold extras_lost old (trees_stand old.files old.parsed is.parsed) c t target new same_names [] [] (no_spots (items marks)) tt tt (ap Some (sym same)) few in
       record {
         before = s.before;
         were = s.were;

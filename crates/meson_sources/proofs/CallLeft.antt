@@ -27,24 +27,24 @@ use Rattle.meson_steps.specs.ResultLimits.{plain_trees}
 use Rattle.meson_steps.specs.Steps.{all_stepped}
 use Rattle.meson_sources.specs.Effects.{AreSpotsOf, goes, trees_without}
 use Rattle.meson_sources.specs.Without.{expression_without, from_child}
-use Rattle.meson_sources.proofs.NodesMoved.{first_place, node_moved, place_left}
+use Rattle.meson_sources.proofs.NodesMoved.{child_place, node_moved, place_left}
 use Rattle.meson_sources.proofs.TreesLeft.{trees_left}
 use Rattle.meson_sources.proofs.WithoutLoses.{Lost, gone_at, loses}
 use Rattle.meson_sources.proofs.WithoutPlaces.{any_without}
-use Rattle.meson_sources.specs.SourceEdits.{Spot, distinct_spots, removal_steps}
+use Rattle.meson_sources.specs.SourceEdits.{Spot, removal_steps}
 use Rattle.meson_sources.specs.WholeSources.{file_names}
 use Rattle.meson_sources.proofs.FoundAgain.{Names}
 use Rattle.meson_sources.proofs.NamedAgain.{SetStays, named_again}
 use Rattle.meson_sources.proofs.TargetNames.{by_bare, call_by, call_tells, first_plain, tell_call, SameNames}
 use Rattle.meson_sources.proofs.Bares.{Values, bare_value, expand_with, values_of}
 use Rattle.meson_sources.proofs.CallForms.{CallIn, CallNode, bare_arguments, bare_form, called, stands_bare}
-use Rattle.meson_sources.proofs.DistinctSpots.{distinct_apart, every_distinct}
+use Rattle.meson_sources.proofs.SpotsApart.{AreApart}
 use Rattle.meson_sources.proofs.Functions.{files_no_matter, target_no_files, target_no_matter}
 use Rattle.meson_sources.proofs.ItemsThere.{CallFrom, FirstOf, IsSources}
 use Rattle.meson_sources.proofs.Kins.{node_level, value_in}
 use Rattle.meson_sources.proofs.LeftFiles.{NamedGoes}
 use Rattle.meson_sources.proofs.Losses.{EachLoses, Loses}
-use Rattle.meson_sources.proofs.LostMarks.{Left, slot_gone}
+use Rattle.meson_sources.proofs.LostMarks.{Left, slot_gone, stand_left}
 use Rattle.meson_sources.proofs.LostArguments.{FirstStays}
 use Rattle.meson_sources.proofs.LostValues.{expand_left}
 use Rattle.meson_sources.proofs.RenamedStrings.{Node}
@@ -59,7 +59,7 @@ use Rattle.meson_sources.proofs.TellsKept.{FirstIs, MayGo, first_stays, names_le
 
 -- where a place is after the elements at these spots have gone
 abbrev pub moved_place : List Spot → CallRef → CallRef
-moved_place spots c = place_left (goes (distinct_spots spots)) c
+moved_place spots c = place_left (goes spots) c
 
 -- ---- the first argument without a name
 
@@ -127,25 +127,19 @@ module _ (old : Loaded) (stand : All MayStandBetween (plain_trees old)) (c : Cal
 
   -- ---- after the removal
 
-  module _ (new : Loaded) (same_names : file_names new ≡ file_names old) (names : List (List ℕ)) (is : List (Item Span)) (held : Every (Held trees Fine fine) is) (found : List Spot) (of_names : AreSpotsOf is (distinct names) found)
-      (are_found : Every (StringIn trees) found) (done : all_stepped (removal_steps (distinct_spots found)) trees ≡ Some (plain_trees new)) where
-    abbrev spots : List Spot
-    spots = distinct_spots found
-
+  module _ (new : Loaded) (same_names : file_names new ≡ file_names old) (names : List (List ℕ)) (is : List (Item Span)) (held : Every (Held trees Fine fine) is) (spots : List Spot) (of_names : AreSpotsOf is (distinct names) spots)
+      (are : Every (StringIn trees) spots) (apart : AreApart spots) (done : all_stepped (removal_steps spots) trees ≡ Some (plain_trees new)) where
     abbrev after : List Plain
     after = plain_trees new
 
     abbrev pub gone : CallRef → ℕ → Bool
     gone = goes spots
 
-    are : Every (StringIn trees) spots
-    are = every_distinct (StringIn trees) found are_found
-
     are_left : after ≡ trees_without spots trees
-    are_left = trees_left spots trees after stand are (distinct_apart found) done
+    are_left = trees_left spots trees after stand are apart done
 
-    held_at : (q : CallRef) (n : ℕ) → gone q n ≡ true → SpotHeld trees Fine fine names is held found of_names q n
-    held_at = gone_held trees Fine fine names is held found of_names
+    held_at : (q : CallRef) (n : ℕ) → gone q n ≡ true → SpotHeld trees Fine fine names is held spots of_names q n
+    held_at = gone_held trees Fine fine names is held spots of_names
 
     lost : (q : CallRef) (n : ℕ) → gone q n ≡ true → (y : Node) → NodeIn trees q y → Lost y n
     lost q n is y h =
@@ -187,21 +181,21 @@ module _ (old : Loaded) (stand : All MayStandBetween (plain_trees old)) (c : Cal
         record { ys = m.1; node = record { name = o.0; trailing = m.0; node = at }; same_name = o.3; each = m.3 }
 
     -- what is met in each expression then
-    pub each_left : (e now : Expression Nowhere) (u v : Stand) (g k : List (List ℕ)) → k ≡ g → slot_gone gone u.slot ≡ false → Loses gone u.place e now
-        → Left gone (expand_with (values_of (project old)) max_followed e u g) (expand_with (values_of (project new)) max_followed now v k)
+    pub each_left : (e now : Expression Nowhere) (u : Stand) (g k : List (List ℕ)) → k ≡ g → slot_gone gone u.slot ≡ false → Loses gone u.place e now
+        → Left gone (expand_with (values_of (project old)) max_followed e u g) (expand_with (values_of (project new)) max_followed now (stand_left gone u) k)
     each_left =
         let tells = λ (i : ℕ). subst (λ ts. SameTells (0 + i) (nth trees i) (nth ts i)) (sym are_left) (tells_left trees stand gone lost may i) in
         expand_left gone (values_of (project old)) (values_of (project new)) (values_left old new same_names tells stand gone lost are_left) max_followed
 
     pub are_named : Every (NamedGoes gone names) is
-    are_named = all_named trees Fine fine names is held found of_names
+    are_named = all_named trees Fine fine names is held spots of_names
 
     -- an assignment stays where it has moved to
     set_left : (q : CallRef) (x : Name Nowhere) (v : Expression Nowhere) → c ≡ child q 0 → NodeIn trees q (a_statement (assign tt x assignment.Set v)) → SetStays after (place_left gone c) x.text
     set_left q x v is_place n =
         record {
           at = place_left gone q;
-          is_place = ap (place_left gone) is_place ∙ first_place gone q;
+          is_place = ap (place_left gone) is_place ∙ child_place gone q 0;
           r = tt;
           name = x;
           value = expression_without (from_child 0 (gone_at gone q)) v;

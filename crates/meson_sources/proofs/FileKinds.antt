@@ -20,6 +20,7 @@ use Rattle.meson_sources.specs.WholeSources.{Reading}
 use Rattle.meson_sources.proofs.Bares.{bare_mark, expand_with, values_of}
 use Rattle.meson_sources.proofs.CallForms.{CallIn, bare_arguments, called}
 use Rattle.meson_sources.proofs.CallTrees.{keyed, keys, list_with, plains, whole}
+use Rattle.meson_sources.proofs.MarkContents.{mark_contents, contents_append, contents_bare}
 use Rattle.meson_sources.proofs.ExtraCalls as extra
 use Rattle.meson_sources.proofs.Gists.{gist, gist_append}
 use Rattle.meson_sources.proofs.Outcomes.{Clear}
@@ -111,6 +112,12 @@ module _ (what : FileKind) where
     marks_say =
         let met = (met_in p c (bare_arguments t)).marks in
         sym (gist_bare (what.marks p (called t))) ∙ ap gist (what.are_marks p c t) ∙ gist_append met (map bare_mark (hidden (what.hide t.arguments))) ∙ ap (λ g. gist met ++ g) (gist_bare (hidden (what.hide t.arguments)))
+
+    pub marks_contain : mark_contents (what.marks p (called t)) ≡ mark_contents (met_in p c (bare_arguments t)).marks ++ mark_contents {S = Span} (hidden (what.hide t.arguments))
+    marks_contain =
+        let met = (met_in p c (bare_arguments t)).marks in
+        sym (contents_bare (what.marks p (called t))) ∙ ap mark_contents (what.are_marks p c t)
+        ∙ contents_append met (map bare_mark (hidden (what.hide t.arguments))) ∙ ap (λ g. mark_contents met ++ g) (contents_bare (hidden (what.hide t.arguments)))
 
     pub read_once : length (keyed what.key 0 t.arguments) ≤ 1 → what.read p c ≡ Some (Ok (sources_of_marks c (what.marks p (called t))))
     read_once few = what.is_read p c t ∙ ap Some (once_few what.key (keyed what.key 0 t.arguments) (sources_of_marks c (what.marks p (called t))) few)

@@ -14,7 +14,7 @@ no_other f g yea nay = go (bytes_eq f g) (bytes_eq-Decides f g).0
     go false same = refl
     go true same = let both : true ≡ false = sym yea ∙ ap (one_of target_functions) (same refl) ∙ nay in absurd cc
 
-pub target_no_files : (f : List ℕ) (l : Listing Nowhere) → one_of target_functions f ≡ true → is_files f l ≡ false
+pub target_no_files : {S : Type 0} (f : List ℕ) (l : Listing S) → one_of target_functions f ≡ true → is_files f l ≡ false
 target_no_files f (listing r trailing list) yea = ap (λ b. b && not (has_names list)) (no_other f (codes "files") yea refl)
 
 pub target_no_matter : (f : List ℕ) → one_of target_functions f ≡ true → matters f ≡ false

@@ -2,7 +2,6 @@ mod SpotsAfter
 mod Renaming
 mod Standings
 mod ArgumentsGrow
-mod DistinctSpots
 mod ElementsAt
 mod ElementsThere
 pub mod ExtraAdded
@@ -43,7 +42,6 @@ mod SourcesMeant
 pub mod SourcesGone
 mod SpotsApart
 mod SpotsFound
-mod SpotsOnce
 mod StringsDoable
 mod NothingGone
 mod ChildFollows
@@ -84,12 +82,20 @@ mod SceneKins
 mod Arrivals
 mod NeverMet
 pub mod AllSources
+mod MarkContents
 mod Losses
 mod LostMarks
 mod LostValues
 mod LostArguments
 mod ItemsThere
 mod VariablesLeft
+mod Pairwise
+mod Regions
+mod Meetings
+mod WalkedOnce
+mod ArgumentsOnce
+mod SpotsDiffer
+pub mod SourcesMetOnce
 mod NamedGone
 mod SpotsHeld
 mod TargetNames
@@ -113,4 +119,8 @@ mod Functions
 mod GrownFiles
 mod KeyCounts
 mod LeftFiles
+mod SpotsLeft
+mod RemovalsJoined
+mod OthersNamed
+mod TakenInTurn
 mod ListTurns

@@ -5,10 +5,10 @@ use Rattle.std.proofs.Common.{◌≡◌, ℕ, zero, suc, ◌-◌, ◌<◌, ◌�
 use Rattle.std.proofs.lemmas.Bool.{eqb-true, eq-eqb, ltb-true, ltb-false}
 use Rattle.meson_syntax.proofs.paths.Every.{Every}
 use Rattle.meson_calls.specs.Project.{place}
+use Rattle.meson_sources.specs.Effects.{same_spot}
 use Rattle.meson_sources.specs.Without.{but}
-use Rattle.meson_sources.specs.SourceEdits.{Spot, is_path, same_spot}
+use Rattle.meson_sources.specs.SourceEdits.{Spot, is_path}
 use Rattle.meson_sources.proofs.SpotsAfter.{moved_up, spot_after, spots_after}
-use Rattle.meson_sources.proofs.DistinctSpots.{apart_of}
 use Rattle.meson_sources.proofs.OneGone.{without}
 use Rattle.meson_sources.proofs.PathsAfter.{path_itself, same_paths}
 use Rattle.meson_sources.proofs.SpotsApart.{Apart, Clear, apart_after}
@@ -71,7 +71,7 @@ spot_itself s =
     ap (λ b. b && (is_path s.list.path.steps s.list.path.steps && nat_eq s.number s.number)) (eq-eqb s.list.file s.list.file refl)
     ∙ ap (λ b. b && nat_eq s.number s.number) (path_itself s.list.path.steps) ∙ eq-eqb s.number s.number refl
 
-both_true : (b c : Bool) → (b && c) ≡ true → (b ≡ true) × (c ≡ true)
+pub both_true : (b c : Bool) → (b && c) ≡ true → (b ≡ true) × (c ≡ true)
 both_true true c is = (refl, is)
 both_true false c is = absurd cc
 
@@ -88,6 +88,12 @@ apart_not_same s t apart = by (same_spot s t) refl where
   by : (b : Bool) → same_spot s t ≡ b → b ≡ false
   by true is = let same = same_one s t is in absurd (apart (ap (λ (u : Spot). u.list.file) same, ap (λ (u : Spot). u.list.path.steps) same, ap (λ (u : Spot). u.number) same))
   by false is = refl
+
+apart_of : (s t : Spot) → same_spot t s ≡ false → Apart s t
+apart_of s t not_same = λ same.
+    let one : s ≡ t = ap₂ (λ list n. record { list = list; number = n }) (ap₂ place same.0 same.1) same.2 in
+    let both : true ≡ false = sym (spot_itself t) ∙ ap (same_spot t) (sym one) ∙ not_same in
+    cc
 
 -- two spots are the same after another one has gone where they were the same before
 module _ (s t : Spot) (clear_t : Clear s t) where

@@ -35,7 +35,7 @@ module _ (gone : CallRef → ℕ → Bool) where
     Loses c (identifier t x) now = now ≡ identifier t x
     Loses c (array l) now = (m : Listing Nowhere) × (now ≡ array m) × ListLoses c l m
     Loses c (call t f l) now = (g : Name Nowhere) × (m : Listing Nowhere) × (now ≡ call tt g m) × (g.text ≡ f.text) × ListLoses c l m
-    Loses c (row t e os) now = (d : Expression Nowhere) × (ps : Operands Nowhere) × (now ≡ row tt d ps) × Loses (child c 0) e d × OperandsLose c 1 os ps
+    Loses c (row t e os) now = (d : Expression Nowhere) × (ps : Operands Nowhere) × (now ≡ row tt d ps) × Loses (child c 0) e d × OperandsLose c 1 os ps × ((k : ℕ) → gone c k ≡ false)
     Loses c _ now = holds_none now ≡ true
 
     -- the operands of a row from the n-th on

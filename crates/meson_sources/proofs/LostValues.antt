@@ -7,7 +7,8 @@ use Rattle.meson_variables.specs.Expansion.{Stand, met, opaque, is_operand_by, i
 use Rattle.meson_calls.specs.Project.{Placed}
 use Rattle.meson_sources.proofs.Bares.{Values, list_by, lists_by, expand_with}
 use Rattle.meson_sources.proofs.Losses.{Loses, value_stays}
-use Rattle.meson_sources.proofs.LostMarks.{Left, slot_gone, opaque_left, expression_left}
+use Rattle.meson_sources.proofs.NodesMoved.{place_left}
+use Rattle.meson_sources.proofs.LostMarks.{Left, slot_gone, stand_left, opaque_left, expression_left}
 
 -- A variable stands for nothing in both, or for an expression and what is left of it.
 pub record BothStand (gone : CallRef → ℕ → Bool) (values values2 : Values) (x : List ℕ) : Type 0 where
@@ -15,6 +16,7 @@ pub record BothStand (gone : CallRef → ℕ → Bool) (values values2 : Values)
   pub now : Placed (Expression Nowhere)
   pub was : values x ≡ Some value
   pub is : values2 x ≡ Some now
+  pub moved : now.place ≡ place_left gone value.place
   pub loses : Loses gone value.place value.it now.it
 
 abbrev pub ValueLoses : (CallRef → ℕ → Bool) → Values → Values → List ℕ → Type 0
@@ -34,8 +36,8 @@ module _ (gone : CallRef → ℕ → Bool) (values values2 : Values) (lose : (x 
           ∙ sym (ap (is_single_by (is_operand_by (list_by values left))) both.was)
 
   abbrev EachLeft : ℕ → Type 0
-  EachLeft left = (e now : Expression Nowhere) (s t : Stand) (f g : List (List ℕ)) → g ≡ f → slot_gone gone s.slot ≡ false → Loses gone s.place e now
-      → Left gone (expand_with values left e s f) (expand_with values2 left now t g)
+  EachLeft left = (e now : Expression Nowhere) (s : Stand) (f g : List (List ℕ)) → g ≡ f → slot_gone gone s.slot ≡ false → Loses gone s.place e now
+      → Left gone (expand_with values left e s f) (expand_with values2 left now (stand_left gone s) g)
 
   followed_left : (left : ℕ) → EachLeft left → (x : List ℕ) (f : List (List ℕ)) → Left gone (follow_single (expand_with values left) x f (values x)) (follow_single (expand_with values2 left) x f (values2 x))
   followed_left left each x f = go (lose x)
@@ -47,7 +49,8 @@ module _ (gone : CallRef → ℕ → Bool) (values values2 : Values) (lose : (x 
       go (inr both) =
           subst (λ o. Left gone (follow_single (expand_with values left) x f o) (follow_single (expand_with values2 left) x f (values2 x))) (sym both.was)
           (subst (λ o. Left gone (expand_with values left both.value.it (of_variable x both.value.place) (x ∷ f)) (follow_single (expand_with values2 left) x f o)) (sym both.is)
-          (each both.value.it both.now.it (of_variable x both.value.place) (of_variable x both.now.place) (x ∷ f) (x ∷ f) refl refl both.loses))
+          (subst (λ p. Left gone (expand_with values left both.value.it (of_variable x both.value.place) (x ∷ f)) (expand_with values2 left both.now.it (of_variable x p) (x ∷ f))) (sym both.moved)
+          (each both.value.it both.now.it (of_variable x both.value.place) (x ∷ f) (x ∷ f) refl refl both.loses)))
 
   -- so many variables may be followed inside one another
   pub expand_left : (left : ℕ) → EachLeft left

@@ -59,11 +59,11 @@ within_met p c e l is is_list values [] w =
 within_met p c e l is is_list values (m ∷ ms) w = record { each = w.each; some = λ none. cc }
 
 -- the elements without a name stand at their numbers, of which the first is n
-abbrev Elements : Project Span → CallRef → ℕ → List (Argument Span) → Type 0
+abbrev pub Elements : Project Span → CallRef → ℕ → List (Argument Span) → Type 0
 Elements p c n es = (j : ℕ) (e : Expression Span) → nth es j ≡ Some (plain e) → StandsAs p (record { place = child c (n + j); slot = in_list c (n + j); variable = None }) e
 
 -- the operands of a row stand at their numbers, of which the first is n
-abbrev Operated : Project Span → CallRef → ℕ → Operands Span → Type 0
+abbrev pub Operated : Project Span → CallRef → ℕ → Operands Span → Type 0
 Operated p c n no_operands = Unit {0}
 Operated p c n (operand o e more) = (expression_at p (child c n) ≡ Some e) × Operated p c (n + 1) more
 
@@ -76,12 +76,12 @@ operands_stand p c (operand o e more) n all =
       operands_stand p c more (n + 1) (λ j x is. let m : n + suc j ≡ (n + 1) + j = omega arith in subst (λ i. expression_at p (child c i) ≡ Some x) m (all (suc j) x is)),
     )
 
-row_stands : (p : Project Span) (c : CallRef) (at : Span) (e : Expression Span) (os : Operands Span) → expression_at p c ≡ Some (row at e os) → Operated p c 1 os
+pub row_stands : (p : Project Span) (c : CallRef) (at : Span) (e : Expression Span) (os : Operands Span) → expression_at p c ≡ Some (row at e os) → Operated p c 1 os
 row_stands p c at e os is =
     operands_stand p c os 1 (λ j x is_child. let k : suc j ≡ 1 + j = omega arith in subst (λ i. expression_at p (child c i) ≡ Some x) k (child_stands p c (row at e os) is (suc j) x is_child))
 
 module _ (p : Project Span) (levels : AreLevel p) where
-  elements_stand : (c : CallRef) (e : Expression Span) (l : ListIn Span) → expression_at p c ≡ Some e → list_in e ≡ Some l → holds_values l.bracket ≡ true → Elements p c 0 (elements l.list)
+  pub elements_stand : (c : CallRef) (e : Expression Span) (l : ListIn Span) → expression_at p c ≡ Some e → list_in e ≡ Some l → holds_values l.bracket ≡ true → Elements p c 0 (elements l.list)
   elements_stand c e l is is_list values = λ j x is_element.
       let k : j ≡ 0 + j = omega arith in
       let h = list_here p c e l is is_list in

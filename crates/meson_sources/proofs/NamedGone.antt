@@ -7,8 +7,6 @@ use Rattle.std.proofs.lemmas.Slice.Eq.{bytes_eq-Decides}
 use Rattle.meson_syntax.proofs.paths.Every.{Every}
 use Rattle.meson_calls.specs.Roles.{one_of}
 use Rattle.meson_steps.specs.Names.{distinct, distinct_by}
-use Rattle.meson_sources.specs.SourceEdits.{Spot, distinct_spots, distinct_spots_by, same_spot}
-use Rattle.meson_sources.proofs.ListsBut.{same_one, spot_itself}
 
 -- ---- tests
 
@@ -93,66 +91,3 @@ module _ (text : List ℕ) where
 
   pub distinct_named : (names : List (List ℕ)) → has_one (distinct names) ≡ true → one_of names text ≡ true
   distinct_named names is = had_distinct [] names is
-
--- ---- spots
-
-module _ (t : Spot) where
-  abbrev is_it : Spot → Bool
-  is_it s = same_spot s t
-
-  turned_any : (us : List Spot) → list_any (same_spot t) us ≡ true → list_any is_it us ≡ true
-  turned_any [] found = absurd cc
-  turned_any (u ∷ us) found = by (either_true (same_spot t u) (list_any (same_spot t) us) found) (turned_any us)
-    where
-      by : (same_spot t u ≡ true) ⊎ (list_any (same_spot t) us ≡ true) → (list_any (same_spot t) us ≡ true → list_any is_it us ≡ true) → list_any is_it (u ∷ us) ≡ true
-      by (inl one) rest = or_left (is_it u) (list_any is_it us) (subst (λ v. same_spot v t ≡ true) (same_one t u one) (spot_itself t))
-      by (inr other) rest = or_right (is_it u) (list_any is_it us) (rest other)
-
-  seen_too : (s : Spot) (us : List Spot) → list_any (same_spot s) us ≡ true → is_it s ≡ true → list_any is_it us ≡ true
-  seen_too s us known here = turned_any us (subst (λ u. list_any (same_spot u) us ≡ true) (same_one s t here) known)
-
-  spots_have : (seen spots : List Spot) → list_any is_it spots ≡ true → (list_any is_it seen ≡ true) ⊎ (list_any is_it (distinct_spots_by seen spots) ≡ true)
-  spots_have seen [] is = absurd cc
-  spots_have seen (s ∷ more) is = go (list_any (same_spot s) seen) refl (either_true (is_it s) (list_any is_it more) is) (spots_have seen more) (spots_have (s ∷ seen) more)
-    where
-      further : (list_any is_it (s ∷ seen) ≡ true) ⊎ (list_any is_it (distinct_spots_by (s ∷ seen) more) ≡ true) → (list_any is_it seen ≡ true) ⊎ (list_any is_it (s ∷ distinct_spots_by (s ∷ seen) more) ≡ true)
-      further (inl one) = by (either_true (is_it s) (list_any is_it seen) one)
-        where
-          by : (is_it s ≡ true) ⊎ (list_any is_it seen ≡ true) → (list_any is_it seen ≡ true) ⊎ (list_any is_it (s ∷ distinct_spots_by (s ∷ seen) more) ≡ true)
-          by (inl here) = inr (or_left (is_it s) (list_any is_it (distinct_spots_by (s ∷ seen) more)) here)
-          by (inr before) = inl before
-      further (inr found) = inr (or_right (is_it s) (list_any is_it (distinct_spots_by (s ∷ seen) more)) found)
-
-      go : (b : Bool) → list_any (same_spot s) seen ≡ b → (is_it s ≡ true) ⊎ (list_any is_it more ≡ true)
-          → (list_any is_it more ≡ true → (list_any is_it seen ≡ true) ⊎ (list_any is_it (distinct_spots_by seen more) ≡ true))
-          → (list_any is_it more ≡ true → (list_any is_it (s ∷ seen) ≡ true) ⊎ (list_any is_it (distinct_spots_by (s ∷ seen) more) ≡ true))
-          → (list_any is_it seen ≡ true) ⊎ (list_any is_it (if b then distinct_spots_by seen more else s ∷ distinct_spots_by (s ∷ seen) more) ≡ true)
-      go true known (inl here) same with_it = inl (seen_too s seen known here)
-      go true known (inr later) same with_it = same later
-      go false known (inl here) same with_it = inr (or_left (is_it s) (list_any is_it (distinct_spots_by (s ∷ seen) more)) here)
-      go false known (inr later) same with_it = further (with_it later)
-
-  pub distinct_goes : (spots : List Spot) → list_any is_it spots ≡ true → list_any is_it (distinct_spots spots) ≡ true
-  distinct_goes spots is = go (spots_have [] spots is)
-    where
-      go : (list_any is_it [] ≡ true) ⊎ (list_any is_it (distinct_spots spots) ≡ true) → list_any is_it (distinct_spots spots) ≡ true
-      go (inl none) = absurd cc
-      go (inr found) = found
-
-  had_spot : (seen spots : List Spot) → list_any is_it (distinct_spots_by seen spots) ≡ true → list_any is_it spots ≡ true
-  had_spot seen [] is = absurd cc
-  had_spot seen (s ∷ more) is = go (list_any (same_spot s) seen) is (had_spot seen more) (had_spot (s ∷ seen) more)
-    where
-      go : (b : Bool) → list_any is_it (if b then distinct_spots_by seen more else s ∷ distinct_spots_by (s ∷ seen) more) ≡ true
-          → (list_any is_it (distinct_spots_by seen more) ≡ true → list_any is_it more ≡ true) → (list_any is_it (distinct_spots_by (s ∷ seen) more) ≡ true → list_any is_it more ≡ true)
-          → list_any is_it (s ∷ more) ≡ true
-      go true found same with_it = or_right (is_it s) (list_any is_it more) (same found)
-      go false found same with_it = next (either_true (is_it s) (list_any is_it (distinct_spots_by (s ∷ seen) more)) found)
-        where
-          next : (is_it s ≡ true) ⊎ (list_any is_it (distinct_spots_by (s ∷ seen) more) ≡ true) → list_any is_it (s ∷ more) ≡ true
-          next (inl here) = or_left (is_it s) (list_any is_it more) here
-          next (inr later) = or_right (is_it s) (list_any is_it more) (with_it later)
-
-  -- whether each is there once makes no difference
-  pub goes_distinct : (spots : List Spot) → list_any is_it (distinct_spots spots) ≡ list_any is_it spots
-  goes_distinct spots = alike (list_any is_it (distinct_spots spots)) (list_any is_it spots) (had_spot [] spots) (distinct_goes spots)

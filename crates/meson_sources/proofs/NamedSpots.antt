@@ -34,7 +34,7 @@ module _ {X : Type 0} where
     by true here rest is = or_left (g x) (list_any g xs) (weaker x here)
     by false here rest is = or_right (g x) (list_any g xs) (rest is)
 
-  any_filtered : (f g : X → Bool) (xs : List X) → list_any g (filter f xs) ≡ true → list_any (λ x. f x && g x) xs ≡ true
+  pub any_filtered : (f g : X → Bool) (xs : List X) → list_any g (filter f xs) ≡ true → list_any (λ x. f x && g x) xs ≡ true
   any_filtered f g [] is = absurd cc
   any_filtered f g (x ∷ xs) is = by (f x) (any_filtered f g xs) is where
     first : (c : Bool) → (list_any g (filter f xs) ≡ true → list_any (λ y. f y && g y) xs ≡ true) → (c || list_any g (filter f xs)) ≡ true → (c || list_any (λ y. f y && g y) xs) ≡ true
@@ -53,25 +53,25 @@ module _ {X : Type 0} where
     by true here rest all = (λ named. all.0, rest all.1)
     by false here rest all = (λ named. let both : true ≡ false = sym named ∙ here in absurd cc, rest all)
 
-  every_weaker : (P Q : X → Type 0) → ((x : X) → P x → Q x) → (xs : List X) → Every P xs → Every Q xs
+  pub every_weaker : (P Q : X → Type 0) → ((x : X) → P x → Q x) → (xs : List X) → Every P xs → Every Q xs
   every_weaker P Q weaker [] every = tt
   every_weaker P Q weaker (x ∷ xs) every = (weaker x every.0, every_weaker P Q weaker xs every.1)
 
-  every_both : (P Q R : X → Type 0) → ((x : X) → P x → Q x → R x) → (xs : List X) → Every P xs → Every Q xs → Every R xs
+  pub every_both : (P Q R : X → Type 0) → ((x : X) → P x → Q x → R x) → (xs : List X) → Every P xs → Every Q xs → Every R xs
   every_both P Q R join [] one other = tt
   every_both P Q R join (x ∷ xs) one other = (join x one.0 other.0, every_both P Q R join xs one.1 other.1)
 
 -- ---- the spots of items
 
-its_spot : (slot : Slot) (s : Spot) → spot_of slot ≡ Some s → is_at s slot ≡ true
+pub its_spot : (slot : Slot) (s : Spot) → spot_of slot ≡ Some s → is_at s slot ≡ true
 its_spot (in_list c n) s is = ap (λ t. is_at t (in_list c n)) (sym (some-injective _ _ is)) ∙ spot_itself (record { list = c; number = n })
 its_spot fixed s is = absurd cc
 
-record Both (is : List (Item Span)) (spots : List Spot) : Type 0 where
-  each : Every (λ i. list_any (λ s. is_at s i.slot) spots ≡ true) is
-  only : Every (λ s. list_any (λ (i : Item Span). is_at s i.slot) is ≡ true) spots
+pub record Both (is : List (Item Span)) (spots : List Spot) : Type 0 where
+  pub each : Every (λ i. list_any (λ s. is_at s i.slot) spots ≡ true) is
+  pub only : Every (λ s. list_any (λ (i : Item Span). is_at s i.slot) is ≡ true) spots
 
-both_of : (is : List (Item Span)) (spots : List Spot) → spots_of is ≡ Some spots → Both is spots
+pub both_of : (is : List (Item Span)) (spots : List Spot) → spots_of is ≡ Some spots → Both is spots
 both_of [] spots same = subst (Both []) (some-injective _ _ same) (record { each = tt; only = tt })
 both_of (i ∷ more) spots same =
     let a = and-then-some (λ spot. option_map (λ spots. spot ∷ spots) (spots_of more)) (spot_of i.slot) spots same in
@@ -89,11 +89,11 @@ both_of (i ∷ more) spots same =
       );
     })
 
-some_spots : (o : Option (List Spot)) (spots : List Spot) → ok_or o NotRemovable ≡ Ok spots → o ≡ Some spots
+pub some_spots : (o : Option (List Spot)) (spots : List Spot) → ok_or o NotRemovable ≡ Ok spots → o ≡ Some spots
 some_spots None spots is = absurd cc
 some_spots (Some found) spots is = let same : found ≡ spots = cc in ap Some same
 
-of_one : (unknown : ℕ) (is : List (Item Span)) (spots : List Spot) → spots_by unknown is ≡ Ok spots → Both is spots
+pub of_one : (unknown : ℕ) (is : List (Item Span)) (spots : List Spot) → spots_by unknown is ≡ Ok spots → Both is spots
 of_one unknown [] spots same = absurd cc
 of_one unknown (i ∷ more) spots same = both_of (i ∷ more) spots (some_spots (spots_of (i ∷ more)) spots same)
 

@@ -1,6 +1,6 @@
 -- Where each node stands after strings have gone from lists, and what it is then.
 use Rattle.std.specs.Prelude.{All, option_and_then, option_map}
-use Rattle.std.proofs.Common.{◌≡◌, ℕ, zero, suc, Bool, true, false, List, [], ◌∷◌, ◌++◌, map, Some, None, refl, sym, ap, ap₂, ◌∙◌, subst, inl, inr}
+use Rattle.std.proofs.Common.{◌≡◌, ℕ, zero, suc, Bool, true, false, List, [], ◌∷◌, ◌++◌, append-nil, map, Some, None, refl, sym, ap, ap₂, ◌∙◌, subst, inl, inr}
 use Rattle.meson_syntax.specs.declared.operator.Bracket.TheVariants as bracket
 use Rattle.meson_syntax.specs.Grammar.{LevelListing}
 use Rattle.meson_syntax.specs.Children.{an_expression, child_nodes, node_at}
@@ -23,8 +23,9 @@ use Rattle.meson_sources.proofs.RemovalsRename.{list_parts, one_part}
 use Rattle.meson_sources.proofs.RenamedStrings.{Node}
 use Rattle.meson_sources.proofs.Scenes.{NodeIn}
 use Rattle.meson_sources.proofs.StringsStay.{list_any}
-use Rattle.meson_sources.proofs.WithoutLoses.{Lost, at_child, at_itself, child_in, gone_at}
-use Rattle.meson_sources.proofs.WithoutPlaces.{Fits, Stands, any_without, before_all, left_before, node_left, path_left, under_is}
+use Rattle.meson_sources.proofs.WithoutLoses.{Lost, at_child, at_itself, child_in, gone_at, no_true, none_gone}
+use Rattle.meson_sources.proofs.WithoutPlaces.{Fits, Stands, any_without, before_all, left_before, node_left, path_left, under_is, under_path}
+use Rattle.meson_sources.proofs.NumbersLeft.{left_same}
 use Rattle.meson_syntax.specs.declared.operator.StringKind.{StringKind}
 use Rattle.meson_syntax.proofs.paths.Every.{Every}
 
@@ -40,12 +41,17 @@ root_without g (file s b) = refl
 abbrev pub place_left : (CallRef → ℕ → Bool) → CallRef → CallRef
 place_left gone c = place c.file (path_left (λ path k. gone (place c.file path) k) c.path.steps)
 
-first_child : (g : Gone) (path : List ℕ) → path_left g (path ++ 0 ∷ []) ≡ path_left g path ++ 0 ∷ []
-first_child g [] = refl
-first_child g (n ∷ path) = ap (λ l. left_before (g []) n ∷ l) (first_child (from_child n g) path)
+child_path : (g : Gone) (path : List ℕ) (n : ℕ) → path_left g (path ++ n ∷ []) ≡ path_left g path ++ left_before (under_path g path []) n ∷ []
+child_path g [] n = refl
+child_path g (m ∷ path) n = ap (λ l. left_before (g []) m ∷ l) (child_path (from_child m g) path n)
 
-pub first_place : (gone : CallRef → ℕ → Bool) (c : CallRef) → place_left gone (child c 0) ≡ child (place_left gone c) 0
-first_place gone c = ap (place c.file) (first_child (λ path k. gone (place c.file path) k) c.path.steps)
+-- a child has moved with what stands around it, and by its number
+pub child_place : (gone : CallRef → ℕ → Bool) (c : CallRef) (n : ℕ) → place_left gone (child c n) ≡ child (place_left gone c) (left_before (gone c) n)
+child_place gone c n =
+    let path = c.path.steps in
+    let g : Gone = λ path k. gone (place c.file path) k in
+    ap (place c.file) (child_path g path n ∙ ap (λ k. path_left g path ++ k ∷ [])
+    (left_same (gone c) (under_path g path []) (λ k. ap (λ u. u [] k) (under_is path g) ∙ ap (λ p. gone (place c.file p) k) (append-nil path)) n))
 
 path_same : (g : Gone) → ((p : List ℕ) (n : ℕ) → g p n ≡ false) → (path : List ℕ) → path_left g path ≡ path
 path_same g none [] = refl
@@ -54,10 +60,6 @@ path_same g none (n ∷ path) = ap₂ (λ m l. m ∷ l) (before_all (g []) (none
 -- where nothing has gone no place moves
 pub unmoved : (gone : CallRef → ℕ → Bool) → ((c : CallRef) (n : ℕ) → gone c n ≡ false) → (c : CallRef) → place_left gone c ≡ c
 unmoved gone none c = ap (place c.file) (path_same (λ path k. gone (place c.file path) k) (λ p n. none (place c.file p) n) c.path.steps)
-
-no_true : (b : Bool) → (b ≡ true → ⊥) → b ≡ false
-no_true true other = absurd (other refl)
-no_true false other = refl
 
 -- ---- the children of a list are expressions
 
@@ -87,12 +89,8 @@ module _ (trees : List Plain) (stand : All MayStandBetween trees) (gone : CallRe
   abbrev at : CallRef → Gone
   at = gone_at gone
 
-  -- what has no list loses nothing
-  pub none_gone : (c : CallRef) (x : Node) → NodeIn trees c x → list_any x ≡ None → (k : ℕ) → gone c k ≡ false
-  none_gone c x h no_list k = no_true (gone c k) (λ is. let l = lost c k is x h in let none : None ≡ Some l.0 = sym (ap (option_and_then (λ m. nth (elements m) k)) no_list) ∙ l.1 in cc)
-
   pub fits_none : (c : CallRef) (x : Node) → NodeIn trees c x → list_any x ≡ None → (k : ℕ) → at c [] k ≡ false
-  fits_none c x h no_list k = at_itself gone c k ∙ none_gone c x h no_list k
+  fits_none c x h no_list k = at_itself gone c k ∙ none_gone trees gone lost c x h no_list k
 
   in_pairs : (l : Listing Nowhere) (n : ℕ) (a : Argument Nowhere) → LevelListing l bracket.Curly → nth (elements l) n ≡ Some a → Valued a → ⊥
   in_pairs (listing s trailing list) n a level is v = let none : false ≡ true = plain_holds list bracket.Curly false n (string tt v.kind v.word) level.1 (is ∙ ap Some v.is_string) in cc

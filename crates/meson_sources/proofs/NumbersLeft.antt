@@ -1,6 +1,6 @@
 -- How many of the first elements of a list are left, and that one more goes.
 use Rattle.std.specs.Prelude.{nat_eq, nat_lt, if◌then◌else◌}
-use Rattle.std.proofs.Common.{◌≡◌, ℕ, zero, suc, ◌-◌, ◌<◌, ◌≤◌, Bool, true, false, refl, sym, ap, ◌∙◌, subst, arith}
+use Rattle.std.proofs.Common.{◌≡◌, ℕ, zero, suc, ◌+◌, ◌-◌, add-one, ◌<◌, ◌≤◌, Bool, true, false, refl, sym, ap, ◌∙◌, subst, arith}
 use Rattle.std.proofs.lemmas.Bool.{eqb-true, eq-eqb, ltb-true, ltb-false}
 use Rattle.meson_sources.proofs.SpotsAfter.{moved_up}
 use Rattle.meson_sources.proofs.WithoutPlaces.{left_before}
@@ -20,6 +20,19 @@ later gone (suc k) (suc n) below stays = go (gone 0) (later (after_first gone) k
     go : (b : Bool) → left_before (after_first gone) k < left_before (after_first gone) n → by_first b (after_first gone) k < by_first b (after_first gone) n
     go true rest = rest
     go false rest = omega (arith, rest)
+
+-- before the next one
+pub behind_gone : (gone : ℕ → Bool) (n : ℕ) → gone n ≡ true → left_before gone (n + 1) ≡ left_before gone n
+behind_gone gone zero is = ap (λ b. by_first b (after_first gone) 0) is
+behind_gone gone (suc n) is = ap (left_before gone) (add-one (suc n)) ∙ ap (λ m. if gone 0 then m else suc m) (sym (ap (left_before (after_first gone)) (add-one n)) ∙ behind_gone (after_first gone) n is)
+
+pub behind_left : (gone : ℕ → Bool) (n : ℕ) → gone n ≡ false → left_before gone (n + 1) ≡ left_before gone n + 1
+behind_left gone zero is = ap (λ b. by_first b (after_first gone) 0) is
+behind_left gone (suc n) is = ap (left_before gone) (add-one (suc n)) ∙ go (gone 0) (sym (ap (left_before (after_first gone)) (add-one n)) ∙ behind_left (after_first gone) n is)
+  where
+    go : (b : Bool) → left_before (after_first gone) (suc n) ≡ left_before (after_first gone) n + 1 → by_first b (after_first gone) (suc n) ≡ by_first b (after_first gone) n + 1
+    go true rest = rest
+    go false rest = ap suc rest ∙ omega arith
 
 no_later : (gone : ℕ → Bool) (k n : ℕ) → n ≤ k → left_before gone n ≤ left_before gone k
 no_later gone k zero above = omega arith

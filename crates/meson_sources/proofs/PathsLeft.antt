@@ -1,7 +1,7 @@
 -- Where what stands at a path is left, when one more element of a list goes.
 use Rattle.std.specs.Prelude.{⊤, ◌&&◌, ◌||◌, nat_eq, if◌then◌else◌}
 use Rattle.std.proofs.Common.{◌≡◌, ℕ, Bool, true, false, List, [], ◌∷◌, refl, sym, ap, ap₂, ◌∙◌, subst}
-use Rattle.std.proofs.lemmas.Bool.{eqb-true, eq-eqb}
+use Rattle.std.proofs.lemmas.Bool.{eqb-true, eq-eqb, ne_eqb}
 use Rattle.meson_sources.specs.SourceEdits.{is_path}
 use Rattle.meson_sources.specs.Without.{Gone, from_child}
 use Rattle.meson_sources.proofs.NumbersLeft.{OneMore, one_moved, same_left}
@@ -89,17 +89,13 @@ number_moved list path k n g h one list_passes passes =
 abbrev pub or_one : List ℕ → ℕ → Gone → Gone
 or_one list k g path n = (is_path list path && nat_eq k n) || g path n
 
-pub not_same : (k n : ℕ) → (k ≡ n → ⊥) → (b : Bool) → nat_eq k n ≡ b → b ≡ false
-not_same k n other true is = absurd (other (eqb-true k n is))
-not_same k n other false is = refl
-
 pub one_more : (list : List ℕ) (k : ℕ) (g : Gone) → under_path g list [] k ≡ false → OneMoreAt list k g (or_one list k g)
 one_more [] k g stays = (
-  record { stayed = stays; goes = ap (λ b. b || g [] k) (eq-eqb k k refl); others = λ n other. ap (λ b. b || g [] n) (not_same k n other (nat_eq k n) refl) },
+  record { stayed = stays; goes = ap (λ b. b || g [] k) (eq-eqb k k refl); others = λ n other. ap (λ b. b || g [] n) (ne_eqb k n other) },
   λ n. refl,
 )
 one_more (m ∷ list) k g stays = (
   refl,
-  λ n other. ap (λ b. λ path i. ((b && is_path list path) && nat_eq k i) || g (n ∷ path) i) (not_same m n other (nat_eq m n) refl),
+  λ n other. ap (λ b. λ path i. ((b && is_path list path) && nat_eq k i) || g (n ∷ path) i) (ne_eqb m n other),
   subst (OneMoreAt list k (from_child m g)) (ap (λ b. λ path i. ((b && is_path list path) && nat_eq k i) || g (m ∷ path) i) (sym (eq-eqb m m refl))) (one_more list k (from_child m g) stays),
 )

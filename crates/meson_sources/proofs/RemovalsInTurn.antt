@@ -19,7 +19,7 @@ turned_path : (gone : List Spot) (c : CallRef) (path : List ℕ) → path_withou
 turned_path gone c [] = refl
 turned_path gone c (n ∷ path) = ap₂ (λ i l. i ∷ l) (turned_number gone c n) (turned_path gone (child c n) path)
 
-turned : (gone : List Spot) (s : Spot) → spot_without (reverse gone) s ≡ spot_without gone s
+pub turned : (gone : List Spot) (s : Spot) → spot_without (reverse gone) s ≡ spot_without gone s
 turned gone s =
     ap₂ (λ path n. record { list = place s.list.file path; number = n }) (turned_path gone (place s.list.file []) s.list.path.steps) (turned_number gone s.list s.number)
 

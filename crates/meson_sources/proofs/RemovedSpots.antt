@@ -20,10 +20,9 @@ use Rattle.meson_steps.specs.Steps.{step_in}
 use Rattle.meson_sources.specs.SourceEdits.{Spot, is_path}
 use Rattle.meson_sources.proofs.SpotsAfter.{moved_up, path_after, spot_after, spots_after, removed_by}
 use Rattle.meson_sources.proofs.Standings.{SpotStands}
-use Rattle.meson_sources.proofs.DistinctSpots.{AreApart}
 use Rattle.meson_sources.proofs.StringsThere.{StringIn, spot_in}
 use Rattle.meson_sources.proofs.RemovalsRename.{removals_rename, removals_apart}
-use Rattle.meson_sources.proofs.SpotsApart.{Apart, Clear, apart_after}
+use Rattle.meson_sources.proofs.SpotsApart.{Apart, AreApart, Clear, apart_after}
 use Rattle.meson_steps.proofs.WithOne.{change_there, changed_there, others_there, all_nth}
 
 -- ---- one string goes

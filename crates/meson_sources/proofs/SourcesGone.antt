@@ -7,7 +7,6 @@ use Rattle.meson_syntax.specs.Tree.{Plain}
 use Rattle.meson_calls.specs.declared.refusal.Refusal.{Refusal}
 use Rattle.meson_calls.specs.Calls as calls
 use Rattle.meson_variables.specs.Expansion.{Mark}
-use Rattle.meson_calls.specs.Project.{place}
 use Rattle.meson_calls.specs.Loading.{IsProject, Loaded, project}
 use Rattle.meson_calls.specs.NamedArguments.{once, sources_key}
 use Rattle.meson_variables.specs.TargetSources.{source_marks}
@@ -16,39 +15,37 @@ use Rattle.meson_steps.specs.ResultLimits.{plain_trees}
 use Rattle.meson_steps.specs.Steps.{Step, all_stepped}
 use Rattle.meson_steps.proofs.PlainTrees.{trees_stand}
 use Rattle.meson_steps.proofs.WentWell.{once_was, then_was}
-use Rattle.meson_sources.specs.Effects.{ExtraIsRemoved, NamesGo, SourcesAreRemoved, spot_at}
-use Rattle.meson_sources.specs.Without.{each_without}
-use Rattle.meson_sources.specs.SourceEdits.{checked_extra, distinct_spots, extra_marks, removal_steps, removed_at, spots_named}
+use Rattle.meson_sources.specs.Effects.{ExtraIsRemoved, NamesGo, SourcesAreRemoved}
+use Rattle.meson_sources.specs.SourceEdits.{checked_extra, extra_marks, removal_steps, removed_at, spots_named}
 use Rattle.meson_sources.proofs.Standings.{MarkStands}
-use Rattle.meson_sources.proofs.DistinctSpots.{distinct_apart, every_distinct}
 use Rattle.meson_sources.proofs.ExtrasAddable.{checked_marks}
+use Rattle.meson_sources.proofs.Meetings.{ItemsApart}
 use Rattle.meson_sources.proofs.NamedSpots.{named_spots}
-use Rattle.meson_sources.proofs.NamedGone.{goes_distinct}
 use Rattle.meson_sources.proofs.TreesLeft.{trees_left}
 use Rattle.meson_sources.proofs.RemovedSources.{named_stand}
 use Rattle.meson_sources.proofs.RemovedSpots.{all_in}
-use Rattle.meson_sources.proofs.StringsThere.{StringIn}
+use Rattle.meson_sources.proofs.SourcesMetOnce.{target_apart}
+use Rattle.meson_sources.proofs.SpotsDiffer.{spots_apart}
 use Rattle.meson_sources.proofs.TargetMarks.{extras_stand, sources_stand}
 use Rattle.meson_sources.proofs.TargetsFound.{targets_stand}
 
-module _ (old : Loaded) (is : IsProject old) (marks : List (Mark Span)) (stand : All (MarkStands (project old)) marks) where
+module _ (old : Loaded) (is : IsProject old) (marks : List (Mark Span)) (stand : All (MarkStands (project old)) marks) (apart : ItemsApart marks) where
   abbrev spots_steps : List (List ℕ) → List (Mark Span) → Result (List Step) Refusal
   spots_steps names ms = removed_at (spots_named ms (distinct names))
 
   names_go : (names : List (List ℕ)) (steps : List Step) (after : List Plain) → spots_steps names marks ≡ Ok steps → all_stepped steps (plain_trees old) ≡ Some after → NamesGo marks names (plain_trees old) after
   names_go names steps after made done =
-      let found = then_was (spots_named marks (distinct names)) (λ spots. Ok (removal_steps (distinct_spots spots))) steps made in
-      let there = distinct_spots found.0 in
+      let found = then_was (spots_named marks (distinct names)) (λ spots. Ok (removal_steps spots)) steps made in
+      let there = found.0 in
       let same : removal_steps there ≡ steps = let r = found.2 in cc in
       let stepped : all_stepped (removal_steps there) (plain_trees old) ≡ Some after = ap (λ s. all_stepped s (plain_trees old)) same ∙ done in
       let stands = trees_stand old.files old.parsed is.parsed in
       let are = all_in old found.0 (named_stand (project old) marks stand (distinct names) found.0 found.1) in
-      let each = every_distinct (StringIn (plain_trees old)) found.0 are in
       record {
         spots = found.0;
         are_spots = found.1;
         of_names = named_spots marks (distinct names) found.0 found.1;
-        left = trees_left there (plain_trees old) after stands each (distinct_apart found.0) stepped ∙ ap (λ gone. each_without gone (plain_trees old)) (λ i file path n. (goes_distinct (spot_at (place file path) n) found.0) i);
+        left = trees_left there (plain_trees old) after stands are (spots_apart marks apart names there found.1) stepped;
       }
 
 pub sources-are-removed : SourcesAreRemoved
@@ -56,17 +53,19 @@ sources-are-removed old is id c found names steps after made done =
     let p = project old in
     let marks = source_marks p c in
     let stand = sources_stand old is.parsed c (targets_stand p id c found) in
+    let apart = (target_apart old is.parsed id c found).sources in
     let keys = calls.keyword sources_key c.it in
-    let a = then_was (checked_names names) (λ _. then_ok (once sources_key keys marks) (spots_steps old is marks stand names)) steps made in
-    let b = then_was (once sources_key keys marks) (spots_steps old is marks stand names) steps a.2 in
+    let a = then_was (checked_names names) (λ _. then_ok (once sources_key keys marks) (spots_steps old is marks stand apart names)) steps made in
+    let b = then_was (once sources_key keys marks) (spots_steps old is marks stand apart names) steps a.2 in
     let same = once_was sources_key keys marks b.0 b.1 in
-    names_go old is marks stand names steps after (ap (spots_steps old is marks stand names) same ∙ b.2) done
+    names_go old is marks stand apart names steps after (ap (spots_steps old is marks stand apart names) same ∙ b.2) done
 
 pub extra-is-removed : ExtraIsRemoved
 extra-is-removed old is id c found names steps after made done =
     let p = project old in
     let marks = extra_marks p c in
     let stand = extras_stand old is.parsed c (targets_stand p id c found) in
-    let a = then_was (checked_extra p c names) (spots_steps old is marks stand names) steps made in
+    let apart = (target_apart old is.parsed id c found).extras in
+    let a = then_was (checked_extra p c names) (spots_steps old is marks stand apart names) steps made in
     let same = checked_marks p c names a.0 a.1 in
-    names_go old is marks stand names steps after (ap (spots_steps old is marks stand names) same ∙ a.2) done
+    names_go old is marks stand apart names steps after (ap (spots_steps old is marks stand apart names) same ∙ a.2) done

@@ -6,6 +6,7 @@ use Rattle.meson_calls.specs.Project.{place}
 use Rattle.meson_sources.specs.SourceEdits.{is_path, Spot}
 use Rattle.meson_sources.proofs.SpotsAfter.{moved_up, path_after, spot_after}
 use Rattle.meson_sources.proofs.PathsAfter.{length_after, same_paths}
+use Rattle.meson_sources.proofs.Pairwise.{Pairwise}
 use Rattle.meson_sources.proofs.RenamedStrings.{NotThrough}
 
 -- ---- numbers
@@ -61,6 +62,10 @@ paths_same (m ∷ list) gone (n ∷ p) (k ∷ q) clear_p clear_q same =
 
 abbrev pub Apart : Spot → Spot → Type 0
 Apart s t = (s.list.file ≡ t.list.file) × (s.list.path.steps ≡ t.list.path.steps) × (s.number ≡ t.number) → ⊥
+
+-- each is another one than those behind it
+abbrev pub AreApart : List Spot → Type 0
+AreApart = Pairwise Apart
 
 -- The second stays when the first goes: it is another one, and not under it.
 pub record Clear (s t : Spot) : Type 0 where

@@ -2,27 +2,29 @@
 use Rattle.std.specs.Prelude.{cond, ◌&&◌, ◌||◌, nat_eq, nat_lt}
 use Rattle.std.specs.List.{count_by}
 use Rattle.std.proofs.Common.{◌≡◌, ℕ, ◌+◌, Bool, true, false, List, [], ◌∷◌, refl, sym, ap, ap₂, ◌∙◌, arith}
-use Rattle.std.proofs.lemmas.Bool.{eqb-true, eq-eqb, ltb-true, ltb-false}
+use Rattle.std.proofs.lemmas.Bool.{eqb-true, eq-eqb, ne_eqb, ltb-true, ltb-false}
 use Rattle.std.proofs.lemmas.List.Sums.{sum_by-cons}
 use Rattle.meson_syntax.proofs.paths.Every.{Every}
 use Rattle.meson_calls.specs.declared.call.CallRef.{CallRef}
 use Rattle.meson_calls.specs.Project.{child, place}
-use Rattle.meson_sources.specs.Effects.{goes}
+use Rattle.meson_sources.specs.Effects.{goes, same_spot, spot_at}
 use Rattle.meson_sources.specs.SourceEdits.{Spot, is_before, is_path, number_without, path_without}
-use Rattle.meson_sources.proofs.DistinctSpots.{AreApart}
 use Rattle.meson_sources.proofs.ListsBut.{apart_not_same}
 use Rattle.meson_sources.proofs.NumbersLeft.{OneMore, as_many, left_same, one_fewer}
 use Rattle.meson_sources.proofs.PathsAfter.{same_paths}
-use Rattle.meson_sources.proofs.PathsLeft.{not_same}
-use Rattle.meson_sources.proofs.SpotsApart.{Apart}
+use Rattle.meson_sources.proofs.NamedSpots.{every_weaker}
+use Rattle.meson_sources.proofs.SpotsApart.{Apart, AreApart}
 use Rattle.meson_sources.proofs.WithoutLoses.{at_child, at_itself, gone_at}
 use Rattle.meson_sources.proofs.WithoutPlaces.{before_all, left_before, path_left}
 
 -- ---- one more spot
 
-none_of : (s : Spot) (more : List Spot) → Every (Apart s) more → goes more s.list s.number ≡ false
-none_of s [] apart = refl
-none_of s (t ∷ more) apart = ap₂ (λ b c. b || c) (apart_not_same t s (λ same. apart.0 (sym same.0, sym same.1, sym same.2))) (none_of s more apart.1)
+pub none_goes : (c : CallRef) (n : ℕ) (gone : List Spot) → Every (λ g. same_spot g (spot_at c n) ≡ false) gone → goes gone c n ≡ false
+none_goes c n [] every = refl
+none_goes c n (g ∷ gone) every = ap₂ (λ b d. b || d) every.0 (none_goes c n gone every.1)
+
+pub stays : (gone : List Spot) (s : Spot) → Every (Apart s) gone → goes gone s.list s.number ≡ false
+stays gone s apart = none_goes s.list s.number gone (every_weaker _ _ (λ g other. apart_not_same g s (λ same. other (sym same.0, sym same.1, sym same.2))) gone apart)
 
 same_list : (s : Spot) (c : CallRef) → nat_eq s.list.file c.file ≡ true → is_path s.list.path.steps c.path.steps ≡ true → s.list ≡ c
 same_list s c files paths = ap (λ i. place i s.list.path.steps) (eqb-true s.list.file c.file files) ∙ ap (place c.file) (same_paths s.list.path.steps c.path.steps paths)
@@ -39,7 +41,7 @@ one_counted s gone n true false none = omega arith
 one_counted s gone n true true none = go (nat_lt s.number n) refl
   where
     more : OneMore gone (goes_too true true s gone) s.number
-    more = record { stayed = none refl refl; goes = ap (λ b. b || gone s.number) (eq-eqb s.number s.number refl); others = λ k other. ap (λ b. b || gone k) (not_same s.number k other (nat_eq s.number k) refl) }
+    more = record { stayed = none refl refl; goes = ap (λ b. b || gone s.number) (eq-eqb s.number s.number refl); others = λ k other. ap (λ b. b || gone k) (ne_eqb s.number k other) }
 
     go : (b : Bool) → nat_lt s.number n ≡ b → cond b 1 0 + left_before (goes_too true true s gone) n ≡ left_before gone n
     go true is = let fewer = one_fewer gone (goes_too true true s gone) s.number n more (ltb-true s.number n is) in omega (arith, fewer)
@@ -51,7 +53,7 @@ counted [] apart c n = let all = before_all (λ k. false) (λ k. refl) n in omeg
 counted (s ∷ more) apart c n =
     let b = nat_eq s.list.file c.file in
     let d = is_path s.list.path.steps c.path.steps in
-    let none : b ≡ true → d ≡ true → goes more c s.number ≡ false = λ files paths. ap (λ l. goes more l s.number) (sym (same_list s c files paths)) ∙ none_of s more apart.0 in
+    let none : b ≡ true → d ≡ true → goes more c s.number ≡ false = λ files paths. ap (λ l. goes more l s.number) (sym (same_list s c files paths)) ∙ stays more s apart.0 in
     let first = sum_by-cons (λ t. cond (is_before c n t) 1 0) s more in
     let one = one_counted s (goes more c) n b d none in
     let rest = counted more apart.1 c n in

@@ -1,7 +1,7 @@
 -- At each spot that goes stands a source with one of the names that are removed, and each such source stands at one.
 use Rattle.std.specs.Prelude.{◌&&◌}
 use Rattle.std.specs.List.{list_any}
-use Rattle.std.proofs.Common.{◌≡◌, ℕ, Bool, true, false, List, [], ◌∷◌, map, refl, sym, ap, ◌∙◌, subst}
+use Rattle.std.proofs.Common.{◌≡◌, ℕ, true, false, List, [], ◌∷◌, map, sym, ap, ◌∙◌, subst}
 use Rattle.meson_lex.specs.Literals.{value}
 use Rattle.meson_lex.specs.declared.kinds.Span.{Span}
 use Rattle.meson_syntax.specs.Operators.{string_kind}
@@ -14,16 +14,15 @@ use Rattle.meson_variables.specs.Expansion.{Item, Mark, known, opaque, empty, Sl
 use Rattle.meson_calls.specs.Roles.{one_of}
 use Rattle.meson_variables.specs.TargetSources.{items}
 use Rattle.meson_steps.specs.Names.{distinct}
-use Rattle.meson_sources.specs.Effects.{AreSpotsOf, goes, has_one_of, is_at, spot_at}
-use Rattle.meson_sources.specs.SourceEdits.{Spot, distinct_spots, same_spot}
+use Rattle.meson_sources.specs.Effects.{AreSpotsOf, goes, has_one_of, is_at, same_spot, spot_at}
+use Rattle.meson_sources.specs.SourceEdits.{Spot}
 use Rattle.meson_sources.proofs.Bares.{bare_mark}
-use Rattle.meson_sources.proofs.DistinctSpots.{every_distinct}
 use Rattle.meson_sources.proofs.ElementsThere.{root}
 use Rattle.meson_sources.proofs.ItemsThere.{Holds, IsSources, StringHeld, TextHeld}
 use Rattle.meson_sources.proofs.LeftFiles.{NamedGoes}
-use Rattle.meson_sources.proofs.ListsBut.{same_one}
+use Rattle.meson_sources.proofs.ListsBut.{both_true, same_one}
 use Rattle.meson_sources.proofs.LostMarks.{slot_gone}
-use Rattle.meson_sources.proofs.NamedGone.{alike, distinct_goes, distinct_named, named_distinct, some_of}
+use Rattle.meson_sources.proofs.NamedGone.{alike, distinct_named, named_distinct, some_of}
 use Rattle.meson_sources.proofs.RenamedStrings.{Node}
 use Rattle.meson_sources.proofs.Scenes.{NodeIn}
 use Rattle.meson_sources.proofs.StringsStay.{element_any}
@@ -32,10 +31,6 @@ pub same_there : (trees : List Plain) (p : CallRef) (y z : Node) → NodeIn tree
 same_there trees p y z m n =
     let same_tree : n.tree ≡ m.tree = some-injective _ _ (sym n.is_tree ∙ m.is_tree) in
     some-injective z y (sym n.is_node ∙ ap (λ t. node_at (root t) p.path.steps) same_tree ∙ m.is_node)
-
-both_true : (a b : Bool) → (a && b) ≡ true → (a ≡ true) × (b ≡ true)
-both_true true b is = (refl, is)
-both_true false b is = absurd cc
 
 no_true : (xs : List Spot) → list_any (λ s. false) xs ≡ true → ⊥
 no_true [] is = cc
@@ -61,10 +56,7 @@ module _ (trees : List Plain) (Fine : CallRef → ℕ → Node → Type 0) (fine
       let words : other.word ≡ one.word = cc in
       some-injective y x (sym other.is_value ∙ ap (λ k. value (string_kind k) other.word) kinds ∙ ap (value (string_kind one.kind)) words ∙ one.is_value)
 
-  module _ (names : List (List ℕ)) (is : List (Item Span)) (held : Every Held is) (found : List Spot) (of_names : AreSpotsOf is (distinct names) found) where
-    abbrev spots : List Spot
-    spots = distinct_spots found
-
+  module _ (names : List (List ℕ)) (is : List (Item Span)) (held : Every Held is) (spots : List Spot) (of_names : AreSpotsOf is (distinct names) spots) where
     abbrev Only : Spot → Type 0
     Only s = list_any (λ i. has_one_of (distinct names) i && is_at s i.slot) is ≡ true
 
@@ -84,28 +76,25 @@ module _ (trees : List Plain) (Fine : CallRef → ℕ → Node → Type 0) (fine
         go (in_list q k) text at holds = subst (λ (u : Spot). StringHeld trees Fine fine u.list u.number text) (sym (same_one s (spot_at q k) at)) holds
         go fixed text at holds = absurd cc
 
-    all_only : Every Only spots
-    all_only = every_distinct Only found of_names.only
-
     pub gone_held : (c : CallRef) (n : ℕ) → goes spots c n ≡ true → SpotHeld c n
     gone_held c n gone =
-        let o = some_of (λ s. same_spot s (spot_at c n)) Only spots all_only gone in
+        let o = some_of (λ s. same_spot s (spot_at c n)) Only spots of_names.only gone in
         subst (λ (u : Spot). SpotHeld u.list u.number) (same_one o.it (spot_at c n) o.is) (spot_held o.it o.holds)
 
-    one_named : (i : Item Span) → Held i → (has_one_of (distinct names) i ≡ true → list_any (λ s. is_at s i.slot) found ≡ true) → NamedGoes (goes spots) names i
+    one_named : (i : Item Span) → Held i → (has_one_of (distinct names) i ≡ true → list_any (λ s. is_at s i.slot) spots ≡ true) → NamedGoes (goes spots) names i
     one_named i holds each = alike (slot_gone (goes spots) i.slot) (one_of names i.text) (forth i.slot i.text holds) (λ named. back i.slot (each (named_distinct i.text names named)))
       where
         forth : (slot : Slot) (text : List ℕ) → TextHeld trees Fine fine slot text → slot_gone (goes spots) slot ≡ true → one_of names text ≡ true
         forth (in_list c n) text holds gone = let h = gone_held c n gone in ap (one_of names) (one_text c n h.text text h.string_held holds) ∙ h.is_named
         forth fixed text holds gone = absurd cc
 
-        back : (slot : Slot) → list_any (λ s. is_at s slot) found ≡ true → slot_gone (goes spots) slot ≡ true
-        back (in_list c n) there = distinct_goes (spot_at c n) found there
-        back fixed there = absurd (no_true found there)
+        back : (slot : Slot) → list_any (λ s. is_at s slot) spots ≡ true → slot_gone (goes spots) slot ≡ true
+        back (in_list c n) there = there
+        back fixed there = absurd (no_true spots there)
 
     pub all_named : Every (NamedGoes (goes spots) names) is
     all_named = over is held of_names.each
       where
-        over : (js : List (Item Span)) → Every Held js → Every (λ i. has_one_of (distinct names) i ≡ true → list_any (λ s. is_at s i.slot) found ≡ true) js → Every (NamedGoes (goes spots) names) js
+        over : (js : List (Item Span)) → Every Held js → Every (λ i. has_one_of (distinct names) i ≡ true → list_any (λ s. is_at s i.slot) spots ≡ true) js → Every (NamedGoes (goes spots) names) js
         over [] one other = tt
         over (j ∷ js) one other = (one_named j one.0 other.0, over js one.1 other.1)

@@ -9,37 +9,29 @@ use Rattle.meson_calls.specs.Project.{child, place}
 use Rattle.meson_steps.specs.ListSteps.{AreDoable, MayStandBetween}
 use Rattle.meson_steps.specs.ResultLimits.{plain_trees}
 use Rattle.meson_steps.proofs.PlainTrees.{trees_stand}
-use Rattle.meson_sources.specs.Effects.{goes, spot_at}
-use Rattle.meson_sources.specs.SourceEdits.{Spot, distinct_spots, is_path, number_without, path_without, removal, removal_steps, removals_after, same_spot, spot_without}
+use Rattle.meson_sources.specs.Effects.{goes, same_spot, spot_at}
+use Rattle.meson_sources.specs.SourceEdits.{Spot, is_path, number_without, path_without, removal, removal_steps, removals_after, spot_without}
 use Rattle.meson_sources.specs.Without.{Gone, from_child}
-use Rattle.meson_sources.proofs.DistinctSpots.{AreApart, distinct_apart, every_distinct}
-use Rattle.meson_sources.proofs.ListsBut.{apart_not_same, same_one}
+use Rattle.meson_sources.proofs.ListsBut.{same_one}
+use Rattle.meson_sources.proofs.NamedSpots.{every_weaker}
 use Rattle.meson_sources.proofs.NumbersLeft.{left_same}
 use Rattle.meson_sources.proofs.PathsAfter.{other_file, renamed}
 use Rattle.meson_sources.proofs.PathsLeft.{Passes, number_moved, number_there, one_more, or_one, path_moved}
 use Rattle.meson_sources.proofs.RemovedSpots.{all_clear, all_in, removed_doable}
 use Rattle.meson_sources.proofs.RenamedStrings.{NotThrough}
 use Rattle.meson_sources.proofs.SpotsAfter.{moved_up, path_after, removed_by, spot_after, spots_after}
-use Rattle.meson_sources.proofs.SpotsApart.{Apart, Clear}
-use Rattle.meson_sources.proofs.SpotsCounted.{number_is, path_is}
+use Rattle.meson_sources.proofs.SpotsApart.{Apart, AreApart, Clear}
+use Rattle.meson_sources.proofs.SpotsCounted.{none_goes, number_is, path_is, stays}
 use Rattle.meson_sources.proofs.Standings.{RemovalsDoable}
 use Rattle.meson_sources.proofs.StringsThere.{StringIn}
 use Rattle.meson_sources.proofs.WithoutLoses.{gone_at}
 use Rattle.meson_sources.proofs.WithoutPlaces.{path_left, under_is, under_path}
 
 -- it stays where these go
-abbrev Clears : List Spot → Spot → Type 0
+abbrev pub Clears : List Spot → Spot → Type 0
 Clears gone t = Every (λ g. Clear g t) gone
 
 -- ---- nothing on the way goes
-
-none_goes : (c : CallRef) (n : ℕ) (gone : List Spot) → Every (λ g. same_spot g (spot_at c n) ≡ false) gone → goes gone c n ≡ false
-none_goes c n [] every = refl
-none_goes c n (g ∷ gone) every = ap₂ (λ b d. b || d) every.0 (none_goes c n gone every.1)
-
-stays : (gone : List Spot) (t : Spot) → Clears gone t → goes gone t.list t.number ≡ false
-stays [] t clears = refl
-stays (g ∷ gone) t clears = ap₂ (λ b d. b || d) (apart_not_same g t clears.0.other) (stays gone t clears.1)
 
 through : (path : List ℕ) (n : ℕ) (rest : List ℕ) → NotThrough path n (path ++ n ∷ rest) → ⊥
 through [] n rest not_through = not_through refl
@@ -56,10 +48,6 @@ not_on t path n rest is g clear = go (same_spot g (spot_at (place t.list.file pa
         absurd (through path n rest (subst (NotThrough path n) is here))
     go false same = refl
 
-each_not_on : (t : Spot) (path : List ℕ) (n : ℕ) (rest : List ℕ) → t.list.path.steps ≡ path ++ n ∷ rest → (gone : List Spot) → Clears gone t → Every (λ g. same_spot g (spot_at (place t.list.file path) n) ≡ false) gone
-each_not_on t path n rest is [] clears = tt
-each_not_on t path n rest is (g ∷ gone) clears = (not_on t path n rest is g clears.0, each_not_on t path n rest is gone clears.1)
-
 by_prefix : (g : Gone) (path : List ℕ) → ((front : List ℕ) (n : ℕ) (rest : List ℕ) → path ≡ front ++ n ∷ rest → g front n ≡ false) → Passes g path
 by_prefix g [] none = tt
 by_prefix g (n ∷ path) none = (none [] n path refl, by_prefix (from_child n g) path (λ front m rest is. none (n ∷ front) m rest (ap (λ l. n ∷ l) is)))
@@ -70,7 +58,7 @@ top t = place t.list.file []
 
 passes : (gone : List Spot) (t : Spot) → Clears gone t → Passes (gone_at (goes gone) (top t)) t.list.path.steps
 passes gone t clears =
-    by_prefix (gone_at (goes gone) (top t)) t.list.path.steps (λ front n rest is. none_goes (place t.list.file front) n gone (each_not_on t front n rest is gone clears))
+    by_prefix (gone_at (goes gone) (top t)) t.list.path.steps (λ front n rest is. none_goes (place t.list.file front) n gone (every_weaker _ _ (not_on t front n rest is) gone clears))
 
 -- ---- one more goes
 
@@ -82,12 +70,11 @@ number_here gone apart t =
     ∙ sym (left_same (goes gone t.list) (under_path g path []) (λ k. ap (λ u. u [] k) (under_is path g) ∙ ap (λ p. goes gone (place t.list.file p) k) (append-nil path)) t.number)
 
 module _ (gone : List Spot) (apart : AreApart gone) (s : Spot) (clear_s : Clears gone s) where
-  from_gone : (gs : List Spot) → Clears gs s → Every (Apart s) gs
-  from_gone [] clears = tt
-  from_gone (g ∷ gs) clears = (λ same. clears.0.other (sym same.0, sym same.1, sym same.2), from_gone gs clears.1)
+  from_gone : Every (Apart s) gone
+  from_gone = every_weaker _ _ (λ g clear same. clear.other (sym same.0, sym same.1, sym same.2)) gone clear_s
 
   pub more_apart : AreApart (s ∷ gone)
-  more_apart = (from_gone gone clear_s, apart)
+  more_apart = (from_gone, apart)
 
   abbrev by_file : Bool → ℕ → Gone
   by_file b file path k = (b && (is_path s.list.path.steps path && nat_eq s.number k)) || goes gone (place file path) k
@@ -124,7 +111,7 @@ module _ (gone : List Spot) (apart : AreApart gone) (s : Spot) (clear_s : Clears
         let path_passes = passes gone t clear_t in
         let free : under_path g list [] s.number ≡ false =
         ap (λ u. u [] s.number) (under_is list g) ∙ ap (λ p. goes gone (place t.list.file p) s.number) (append-nil list)
-        ∙ ap (λ f. goes gone (place f list) s.number) (sym file) ∙ stays gone s clear_s in
+        ∙ ap (λ f. goes gone (place f list) s.number) (sym file) ∙ stays gone s from_gone in
         let one = one_more list s.number g free in
         let there = path_is gone apart (top t) path in
         let number = number_here gone apart t in
@@ -145,15 +132,15 @@ module _ (gone : List Spot) (apart : AreApart gone) (s : Spot) (clear_s : Clears
 -- ---- all of them
 
 -- each stays where those before it go
-abbrev AllClear : List Spot → Type 0
+abbrev pub AllClear : List Spot → Type 0
 AllClear [] = Unit {0}
 AllClear (s ∷ more) = Every (Clear s) more × AllClear more
 
-one_clearer : (s : Spot) (gone ts : List Spot) → Every (Clear s) ts → Every (Clears gone) ts → Every (Clears (s ∷ gone)) ts
+pub one_clearer : (s : Spot) (gone ts : List Spot) → Every (Clear s) ts → Every (Clears gone) ts → Every (Clears (s ∷ gone)) ts
 one_clearer s gone [] clear clears = tt
 one_clearer s gone (t ∷ ts) clear clears = ((clear.0, clears.0), one_clearer s gone ts clear.1 clears.1)
 
-by_renaming : (more gone : List Spot) → AreApart gone → Every (Clears gone) more → AllClear more → removals_after gone more ≡ removed_by (length more) (map (spot_without gone) more)
+pub by_renaming : (more gone : List Spot) → AreApart gone → Every (Clears gone) more → AllClear more → removals_after gone more ≡ removed_by (length more) (map (spot_without gone) more)
 by_renaming [] gone apart clears all = refl
 by_renaming (s ∷ more) gone apart clears all =
     ap (λ steps. removal (spot_without gone s) ∷ steps)
@@ -170,12 +157,12 @@ none_gone (s ∷ spots) =
     let same : s.number - 0 ≡ s.number = omega arith in
     ap₂ (λ u us. u ∷ us) (ap₂ (λ path n. record { list = place s.list.file path; number = n }) (same_path (top s) s.list.path.steps) same) (none_gone spots)
 
-none_before : (spots : List Spot) → Every (Clears []) spots
+pub none_before : (spots : List Spot) → Every (Clears []) spots
 none_before [] = tt
 none_before (s ∷ spots) = (tt, none_before spots)
 
 module _ (trees : List Plain) (all : All MayStandBetween trees) where
-  all_are_clear : (spots : List Spot) → Every (StringIn trees) spots → AreApart spots → AllClear spots
+  pub all_are_clear : (spots : List Spot) → Every (StringIn trees) spots → AreApart spots → AllClear spots
   all_are_clear [] are apart = tt
   all_are_clear (s ∷ more) are apart = (all_clear trees all s are.0 more are.1 apart.0, all_are_clear more are.1 apart.1)
 
@@ -184,10 +171,8 @@ module _ (trees : List Plain) (all : All MayStandBetween trees) where
   steps_are spots are apart = by_renaming spots [] tt (none_before spots) (all_are_clear spots are apart) ∙ ap (removed_by (length spots)) (none_gone spots)
 
 pub removals_doable : RemovalsDoable
-removals_doable old parsed spots all =
+removals_doable old parsed spots all apart =
     let trees = plain_trees old in
-    let there = distinct_spots spots in
     let stand = trees_stand old.files old.parsed parsed in
-    let are = every_distinct (StringIn trees) spots (all_in old spots all) in
-    let apart = distinct_apart spots in
-    subst (λ steps. AreDoable steps trees) (sym (steps_are trees stand there are apart)) (removed_doable (length there) there trees stand are apart)
+    let are = all_in old spots all in
+    subst (λ steps. AreDoable steps trees) (sym (steps_are trees stand spots are apart)) (removed_doable (length spots) spots trees stand are apart)

@@ -14,7 +14,7 @@ use Rattle.meson_calls.specs.Project.{Project, Placed}
 use Rattle.meson_calls.specs.Calls.{Call, first_argument}
 use Rattle.meson_variables.specs.Expansion.{Slot, in_list, fixed, Mark, known, opaque, empty}
 use Rattle.meson_variables.specs.TargetSources.{source_marks}
-use Rattle.meson_sources.specs.SourceEdits.{Spot, distinct_spots, removal_steps, extra_marks, sources_added, sources_removed, extra_added, extra_removed}
+use Rattle.meson_sources.specs.SourceEdits.{Spot, removal_steps, extra_marks, sources_added, sources_removed, extra_added, extra_removed}
 use Rattle.meson_calls.specs.Finding.{the_call}
 use Rattle.meson_calls.specs.Loading.{Loaded, AreParsed, project}
 use Rattle.meson_calls.specs.CallPlaces.{ListThere}
@@ -22,6 +22,8 @@ use Rattle.meson_steps.specs.ResultLimits.{plain_trees}
 use Rattle.meson_steps.specs.ListSteps.{AreDoable}
 use Rattle.meson_steps.specs.Steps.{Step}
 use Rattle.meson_syntax.specs.Operators.{holds_values}
+use Rattle.meson_sources.proofs.Meetings.{ItemsApart}
+use Rattle.meson_sources.proofs.SpotsApart.{AreApart}
 
 -- ---- places
 
@@ -74,7 +76,7 @@ ExtrasStand = (old : Loaded) → AreParsed old.files old.parsed → (c : Placed 
 -- ---- what may be done
 
 abbrev pub RemovalsDoable : Type 0
-RemovalsDoable = (old : Loaded) → AreParsed old.files old.parsed → (spots : List Spot) → All (SpotStands (project old)) spots → AreDoable (removal_steps (distinct_spots spots)) (plain_trees old)
+RemovalsDoable = (old : Loaded) → AreParsed old.files old.parsed → (spots : List Spot) → All (SpotStands (project old)) spots → AreApart spots → AreDoable (removal_steps spots) (plain_trees old)
 
 -- a command whose steps may be done, by what its call holds
 abbrev pub MayBeDone : (Project Span → Placed (Call Span) → List (Mark Span)) → (Project Span → Placed (Call Span) → List (List ℕ) → Result (List Step) Refusal) → Type 0
@@ -82,14 +84,20 @@ MayBeDone marks meant =
     (old : Loaded) → AreParsed old.files old.parsed → (c : Placed (Call Span)) → TargetThere (project old) c → All (MarkStands (project old)) (marks (project old) c)
     → (names : List (List ℕ)) → All IsUtf8 names → (steps : List Step) → meant (project old) c names ≡ Ok steps → AreDoable steps (plain_trees old)
 
+-- the same of a removal, where no item is met twice
+abbrev pub MayBeRemoved : (Project Span → Placed (Call Span) → List (Mark Span)) → (Project Span → Placed (Call Span) → List (List ℕ) → Result (List Step) Refusal) → Type 0
+MayBeRemoved marks meant =
+    (old : Loaded) → AreParsed old.files old.parsed → (c : Placed (Call Span)) → All (MarkStands (project old)) (marks (project old) c) → ItemsApart (marks (project old) c)
+    → (names : List (List ℕ)) (steps : List Step) → meant (project old) c names ≡ Ok steps → AreDoable steps (plain_trees old)
+
 abbrev pub SourcesMayBeAdded : Type 0
 SourcesMayBeAdded = MayBeDone source_marks sources_added
 
 abbrev pub SourcesMayBeRemoved : Type 0
-SourcesMayBeRemoved = MayBeDone source_marks sources_removed
+SourcesMayBeRemoved = MayBeRemoved source_marks sources_removed
 
 abbrev pub ExtrasMayBeAdded : Type 0
 ExtrasMayBeAdded = MayBeDone extra_marks extra_added
 
 abbrev pub ExtrasMayBeRemoved : Type 0
-ExtrasMayBeRemoved = MayBeDone extra_marks extra_removed
+ExtrasMayBeRemoved = MayBeRemoved extra_marks extra_removed

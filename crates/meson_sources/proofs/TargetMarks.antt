@@ -36,17 +36,17 @@ numbered_each choose Q (argument a more) n f = go (choose a) refl (numbered_each
     go None is all = all
     go (Some x) is all = let k : n + 0 ≡ n = omega arith in (subst (λ i. Q (record { number = i; value = x })) k (f 0 a x refl is), all)
 
-listed_each : (choose : Argument Span → Option (Expression Span)) (Q : Numbered (Expression Span) → Type 0) (l : Listing Span)
+pub listed_each : (choose : Argument Span → Option (Expression Span)) (Q : Numbered (Expression Span) → Type 0) (l : Listing Span)
     → ((j : ℕ) (a : Argument Span) (x : Expression Span) → nth (elements l) j ≡ Some a → choose a ≡ Some x → Q (record { number = j; value = x })) → Every Q (filter_map (kept_number choose) (numbered_arguments l))
 listed_each choose Q (listing s trailing list) f =
     numbered_each choose Q list 0 (λ j a x is chosen. let k : j ≡ 0 + j = omega arith in subst (λ i. Q (record { number = i; value = x })) k (f j a x is chosen))
 
-nameless : (a : Argument Span) (x : Expression Span) → value_without_name a ≡ Some x → a ≡ plain x
+pub nameless : (a : Argument Span) (x : Expression Span) → value_without_name a ≡ Some x → a ≡ plain x
 nameless (plain e) x is = let same : e ≡ x = cc in ap plain same
 nameless (named s k e) x is = absurd cc
 nameless (pair s e f) x is = absurd cc
 
-every_rest : {X : Type 0} (P : X → Type 0) (xs : List X) → Every P xs → Every P (rest xs)
+pub every_rest : {X : Type 0} (P : X → Type 0) (xs : List X) → Every P xs → Every P (rest xs)
 every_rest P [] all = tt
 every_rest P (x ∷ xs) all = all.1
 

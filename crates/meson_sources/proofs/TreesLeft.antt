@@ -14,11 +14,10 @@ use Rattle.meson_calls.specs.Project.{place}
 use Rattle.meson_steps.specs.ListSteps.{MayStandBetween}
 use Rattle.meson_steps.specs.Steps.{all_stepped, step_in, stepped}
 use Rattle.meson_steps.proofs.WithOne.{change_there}
-use Rattle.meson_sources.specs.Effects.{goes, spot_at, trees_without}
-use Rattle.meson_sources.specs.SourceEdits.{Spot, removal_steps, same_spot}
+use Rattle.meson_sources.specs.Effects.{goes, same_spot, spot_at, trees_without}
+use Rattle.meson_sources.specs.SourceEdits.{Spot, removal_steps}
 use Rattle.meson_sources.proofs.SpotsAfter.{path_after, removed_by, spot_after, spots_after}
 use Rattle.meson_sources.specs.Without.{Gone, each_without, tree_without}
-use Rattle.meson_sources.proofs.DistinctSpots.{AreApart}
 use Rattle.meson_sources.proofs.ElementGone.{renamed, string_gone}
 use Rattle.meson_sources.proofs.ListsBut.{any_still, apart_not_same, spot_itself}
 use Rattle.meson_sources.proofs.NothingGone.{nothing, tree_stays}
@@ -26,7 +25,7 @@ use Rattle.meson_sources.proofs.PathsAfter as paths
 use Rattle.meson_sources.proofs.RemovedSpots.{all_apart, all_between, between, between_stand, level, all_clear}
 use Rattle.meson_sources.proofs.RemovedSpots as removing
 use Rattle.meson_sources.proofs.Renaming.{number_after}
-use Rattle.meson_sources.proofs.SpotsApart.{Clear}
+use Rattle.meson_sources.proofs.SpotsApart.{AreApart, Clear}
 use Rattle.meson_sources.proofs.SpotsWithout.{steps_are}
 use Rattle.meson_sources.proofs.StringsThere.{StringIn}
 

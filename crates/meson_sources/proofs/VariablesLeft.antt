@@ -15,7 +15,7 @@ use Rattle.meson_variables.specs.Variables.{Assigned, all_known, assignments, is
 use Rattle.meson_steps.specs.ListSteps.{MayStandBetween}
 use Rattle.meson_steps.specs.ResultLimits.{plain_trees}
 use Rattle.meson_sources.specs.Without.{Gone, each_without, expression_without, from_child}
-use Rattle.meson_sources.proofs.NodesMoved.{fits_none, node_moved, place_left}
+use Rattle.meson_sources.proofs.NodesMoved.{child_place, fits_none, node_moved, place_left}
 use Rattle.meson_sources.proofs.OneGone.{string_child}
 use Rattle.meson_sources.proofs.SpotsHeld.{same_there}
 use Rattle.meson_sources.proofs.WithoutLoses.{Lost, at_child, gone_at, loses}
@@ -116,6 +116,9 @@ module _ (before : List Plain) (stand : All MayStandBetween before) (gone : Call
       let value : an_expression d ≡ an_expression (expression_without (from_child 0 (gone_at gone at)) e) = some-injective _ _ (sym q.2 ∙ ap (λ z. nth (child_nodes z) 0) same ∙ left) in
       subst (Loses gone (child at 0) e) (ap (λ g. expression_without g e) (sym (at_child gone at 0)) ∙ sym (same_expression (expression_without (from_child 0 (gone_at gone at)) e) d value)) (loses before gone lost e (child at 0) level was)
 
+  pub place_stays : (at : CallRef) (m : ℕ) → at.path.steps ≡ m ∷ [] → (e : Expression Nowhere) → NodeIn before (child at 0) (an_expression e) → place_left gone (child at 0) ≡ child at 0
+  place_stays at m path e was = let p = parent before at (an_expression e) was in child_place gone at 0 ∙ ap (λ c. child c 0) (stays at m path p.0 p.1)
+
 -- ---- in two projects
 
 module _ (old new : Loaded) (names : names_of new.files ≡ names_of old.files) (tells : (i : ℕ) → SameTells (0 + i) (nth (plain_trees old) i) (nth (plain_trees new) i)) where
@@ -139,6 +142,7 @@ module _ (old new : Loaded) (names : names_of new.files ≡ names_of old.files) 
           now = bare_value v2;
           was = ap (option_map bare_value) was;
           is = ap (option_map bare_value) is;
+          moved = same ∙ o.is_place ∙ sym (place_stays (plain_trees old) stand gone lost o.at o.number o.is_at (erase_expression v.it) n) ∙ ap (place_left gone) (sym o.is_place);
           loses = subst (λ c. Loses gone c (erase_expression v.it) (erase_expression v2.it)) (sym o.is_place)
               (value_left (plain_trees old) stand gone lost o.at o.number o.is_at (erase_expression v.it) (erase_expression v2.it) (node_level (plain_trees old) stand (child o.at 0) (erase_expression v.it) n) n (subst (λ ts. NodeIn ts (child o.at 0) (an_expression (erase_expression v2.it))) are_left n2));
         }

@@ -1,6 +1,6 @@
 -- An expression of a tree without some strings of its lists has lost just these.
 use Rattle.std.specs.Prelude.{if◌then◌else◌, option_and_then}
-use Rattle.std.proofs.Common.{◌≡◌, ℕ, suc, ◌+◌, Bool, true, false, List, [], ◌∷◌, ◌++◌, append-nil, Some, refl, sym, ap, ◌∙◌, subst, arith, inl, inr}
+use Rattle.std.proofs.Common.{◌≡◌, ℕ, suc, ◌+◌, Bool, true, false, List, [], ◌∷◌, ◌++◌, append-nil, Some, None, refl, sym, ap, ◌∙◌, subst, arith, inl, inr}
 use Rattle.meson_syntax.specs.declared.operator.Bracket.{Bracket}
 use Rattle.meson_syntax.specs.declared.operator.Bracket.TheVariants as bracket
 use Rattle.meson_syntax.specs.Grammar.{LevelArguments, LevelExpression, LevelListing, LevelOperands}
@@ -17,7 +17,7 @@ use Rattle.meson_sources.proofs.Losses.{ArgumentLoses, EachLoses, ListLoses, Los
 use Rattle.meson_sources.proofs.Owners.{node_between}
 use Rattle.meson_sources.proofs.RenamedStrings.{Node}
 use Rattle.meson_sources.proofs.Scenes.{NodeIn}
-use Rattle.meson_sources.proofs.StringsStay.{element_any}
+use Rattle.meson_sources.proofs.StringsStay.{element_any, list_any}
 
 -- what an element that has gone was
 abbrev pub Lost : Node → ℕ → Type 0
@@ -37,6 +37,10 @@ at_child gone c n = λ i path k. gone (place c.file ((further c.path.steps n pat
 pub at_itself : (gone : CallRef → ℕ → Bool) (c : CallRef) (n : ℕ) → gone_at gone c [] n ≡ gone c n
 at_itself gone c n = ap (λ p. gone (place c.file p) n) (append-nil c.path.steps)
 
+pub no_true : (b : Bool) → (b ≡ true → ⊥) → b ≡ false
+no_true true other = absurd (other refl)
+no_true false other = refl
+
 module _ (trees : List Plain) (gone : CallRef → ℕ → Bool) (lost : (c : CallRef) (n : ℕ) → gone c n ≡ true → (y : Node) → NodeIn trees c y → Lost y n) where
   abbrev at : CallRef → Gone
   at = gone_at gone
@@ -47,6 +51,10 @@ module _ (trees : List Plain) (gone : CallRef → ℕ → Bool) (lost : (c : Cal
     is_tree = h.is_tree;
     is_node = node_between c.path.steps (n ∷ []) _ y h.is_node ∙ ap (option_and_then (λ z. node_at z [])) is;
   }
+
+  -- what has no list loses nothing
+  pub none_gone : (c : CallRef) (x : Node) → NodeIn trees c x → list_any x ≡ None → (k : ℕ) → gone c k ≡ false
+  none_gone c x h no_list k = no_true (gone c k) (λ is. let l = lost c k is x h in let none : None ≡ Some l.0 = sym (ap (option_and_then (λ m. nth (elements m) k)) no_list) ∙ l.1 in cc)
 
   as_child : (e : Expression Nowhere) (c : CallRef) (n : ℕ) → Loses gone (child c n) e (expression_without (at (child c n)) e) → Loses gone (child c n) e (expression_without (from_child n (at c)) e)
   as_child e c n loses = subst (λ g. Loses gone (child c n) e (expression_without g e)) (sym (at_child gone c n)) loses
@@ -93,6 +101,7 @@ module _ (trees : List Plain) (gone : CallRef → ℕ → Bool) (lost : (c : Cal
           refl,
           as_child e c 0 (loses e (child c 0) level.2 (child_in c y (an_expression e) 0 h refl)),
           operands_lose os c 1 y _ level.3 h (one_on y (an_expression e) 0 (operands_parts os) (whole y)),
+          none_gone c y h refl,
         )
     loses e c level h = refl
 

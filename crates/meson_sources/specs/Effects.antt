@@ -1,5 +1,5 @@
 -- What is there after sources or extra files are added or removed, said of the lists that get or lose them.
-use Rattle.std.specs.Prelude.{◌≡◌, ℕ, Bool, true, false, not, ◌&&◌, List, [], ◌∷◌, ◌++◌, length, map, Option, Some, None, Ok, option_and_then, option_map}
+use Rattle.std.specs.Prelude.{◌≡◌, ℕ, Bool, true, false, not, ◌&&◌, nat_eq, List, [], ◌∷◌, ◌++◌, length, map, Option, Some, None, Ok, option_and_then, option_map}
 use Rattle.std.specs.List.{AllByRecursion, filter, list_any}
 use Rattle.meson_lex.specs.declared.kinds.Span.{Span}
 use Rattle.meson_syntax.specs.Paths.{ListAt, list_at, nth, value_of}
@@ -18,7 +18,7 @@ use Rattle.meson_steps.specs.ResultLimits.{plain_trees}
 use Rattle.meson_steps.specs.Steps.{Step, all_stepped}
 use Rattle.meson_steps.specs.WrittenTexts.{string_of}
 use Rattle.meson_sources.specs.Without.{each_without}
-use Rattle.meson_sources.specs.SourceEdits.{Spot, extra_added, extra_key, extra_marks, extra_removed, has_text, is_plain, new_names, same_spot, sources_added, sources_removed, spots_named}
+use Rattle.meson_sources.specs.SourceEdits.{Spot, extra_added, extra_key, extra_marks, extra_removed, has_text, is_path, is_plain, new_names, sources_added, sources_removed, spots_named}
 
 -- the elements of the list at a place
 abbrev pub elements_found : CallRef → List Plain → Option (List (Argument Nowhere))
@@ -106,6 +106,9 @@ ExtraIsAdded = (old : Loaded) → IsProject old → (id : List ℕ) (c : Placed 
 
 abbrev pub spot_at : CallRef → ℕ → Spot
 spot_at list n = record { list = list; number = n }
+
+abbrev pub same_spot : Spot → Spot → Bool
+same_spot s t = nat_eq s.list.file t.list.file && (is_path s.list.path.steps t.list.path.steps && nat_eq s.number t.number)
 
 -- whether the element of this number of the list at a place is one of those that go
 abbrev pub goes : List Spot → CallRef → ℕ → Bool

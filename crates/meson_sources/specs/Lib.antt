@@ -3,6 +3,8 @@ pub mod Extras
 pub mod Targeted
 pub mod Without
 pub mod Effects
+pub mod MetOnce
 pub mod WholeSources
 pub mod WholeExtras
+pub mod InTurn
 pub mod inside

@@ -1,6 +1,6 @@
 -- Sources put into a target and taken out of it, and the same for its extra files. Meson manual, Rewriter: `target add`, `target rm`, `target add_extra_files`,
 -- `target rm_extra_files`.
-use Rattle.std.specs.Prelude.{ℕ, zero, suc, ◌-◌, Bool, true, false, not, ◌&&◌, nat_eq, nat_lt, List, [], ◌∷◌, ◌++◌, length, codes, if◌then◌else◌, bytes_eq, Option, Some, None, ok_or, option_map, option_and_then, Result, Ok, Err}
+use Rattle.std.specs.Prelude.{ℕ, zero, suc, ◌-◌, Bool, true, false, not, ◌&&◌, nat_eq, nat_lt, List, [], ◌∷◌, ◌++◌, length, codes, bytes_eq, Option, Some, None, ok_or, option_map, option_and_then, Result, Ok, Err}
 use Rattle.std.specs.List.{count_by, filter, list_any}
 use Rattle.std.specs.Option.{option_map_or}
 use Rattle.meson_lex.specs.Literals.{literal}
@@ -113,7 +113,8 @@ path_without gone here (n ∷ path) = number_without gone here n ∷ path_withou
 
 -- where an element stands then
 abbrev pub spot_without : List Spot → Spot → Spot
-spot_without gone s = record { list = place s.list.file (path_without gone (place s.list.file []) s.list.path.steps); number = number_without gone s.list s.number }
+spot_without gone s =
+    record { list = place s.list.file (path_without gone (place s.list.file []) s.list.path.steps); number = number_without gone s.list s.number }
 
 abbrev pub removal : Spot → Step
 removal s = step_in s.list (Remove s.list.path.steps s.number)
@@ -126,20 +127,9 @@ removals_after gone (s ∷ more) = removal (spot_without gone s) ∷ removals_af
 abbrev pub removal_steps : List Spot → List Step
 removal_steps spots = removals_after [] spots
 
--- each spot once
-abbrev pub same_spot : Spot → Spot → Bool
-same_spot s t = nat_eq s.list.file t.list.file && (is_path s.list.path.steps t.list.path.steps && nat_eq s.number t.number)
-
-abbrev pub distinct_spots_by : List Spot → List Spot → List Spot
-distinct_spots_by seen [] = []
-distinct_spots_by seen (s ∷ more) = if list_any (same_spot s) seen then distinct_spots_by seen more else s ∷ distinct_spots_by (s ∷ seen) more
-
-abbrev pub distinct_spots : List Spot → List Spot
-distinct_spots spots = distinct_spots_by [] spots
-
 -- the steps by which what stands at spots goes
 abbrev pub removed_at : Result (List Spot) Refusal → Result (List Step) Refusal
-removed_at found = then_ok found (λ spots. Ok (removal_steps (distinct_spots spots)))
+removed_at found = then_ok found (λ spots. Ok (removal_steps spots))
 
 -- ---- sources
 

@@ -1,6 +1,8 @@
 //! Laws of sources. The functions do nothing: what they ensure is the law.
 
 ghost use Rattle.meson_sources.specs.Effects.{ExtraIsAdded, ExtraIsRemoved, SourcesAreAdded, SourcesAreRemoved};
+ghost use Rattle.meson_sources.specs.InTurn.{ExtrasGoInTurn, SourcesGoInTurn};
+ghost use Rattle.meson_sources.specs.MetOnce.{ItemsAreMetOnce};
 ghost use Rattle.meson_sources.specs.WholeExtras.{AllExtrasGrow, AllExtrasShrink};
 ghost use Rattle.meson_sources.specs.WholeSources.{AllSourcesGrow, AllSourcesShrink};
 
@@ -19,6 +21,11 @@ pub fn all_sources_grow()
 /// list, the call has a new argument `extra_files` that holds them, or the array of the lone value that was there and of them. All else is as it was.
 pub fn extra_is_added()
     ensures { ExtraIsAdded }
+{}
+
+/// No item of a target is met twice: any two of its sources stand at different places, whichever variables are followed to them, and so do its extra files.
+pub fn items_are_met_once()
+    ensures { ItemsAreMetOnce }
 {}
 
 /// After sources are removed the trees are those before without the elements at the places of all sources with these names: each list has its others in their
@@ -48,4 +55,14 @@ pub fn all_extras_grow()
 /// The law on all sources after a removal, of all extra files of the target.
 pub fn all_extras_shrink()
     ensures { AllExtrasShrink }
+{}
+
+/// What removes several sources removes the first, and then the others from the project that this leaves.
+pub fn sources_go_in_turn()
+    ensures { SourcesGoInTurn }
+{}
+
+/// The same of the extra files of a target.
+pub fn extras_go_in_turn()
+    ensures { ExtrasGoInTurn }
 {}

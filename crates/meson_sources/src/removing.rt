@@ -1,14 +1,13 @@
 //! Items taken out of their lists.
 
 ghost use Rattle.std.specs.Prelude.{◌≡◌, ◌++◌, ◌∷◌, [], IfOk, None, Ok, OnOk, Some, true, length, map, option_map};
-ghost use Rattle.std.specs.List.{list_any};
 ghost use Rattle.meson_calls.specs.Refusals.{IfRefused, RefusedAs};
 ghost use Rattle.meson_steps.specs.ListSteps.{bare};
 ghost use Rattle.meson_steps.specs.Meanings.{AreMeant};
 ghost use Rattle.meson_steps.specs.Names.{distinct};
 ghost use Rattle.meson_calls.specs.Project.{place, place_at};
 ghost use Rattle.meson_sources.specs.inside.CodeSpots.{all_spots_in, all_there, before_all, is_some_there, spot_if_there, spot_view, spots_in};
-ghost use Rattle.meson_sources.specs.SourceEdits.{distinct_spots, is_before, number_without, path_without, removal_steps, removed_at, same_spot, spot_without};
+ghost use Rattle.meson_sources.specs.SourceEdits.{is_before, number_without, path_without, removal_steps, removed_at, spot_without};
 
 use meson_calls::call::BorrowedPlace;
 use meson_calls::place::place_of;
@@ -36,12 +35,12 @@ fn is_before(spot: &ElementSpot, list: BorrowedPlace<'_>, number: usize) -> bool
 }
 
 /// The number of an element of a list, once others have gone.
-fn number_without(gone: &[&ElementSpot], list: BorrowedPlace<'_>, number: usize) -> usize
-    ensures { result ≡ number_without (map (λ x. spot_view x.now) gone.now) (place_at list.entry) number }
+fn number_without(gone: &[ElementSpot], list: BorrowedPlace<'_>, number: usize) -> usize
+    ensures { result ≡ number_without (map spot_view gone.now) (place_at list.entry) number }
 {
     let mut before = 0;
     for i in 0..gone.len() {
-        if is_before(gone[i], list, number) {
+        if is_before(&gone[i], list, number) {
             before += 1;
         }
     }
@@ -51,10 +50,10 @@ fn number_without(gone: &[&ElementSpot], list: BorrowedPlace<'_>, number: usize)
 /// The path of a list, once elements have gone.
 fn path_without(
     alloc: Global,
-    gone: &[&ElementSpot],
+    gone: &[ElementSpot],
     list: BorrowedPlace<'_>,
 ) -> Result<Vec<usize>, AllocError>
-    ensures { IfOk result (λ path. path.items ≡ path_without (map (λ x. spot_view x.now) gone.now) (place list.entry.file []) list.entry.path.now) }
+    ensures { IfOk result (λ path. path.items ≡ path_without (map spot_view gone.now) (place list.entry.file []) list.entry.path.now) }
 {
     let mut path = Vec::new(alloc);
     for depth in 0..list.path.len() {
@@ -70,10 +69,10 @@ fn path_without(
 /// Where a spot stands, once others have gone.
 fn spot_without(
     alloc: Global,
-    gone: &[&ElementSpot],
+    gone: &[ElementSpot],
     spot: &ElementSpot,
 ) -> Result<ElementSpot, AllocError>
-    ensures { IfOk result (λ left. spot_view left ≡ spot_without (map (λ x. spot_view x.now) gone.now) (spot_view spot.now)) }
+    ensures { IfOk result (λ left. spot_view left ≡ spot_without (map spot_view gone.now) (spot_view spot.now)) }
 {
     let list = BorrowedPlace {
         file: spot.file,
@@ -86,61 +85,17 @@ fn spot_without(
     })
 }
 
-/// Whether two spots are one.
-fn is_same(spot: &ElementSpot, other: &ElementSpot) -> bool
-    ensures { result ≡ same_spot (spot_view spot.now) (spot_view other.now) }
-{
-    spot.file == other.file
-        && (spot.list.as_slice() == other.list.as_slice() && spot.number == other.number)
-}
-
-/// Whether a spot is one of these.
-fn is_among(others: &[&ElementSpot], spot: &ElementSpot) -> bool
-    ensures { result ≡ list_any (same_spot (spot_view spot.now)) (map (λ x. spot_view x.now) others.now) }
-{
-    for i in 0..others.len() {
-        if is_same(spot, others[i]) {
-            return true;
-        }
-    }
-    false
-}
-
-/// Each spot once, where it comes first.
-fn distinct_spots<'s>(
-    alloc: Global,
-    found: &'s [ElementSpot],
-) -> Result<Vec<&'s ElementSpot>, AllocError>
-    ensures { IfOk result (λ all. map (λ x. spot_view x.now) all.items ≡ distinct_spots (map spot_view found.now)) }
-{
-    let mut all = Vec::new(alloc);
-    for i in 0..found.len() {
-        if !is_among(all.as_slice(), &found[i]) {
-            all.push(&found[i])?;
-        }
-    }
-    Ok(all)
-}
-
 /// The steps by which elements go one after the other, each from where it stands then.
-fn removals(alloc: Global, spots: &[&ElementSpot]) -> Result<Vec<ListStep>, AllocError>
-    ensures { IfOk result (λ steps. map Some steps.items ≡ map bare (removal_steps (map (λ x. spot_view x.now) spots.now))) }
+fn removals(alloc: Global, spots: &[ElementSpot]) -> Result<Vec<ListStep>, AllocError>
+    ensures { IfOk result (λ steps. map Some steps.items ≡ map bare (removal_steps (map spot_view spots.now))) }
 {
     let mut steps = Vec::new(alloc);
     for i in 0..spots.len() {
-        let spot = spot_without(alloc, &spots[..i], spots[i])?;
+        let spot = spot_without(alloc, &spots[..i], &spots[i])?;
         let list = place_of(alloc, spot.file, spot.list.as_slice())?;
         push_step(&mut steps, list, ListEdit::Remove(spot.number))?;
     }
     Ok(steps)
-}
-
-/// The steps by which the elements at these spots go, each once.
-pub(crate) fn removed(alloc: Global, spots: &[ElementSpot]) -> Result<Vec<ListStep>, AllocError>
-    ensures { IfOk result (λ steps. map Some steps.items ≡ map bare (removal_steps (distinct_spots (map spot_view spots.now)))) }
-{
-    let all = distinct_spots(alloc, spots)?;
-    removals(alloc, all.as_slice())
 }
 
 /// Where an item stands, if it stands in a list.
@@ -243,6 +198,6 @@ pub(crate) fn names_removed(
 {
     let names = distinct(alloc, names)?;
     let spots = spots_of(alloc, marks, names.as_slice())?;
-    let steps = removed(alloc, spots.as_slice())?;
+    let steps = removals(alloc, spots.as_slice())?;
     Ok(steps)
 }

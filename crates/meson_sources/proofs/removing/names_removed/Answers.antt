@@ -1,7 +1,7 @@
 use Rattle.std.proofs.Common.{map, sym, ap, ◌∙◌}
 use Rattle.std.proofs.lemmas.Result.{err_from_is_err_and}
 use Rattle.meson_steps.specs.ListSteps.{bare}
-use Rattle.meson_sources.specs.SourceEdits.{removal_steps, removed_at, distinct_spots}
+use Rattle.meson_sources.specs.SourceEdits.{removal_steps, removed_at}
 use Rattle.meson_sources.specs.inside.CodeSpots.{all_spots_in, spot_view}
 use Rattle.meson_sources.proofs.removing.names_removed.Goals as goal
 
@@ -17,5 +17,5 @@ pub returns-clause-meant : goal.returns-clause-meant
 returns-clause-meant c =
     let m = c.args.marks.now in
     let found = ap (all_spots_in m) (sym c.in_ok-names.ensures) ∙ ap (λ ns. all_spots_in m (map (λ x. x.now) ns)) (sym c.as_slice.ensures.value) ∙ c.in_ok-spots.ensures.found in
-    let are = c.in_ok-steps.ensures ∙ ap (λ ss. map bare (removal_steps (distinct_spots (map spot_view ss)))) c.as_slice-2.ensures.value in
-    record { steps = removal_steps (distinct_spots (map spot_view c.in_ok-spots.spots.items)); is = ap removed_at found; bare = sym are }
+    let are = c.in_ok-steps.ensures ∙ ap (λ ss. map bare (removal_steps (map spot_view ss))) c.as_slice-2.ensures.value in
+    record { steps = removal_steps (map spot_view c.in_ok-spots.spots.items); is = ap removed_at found; bare = sym are }

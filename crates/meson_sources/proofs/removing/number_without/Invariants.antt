@@ -8,4 +8,4 @@ use Rattle.meson_sources.proofs.removing.number_without.Given as goal
 abbrev pub invariant-loop-i : goal.invariant-loop-i
 invariant-loop-i l =
     (l.before ≤ l.i)
-    × (l.before + count_by (is_before (place_at l.list) l.number) (map (λ x. spot_view x.now) (drop l.i l.gone)) ≡ count_by (is_before (place_at l.list) l.number) (map (λ x. spot_view x.now) l.gone))
+    × (l.before + count_by (is_before (place_at l.list) l.number) (map spot_view (drop l.i l.gone)) ≡ count_by (is_before (place_at l.list) l.number) (map spot_view l.gone))

@@ -6,5 +6,5 @@ use Rattle.meson_sources.proofs.removing.path_without.Given as goal
 
 abbrev pub invariant-loop-depth : goal.invariant-loop-depth
 invariant-loop-depth l =
-    l.path.items ++ path_without (map (λ x. spot_view x.now) l.gone) (place l.list.file (take l.depth l.list.path.now)) (drop l.depth l.list.path.now)
-    ≡ path_without (map (λ x. spot_view x.now) l.gone) (place l.list.file []) l.list.path.now
+    l.path.items ++ path_without (map spot_view l.gone) (place l.list.file (take l.depth l.list.path.now)) (drop l.depth l.list.path.now)
+    ≡ path_without (map spot_view l.gone) (place l.list.file []) l.list.path.now

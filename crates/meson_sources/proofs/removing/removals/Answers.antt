@@ -1,4 +1,4 @@
-use Rattle.std.proofs.Common.{◌≡◌, ◌+◌, [], ◌∷◌, ◌++◌, map, take, get_or, sym, ap, ◌∙◌, Bor}
+use Rattle.std.proofs.Common.{◌≡◌, ◌+◌, [], ◌∷◌, ◌++◌, map, take, get_or, sym, ap, ◌∙◌}
 use Rattle.std.specs.Prelude.{Some}
 use Rattle.std.proofs.lemmas.List.{map-append, append_assoc}
 use Rattle.meson_calls.specs.Project.{place}
@@ -6,7 +6,6 @@ use Rattle.meson_steps.specs.ListSteps.{bare}
 use Rattle.meson_steps.specs.declared.step.ListEdit.TheVariants as code
 use Rattle.meson_steps.specs.declared.step.ListStep.{ListStep}
 use Rattle.meson_sources.specs.SourceEdits.{removal, spot_without}
-use Rattle.meson_sources.specs.declared.removing.ElementSpot as code_spot
 use Rattle.meson_sources.specs.inside.CodeSpots.{spot_view}
 use Rattle.meson_sources.proofs.RemovalsInTurn.{one_step, steps_from}
 use Rattle.meson_sources.proofs.removing.removals.Goals as goal
@@ -14,14 +13,13 @@ use Rattle.meson_sources.proofs.removing.removals.Goals as goal
 pub loop-i-preserved : goal.loop-i-preserved
 loop-i-preserved c =
     let spots = c.args.spots.now in
-    let view = λ (x : Bor code_spot.ElementSpot). spot_view x.now in
     let i = c.loop-i.i in
     let d = c.index-spots-i.result in
     let steps = map Some c.loop-i.steps.items in
-    let left = steps_from view spots (i + 1) in
+    let left = steps_from spot_view spots (i + 1) in
     let spot = c.in_ok-spot.spot in
-    let there : spot_view spot ≡ spot_without (map view (take i spots)) (view (get_or spots i d)) =
-    c.in_ok-spot.ensures ∙ ap (λ (x : Bor code_spot.ElementSpot). spot_without (map view (take i spots)) (view x)) c.index-spots-i.is in
+    let there : spot_view spot ≡ spot_without (map spot_view (take i spots)) (spot_view (get_or spots i d)) =
+    c.in_ok-spot.ensures ∙ ap (λ x. spot_without (map spot_view (take i spots)) (spot_view x)) c.index-spots-i.is in
     let place_is = c.in_ok-list.ensures ∙ ap (place spot.file) c.as_slice.ensures.value in
     let step : ListStep = record { list = c.in_ok-list.list; edit = code.Remove spot.number } in
     let step_is = ap (λ l. Some (record { list = l; edit = code.Remove spot.number })) place_is ∙ ap (λ s. bare (removal s)) there in
@@ -29,5 +27,5 @@ loop-i-preserved c =
     ∙ ap (λ xs. xs ++ left) (map-append Some c.loop-i.steps.items (step ∷ []))
     ∙ append_assoc steps (Some step ∷ []) left
     ∙ ap (λ o. steps ++ (o ∷ left)) step_is
-    ∙ ap (λ xs. steps ++ xs) (sym (one_step view spots i d c.loop-i-test.true))
+    ∙ ap (λ xs. steps ++ xs) (sym (one_step spot_view spots i d c.loop-i-test.true))
     ∙ c.loop-i.invariant

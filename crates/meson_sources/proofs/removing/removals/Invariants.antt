@@ -7,4 +7,4 @@ use Rattle.meson_sources.proofs.RemovalsInTurn.{steps_from}
 use Rattle.meson_sources.proofs.removing.removals.Given as goal
 
 abbrev pub invariant-loop-i : goal.invariant-loop-i
-invariant-loop-i l = map Some l.steps.items ++ steps_from (λ x. spot_view x.now) l.spots l.i ≡ map bare (removal_steps (map (λ x. spot_view x.now) l.spots))
+invariant-loop-i l = map Some l.steps.items ++ steps_from spot_view l.spots l.i ≡ map bare (removal_steps (map spot_view l.spots))
