@@ -16,3 +16,4 @@ pub mod Singles
 pub mod SoughtValues
 pub mod SourcesAt
 pub mod Vacant
+mod NoValues

@@ -1,5 +1,7 @@
 -- What the code's values of variables stand for.
-use Rattle.std.specs.Prelude.{ℕ, Bool, List, [], ◌∷◌, bytes_eq, Option, Some, None, option_map}
+use Rattle.std.specs.Prelude.{ℕ, Bool, List, [], ◌∷◌, bytes_eq, Option, Some, None, is_some, option_map}
+use Rattle.std.specs.Borrow.{Bor}
+use Rattle.std.specs.List.{list_any}
 use Rattle.std.specs.Option.{option_flatten}
 use Rattle.std.specs.HashMap.{get_by}
 use Rattle.meson_lex.specs.declared.kinds.Span.{Span}
@@ -46,3 +48,7 @@ met_in v x = looked_up (get_by (λ k. bytes_eq x k.now) v.by_name)
 -- its value
 abbrev pub value_in : Values → List ℕ → Option (Placed (Expression Span))
 value_in v x = option_flatten (met_in v x)
+
+-- whether one of the code's names has one
+abbrev pub has_any : Values → List (Bor (List ℕ)) → Bool
+has_any v names = list_any (λ name. is_some (value_in v name.now)) names

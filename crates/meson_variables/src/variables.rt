@@ -9,7 +9,7 @@ ghost use Rattle.meson_variables.specs.Noted.{by_notes};
 ghost use Rattle.meson_calls.specs.NotedProjects.{IsNotedFor, project_in};
 ghost use Rattle.meson_calls.specs.Notes.{note_views};
 ghost use Rattle.meson_calls.specs.Strings.{NotesGood};
-ghost use Rattle.meson_variables.specs.CodeValues.{value_in, value_view};
+ghost use Rattle.meson_variables.specs.CodeValues.{has_any, value_in, value_view};
 ghost use Rattle.meson_variables.specs.Variables.{single};
 ghost use Rattle.meson_calls.specs.declared.call.Role.{Role};
 
@@ -101,6 +101,41 @@ fn noted_values<'t>(alloc: Global, noted: &Noted<'t>) -> Result<Option<Values<'t
     Ok(Some(values))
 }
 
+/// Whether one of the variables has a value.
+fn has_any(values: &Values<'_>, names: &[&[u8]]) -> bool
+    ensures { result ≡ has_any values.now names.now }
+{
+    for i in 0..names.len() {
+        if values.of(names[i]).is_some() {
+            return true;
+        }
+    }
+    false
+}
+
+/// The values of these variables by the notes of files. Whether a call may set any variable is asked where one has a value.
+fn values_named<'t>(
+    alloc: Global,
+    files: &FileSet,
+    found: &[Note<'_, 't>],
+    names: &[&[u8]],
+) -> Result<Values<'t>, AllocError>
+    requires named { All HasFileName files.now }
+    requires good { NotesGood (note_views found.now) }
+    ensures { IfOk result (λ values. (x : List ℕ) → IsTrue (is_among names.now x)
+        → value_in values x ≡ by_notes x (not (has_unknown files.now (note_views found.now))) (note_views found.now)) }
+{
+    let values = Values::by_notes(alloc, found)?;
+    if !has_any(&values, names) {
+        return Ok(values);
+    }
+    if all_known(alloc, files, found)? {
+        Ok(values)
+    } else {
+        Ok(Values::new(alloc))
+    }
+}
+
 /// The values of these variables. Of others no value is meant.
 fn some_values<'t>(
     alloc: Global,
@@ -114,7 +149,7 @@ fn some_values<'t>(
 {
     let taken = notes_naming(alloc, names, files, trees)?;
     let notes = taken.all(alloc)?;
-    known_values(alloc, files, notes.as_slice())
+    values_named(alloc, files, notes.as_slice(), names)
 }
 
 /// The variables that are followed from the arguments of the call at a place on; none where there is none.

@@ -10,11 +10,11 @@ use Rattle.meson_variables.proofs.variables.some_values.Goals as goal
 pub notes_naming-requires : goal.notes_naming-requires
 notes_naming-requires c = c.requires.parsed
 
-pub known_values-requires-clause-named : goal.known_values-requires-clause-named
-known_values-requires-clause-named c = c.requires.named
+pub values_named-requires-clause-named : goal.values_named-requires-clause-named
+values_named-requires-clause-named c = c.requires.named
 
-pub known_values-requires-clause-good : goal.known_values-requires-clause-good
-known_values-requires-clause-good c =
+pub values_named-requires-clause-good : goal.values_named-requires-clause-good
+values_named-requires-clause-good c =
     let fs = c.args.files.now in
     let ts = c.args.trees.now in
     let names = c.args.names.now in
@@ -27,5 +27,5 @@ returns c =
     let ts = c.args.trees.now in
     let names = c.args.names.now in
     let are = subst (AreSetters names 0 fs ts) (sym (ap note_views c.as_slice.ensures.value ∙ c.in_ok-notes.ensures)) c.in_ok-taken.ensures in
-    IfOk-weaker c.known_values.result _ _
-    (λ values so x among. so x ∙ some_single fs ts c.requires.parsed x names (note_views c.as_slice.result.now) are among) c.known_values.ensures
+    IfOk-weaker c.values_named.result _ _
+    (λ values so x among. so x among ∙ some_single fs ts c.requires.parsed x names (note_views c.as_slice.result.now) are among) c.values_named.ensures

@@ -1,0 +1,16 @@
+use Rattle.std.proofs.Common.{rules, ◌≡◌, ◌∙◌, sym}
+use Rattle.std.specs.Prelude.{false, not}
+use Rattle.meson_calls.specs.Notes.{note_views}
+use Rattle.meson_variables.specs.Noted.{assigned_notes, is_set_by}
+use Rattle.meson_variables.specs.CodeValues.{has_any}
+use Rattle.meson_variables.specs.UnknownSetters.{has_unknown}
+use Rattle.meson_variables.specs.Variables.{only_value}
+use Rattle.meson_variables.proofs.NoValues.{known_or_not, none_has}
+use Rattle.meson_variables.proofs.variables.values_named.Goals as goal
+
+pub returns-then-not-has_any : goal.returns-then-not-has_any
+returns-then-not-has_any c = λ x among.
+    let ns = note_views c.args.found.now in
+    let none : has_any c.in_ok-values.values c.args.names.now ≡ false = search rules in
+    let is = none_has c.in_ok-values.values c.args.names.now x none among in
+    is ∙ sym (known_or_not (not (has_unknown c.args.files.now ns)) (is_set_by x ns) (only_value (assigned_notes x ns)) (sym (c.in_ok-values.ensures x) ∙ is))
