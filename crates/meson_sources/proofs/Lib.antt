@@ -55,7 +55,7 @@ mod TellsKept
 mod StringsStay
 mod StringsThere
 mod TargetCalls
-mod TargetMarks
+pub mod TargetMarks
 mod TargetsFound
 mod Gists
 mod MarkLists
@@ -92,9 +92,7 @@ mod Pairwise
 mod Regions
 mod Meetings
 mod WalkedOnce
-mod ArgumentsOnce
 mod SpotsDiffer
-pub mod SourcesMetOnce
 mod NamedGone
 mod SpotsHeld
 mod TargetNames
