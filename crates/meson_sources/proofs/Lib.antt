@@ -14,8 +14,7 @@ pub mod KeyTexts
 mod KeywordText
 mod Marked
 mod ListsBut
-mod MarksStand
-mod MarksThere
+mod InSlots
 mod NamedPlaces
 mod NamedSpots
 mod NewLists
@@ -55,7 +54,7 @@ mod TellsKept
 mod StringsStay
 mod StringsThere
 mod TargetCalls
-pub mod TargetMarks
+mod TargetMarks
 mod TargetsFound
 mod Gists
 mod MarkLists

@@ -24,7 +24,7 @@ use Rattle.meson_sources.specs.SourceEdits.{extra_key, extra_marks}
 use Rattle.meson_sources.proofs.CallForms.{CallIn, called, target_at}
 use Rattle.meson_sources.proofs.ElementsAt.{AreLevel, parsed_level, value_stands}
 use Rattle.meson_sources.proofs.Functions.{target_no_files}
-use Rattle.meson_sources.proofs.MarksStand.{ElementAt, StandsAs, elements_stand}
+use Rattle.meson_sources.proofs.InSlots.{ElementAt, StandsAs, elements_stand}
 use Rattle.meson_sources.proofs.Meetings.{Beneath, Comes, Meets, both_once, items_both, none_met, other_child}
 use Rattle.meson_sources.proofs.NamedSpots.{every_weaker}
 use Rattle.meson_sources.proofs.Pairwise.{Pairwise, all_pairs}

@@ -19,8 +19,8 @@ use Rattle.meson_variables.specs.TargetSources.{items}
 use Rattle.meson_variables.specs.Variables.{single}
 use Rattle.meson_sources.proofs.ElementsAt.{AreLevel}
 use Rattle.meson_sources.proofs.MarkLists.{below_itself}
-use Rattle.meson_sources.proofs.MarksStand.{ElementAt, Elements, Operated, SlotOf, elements_stand, first_stands, others_stand, row_stands, slot_stands}
-use Rattle.meson_sources.proofs.MarksThere.{single_stands}
+use Rattle.meson_sources.proofs.InSlots.{ElementAt, Elements, Operated, SlotOf, elements_stand, first_stands, others_stand, row_stands, slot_stands}
+use Rattle.meson_sources.proofs.Owners.{single_stands}
 use Rattle.meson_sources.proofs.Meetings.{Beneath, From, Known, Meets, New, both_once, from_beneath, none_met, opaque_once, other_child, some_within, wider, within_once}
 use Rattle.meson_sources.proofs.NamedSpots.{every_weaker}
 use Rattle.meson_sources.proofs.Regions.{MeetsWithin}
