@@ -41,8 +41,7 @@ use Rattle.meson_sources.proofs.NeverMet.{extras_elsewhere}
 use Rattle.meson_sources.proofs.NodesMoved.{unmoved}
 use Rattle.meson_sources.proofs.ShrunkFiles.{extras_hold, extras_lost, stay}
 use Rattle.meson_sources.proofs.SourcesAddable.{new_texts}
-use Rattle.meson_sources.proofs.TargetMarks.{extras_stand}
-use Rattle.meson_sources.proofs.TargetsFound.{targets_stand}
+use Rattle.meson_sources.proofs.TargetMarks.{files_stand}
 
 -- ---- nothing is new
 
@@ -114,7 +113,7 @@ of_call old new is same_names id names utf8 steps done c t target found made =
     let inserted : extra_inserted p (called t) (or_option (first_list ms) (first_empty ms)) (new_names ms names) ≡ Ok steps =
     ap (λ us. extra_inserted p (called t) (or_option (first_list us) (first_empty us)) (new_names us names)) same ∙ o.2 in
     extras_come old new is same_names c t target (few_once extra_key key ms o.0 once_is) (or_option (first_list ms) (first_empty ms)) refl
-    (λ h home. marked_home p ms h (extras_stand old is.parsed (called t) (targets_stand p id (called t) found)) home)
+    (λ h home. marked_home p ms h (files_stand old is.parsed id (called t) found).extras.stand home)
     (new_names ms names) (every_of IsUtf8 (new_names ms names) (new_texts ms names utf8)) steps inserted (extra-is-added old is id (called t) found names steps (plain_trees new) made done)
 
 both : (old new : Loaded) → IsProject old → file_names new ≡ file_names old → (id : List ℕ) (c : Placed (Call Span)) → the_call (project old) role.Target id ≡ Ok c → (names : List (List ℕ)) → All IsUtf8 names → (steps : List Step)

@@ -46,7 +46,7 @@ use Rattle.meson_sources.proofs.Shapes.{Becomes, became_new, became_old}
 use Rattle.meson_sources.proofs.SourcesAddable.{new_texts, sources_home}
 use Rattle.meson_sources.proofs.SourcesAdded.{sources-are-added}
 use Rattle.meson_sources.proofs.SpotsHeld.{same_there}
-use Rattle.meson_sources.proofs.TargetMarks.{sources_stand}
+use Rattle.meson_sources.proofs.TargetMarks.{files_stand}
 use Rattle.meson_sources.proofs.TargetsFound.{targets_stand}
 use Rattle.meson_sources.proofs.TellsStay.{call_told, told_along}
 use Rattle.meson_sources.proofs.WaysThere.{always, same_c}
@@ -162,7 +162,7 @@ of_call old new is same_names id names utf8 steps done c t target has_first foun
     let h = home c ms in
     let new_t = new_names ms names in
     let gets = sources-are-added old is id (called t) found names steps (plain_trees new) made done in
-    let hm = sources_home p (called t) there ms (sources_stand old is.parsed (called t) there) in
+    let hm = sources_home p (called t) there ms (files_stand old is.parsed id (called t) found).sources.stand in
     let key = keyword sources_key (called t).it in
     let checked = then_was (checked_names names) (λ _. once sources_key key (inserted_in p h new_t)) steps made in
     sources_come old new is same_names new_t (every_of IsUtf8 new_t (new_texts ms names utf8)) h (list_turns old new is h hm new_t gets) c t target has_first (few_once sources_key key (inserted_in p h new_t) steps checked.2) refl

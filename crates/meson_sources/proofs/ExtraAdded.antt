@@ -37,7 +37,7 @@ use Rattle.meson_sources.proofs.NewLists.{keyword_grown, last_there, wrapped_gro
 use Rattle.meson_sources.proofs.PlainCounts.{elements_are, plain_count}
 use Rattle.meson_sources.proofs.SourcesAddable.{some_first}
 use Rattle.meson_sources.proofs.SourcesAdded.{gets}
-use Rattle.meson_sources.proofs.TargetMarks.{extras_stand}
+use Rattle.meson_sources.proofs.TargetMarks.{files_stand}
 use Rattle.meson_sources.proofs.TargetsFound.{targets_stand}
 
 -- a list cut at one of its elements
@@ -196,4 +196,4 @@ extra-is-added old is id c found names steps after made done =
     let by : List (Mark Span) → Result (List Step) Refusal = λ ms. extra_inserted p c (or_option (first_list ms) (first_empty ms)) (new_names ms names) in
     let o = then_was (checked_extra p c names) by steps made in
     let same = checked_marks p c names o.0 o.1 in
-    comes old is c t (or_option (first_list marks) (first_empty marks)) (λ l home. marked_home p marks l (extras_stand old is.parsed c t) home) (new_names marks names) steps after (ap by same ∙ o.2) done
+    comes old is c t (or_option (first_list marks) (first_empty marks)) (λ l home. marked_home p marks l (files_stand old is.parsed id c found).extras.stand home) (new_names marks names) steps after (ap by same ∙ o.2) done

@@ -128,5 +128,5 @@ extras_may_be_added old are c t stand names utf8 steps is =
     let p = project old in
     let o = then_was (checked_extra p c names) (λ marks. extra_inserted p c (or_option (first_list marks) (first_empty marks)) (new_names marks names)) steps is in
     let ms = o.0 in
-    let there : All (MarkStands p) ms = subst (All (MarkStands p)) (checked_marks p c names ms o.1) stand in
+    let there : All (MarkStands p) ms = subst (All (MarkStands p)) (checked_marks p c names ms o.1) stand.stand in
     inserted_doable old are c t (or_option (first_list ms) (first_empty ms)) (λ l found. marked_home p ms l there found) (new_names ms names) (new_texts ms names utf8) steps o.2

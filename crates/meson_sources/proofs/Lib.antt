@@ -14,8 +14,7 @@ pub mod KeyTexts
 mod KeywordText
 mod Marked
 mod ListsBut
-mod MarksStand
-mod MarksThere
+mod InSlots
 mod NamedPlaces
 mod NamedSpots
 mod NewLists
@@ -93,9 +92,7 @@ mod Pairwise
 mod Regions
 mod Meetings
 mod WalkedOnce
-mod ArgumentsOnce
 mod SpotsDiffer
-pub mod SourcesMetOnce
 mod NamedGone
 mod SpotsHeld
 mod TargetNames

@@ -1,23 +1,21 @@
--- What is met in an expression is met once: its items stand at different places.
+-- What is met stands where it says, and is met once: its items stand at different places.
 use Rattle.std.specs.Prelude.{◌⊎◌}
 use Rattle.std.proofs.Common.{◌≡◌, ℕ, ◌≤◌, Bool, true, false, List, [], ◌∷◌, ◌++◌, Option, Some, refl, sym, ap, ◌∙◌, subst, inl, inr}
 use Rattle.meson_lex.specs.declared.kinds.Span.{Span}
 use Rattle.meson_syntax.proofs.parsing.Steps.{some-injective}
 use Rattle.meson_syntax.proofs.paths.Every.{Every, every-append}
 use Rattle.meson_calls.specs.declared.call.CallRef.{CallRef}
-use Rattle.meson_calls.specs.Project.{child}
+use Rattle.meson_calls.specs.Project.{Project, child}
 use Rattle.meson_calls.specs.Roles.{one_of}
-use Rattle.meson_variables.specs.Expansion.{Expansion, Item, Mark, Slot, both_expanded, empty, fixed, in_list, known, met, nothing_met, opaque, or_empty, within}
+use Rattle.meson_variables.specs.Expansion.{Expansion, Item, Mark, both_expanded, empty, known, met, nothing_met, opaque, or_empty, within}
 use Rattle.meson_variables.specs.TargetSources.{items}
 use Rattle.meson_sources.proofs.MarkLists.{below, below_child}
 use Rattle.meson_sources.proofs.NamedSpots.{every_weaker}
 use Rattle.meson_sources.proofs.Pairwise.{Pairwise, pairwise_append}
 use Rattle.meson_sources.proofs.PlacesBelow.{below_steps}
+use Rattle.meson_sources.proofs.Standings.{MarkStands, OtherPlace, SlotFits}
 
--- ---- lists of items
-
-abbrev pub OtherPlace : Item Span → Item Span → Type 0
-OtherPlace i j = i.place ≡ j.place → ⊥
+-- ---- marks
 
 pub items_both : (ms ns : List (Mark Span)) → items (ms ++ ns) ≡ items ms ++ items ns
 items_both [] ns = refl
@@ -25,9 +23,13 @@ items_both (known i ∷ ms) ns = ap (λ l. i ∷ l) (items_both ms ns)
 items_both (opaque ∷ ms) ns = items_both ms ns
 items_both (empty c ∷ ms) ns = items_both ms ns
 
-items_kept : (c : CallRef) (ms : List (Mark Span)) → items ms ≡ items (or_empty c ms)
-items_kept c [] = refl
-items_kept c (m ∷ ms) = refl
+or_empty_same : (c : CallRef) (ms : List (Mark Span)) → (ms ≡ [] → ⊥) → ms ≡ or_empty c ms
+or_empty_same c [] some = absurd (some refl)
+or_empty_same c (m ∷ ms) some = refl
+
+pub some_within : (c : CallRef) (ms : List (Mark Span)) → or_empty c ms ≡ [] → ⊥
+some_within c [] none = cc
+some_within c (m ∷ ms) none = cc
 
 -- ---- regions below a place
 
@@ -45,19 +47,9 @@ pub other_child : (c q : CallRef) (n k : ℕ) → Beneath (child c n) q → Bene
 other_child c q n k u w =
     let steps : n ∷ u.0 ≡ k ∷ w.0 = below_steps c _ _ (sym (below_child c n u.0) ∙ sym u.1 ∙ w.1 ∙ below_child c k w.0) in cc
 
--- what stands in the list of a place is its child
-abbrev pub SlotFits : Slot → CallRef → Type 0
-SlotFits (in_list c n) q = q ≡ child c n
-SlotFits fixed q = Unit {0}
-
 -- ---- what is met
 
--- Each item of marks stands at another place than the others, and its slot is its place.
-pub record ItemsApart (ms : List (Mark Span)) : Type 0 where
-  pub fit : Every (λ (i : Item Span). SlotFits i.slot i.place) (items ms)
-  pub differ : Pairwise OtherPlace (items ms)
-
-module _ (In : Option (List ℕ) → CallRef → Type 0) where
+module _ (p : Project Span) (In : Option (List ℕ) → CallRef → Type 0) where
   -- of a variable that was followed between
   pub record New (f g : List (List ℕ)) (v : Option (List ℕ)) : Type 0 where
     pub name : List ℕ
@@ -72,19 +64,20 @@ module _ (In : Option (List ℕ) → CallRef → Type 0) where
     pub from : ((i.variable ≡ v) × Own i.place) ⊎ New f g i.variable
 
   -- what is met from a variable on, where those were followed before
-  pub record MetOnce (Own : CallRef → Type 0) (v : Option (List ℕ)) (f : List (List ℕ)) (e : Expansion Span) : Type 0 where
+  pub record Meets (Own : CallRef → Type 0) (v : Option (List ℕ)) (f : List (List ℕ)) (e : Expansion Span) : Type 0 where
     pub more : (x : List ℕ) → one_of f x ≡ true → one_of e.followed x ≡ true
+    pub stand : Every (MarkStands p) e.marks
     pub each : Every (Comes Own v f e.followed) (items e.marks)
     pub differ : Pairwise OtherPlace (items e.marks)
 
   abbrev pub Known : Option (List ℕ) → List (List ℕ) → Type 0
   Known v f = (x : List ℕ) → v ≡ Some x → one_of f x ≡ true
 
-  pub none_met : (Own : CallRef → Type 0) (v : Option (List ℕ)) (f : List (List ℕ)) → MetOnce Own v f (nothing_met f)
-  none_met Own v f = record { more = λ x is. is; each = tt; differ = tt }
+  pub none_met : (Own : CallRef → Type 0) (v : Option (List ℕ)) (f : List (List ℕ)) → Meets Own v f (nothing_met f)
+  none_met Own v f = record { more = λ x is. is; stand = tt; each = tt; differ = tt }
 
-  pub opaque_once : (Own : CallRef → Type 0) (v : Option (List ℕ)) (f : List (List ℕ)) → MetOnce Own v f (met opaque f)
-  opaque_once Own v f = record { more = λ x is. is; each = tt; differ = tt }
+  pub opaque_once : (Own : CallRef → Type 0) (v : Option (List ℕ)) (f : List (List ℕ)) → Meets Own v f (met opaque f)
+  opaque_once Own v f = record { more = λ x is. is; stand = (tt, tt); each = tt; differ = tt }
 
   -- the same of other regions, and where more was followed behind it, or less before it
   comes_too : (Own Wide : CallRef → Type 0) (v : Option (List ℕ)) (f g f2 g2 : List (List ℕ)) → ((q : CallRef) → Own q → Wide q) → ((x : List ℕ) → one_of f x ≡ false → one_of f2 x ≡ false)
@@ -95,19 +88,21 @@ module _ (In : Option (List ℕ) → CallRef → Type 0) where
       go (inl own) = inl (own.0, to i.place own.1)
       go (inr new) = inr (record { name = new.name; is = new.is; not_yet = not_yet new.name new.not_yet; now = now new.name new.now })
 
-  pub wider : (Own Wide : CallRef → Type 0) (v : Option (List ℕ)) (f : List (List ℕ)) (e : Expansion Span) → ((q : CallRef) → Own q → Wide q) → MetOnce Own v f e → MetOnce Wide v f e
+  pub wider : (Own Wide : CallRef → Type 0) (v : Option (List ℕ)) (f : List (List ℕ)) (e : Expansion Span) → ((q : CallRef) → Own q → Wide q) → Meets Own v f e → Meets Wide v f e
   wider Own Wide v f e to m = record {
     more = m.more;
+    stand = m.stand;
     each = every_weaker _ _ (comes_too Own Wide v f e.followed f e.followed to (λ x is. is) (λ x is. is)) (items e.marks) m.each;
     differ = m.differ;
   }
 
-  pub within_once : (Own : CallRef → Type 0) (v : Option (List ℕ)) (f : List (List ℕ)) (c : CallRef) (e : Expansion Span) → MetOnce Own v f e → MetOnce Own v f (within c e)
-  within_once Own v f c e m = record { more = m.more; each = subst (Every (Comes Own v f e.followed)) (items_kept c e.marks) m.each; differ = subst (Pairwise OtherPlace) (items_kept c e.marks) m.differ }
+  -- in the list at a place, in which something is met
+  pub within_once : (Own : CallRef → Type 0) (v : Option (List ℕ)) (f : List (List ℕ)) (c : CallRef) (e : Expansion Span) → (e.marks ≡ [] → ⊥) → Meets Own v f e → Meets Own v f (within c e)
+  within_once Own v f c e some m = subst (λ ms. Meets Own v f (record { marks = ms; followed = e.followed })) (or_empty_same c e.marks some) m
 
   module _ (one_region : (a b : Option (List ℕ)) (q : CallRef) → In a q → In b q → a ≡ b) where
     module _ (Own Next Both : CallRef → Type 0) (to : (q : CallRef) → Own q → Both q) (next : (q : CallRef) → Next q → Both q) (apart : (q : CallRef) → Own q → Next q → ⊥)
-        (v : Option (List ℕ)) (f : List (List ℕ)) (known : Known v f) (e rest : Expansion Span) (m : MetOnce Own v f e) (r : MetOnce Next v e.followed rest) where
+        (v : Option (List ℕ)) (f : List (List ℕ)) (known : Known v f) (e rest : Expansion Span) (m : Meets Own v f e) (r : Meets Next v e.followed rest) where
       not_before : (x : List ℕ) → one_of e.followed x ≡ false → one_of f x ≡ false
       not_before x not = go (one_of f x) refl
         where
@@ -132,7 +127,7 @@ module _ (In : Option (List ℕ) → CallRef → Type 0) where
               let names : new.name ≡ its.name = some-injective _ _ (sym new.is ∙ one ∙ its.is) in
               let both : true ≡ false = sym new.now ∙ ap (one_of e.followed) names ∙ its.not_yet in cc
 
-      pub both_once : MetOnce Both v f (both_expanded e rest)
+      pub both_once : Meets Both v f (both_expanded e rest)
       both_once =
           let is = items e.marks in
           let js = items rest.marks in
@@ -142,6 +137,7 @@ module _ (In : Option (List ℕ) → CallRef → Type 0) where
           let crossed = every_weaker (Comes Own v f e.followed) (λ i. Every (OtherPlace i) js) (λ i a. every_weaker (Comes Next v e.followed rest.followed) (OtherPlace i) (λ j b. across i j a b) js r.each) is m.each in
           record {
             more = λ x is. r.more x (m.more x is);
+            stand = every-append (MarkStands p) e.marks rest.marks m.stand r.stand;
             each = subst (Every (Comes Both v f rest.followed)) (sym (items_both e.marks rest.marks)) all;
             differ = subst (Pairwise OtherPlace) (sym (items_both e.marks rest.marks)) (pairwise_append OtherPlace is js m.differ r.differ crossed);
           }

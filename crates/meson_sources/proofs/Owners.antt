@@ -1,6 +1,6 @@
 -- The variable to whose value a path leads; no statement stands in an expression.
 use Rattle.std.specs.Prelude.{not, ◌&&◌, if◌then◌else◌, bytes_eq, option_and_then}
-use Rattle.std.proofs.Common.{◌≡◌, ℕ, zero, suc, ◌+◌, Bool, true, false, List, [], ◌∷◌, ◌++◌, Option, Some, None, refl, sym, ap, ◌∙◌, arith}
+use Rattle.std.proofs.Common.{◌≡◌, ℕ, zero, suc, ◌+◌, Bool, true, false, List, [], ◌∷◌, ◌++◌, Option, Some, None, refl, sym, ap, ◌∙◌, subst, arith}
 use Rattle.meson_lex.specs.declared.kinds.Span.{Span}
 use Rattle.meson_syntax.specs.declared.operator.Assignment.{Assignment}
 use Rattle.meson_syntax.specs.Children.{Any, an_expression, a_statement, a_block, child_nodes, node_at, arguments_parts, operands_parts, tail_parts, tails_parts, expression_parts}
@@ -12,11 +12,12 @@ use Rattle.meson_syntax.proofs.paths.Reaching.{and-then-some}
 use Rattle.meson_calls.specs.declared.call.CallRef.{CallRef}
 use Rattle.meson_calls.specs.Parts.{Part, parts}
 use Rattle.meson_calls.specs.Parts as part
-use Rattle.meson_calls.specs.Project.{BuildFile, Project, Placed, placed, child, nth_file}
+use Rattle.meson_calls.specs.Project.{BuildFile, Project, Placed, placed, child, expression_at, nth_file}
 use Rattle.meson_variables.specs.TargetSources.{or_option}
 use Rattle.meson_variables.specs.Variables.{Assigned, part_assigned, assigned_by, assignments, is_outermost, only_value, is_set_otherwise, all_known, single}
 use Rattle.meson_calls.specs.Notes.{is_set}
 use Rattle.meson_calls.proofs.CallsReached.{InProject, every_chosen, every_part}
+use Rattle.meson_calls.proofs.ExpressionsAt.{assigned_stands}
 use Rattle.meson_calls.proofs.Reached.{any}
 
 module _ {S : Type 0} where
@@ -104,7 +105,7 @@ module _ {S : Type 0} where
 
 -- ---- the assignment of the only value
 
-pub record NamedAt (p : Project Span) (x : List ℕ) (at : CallRef) : Type 0 where
+pub record NamedAt (p : Project Span) (x : List ℕ) (at : CallRef) (it : Expression Span) : Type 0 where
   pub file : BuildFile Span
   pub is_file : nth_file p at.file ≡ Some file
   pub span : Span
@@ -113,6 +114,7 @@ pub record NamedAt (p : Project Span) (x : List ℕ) (at : CallRef) : Type 0 whe
   pub value : Expression Span
   pub is_node : node_at (a_block (block_of file.tree)) at.path.steps ≡ Some (a_statement (assign span name how value))
   pub is_name : bytes_eq name.text x ≡ true
+  pub stands : expression_at p (child at 0) ≡ Some it
 
 file_of : (p : Project Span) (q : Placed (Part Span)) (i : InProject 0 p q) → nth_file p q.place.file ≡ Some i.file
 file_of p q i =
@@ -121,14 +123,26 @@ file_of p q i =
 
 module _ (p : Project Span) (x : List ℕ) where
   abbrev AssignedAt : Placed (Assigned Span) → Type 0
-  AssignedAt a = NamedAt p x a.place
+  AssignedAt a = NamedAt p x a.place a.it.value
 
   assigned_at : (q : Placed (Part Span)) (v : Assigned Span) → InProject 0 p q → part_assigned x q.it ≡ Some v → AssignedAt (placed q.place v)
   assigned_at q v i is = go q.it refl is
     where
       given : (s : Span) (y : Name Span) (a : Assignment) (e : Expression Span) (b : Bool) → bytes_eq y.text x ≡ b → q.it ≡ part.a_statement (assign s y a e) → (if b then Some (record { value = e; sets = is_set a }) else None) ≡ Some v
           → AssignedAt (placed q.place v)
-      given s y a e true named_so same k = record { file = i.file; is_file = file_of p q i; span = s; name = y; how = a; value = e; is_node = i.is_node ∙ ap (λ z. Some (any z)) same; is_name = named_so }
+      given s y a e true named_so same k =
+          let here : record { value = e; sets = is_set a } ≡ v = cc in
+          record {
+            file = i.file;
+            is_file = file_of p q i;
+            span = s;
+            name = y;
+            how = a;
+            value = e;
+            is_node = i.is_node ∙ ap (λ z. Some (any z)) same;
+            is_name = named_so;
+            stands = assigned_stands p q s y a e i same ∙ ap (λ (w : Assigned Span). Some w.value) here;
+          }
       given s y a e false named_so same k = absurd cc
 
       stated : (s : Statement Span) → q.it ≡ part.a_statement s → assigned_by x s ≡ Some v → AssignedAt (placed q.place v)
@@ -139,18 +153,23 @@ module _ (p : Project Span) (x : List ℕ) where
       go (part.an_expression f) same k = absurd cc
       go (part.a_statement s) same k = stated s same k
 
-  only_named : (values : List (Placed (Assigned Span))) (v : Placed (Expression Span)) → Every AssignedAt values → only_value values ≡ Some v → (at : CallRef) × (v.place ≡ child at 0) × NamedAt p x at
+  only_named : (values : List (Placed (Assigned Span))) (v : Placed (Expression Span)) → Every AssignedAt values → only_value values ≡ Some v → (at : CallRef) × (v.place ≡ child at 0) × NamedAt p x at v.it
   only_named [] v all is = absurd cc
   only_named (a ∷ []) v all is = go (a.it.sets && is_outermost a.place.path.steps) is
     where
-      go : (b : Bool) → (if b then Some (placed (child a.place 0) a.it.value) else None) ≡ Some v → (at : CallRef) × (v.place ≡ child at 0) × NamedAt p x at
-      go true k = (a.place, sym (ap (λ (w : Placed (Expression Span)). w.place) (some-injective _ v k)), all.0)
+      go : (b : Bool) → (if b then Some (placed (child a.place 0) a.it.value) else None) ≡ Some v → (at : CallRef) × (v.place ≡ child at 0) × NamedAt p x at v.it
+      go true k =
+          let same = some-injective _ v k in
+          (a.place, sym (ap (λ (w : Placed (Expression Span)). w.place) same), subst (λ (w : Placed (Expression Span)). NamedAt p x a.place w.it) same all.0)
       go false k = absurd cc
   only_named (a ∷ b ∷ more) v all is = absurd cc
 
-  pub single_named : (v : Placed (Expression Span)) → single p x ≡ Some v → (at : CallRef) × (v.place ≡ child at 0) × NamedAt p x at
+  pub single_named : (v : Placed (Expression Span)) → single p x ≡ Some v → (at : CallRef) × (v.place ≡ child at 0) × NamedAt p x at v.it
   single_named v is = go (all_known p && not (is_set_otherwise p x)) is
     where
-      go : (b : Bool) → (if b then only_value (assignments p x) else None) ≡ Some v → (at : CallRef) × (v.place ≡ child at 0) × NamedAt p x at
+      go : (b : Bool) → (if b then only_value (assignments p x) else None) ≡ Some v → (at : CallRef) × (v.place ≡ child at 0) × NamedAt p x at v.it
       go true k = only_named (assignments p x) v (every_chosen (InProject 0 p) AssignedAt (part_assigned x) assigned_at (parts p) (every_part 0 p)) k
       go false k = absurd cc
+
+  pub single_stands : (v : Placed (Expression Span)) → single p x ≡ Some v → expression_at p v.place ≡ Some v.it
+  single_stands v is = let s = single_named v is in ap (expression_at p) s.1 ∙ s.2.stands

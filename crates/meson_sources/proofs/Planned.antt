@@ -22,8 +22,7 @@ use Rattle.meson_steps.specs.Meanings.{AreMeant}
 use Rattle.meson_sources.proofs.SourcesAddable.{sources_may_be_added}
 use Rattle.meson_sources.proofs.ExtrasAddable.{extras_may_be_added}
 use Rattle.meson_sources.proofs.RemovedSources.{sources_may_be_removed, extras_may_be_removed}
-use Rattle.meson_sources.proofs.SourcesMetOnce.{TargetApart, target_apart}
-use Rattle.meson_sources.proofs.TargetMarks.{sources_stand, extras_stand}
+use Rattle.meson_sources.proofs.TargetMarks.{FilesStand, files_stand}
 use Rattle.meson_sources.proofs.TargetsFound.{targets_stand}
 use Rattle.meson_steps.proofs.WentWell.{then_was}
 
@@ -31,12 +30,12 @@ module _ (old : Loaded) (whole : IsProject old) where
   abbrev p : Project Span
   p = project old
 
-  changed : (change : TargetChange) (c : Placed (Call Span)) → TargetThere p c → TargetApart p c → (names : List (List ℕ)) → All IsUtf8 names → (steps : List Step) → change_steps p change names c ≡ Ok steps
+  changed : (change : TargetChange) (c : Placed (Call Span)) → TargetThere p c → FilesStand p c → (names : List (List ℕ)) → All IsUtf8 names → (steps : List Step) → change_steps p change names c ≡ Ok steps
       → AreDoable steps (plain_trees old)
-  changed SourcesAdded c there apart names utf8 steps is = sources_may_be_added old whole.parsed c there (sources_stand old whole.parsed c there) names utf8 steps is
-  changed SourcesRemoved c there apart names utf8 steps is = sources_may_be_removed old whole.parsed c (sources_stand old whole.parsed c there) apart.sources names steps is
-  changed ExtraAdded c there apart names utf8 steps is = extras_may_be_added old whole.parsed c there (extras_stand old whole.parsed c there) names utf8 steps is
-  changed ExtraRemoved c there apart names utf8 steps is = extras_may_be_removed old whole.parsed c (extras_stand old whole.parsed c there) apart.extras names steps is
+  changed SourcesAdded c there files names utf8 steps is = sources_may_be_added old whole.parsed c there files.sources names utf8 steps is
+  changed SourcesRemoved c there files names utf8 steps is = sources_may_be_removed old whole.parsed c there files.sources names utf8 steps is
+  changed ExtraAdded c there files names utf8 steps is = extras_may_be_added old whole.parsed c there files.extras names utf8 steps is
+  changed ExtraRemoved c there files names utf8 steps is = extras_may_be_removed old whole.parsed c there files.extras names utf8 steps is
 
   -- the steps on a target
   target_means : (target : List ℕ) (change : TargetChange) (names : List (List ℕ)) → All IsUtf8 names → (list : List ListStep) → AreMeant (target_steps p target change names) list → ArePlanned old (target_steps p target change names) list
@@ -46,7 +45,7 @@ module _ (old : Loaded) (whole : IsProject old) where
       record {
         steps = meant.steps;
         are_planned = meant.is;
-        are_doable = record { bare = meant.bare; doable = changed change c.0 there (target_apart old whole.parsed target c.0 c.1) names utf8 meant.steps c.2 };
+        are_doable = record { bare = meant.bare; doable = changed change c.0 there (files_stand old whole.parsed target c.0 c.1) names utf8 meant.steps c.2 };
       }
 
   module _ {V : Type 0} (list : V → List ListStep) where

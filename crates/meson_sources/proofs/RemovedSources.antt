@@ -20,9 +20,8 @@ use Rattle.meson_calls.specs.Calls as calls
 use Rattle.meson_calls.specs.declared.refusal.Refusal.TheVariants.{NotRemovable}
 use Rattle.meson_sources.specs.SourceEdits.{Spot, spot_of, spots_of, spots_by, spots_named, items_of, has_text, removal_steps, removed_at, extra_marks, extra_key, checked_extra}
 use Rattle.meson_steps.specs.Names.{distinct, checked_names}
-use Rattle.meson_sources.proofs.Standings.{SlotStands, MarkStands, SpotStands, SourcesMayBeRemoved, ExtrasMayBeRemoved}
+use Rattle.meson_sources.proofs.Standings.{AllStand, SlotStands, MarkStands, SpotStands, SourcesMayBeRemoved, ExtrasMayBeRemoved}
 use Rattle.meson_steps.specs.Steps.{Step}
-use Rattle.meson_sources.proofs.Meetings.{ItemsApart}
 use Rattle.meson_sources.proofs.SpotsDiffer.{spots_apart}
 use Rattle.meson_sources.proofs.SpotsWithout.{removals_doable}
 use Rattle.meson_steps.proofs.WentWell.{then_was, once_was}
@@ -94,21 +93,21 @@ module _ (old : Loaded) (parsed : AreParsed old.files old.parsed) where
   abbrev spots_steps : List (Mark Span) → List (List ℕ) → Result (List Step) Refusal
   spots_steps marks names = removed_at (spots_named marks (distinct names))
 
-  steps_doable : (marks : List (Mark Span)) → All (MarkStands (project old)) marks → ItemsApart marks → (names : List (List ℕ)) (steps : List Step) → spots_steps marks names ≡ Ok steps → AreDoable steps (plain_trees old)
-  steps_doable marks all apart names steps is =
+  steps_doable : (marks : List (Mark Span)) → AllStand (project old) marks → (names : List (List ℕ)) (steps : List Step) → spots_steps marks names ≡ Ok steps → AreDoable steps (plain_trees old)
+  steps_doable marks all names steps is =
       let found = then_was (spots_named marks (distinct names)) (λ spots. Ok (removal_steps spots)) steps is in
       subst (λ ss. AreDoable ss (plain_trees old)) (ok-injective (removal_steps found.0) steps found.2)
-      (removals_doable old parsed found.0 (named_stand (project old) marks all (distinct names) found.0 found.1) (spots_apart marks apart names found.0 found.1))
+      (removals_doable old parsed found.0 (named_stand (project old) marks all.stand (distinct names) found.0 found.1) (spots_apart (project old) marks all names found.0 found.1))
 
 pub sources_may_be_removed : SourcesMayBeRemoved
-sources_may_be_removed old parsed c all apart names steps is =
+sources_may_be_removed old parsed c there all names utf8 steps is =
     let p = project old in
     let marks = source_marks p c in
     let keys = calls.keyword sources_key c.it in
     let a = then_was (checked_names names) (λ _. then_ok (once sources_key keys marks) (λ ms. spots_steps old parsed ms names)) steps is in
     let b = then_was (once sources_key keys marks) (λ ms. spots_steps old parsed ms names) steps a.2 in
     let same = once_was sources_key keys marks b.0 b.1 in
-    steps_doable old parsed marks all apart names steps (ap (λ ms. spots_steps old parsed ms names) same ∙ b.2)
+    steps_doable old parsed marks all names steps (ap (λ ms. spots_steps old parsed ms names) same ∙ b.2)
 
 -- the marks that are checked are all that the argument holds
 extra_marks_are : (p : Project Span) (c : Placed (Call Span)) (names : List (List ℕ)) (marks : List (Mark Span)) → checked_extra p c names ≡ Ok marks → extra_marks p c ≡ marks
@@ -121,8 +120,8 @@ extra_marks_are p c names marks is =
     once_was extra_key keys ms marks b.2
 
 pub extras_may_be_removed : ExtrasMayBeRemoved
-extras_may_be_removed old parsed c all apart names steps is =
+extras_may_be_removed old parsed c there all names utf8 steps is =
     let p = project old in
     let a = then_was (checked_extra p c names) (λ ms. spots_steps old parsed ms names) steps is in
     let same = extra_marks_are p c names a.0 a.1 in
-    steps_doable old parsed (extra_marks p c) all apart names steps (ap (λ ms. spots_steps old parsed ms names) same ∙ a.2)
+    steps_doable old parsed (extra_marks p c) all names steps (ap (λ ms. spots_steps old parsed ms names) same ∙ a.2)

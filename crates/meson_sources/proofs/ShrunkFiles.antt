@@ -42,19 +42,16 @@ use Rattle.meson_sources.proofs.LeftFiles.{CallStays, FilesStay, NamedGoes, call
 use Rattle.meson_sources.proofs.Losses.{EachLoses, Loses}
 use Rattle.meson_sources.proofs.LostArguments.{FirstStays, keyed_left, keys_stay, whole_left}
 use Rattle.meson_sources.proofs.LostMarks.{Left, slot_gone, stand_left}
-use Rattle.meson_sources.proofs.Meetings.{ItemsApart}
 use Rattle.meson_sources.proofs.NamedSpots.{named_spots}
 use Rattle.meson_sources.proofs.NodesMoved.{place_left}
 use Rattle.meson_sources.proofs.RemovedSources.{named_stand}
 use Rattle.meson_sources.proofs.RemovedSpots.{all_in}
-use Rattle.meson_sources.proofs.SourcesMetOnce.{target_apart}
 use Rattle.meson_sources.proofs.SpotsApart.{AreApart}
 use Rattle.meson_sources.proofs.SpotsDiffer.{spots_apart}
 use Rattle.meson_sources.proofs.SpotsHeld.{Held, items_held}
-use Rattle.meson_sources.proofs.Standings.{MarkStands}
+use Rattle.meson_sources.proofs.Standings.{AllStand}
 use Rattle.meson_sources.proofs.StringsThere.{StringIn}
-use Rattle.meson_sources.proofs.TargetMarks.{extras_stand, sources_stand}
-use Rattle.meson_sources.proofs.TargetsFound.{targets_stand}
+use Rattle.meson_sources.proofs.TargetMarks.{files_stand}
 use Rattle.meson_sources.proofs.TellsKept.{FirstIs}
 
 -- what is met of a target stands where its slots say
@@ -110,11 +107,11 @@ module _ (what : FileKind) (holds : MetHolds what) (lost : MetLost what) where
   module _ (old new : Loaded) (is : IsProject old) (same_names : file_names new ≡ file_names old) (id : List ℕ) (names : List (List ℕ)) (steps : List Step) (done : all_stepped steps (plain_trees old) ≡ Some (plain_trees new)) where
     abbrev Shrinks : Placed (Call Span) → Type 0
     Shrinks c =
-        the_call (project old) role.Target id ≡ Ok c → All (MarkStands (project old)) (what.marks (project old) c) → ItemsApart (what.marks (project old) c) → (ms : List (Mark Span)) → once what.key (keyword what.key c.it) (what.marks (project old) c) ≡ Ok ms → removed_at (spots_named ms (distinct names)) ≡ Ok steps
+        the_call (project old) role.Target id ≡ Ok c → AllStand (project old) (what.marks (project old) c) → (ms : List (Mark Span)) → once what.key (keyword what.key c.it) (what.marks (project old) c) ≡ Ok ms → removed_at (spots_named ms (distinct names)) ≡ Ok steps
         → FilesShrink what.read names id c (project old) (project new)
 
     of_call : (c : CallRef) (t : CallIn (project old) c) → one_of target_functions t.name.text ≡ true → Shrinks (called t)
-    of_call c t target found stands differ ms once_is gone =
+    of_call c t target found stands ms once_is gone =
         let p = project old in
         let marks = what.marks p (called t) in
         let stand = trees_stand old.files old.parsed is.parsed in
@@ -123,8 +120,8 @@ module _ (what : FileKind) (holds : MetHolds what) (lost : MetLost what) where
         let w = then_was (spots_named marks (distinct names)) (λ spots. Ok (removal_steps spots)) steps (ap (λ ms. removed_at (spots_named ms (distinct names))) same ∙ gone) in
         let same_steps : removal_steps w.0 ≡ steps = let e = w.2 in cc in
         let of_names = named_spots marks (distinct names) w.0 w.1 in
-        let are = all_in old w.0 (named_stand p marks stands (distinct names) w.0 w.1) in
-        let apart = spots_apart marks differ names w.0 w.1 in
+        let are = all_in old w.0 (named_stand p marks stands.stand (distinct names) w.0 w.1) in
+        let apart = spots_apart p marks stands names w.0 w.1 in
         let made = ap (λ l. all_stepped l (plain_trees old)) same_steps ∙ done in
         let s = stay old stand c t target new same_names names w.0 of_names are apart made (few_once what.key key marks ms once_is) in
         let n = named old stand c t target new same_names names w.0 of_names are apart made id found in
@@ -158,7 +155,7 @@ all-sources-shrink old new is same_names id c found names steps made done =
     let key = keyword sources_key c.it in
     let a = then_was (checked_names names) (λ _. then_ok (once sources_key key marks) (λ ms. removed_at (spots_named ms (distinct names)))) steps made in
     let b = then_was (once sources_key key marks) (λ ms. removed_at (spots_named ms (distinct names))) steps a.2 in
-    files_shrink of_sources sources_hold sources_lost old new is same_names id names steps done c found (sources_stand old is.parsed c (targets_stand p id c found)) (target_apart old is.parsed id c found).sources b.0 b.1 b.2
+    files_shrink of_sources sources_hold sources_lost old new is same_names id names steps done c found (files_stand old is.parsed id c found).sources b.0 b.1 b.2
 
 -- ---- extra files
 
@@ -178,4 +175,4 @@ all-extras-shrink old new is same_names id c found names steps made done =
     let p = project old in
     let marks = extra_marks p c in
     let a = then_was (checked_extra p c names) (λ ms. removed_at (spots_named ms (distinct names))) steps made in
-    files_shrink of_extras extras_hold extras_lost old new is same_names id names steps done c found (extras_stand old is.parsed c (targets_stand p id c found)) (target_apart old is.parsed id c found).extras a.0 (extra_once p c names a.0 a.1) a.2
+    files_shrink of_extras extras_hold extras_lost old new is same_names id names steps done c found (files_stand old is.parsed id c found).extras a.0 (extra_once p c names a.0 a.1) a.2

@@ -64,4 +64,4 @@ sources_may_be_added old are c t stand names utf8 steps is =
     let new = new_names ms names in
     let checked = then_was (checked_names names) (λ _. once sources_key (keyword sources_key c.it) (inserted_in p l new)) steps is in
     let same = once_was sources_key (keyword sources_key c.it) (inserted_in p l new) steps checked.2 in
-    subst (λ s. AreDoable s (plain_trees old)) same (home_doable old are l (sources_home p c t ms stand) new (new_texts ms names utf8))
+    subst (λ s. AreDoable s (plain_trees old)) same (home_doable old are l (sources_home p c t ms stand.stand) new (new_texts ms names utf8))

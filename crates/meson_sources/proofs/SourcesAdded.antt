@@ -31,7 +31,7 @@ use Rattle.meson_sources.proofs.Homes.{Home, all_stand, list_levels}
 use Rattle.meson_sources.proofs.OnlyLists.{inserted_only, unchanged}
 use Rattle.meson_sources.proofs.PlainCounts.{count_erased, elements_are, plain_count, plain_count_is}
 use Rattle.meson_sources.proofs.SourcesAddable.{sources_home}
-use Rattle.meson_sources.proofs.TargetMarks.{sources_stand}
+use Rattle.meson_sources.proofs.TargetMarks.{files_stand}
 use Rattle.meson_sources.proofs.TargetsFound.{targets_stand}
 
 -- ---- a step, by what it leaves
@@ -153,4 +153,4 @@ sources-are-added old is id c found names steps after made done =
     let new = new_names ms names in
     let checked = then_was (checked_names names) (λ _. once sources_key (keyword sources_key c.it) (inserted_in p l new)) steps made in
     let same = once_was sources_key (keyword sources_key c.it) (inserted_in p l new) steps checked.2 in
-    gets old is l (sources_home p c t ms (sources_stand old is.parsed c t)) new after (ap (λ s. all_stepped s (plain_trees old)) same ∙ done)
+    gets old is l (sources_home p c t ms (files_stand old is.parsed id c found).sources.stand) new after (ap (λ s. all_stepped s (plain_trees old)) same ∙ done)

@@ -1,5 +1,5 @@
 -- The sources and the extra files that are named are gone from all lists that held them, and nothing else is.
-use Rattle.std.specs.Prelude.{All, Result, Ok}
+use Rattle.std.specs.Prelude.{Result, Ok}
 use Rattle.std.proofs.Common.{◌≡◌, ℕ, List, Some, ap, ◌∙◌}
 use Rattle.meson_lex.specs.declared.kinds.Span.{Span}
 use Rattle.meson_splice.specs.Patch.{then_ok}
@@ -17,19 +17,16 @@ use Rattle.meson_steps.proofs.PlainTrees.{trees_stand}
 use Rattle.meson_steps.proofs.WentWell.{once_was, then_was}
 use Rattle.meson_sources.specs.Effects.{ExtraIsRemoved, NamesGo, SourcesAreRemoved}
 use Rattle.meson_sources.specs.SourceEdits.{checked_extra, extra_marks, removal_steps, removed_at, spots_named}
-use Rattle.meson_sources.proofs.Standings.{MarkStands}
+use Rattle.meson_sources.proofs.Standings.{AllStand}
 use Rattle.meson_sources.proofs.ExtrasAddable.{checked_marks}
-use Rattle.meson_sources.proofs.Meetings.{ItemsApart}
 use Rattle.meson_sources.proofs.NamedSpots.{named_spots}
 use Rattle.meson_sources.proofs.TreesLeft.{trees_left}
 use Rattle.meson_sources.proofs.RemovedSources.{named_stand}
 use Rattle.meson_sources.proofs.RemovedSpots.{all_in}
-use Rattle.meson_sources.proofs.SourcesMetOnce.{target_apart}
 use Rattle.meson_sources.proofs.SpotsDiffer.{spots_apart}
-use Rattle.meson_sources.proofs.TargetMarks.{extras_stand, sources_stand}
-use Rattle.meson_sources.proofs.TargetsFound.{targets_stand}
+use Rattle.meson_sources.proofs.TargetMarks.{files_stand}
 
-module _ (old : Loaded) (is : IsProject old) (marks : List (Mark Span)) (stand : All (MarkStands (project old)) marks) (apart : ItemsApart marks) where
+module _ (old : Loaded) (is : IsProject old) (marks : List (Mark Span)) (stand : AllStand (project old) marks) where
   abbrev spots_steps : List (List ℕ) → List (Mark Span) → Result (List Step) Refusal
   spots_steps names ms = removed_at (spots_named ms (distinct names))
 
@@ -40,32 +37,30 @@ module _ (old : Loaded) (is : IsProject old) (marks : List (Mark Span)) (stand :
       let same : removal_steps there ≡ steps = let r = found.2 in cc in
       let stepped : all_stepped (removal_steps there) (plain_trees old) ≡ Some after = ap (λ s. all_stepped s (plain_trees old)) same ∙ done in
       let stands = trees_stand old.files old.parsed is.parsed in
-      let are = all_in old found.0 (named_stand (project old) marks stand (distinct names) found.0 found.1) in
+      let are = all_in old found.0 (named_stand (project old) marks stand.stand (distinct names) found.0 found.1) in
       record {
         spots = found.0;
         are_spots = found.1;
         of_names = named_spots marks (distinct names) found.0 found.1;
-        left = trees_left there (plain_trees old) after stands are (spots_apart marks apart names there found.1) stepped;
+        left = trees_left there (plain_trees old) after stands are (spots_apart (project old) marks stand names there found.1) stepped;
       }
 
 pub sources-are-removed : SourcesAreRemoved
 sources-are-removed old is id c found names steps after made done =
     let p = project old in
     let marks = source_marks p c in
-    let stand = sources_stand old is.parsed c (targets_stand p id c found) in
-    let apart = (target_apart old is.parsed id c found).sources in
+    let stand = (files_stand old is.parsed id c found).sources in
     let keys = calls.keyword sources_key c.it in
-    let a = then_was (checked_names names) (λ _. then_ok (once sources_key keys marks) (spots_steps old is marks stand apart names)) steps made in
-    let b = then_was (once sources_key keys marks) (spots_steps old is marks stand apart names) steps a.2 in
+    let a = then_was (checked_names names) (λ _. then_ok (once sources_key keys marks) (spots_steps old is marks stand names)) steps made in
+    let b = then_was (once sources_key keys marks) (spots_steps old is marks stand names) steps a.2 in
     let same = once_was sources_key keys marks b.0 b.1 in
-    names_go old is marks stand apart names steps after (ap (spots_steps old is marks stand apart names) same ∙ b.2) done
+    names_go old is marks stand names steps after (ap (spots_steps old is marks stand names) same ∙ b.2) done
 
 pub extra-is-removed : ExtraIsRemoved
 extra-is-removed old is id c found names steps after made done =
     let p = project old in
     let marks = extra_marks p c in
-    let stand = extras_stand old is.parsed c (targets_stand p id c found) in
-    let apart = (target_apart old is.parsed id c found).extras in
-    let a = then_was (checked_extra p c names) (spots_steps old is marks stand apart names) steps made in
+    let stand = (files_stand old is.parsed id c found).extras in
+    let a = then_was (checked_extra p c names) (spots_steps old is marks stand names) steps made in
     let same = checked_marks p c names a.0 a.1 in
-    names_go old is marks stand apart names steps after (ap (spots_steps old is marks stand apart names) same ∙ a.2) done
+    names_go old is marks stand names steps after (ap (spots_steps old is marks stand names) same ∙ a.2) done

@@ -10,7 +10,7 @@ use Rattle.meson_syntax.proofs.parsing.Steps.{some-injective}
 use Rattle.meson_syntax.proofs.paths.Every.{Every}
 use Rattle.meson_syntax.proofs.paths.Reaching.{and-then-some, map-some}
 use Rattle.meson_calls.specs.declared.call.CallRef.{CallRef}
-use Rattle.meson_calls.specs.Project.{child, place}
+use Rattle.meson_calls.specs.Project.{Project, child, place}
 use Rattle.meson_calls.specs.Roles.{one_of}
 use Rattle.meson_variables.specs.Expansion.{Item, Mark, Slot, fixed, in_list}
 use Rattle.meson_variables.specs.TargetSources.{items, opaque_count}
@@ -19,11 +19,11 @@ use Rattle.meson_steps.proofs.WentWell.{then_was}
 use Rattle.meson_sources.specs.Effects.{has_one_of, is_at, spot_at}
 use Rattle.meson_sources.specs.SourceEdits.{Spot, has_text, items_of, spot_of, spots_by, spots_named, spots_of}
 use Rattle.meson_sources.proofs.ListsBut.{both_true, same_one}
-use Rattle.meson_sources.proofs.Meetings.{ItemsApart, OtherPlace, SlotFits}
 use Rattle.meson_sources.proofs.NamedGone.{some_of}
 use Rattle.meson_sources.proofs.NamedSpots.{any_filtered, both_of, every_both, every_weaker, its_spot, named_spots, of_one, some_spots}
 use Rattle.meson_sources.proofs.Pairwise.{Pairwise, pairwise_append}
 use Rattle.meson_sources.proofs.SpotsApart.{Apart, AreApart}
+use Rattle.meson_sources.proofs.Standings.{AllStand, ItemFits, OtherPlace, SlotFits}
 
 -- ---- names each once
 
@@ -56,10 +56,10 @@ place_of_spot : (s : Spot) (slot : Slot) (q : CallRef) → SlotFits slot q → i
 place_of_spot s (in_list c n) q fits at = fits ∙ ap (λ (t : Spot). child t.list t.number) (sym (same_one s (spot_at c n) at))
 place_of_spot s fixed q fits at = absurd cc
 
-slots_differ : (is : List (Item Span)) → Every (λ (i : Item Span). SlotFits i.slot i.place) is → Pairwise OtherPlace is → Pairwise OtherSlot is
+slots_differ : (is : List (Item Span)) → Every ItemFits is → Pairwise OtherPlace is → Pairwise OtherSlot is
 slots_differ [] fit differ = tt
 slots_differ (i ∷ is) fit differ = (
-  every_both (λ (j : Item Span). SlotFits j.slot j.place) (OtherPlace i) (OtherSlot i) (λ j fits other s at its. other (place_of_spot s i.slot i.place fit.0 at ∙ sym (place_of_spot s j.slot j.place fits its))) is fit.1 differ.0,
+  every_both ItemFits (OtherPlace i) (OtherSlot i) (λ j fits other s at its. other (place_of_spot s i.slot i.place fit.0 at ∙ sym (place_of_spot s j.slot j.place fits its))) is fit.1 differ.0,
   slots_differ is fit.1 differ.1,
 )
 
@@ -130,5 +130,5 @@ module _ (marks : List (Mark Span)) (differ : Pairwise OtherSlot (items marks)) 
       spots_there (i ∷ others) here made = some_spots (spots_of (i ∷ others)) here made
 
 -- no spot is there twice
-pub spots_apart : (marks : List (Mark Span)) → ItemsApart marks → (names : List (List ℕ)) (spots : List Spot) → spots_named marks (distinct names) ≡ Ok spots → AreApart spots
-spots_apart marks a names spots is = found_apart marks (slots_differ (items marks) a.fit a.differ) (distinct names) (names_differ [] names) spots is
+pub spots_apart : (p : Project Span) (marks : List (Mark Span)) → AllStand p marks → (names : List (List ℕ)) (spots : List Spot) → spots_named marks (distinct names) ≡ Ok spots → AreApart spots
+spots_apart p marks a names spots is = found_apart marks (slots_differ (items marks) a.fit a.differ) (distinct names) (names_differ [] names) spots is

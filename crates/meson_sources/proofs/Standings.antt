@@ -6,14 +6,15 @@ use Rattle.meson_syntax.specs.declared.operator.Bracket.TheVariants as bracket
 use Rattle.meson_syntax.specs.declared.operator.StringKind.{StringKind}
 use Rattle.meson_syntax.specs.Paths.{nth}
 use Rattle.meson_syntax.specs.Tree.{Expression, string, plain}
+use Rattle.meson_syntax.proofs.paths.Every.{Every}
 use Rattle.meson_edit.specs.Edits.{elements}
 use Rattle.meson_calls.specs.declared.call.CallRef.{CallRef}
 use Rattle.meson_calls.specs.declared.call.Role.TheVariants as role
 use Rattle.meson_calls.specs.declared.refusal.Refusal.{Refusal}
-use Rattle.meson_calls.specs.Project.{Project, Placed}
+use Rattle.meson_calls.specs.Project.{Project, Placed, child}
 use Rattle.meson_calls.specs.Calls.{Call, first_argument}
-use Rattle.meson_variables.specs.Expansion.{Slot, in_list, fixed, Mark, known, opaque, empty}
-use Rattle.meson_variables.specs.TargetSources.{source_marks}
+use Rattle.meson_variables.specs.Expansion.{Item, Slot, in_list, fixed, Mark, known, opaque, empty}
+use Rattle.meson_variables.specs.TargetSources.{items, source_marks}
 use Rattle.meson_sources.specs.SourceEdits.{Spot, removal_steps, extra_marks, sources_added, sources_removed, extra_added, extra_removed}
 use Rattle.meson_calls.specs.Finding.{the_call}
 use Rattle.meson_calls.specs.Loading.{Loaded, AreParsed, project}
@@ -22,7 +23,7 @@ use Rattle.meson_steps.specs.ResultLimits.{plain_trees}
 use Rattle.meson_steps.specs.ListSteps.{AreDoable}
 use Rattle.meson_steps.specs.Steps.{Step}
 use Rattle.meson_syntax.specs.Operators.{holds_values}
-use Rattle.meson_sources.proofs.Meetings.{ItemsApart}
+use Rattle.meson_sources.proofs.Pairwise.{Pairwise}
 use Rattle.meson_sources.proofs.SpotsApart.{AreApart}
 
 -- ---- places
@@ -67,11 +68,22 @@ SpotStands p s = StringThere p s.list s.number
 abbrev pub TargetsStand : Type 0
 TargetsStand = (p : Project Span) (id : List ℕ) (c : Placed (Call Span)) → the_call p role.Target id ≡ Ok c → TargetThere p c
 
-abbrev pub SourcesStand : Type 0
-SourcesStand = (old : Loaded) → AreParsed old.files old.parsed → (c : Placed (Call Span)) → TargetThere (project old) c → All (MarkStands (project old)) (source_marks (project old) c)
+-- what stands in the list of a place is its child
+abbrev pub SlotFits : Slot → CallRef → Type 0
+SlotFits (in_list c n) q = q ≡ child c n
+SlotFits fixed q = Unit {0}
 
-abbrev pub ExtrasStand : Type 0
-ExtrasStand = (old : Loaded) → AreParsed old.files old.parsed → (c : Placed (Call Span)) → TargetThere (project old) c → All (MarkStands (project old)) (extra_marks (project old) c)
+abbrev pub ItemFits : Item Span → Type 0
+ItemFits i = SlotFits i.slot i.place
+
+abbrev pub OtherPlace : Item Span → Item Span → Type 0
+OtherPlace i j = i.place ≡ j.place → ⊥
+
+-- Each mark stands where it says, and each item at a place of its own.
+pub record AllStand (p : Project Span) (ms : List (Mark Span)) : Type 0 where
+  pub stand : All (MarkStands p) ms
+  pub fit : Every ItemFits (items ms)
+  pub differ : Pairwise OtherPlace (items ms)
 
 -- ---- what may be done
 
@@ -81,23 +93,17 @@ RemovalsDoable = (old : Loaded) → AreParsed old.files old.parsed → (spots : 
 -- a command whose steps may be done, by what its call holds
 abbrev pub MayBeDone : (Project Span → Placed (Call Span) → List (Mark Span)) → (Project Span → Placed (Call Span) → List (List ℕ) → Result (List Step) Refusal) → Type 0
 MayBeDone marks meant =
-    (old : Loaded) → AreParsed old.files old.parsed → (c : Placed (Call Span)) → TargetThere (project old) c → All (MarkStands (project old)) (marks (project old) c)
+    (old : Loaded) → AreParsed old.files old.parsed → (c : Placed (Call Span)) → TargetThere (project old) c → AllStand (project old) (marks (project old) c)
     → (names : List (List ℕ)) → All IsUtf8 names → (steps : List Step) → meant (project old) c names ≡ Ok steps → AreDoable steps (plain_trees old)
-
--- the same of a removal, where no item is met twice
-abbrev pub MayBeRemoved : (Project Span → Placed (Call Span) → List (Mark Span)) → (Project Span → Placed (Call Span) → List (List ℕ) → Result (List Step) Refusal) → Type 0
-MayBeRemoved marks meant =
-    (old : Loaded) → AreParsed old.files old.parsed → (c : Placed (Call Span)) → All (MarkStands (project old)) (marks (project old) c) → ItemsApart (marks (project old) c)
-    → (names : List (List ℕ)) (steps : List Step) → meant (project old) c names ≡ Ok steps → AreDoable steps (plain_trees old)
 
 abbrev pub SourcesMayBeAdded : Type 0
 SourcesMayBeAdded = MayBeDone source_marks sources_added
 
 abbrev pub SourcesMayBeRemoved : Type 0
-SourcesMayBeRemoved = MayBeRemoved source_marks sources_removed
+SourcesMayBeRemoved = MayBeDone source_marks sources_removed
 
 abbrev pub ExtrasMayBeAdded : Type 0
 ExtrasMayBeAdded = MayBeDone extra_marks extra_added
 
 abbrev pub ExtrasMayBeRemoved : Type 0
-ExtrasMayBeRemoved = MayBeRemoved extra_marks extra_removed
+ExtrasMayBeRemoved = MayBeDone extra_marks extra_removed

@@ -35,7 +35,6 @@ use Rattle.meson_sources.proofs.ExtrasAddable.{checked_marks}
 use Rattle.meson_sources.proofs.FileKinds.{FileKind, of_extras, of_sources}
 use Rattle.meson_sources.proofs.KeyCounts.{few_once}
 use Rattle.meson_sources.proofs.LeftFiles.{CallStays, NamedGoes}
-use Rattle.meson_sources.proofs.Meetings.{ItemsApart}
 use Rattle.meson_sources.proofs.NamedGone.{distinct_named}
 use Rattle.meson_sources.proofs.NamedSpots.{every_weaker, named_spots}
 use Rattle.meson_sources.proofs.OthersNamed.{distinct_others, not_name}
@@ -43,13 +42,11 @@ use Rattle.meson_sources.proofs.RemovalsJoined.{removals_join}
 use Rattle.meson_sources.proofs.RemovedSources.{named_stand}
 use Rattle.meson_sources.proofs.RemovedSpots.{all_in}
 use Rattle.meson_sources.proofs.ShrunkFiles.{MetHolds, MetLost, call_then, extras_hold, extras_lost, named, named_go, sources_hold, sources_lost}
-use Rattle.meson_sources.proofs.SourcesMetOnce.{target_apart}
 use Rattle.meson_sources.proofs.SpotsDiffer.{spots_apart}
 use Rattle.meson_sources.proofs.SpotsLeft.{StaysOf, left_without, named_spots_left}
-use Rattle.meson_sources.proofs.Standings.{MarkStands}
 use Rattle.meson_sources.proofs.StringsThere.{StringIn}
-use Rattle.meson_sources.proofs.TargetMarks.{extras_stand, sources_stand}
-use Rattle.meson_sources.proofs.TargetsFound.{targets_stand}
+use Rattle.meson_sources.proofs.Standings.{AllStand}
+use Rattle.meson_sources.proofs.TargetMarks.{files_stand}
 
 -- ---- one name before others
 
@@ -86,9 +83,8 @@ pub record RestRemoved (what : FileKind) (p q : Project Span) (c d : Placed (Cal
   pub all_are : all ≡ first ++ steps
 
 -- the files of a target that its id names stand, and none is met twice
-pub record FilesThere (what : FileKind) (l : Loaded) (c : Placed (Call Span)) : Type 0 where
-  pub stand : All (MarkStands (project l)) (what.marks (project l) c)
-  pub differ : ItemsApart (what.marks (project l) c)
+abbrev pub FilesThere : FileKind → Loaded → Placed (Call Span) → Type 0
+FilesThere what l c = AllStand (project l) (what.marks (project l) c)
 
 module _ (what : FileKind) (holds : MetHolds what) (lost : MetLost what) where
   module _ (old mid : Loaded) (is : IsProject old) (is_mid : IsProject mid) (same_names : file_names mid ≡ file_names old) (id : List ℕ) (d : Placed (Call Span)) (found_mid : the_call (project mid) role.Target id ≡ Ok d)
@@ -142,8 +138,8 @@ module _ (what : FileKind) (holds : MetHolds what) (lost : MetLost what) where
           let w = then_was (spots_named marks (name ∷ [])) removed_is first one in
           let v = then_was (spots_named marks (distinct (name ∷ more))) removed_is all made_all in
           let o = others_found marks name (distinct more) w.0 v.0 w.1 (ap (spots_named marks) (sym (distinct_others name more other)) ∙ v.1) in
-          let apart = spots_apart marks there.differ (name ∷ []) w.0 w.1 in
-          let apart_all = subst AreApart (sym o.all) (spots_apart marks there.differ (name ∷ more) v.0 v.1) in
+          let apart = spots_apart (project old) marks there (name ∷ []) w.0 w.1 in
+          let apart_all = subst AreApart (sym o.all) (spots_apart (project old) marks there (name ∷ more) v.0 v.1) in
           let are = all_in old w.0 (named_stand (project old) marks there.stand (name ∷ []) w.0 w.1) in
           let are_all = subst (Every (StringIn trees)) (sym o.all) (all_in old v.0 (named_stand (project old) marks there.stand (distinct (name ∷ more)) v.0 v.1)) in
           let first_is : removal_steps w.0 ≡ first = let e = w.2 in cc in
@@ -151,7 +147,7 @@ module _ (what : FileKind) (holds : MetHolds what) (lost : MetLost what) where
           let made = ap (λ l. all_stepped l trees) first_is ∙ done in
           let rest = map (spot_without w.0) o.later in
           let rest_found = rest_are w.0 w.1 are apart made o.later o.is in
-          let apart_rest = spots_apart (what.marks (project mid) d) there_mid.differ more rest rest_found in
+          let apart_rest = spots_apart (project mid) (what.marks (project mid) d) there_mid more rest rest_found in
           let are_rest = all_in mid rest (named_stand (project mid) (what.marks (project mid) d) there_mid.stand (distinct more) rest rest_found) in
           record {
             keys = keys_are w.0 w.1 are apart made;
@@ -179,9 +175,6 @@ none_hidden [] [] u is same = refl
 none_hidden [] (y ∷ ys) u is same = absurd cc
 none_hidden (x ∷ xs) ys u is same = absurd cc
 
-sources_are_there : (l : Loaded) → IsProject l → (id : List ℕ) (c : Placed (Call Span)) → the_call (project l) role.Target id ≡ Ok c → FilesThere of_sources l c
-sources_are_there l is id c found = record { stand = sources_stand l is.parsed c (targets_stand (project l) id c found); differ = (target_apart l is.parsed id c found).sources }
-
 pub sources-go-in-turn : SourcesGoInTurn
 sources-go-in-turn old mid is is_mid same_names id c d found found_mid name more other first all one done made_all =
     let keys = keyword sources_key c.it in
@@ -192,7 +185,7 @@ sources-go-in-turn old mid is is_mid same_names id c d found found_mid name more
     let b = then_was (once sources_key keys marks) (removed (name ∷ [])) first a.2 in
     let e = then_was (checked_names (name ∷ more)) (λ _. then_ok (once sources_key keys marks) (removed (name ∷ more))) all made_all in
     let g = then_was (once sources_key keys marks) (removed (name ∷ more)) all e.2 in
-    let r = names_in_turn of_sources sources_hold sources_lost old mid is is_mid same_names id d found_mid (sources_are_there mid is_mid id d found_mid) name more other first all done c found (sources_are_there old is id c found)
+    let r = names_in_turn of_sources sources_hold sources_lost old mid is is_mid same_names id d found_mid (files_stand mid is_mid.parsed id d found_mid).sources name more other first all done c found (files_stand old is.parsed id c found).sources
     (ap (removed (name ∷ [])) (once_was sources_key keys marks b.0 b.1) ∙ b.2) (ap (removed (name ∷ more)) (once_was sources_key keys marks g.0 g.1) ∙ g.2) in
     let few = few_once sources_key keys marks b.0 b.1 in
     let many = r.keys sources_key in (
@@ -201,9 +194,6 @@ sources-go-in-turn old mid is is_mid same_names id c d found found_mid name more
           ∙ ap (λ u. then_ok u (removed more)) (once_few sources_key keys2 marks2 (omega (arith, few, many))) ∙ r.are,
       r.all_are,
     )
-
-extras_are_there : (l : Loaded) → IsProject l → (id : List ℕ) (c : Placed (Call Span)) → the_call (project l) role.Target id ≡ Ok c → FilesThere of_extras l c
-extras_are_there l is id c found = record { stand = extras_stand l is.parsed c (targets_stand (project l) id c found); differ = (target_apart l is.parsed id c found).extras }
 
 pub extras-go-in-turn : ExtrasGoInTurn
 extras-go-in-turn old mid is is_mid same_names id c d found found_mid name more other first all one done made_all =
@@ -218,7 +208,7 @@ extras-go-in-turn old mid is is_mid same_names id c d found found_mid name more 
     let e = then_was (checked_extra p c (name ∷ more)) (removed (name ∷ more)) all made_all in
     let g = then_was (checked_names (name ∷ more)) (λ _. then_ok (not_hidden hidden) (λ _. once extra_key keys marks)) e.0 e.1 in
     let h = then_was (not_hidden hidden) (λ _. once extra_key keys marks) e.0 g.2 in
-    let r = names_in_turn of_extras extras_hold extras_lost old mid is is_mid same_names id d found_mid (extras_are_there mid is_mid id d found_mid) name more other first all done c found (extras_are_there old is id c found)
+    let r = names_in_turn of_extras extras_hold extras_lost old mid is is_mid same_names id d found_mid (files_stand mid is_mid.parsed id d found_mid).extras name more other first all done c found (files_stand old is.parsed id c found).extras
     (ap (removed (name ∷ [])) (checked_marks p c (name ∷ []) a.0 a.1) ∙ a.2) (ap (removed (name ∷ more)) (checked_marks p c (name ∷ more) e.0 e.1) ∙ e.2) in
     let few = few_once extra_key keys marks e.0 h.2 in
     let many = r.keys extra_key in (

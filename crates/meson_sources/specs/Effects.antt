@@ -107,6 +107,7 @@ ExtraIsAdded = (old : Loaded) → IsProject old → (id : List ℕ) (c : Placed 
 abbrev pub spot_at : CallRef → ℕ → Spot
 spot_at list n = record { list = list; number = n }
 
+-- whether two spots are one
 abbrev pub same_spot : Spot → Spot → Bool
 same_spot s t = nat_eq s.list.file t.list.file && (is_path s.list.path.steps t.list.path.steps && nat_eq s.number t.number)
 

@@ -1,5 +1,5 @@
 -- No item of a target is met twice.
-use Rattle.std.specs.Prelude.{◌≡◌, ℕ, List, AllPairs, Ok}
+use Rattle.std.specs.Prelude.{◌≡◌, ◌≢◌, ℕ, List, AllPairs, Ok}
 use Rattle.meson_lex.specs.declared.kinds.Span.{Span}
 use Rattle.meson_calls.specs.declared.call.Role.TheVariants as role
 use Rattle.meson_calls.specs.Calls.{Call}
@@ -12,7 +12,7 @@ use Rattle.meson_sources.specs.SourceEdits.{extra_marks}
 
 -- no two stand at one place
 abbrev pub StandApart : List (Item Span) → Type 0
-StandApart is = AllPairs (λ i j. i.place ≡ j.place → ⊥) is
+StandApart is = AllPairs (λ i j. i.place ≢ j.place) is
 
 -- the law: each item of a target is met once, whichever variables are followed to it, among its sources and among its extra files
 abbrev pub ItemsAreMetOnce : Type 0

@@ -1,4 +1,4 @@
-use Rattle.meson_sources.proofs.SourcesMetOnce.{items-are-met-once}
+use Rattle.meson_sources.proofs.TargetMarks.{items-are-met-once}
 use Rattle.meson_sources.proofs.laws.items_are_met_once.Goals as goal
 
 pub returns : goal.returns
