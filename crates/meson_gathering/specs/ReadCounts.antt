@@ -79,8 +79,8 @@ module _ (before : Option Content) (folder : Option (List ℕ)) where
 
   -- they are not known, or one of them is not entered
   abbrev pub StopsFor : List File → ℕ → ℕ → ℕ → Option (List ℕ) → Type 0
-  StopsFor files place reads reads' unread = AsksNone reads reads' unread
-      ⊎ ((names : List (List ℕ)) × Enters (name_of_file place files) (bytes_at place files) names × StopsEntering files reads names reads' unread)
+  StopsFor files place reads reads' unread = AsksNone reads reads' unread ⊎ ((place < length files) × (names : List (List ℕ))
+      × Enters (name_of_file place files) (bytes_at place files) names × StopsEntering files reads names reads' unread)
 
   pub data Looks (reads : ℕ) : List File → ℕ → ℕ → Type 0 where
     root_read : (bytes : List ℕ) → Told before (λ content. held_bytes content folder build_file ≡ Some bytes) → Looks reads (file_of build_file bytes ∷ []) 0 (one_more reads)

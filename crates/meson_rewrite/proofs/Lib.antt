@@ -15,3 +15,5 @@ pub mod LogName
 mod Statuses
 pub mod Checking
 pub mod CheckedUndos
+pub mod EnteredAsks
+pub mod OneUnread

@@ -1,6 +1,6 @@
-//! Laws of checked undos. The functions do nothing; each one's contract is a law.
+//! Laws of checked undos, and of a read that failed. The functions do nothing; each one's contract is a law.
 
-ghost use Rattle.meson_rewrite.specs.Laws.{CheckedUndosRestore, SameSumsUndo};
+ghost use Rattle.meson_rewrite.specs.Laws.{CheckedUndosRestore, OneUnread, SameSumsUndo};
 
 use meson_sums::laws::sums_tell;
 
@@ -21,3 +21,9 @@ pub fn checked_undos_restore()
 {
     sums_tell();
 }
+
+/// Of which file a run tells that it can't be read: where a store tells what it holds and was read so often for some words, of
+/// one alone.
+pub fn one_unread()
+    ensures { OneUnread }
+{}

@@ -66,6 +66,7 @@ returns-in_err-enter_all-clause-asks_at_most g c =
     let names = map string_bytes c.in_ok-tree.field-0.names.items in
     let p = err_from_is_err_and c.from_residual-in_err-enter_all.result c.from_residual-in_err-enter_all.ensures.1 in
     rw (p.1, p.2) (inr (
+      c.requires.within,
       names,
       c.in_ok-tree.ensures.names,
       subst (λ ns. StopsEntering (S.content c.args.store.now) folder c.args.files.now (S.reads c.args.store.now) ns (S.reads c.enter_all.new.store) (unread_file c.in_err-enter_all.field-0.0))
