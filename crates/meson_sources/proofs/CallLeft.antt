@@ -29,7 +29,7 @@ use Rattle.meson_sources.specs.Effects.{AreSpotsOf, goes, trees_without}
 use Rattle.meson_sources.specs.Without.{expression_without, from_child}
 use Rattle.meson_sources.proofs.NodesMoved.{child_place, node_moved, place_left}
 use Rattle.meson_sources.proofs.TreesLeft.{trees_left}
-use Rattle.meson_sources.proofs.WithoutLoses.{Lost, gone_at, loses}
+use Rattle.meson_sources.proofs.WithoutLoses.{Lost, gone_at, loses, strings_lost}
 use Rattle.meson_sources.proofs.WithoutPlaces.{any_without}
 use Rattle.meson_sources.specs.SourceEdits.{Spot, removal_steps}
 use Rattle.meson_sources.specs.WholeSources.{file_names}
@@ -47,11 +47,10 @@ use Rattle.meson_sources.proofs.Losses.{EachLoses, Loses}
 use Rattle.meson_sources.proofs.LostMarks.{Left, slot_gone, stand_left}
 use Rattle.meson_sources.proofs.LostArguments.{FirstStays}
 use Rattle.meson_sources.proofs.LostValues.{expand_left}
-use Rattle.meson_sources.proofs.RenamedStrings.{Node}
+use Rattle.meson_sources.proofs.NodeLists.{Node, element_any}
 use Rattle.meson_sources.proofs.SameCalls.{own_left}
 use Rattle.meson_sources.proofs.Scenes.{NodeIn, SameTells}
 use Rattle.meson_sources.proofs.SpotsHeld.{Held, SpotHeld, all_named, gone_held, same_there}
-use Rattle.meson_sources.proofs.StringsStay.{element_any}
 use Rattle.meson_sources.proofs.StringsThere.{StringIn}
 use Rattle.meson_sources.proofs.VariablesLeft.{values_left}
 use Rattle.meson_sources.proofs.OneGone.{string_child}
@@ -149,7 +148,7 @@ module _ (old : Loaded) (stand : All MayStandBetween (plain_trees old)) (c : Cal
 
     -- where what stood at a place stands now
     moved : (q : CallRef) (y : Node) → NodeIn trees q y → string_child y ≡ None → NodeIn after (place_left gone q) (any_without (gone_at gone q) y)
-    moved q y h other = subst (λ ts. NodeIn ts (place_left gone q) (any_without (gone_at gone q) y)) (sym are_left) (node_moved trees stand gone lost q y h other)
+    moved q y h other = subst (λ ts. NodeIn ts (place_left gone q) (any_without (gone_at gone q) y)) (sym are_left) (node_moved trees stand gone (strings_lost trees gone lost) q y h other)
 
     may : (q : CallRef) (n : ℕ) → gone q n ≡ true → (y : Node) → NodeIn trees q y → MayGo y n
     may q n is y h =

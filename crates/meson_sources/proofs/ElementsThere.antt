@@ -1,15 +1,26 @@
 -- An element stands in a tree where the nodes on the way to its list say so.
 use Rattle.std.specs.Prelude.{option_map, option_and_then}
 use Rattle.std.proofs.Common.{◌≡◌, ℕ, List, Option, Some, None, refl, sym, ap, ◌∙◌}
-use Rattle.meson_syntax.specs.Tree.{Nowhere, Plain, Listing, Argument}
+use Rattle.meson_syntax.specs.Tree.{Nowhere, Plain, string, Listing, Argument, plain}
+use Rattle.meson_syntax.specs.declared.operator.StringKind.{StringKind}
 use Rattle.meson_syntax.specs.Paths.{ListIn, list_in, ListAt, list_at, nth, block_of}
 use Rattle.meson_syntax.specs.Children.{Any, an_expression, a_statement, a_block, expression_any, node_at}
 use Rattle.meson_syntax.proofs.paths.Reaching.{and-then-some}
 use Rattle.meson_syntax.proofs.PathNodes.{expression-reached, list-reached}
 use Rattle.meson_edit.specs.Edits.{elements}
-use Rattle.meson_sources.proofs.Renaming.{IsElementAt}
-use Rattle.meson_sources.proofs.RenamedStrings.{element_at}
-use Rattle.meson_sources.proofs.StringsStay.{list_any}
+use Rattle.meson_sources.proofs.NodeLists.{element_at, list_any}
+
+-- The element of this number in the list that the path names is this one.
+pub record IsElementAt (t : Plain) (path : List ℕ) (n : ℕ) (it : Argument Nowhere) : Type 0 where
+  pub place : ListAt Nowhere
+  pub is_place : list_at t path ≡ Some place
+  pub is_element : nth (elements place.list) n ≡ Some it
+
+-- an element that is a string
+pub record IsStringElement (it : Argument Nowhere) : Type 0 where
+  pub kind : StringKind
+  pub text : List ℕ
+  pub is : it ≡ plain (string tt kind text)
 
 abbrev pub root : Plain → Any Nowhere
 root t = a_block (block_of t)

@@ -32,7 +32,7 @@ use Rattle.meson_sources.proofs.KeyCounts.{key_count, key_length}
 use Rattle.meson_sources.proofs.ExtraNames.{argument_first, argument_tells, arguments_named, grown_argument_first, grown_argument_tells}
 use Rattle.meson_sources.proofs.ListTurns.{listing_form}
 use Rattle.meson_sources.proofs.NamedStays.{KeepsNames}
-use Rattle.meson_sources.proofs.RenamedStrings.{Node}
+use Rattle.meson_sources.proofs.NodeLists.{Node}
 use Rattle.meson_sources.proofs.Scenes.{NodeIn}
 use Rattle.meson_sources.proofs.Shapes.{list_becomes, became_new, became_old}
 use Rattle.meson_sources.proofs.SourceTotals.{bare_number, keyed_bare}

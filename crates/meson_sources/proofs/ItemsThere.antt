@@ -23,9 +23,8 @@ use Rattle.meson_sources.proofs.Bares.{Values, expand_with, lists_by}
 use Rattle.meson_sources.proofs.CallTrees.{keyed, list_with, plains, whole}
 use Rattle.meson_sources.proofs.ElementsThere.{root}
 use Rattle.meson_sources.proofs.Owners.{node_between}
-use Rattle.meson_sources.proofs.RenamedStrings.{Node}
+use Rattle.meson_sources.proofs.NodeLists.{Node, element_any}
 use Rattle.meson_sources.proofs.Scenes.{NodeIn}
-use Rattle.meson_sources.proofs.StringsStay.{element_any}
 
 -- an array, or a call of `files` without names
 abbrev pub IsSources : Node → Type 0

@@ -1,5 +1,3 @@
-mod SpotsAfter
-mod Renaming
 mod Standings
 mod ArgumentsGrow
 mod ElementsAt
@@ -21,20 +19,14 @@ mod NewLists
 mod OnlyLists
 mod OneGone
 mod PartsPut
-mod PathsAfter
 mod PlainCounts
 mod Plains
 mod Planned
-mod PutAlong
-mod RemovalsRename
 mod RemovedSources
 mod RemovedSpots
 mod NumbersLeft
-mod PathsLeft
 mod SpotsCounted
-mod SpotsWithout
 mod RemovalsInTurn
-mod RenamedStrings
 mod SourcesAddable
 pub mod SourcesAdded
 mod SourcesMeant
@@ -46,12 +38,12 @@ mod NothingGone
 mod ChildFollows
 mod ElementGone
 mod TreesLeft
+mod TreesTwice
 mod WithoutPlaces
 mod WithoutLoses
 mod NodesMoved
 mod NodeInduction
 mod TellsKept
-mod StringsStay
 mod StringsThere
 mod TargetCalls
 mod TargetMarks
@@ -113,6 +105,7 @@ mod CallForms
 mod FileKinds
 mod FilesCome
 mod Functions
+mod GoneTwice
 mod GrownFiles
 mod KeyCounts
 mod LeftFiles
@@ -121,3 +114,7 @@ mod RemovalsJoined
 mod OthersNamed
 mod TakenInTurn
 mod ListTurns
+mod NodeLists
+mod ListParts
+mod SamePaths
+mod SpotsTwice

@@ -6,7 +6,7 @@ use Rattle.meson_syntax.specs.Tree.{Nowhere, Expression, identifier, boolean, in
 use Rattle.meson_edit.proofs.paths.Positions.{EveryAt, every-at-append, every-at-nth}
 use Rattle.meson_calls.specs.declared.call.CallRef.{CallRef}
 use Rattle.meson_calls.specs.Project.{child}
-use Rattle.meson_sources.proofs.RenamedStrings.{Node}
+use Rattle.meson_sources.proofs.NodeLists.{Node}
 
 module _ (P : CallRef → Node → Type 0) (step : (c : CallRef) (x : Node) → ((n : ℕ) (y : Node) → nth (child_nodes x) n ≡ Some y → P (child c n) y) → P c x) where
   -- of nodes that are children from the n-th on

@@ -15,15 +15,13 @@ use Rattle.meson_calls.proofs.ListNodes.{plain_holds}
 use Rattle.meson_steps.specs.ListSteps.{MayStandBetween}
 use Rattle.meson_edit.proofs.paths.Mapped.{nth_map}
 use Rattle.meson_sources.specs.Without.{Gone, each_without, from_child, tree_without}
-use Rattle.meson_sources.proofs.ElementsThere.{root}
+use Rattle.meson_sources.proofs.ElementsThere.{IsStringElement, root}
 use Rattle.meson_sources.proofs.Kins.{node_level}
-use Rattle.meson_sources.proofs.Losses.{Valued}
 use Rattle.meson_sources.proofs.OneGone.{HasOnePart, part, parts_of_each, string_child}
-use Rattle.meson_sources.proofs.RemovalsRename.{list_parts, one_part}
-use Rattle.meson_sources.proofs.RenamedStrings.{Node}
+use Rattle.meson_sources.proofs.ListParts.{list_parts, one_part}
+use Rattle.meson_sources.proofs.NodeLists.{Node, list_any}
 use Rattle.meson_sources.proofs.Scenes.{NodeIn}
-use Rattle.meson_sources.proofs.StringsStay.{list_any}
-use Rattle.meson_sources.proofs.WithoutLoses.{Lost, at_child, at_itself, child_in, gone_at, no_true, none_gone}
+use Rattle.meson_sources.proofs.WithoutLoses.{LostString, at_child, at_itself, child_in, gone_at, no_true}
 use Rattle.meson_sources.proofs.WithoutPlaces.{Fits, Stands, any_without, before_all, left_before, node_left, path_left, under_is, under_path}
 use Rattle.meson_sources.proofs.NumbersLeft.{left_same}
 use Rattle.meson_syntax.specs.declared.operator.StringKind.{StringKind}
@@ -85,15 +83,16 @@ in_string (string t q x) z [] y is at other = let none = ap string_child (some-i
 in_string (string t q x) z (n ∷ rest) y is at other = cc
 in_string _ z rest y is at other = cc
 
-module _ (trees : List Plain) (stand : All MayStandBetween trees) (gone : CallRef → ℕ → Bool) (lost : (c : CallRef) (n : ℕ) → gone c n ≡ true → (y : Node) → NodeIn trees c y → Lost y n) where
+module _ (trees : List Plain) (stand : All MayStandBetween trees) (gone : CallRef → ℕ → Bool) (lost : (c : CallRef) (n : ℕ) → gone c n ≡ true → (y : Node) → NodeIn trees c y → LostString y n) where
   abbrev at : CallRef → Gone
   at = gone_at gone
 
   pub fits_none : (c : CallRef) (x : Node) → NodeIn trees c x → list_any x ≡ None → (k : ℕ) → at c [] k ≡ false
-  fits_none c x h no_list k = at_itself gone c k ∙ none_gone trees gone lost c x h no_list k
+  fits_none c x h no_list k =
+      at_itself gone c k ∙ no_true (gone c k) (λ is. let l = lost c k is x h in let none : None ≡ Some l.0 = sym (ap (option_and_then (λ m. nth (elements m) k)) no_list) ∙ l.1 in cc)
 
-  in_pairs : (l : Listing Nowhere) (n : ℕ) (a : Argument Nowhere) → LevelListing l bracket.Curly → nth (elements l) n ≡ Some a → Valued a → ⊥
-  in_pairs (listing s trailing list) n a level is v = let none : false ≡ true = plain_holds list bracket.Curly false n (string tt v.kind v.word) level.1 (is ∙ ap Some v.is_string) in cc
+  in_pairs : (l : Listing Nowhere) (n : ℕ) (a : Argument Nowhere) → LevelListing l bracket.Curly → nth (elements l) n ≡ Some a → IsStringElement a → ⊥
+  in_pairs (listing s trailing list) n a level is v = let none : false ≡ true = plain_holds list bracket.Curly false n (string tt v.kind v.text) level.1 (is ∙ ap Some v.is) in cc
 
   pub fits : (c : CallRef) (x : Node) → NodeIn trees c x → Fits (at c) x
   fits c (an_expression (array l)) h = inr (l, refl, one_part l bracket.Square refl (node_level trees stand c (array l) h))
@@ -113,8 +112,8 @@ module _ (trees : List Plain) (stand : All MayStandBetween trees) (gone : CallRe
       go (inr w) =
           let v = lost c n goes x h in
           let element : nth (elements w.0) n ≡ Some v.0 = sym (ap (option_and_then (λ m. nth (elements m) n)) w.1) ∙ v.1 in
-          let child_is = ap (λ l. nth l n) (parts_are x w.0 w.1 w.2) ∙ nth_map part (elements w.0) n ∙ ap (option_map part) element ∙ ap (λ a. Some (part a)) v.2.is_string in
-          (v.2.kind, v.2.word, some-injective _ _ (sym is ∙ child_is))
+          let child_is = ap (λ l. nth l n) (parts_are x w.0 w.1 w.2) ∙ nth_map part (elements w.0) n ∙ ap (option_map part) element ∙ ap (λ a. Some (part a)) v.2.is in
+          (v.2.kind, v.2.text, some-injective _ _ (sym is ∙ child_is))
 
   -- no string that goes is on the way to another node
   clear : (c : CallRef) (x : Node) (n : ℕ) (rest : List ℕ) (y : Node) → NodeIn trees c x → node_at x (n ∷ rest) ≡ Some y → string_child y ≡ None → at c [] n ≡ false
@@ -126,14 +125,14 @@ module _ (trees : List Plain) (stand : All MayStandBetween trees) (gone : CallRe
           let w = gone_string c x o.0 n h o.1 goes in
           in_string (string tt w.0 w.1) (string tt w.0 w.1) rest y refl (sym (ap (λ z. node_at z rest) w.2) ∙ o.2) other
 
-  stands : (rest : List ℕ) (c : CallRef) (x : Node) → NodeIn trees c x → (y : Node) → node_at x rest ≡ Some y → string_child y ≡ None → Stands (at c) x rest
+  pub stands : (rest : List ℕ) (c : CallRef) (x : Node) → NodeIn trees c x → (y : Node) → node_at x rest ≡ Some y → string_child y ≡ None → Stands (at c) x rest
   stands [] c x h y is other = tt
   stands (n ∷ rest) c x h y is other = (
     clear c x n rest y h is other,
     fits c x h,
     λ z child_is.
         subst (λ g. Stands g z rest) (sym (at_child gone c n))
-        (stands rest (child c n) z (child_in trees gone lost c x z n h child_is) y (sym (ap (option_and_then (λ u. node_at u rest)) child_is) ∙ is) other),
+        (stands rest (child c n) z (child_in trees c x z n h child_is) y (sym (ap (option_and_then (λ u. node_at u rest)) child_is) ∙ is) other),
   )
 
   -- each node but the strings stands in the trees without what goes

@@ -1,8 +1,7 @@
 -- How many of the first elements of a list are left, and that one more goes.
 use Rattle.std.specs.Prelude.{nat_eq, nat_lt, if◌then◌else◌}
-use Rattle.std.proofs.Common.{◌≡◌, ℕ, zero, suc, ◌+◌, ◌-◌, add-one, ◌<◌, ◌≤◌, Bool, true, false, refl, sym, ap, ◌∙◌, subst, arith}
+use Rattle.std.proofs.Common.{◌≡◌, ℕ, zero, suc, ◌+◌, add-one, ◌<◌, ◌≤◌, Bool, true, false, refl, sym, ap, ◌∙◌, subst, arith}
 use Rattle.std.proofs.lemmas.Bool.{eqb-true, eq-eqb, ltb-true, ltb-false}
-use Rattle.meson_sources.proofs.SpotsAfter.{moved_up}
 use Rattle.meson_sources.proofs.WithoutPlaces.{left_before}
 
 abbrev after_first : (ℕ → Bool) → ℕ → Bool
@@ -33,15 +32,6 @@ behind_left gone (suc n) is = ap (left_before gone) (add-one (suc n)) ∙ go (go
     go : (b : Bool) → left_before (after_first gone) (suc n) ≡ left_before (after_first gone) n + 1 → by_first b (after_first gone) (suc n) ≡ by_first b (after_first gone) n + 1
     go true rest = rest
     go false rest = ap suc rest ∙ omega arith
-
-no_later : (gone : ℕ → Bool) (k n : ℕ) → n ≤ k → left_before gone n ≤ left_before gone k
-no_later gone k zero above = omega arith
-no_later gone zero (suc n) above = absurd (omega (arith, above))
-no_later gone (suc k) (suc n) above = go (gone 0) (no_later (after_first gone) k n (omega (arith, above)))
-  where
-    go : (b : Bool) → left_before (after_first gone) n ≤ left_before (after_first gone) k → by_first b (after_first gone) n ≤ by_first b (after_first gone) k
-    go true rest = rest
-    go false rest = omega (arith, rest)
 
 -- numbers of elements that stay are told apart afterwards too
 pub told_apart : (gone : ℕ → Bool) (k n : ℕ) → gone k ≡ false → gone n ≡ false → left_before gone k ≡ left_before gone n → k ≡ n
@@ -102,18 +92,3 @@ as_many gone now k zero m above = refl
 as_many gone now zero (suc n) m above = absurd (omega (arith, above))
 as_many gone now (suc k) (suc n) m above =
     ap (λ i. if gone 0 then i else suc i) (as_many (after_first gone) (after_first now) k n (behind gone now k m) (omega (arith, above))) ∙ ap (λ b. by_first b (after_first now) n) (sym (first_stays gone now k m))
-
-pub one_moved : (gone now : ℕ → Bool) (k n : ℕ) → OneMore gone now k → moved_up (left_before gone k) (left_before gone n) ≡ left_before now n
-one_moved gone now k n m = go (nat_lt k n) (nat_lt (left_before gone k) (left_before gone n)) refl refl
-  where
-    go : (b c : Bool) → nat_lt k n ≡ b → nat_lt (left_before gone k) (left_before gone n) ≡ c → (if c then left_before gone n - 1 else left_before gone n) ≡ left_before now n
-    go true true is also = let fewer = one_fewer gone now k n m (ltb-true k n is) in omega (arith, fewer)
-    go true false is also =
-        let below = later gone k n (ltb-true k n is) m.stayed in
-        let above = ltb-false (left_before gone k) (left_before gone n) also in
-        absurd (omega (arith, below, above))
-    go false true is also =
-        let above = no_later gone k n (ltb-false k n is) in
-        let below = ltb-true (left_before gone k) (left_before gone n) also in
-        absurd (omega (arith, below, above))
-    go false false is also = as_many gone now k n m (ltb-false k n is)

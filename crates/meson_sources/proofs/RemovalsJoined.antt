@@ -1,40 +1,45 @@
 -- Removals of some elements, and then of others from where they stand then, are the removals of all.
-use Rattle.std.specs.Prelude.{All, reverse}
-use Rattle.std.proofs.Common.{◌≡◌, List, [], ◌∷◌, ◌++◌, append-nil, length, map, refl, sym, ap, ◌∙◌}
-use Rattle.std.proofs.lemmas.List.{append_assoc, length-map, reverse-append}
+use Rattle.std.specs.Prelude.{All}
+use Rattle.std.proofs.Common.{◌≡◌, List, [], ◌∷◌, ◌++◌, map, refl, sym, ap, ap₂, ◌∙◌}
 use Rattle.meson_syntax.specs.Tree.{Plain}
 use Rattle.meson_syntax.proofs.paths.Every.{Every}
 use Rattle.meson_steps.specs.ListSteps.{MayStandBetween}
 use Rattle.meson_sources.specs.SourceEdits.{Spot, removal, removal_steps, removals_after, spot_without}
-use Rattle.meson_sources.proofs.SpotsApart.{AreApart}
-use Rattle.meson_sources.proofs.RemovalsInTurn.{turned}
-use Rattle.meson_sources.proofs.SpotsAfter.{removed_by}
-use Rattle.meson_sources.proofs.SpotsWithout.{AllClear, Clears, all_are_clear, by_renaming, more_apart, none_before, one_clearer, steps_are}
+use Rattle.meson_sources.proofs.NamedSpots.{every_both}
+use Rattle.meson_sources.proofs.SpotsApart.{Apart, AreApart}
+use Rattle.meson_sources.proofs.SpotsTwice.{SpotStays, left_without, moved_spot, moved_twice, spot_left, still_apart}
 use Rattle.meson_sources.proofs.StringsThere.{StringIn}
+use Rattle.meson_sources.proofs.TreesLeft.{Going, also_gone, at_first, going_on, in_any_order}
+use Rattle.meson_sources.proofs.TreesTwice.{stays_there}
 
--- those that have gone then
-abbrev also_gone : List Spot → List Spot → List Spot
-also_gone [] gone = gone
-also_gone (s ∷ more) gone = also_gone more (s ∷ gone)
+first_then : (here gone later : List Spot) → removals_after gone (here ++ later) ≡ removals_after gone here ++ removals_after (also_gone here gone) later
+first_then [] gone later = refl
+first_then (s ∷ here) gone later = ap (λ steps. removal (spot_without gone s) ∷ steps) (first_then here (s ∷ gone) later)
 
-also_turned : (spots gone : List Spot) → also_gone spots gone ≡ reverse spots ++ gone
-also_turned [] gone = refl
-also_turned (s ∷ more) gone = also_turned more (s ∷ gone) ∙ sym (ap (λ l. l ++ gone) (reverse-append (s ∷ []) more) ∙ append_assoc (reverse more) (s ∷ []) gone)
+gone_through : (trees : List Plain) (here gone later : List Spot) → Going trees gone (here ++ later) → Going trees (also_gone here gone) later
+gone_through trees [] gone later g = g
+gone_through trees (s ∷ here) gone later g = gone_through trees here (s ∷ gone) later (going_on trees gone s (here ++ later) g)
 
-first_then : (here gone later : List Spot) → AreApart gone → Every (Clears gone) (here ++ later) → AllClear (here ++ later)
-    → removals_after gone (here ++ later) ≡ removals_after gone here ++ removed_by (length later) (map (spot_without (also_gone here gone)) later)
-first_then [] gone later apart clears all = by_renaming later gone apart clears all
-first_then (s ∷ here) gone later apart clears all =
-    ap (λ steps. removal (spot_without gone s) ∷ steps)
-    (first_then here (s ∷ gone) later (more_apart gone apart s clears.0) (one_clearer s gone (here ++ later) all.0 clears.1) all.1)
+module _ (trees : List Plain) (gone : List Spot) where
+  moved_apart : (s : Spot) → SpotStays gone s → (more : List Spot) → Every (SpotStays gone) more → Every (Apart s) (more ++ gone) → Every (Apart (moved_spot gone s)) (map (moved_spot gone) more)
+  moved_apart s stays [] every apart = tt
+  moved_apart s stays (t ∷ more) every apart = (still_apart gone s t stays every.0 apart.0, moved_apart s stays more every.1 apart.1)
 
-in_any_order : (here later : List Spot) → map (spot_without (also_gone here [])) later ≡ map (spot_without here) later
-in_any_order here later = ap (λ gone. map (spot_without gone) later) (also_turned here [] ∙ append-nil (reverse here)) ∙ ap (λ f. map f later) (λ i s. (turned here s) i)
+  -- the removals of the others, each from where it stands then
+  then_moved : (later more : List Spot) → Going trees (more ++ gone) later → Every (SpotStays gone) later → Every (SpotStays gone) more → AreApart (map (moved_spot gone) more)
+      → removals_after (more ++ gone) later ≡ removals_after (map (moved_spot gone) more) (map (moved_spot gone) later)
+  then_moved [] more g stay every apart = refl
+  then_moved (s ∷ later) more g stay every apart =
+      ap₂ (λ t steps. removal t ∷ steps)
+      (sym (left_without (more ++ gone) g.gone_apart s) ∙ moved_twice gone more every s stay.0 ∙ left_without (map (moved_spot gone) more) apart (moved_spot gone s))
+      (then_moved later (s ∷ more) (going_on trees (more ++ gone) s later g) stay.1 (stay.0, every) (moved_apart s stay.0 more every g.others.0, apart))
 
-pub removals_join : (trees mid : List Plain) → All MayStandBetween trees → All MayStandBetween mid → (here later : List Spot) → Every (StringIn trees) (here ++ later) → AreApart (here ++ later)
-    → Every (StringIn mid) (map (spot_without here) later) → AreApart (map (spot_without here) later) → removal_steps (here ++ later) ≡ removal_steps here ++ removal_steps (map (spot_without here) later)
-removals_join trees mid stand stand_mid here later are apart are_mid apart_mid =
-    let rest = map (spot_without here) later in
-    first_then here [] later tt (none_before (here ++ later)) (all_are_clear trees stand (here ++ later) are apart)
+pub removals_join : (trees : List Plain) → All MayStandBetween trees → (here later : List Spot) → AreApart here → Every (StringIn trees) (here ++ later) → AreApart (here ++ later)
+    → removal_steps (here ++ later) ≡ removal_steps here ++ removal_steps (map (spot_without here) later)
+removals_join trees stand here later apart_here are apart =
+    let gone = also_gone here [] in
+    let g = gone_through trees here [] later (at_first trees (here ++ later) are apart) in
+    let stay = every_both (StringIn trees) (λ s. Every (Apart s) gone) (SpotStays gone) (λ s there others. stays_there trees stand gone g.gone_there s there others) later g.more_there g.others in
+    first_then here [] later
     ∙ ap (λ steps. removal_steps here ++ steps)
-    (ap (removed_by (length later)) (in_any_order here later) ∙ ap (λ n. removed_by n rest) (sym (length-map later (spot_without here))) ∙ sym (steps_are mid stand_mid rest are_mid apart_mid))
+    (then_moved trees gone later [] g stay tt tt ∙ ap (λ f. removal_steps (map (spot_left f) later)) (in_any_order here) ∙ ap (λ f. removal_steps (map f later)) (λ i s. (left_without here apart_here s) i))

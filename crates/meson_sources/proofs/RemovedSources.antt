@@ -23,7 +23,7 @@ use Rattle.meson_steps.specs.Names.{distinct, checked_names}
 use Rattle.meson_sources.proofs.Standings.{AllStand, SlotStands, MarkStands, SpotStands, SourcesMayBeRemoved, ExtrasMayBeRemoved}
 use Rattle.meson_steps.specs.Steps.{Step}
 use Rattle.meson_sources.proofs.SpotsDiffer.{spots_apart}
-use Rattle.meson_sources.proofs.SpotsWithout.{removals_doable}
+use Rattle.meson_sources.proofs.TreesLeft.{removals_doable}
 use Rattle.meson_steps.proofs.WentWell.{then_was, once_was}
 
 -- ---- steps that went well

@@ -11,7 +11,7 @@ use Rattle.meson_sources.specs.Effects.{goes, same_spot, spot_at}
 use Rattle.meson_sources.specs.SourceEdits.{Spot, is_before, is_path, number_without, path_without}
 use Rattle.meson_sources.proofs.ListsBut.{apart_not_same}
 use Rattle.meson_sources.proofs.NumbersLeft.{OneMore, as_many, left_same, one_fewer}
-use Rattle.meson_sources.proofs.PathsAfter.{same_paths}
+use Rattle.meson_sources.proofs.SamePaths.{same_paths}
 use Rattle.meson_sources.proofs.NamedSpots.{every_weaker}
 use Rattle.meson_sources.proofs.SpotsApart.{Apart, AreApart}
 use Rattle.meson_sources.proofs.WithoutLoses.{at_child, at_itself, gone_at}

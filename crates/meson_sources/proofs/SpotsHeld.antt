@@ -23,9 +23,8 @@ use Rattle.meson_sources.proofs.LeftFiles.{NamedGoes}
 use Rattle.meson_sources.proofs.ListsBut.{both_true, same_one}
 use Rattle.meson_sources.proofs.LostMarks.{slot_gone}
 use Rattle.meson_sources.proofs.NamedGone.{alike, distinct_named, named_distinct, some_of}
-use Rattle.meson_sources.proofs.RenamedStrings.{Node}
+use Rattle.meson_sources.proofs.NodeLists.{Node, element_any}
 use Rattle.meson_sources.proofs.Scenes.{NodeIn}
-use Rattle.meson_sources.proofs.StringsStay.{element_any}
 
 pub same_there : (trees : List Plain) (p : CallRef) (y z : Node) → NodeIn trees p y → NodeIn trees p z → z ≡ y
 same_there trees p y z m n =

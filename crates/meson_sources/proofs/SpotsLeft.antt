@@ -8,28 +8,19 @@ use Rattle.meson_splice.specs.Patch.{then_ok}
 use Rattle.meson_syntax.proofs.paths.Every.{Every}
 use Rattle.meson_calls.specs.declared.call.CallRef.{CallRef}
 use Rattle.meson_calls.specs.declared.refusal.Refusal.TheVariants.{NotRemovable}
-use Rattle.meson_calls.specs.Project.{place}
 use Rattle.meson_variables.specs.Expansion.{Item, Mark, Slot, known, opaque, empty, in_list, fixed}
 use Rattle.meson_variables.specs.TargetSources.{items, opaque_count}
 use Rattle.meson_steps.proofs.WentWell.{then_was}
-use Rattle.meson_sources.specs.Effects.{goes}
-use Rattle.meson_sources.specs.SourceEdits.{Spot, has_text, items_of, spot_of, spot_without, spots_by, spots_named, spots_of}
-use Rattle.meson_sources.proofs.SpotsApart.{AreApart}
+use Rattle.meson_sources.specs.SourceEdits.{Spot, has_text, items_of, spot_of, spots_by, spots_named, spots_of}
 use Rattle.meson_sources.proofs.LeftFiles.{unknown_left}
 use Rattle.meson_sources.proofs.LostMarks.{head_by, item_left, left_of, slot_gone, slot_left}
 use Rattle.meson_sources.proofs.NamedSpots.{every_weaker}
-use Rattle.meson_sources.proofs.NodesMoved.{place_left}
-use Rattle.meson_sources.proofs.SpotsCounted.{number_is, path_is}
+use Rattle.meson_sources.proofs.SpotsTwice.{spot_left}
 use Rattle.meson_sources.proofs.WithoutLoses.{no_true}
-use Rattle.meson_sources.proofs.WithoutPlaces.{left_before}
 
 module _ (gone : CallRef → ℕ → Bool) where
-  -- where what stood at a spot stands
-  abbrev pub spot_left : Spot → Spot
-  spot_left s = record { list = place_left gone s.list; number = left_before (gone s.list) s.number }
-
   one_left : (slot : Slot) (o : Option (List Spot))
-      → option_and_then (λ spot. option_map (λ spots. spot ∷ spots) (option_map (map spot_left) o)) (spot_of (slot_left gone slot)) ≡ option_map (map spot_left) (option_and_then (λ spot. option_map (λ spots. spot ∷ spots) o) (spot_of slot))
+      → option_and_then (λ spot. option_map (λ spots. spot ∷ spots) (option_map (map (spot_left gone)) o)) (spot_of (slot_left gone slot)) ≡ option_map (map (spot_left gone)) (option_and_then (λ spot. option_map (λ spots. spot ∷ spots) o) (spot_of slot))
   one_left (in_list c n) None = refl
   one_left (in_list c n) (Some spots) = refl
   one_left fixed o = refl
@@ -57,24 +48,24 @@ module _ (gone : CallRef → ℕ → Bool) where
     items_left name (opaque ∷ ms) all = items_left name ms all
     items_left name (empty p ∷ ms) all = items_left name ms all
 
-    spots_left : (is : List (Item S)) → spots_of (map (item_left gone) is) ≡ option_map (map spot_left) (spots_of is)
+    spots_left : (is : List (Item S)) → spots_of (map (item_left gone) is) ≡ option_map (map (spot_left gone)) (spots_of is)
     spots_left [] = refl
     spots_left (i ∷ is) = ap (λ o. option_and_then (λ spot. option_map (λ spots. spot ∷ spots) o) (spot_of (slot_left gone i.slot))) (spots_left is) ∙ one_left i.slot (spots_of is)
 
-    by_left : (n : ℕ) (is : List (Item S)) (spots : List Spot) → spots_by n is ≡ Ok spots → spots_by n (map (item_left gone) is) ≡ Ok (map spot_left spots)
+    by_left : (n : ℕ) (is : List (Item S)) (spots : List Spot) → spots_by n is ≡ Ok spots → spots_by n (map (item_left gone) is) ≡ Ok (map (spot_left gone) spots)
     by_left n [] spots is_ok = absurd cc
     by_left n (i ∷ is) spots is_ok = ap (λ o. ok_or o NotRemovable) (spots_left (i ∷ is)) ∙ go (spots_of (i ∷ is)) is_ok
       where
-        go : (o : Option (List Spot)) → ok_or o NotRemovable ≡ Ok spots → ok_or (option_map (map spot_left) o) NotRemovable ≡ Ok (map spot_left spots)
+        go : (o : Option (List Spot)) → ok_or o NotRemovable ≡ Ok spots → ok_or (option_map (map (spot_left gone)) o) NotRemovable ≡ Ok (map (spot_left gone) spots)
         go None found = absurd cc
-        go (Some here) found = let same : here ≡ spots = cc in ap (λ l. Ok (map spot_left l)) same
+        go (Some here) found = let same : here ≡ spots = cc in ap (λ l. Ok (map (spot_left gone) l)) same
 
     -- if it has one of the names it has not gone
     abbrev pub StaysOf : List (List ℕ) → Item S → Type 0
     StaysOf names i = list_any (λ name. has_text name i) names ≡ true → slot_gone gone i.slot ≡ false
 
-    pub named_spots_left : (ms : List (Mark S)) (names : List (List ℕ)) → Every (StaysOf names) (items ms) → (spots : List Spot) → spots_named ms names ≡ Ok spots → spots_named (left_of gone ms) names ≡ Ok (map spot_left spots)
-    named_spots_left ms [] all spots is = let same : [] ≡ spots = cc in ap (λ l. Ok (map spot_left l)) same
+    pub named_spots_left : (ms : List (Mark S)) (names : List (List ℕ)) → Every (StaysOf names) (items ms) → (spots : List Spot) → spots_named ms names ≡ Ok spots → spots_named (left_of gone ms) names ≡ Ok (map (spot_left gone) spots)
+    named_spots_left ms [] all spots is = let same : [] ≡ spots = cc in ap (λ l. Ok (map (spot_left gone) l)) same
     named_spots_left ms (name ∷ more) all spots is =
         let a = then_was (spots_by (opaque_count ms) (items_of name ms)) (λ here. then_ok (spots_named ms more) (λ later. Ok (here ++ later))) spots is in
         let b = then_was (spots_named ms more) (λ later. Ok (a.0 ++ later)) spots a.2 in
@@ -83,9 +74,4 @@ module _ (gone : CallRef → ℕ → Bool) where
         let others = every_weaker (StaysOf (name ∷ more)) (StaysOf more) (λ i stays named. stays (or_right (has_text name i) (list_any (λ x. has_text x i) more) named)) (items ms) all in
         let here = ap₂ spots_by (unknown_left gone ms) (items_left name ms one) ∙ by_left (opaque_count ms) (items_of name ms) a.0 a.1 in
         ap₂ (λ x y. then_ok x (λ first. then_ok y (λ later. Ok (first ++ later)))) here (named_spots_left ms more others b.0 b.1)
-        ∙ ap Ok (sym (map-append spot_left a.0 b.0) ∙ ap (map spot_left) same)
-
--- by counting
-pub left_without : (spots : List Spot) → AreApart spots → (s : Spot) → spot_left (goes spots) s ≡ spot_without spots s
-left_without spots apart s =
-    ap₂ (λ path n. record { list = place s.list.file path; number = n }) (sym (path_is spots apart (place s.list.file []) s.list.path.steps)) (sym (number_is spots apart s.list s.number))
+        ∙ ap Ok (sym (map-append (spot_left gone) a.0 b.0) ∙ ap (map (spot_left gone)) same)

@@ -5,7 +5,7 @@ use Rattle.meson_syntax.specs.Tree.{Nowhere, Plain, Argument, plain, string, era
 use Rattle.meson_edit.specs.Edits.{elements}
 use Rattle.meson_calls.specs.Loading.{Loaded, project}
 use Rattle.meson_steps.specs.ResultLimits.{plain_trees}
-use Rattle.meson_sources.proofs.Renaming.{IsElementAt, IsStringElement}
+use Rattle.meson_sources.proofs.ElementsThere.{IsElementAt, IsStringElement}
 use Rattle.meson_sources.specs.SourceEdits.{Spot}
 use Rattle.meson_sources.proofs.Standings.{SpotStands}
 use Rattle.meson_steps.proofs.PlainTrees.{element_erased, plain_place, tree_there}

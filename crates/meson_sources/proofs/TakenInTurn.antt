@@ -43,7 +43,8 @@ use Rattle.meson_sources.proofs.RemovedSources.{named_stand}
 use Rattle.meson_sources.proofs.RemovedSpots.{all_in}
 use Rattle.meson_sources.proofs.ShrunkFiles.{MetHolds, MetLost, call_then, extras_hold, extras_lost, named, named_go, sources_hold, sources_lost}
 use Rattle.meson_sources.proofs.SpotsDiffer.{spots_apart}
-use Rattle.meson_sources.proofs.SpotsLeft.{StaysOf, left_without, named_spots_left}
+use Rattle.meson_sources.proofs.SpotsLeft.{StaysOf, named_spots_left}
+use Rattle.meson_sources.proofs.SpotsTwice.{left_without}
 use Rattle.meson_sources.proofs.StringsThere.{StringIn}
 use Rattle.meson_sources.proofs.Standings.{AllStand}
 use Rattle.meson_sources.proofs.TargetMarks.{files_stand}
@@ -147,14 +148,12 @@ module _ (what : FileKind) (holds : MetHolds what) (lost : MetLost what) where
           let made = ap (λ l. all_stepped l trees) first_is ∙ done in
           let rest = map (spot_without w.0) o.later in
           let rest_found = rest_are w.0 w.1 are apart made o.later o.is in
-          let apart_rest = spots_apart (project mid) (what.marks (project mid) d) there_mid more rest rest_found in
-          let are_rest = all_in mid rest (named_stand (project mid) (what.marks (project mid) d) there_mid.stand (distinct more) rest rest_found) in
           record {
             keys = keys_are w.0 w.1 are apart made;
             steps = removal_steps rest;
             are = ap (λ r. then_ok r removed_is) rest_found;
             all_are =
-                sym all_is ∙ ap removal_steps (sym o.all) ∙ removals_join trees (plain_trees mid) may_stand (trees_stand mid.files mid.parsed is_mid.parsed) w.0 o.later are_all apart_all are_rest apart_rest
+                sym all_is ∙ ap removal_steps (sym o.all) ∙ removals_join trees may_stand w.0 o.later apart are_all apart_all
                 ∙ ap (λ l. l ++ removal_steps rest) first_is;
           }
 

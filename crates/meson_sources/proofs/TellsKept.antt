@@ -22,13 +22,13 @@ use Rattle.meson_sources.proofs.Losses.{EachLoses}
 use Rattle.meson_sources.proofs.LostArguments.{FirstStays}
 use Rattle.meson_sources.proofs.NodeInduction.{by_children}
 use Rattle.meson_sources.proofs.NodesMoved.{IsExpression, children_are, fits, gone_string, nth_without, root_without}
-use Rattle.meson_sources.proofs.RenamedStrings.{Node}
+use Rattle.meson_sources.proofs.NodeLists.{Node}
 use Rattle.meson_sources.proofs.SameCalls.{first_literal_left, own_left}
 use Rattle.meson_sources.proofs.Scenes.{NodeIn, SameTells, file_tells}
 use Rattle.meson_sources.proofs.TargetNames.{SameNames, a_target, a_variable, call_by, call_tells, first_is, first_plain, in_all, in_any, node_tells, own, tell_call}
 use Rattle.meson_sources.proofs.Tells.{Told, children_alike, matters, told, node_told, of_any, of_children}
 use Rattle.meson_sources.proofs.Tells as tells
-use Rattle.meson_sources.proofs.WithoutLoses.{Lost, at_child, at_itself, child_in, call_lost, gone_at}
+use Rattle.meson_sources.proofs.WithoutLoses.{Lost, at_child, at_itself, child_in, call_lost, gone_at, strings_lost}
 use Rattle.meson_sources.proofs.WithoutPlaces.{Fits, any_without, children_left, each_child}
 
 -- ---- the first argument without a name
@@ -100,7 +100,7 @@ module _ (trees : List Plain) (stand : All MayStandBetween trees) (gone : CallRe
   -- a string tells nothing
   gone_tells : (c : CallRef) (x y : Node) (n : ℕ) → NodeIn trees c x → nth (child_nodes x) n ≡ Some y → at c [] n ≡ true → (in_any y ≡ []) × ((p : CallRef) → of_any p y ≡ [])
   gone_tells c x y n h is goes =
-      let w = gone_string trees stand gone lost c x y n h is (sym (at_itself gone c n) ∙ goes) in
+      let w = gone_string trees stand gone (strings_lost trees gone lost) c x y n h is (sym (at_itself gone c n) ∙ goes) in
       (ap in_any w.2, λ p. ap (of_any p) w.2)
 
   -- ---- of targets
@@ -145,10 +145,10 @@ module _ (trees : List Plain) (stand : All MayStandBetween trees) (gone : CallRe
   names_step : (c : CallRef) (x : Node) → ((n : ℕ) (y : Node) → nth (child_nodes x) n ≡ Some y → NamesSame (child c n) y) → NamesSame c x
   names_step c x children h =
       let same : (n : ℕ) (y : Node) → nth (child_nodes x) n ≡ Some y → (in_any (any_without (from_child n (at c)) y) ≡ in_any y) × (own (any_without (from_child n (at c)) y) ≡ own y) =
-      λ n y is. child_names c n y (children n y is (child_in trees gone lost c x y n h is)) in
+      λ n y is. child_names c n y (children n y is (child_in trees c x y n h is)) in
       let owns = own_names c x h (λ n y is. (same n y is).1) in
       let all = all_left (at c []) (at c) 0 (child_nodes x) (λ j y is goes. (gone_tells c x y j h is goes).0) (λ j y is. let z : 0 + j ≡ j = omega arith in ap (λ i. in_any (any_without (from_child i (at c)) y)) z ∙ (same j y is).0) in
-      (node_tells (any_without (at c) x) ∙ ap₂ cons_option owns (ap in_all (children_left (at c) x (fits trees stand gone lost c x h)) ∙ all) ∙ sym (node_tells x), owns)
+      (node_tells (any_without (at c) x) ∙ ap₂ cons_option owns (ap in_all (children_left (at c) x (fits trees stand gone (strings_lost trees gone lost) c x h)) ∙ all) ∙ sym (node_tells x), owns)
 
   pub names_kept : (c : CallRef) (x : Node) → NodeIn trees c x → in_any (any_without (at c) x) ≡ in_any x
   names_kept c x h = (by_children NamesSame names_step c x h).0
@@ -210,12 +210,12 @@ module _ (trees : List Plain) (stand : All MayStandBetween trees) (gone : CallRe
   own_told c (a_block b) h = refl
 
   told_step : (c : CallRef) (x : Node) → ((n : ℕ) (y : Node) → nth (child_nodes x) n ≡ Some y → Tells (child c n) y) → Tells c x
-  told_step c x children h = node_told c (any_without (at c) x) ∙ ap₂ cons_option (own_told c x h) (by_fits (fits trees stand gone lost c x h)) ∙ sym (node_told c x)
+  told_step c x children h = node_told c (any_without (at c) x) ∙ ap₂ cons_option (own_told c x h) (by_fits (fits trees stand gone (strings_lost trees gone lost) c x h)) ∙ sym (node_told c x)
     where
       same : EachTold c (at c) 0 (child_nodes x)
       same j y is =
           let z : j ≡ 0 + j = omega arith in
-          subst (λ k. ChildTold c (at c) k y) z (subst (λ g. of_any (child c j) (any_without g y) ≡ of_any (child c j) y) (sym (at_child gone c j)) (children j y is (child_in trees gone lost c x y j h is)))
+          subst (λ k. ChildTold c (at c) k y) z (subst (λ g. of_any (child c j) (any_without g y) ≡ of_any (child c j) y) (sym (at_child gone c j)) (children j y is (child_in trees c x y j h is)))
 
       by_fits : Fits (at c) x → of_children c 0 (child_nodes (any_without (at c) x)) ≡ of_children c 0 (child_nodes x)
       by_fits (inl none) =

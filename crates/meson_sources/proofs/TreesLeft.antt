@@ -1,107 +1,97 @@
--- Strings go from lists one after another: what is left is the trees without all of them.
-use Rattle.std.specs.Prelude.{All, ◌||◌, slice_set}
-use Rattle.std.specs.List.{list_any}
-use Rattle.std.proofs.Common.{◌≡◌, ℕ, zero, suc, true, List, [], ◌∷◌, length, Some, refl, sym, ap, ap₂, ◌∙◌, arith}
-use Rattle.std.proofs.lemmas.List.Elements.{All-head, All-tail}
-use Rattle.meson_syntax.specs.Paths.{nth}
+-- Strings go from lists one after another: each removal may be done, and what is left is the trees without all of them.
+use Rattle.std.specs.Prelude.{All, ◌||◌, option_and_then}
+use Rattle.std.proofs.Common.{◌≡◌, ℕ, Bool, true, false, List, [], ◌∷◌, Some, refl, sym, ap, ◌∙◌, subst}
 use Rattle.meson_syntax.specs.Tree.{Plain}
 use Rattle.meson_syntax.proofs.parsing.Steps.{some-injective}
 use Rattle.meson_syntax.proofs.paths.Every.{Every}
-use Rattle.meson_syntax.proofs.paths.Reaching.{and-then-some}
-use Rattle.meson_edit.specs.Edits.{Remove, edited}
 use Rattle.meson_calls.specs.declared.call.CallRef.{CallRef}
 use Rattle.meson_calls.specs.Project.{place}
-use Rattle.meson_steps.specs.ListSteps.{MayStandBetween}
-use Rattle.meson_steps.specs.Steps.{all_stepped, step_in, stepped}
-use Rattle.meson_steps.proofs.WithOne.{change_there}
+use Rattle.meson_steps.specs.ListSteps.{AreDoable, MayStandBetween, none, one}
+use Rattle.meson_steps.specs.ResultLimits.{plain_trees}
+use Rattle.meson_steps.specs.Steps.{all_stepped, stepped}
+use Rattle.meson_steps.proofs.PlainTrees.{trees_stand}
 use Rattle.meson_sources.specs.Effects.{goes, same_spot, spot_at, trees_without}
-use Rattle.meson_sources.specs.SourceEdits.{Spot, removal_steps}
-use Rattle.meson_sources.proofs.SpotsAfter.{path_after, removed_by, spot_after, spots_after}
-use Rattle.meson_sources.specs.Without.{Gone, each_without, tree_without}
-use Rattle.meson_sources.proofs.ElementGone.{renamed, string_gone}
-use Rattle.meson_sources.proofs.ListsBut.{any_still, apart_not_same, spot_itself}
-use Rattle.meson_sources.proofs.NothingGone.{nothing, tree_stays}
-use Rattle.meson_sources.proofs.PathsAfter as paths
-use Rattle.meson_sources.proofs.RemovedSpots.{all_apart, all_between, between, between_stand, level, all_clear}
-use Rattle.meson_sources.proofs.RemovedSpots as removing
-use Rattle.meson_sources.proofs.Renaming.{number_after}
-use Rattle.meson_sources.proofs.SpotsApart.{AreApart, Clear}
-use Rattle.meson_sources.proofs.SpotsWithout.{steps_are}
+use Rattle.meson_sources.specs.SourceEdits.{Spot, removal, removal_steps, removals_after, spot_without}
+use Rattle.meson_sources.specs.Without.{each_without}
+use Rattle.meson_sources.proofs.ListsBut.{or_with_none}
+use Rattle.meson_sources.proofs.NamedSpots.{every_both, every_weaker}
+use Rattle.meson_sources.proofs.RemovedSpots.{all_in, nothing_gone, one_goes}
+use Rattle.meson_sources.proofs.SpotsApart.{Apart, AreApart}
+use Rattle.meson_sources.proofs.SpotsTwice.{left_without, moved_spot}
+use Rattle.meson_sources.proofs.Standings.{RemovalsDoable}
 use Rattle.meson_sources.proofs.StringsThere.{StringIn}
+use Rattle.meson_sources.proofs.TreesTwice.{moved_there, stays_there, trees_twice}
 
--- ---- files
+-- Strings at some spots have gone, and those at others are still to go.
+pub record Going (trees : List Plain) (gone more : List Spot) : Type 0 where
+  pub gone_there : Every (StringIn trees) gone
+  pub more_there : Every (StringIn trees) more
+  pub gone_apart : AreApart gone
+  pub more_apart : AreApart more
+  pub others : Every (λ s. Every (Apart s) gone) more
 
-nothing_gone : (ts : List Plain) → All MayStandBetween ts → each_without (λ n. nothing) ts ≡ ts
-nothing_gone [] all = refl
-nothing_gone (t ∷ ts) all = ap₂ (λ u us. u ∷ us) (tree_stays t (All-head MayStandBetween t ts all).0) (nothing_gone ts (All-tail MayStandBetween t ts all))
+pub at_first : (trees : List Plain) (spots : List Spot) → Every (StringIn trees) spots → AreApart spots → Going trees [] spots
+at_first trees spots are apart =
+    record { gone_there = tt; more_there = are; gone_apart = tt; more_apart = apart; others = every_weaker (StringIn trees) (λ s. Every (Apart s) []) (λ s there. tt) spots are }
 
-one_file : (ts : List Plain) (i : ℕ) (t now : Plain) → nth ts i ≡ Some t → (old new : ℕ → Gone) → tree_without (new i) now ≡ tree_without (old i) t → ((j : ℕ) → (i ≡ j → ⊥) → new j ≡ old j)
-    → each_without new (slice_set ts i now) ≡ each_without old ts
-one_file [] i t now there old new same others = absurd cc
-one_file (z ∷ ts) zero t now there old new same others =
-    ap₂ (λ u us. u ∷ us) (same ∙ ap (tree_without (old 0)) (sym (some-injective _ _ there))) (ap (λ g. each_without g ts) (λ i j. (others (suc j) (λ equal. absurd (omega (arith, equal)))) i))
-one_file (z ∷ ts) (suc i) t now there old new same others =
-    ap₂ (λ u us. u ∷ us) (ap (λ g. tree_without g z) (others 0 (λ equal. absurd (omega (arith, equal)))))
-    (one_file ts i t now there (λ n. old (suc n)) (λ n. new (suc n)) same (λ j other. others (suc j) (λ equal. other (omega (arith, equal)))))
+pub going_on : (trees : List Plain) (gone : List Spot) (s : Spot) (more : List Spot) → Going trees gone (s ∷ more) → Going trees (s ∷ gone) more
+going_on trees gone s more g = record {
+  gone_there = (g.more_there.0, g.gone_there);
+  more_there = g.more_there.1;
+  gone_apart = (g.others.0, g.gone_apart);
+  more_apart = g.more_apart.1;
+  others =
+      every_both (Apart s) (λ t. Every (Apart t) gone) (λ t. Every (Apart t) (s ∷ gone)) (λ t apart others. ((λ same. apart (sym same.0, sym same.1, sym same.2)), others)) more g.more_apart.0 g.others.1;
+}
 
--- ---- one string goes
+-- those that have gone then
+abbrev pub also_gone : List Spot → List Spot → List Spot
+also_gone [] gone = gone
+also_gone (s ∷ more) gone = also_gone more (s ∷ gone)
 
--- what goes later goes from where it is then
-goes_then : (s : Spot) (more : List Spot) → Every (Clear s) more → (c d : CallRef) (n m : ℕ) → Clear s (spot_at c n) → spot_after s (spot_at c n) ≡ spot_at d m → goes (spots_after s more) d m ≡ goes (s ∷ more) c n
-goes_then s more every c d n m clear moved =
-    ap (λ t. list_any (λ u. same_spot u t) (spots_after s more)) (sym moved) ∙ any_still s (spot_at c n) clear more every
-    ∙ ap (λ b. b || goes more c n) (sym (apart_not_same s (spot_at c n) clear.other))
+one_of_three : (a b c : Bool) → (b || (a || c)) ≡ ((a || b) || c)
+one_of_three true true c = refl
+one_of_three true false c = refl
+one_of_three false b c = refl
 
-module _ (trees : List Plain) (all : All MayStandBetween trees) (s : Spot) (there : StringIn trees s) (more : List Spot) (every : Every (Clear s) more) where
-  abbrev path : List ℕ
-  path = s.list.path.steps
+also_goes : (spots gone : List Spot) (c : CallRef) (n : ℕ) → goes (also_gone spots gone) c n ≡ (goes spots c n || goes gone c n)
+also_goes [] gone c n = refl
+also_goes (s ∷ more) gone c n = also_goes more (s ∷ gone) c n ∙ one_of_three (same_spot s (spot_at c n)) (goes more c n) (goes gone c n)
 
-  abbrev old : ℕ → Gone
-  old file p n = goes (s ∷ more) (place file p) n
+pub in_any_order : (spots : List Spot) → goes (also_gone spots []) ≡ goes spots
+in_any_order spots i c n = (also_goes spots [] c n ∙ or_with_none (goes spots c n)) i
 
-  abbrev new : ℕ → Gone
-  new file p n = goes (spots_after s more) (place file p) n
+module _ (trees : List Plain) (all : All MayStandBetween trees) where
+  one_more : (gone : List Spot) (s : Spot) (more : List Spot) → Going trees gone (s ∷ more) → All MayStandBetween (trees_without gone trees)
+      → (stepped (removal (spot_without gone s)) (trees_without gone trees) ≡ Some (trees_without (s ∷ gone) trees)) × All MayStandBetween (trees_without (s ∷ gone) trees)
+  one_more gone s more g stand =
+      let stays = stays_there trees all gone g.gone_there s g.more_there.0 g.others.0 in
+      let o = one_goes (trees_without gone trees) stand (moved_spot gone s) (moved_there trees all gone g.gone_there s g.more_there.0 stays.1) in
+      let twice = trees_twice trees all gone g.gone_there (s ∷ []) (stays, tt) in
+      (ap (λ t. stepped (removal t) (trees_without gone trees)) (sym (left_without gone g.gone_apart s)) ∙ o.0 ∙ ap Some twice, subst (All MayStandBetween) twice o.1)
 
-  elsewhere : (j : ℕ) → (s.list.file ≡ j → ⊥) → new j ≡ old j
-  elsewhere j other i p n =
-      (goes_then s more every (place j p) (place j p) n n (record { above = λ file. absurd (other file); other = λ same. other same.0 }) (paths.other_file s (spot_at (place j p) n) other)) i
+  all_go : (more gone : List Spot) → Going trees gone more → All MayStandBetween (trees_without gone trees)
+      → AreDoable (removals_after gone more) (trees_without gone trees) × (all_stepped (removals_after gone more) (trees_without gone trees) ≡ Some (trees_without (also_gone more gone) trees))
+  all_go [] gone g stand = (none (trees_without gone trees), refl)
+  all_go (s ∷ more) gone g stand =
+      let o = one_more gone s more g stand in
+      let steps = removals_after (s ∷ gone) more in
+      let rest = all_go more (s ∷ gone) (going_on trees gone s more g) o.1 in (
+        one (removal (spot_without gone s)) steps (trees_without gone trees) (trees_without (s ∷ gone) trees) tt o.0 o.1 rest.0,
+        ap (option_and_then (all_stepped steps)) o.0 ∙ rest.1,
+      )
 
-  one_gone : trees_without (spots_after s more) (between trees all s there) ≡ trees_without (s ∷ more) trees
-  one_gone =
-      let g = removing.goes trees all s there in
-      let gone : old s.list.file path s.number ≡ true = ap (λ b. b || goes more s.list s.number) (spot_itself s) in
-      one_file trees s.list.file there.tree g.now there.is_tree old new
-      (string_gone there.tree g.now (level trees all s there) path s.number there.it there.stands there.is_string g.is_now (old s.list.file) (new s.list.file)
-      (renamed path s.number (old s.list.file) (new s.list.file) gone
-      (λ p n not_through other.
-      goes_then s more every (place s.list.file p) (place s.list.file (path_after path s.number p)) n (number_after path s.number p n)
-      (record { above = λ file. not_through; other = λ same. other (same.1, same.2) })
-      (sym (paths.renamed s (spot_at (place s.list.file p) n) (path_after path s.number p) (number_after path s.number p n) refl refl refl)))))
-      elsewhere
-
--- ---- all of them
-
-as_many : (s : Spot) (more : List Spot) → length (spots_after s more) ≡ length more
-as_many s [] = refl
-as_many s (t ∷ more) = ap suc (as_many s more)
-
-left_by : (left : ℕ) (spots : List Spot) → length spots ≡ left → (trees after : List Plain) → All MayStandBetween trees → Every (StringIn trees) spots → AreApart spots → all_stepped (removed_by left spots) trees ≡ Some after
-    → after ≡ trees_without spots trees
-left_by zero [] many trees after all are apart done = sym (some-injective _ _ done) ∙ sym (nothing_gone trees all)
-left_by zero (s ∷ more) many trees after all are apart done = absurd (omega (arith, many))
-left_by (suc left) [] many trees after all are apart done = absurd (omega (arith, many))
-left_by (suc left) (s ∷ more) many trees after all are apart done =
-    let edit = Remove s.list.path.steps s.number in
-    let g = removing.goes trees all s are.0 in
-    let now = between trees all s are.0 in
-    let fewer : length (spots_after s more) ≡ left = omega (arith, many, as_many s more) in
-    let o = and-then-some (all_stepped (removed_by left (spots_after s more))) (stepped (step_in s.list edit) trees) after done in
-    let same : now ≡ o.0 = some-injective _ _ (sym (change_there (edited edit) trees s.list.file are.0.tree g.now are.0.is_tree g.is_now) ∙ o.1) in
-    left_by left (spots_after s more) fewer now after (between_stand trees all s are.0) (all_between trees all s are.0 more are.1 apart.0) (all_apart trees all s are.0 more are.1 apart.0 apart.1)
-    (ap (all_stepped (removed_by left (spots_after s more))) same ∙ o.2)
-    ∙ one_gone trees all s are.0 more (all_clear trees all s are.0 more are.1 apart.0)
+  from_first : (spots : List Spot) → Every (StringIn trees) spots → AreApart spots → AreDoable (removal_steps spots) trees × (all_stepped (removal_steps spots) trees ≡ Some (trees_without spots trees))
+  from_first spots are apart =
+      let none_gone = nothing_gone trees all in
+      let r = all_go spots [] (at_first trees spots are apart) (subst (All MayStandBetween) (sym none_gone) all) in (
+        subst (AreDoable (removal_steps spots)) none_gone r.0,
+        ap (all_stepped (removal_steps spots)) (sym none_gone) ∙ r.1 ∙ ap (λ g. Some (each_without (λ file path n. g (place file path) n) trees)) (in_any_order spots),
+      )
 
 pub trees_left : (spots : List Spot) (trees after : List Plain) → All MayStandBetween trees → Every (StringIn trees) spots → AreApart spots → all_stepped (removal_steps spots) trees ≡ Some after
     → after ≡ trees_without spots trees
-trees_left spots trees after all are apart done =
-    left_by (length spots) spots refl trees after all are apart (ap (λ steps. all_stepped steps trees) (sym (steps_are trees all spots are apart)) ∙ done)
+trees_left spots trees after all are apart done = some-injective _ _ (sym done ∙ (from_first trees all spots are apart).1)
+
+pub removals_doable : RemovalsDoable
+removals_doable old parsed spots all apart = (from_first (plain_trees old) (trees_stand old.files old.parsed parsed) spots (all_in old spots all) apart).0

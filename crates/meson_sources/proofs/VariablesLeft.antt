@@ -18,16 +18,15 @@ use Rattle.meson_sources.specs.Without.{Gone, each_without, expression_without, 
 use Rattle.meson_sources.proofs.NodesMoved.{child_place, fits_none, node_moved, place_left}
 use Rattle.meson_sources.proofs.OneGone.{string_child}
 use Rattle.meson_sources.proofs.SpotsHeld.{same_there}
-use Rattle.meson_sources.proofs.WithoutLoses.{Lost, at_child, gone_at, loses}
+use Rattle.meson_sources.proofs.WithoutLoses.{Lost, at_child, gone_at, loses, strings_lost}
 use Rattle.meson_sources.proofs.WithoutPlaces.{any_without, before_all, nth_left, path_left}
 use Rattle.meson_sources.proofs.Bares.{bare_value, values_of}
 use Rattle.meson_sources.proofs.ElementsThere.{root}
 use Rattle.meson_sources.proofs.Kins.{node_level, placed_of, value_in}
 use Rattle.meson_sources.proofs.Losses.{Loses}
 use Rattle.meson_sources.proofs.LostValues.{BothStand, ValueLoses}
-use Rattle.meson_sources.proofs.RenamedStrings.{Node}
+use Rattle.meson_sources.proofs.NodeLists.{Node, list_any}
 use Rattle.meson_sources.proofs.Scenes.{NodeIn, SameTells, names_of, projects_tell}
-use Rattle.meson_sources.proofs.StringsStay.{list_any}
 use Rattle.meson_sources.proofs.TellsErased.{file_names_erased, told_erased}
 use Rattle.meson_sources.proofs.ValuePlaces.{value_place, value_place_is}
 
@@ -101,7 +100,7 @@ module _ (before : List Plain) (stand : All MayStandBetween before) (gone : Call
   stays at m path y h =
       let g : Gone = λ path k. gone (place at.file path) k in
       let whole : NodeIn before (place at.file []) (root h.tree) = record { tree = h.tree; is_tree = h.is_tree; is_node = refl } in
-      ap (λ p. place at.file (path_left g p)) path ∙ ap (λ n. place at.file (n ∷ [])) (before_all (g []) (fits_none before stand gone lost (place at.file []) (root h.tree) whole refl) m) ∙ ap (place at.file) (sym path)
+      ap (λ p. place at.file (path_left g p)) path ∙ ap (λ n. place at.file (n ∷ [])) (before_all (g []) (fits_none before stand gone (strings_lost before gone lost) (place at.file []) (root h.tree) whole refl) m) ∙ ap (place at.file) (sym path)
 
   pub value_left : (at : CallRef) (m : ℕ) → at.path.steps ≡ m ∷ [] → (e d : Expression Nowhere) → LevelExpression e → NodeIn before (child at 0) (an_expression e) → NodeIn after (child at 0) (an_expression d) → Loses gone (child at 0) e d
   value_left at m path e d level was is =
@@ -109,10 +108,10 @@ module _ (before : List Plain) (stand : All MayStandBetween before) (gone : Call
       let q = parent after at (an_expression d) is in
       let s = in_block (block_of p.1.tree) m p.0 (sym (ap (node_at (root p.1.tree)) path) ∙ p.1.is_node) in
       let no_list : list_any p.0 ≡ None = ap list_any s.1 in
-      let moved = node_moved before stand gone lost at p.0 p.1 (ap string_child s.1) in
+      let moved = node_moved before stand gone (strings_lost before gone lost) at p.0 p.1 (ap string_child s.1) in
       let there : NodeIn after at (any_without (gone_at gone at) p.0) = subst (λ c. NodeIn after c (any_without (gone_at gone at) p.0)) (stays at m path p.0 p.1) moved in
       let same : q.0 ≡ any_without (gone_at gone at) p.0 = same_there after at (any_without (gone_at gone at) p.0) q.0 there q.1 in
-      let left = nth_left (gone_at gone at) p.0 (an_expression e) 0 (fits_none before stand gone lost at p.0 p.1 no_list) p.2 in
+      let left = nth_left (gone_at gone at) p.0 (an_expression e) 0 (fits_none before stand gone (strings_lost before gone lost) at p.0 p.1 no_list) p.2 in
       let value : an_expression d ≡ an_expression (expression_without (from_child 0 (gone_at gone at)) e) = some-injective _ _ (sym q.2 ∙ ap (λ z. nth (child_nodes z) 0) same ∙ left) in
       subst (Loses gone (child at 0) e) (ap (λ g. expression_without g e) (sym (at_child gone at 0)) ∙ sym (same_expression (expression_without (from_child 0 (gone_at gone at)) e) d value)) (loses before gone lost e (child at 0) level was)
 

@@ -13,15 +13,23 @@ use Rattle.meson_edit.specs.Edits.{elements, is_empty}
 use Rattle.meson_calls.specs.declared.call.CallRef.{CallRef}
 use Rattle.meson_calls.specs.Project.{child, place}
 use Rattle.meson_sources.specs.Without.{Gone, arguments_without, but, expression_without, from_child, listing_without, operands_without}
+use Rattle.meson_sources.proofs.ElementsThere.{IsStringElement}
 use Rattle.meson_sources.proofs.Losses.{ArgumentLoses, EachLoses, ListLoses, Loses, OperandsLose, Valued}
 use Rattle.meson_sources.proofs.Owners.{node_between}
-use Rattle.meson_sources.proofs.RenamedStrings.{Node}
+use Rattle.meson_sources.proofs.NodeLists.{Node, element_any, list_any}
 use Rattle.meson_sources.proofs.Scenes.{NodeIn}
-use Rattle.meson_sources.proofs.StringsStay.{element_any, list_any}
 
 -- what an element that has gone was
 abbrev pub Lost : Node → ℕ → Type 0
 Lost y n = (a : Argument Nowhere) × (element_any y n ≡ Some a) × Valued a
+
+-- so much of a string
+abbrev pub LostString : Node → ℕ → Type 0
+LostString y n = (a : Argument Nowhere) × (element_any y n ≡ Some a) × IsStringElement a
+
+pub strings_lost : (trees : List Plain) (gone : CallRef → ℕ → Bool) → ((c : CallRef) (n : ℕ) → gone c n ≡ true → (y : Node) → NodeIn trees c y → Lost y n)
+    → (c : CallRef) (n : ℕ) → gone c n ≡ true → (y : Node) → NodeIn trees c y → LostString y n
+strings_lost trees gone lost c n is y h = let l = lost c n is y h in (l.0, l.1, record { kind = l.2.kind; text = l.2.word; is = l.2.is_string })
 
 -- what goes from what stands at a place
 abbrev pub gone_at : (CallRef → ℕ → Bool) → CallRef → Gone
@@ -41,16 +49,16 @@ pub no_true : (b : Bool) → (b ≡ true → ⊥) → b ≡ false
 no_true true other = absurd (other refl)
 no_true false other = refl
 
+pub child_in : (trees : List Plain) (c : CallRef) (y x : Node) (n : ℕ) → NodeIn trees c y → nth (child_nodes y) n ≡ Some x → NodeIn trees (child c n) x
+child_in trees c y x n h is = record {
+  tree = h.tree;
+  is_tree = h.is_tree;
+  is_node = node_between c.path.steps (n ∷ []) _ y h.is_node ∙ ap (option_and_then (λ z. node_at z [])) is;
+}
+
 module _ (trees : List Plain) (gone : CallRef → ℕ → Bool) (lost : (c : CallRef) (n : ℕ) → gone c n ≡ true → (y : Node) → NodeIn trees c y → Lost y n) where
   abbrev at : CallRef → Gone
   at = gone_at gone
-
-  pub child_in : (c : CallRef) (y x : Node) (n : ℕ) → NodeIn trees c y → nth (child_nodes y) n ≡ Some x → NodeIn trees (child c n) x
-  child_in c y x n h is = record {
-    tree = h.tree;
-    is_tree = h.is_tree;
-    is_node = node_between c.path.steps (n ∷ []) _ y h.is_node ∙ ap (option_and_then (λ z. node_at z [])) is;
-  }
 
   -- what has no list loses nothing
   pub none_gone : (c : CallRef) (x : Node) → NodeIn trees c x → list_any x ≡ None → (k : ℕ) → gone c k ≡ false
@@ -76,7 +84,7 @@ module _ (trees : List Plain) (gone : CallRef → ℕ → Bool) (lost : (c : Cal
   one_on y x n parts from j z is = sym (ap (nth (child_nodes y)) (later n j)) ∙ from (suc j) z is
 
   first_in : (c : CallRef) (y x : Node) (n : ℕ) (parts : List Node) → NodeIn trees c y → PartsFrom y n (x ∷ parts) → NodeIn trees (child c n) x
-  first_in c y x n parts h from = let same : n + 0 ≡ n = omega arith in child_in c y x n h (sym (ap (nth (child_nodes y)) same) ∙ from 0 x refl)
+  first_in c y x n parts h from = let same : n + 0 ≡ n = omega arith in child_in trees c y x n h (sym (ap (nth (child_nodes y)) same) ∙ from 0 x refl)
 
   -- an element that goes, or stays
   module _ (a b : Argument Nowhere) (more : Arguments Nowhere) (left : List (Argument Nowhere)) (c : CallRef) (y : Node) (n : ℕ) (h : NodeIn trees c y) (is_element : element_any y n ≡ Some a)
@@ -99,7 +107,7 @@ module _ (trees : List Plain) (gone : CallRef → ℕ → Bool) (lost : (c : Cal
           expression_without (from_child 0 (at c)) e,
           operands_without (at c) 1 os,
           refl,
-          as_child e c 0 (loses e (child c 0) level.2 (child_in c y (an_expression e) 0 h refl)),
+          as_child e c 0 (loses e (child c 0) level.2 (child_in trees c y (an_expression e) 0 h refl)),
           operands_lose os c 1 y _ level.3 h (one_on y (an_expression e) 0 (operands_parts os) (whole y)),
           none_gone c y h refl,
         )

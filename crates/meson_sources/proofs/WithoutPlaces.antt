@@ -11,8 +11,7 @@ use Rattle.meson_edit.specs.Edits.{elements}
 use Rattle.meson_sources.specs.Without.{Gone, arguments_without, block_without, branches_without, but, expression_without, from_child, listing_without, operands_without, otherwise_without, statement_without, statements_without, tail_without, tails_without}
 use Rattle.meson_sources.proofs.ListsBut.{but_none}
 use Rattle.meson_sources.proofs.OneGone.{HasOnePart}
-use Rattle.meson_sources.proofs.RenamedStrings.{Node}
-use Rattle.meson_sources.proofs.StringsStay.{list_any}
+use Rattle.meson_sources.proofs.NodeLists.{Node, list_any}
 
 abbrev pub any_without : Gone → Node → Node
 any_without g (an_expression e) = an_expression (expression_without g e)
@@ -38,7 +37,7 @@ pub under_is : (path : List ℕ) (g : Gone) → under_path g path ≡ (λ q k. g
 under_is [] g = refl
 under_is (n ∷ path) g = under_is path (from_child n g)
 
-nth_but : {X : Type 0} (gone : ℕ → Bool) (xs : List X) (n : ℕ) (x : X) → nth xs n ≡ Some x → gone n ≡ false → nth (but gone xs) (left_before gone n) ≡ Some x
+pub nth_but : {X : Type 0} (gone : ℕ → Bool) (xs : List X) (n : ℕ) (x : X) → nth xs n ≡ Some x → gone n ≡ false → nth (but gone xs) (left_before gone n) ≡ Some x
 nth_but gone [] n x is stays = absurd cc
 nth_but gone (y ∷ ys) zero x is stays = ap (λ b. nth (if b then but (λ k. gone (suc k)) ys else y ∷ but (λ k. gone (suc k)) ys) 0) stays ∙ is
 nth_but gone (y ∷ ys) (suc n) x is stays = go (gone 0) (nth_but (λ k. gone (suc k)) ys n x is stays)
@@ -133,7 +132,7 @@ module _ (g : Gone) where
       ap (λ xs. arguments_parts (arguments_of xs)) (but_none (g []) none (arguments_without g 0 list)) ∙ arguments_each 0 list ∙ sym (but_none (g []) none (each_child 0 (arguments_parts list)))
   list_left (listing s trailing list) (inr one) = arguments_but (g []) 0 list one
 
-  by_list : (x : Node) (l : Listing Nowhere) → list_any x ≡ Some l → Fits x → ((k : ℕ) → g [] k ≡ false) ⊎ Every HasOnePart (elements l)
+  pub by_list : (x : Node) (l : Listing Nowhere) → list_any x ≡ Some l → Fits x → ((k : ℕ) → g [] k ≡ false) ⊎ Every HasOnePart (elements l)
   by_list x l is (inl none) = inl none
   by_list x l is (inr w) = inr (subst (λ m. Every HasOnePart (elements m)) (some-injective _ _ (sym w.1 ∙ is)) w.2)
 

@@ -3,7 +3,7 @@ use Rattle.std.specs.Cmp.Lexicographic.{pointwise}
 use Rattle.std.specs.Prelude.{true, ◌&&◌, nat_eq, nat_lt}
 use Rattle.std.proofs.lemmas.Bool.{eq-eqb}
 use Rattle.meson_sources.specs.SourceEdits.{is_path}
-use Rattle.meson_sources.proofs.PathsAfter.{pointwise_is}
+use Rattle.meson_sources.proofs.SamePaths.{pointwise_is}
 use Rattle.meson_sources.proofs.removing.is_before.Goals as goal
 
 pub returns-then-eq : goal.returns-then-eq
