@@ -1,5 +1,5 @@
 -- What is kept of files: whether a call in them sets variables.
-use Rattle.std.proofs.Common.{◌≡◌, ℕ, zero, suc, ◌+◌, ◌<◌, List, [], ◌∷◌, ◌++◌, length, get_or, refl, sym, ap, ◌∙◌, subst, inl, inr, arith}
+use Rattle.std.proofs.Common.{◌≡◌, ℕ, ◌+◌, ◌<◌, List, [], ◌∷◌, length, get_or, refl, sym, ap, ◌∙◌, subst, inl, inr, arith}
 use Rattle.std.specs.declared.alloc.AllocError.{AllocError}
 use Rattle.std.specs.Prelude.{Bool, false, ◌||◌, bytes_eq, codes, set, Option, Some, None, is_some, IsSome, MatchOption, Result, Ok}
 use Rattle.std.proofs.lemmas.Bool.{cases_eq}
@@ -66,13 +66,6 @@ pub kept_over : (before after : List (Option Bool)) (files those : List File) (t
 kept_over before after files those trees others are stays = λ i is d.
     let s = stays i is in
     subst (λ b. NoCallSets i b (get_or others i d)) s.bytes (subst (NoCallSets i (bytes_at i files)) (s.tree d) (are i s.known d))
-
--- an entry that is not known says no more than one that is not there
-pub not_known : (kept : List (Option Bool)) (i : ℕ) → get_or (kept ++ None ∷ []) i None ≡ get_or kept i None
-not_known [] zero = refl
-not_known [] (suc i) = refl
-not_known (k ∷ kept) zero = refl
-not_known (k ∷ kept) (suc i) = not_known kept i
 
 module _ (kept : List (Option Bool)) (i : ℕ) (sets : Bool) (within : i < length kept) where
   -- one more is kept
