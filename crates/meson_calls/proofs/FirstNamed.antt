@@ -7,7 +7,7 @@ use Rattle.meson_syntax.specs.View.{arg_view}
 use Rattle.meson_calls.specs.Calls.{value_with_name}
 use Rattle.meson_calls.specs.NamedArguments.{kept_args, IsFirstNamed}
 use Rattle.meson_calls.proofs.ArgumentViews.{nth_there}
-use Rattle.meson_calls.proofs.Kept.{kept_here}
+use Rattle.meson_calls.proofs.KeptArguments.{kept_here}
 
 some_there : {Y : Type 0} (o : Option Y) → is_some o ≡ true → (y : Y) × (o ≡ Some y)
 some_there None is = absurd cc

@@ -21,7 +21,7 @@ pub mod GoodLiterals
 pub mod GoodNotes
 pub mod Listed
 pub mod Nested
-pub mod Kept
+pub mod KeptArguments
 pub mod SubdirNames
 pub mod CallsAt
 pub mod ArgumentViews
@@ -47,6 +47,7 @@ mod NothingRead
 pub mod NoteReadings
 pub mod NotesWith
 pub mod SetterReadings
+pub mod SettersKept
 mod NoSubdirs
 pub mod KeywordArguments
 pub mod AtMostOnce

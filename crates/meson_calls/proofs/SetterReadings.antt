@@ -1,49 +1,50 @@
 -- What is read off notes of setters alone is what is read off all notes, where the others tell nothing.
 use Rattle.std.proofs.Common.{◌≡◌, ℕ, ◌+◌, List, [], ◌∷◌, ◌++◌, Bool, true, false, refl, sym, ap, ap₂, ◌∙◌, subst}
-use Rattle.std.specs.Prelude.{if◌then◌else◌}
+use Rattle.std.specs.Prelude.{◌||◌, if◌then◌else◌}
 use Rattle.std.specs.Borrow.{Bor}
 use Rattle.meson_lex.specs.declared.kinds.Span.{Span}
 use Rattle.meson_splice.specs.declared.file_set.File.{File}
 use Rattle.meson_syntax.specs.declared.tree.Parsed.{Parsed}
-use Rattle.meson_syntax.specs.Reads.{IsSpanned}
 use Rattle.meson_syntax.specs.View.{view}
-use Rattle.meson_calls.specs.Loading.{AreParsed, named_trees, views}
+use Rattle.meson_calls.specs.Loading.{named_trees, views}
 use Rattle.meson_calls.specs.Notes.{Note, noted, notes}
 use Rattle.meson_calls.specs.Parts.{parts_of_file}
 use Rattle.meson_calls.specs.Project.{Placed}
-use Rattle.meson_calls.specs.Setters.{AreSetters, is_setter, notes_asked, setters_in}
-use Rattle.meson_calls.specs.Spelling.{HasNoneOf, setter_words}
+use Rattle.meson_calls.specs.Setters.{AreSetters, NoCallSets, any_sets_by_call, is_setter, notes_asked, sets_by_call, setters_in}
 use Rattle.meson_calls.specs.Strings.{NotesGood}
 use Rattle.meson_calls.proofs.NoteReadings.{Gathers, Notes, notes_after, notes_from}
 use Rattle.meson_calls.proofs.NotesWith.{good_join, good_left, good_right}
-use Rattle.meson_calls.proofs.StandingNotes.{NoteStands, NotesStand, notes_stand}
+
+pub neither : (a b : Bool) → (a || b) ≡ false → (a ≡ false) × (b ≡ false)
+neither true b is = absurd cc
+neither false b is = (refl, is)
 
 module _ (names : List (Bor (List ℕ))) where
-  -- it reads nothing off a note of no setter, whose words stand in bytes in which no call sets a variable
+  -- it reads nothing off a note of no setter
   abbrev pub ReadsSetters : {X : Type 0} → (Notes → X) → X → Type 0
-  ReadsSetters read nothing = (bytes : List ℕ) → HasNoneOf setter_words bytes → (n : Placed (Note Span)) → NoteStands bytes n.it → is_setter names n.it ≡ false → read (n ∷ []) ≡ nothing
+  ReadsSetters read nothing = (n : Placed (Note Span)) → sets_by_call n.it ≡ false → is_setter names n.it ≡ false → read (n ∷ []) ≡ nothing
 
   module _ {X : Type 0} (read : Notes → X) (join : X → X → X) (nothing : X) (gathers : Gathers read join nothing) (alone : ReadsSetters read nothing) where
-    few_read : (bytes : List ℕ) → HasNoneOf setter_words bytes → (ns : Notes) → NotesStand bytes ns → read (setters_in names ns) ≡ read ns
-    few_read bytes none [] stand = refl
-    few_read bytes none (n ∷ ns) stand = go (is_setter names n.it) refl (few_read bytes none ns stand.1)
+    few_read : (ns : Notes) → any_sets_by_call ns ≡ false → read (setters_in names ns) ≡ read ns
+    few_read [] none = refl
+    few_read (n ∷ ns) none = go (is_setter names n.it) refl (few_read ns (neither (sets_by_call n.it) (any_sets_by_call ns) none).1)
       where
         go : (b : Bool) → is_setter names n.it ≡ b → read (setters_in names ns) ≡ read ns → read (if b then n ∷ setters_in names ns else setters_in names ns) ≡ read (n ∷ ns)
         go true is same = gathers.joins (n ∷ []) (setters_in names ns) ∙ ap (join (read (n ∷ []))) same ∙ sym (gathers.joins (n ∷ []) ns)
-        go false is same = same ∙ sym (gathers.joins (n ∷ []) ns ∙ ap (λ x. join x (read ns)) (alone bytes none n stand.0 is) ∙ gathers.unit (read ns))
+        go false is same =
+            let here = alone n (neither (sets_by_call n.it) (any_sets_by_call ns) none).0 is in
+            same ∙ sym (gathers.joins (n ∷ []) ns ∙ ap (λ x. join x (read ns)) here ∙ gathers.unit (read ns))
 
-    asked_read : (n : ℕ) (f : File) (t : Parsed) → IsSpanned f.bytes (view f.bytes t) → (all : Bool) → (all ≡ false → HasNoneOf setter_words f.bytes)
-        → read (notes_asked names all n f.bytes t) ≡ read (noted (parts_of_file n (view f.bytes t)))
-    asked_read n f t spanned true few = refl
-    asked_read n f t spanned false few = few_read f.bytes (few refl) (noted (parts_of_file n (view f.bytes t))) (notes_stand n f.bytes (view f.bytes t) spanned)
+    asked_read : (n : ℕ) (f : File) (t : Parsed) (all : Bool) → (all ≡ false → NoCallSets n f.bytes t) → read (notes_asked names all n f.bytes t) ≡ read (noted (parts_of_file n (view f.bytes t)))
+    asked_read n f t true few = refl
+    asked_read n f t false few = few_read (noted (parts_of_file n (view f.bytes t))) (few refl)
 
-    pub setters_read : (n : ℕ) (files : List File) (parsed : List Parsed) (ns : Notes) → AreParsed files parsed → AreSetters names n files parsed ns → read ns ≡ read (notes_from n files parsed)
-    setters_read n [] [] ns parses are = ap read are
-    setters_read n [] (t ∷ parsed) ns parses are = absurd parses
-    setters_read n (f ∷ files) [] ns parses are = absurd parses
-    setters_read n (f ∷ files) (t ∷ parsed) ns parses are =
+    pub setters_read : (n : ℕ) (files : List File) (parsed : List Parsed) (ns : Notes) → AreSetters names n files parsed ns → read ns ≡ read (notes_from n files parsed)
+    setters_read n [] parsed ns are = ap read are
+    setters_read n (f ∷ files) [] ns are = ap read are
+    setters_read n (f ∷ files) (t ∷ parsed) ns are =
         ap read are.are ∙ gathers.joins (notes_asked names are.all n f.bytes t) are.more
-        ∙ ap₂ join (asked_read n f t parses.0 are.all are.few) (setters_read (n + 1) files parsed are.more parses.1 are.further)
+        ∙ ap₂ join (asked_read n f t are.all are.few) (setters_read (n + 1) files parsed are.more are.further)
         ∙ sym (ap read (notes_after n f t files parsed) ∙ gathers.joins (noted (parts_of_file n (view f.bytes t))) (notes_from (n + 1) files parsed))
 
   -- ---- good notes

@@ -8,8 +8,7 @@ use Rattle.meson_splice.specs.Files.{bytes_at}
 use Rattle.meson_syntax.specs.declared.tree.Parsed.{Parsed}
 use Rattle.meson_calls.specs.Notes.{Note}
 use Rattle.meson_calls.specs.Project.{Placed}
-use Rattle.meson_calls.specs.Setters.{AreSetters, BeginWithSetters, notes_asked}
-use Rattle.meson_calls.specs.Spelling.{HasNoneOf, setter_words}
+use Rattle.meson_calls.specs.Setters.{AreSetters, BeginWithSetters, NoCallSets, notes_asked}
 use Rattle.meson_calls.proofs.Loads.{nth_bytes}
 
 -- notes so far that notes of the files from i on complete
@@ -33,13 +32,13 @@ module _ (names : List (Bor (List ℕ))) (files : List File) (trees : List Parse
       subst (λ gs. AreSetters names i gs (drop i trees) more) (sym (at_drop_more (λ gs. gs) files i d within))
       (subst (λ us. AreSetters names i (f ∷ drop (i + 1) files) us more) (sym (at_drop_more (λ us. us) trees i e inside)) head)
 
-  pub next_setters : (all : Bool) (after : List (Placed (Note Span))) → (all ≡ false → HasNoneOf setter_words (bytes_at i files))
+  pub next_setters : (all : Bool) (after : List (Placed (Note Span))) → (all ≡ false → NoCallSets i (bytes_at i files) t)
       → after ≡ before ++ notes_asked names all i (bytes_at i files) t → SettersGoOn names files trees (i + 1) after
   next_setters all after few is = λ more further.
       let own = notes_asked names all i f.bytes t in
       subst (AreSetters names 0 files trees)
       (sym (ap (λ ns. ns ++ more) (is ∙ ap (λ b. before ++ notes_asked names all i b t) (nth_bytes files i d within)) ∙ append_assoc before own more))
-      (so_far (own ++ more) (from_here (own ++ more) (record { all = all; few = λ no. subst (HasNoneOf setter_words) (nth_bytes files i d within) (few no); more = more; further = further; are = refl })))
+      (so_far (own ++ more) (from_here (own ++ more) (record { all = all; few = λ no. subst (λ b. NoCallSets i b t) (nth_bytes files i d within) (few no); more = more; further = further; are = refl })))
 
 pub all_setters : (names : List (Bor (List ℕ))) (files : List File) (trees : List Parsed) (i : ℕ) (ns : List (Placed (Note Span))) → length files ≤ i → SettersGoOn names files trees i ns → AreSetters names 0 files trees ns
 all_setters names files trees i ns past so_far =

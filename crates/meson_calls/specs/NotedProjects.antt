@@ -6,6 +6,7 @@ use Rattle.meson_calls.specs.declared.noted.Noted.{Noted}
 use Rattle.meson_calls.specs.Loading.{IsProject, Loaded, loaded_from, project}
 use Rattle.meson_calls.specs.Notes.{note_views}
 use Rattle.meson_calls.specs.Project.{Project}
+use Rattle.meson_calls.specs.Setters.{AreKept}
 use Rattle.meson_calls.specs.Spelling.{AreNotesWith, sought_words}
 
 abbrev pub loaded_in : Noted → Loaded
@@ -15,7 +16,8 @@ abbrev pub project_in : Noted → Project Span
 project_in n = project (loaded_in n)
 
 -- The files are a project with these trees, and the notes are those by which an id is found: those of the project, but for files in which nothing can tell of
--- the id.
+-- the id. What is kept of the files is so.
 pub record IsNotedFor (role : Role) (id : List ℕ) (n : Noted) : Type 0 where
   pub whole : IsProject (loaded_in n)
   pub taken : AreNotesWith (sought_words role id) 0 n.files.now n.trees.now (note_views n.notes.now)
+  pub kept : AreKept n.kept.now n.files.now n.trees.now

@@ -1,15 +1,16 @@
 -- Notes by which the values of some variables are known: all of a file in which a call may set one, and of the others the setters alone.
-use Rattle.std.specs.Prelude.{◌≡◌, ℕ, ◌+◌, Bool, true, false, List, [], ◌∷◌, ◌++◌, bytes_eq, if◌then◌else◌}
+use Rattle.std.specs.Prelude.{◌≡◌, ℕ, ◌+◌, ◌<◌, Bool, true, false, ◌||◌, List, [], ◌∷◌, ◌++◌, length, get_or, bytes_eq, codes, if◌then◌else◌, Option, Some, None, IsSome}
 use Rattle.std.specs.Borrow.{Bor}
 use Rattle.std.specs.List.{filter, list_any}
 use Rattle.meson_lex.specs.declared.kinds.Span.{Span}
 use Rattle.meson_splice.specs.declared.file_set.File.{File}
+use Rattle.meson_splice.specs.Files.{bytes_at}
 use Rattle.meson_syntax.specs.declared.tree.Parsed.{Parsed}
 use Rattle.meson_syntax.specs.View.{view}
+use Rattle.meson_calls.specs.Calls.{calls_function}
 use Rattle.meson_calls.specs.Notes.{Note, a_call, an_assignment, a_loop, noted}
 use Rattle.meson_calls.specs.Parts.{parts_of_file}
 use Rattle.meson_calls.specs.Project.{Placed}
-use Rattle.meson_calls.specs.Spelling.{HasNoneOf, setter_words}
 
 -- whether a name is among the code's names
 abbrev pub is_among : List (Bor (List ℕ)) → List ℕ → Bool
@@ -30,11 +31,39 @@ notes_asked names all n bytes t =
     let own = noted (parts_of_file n (view bytes t)) in
     if all then own else setters_in names own
 
+-- ---- calls by which variables are set: of `set_variable`, and of `subdir`, behind which another file may set them
+
+abbrev pub sets_by_call : {S : Type 0} → Note S → Bool
+sets_by_call (a_call c) = calls_function (codes "subdir") c || calls_function (codes "set_variable") c
+sets_by_call (an_assignment x sets e) = false
+sets_by_call (a_loop xs) = false
+
+-- whether there is one among the notes; in the n-th file
+abbrev pub any_sets_by_call : {S : Type 0} → List (Placed (Note S)) → Bool
+any_sets_by_call ns = list_any (λ m. sets_by_call m.it) ns
+
+abbrev pub file_sets_by_call : ℕ → List ℕ → Parsed → Bool
+file_sets_by_call n bytes t = any_sets_by_call (noted (parts_of_file n (view bytes t)))
+
+-- No call in the n-th file sets a variable.
+abbrev pub NoCallSets : ℕ → List ℕ → Parsed → Type 0
+NoCallSets n bytes t = file_sets_by_call n bytes t ≡ false
+
+-- What is kept of files, whether a call in them sets a variable, is so where it says that none does. An entry that is not known, or is not there, says nothing.
+abbrev pub AreKept : List (Option Bool) → List File → List Parsed → Type 0
+AreKept kept files trees = (i : ℕ) → get_or kept i None ≡ Some false → (d : Parsed) → NoCallSets i (bytes_at i files) (get_or trees i d)
+
+-- it is known of each of the files
+abbrev pub AllKnown : List (Option Bool) → List File → Type 0
+AllKnown kept files = (i : ℕ) → i < length files → IsSome (get_or kept i None)
+
+-- ---- notes of files
+
 -- Notes begin with those of a file: with all of them, or with its setters, where no call in it sets a variable.
 pub record BeginWithSetters (names : List (Bor (List ℕ))) (n : ℕ) (f : File) (t : Parsed)
     (Further : List (Placed (Note Span)) → Type 0) (ns : List (Placed (Note Span))) : Type 0 where
   pub all : Bool
-  pub few : all ≡ false → HasNoneOf setter_words f.bytes
+  pub few : all ≡ false → NoCallSets n f.bytes t
   pub more : List (Placed (Note Span))
   pub further : Further more
   pub are : ns ≡ notes_asked names all n f.bytes t ++ more

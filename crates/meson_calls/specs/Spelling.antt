@@ -39,6 +39,6 @@ abbrev pub sought_words : Role → List ℕ → List (List ℕ)
 sought_words role.Project id = codes "project" ∷ []
 sought_words _ id = id ∷ (92 ∷ []) ∷ []
 
--- one of them stands in each file in which a call sets a variable, or may set any
+-- one of them stands in each file in which a call sets a variable
 abbrev pub setter_words : List (List ℕ)
 setter_words = codes "subdir" ∷ codes "set_variable" ∷ []

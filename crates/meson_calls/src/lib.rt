@@ -10,6 +10,7 @@ pub mod finding;
 pub mod folders;
 pub mod keeper;
 pub mod keeping;
+pub mod kept;
 pub mod keys;
 pub mod laws;
 pub mod literals;

@@ -6,11 +6,12 @@ ghost use Rattle.meson_syntax.specs.View.{view};
 ghost use Rattle.meson_calls.specs.Parts.{parts_of_file};
 ghost use Rattle.meson_calls.specs.Loading.{AreParsed, named_trees, views};
 ghost use Rattle.meson_calls.specs.Notes.{noted, notes, taken_view};
-ghost use Rattle.meson_calls.specs.Setters.{AreSetters, notes_asked};
+ghost use Rattle.meson_calls.specs.Setters.{AreKept, AreSetters, notes_asked};
 ghost use Rattle.meson_calls.specs.Spelling.{AreNotesWith, sought_words};
 
 use crate::call::Role;
 use crate::keeper::Keeper;
+use crate::kept::{entry, may_set};
 use crate::spelling::Words;
 use crate::taken::Taken;
 use crate::walk_statements::{walk_file, walk_files};
@@ -143,7 +144,7 @@ fn with_setters<'t>(
 }
 
 /// The notes by which these variables stand for something: of a file in which no call sets one, its assignments to them and
-/// its loops are enough.
+/// its loops are enough. What is not kept of a file is told by its bytes.
 ///
 /// # Errors
 /// Memory was refused.
@@ -152,15 +153,17 @@ pub fn notes_naming<'t>(
     names: &[&[u8]],
     files: &'t FileSet,
     trees: &'t [Parsed],
+    kept: &[Option<bool>],
 ) -> Result<Taken<'t>, AllocError>
-    requires { AreParsed files.now trees.now }
+    requires parsed { AreParsed files.now trees.now }
+    requires kept { AreKept kept.now files.now trees.now }
     ensures { IfOk result (λ found. AreSetters names.now 0 files.now trees.now (taken_view found)) }
 {
     let words = Words::of_setters(alloc)?;
     let mut taken = Taken::new(alloc);
     for i in 0..trees.len() {
         let source = files.bytes(i);
-        let all = words.may_stand_in(source);
+        let all = may_set(&words, entry(kept, i), source);
         taken = with_setters(alloc, i, source, &trees[i], names, all, taken)?;
     }
     Ok(taken)

@@ -13,7 +13,7 @@ use Rattle.meson_calls.specs.NamedArguments.{kept_args, kept_arg}
 use Rattle.meson_variables.specs.ExpandedArguments.{one_by, expansion_step, arguments_by}
 use Rattle.meson_variables.specs.Tallies.{Gathered, expanded}
 use Rattle.meson_variables.proofs.Gathers.{expanded_twice}
-use Rattle.meson_calls.proofs.Kept.{kept_here}
+use Rattle.meson_calls.proofs.KeptArguments.{kept_here}
 
 -- ---- what they hold
 

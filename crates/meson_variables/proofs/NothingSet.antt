@@ -1,39 +1,31 @@
--- A note of no setter, whose words stand in bytes in which no call sets a variable, says nothing of some variables.
+-- A note of no setter, which is no call that sets a variable, says nothing of some variables.
 use Rattle.std.proofs.Common.{◌≡◌, ℕ, Bool, List, Bor, true, false, codes, Some, None, refl, sym, ap, ◌∙◌}
 use Rattle.std.specs.Prelude.{◌&&◌, ◌||◌, not, is_none, bytes_eq, if◌then◌else◌}
 use Rattle.std.proofs.lemmas.Slice.Eq.{bytes_eq-Decides}
 use Rattle.meson_lex.specs.declared.kinds.Span.{Span}
 use Rattle.meson_splice.specs.declared.file_set.File.{File}
 use Rattle.meson_calls.specs.declared.call.CallRef.{CallRef}
-use Rattle.meson_calls.specs.Calls.{Call, first_literal, is}
+use Rattle.meson_calls.specs.Calls.{calls_function, first_literal, is}
 use Rattle.meson_variables.specs.UnknownSetters.{enters_none, is_unknown_in}
 use Rattle.meson_calls.specs.FileNames.{is_entered, meant_in}
 use Rattle.meson_variables.specs.Noted.{note_assigned, note_sets}
 use Rattle.meson_variables.specs.Variables.{Assigned}
 use Rattle.meson_calls.specs.Notes.{Note, a_call, an_assignment, a_loop}
-use Rattle.meson_calls.specs.Setters.{is_among, is_setter}
-use Rattle.meson_calls.specs.Spelling.{HasNone}
-use Rattle.meson_calls.proofs.Spelled.{differs}
-use Rattle.meson_calls.proofs.StandingNotes.{CallStands, NoteStands}
+use Rattle.meson_calls.specs.Setters.{is_among, is_setter, sets_by_call}
+use Rattle.meson_calls.proofs.SetterReadings.{neither}
 
-module _ (bytes : List ℕ) where
-  -- ---- what sets a variable
+pub sets_none : (names : List (Bor (List ℕ))) (x : List ℕ) (n : Note Span) → sets_by_call n ≡ false → is_setter names n ≡ false → note_sets x n ≡ false
+sets_none names x (a_call c) none other = ap (λ b. b && is x (first_literal c)) (neither (calls_function (codes "subdir") c) (calls_function (codes "set_variable") c) none).1
+sets_none names x (an_assignment y sets e) none is = refl
+sets_none names x (a_loop xs) none is = absurd cc
 
-  calls_set_none : (x : List ℕ) → HasNone (codes "set_variable") bytes → (c : Call Span) → CallStands bytes c → note_sets x (a_call c) ≡ false
-  calls_set_none x setter c stands = ap (λ b. b && is x (first_literal c)) (differs (codes "set_variable") bytes c.function setter stands.function)
-
-  -- a note of no setter
-  pub sets_none : (names : List (Bor (List ℕ))) (x : List ℕ) → HasNone (codes "set_variable") bytes → (n : Note Span) → NoteStands bytes n → is_setter names n ≡ false → note_sets x n ≡ false
-  sets_none names x setter (a_call c) stands is = calls_set_none x setter c stands
-  sets_none names x setter (an_assignment y sets e) stands is = refl
-  sets_none names x setter (a_loop xs) stands is = absurd cc
-
-  pub unknown_none : (those : List File) → HasNone (codes "subdir") bytes → HasNone (codes "set_variable") bytes → (place : CallRef) (n : Note Span) → NoteStands bytes n → is_unknown_in those place n ≡ false
-  unknown_none those subdir setter place (a_call c) stands =
-      ap (λ b. (b && is_none (first_literal c)) || enters_none those place.file c) (differs (codes "set_variable") bytes c.function setter stands.function)
-      ∙ ap (λ b. b && not (is_entered those (meant_in those place.file (first_literal c)))) (differs (codes "subdir") bytes c.function subdir stands.function)
-  unknown_none those subdir setter place (an_assignment y sets e) stands = refl
-  unknown_none those subdir setter place (a_loop xs) stands = refl
+pub unknown_none : (those : List File) (place : CallRef) (n : Note Span) → sets_by_call n ≡ false → is_unknown_in those place n ≡ false
+unknown_none those place (a_call c) none =
+    let no = neither (calls_function (codes "subdir") c) (calls_function (codes "set_variable") c) none in
+    ap (λ b. (b && is_none (first_literal c)) || enters_none those place.file c) no.1
+    ∙ ap (λ b. b && not (is_entered those (meant_in those place.file (first_literal c)))) no.0
+unknown_none those place (an_assignment y sets e) none = refl
+unknown_none those place (a_loop xs) none = refl
 
 -- an assignment to another variable
 pub assigned_none : (names : List (Bor (List ℕ))) (x : List ℕ) → is_among names x ≡ true → (n : Note Span) → is_setter names n ≡ false → note_assigned x n ≡ None

@@ -32,9 +32,9 @@ module _ (files : List File) (trees : List Parsed) (parsed : AreParsed files tre
   some_single names ns are among =
       let p = named_trees files (views files trees) in
       let known = not (has_unknown files ns) in
-      ap (λ b. if known && not b then only_value (assigned_notes x ns) else None) (same_set names files trees ns parsed are x)
-      ∙ ap (λ vs. if known && not (is_set_by x (notes p)) then only_value vs else None) (same_assigned names files trees ns parsed are x among)
-      ∙ ap (λ b. by_notes x (not b) (notes p)) (same_unknown names files trees ns parsed are files)
+      ap (λ b. if known && not b then only_value (assigned_notes x ns) else None) (same_set names files trees ns are x)
+      ∙ ap (λ vs. if known && not (is_set_by x (notes p)) then only_value vs else None) (same_assigned names files trees ns are x among)
+      ∙ ap (λ b. by_notes x (not b) (notes p)) (same_unknown names files trees ns are files)
       ∙ all_single
 
 -- ---- one file

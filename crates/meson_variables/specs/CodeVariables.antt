@@ -7,7 +7,7 @@ use Rattle.meson_variables.specs.declared.variables.Variables.{Variables}
 use Rattle.meson_calls.specs.Project.{Project}
 use Rattle.meson_calls.specs.Loading.{IsProject, loaded_from, named_trees, views}
 use Rattle.meson_calls.specs.Notes.{notes}
-use Rattle.meson_calls.specs.Setters.{is_among}
+use Rattle.meson_calls.specs.Setters.{AreKept, is_among}
 use Rattle.meson_calls.specs.Strings.{NotesGood}
 use Rattle.meson_variables.specs.CodeValues.{value_in}
 use Rattle.meson_variables.specs.Variables.{single}
@@ -20,8 +20,10 @@ abbrev pub is_sought : Sought → List ℕ → Bool
 is_sought sought.All x = true
 is_sought (sought.These names) x = is_among names.items x
 
--- The strings in the project's notes are strings of their kinds, and each variable whose value is at hand has the one that it stands for.
+-- The strings in the project's notes are strings of their kinds, what is kept of the files is so, and each variable whose value is at hand has the one that it
+-- stands for.
 pub record AreVariables (v : Variables) : Type 0 where
   pub whole : IsProject (loaded_from v.files.now v.trees.now)
   pub good : NotesGood (notes (project_of v))
+  pub kept : AreKept v.kept.now v.files.now v.trees.now
   pub values : (x : List ℕ) → is_sought v.sought x ≡ true → value_in v.values x ≡ single (project_of v) x

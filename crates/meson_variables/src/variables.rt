@@ -2,7 +2,7 @@
 
 ghost use Rattle.std.specs.Prelude.{◌≡◌, ℕ, List, not, true, All, IfOk, IfSome, IsTrue, option_map};
 ghost use Rattle.meson_variables.specs.CodeVariables.{AreVariables, is_sought, project_of};
-ghost use Rattle.meson_calls.specs.Setters.{is_among};
+ghost use Rattle.meson_calls.specs.Setters.{AreKept, is_among};
 ghost use Rattle.meson_variables.specs.UnknownSetters.{has_unknown};
 ghost use Rattle.meson_calls.specs.Loading.{HasFileName, IsProject, loaded_from, project};
 ghost use Rattle.meson_variables.specs.Noted.{by_notes};
@@ -51,6 +51,8 @@ pub struct Variables<'t> {
     pub alloc: Global,
     pub files: &'t FileSet,
     pub trees: &'t [Parsed],
+    /// Of each file, where it is known, whether a call in it sets variables.
+    pub kept: &'t [Option<bool>],
     sought: Sought<'t>,
     values: Values<'t>,
 }
@@ -141,13 +143,15 @@ fn some_values<'t>(
     alloc: Global,
     files: &'t FileSet,
     trees: &'t [Parsed],
+    kept: &[Option<bool>],
     names: &[&[u8]],
 ) -> Result<Values<'t>, AllocError>
-    requires { IsProject (loaded_from files.now trees.now) }
+    requires whole { IsProject (loaded_from files.now trees.now) }
+    requires kept { AreKept kept.now files.now trees.now }
     ensures { let p = project (loaded_from files.now trees.now) in
         IfOk result (λ values. (x : List ℕ) → IsTrue (is_among names.now x) → value_in values x ≡ single p x) }
 {
-    let taken = notes_naming(alloc, names, files, trees)?;
+    let taken = notes_naming(alloc, names, files, trees, kept)?;
     let notes = taken.all(alloc)?;
     values_named(alloc, files, notes.as_slice(), names)
 }
@@ -178,9 +182,11 @@ impl<'t> Variables<'t> {
         alloc: Global,
         files: &'t FileSet,
         trees: &'t [Parsed],
+        kept: &'t [Option<bool>],
         mentions: &Mentions<'t>,
     ) -> Result<Option<Variables<'t>>, AllocError>
-        requires { IsProject (loaded_from files.now trees.now) }
+        requires whole { IsProject (loaded_from files.now trees.now) }
+        requires kept { AreKept kept.now files.now trees.now }
         ensures holds { IfOk result (λ o. IfSome o AreVariables) }
         ensures files { IfOk result (λ o. IfSome o (λ v. v.files.now ≡ files.now)) }
         ensures trees { IfOk result (λ o. IfSome o (λ v. v.trees.now ≡ trees.now)) }
@@ -189,7 +195,7 @@ impl<'t> Variables<'t> {
             return Ok(None);
         }
         let names = Vec::from_slice(alloc, mentions.names())?;
-        let values = some_values(alloc, files, trees, names.as_slice())?;
+        let values = some_values(alloc, files, trees, kept, names.as_slice())?;
         let mut further = Mentions::new(alloc);
         further.meet_values(names.as_slice(), &values)?;
         if further.names().is_empty() {
@@ -197,6 +203,7 @@ impl<'t> Variables<'t> {
                 alloc,
                 files,
                 trees,
+                kept,
                 sought: Sought::These(names),
                 values,
             }))
@@ -210,14 +217,16 @@ impl<'t> Variables<'t> {
         alloc: Global,
         files: &'t FileSet,
         trees: &'t [Parsed],
+        kept: &'t [Option<bool>],
         mentions: &Mentions<'t>,
     ) -> Result<Variables<'t>, AllocError>
-        requires { IsProject (loaded_from files.now trees.now) }
+        requires whole { IsProject (loaded_from files.now trees.now) }
+        requires kept { AreKept kept.now files.now trees.now }
         ensures holds { IfOk result AreVariables }
         ensures files { IfOk result (λ v. v.files.now ≡ files.now) }
         ensures trees { IfOk result (λ v. v.trees.now ≡ trees.now) }
     {
-        match Self::of_few(alloc, files, trees, mentions)? {
+        match Self::of_few(alloc, files, trees, kept, mentions)? {
             Some(variables) => Ok(variables),
             None => {
                 let values = all_values(alloc, files, trees)?;
@@ -225,6 +234,7 @@ impl<'t> Variables<'t> {
                     alloc,
                     files,
                     trees,
+                    kept,
                     sought: Sought::All,
                     values,
                 })
@@ -240,15 +250,17 @@ impl<'t> Variables<'t> {
         alloc: Global,
         files: &'t FileSet,
         trees: &'t [Parsed],
+        kept: &'t [Option<bool>],
         call: &CallRef,
     ) -> Result<Variables<'t>, AllocError>
-        requires { IsProject (loaded_from files.now trees.now) }
+        requires whole { IsProject (loaded_from files.now trees.now) }
+        requires kept { AreKept kept.now files.now trees.now }
         ensures holds { IfOk result AreVariables }
         ensures files { IfOk result (λ v. v.files.now ≡ files.now) }
         ensures trees { IfOk result (λ v. v.trees.now ≡ trees.now) }
     {
         let mentions = mentioned(alloc, files, trees, call)?;
-        Self::mentioning(alloc, files, trees, &mentions)
+        Self::mentioning(alloc, files, trees, kept, &mentions)
     }
 
     /// The same of a project with notes of it, which serve again where they are all.
@@ -272,12 +284,13 @@ impl<'t> Variables<'t> {
                     alloc,
                     files: noted.files,
                     trees: noted.trees,
+                    kept: noted.kept,
                     sought: Sought::All,
                     values,
                 });
             }
         }
-        Self::mentioning(alloc, noted.files, noted.trees, &mentions)
+        Self::mentioning(alloc, noted.files, noted.trees, noted.kept, &mentions)
     }
 
     /// The one expression that a variable stands for.
@@ -292,7 +305,13 @@ impl<'t> Variables<'t> {
             return Ok(self.values.of(name));
         }
         let names = [name];
-        let values = some_values(self.alloc, self.files, self.trees, names.as_slice())?;
+        let values = some_values(
+            self.alloc,
+            self.files,
+            self.trees,
+            self.kept,
+            names.as_slice(),
+        )?;
         Ok(values.of(name))
     }
 }

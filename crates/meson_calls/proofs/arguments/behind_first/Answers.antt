@@ -3,7 +3,7 @@ use Rattle.std.specs.Prelude.{is_some}
 use Rattle.meson_syntax.specs.View.{arg_view}
 use Rattle.meson_calls.specs.Calls.{value_without_name}
 use Rattle.meson_calls.specs.NamedArguments.{rest, number_behind}
-use Rattle.meson_calls.proofs.Kept.{rest_found, rest_passed, number_found, kept_none}
+use Rattle.meson_calls.proofs.KeptArguments.{rest_found, rest_passed, number_found, kept_none}
 use Rattle.meson_calls.proofs.arguments.behind_first.Goals as goal
 
 pub returns-then-is_plain-clause-number : goal.returns-then-is_plain-clause-number

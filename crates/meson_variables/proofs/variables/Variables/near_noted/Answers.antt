@@ -11,4 +11,4 @@ returns-in-Some-clause-holds c =
     let n = c.args.noted.now in
     let whole = c.requires.2.whole in
     let so = subst (λ o. IfSome o (λ values. (x : List ℕ) → value_in values x ≡ single (project_in n) x)) c.in-Some.is c.in_ok-values.ensures in
-    record { whole = whole; good = project_good n.files.now n.trees.now whole.parsed; values = λ x all. so x }
+    record { whole = whole; good = project_good n.files.now n.trees.now whole.parsed; kept = c.requires.2.kept; values = λ x all. so x }
