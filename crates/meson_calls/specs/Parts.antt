@@ -46,7 +46,8 @@ abbrev mutual
   parts_of_expression p (row s e os) = placed p (an_expression (row s e os)) ∷ (parts_of_expression (child p 0) e ++ parts_of_operands p 1 os)
   parts_of_expression p (postfix s e ts) = placed p (an_expression (postfix s e ts)) ∷ (parts_of_expression (child p 0) e ++ parts_of_tails p 1 ts)
   parts_of_expression p (conditional s c y n) =
-      placed p (an_expression (conditional s c y n)) ∷ (parts_of_expression (child p 0) c ++ (parts_of_expression (child p 1) y ++ parts_of_expression (child p 2) n))
+      placed p (an_expression (conditional s c y n)) ∷ (parts_of_expression (child p 0) c
+      ++ (parts_of_expression (child p 1) y ++ parts_of_expression (child p 2) n))
 
   pub parts_of_operands : {S : Type 0} → CallRef → ℕ → Operands S → List (Placed (Part S))
   parts_of_operands p n no_operands = []
@@ -78,7 +79,8 @@ abbrev mutual
   pub parts_of_statement : {S : Type 0} → CallRef → Statement S → List (Placed (Part S))
   parts_of_statement p (evaluate e) = placed p (a_statement (evaluate e)) ∷ parts_of_expression (child p 0) e
   parts_of_statement p (assign s x a e) = placed p (a_statement (assign s x a e)) ∷ parts_of_expression (child p 0) e
-  parts_of_statement p (selection s bs o) = placed p (a_statement (selection s bs o)) ∷ (parts_of_branches p 0 bs ++ parts_of_otherwise p (branches_child_count bs) o)
+  parts_of_statement p (selection s bs o) = placed p (a_statement (selection s bs o))
+      ∷ (parts_of_branches p 0 bs ++ parts_of_otherwise p (branches_child_count bs) o)
   parts_of_statement p (iteration s xs e b) = placed p (a_statement (iteration s xs e b)) ∷ (parts_of_expression (child p 0) e ++ parts_of_block (child p 1) b)
   parts_of_statement p (breaks s) = placed p (a_statement (breaks s)) ∷ []
   parts_of_statement p (continues s) = placed p (a_statement (continues s)) ∷ []

@@ -20,7 +20,8 @@ words_of (p ∷ pairs) = p.0 ∷ p.1 ∷ words_of pairs
 
 -- the pairs are the words two by two, and no name is there twice
 abbrev pub PairsAreTheWords : Type 0
-PairsAreTheWords = (words : List Text) (pairs : List (Text × Text)) → (pairs_of words ≡ Ok pairs) ↔ ((words_of pairs ≡ words) × AllPairs (λ x y. x ≢ y) (pair_names pairs))
+PairsAreTheWords = (words : List Text) (pairs : List (Text × Text))
+    → (pairs_of words ≡ Ok pairs) ↔ ((words_of pairs ≡ words) × AllPairs (λ x y. x ≢ y) (pair_names pairs))
 
 abbrev pub OddWordsAreOdd : Type 0
 OddWordsAreOdd = (words : List Text) → (pairs_of words ≡ Err OddWords) ↔ (length words % 2 ≡ 1)

@@ -22,8 +22,8 @@ abbrev words_in : List ℕ → List (List ℕ)
 words_in [] = [] ∷ []
 words_in (b ∷ bytes) = if b == 32 then [] ∷ words_in bytes else onto b (words_in bytes)
 
-abbrev here : Action → Result Asked UsageFault
-here action = Ok (record { dir = None; title = []; dry_run = false; action = action })
+abbrev in_place : Action → Result Asked UsageFault
+in_place action = Ok (record { dir = None; title = []; dry_run = false; action = action })
 
 abbrev there : List ℕ → Action → Result Asked UsageFault
 there dir action = Ok (record { dir = Some dir; title = []; dry_run = false; action = action })
@@ -46,29 +46,32 @@ asks_titled title asked = asked_by (codes "T" ∷ codes "--title" ∷ title ∷ 
 -- what is to be done
 abbrev pub Done : Type 0
 Done =
-    asks (codes "target e add a.c b.c") (here (run (command.SourcesAdd (codes "e") (codes "a.c" ∷ codes "b.c" ∷ []))))
-    × asks (codes "target e rm a.c") (here (run (command.SourcesRemove (codes "e") (codes "a.c" ∷ []))))
-    × asks (codes "target e add_extra_files x.h") (here (run (command.ExtraAdd (codes "e") (codes "x.h" ∷ []))))
-    × asks (codes "target e rm_extra_files x.h") (here (run (command.ExtraRemove (codes "e") (codes "x.h" ∷ []))))
-    × asks (codes "target l add_target a.c --subdir sub --type jar") (here (run (command.TargetAdd (codes "l") (codes "jar") (codes "sub") (codes "a.c" ∷ []))))
-    × asks (codes "target l add_target") (here (run (command.TargetAdd (codes "l") (codes "executable") [] [])))
-    × asks (codes "target l rm_target a.c") (here (run (command.TargetRemove (codes "l"))))
-    × asks (codes "kwargs set project / version 1.0.0") (here (run (command.KwargsSet role.Project (codes "/") ((codes "version", setting.Text (codes "1.0.0")) ∷ []))))
-    × asks (codes "kwargs add dependency zlib version <2") (here (run (command.KwargsAdd role.Dependency (codes "zlib") ((codes "version", setting.Text (codes "<2")) ∷ []))))
-    × asks (codes "kwargs remove target e link_with l") (here (run (command.KwargsRemove role.Target (codes "e") ((codes "link_with", setting.Text (codes "l")) ∷ []))))
-    × asks (codes "kwargs delete target e install true") (here (run (command.KwargsDelete role.Target (codes "e") (codes "install" ∷ []))))
-    × asks (codes "default-options set cpp_std c++20") (here (run (command.OptionsSet ((codes "cpp_std", codes "c++20") ∷ []))))
-    × asks (codes "default-options delete cpp_std c++20") (here (run (command.OptionsDelete (codes "cpp_std" ∷ []))))
+    asks (codes "target e add a.c b.c") (in_place (run (command.SourcesAdd (codes "e") (codes "a.c" ∷ codes "b.c" ∷ []))))
+    × asks (codes "target e rm a.c") (in_place (run (command.SourcesRemove (codes "e") (codes "a.c" ∷ []))))
+    × asks (codes "target e add_extra_files x.h") (in_place (run (command.ExtraAdd (codes "e") (codes "x.h" ∷ []))))
+    × asks (codes "target e rm_extra_files x.h") (in_place (run (command.ExtraRemove (codes "e") (codes "x.h" ∷ []))))
+    × asks (codes "target l add_target a.c --subdir sub --type jar") (in_place (run (command.TargetAdd (codes "l") (codes "jar") (codes "sub") (codes "a.c" ∷ []))))
+    × asks (codes "target l add_target") (in_place (run (command.TargetAdd (codes "l") (codes "executable") [] [])))
+    × asks (codes "target l rm_target a.c") (in_place (run (command.TargetRemove (codes "l"))))
+    × asks (codes "kwargs set project / version 1.0.0") (in_place
+        (run (command.KwargsSet role.Project (codes "/") ((codes "version", setting.Text (codes "1.0.0")) ∷ []))))
+    × asks (codes "kwargs add dependency zlib version <2") (in_place
+        (run (command.KwargsAdd role.Dependency (codes "zlib") ((codes "version", setting.Text (codes "<2")) ∷ []))))
+    × asks (codes "kwargs remove target e link_with l") (in_place
+        (run (command.KwargsRemove role.Target (codes "e") ((codes "link_with", setting.Text (codes "l")) ∷ []))))
+    × asks (codes "kwargs delete target e install true") (in_place (run (command.KwargsDelete role.Target (codes "e") (codes "install" ∷ []))))
+    × asks (codes "default-options set cpp_std c++20") (in_place (run (command.OptionsSet ((codes "cpp_std", codes "c++20") ∷ []))))
+    × asks (codes "default-options delete cpp_std c++20") (in_place (run (command.OptionsDelete (codes "cpp_std" ∷ []))))
     × asks (codes "--sourcedir d undo") (there (codes "d") Undo)
-    × asks (codes "redo") (here Redo)
+    × asks (codes "redo") (in_place Redo)
     × asks (codes "--sourcedir d undo --to 3") (there (codes "d") (UndoTo 3))
-    × asks (codes "undo --to=007") (here (UndoTo 7))
-    × asks (codes "undo --to 18446744073709551615") (here (UndoTo 18446744073709551615))
-    × asks (codes "undo --check sums") (here (UndoChecked 1 (codes "sums")))
+    × asks (codes "undo --to=007") (in_place (UndoTo 7))
+    × asks (codes "undo --to 18446744073709551615") (in_place (UndoTo 18446744073709551615))
+    × asks (codes "undo --check sums") (in_place (UndoChecked 1 (codes "sums")))
     × asks (codes "--sourcedir d undo --to 3 --check -") (there (codes "d") (UndoChecked 3 (codes "-")))
-    × asks (codes "undo --check=now --to=1") (here (UndoChecked 1 (codes "now")))
-    × asks (codes "undo --check=") (here (UndoChecked 1 []))
-    × asks (codes "history --forget 2") (here (ForgetOldest 2))
+    × asks (codes "undo --check=now --to=1") (in_place (UndoChecked 1 (codes "now")))
+    × asks (codes "undo --check=") (in_place (UndoChecked 1 []))
+    × asks (codes "history --forget 2") (in_place (ForgetOldest 2))
     × asks (codes "--sourcedir d history --forget all") (there (codes "d") ForgetAll)
 
 -- what it is for
@@ -77,7 +80,7 @@ Titled =
     asks (codes "--title more target e rm a.c") (named (codes "more") (run (command.SourcesRemove (codes "e") (codes "a.c" ∷ []))))
     × asks (codes "--title a --sourcedir d redo") (Ok (record { dir = Some (codes "d"); title = codes "a"; dry_run = false; action = Redo }))
     × asks_titled (codes "add B") (named (codes "add B") Undo)
-    × asks_titled [] (here Undo)
+    × asks_titled [] (in_place Undo)
     × asks_titled (codes "a\tb") (Err BadTitle)
     × asks_titled (codes "a" ++ 127 ∷ []) (Err BadTitle)
     × asks (codes "--title a --title b undo") (Err Usage)
@@ -100,16 +103,16 @@ Shown =
 -- what is listed, which scripts are meant, help and the version
 abbrev pub Other : Type 0
 Other =
-    asks (codes "target e info a.c") (here (Info (command.TargetInfo (codes "e"))))
-    × asks (codes "kwargs info project / version") (here (Info (command.KwargsInfo role.Project (codes "/"))))
+    asks (codes "target e info a.c") (in_place (Info (command.TargetInfo (codes "e"))))
+    × asks (codes "kwargs info project / version") (in_place (Info (command.KwargsInfo role.Project (codes "/"))))
     × asks (codes "--sourcedir d history") (there (codes "d") History)
-    × asks (codes "list") (here (action.List false))
+    × asks (codes "list") (in_place (action.List false))
     × asks (codes "--sourcedir d list --json") (there (codes "d") (action.List true))
     × asks (codes "--sourcedir d list --sums") (there (codes "d") Sums)
-    × asks (codes "command [1]") (here (ScriptText (codes "[1]")))
-    × (asked_by (codes "T" ∷ codes "command" ∷ codes " \t{" ∷ []) ≡ here (ScriptText (codes " \t{")))
-    × asks (codes "command changes.json") (here (ScriptFile (codes "changes.json")))
-    × asks (codes "command -") (here (ScriptFile (codes "-")))
+    × asks (codes "command [1]") (in_place (ScriptText (codes "[1]")))
+    × (asked_by (codes "T" ∷ codes "command" ∷ codes " \t{" ∷ []) ≡ in_place (ScriptText (codes " \t{")))
+    × asks (codes "command changes.json") (in_place (ScriptFile (codes "changes.json")))
+    × asks (codes "command -") (in_place (ScriptFile (codes "-")))
     × asks (codes "--help") (Ok help)
     × asks (codes "target e add --help") (Ok help)
     × asks (codes "--version") (Ok version)

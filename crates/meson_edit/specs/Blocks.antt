@@ -58,9 +58,11 @@ EndsInNoBlank xs = (front : List Lexeme) (x : Lexeme) → xs ≡ front ++ x ∷ 
 abbrev pub BeginsInNoBlank : List Lexeme → Type 0
 BeginsInNoBlank xs = (x : Lexeme) (back : List Lexeme) → xs ≡ x ∷ back → x.kind ≡ k.Blank → ⊥
 
--- what stays of the items left of a statement, before those that stay behind it: all but the blank directly before it, or all, where that makes no blank stand before a blank
+-- what stays of the items left of a statement, before those that stay behind it: all but the blank directly before it, or all, where that
+-- makes no blank stand before a blank
 abbrev pub IsTrimmed : (left front back : List Lexeme) → Type 0
-IsTrimmed left front back = ((blank : Lexeme) × (blank.kind ≡ k.Blank) × (left ≡ front ++ blank ∷ [])) ⊎ ((left ≡ front) × (EndsInNoBlank left ⊎ BeginsInNoBlank back))
+IsTrimmed left front back = ((blank : Lexeme) × (blank.kind ≡ k.Blank) × (left ≡ front ++ blank ∷ []))
+    ⊎ ((left ≡ front) × (EndsInNoBlank left ⊎ BeginsInNoBlank back))
 
 -- what goes behind a statement: nothing, a blank, a line end, or both
 abbrev pub IsLineRest : List Lexeme → Type 0
@@ -88,24 +90,30 @@ IsBreak xs break = IsLineEnd break ⊎ ((break ≡ []) × EndsItsLine xs)
 
 -- The tree without a statement has its levels, and so has the one with a statement more that has them.
 abbrev pub RemovalsLevel : Type 0
-RemovalsLevel = (f : File Span) (path : List ℕ) (b : BlockAt Span) → block_at f path ≡ Some b → LevelFile f → (n : ℕ) → LevelFile (b.back (block_without b.inside n))
+RemovalsLevel = (f : File Span) (path : List ℕ) (b : BlockAt Span) → block_at f path ≡ Some b → LevelFile f → (n : ℕ)
+    → LevelFile (b.back (block_without b.inside n))
 
 abbrev pub AppendingLevels : Type 0
 AppendingLevels = (t : Plain) → LevelFile t → (x : Statement Nowhere) → LevelStatement x → LevelFile (file_and_last t x)
 
--- Where a statement's own items go, with the blank before it or without, and with what ends its line or a part of that, the new text spells the tree without the statement.
+-- Where a statement's own items go, with the blank before it or without, and with what ends its line or a part of that, the new text spells
+-- the tree without the statement.
 abbrev pub StatementsGo : Type 0
-StatementsGo = (limits : Limits) (bytes : List ℕ) (f : File Span) (s : IsSpannedWithin limits bytes f) (path : List ℕ) (b : BlockAt Span) → block_at f path ≡ Some b
+StatementsGo = (limits : Limits) (bytes : List ℕ) (f : File Span) (s : IsSpannedWithin limits bytes f) (path : List ℕ) (b : BlockAt Span)
+    → block_at f path ≡ Some b
     → (n : ℕ) (x : Statement Span) → statement_in b.inside n ≡ Some x
-    → (left own right : List Lexeme) → IsItemList bytes (left ++ (own ++ right)) → length (joined left) ≡ (statement_span x).from → length (joined (left ++ own)) ≡ (statement_span x).to
+    → (left own right : List Lexeme) → IsItemList bytes (left ++ (own ++ right)) → length (joined left) ≡ (statement_span x).from
+        → length (joined (left ++ own)) ≡ (statement_span x).to
     → (front gone back : List Lexeme) → IsTrimmed left front back → right ≡ gone ++ back → IsLineRest gone
     → Spells (joined (front ++ back)) (erase (b.back (block_without b.inside n)))
 
 -- And it reads as that tree, where its length and its depth allow it.
 abbrev pub RemovalsReadAgain : Type 0
-RemovalsReadAgain = (limits : Limits) (bytes : List ℕ) (f : File Span) (s : IsSpannedWithin limits bytes f) (path : List ℕ) (b : BlockAt Span) → block_at f path ≡ Some b
+RemovalsReadAgain = (limits : Limits) (bytes : List ℕ) (f : File Span) (s : IsSpannedWithin limits bytes f) (path : List ℕ) (b : BlockAt Span)
+    → block_at f path ≡ Some b
     → (n : ℕ) (x : Statement Span) → statement_in b.inside n ≡ Some x
-    → (left own right : List Lexeme) → IsItemList bytes (left ++ (own ++ right)) → length (joined left) ≡ (statement_span x).from → length (joined (left ++ own)) ≡ (statement_span x).to
+    → (left own right : List Lexeme) → IsItemList bytes (left ++ (own ++ right)) → length (joined left) ≡ (statement_span x).from
+        → length (joined (left ++ own)) ≡ (statement_span x).to
     → (front gone back : List Lexeme) → IsTrimmed left front back → right ≡ gone ++ back → IsLineRest gone
     → Fits limits.len (length (joined (front ++ back))) → file_depth (b.back (block_without b.inside n)) ≤ limits.depth
     → ReadsWithin limits (joined (front ++ back)) (erase (b.back (block_without b.inside n)))

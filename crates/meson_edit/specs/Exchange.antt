@@ -12,7 +12,8 @@ use Rattle.meson_syntax.specs.ReadsList.{IsListText}
 -- Where the bytes of a list are exchanged for the text of another one, the new text spells the tree with the other list in that place.
 -- `p` is the list among the spans of the text, and `q` the same one in the tree without spans.
 abbrev pub ListsExchange : Type 0
-ListsExchange = (limits : Limits) (bytes : List ℕ) (f : File Span) (s : IsSpannedWithin limits bytes f) (path : List ℕ) (p : ListAt Span) → list_at f path ≡ Some p
+ListsExchange = (limits : Limits) (bytes : List ℕ) (f : File Span) (s : IsSpannedWithin limits bytes f) (path : List ℕ) (p : ListAt Span)
+    → list_at f path ≡ Some p
     → (q : ListAt Nowhere) → list_at (erase f) path ≡ Some q
     → (l : Listing Nowhere) (text : List ℕ) → IsListText text q.bracket (inner_words l) → LevelFile (q.back l)
     → (front was back : List ℕ) → bytes ≡ front ++ (was ++ back) → length front ≡ (list_span p.list).from → length (front ++ was) ≡ (list_span p.list).to
@@ -20,7 +21,8 @@ ListsExchange = (limits : Limits) (bytes : List ℕ) (f : File Span) (s : IsSpan
 
 -- And it reads as that tree, where its length and its depth allow it and the other list's text is UTF-8.
 abbrev pub ListsReadAgain : Type 0
-ListsReadAgain = (limits : Limits) (bytes : List ℕ) (f : File Span) (s : IsSpannedWithin limits bytes f) (path : List ℕ) (p : ListAt Span) → list_at f path ≡ Some p
+ListsReadAgain = (limits : Limits) (bytes : List ℕ) (f : File Span) (s : IsSpannedWithin limits bytes f) (path : List ℕ) (p : ListAt Span)
+    → list_at f path ≡ Some p
     → (q : ListAt Nowhere) → list_at (erase f) path ≡ Some q
     → (l : Listing Nowhere) (text : List ℕ) → IsListText text q.bracket (inner_words l) → LevelFile (q.back l)
     → (front was back : List ℕ) → bytes ≡ front ++ (was ++ back) → length front ≡ (list_span p.list).from → length (front ++ was) ≡ (list_span p.list).to
@@ -29,4 +31,5 @@ ListsReadAgain = (limits : Limits) (bytes : List ℕ) (f : File Span) (s : IsSpa
 
 -- The tree with the other list has its levels where the list has them.
 abbrev pub ListsLevel : Type 0
-ListsLevel = (t : Plain) (path : List ℕ) (q : ListAt Nowhere) → list_at t path ≡ Some q → LevelFile t → (l : Listing Nowhere) → LevelListing l q.bracket → LevelFile (q.back l)
+ListsLevel = (t : Plain) (path : List ℕ) (q : ListAt Nowhere) → list_at t path ≡ Some q → LevelFile t → (l : Listing Nowhere) → LevelListing l q.bracket
+    → LevelFile (q.back l)

@@ -14,7 +14,8 @@ use Rattle.meson_syntax.specs.MovedCode.{moved_list, moved_parsed}
 use Rattle.meson_syntax.specs.ListPut.{list_exchanged}
 
 -- A text of which a tree names a list, and the text of another list that takes its place.
-pub record IsExchange (limits : Limits) (bytes : List ℕ) (t : Parsed) (path : List ℕ) (p : ListAt Span) (front was now back : List ℕ) (new : rust.List) : Type 0 where
+pub record IsExchange (limits : Limits) (bytes : List ℕ) (t : Parsed) (path : List ℕ) (p : ListAt Span) (front was now back : List ℕ)
+    (new : rust.List) : Type 0 where
   pub spanned : IsSpannedWithin limits bytes (view bytes t)
   pub is_p : list_at (view bytes t) path ≡ Some p
   pub parts : bytes ≡ front ++ (was ++ back)

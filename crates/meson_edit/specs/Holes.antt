@@ -13,12 +13,14 @@ use Rattle.meson_edit.specs.Blocks.{block_at}
 
 -- Each expression and statement that a path names stands at its span: the items of the text are those left of it, its own, and those right of it.
 abbrev pub NodesStand : Type 0
-NodesStand = (limits : Limits) (bytes : List ℕ) (f : File Span) (s : IsSpannedWithin limits bytes f) (path : List ℕ) (h : Hole Span (Block Span)) → reach Span of_block (block_of f) path ≡ Some h
+NodesStand = (limits : Limits) (bytes : List ℕ) (f : File Span) (s : IsSpannedWithin limits bytes f) (path : List ℕ) (h : Hole Span (Block Span))
+    → reach Span of_block (block_of f) path ≡ Some h
     → NodeStands s.reads.spells.items h.sort h.inside h.before h.behind
 
 -- So does each list, and within it each element.
 abbrev pub ListsStand : Type 0
-ListsStand = (limits : Limits) (bytes : List ℕ) (f : File Span) (s : IsSpannedWithin limits bytes f) (path : List ℕ) (p : ListAt Span) → list_at f path ≡ Some p → ListPlaces s.reads.spells.items p
+ListsStand = (limits : Limits) (bytes : List ℕ) (f : File Span) (s : IsSpannedWithin limits bytes f) (path : List ℕ) (p : ListAt Span)
+    → list_at f path ≡ Some p → ListPlaces s.reads.spells.items p
 
 -- The words of a node with another one in a hole are those before the hole, of the other one, and behind the hole.
 abbrev pub HolesFit : Type 0
@@ -52,7 +54,8 @@ erase_front {S} h = record { sort = h.sort; inside = erase_node S h.sort h.insid
 
 -- A path names the same in the tree without its spans.
 abbrev pub NodesErase : Type 0
-NodesErase = (f : File Span) (path : List ℕ) → option_map words_around (reach Nowhere of_block (block_of (erase f)) path) ≡ option_map (λ h. erase_front (words_around h)) (reach Span of_block (block_of f) path)
+NodesErase = (f : File Span) (path : List ℕ) → option_map words_around (reach Nowhere of_block (block_of (erase f)) path)
+    ≡ option_map (λ h. erase_front (words_around h)) (reach Span of_block (block_of f) path)
 
 -- the list that a path names, and the words around it
 pub record ListFront (S : Type 0) : Type 0 where
@@ -68,7 +71,8 @@ abbrev pub erase_list_front : {S : Type 0} → ListFront S → ListFront Nowhere
 erase_list_front p = record { list = erase_listing p.list; bracket = p.bracket; before = p.before; behind = p.behind }
 
 abbrev pub ListsErase : Type 0
-ListsErase = (f : File Span) (path : List ℕ) → option_map list_front (list_at (erase f) path) ≡ option_map (λ p. erase_list_front (list_front p)) (list_at f path)
+ListsErase = (f : File Span) (path : List ℕ) → option_map list_front (list_at (erase f) path)
+    ≡ option_map (λ p. erase_list_front (list_front p)) (list_at f path)
 
 -- So does a path of a block.
 abbrev pub BlocksErase : Type 0

@@ -90,7 +90,8 @@ IsEditOf path (Append new) = ⊥
 -- An edit of a list changes no byte outside that list, and in its place writes the text of the edited list.
 abbrev pub ListEditsWrite : Type 0
 ListEditsWrite =
-    (e : Edit) (limits : Limits) (bytes : List ℕ) (f : File Span) → IsSpannedWithin limits bytes f → (items : List Lexeme) → IsItemList bytes items → (name : List ℕ)
+    (e : Edit) (limits : Limits) (bytes : List ℕ) (f : File Span) → IsSpannedWithin limits bytes f → (items : List Lexeme) → IsItemList bytes items
+        → (name : List ℕ)
     → Writes e → (t : Plain) → edited e (erase f) ≡ Some t → (path : List ℕ) → IsEditOf path e → (p : ListAt Span) → list_at f path ≡ Some p
     → (primitive : Primitive) → primitive_of f e ≡ Some primitive → (text : List ℕ) → patched_by bytes (layout_of name items primitive) ≡ Ok text
     → WritesList bytes text f path p t
@@ -98,7 +99,8 @@ ListEditsWrite =
 -- An edit of a list looks at that list alone.
 abbrev pub ListEditsLook : Type 0
 ListEditsLook =
-    (e : Edit) (limits : Limits) (bytes : List ℕ) (f : File Span) → IsSpannedWithin limits bytes f → Writes e → (t : Plain) → edited e (erase f) ≡ Some t → (path : List ℕ) → IsEditOf path e
+    (e : Edit) (limits : Limits) (bytes : List ℕ) (f : File Span) → IsSpannedWithin limits bytes f → Writes e → (t : Plain) → edited e (erase f) ≡ Some t
+        → (path : List ℕ) → IsEditOf path e
     → (p : ListAt Span) → list_at f path ≡ Some p → (primitive : Primitive) → primitive_of f e ≡ Some primitive → IsReadyIn bytes (list_span p.list) primitive
 
 -- What an edit writes in the place of a list reads by itself as the edited list, within the depth of the edited file.

@@ -35,15 +35,18 @@ pub record LineStands (items : List Lexeme) (s : Span) (words rest : List Word) 
 
 -- Each statement of a block that a path names stands so.
 abbrev pub StatementsStand : Type 0
-StatementsStand = (limits : Limits) (bytes : List ℕ) (f : File Span) (s : IsSpannedWithin limits bytes f) (path : List ℕ) (b : BlockAt Span) → block_at f path ≡ Some b
+StatementsStand = (limits : Limits) (bytes : List ℕ) (f : File Span) (s : IsSpannedWithin limits bytes f) (path : List ℕ) (b : BlockAt Span)
+    → block_at f path ≡ Some b
     → (n : ℕ) (x : Statement Span) → statement_in b.inside n ≡ Some x
     → LineStands s.reads.spells.items (statement_span x) (statement_words x) (file_words (b.back (block_without b.inside n)))
 
 -- Its own items are a statement's text.
 abbrev pub StatementsAreTexts : Type 0
-StatementsAreTexts = (limits : Limits) (bytes : List ℕ) (f : File Span) (s : IsSpannedWithin limits bytes f) (path : List ℕ) (b : BlockAt Span) → block_at f path ≡ Some b
+StatementsAreTexts = (limits : Limits) (bytes : List ℕ) (f : File Span) (s : IsSpannedWithin limits bytes f) (path : List ℕ) (b : BlockAt Span)
+    → block_at f path ≡ Some b
     → (n : ℕ) (x : Statement Span) → statement_in b.inside n ≡ Some x
-    → (left own right : List Lexeme) → IsItemList bytes (left ++ (own ++ right)) → length (joined left) ≡ (statement_span x).from → length (joined (left ++ own)) ≡ (statement_span x).to
+    → (left own right : List Lexeme) → IsItemList bytes (left ++ (own ++ right)) → length (joined left) ≡ (statement_span x).from
+        → length (joined (left ++ own)) ≡ (statement_span x).to
     → IsStatementText (joined own) (statement_words x)
 
 -- no item is a line end
@@ -53,7 +56,8 @@ HasNoLineEnd (x ∷ xs) = (x.kind ≡ k.LineEnd → ⊥) × HasNoLineEnd xs
 
 -- A text in one line has the words that its items speak.
 abbrev pub LinesAreTexts : Type 0
-LinesAreTexts = (text : List ℕ) (items : List Lexeme) → IsItemList text items → HasNoLineEnd items → IsTight items → (words : List Word) → spoken items ≡ words → IsStatementText text words
+LinesAreTexts = (text : List ℕ) (items : List Lexeme) → IsItemList text items → HasNoLineEnd items → IsTight items → (words : List Word)
+    → spoken items ≡ words → IsStatementText text words
 
 -- At the end of a file no bracket is open.
 abbrev pub FilesEnd : Type 0
@@ -73,4 +77,5 @@ CutsAreUtf8 = (bytes : List ℕ) (front back : List Lexeme) → IsItemList bytes
 
 -- A text that spells a tree reads as it, where its coding, its length and its depth allow it.
 abbrev pub SpelledReads : Type 0
-SpelledReads = (limits : Limits) (bytes : List ℕ) (t : Plain) → Spells bytes t → IsUtf8 bytes → Fits limits.len (length bytes) → file_depth t ≤ limits.depth → ReadsWithin limits bytes t
+SpelledReads = (limits : Limits) (bytes : List ℕ) (t : Plain) → Spells bytes t → IsUtf8 bytes → Fits limits.len (length bytes) → file_depth t ≤ limits.depth
+    → ReadsWithin limits bytes t

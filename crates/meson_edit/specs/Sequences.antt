@@ -28,7 +28,8 @@ ListsStay = (t : Plain) (path : List ℕ) (q : ListAt Nowhere) → list_at t pat
 
 -- A tree grows no deeper than its list does.
 abbrev pub DepthsGrow : Type 0
-DepthsGrow = (t : Plain) (path : List ℕ) (q : ListAt Nowhere) → list_at t path ≡ Some q → (l : Listing Nowhere) (k : ℕ) → listing_depth l ≤ listing_depth q.list + k
+DepthsGrow = (t : Plain) (path : List ℕ) (q : ListAt Nowhere) → list_at t path ≡ Some q → (l : Listing Nowhere) (k : ℕ)
+    → listing_depth l ≤ listing_depth q.list + k
     → file_depth (q.back l) ≤ file_depth t + k
 
 -- No list is deeper than its tree.
@@ -55,11 +56,13 @@ RemovalsStayWithin = (path : List ℕ) (n : ℕ) (t now : Plain) → edited (Rem
 
 -- Nor is it with an element more in which nothing nests, as a string.
 abbrev pub FirstsStayWithin : Type 0
-FirstsStayWithin = (path : List ℕ) (new : Written (Argument Nowhere)) → argument_depth new.node ≡ 0 → (t now : Plain) → edited (First path new) t ≡ Some now → file_depth now ≤ file_depth t
+FirstsStayWithin = (path : List ℕ) (new : Written (Argument Nowhere)) → argument_depth new.node ≡ 0 → (t now : Plain) → edited (First path new) t ≡ Some now
+    → file_depth now ≤ file_depth t
 
 abbrev pub InsertionsStayWithin : Type 0
 InsertionsStayWithin =
-    (path : List ℕ) (n : ℕ) (new : Written (Argument Nowhere)) → argument_depth new.node ≡ 0 → (t now : Plain) → edited (After path n new) t ≡ Some now → file_depth now ≤ file_depth t
+    (path : List ℕ) (n : ℕ) (new : Written (Argument Nowhere)) → argument_depth new.node ≡ 0 → (t now : Plain) → edited (After path n new) t ≡ Some now
+        → file_depth now ≤ file_depth t
 
 -- An edit that puts in at most one construct, and the array around a value, make the tree at most one deeper.
 abbrev pub EditsDeepenByOne : Type 0
@@ -82,7 +85,8 @@ ReplacementsKeepLevels = (path : List ℕ) (n : ℕ) (new : Written (Expression 
 
 -- An element may be the first of a list of its bracket.
 abbrev pub FirstsKeepLevels : Type 0
-FirstsKeepLevels = (path : List ℕ) (new : Written (Argument Nowhere)) (t now : Plain) (q : ListAt Nowhere) → list_at t path ≡ Some q → LevelArgument new.node q.bracket false
+FirstsKeepLevels = (path : List ℕ) (new : Written (Argument Nowhere)) (t now : Plain) (q : ListAt Nowhere) → list_at t path ≡ Some q
+    → LevelArgument new.node q.bracket false
     → LevelFile t → edited (First path new) t ≡ Some now → LevelFile now
 
 -- Whether an element may follow another one, before these: in an array without a name; in a dictionary with a key;

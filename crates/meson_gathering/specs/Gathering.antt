@@ -81,7 +81,8 @@ pub data Gathers (content : Content) (folder : Option (List ℕ)) : List File �
 pub data Collects (content : Content) (folder : Option (List ℕ)) : Ending → Type 0 where
   no_root : held_bytes content folder build_file ≡ None → Collects content folder rootless
   unread_root : Collects content folder (unread build_file)
-  from_root : (bytes : List ℕ) (end : Ending) → held_bytes content folder build_file ≡ Some bytes → Gathers content folder [] (file_of build_file bytes ∷ []) end
+  from_root : (bytes : List ℕ) (end : Ending) → held_bytes content folder build_file ≡ Some bytes
+      → Gathers content folder [] (file_of build_file bytes ∷ []) end
       → Collects content folder end
 
 -- P holds of what the store holds, if it tells it

@@ -75,7 +75,8 @@ module _ (before : Option Content) (folder : Option (List ℕ)) where
 
   -- the names that the file at a place enters are entered
   abbrev pub EntersFor : List File → ℕ → ℕ → List File → ℕ → Type 0
-  EntersFor files place reads new reads' = (names : List (List ℕ)) × Enters (name_of_file place files) (bytes_at place files) names × EntersEach files reads names new reads'
+  EntersFor files place reads new reads' = (names : List (List ℕ)) × Enters (name_of_file place files) (bytes_at place files) names
+      × EntersEach files reads names new reads'
 
   -- they are not known, or one of them is not entered
   abbrev pub StopsFor : List File → ℕ → ℕ → ℕ → Option (List ℕ) → Type 0
@@ -83,8 +84,10 @@ module _ (before : Option Content) (folder : Option (List ℕ)) where
       × Enters (name_of_file place files) (bytes_at place files) names × StopsEntering files reads names reads' unread)
 
   pub data Looks (reads : ℕ) : List File → ℕ → ℕ → Type 0 where
-    root_read : (bytes : List ℕ) → Told before (λ content. held_bytes content folder build_file ≡ Some bytes) → Looks reads (file_of build_file bytes ∷ []) 0 (one_more reads)
-    next_file : (files new : List File) (place n m : ℕ) → Looks reads files place n → place < length files → EntersFor files place n new m → Looks reads new (suc place) m
+    root_read : (bytes : List ℕ) → Told before (λ content. held_bytes content folder build_file ≡ Some bytes)
+        → Looks reads (file_of build_file bytes ∷ []) 0 (one_more reads)
+    next_file : (files new : List File) (place n m : ℕ) → Looks reads files place n → place < length files → EntersFor files place n new m
+        → Looks reads new (suc place) m
 
   -- these are all files
   pub record ReadsFiles (reads : ℕ) (files : List File) (reads' : ℕ) : Type 0 where

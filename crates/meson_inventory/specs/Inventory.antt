@@ -19,16 +19,17 @@ abbrev pub spot_data : List File → HeldCall → Data
 spot_data files c = object (member (codes "at") (number (unsigned c.head.at)) (member (codes "file") (string (name_of_file c.file files)) no_members))
 
 -- and what names it
-abbrev pub call_data : List File → HeldCall → Data
-call_data files c =
-    object (member (codes "at") (number (unsigned c.head.at)) (member (codes "file") (string (name_of_file c.file files)) (member (codes "function") (string c.head.function)
+abbrev pub held_data : List File → HeldCall → Data
+held_data files c =
+    object (member (codes "at") (number (unsigned c.head.at))
+        (member (codes "file") (string (name_of_file c.file files)) (member (codes "function") (string c.head.function)
     (member (codes "name") (text_or_null c.head.name) (member (codes "variable") (text_or_null c.variable) no_members)))))
 
 abbrev pub project_data : Loaded → Data
 project_data l =
     object (member (codes "files") (array (items_of (map file_data l.files)))
     (member (codes "not_entered") (array (items_of (map (spot_data l.files) (holdings l).not_entered)))
-    (member (codes "targets") (array (items_of (map (call_data l.files) (holdings l).targets))) no_members)))
+    (member (codes "targets") (array (items_of (map (held_data l.files) (holdings l).targets))) no_members)))
 
 -- ---- as lines
 
@@ -56,4 +57,5 @@ file_line f = f.name ++ codes ":1: build file\n"
 -- a line for each target, then one for each file, then one for each `subdir` call that is not entered
 abbrev pub project_lines : Loaded → List ℕ
 project_lines l =
-    flat_map (call_line l.files []) (holdings l).targets ++ (flat_map file_line l.files ++ flat_map (call_line l.files (codes ", not entered")) (holdings l).not_entered)
+    flat_map (call_line l.files []) (holdings l).targets ++ (flat_map file_line l.files
+        ++ flat_map (call_line l.files (codes ", not entered")) (holdings l).not_entered)

@@ -3,7 +3,7 @@
 ghost use Rattle.std.specs.Prelude.{◌≡◌, IfOk, map};
 ghost use Rattle.serde_json.specs.Data.{array};
 ghost use Rattle.serde_json.specs.View.{items_of, view};
-ghost use Rattle.meson_inventory.specs.Inventory.{call_data, file_data, project_data, spot_data};
+ghost use Rattle.meson_inventory.specs.Inventory.{held_data, file_data, project_data, spot_data};
 
 use crate::holdings::{HeldCall, Holdings, holdings_of};
 use meson_listing::entries::{file_name, spot_members, text_or_null};
@@ -25,7 +25,7 @@ fn files_value(alloc: Global, files: &FileSet) -> Result<Value, AllocError>
 
 /// A call, with what names it.
 fn call_value(alloc: Global, files: &FileSet, call: HeldCall) -> Result<Value, AllocError>
-    ensures { IfOk result (λ v. view v ≡ call_data files.now call) }
+    ensures { IfOk result (λ v. view v ≡ held_data files.now call) }
 {
     let HeldCall {
         file,
@@ -46,7 +46,7 @@ fn call_value(alloc: Global, files: &FileSet, call: HeldCall) -> Result<Value, A
 
 /// Calls, with what names them.
 fn calls_value(alloc: Global, files: &FileSet, calls: Many<HeldCall>) -> Result<Value, AllocError>
-    ensures { IfOk result (λ v. view v ≡ array (items_of (map (call_data files.now) calls))) }
+    ensures { IfOk result (λ v. view v ≡ array (items_of (map (held_data files.now) calls))) }
 {
     let mut list = Vec::new(alloc);
     for call in calls.take() {

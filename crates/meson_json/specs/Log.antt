@@ -21,7 +21,8 @@ use Rattle.meson_json.specs.declared.version.Version.TheVariants.{Bare, Titled}
 -- ---- a history as JSON, with the members of an object in the order of their names
 
 abbrev pub splice_data : Splice → Data
-splice_data s = object (member (codes "at") (number (unsigned s.at)) (member (codes "file") (string s.file) (member (codes "now") (string s.now) (member (codes "was") (string s.was) no_members))))
+splice_data s = object (member (codes "at") (number (unsigned s.at))
+    (member (codes "file") (string s.file) (member (codes "now") (string s.now) (member (codes "was") (string s.was) no_members))))
 
 abbrev pub change_data : Change → Data
 change_data c = object (member (codes "splices") (array (items_of (map splice_data c.splices))) (member (codes "title") (string c.title) no_members))
@@ -30,7 +31,8 @@ abbrev pub changes_data : List Change → Data
 changes_data cs = array (items_of (map change_data cs))
 
 unfoldable pub log_data : History → Data
-log_data h = object (member (codes "future") (changes_data h.future) (member (codes "past") (changes_data h.past) (member (codes "version") (number (unsigned 2)) no_members)))
+log_data h = object (member (codes "future") (changes_data h.future)
+    (member (codes "past") (changes_data h.past) (member (codes "version") (number (unsigned 2)) no_members)))
 
 -- whether the bytes of a splice are text
 abbrev pub is_text : Splice → Bool
@@ -64,7 +66,8 @@ unfoldable pub splice_of_data : Data → Option Splice
 splice_of_data d =
     if has_members 4 d
     then option_and_then (λ at. option_and_then (λ file. option_and_then (λ now. option_and_then (λ was.
-    Some (record { file = file; at = at; was = was; now = now })) (member_text (codes "was") d)) (member_text (codes "now") d)) (member_text (codes "file") d)) (whole_at (codes "at") d)
+    Some (record { file = file; at = at; was = was; now = now })) (member_text (codes "was") d)) (member_text (codes "now") d))
+        (member_text (codes "file") d)) (whole_at (codes "at") d)
     else None
 
 abbrev pub titled : List Splice → List ℕ → Option Change
@@ -74,7 +77,8 @@ titled ss title = if is_title title then Some (record { splices = ss; title = ti
 unfoldable pub titled_change_of : Data → Option Change
 titled_change_of d =
     if has_members 2 d
-    then option_and_then (λ ss. option_and_then (titled ss) (member_text (codes "title") d)) (option_and_then (each_of splice_of_data) (option_and_then as_array (get (codes "splices") d)))
+    then option_and_then (λ ss. option_and_then (titled ss) (member_text (codes "title") d))
+        (option_and_then (each_of splice_of_data) (option_and_then as_array (get (codes "splices") d)))
     else None
 
 abbrev pub version_of : ℕ → Option Version
@@ -93,7 +97,8 @@ unfoldable pub history_of : Data → Option History
 history_of d =
     if has_members 3 d
     then option_and_then (λ version. option_and_then (λ future. option_and_then (λ past.
-    Some (record { past = past; future = future })) (changes_at version (codes "past") d)) (changes_at version (codes "future") d)) (option_and_then version_of (whole_at (codes "version") d))
+    Some (record { past = past; future = future })) (changes_at version (codes "past") d)) (changes_at version (codes "future") d))
+        (option_and_then version_of (whole_at (codes "version") d))
     else None
 
 -- the history that a text is the log of

@@ -15,11 +15,11 @@ use Rattle.meson_json.specs.declared.fault.ScriptFault.{ScriptFault}
 use Rattle.meson_json.specs.declared.fault.ScriptFault.TheVariants.{NotJson, NotArray, TooMany, NotObject, UnknownType, BadField, UnknownOperation, Unsupported}
 
 -- a text of JSON, in which a single quote (39) is written for a double one (34)
-abbrev quoted : List ℕ → List ℕ
-quoted text = map (λ b. if b == 39 then 34 else b) text
+abbrev pub double_quoted : List ℕ → List ℕ
+double_quoted text = map (λ b. if b == 39 then 34 else b) text
 
 abbrev gives : List ℕ → Result (List Command) ScriptFault → Type 0
-gives text commands = script_of (read (quoted text)) ≡ commands
+gives text commands = script_of (read (double_quoted text)) ≡ commands
 
 -- an entry alone
 abbrev stands_for : List ℕ → Command → Type 0
@@ -29,11 +29,13 @@ stands_for text c = gives text (Ok (c ∷ []))
 
 abbrev pub TargetEntries : Type 0
 TargetEntries =
-    stands_for (codes "[{'type':'target','target':'e','operation':'src_add','sources':['b.c','a.c']}]") (command.SourcesAdd (codes "e") (codes "b.c" ∷ codes "a.c" ∷ []))
+    stands_for (codes "[{'type':'target','target':'e','operation':'src_add','sources':['b.c','a.c']}]")
+        (command.SourcesAdd (codes "e") (codes "b.c" ∷ codes "a.c" ∷ []))
     × stands_for (codes "[{'type':'target','target':'e','operation':'src_rm','sources':['a.c']}]") (command.SourcesRemove (codes "e") (codes "a.c" ∷ []))
     × stands_for (codes "[{'type':'target','target':'e','operation':'extra_files_add','sources':['x.h']}]") (command.ExtraAdd (codes "e") (codes "x.h" ∷ []))
     × stands_for (codes "[{'type':'target','target':'e','operation':'extra_files_rm'}]") (command.ExtraRemove (codes "e") [])
-    × stands_for (codes "[{'type':'target','target':'l','operation':'target_add','sources':['a.c'],'subdir':'s','target_type':'jar'}]") (command.TargetAdd (codes "l") (codes "jar") (codes "s") (codes "a.c" ∷ []))
+    × stands_for (codes "[{'type':'target','target':'l','operation':'target_add','sources':['a.c'],'subdir':'s','target_type':'jar'}]")
+        (command.TargetAdd (codes "l") (codes "jar") (codes "s") (codes "a.c" ∷ []))
     × stands_for (codes "[{'type':'target','target':'l','operation':'target_add'}]") (command.TargetAdd (codes "l") (codes "executable") [] [])
     × stands_for (codes "[{'type':'target','target':'l','operation':'target_rm','kind':1}]") (command.TargetRemove (codes "l"))
     × stands_for (codes "[{'type':'x','target':'e','operation':'info','type':'target'}]") (command.TargetInfo (codes "e"))
@@ -41,13 +43,19 @@ TargetEntries =
 -- keys and options in the order of their bytes
 abbrev pub ArgumentEntries : Type 0
 ArgumentEntries =
-    stands_for (codes "[{'type':'kwargs','function':'project','id':'/','operation':'set','kwargs':{'version':'2','license':['a','b']}}]") (command.KwargsSet role.Project (codes "/") ((codes "license", setting.Texts (codes "a" ∷ codes "b" ∷ [])) ∷ (codes "version", setting.Text (codes "2")) ∷ []))
-    × stands_for (codes "[{'type':'kwargs','function':'target','id':'e','operation':'set','kwargs':{'install':true}}]") (command.KwargsSet role.Target (codes "e") ((codes "install", setting.Bool true) ∷ []))
-    × stands_for (codes "[{'type':'kwargs','function':'dependency','id':'z','operation':'add','kwargs':{'version':'<2'}}]") (command.KwargsAdd role.Dependency (codes "z") ((codes "version", setting.Text (codes "<2")) ∷ []))
+    stands_for (codes "[{'type':'kwargs','function':'project','id':'/','operation':'set','kwargs':{'version':'2','license':['a','b']}}]")
+        (command.KwargsSet role.Project (codes "/") ((codes "license", setting.Texts (codes "a" ∷ codes "b" ∷ []))
+        ∷ (codes "version", setting.Text (codes "2")) ∷ []))
+    × stands_for (codes "[{'type':'kwargs','function':'target','id':'e','operation':'set','kwargs':{'install':true}}]")
+        (command.KwargsSet role.Target (codes "e") ((codes "install", setting.Bool true) ∷ []))
+    × stands_for (codes "[{'type':'kwargs','function':'dependency','id':'z','operation':'add','kwargs':{'version':'<2'}}]")
+        (command.KwargsAdd role.Dependency (codes "z") ((codes "version", setting.Text (codes "<2")) ∷ []))
     × stands_for (codes "[{'type':'kwargs','function':'dependency','id':'z','operation':'remove'}]") (command.KwargsRemove role.Dependency (codes "z") [])
-    × stands_for (codes "[{'type':'kwargs','function':'target','id':'e','operation':'delete','kwargs':{'install':null,'a':1}}]") (command.KwargsDelete role.Target (codes "e") (codes "a" ∷ codes "install" ∷ []))
+    × stands_for (codes "[{'type':'kwargs','function':'target','id':'e','operation':'delete','kwargs':{'install':null,'a':1}}]")
+        (command.KwargsDelete role.Target (codes "e") (codes "a" ∷ codes "install" ∷ []))
     × stands_for (codes "[{'type':'kwargs','function':'project','id':'/','operation':'info'}]") (command.KwargsInfo role.Project (codes "/"))
-    × stands_for (codes "[{'type':'default_options','operation':'set','options':{'warning_level':2,'b_lto':true}}]") (command.OptionsSet ((codes "b_lto", codes "true") ∷ (codes "warning_level", codes "2") ∷ []))
+    × stands_for (codes "[{'type':'default_options','operation':'set','options':{'warning_level':2,'b_lto':true}}]")
+        (command.OptionsSet ((codes "b_lto", codes "true") ∷ (codes "warning_level", codes "2") ∷ []))
     × stands_for (codes "[{'type':'default_options','operation':'delete','options':{'cpp_std':0}}]") (command.OptionsDelete (codes "cpp_std" ∷ []))
 
 -- entry by entry, and each in a fixed order
@@ -84,12 +92,12 @@ an_untitled_change = record { past = record { splices = []; title = [] } ∷ [];
 abbrev pub Logs : Type 0
 Logs =
     (log_of its_history ≡ Ok (codes "{\"future\":[],\"past\":[{\"splices\":[{\"at\":50,\"file\":\"meson.build\",\"now\":\", 'b.c'\",\"was\":\"\"}],\"title\":\"add b\"}],\"version\":2}\n"))
-    × (logged (quoted (codes "{'version':2, 'future':[], 'past':[{'title':'','splices':[]}]}")) ≡ Some an_untitled_change)
-    × (logged (quoted (codes "{'version':1, 'future':[], 'past':[[]]}")) ≡ Some an_untitled_change)
-    × (logged (quoted (codes "{'version':2, 'future':[], 'past':[[]]}")) ≡ None)
-    × (logged (quoted (codes "{'version':1, 'future':[], 'past':[{'title':'','splices':[]}]}")) ≡ None)
+    × (logged (double_quoted (codes "{'version':2, 'future':[], 'past':[{'title':'','splices':[]}]}")) ≡ Some an_untitled_change)
+    × (logged (double_quoted (codes "{'version':1, 'future':[], 'past':[[]]}")) ≡ Some an_untitled_change)
+    × (logged (double_quoted (codes "{'version':2, 'future':[], 'past':[[]]}")) ≡ None)
+    × (logged (double_quoted (codes "{'version':1, 'future':[], 'past':[{'title':'','splices':[]}]}")) ≡ None)
     × (logged (codes "{}") ≡ None)
-    × (logged (quoted (codes "{'future':[],'past':[],'version':3}")) ≡ None)
-    × (logged (quoted (codes "{'future':[],'past':[],'title':'','version':1}")) ≡ None)
-    × (logged (quoted (codes "{'future':[],'past':[[{'at':-1,'file':'f','now':'','was':''}]],'version':1}")) ≡ None)
-    × (logged (quoted (codes "{'future':[],'past':[[{'at':'4','file':'f','now':'','was':''}]],'version':1}")) ≡ None)
+    × (logged (double_quoted (codes "{'future':[],'past':[],'version':3}")) ≡ None)
+    × (logged (double_quoted (codes "{'future':[],'past':[],'title':'','version':1}")) ≡ None)
+    × (logged (double_quoted (codes "{'future':[],'past':[[{'at':-1,'file':'f','now':'','was':''}]],'version':1}")) ≡ None)
+    × (logged (double_quoted (codes "{'future':[],'past':[[{'at':'4','file':'f','now':'','was':''}]],'version':1}")) ≡ None)

@@ -62,9 +62,12 @@ kwargs_asked i (Some operation) = Ok operation
 
 -- `delete` and `info` take any values
 unfoldable pub kwargs_command : ℕ → KwargsOperation → Role → List ℕ → Members → Result Command ScriptFault
-kwargs_command i kwargs.Set role id ms = then_ok (ok_or (each_member setting_of ms) (BadField i (codes "kwargs"))) (λ pairs. Ok (command.KwargsSet role id pairs))
-kwargs_command i kwargs.Add role id ms = then_ok (ok_or (each_member setting_of ms) (BadField i (codes "kwargs"))) (λ pairs. Ok (command.KwargsAdd role id pairs))
-kwargs_command i kwargs.Remove role id ms = then_ok (ok_or (each_member setting_of ms) (BadField i (codes "kwargs"))) (λ pairs. Ok (command.KwargsRemove role id pairs))
+kwargs_command i kwargs.Set role id ms = then_ok (ok_or (each_member setting_of ms) (BadField i (codes "kwargs")))
+    (λ pairs. Ok (command.KwargsSet role id pairs))
+kwargs_command i kwargs.Add role id ms = then_ok (ok_or (each_member setting_of ms) (BadField i (codes "kwargs")))
+    (λ pairs. Ok (command.KwargsAdd role id pairs))
+kwargs_command i kwargs.Remove role id ms = then_ok (ok_or (each_member setting_of ms) (BadField i (codes "kwargs")))
+    (λ pairs. Ok (command.KwargsRemove role id pairs))
 kwargs_command i kwargs.RemoveRegex role id ms = Err (Unsupported i)
 kwargs_command i kwargs.Delete role id ms = Ok (command.KwargsDelete role id (names_of_members ms))
 kwargs_command i kwargs.Info role id ms = Ok (command.KwargsInfo role id)

@@ -116,12 +116,14 @@ TaskLeaves (delete_option name) before after = OptionIs name [] before after
 
 pub data TasksLeave : List Task → (before after : List (Argument Nowhere)) → Type 0 where
   none : (xs : List (Argument Nowhere)) → TasksLeave [] xs xs
-  one : (t : Task) (ts : List Task) (before between after : List (Argument Nowhere)) → TaskLeaves t before between → TasksLeave ts between after → TasksLeave (t ∷ ts) before after
+  one : (t : Task) (ts : List Task) (before between after : List (Argument Nowhere)) → TaskLeaves t before between → TasksLeave ts between after
+      → TasksLeave (t ∷ ts) before after
 
 -- ---- the law: the steps that tasks mean, done where the call stands, leave of it what these tasks leave
 
 abbrev pub StepsLeave : Type 0
-StepsLeave = (ts : List Task) → AllByRecursion MayBeWritten ts → (c : CallRef) (trees : List Plain) → All MayStandBetween trees → CallStands c trees → (steps : List Step)
+StepsLeave = (ts : List Task) → AllByRecursion MayBeWritten ts → (c : CallRef) (trees : List Plain) → All MayStandBetween trees → CallStands c trees
+    → (steps : List Step)
     → tasks_steps c ts trees ≡ Ok steps → TasksLeave ts (elements_in c trees) (elements_in c (trees_after steps trees))
 
 -- ---- a request whose texts are UTF-8
@@ -152,5 +154,6 @@ pub record CallLeft (old : Loaded) (r : Role) (id : List ℕ) (asked : Asked) (a
 
 -- the law: where a request means steps, these leave of its call what its tasks leave
 abbrev pub RequestsLeave : Type 0
-RequestsLeave = (old : Loaded) → IsProject old → (r : Role) (id : List ℕ) (asked : Asked) → AreAskedTexts asked → (steps : List Step) → request_steps (project old) (r, id, asked) ≡ Ok steps
+RequestsLeave = (old : Loaded) → IsProject old → (r : Role) (id : List ℕ) (asked : Asked) → AreAskedTexts asked → (steps : List Step)
+    → request_steps (project old) (r, id, asked) ≡ Ok steps
     → CallLeft old r id asked (trees_after steps (plain_trees old))

@@ -59,7 +59,8 @@ abbrev pub of_list : Bool → List Step → Result (List Step) Refusal
 of_list known steps = if known then Ok steps else Err (NotLiteral options_key)
 
 abbrev pub set_by_shape : {S : Type 0} → CallRef → ℕ → (name entry : List ℕ) → Option (List ℕ) → ValueShape S → Result (List Step) Refusal
-set_by_shape c n name entry text (an_array xs) = of_list (all_of_kind element.Text xs) (set_in_list (child c n) (length xs) entry (passing (is_entry_element name) 0 xs))
+set_by_shape c n name entry text (an_array xs) = of_list (all_of_kind element.Text xs)
+    (set_in_list (child c n) (length xs) entry (passing (is_entry_element name) 0 xs))
 set_by_shape c n name entry text no_array = of_lone text (set_in_lone c n entry (is_entry name text))
 
 abbrev pub delete_by_shape : {S : Type 0} → CallRef → ℕ → List ℕ → Option (List ℕ) → ValueShape S → Result (List Step) Refusal

@@ -1,4 +1,5 @@
--- What values the keyword arguments have that commands change, and what is written for these. Meson manual, Reference manual: `project`, `dependency`, `executable`.
+-- What values the keyword arguments have that commands change, and what is written for these. Meson manual, Reference manual: `project`,
+-- `dependency`, `executable`.
 use Rattle.std.specs.Prelude.{ℕ, Bool, true, false, not, ◌&&◌, List, [], ◌∷◌, ◌++◌, map, codes, if◌then◌else◌, bytes_eq, Option, Some, None, ok_or, option_map, Result, Ok, Err}
 use Rattle.std.specs.List.{list_all}
 use Rattle.meson_lex.specs.Bytes.{is_word_start, is_word_byte}

@@ -54,8 +54,10 @@ pub record Keeps (left right : List Lexeme) (text : List ℕ) : Type 0 where
   pub gone_is : IsCommaAtMost (spoken gone)
   pub lost_is : IsCommaAtMost (spoken lost)
 
--- The splices give a text that differs within the brackets alone. There stands a list with these words and remarks, and the items left and right of the touched part are kept.
-pub record Edited (source : List ℕ) (items : List Lexeme) (l : ListOfItems items) (left right : List Lexeme) (ss : List Splice) (words : List Word) (notes : List Lexeme) : Type 0 where
+-- The splices give a text that differs within the brackets alone. There stands a list with these words and remarks, and the items left and
+-- right of the touched part are kept.
+pub record Edited (source : List ℕ) (items : List Lexeme) (l : ListOfItems items) (left right : List Lexeme) (ss : List Splice) (words : List Word)
+    (notes : List Lexeme) : Type 0 where
   pub inner : List Lexeme
   pub text : List ℕ
   pub patches : patched_by source ss ≡ Ok (joined l.front ++ (text ++ joined l.rest))

@@ -21,7 +21,8 @@ with_comma n left own right line new = Keep left ∷ Keep own ∷ Keep (take n r
 -- No comma follows, and the line ends behind n items: a comma after the element, the rest before that line end; one splice where both places are one.
 abbrev pub without_comma : ℕ → List Lexeme → List Lexeme → List Lexeme → List Lexeme → List Lexeme → List Piece
 without_comma zero left own right line new = Keep left ∷ Keep own ∷ Change [] (comma ∷ (line ++ new)) ∷ Keep right ∷ []
-without_comma (suc n) left own right line new = Keep left ∷ Keep own ∷ Change [] (comma ∷ []) ∷ Keep (take (suc n) right) ∷ Change [] (line ++ new) ∷ Keep (drop (suc n) right) ∷ []
+without_comma (suc n) left own right line new = Keep left ∷ Keep own ∷ Change [] (comma ∷ []) ∷ Keep (take (suc n) right) ∷ Change [] (line ++ new)
+    ∷ Keep (drop (suc n) right) ∷ []
 
 -- The list's closing bracket follows: directly after the element.
 abbrev pub before_bracket : List Lexeme → List Lexeme → List Lexeme → List Lexeme → List Lexeme → List Piece

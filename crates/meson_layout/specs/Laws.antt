@@ -24,9 +24,11 @@ FirstLaw = (file source : List ℕ) (items : List Lexeme) → IsItemList source 
 
 -- A new element behind another one: its words come behind a comma. No comment and no continuation goes.
 abbrev pub InsertionLaw : Type 0
-InsertionLaw = (file source : List ℕ) (items : List Lexeme) → IsItemList source items → (l : ListOfItems items) (s : Span) (p : PartIn items l s) → IsBehindElement (spoken p.right)
+InsertionLaw = (file source : List ℕ) (items : List Lexeme) → IsItemList source items → (l : ListOfItems items) (s : Span) (p : PartIn items l s)
+    → IsBehindElement (spoken p.right)
     → (new : List ℕ) (fresh : List Lexeme) → IsNew new fresh
-    → Edited source items l (p.left ++ p.own) p.right (layout_of file items (After s new)) (spoken p.left ++ (spoken p.own ++ comma_word ∷ (spoken fresh ++ spoken p.right))) (remarks l.inner)
+    → Edited source items l (p.left ++ p.own) p.right (layout_of file items (After s new))
+        (spoken p.left ++ (spoken p.own ++ comma_word ∷ (spoken fresh ++ spoken p.right))) (remarks l.inner)
 
 -- the words of a list without an element, by those before and behind it: the comma behind it goes, else the one before it
 abbrev pub IsWithout : List Word → List Word → List Word → Type 0
@@ -45,13 +47,15 @@ RemovalLaw = (file source : List ℕ) (items : List Lexeme) → IsItemList sourc
 abbrev pub ReplacementLaw : Type 0
 ReplacementLaw = (file source : List ℕ) (items : List Lexeme) → IsItemList source items → (l : ListOfItems items) (s : Span) (p : PartIn items l s)
     → IsBeforeValue (spoken p.left) → IsBehindElement (spoken p.right) → (new : List ℕ) (fresh : List Lexeme) → IsNew new fresh
-    → Edited source items l p.left p.right (layout_of file items (Replace s new)) (spoken p.left ++ (spoken fresh ++ spoken p.right)) (remarks p.left ++ remarks p.right)
+    → Edited source items l p.left p.right (layout_of file items (Replace s new)) (spoken p.left ++ (spoken fresh ++ spoken p.right))
+        (remarks p.left ++ remarks p.right)
 
 -- A value that becomes the array of it.
 abbrev pub WrapLaw : Type 0
 WrapLaw = (file source : List ℕ) (items : List Lexeme) → IsItemList source items → (l : ListOfItems items) (s : Span) (p : PartIn items l s)
     → IsBeforeValue (spoken p.left) → IsBehindElement (spoken p.right)
-    → Edited source items l p.left p.right (layout_of file items (Wrap s)) (spoken p.left ++ ((OpenSquare, []) ∷ (spoken p.own ++ (CloseSquare, []) ∷ spoken p.right))) (remarks l.inner)
+    → Edited source items l p.left p.right (layout_of file items (Wrap s))
+        (spoken p.left ++ ((OpenSquare, []) ∷ (spoken p.own ++ (CloseSquare, []) ∷ spoken p.right))) (remarks l.inner)
 
 -- It is one splice, and the value keeps its bytes.
 abbrev pub WrapKeeps : Type 0
@@ -60,7 +64,8 @@ WrapKeeps = (file source : List ℕ) (items : List Lexeme) → IsItemList source
 
 -- In a set of files the splices of an edit change the one file, and in the same way.
 abbrev pub FilesLaw : Type 0
-FilesLaw = (files : List File) (i : ℕ) (file source text : List ℕ) (items : List Lexeme) (primitive : Primitive) → position_of_file file files ≡ Some i → bytes_at i files ≡ source
+FilesLaw = (files : List File) (i : ℕ) (file source text : List ℕ) (items : List Lexeme) (primitive : Primitive) → position_of_file file files ≡ Some i
+    → bytes_at i files ≡ source
     → patched_by source (layout_of file items primitive) ≡ Ok text → patched_all files (layout_of file items primitive) ≡ Ok (with_bytes i text files)
 
 -- what is new is UTF-8

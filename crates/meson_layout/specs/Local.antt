@@ -58,5 +58,6 @@ pub record IsReadyIn (source : List ℕ) (list : Span) (primitive : Primitive) :
 
 -- Where a list stands changes nothing in how an edit of it is laid out: its splices are those in the list's own text.
 abbrev pub LocalLaw : Type 0
-LocalLaw = (file source : List ℕ) (items : List Lexeme) → IsItemList source items → (l : ListOfItems items) → (primitive : Primitive) → IsOfList items l primitive
+LocalLaw = (file source : List ℕ) (items : List Lexeme) → IsItemList source items → (l : ListOfItems items) → (primitive : Primitive)
+    → IsOfList items l primitive
     → layout_of file items primitive ≡ map (farther (length (joined l.front))) (layout_of file (alone items l) (nearer (length (joined l.front)) primitive))

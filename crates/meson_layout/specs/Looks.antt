@@ -1,5 +1,5 @@
--- Looks at the items beside an element or a statement. Each answers with a number of items, or says that there are none such. What stands before an element is looked at
--- backwards: the nearest item first.
+-- Looks at the items beside an element or a statement. Each answers with a number of items, or says that there are none such. What stands
+-- before an element is looked at backwards: the nearest item first.
 use Rattle.std.specs.Prelude.{ℕ, suc, ◌+◌, ◌-◌, Bool, true, false, ◌&&◌, List, [], ◌∷◌, length, take, drop, reverse, if◌then◌else◌, Option, Some, None}
 use Rattle.std.specs.List.{list_all, prefix_len}
 use Rattle.meson_lex.specs.declared.kinds.Kind.{Kind}

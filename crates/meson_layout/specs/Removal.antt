@@ -24,7 +24,8 @@ gone file at was = record { file = file; at = at; was = was; now = [] }
 
 -- one range goes
 abbrev pub one_gone : Growth → List Lexeme → List Lexeme → List Lexeme → List Piece
-one_gone g left range right = Keep (but_last g.before left) ∷ Change (last_few g.before left ++ (range ++ take g.behind right)) [] ∷ Keep (drop g.behind right) ∷ []
+one_gone g left range right = Keep (but_last g.before left) ∷ Change (last_few g.before left ++ (range ++ take g.behind right)) []
+    ∷ Keep (drop g.behind right) ∷ []
 
 abbrev pub one_range : List Lexeme → List Lexeme → List Lexeme → List Piece
 one_range left range right = one_gone (grown left right) left range right
@@ -49,15 +50,16 @@ abbrev pub comma_len : List Lexeme → ℕ
 comma_len after = 1 + one_if is_blank_kind (drop 1 after)
 
 abbrev pub comma_behind_by : ℕ → List Lexeme → List Lexeme → List Lexeme → List Lexeme → List Piece
-comma_behind_by n left own mid after = if at_most_blank mid then one_range left (own ++ (mid ++ take n after)) (drop n after) else two_ranges left own mid (take n after) (drop n after)
+comma_behind_by n left own mid after = if at_most_blank mid then one_range left (own ++ (mid ++ take n after)) (drop n after)
+    else two_ranges left own mid (take n after) (drop n after)
 
--- Behind the element stand `mid`, and then `after`, which begins with a comma: that comma goes with the blank behind it, in one range with the element where at most a blank
--- stands between the two.
+-- Behind the element stand `mid`, and then `after`, which begins with a comma: that comma goes with the blank behind it, in one range with
+-- the element where at most a blank stands between the two.
 abbrev pub comma_behind : List Lexeme → List Lexeme → List Lexeme → List Lexeme → List Piece
 comma_behind left own mid after = comma_behind_by (comma_len after) left own mid after
 
--- No comma behind it. Before the element stand `left`, and then `range`, a comma and `mid`: that comma goes, in one range with the element where only blanks and line ends stand
--- between the two.
+-- No comma behind it. Before the element stand `left`, and then `range`, a comma and `mid`: that comma goes, in one range with the element
+-- where only blanks and line ends stand between the two.
 abbrev pub comma_before : List Lexeme → List Lexeme → List Lexeme → List Lexeme → List Lexeme → List Piece
 comma_before left range mid own right =
     if all_white mid

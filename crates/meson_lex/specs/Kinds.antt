@@ -47,7 +47,8 @@ is_run test (b ∷ bs) = test b && list_all test bs
 -- what may follow a first digit 0: nothing, or the letter of a base and then digits of that base
 abbrev pub is_after_zero : List ℕ → Bool
 is_after_zero [] = true
-is_after_zero (c ∷ digits) = (c == 120 || c == 88) && is_run is_hexadecimal digits || (c == 111 || c == 79) && is_run is_octal digits || (c == 98 || c == 66) && is_run is_binary digits
+is_after_zero (c ∷ digits) = (c == 120 || c == 88) && is_run is_hexadecimal digits || (c == 111 || c == 79) && is_run is_octal digits
+    || (c == 98 || c == 66) && is_run is_binary digits
 
 -- `0`, decimal digits of which the first is not 0, or `0x`, `0o`, `0b` with digits: Numbers, and the grammar's integer_literal (beside it `0`,
 -- `0b` and capitals: decided here)
@@ -136,7 +137,8 @@ spelling _ = []
 
 -- the reserved words: those of the selections, iterations, logical operations and truth values
 abbrev pub reserved : List Kind
-reserved = WordTrue ∷ WordFalse ∷ WordIf ∷ WordElif ∷ WordElse ∷ WordEndif ∷ WordAnd ∷ WordOr ∷ WordNot ∷ WordIn ∷ WordForeach ∷ WordEndforeach ∷ WordBreak ∷ WordContinue ∷ []
+reserved = WordTrue ∷ WordFalse ∷ WordIf ∷ WordElif ∷ WordElse ∷ WordEndif ∷ WordAnd ∷ WordOr ∷ WordNot ∷ WordIn ∷ WordForeach ∷ WordEndforeach ∷ WordBreak
+    ∷ WordContinue ∷ []
 
 -- the text is the spelling of none of these
 abbrev pub IsNoneOf : List Kind → List ℕ → Type 0

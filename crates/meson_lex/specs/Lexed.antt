@@ -8,12 +8,14 @@ use Rattle.meson_lex.specs.Faults.{HasItemsThenFault}
 -- the items with their spans, where the first begins at the offset
 abbrev pub with_spans : ℕ → List Lexeme → List (Result Item LexFault)
 with_spans offset [] = []
-with_spans offset (x ∷ xs) = Ok (record { kind = x.kind; span = record { from = offset; to = offset + length x.text } }) ∷ with_spans (offset + length x.text) xs
+with_spans offset (x ∷ xs) = Ok (record { kind = x.kind; span = record { from = offset; to = offset + length x.text } })
+    ∷ with_spans (offset + length x.text) xs
 
 -- the items of a text that begins at the offset, or those before its fault and then that fault
 pub data IsLexed (offset : ℕ) (bytes : List ℕ) (results : List (Result Item LexFault)) : Type 0 where
   whole : (xs : List Lexeme) → IsItemList bytes xs → results ≡ with_spans offset xs → IsLexed offset bytes results
-  faulty : (xs : List Lexeme) (rest : List ℕ) (fault : LexFault) → HasItemsThenFault offset bytes xs rest fault → results ≡ with_spans offset xs ++ Err fault ∷ [] → IsLexed offset bytes results
+  faulty : (xs : List Lexeme) (rest : List ℕ) (fault : LexFault) → HasItemsThenFault offset bytes xs rest fault
+      → results ≡ with_spans offset xs ++ Err fault ∷ [] → IsLexed offset bytes results
 
 -- each item begins where the one before it ended, is not empty and lies before the end; without a fault they reach the end, and nothing comes after a fault
 abbrev pub Tiles : ℕ → ℕ → List (Result Item LexFault) → Type 0

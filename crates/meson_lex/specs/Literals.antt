@@ -92,7 +92,8 @@ before (Some e) rest = option_map (λ l. e.character ∷ l) rest
 abbrev pub unescaped_after : ℕ → List ℕ → Option (List ℕ)
 unescaped_after skip [] = Some []
 unescaped_after (suc skip) (c ∷ cs) = unescaped_after skip cs
-unescaped_after zero (c ∷ cs) = if c == 92 then before (escape cs) (unescaped_after (escape_taken (escape cs)) cs) else option_map (λ l. c ∷ l) (unescaped_after 0 cs)
+unescaped_after zero (c ∷ cs) = if c == 92 then before (escape cs) (unescaped_after (escape_taken (escape cs)) cs)
+    else option_map (λ l. c ∷ l) (unescaped_after 0 cs)
 
 -- the characters that those between single quotes stand for
 abbrev pub unescaped : List ℕ → Option (List ℕ)

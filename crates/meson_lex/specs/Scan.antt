@@ -18,7 +18,8 @@ Front = Result (Kind × ℕ) LexFault
 abbrev pub quoted_len : List ℕ → Option ℕ
 quoted_len [] = None
 quoted_len (b ∷ []) = if b == 39 then Some 1 else None
-quoted_len (b ∷ c ∷ bs) = if b == 39 then Some 1 else (if b == 92 then option_map (λ n. n + 2) (quoted_len bs) else option_map (λ n. n + 1) (quoted_len (c ∷ bs)))
+quoted_len (b ∷ c ∷ bs) = if b == 39 then Some 1 else (if b == 92 then option_map (λ n. n + 2) (quoted_len bs)
+    else option_map (λ n. n + 1) (quoted_len (c ∷ bs)))
 
 -- the first kind in the list that is spelled so
 abbrev pub kind_among : List Kind → List ℕ → Kind
@@ -161,7 +162,8 @@ front at (b ∷ bs) = front_of at b bs (opened_string (b ∷ bs))
 
 -- what stands at the front, and then what follows it
 abbrev pub scan_after : (ℕ → List ℕ → List (Result Item LexFault)) → ℕ → List ℕ → Front → List (Result Item LexFault)
-scan_after follow at bytes (Ok found) = Ok (record { kind = found.0; span = record { from = at; to = at + found.1 } }) ∷ follow (at + found.1) (drop found.1 bytes)
+scan_after follow at bytes (Ok found) = Ok (record { kind = found.0; span = record { from = at; to = at + found.1 } })
+    ∷ follow (at + found.1) (drop found.1 bytes)
 scan_after follow at bytes (Err fault) = Err fault ∷ []
 
 -- the items that follow one another from place at on, for at most so many

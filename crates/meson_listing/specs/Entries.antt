@@ -17,7 +17,9 @@ text_or_null (Some text) = string text
 -- ---- sources
 
 abbrev pub item_data : List File → SourceItem → Data
-item_data files i = object (member (codes "at") (number (unsigned i.span.from)) (member (codes "file") (string (name_of_file i.file files)) (member (codes "value") (string i.value) (member (codes "variable") (text_or_null i.variable) no_members))))
+item_data files i = object (member (codes "at") (number (unsigned i.span.from))
+    (member (codes "file") (string (name_of_file i.file files))
+    (member (codes "value") (string i.value) (member (codes "variable") (text_or_null i.variable) no_members))))
 
 abbrev pub items_data : List File → List SourceItem → Data
 items_data files is = array (items_of (map (item_data files) is))

@@ -1,5 +1,5 @@
--- What is there after a command, said of the arguments of the call that it changes, of the lists that get or lose sources or extra files, and of the calls that a name names.
--- Meson manual, Rewriter.
+-- What is there after a command, said of the arguments of the call that it changes, of the lists that get or lose sources or extra files,
+-- and of the calls that a name names. Meson manual, Rewriter.
 use Rattle.std.specs.Prelude.{◌≡◌, ℕ, List, ◌∷◌, All, codes, Ok}
 use Rattle.std.specs.Str.{IsUtf8}
 use Rattle.meson_lex.specs.declared.kinds.Span.{Span}
@@ -33,7 +33,8 @@ LeavesOf old r id asked new = AreAskedTexts asked → CallLeft old r id asked (p
 pub record SourcesCome (old : Loaded) (id : List ℕ) (names : List (List ℕ)) (new : Loaded) : Type 0 where
   pub call : Placed (Call Span)
   pub is_call : the_call (project old) role.Target id ≡ Ok call
-  pub gets : ListGets (home call.place (source_marks (project old) call)) (new_names (source_marks (project old) call) names) (plain_trees old) (plain_trees new)
+  pub gets : ListGets (home call.place (source_marks (project old) call)) (new_names (source_marks (project old) call) names) (plain_trees old)
+      (plain_trees new)
   pub whole : All IsUtf8 names → SourcesGrow (new_names (source_marks (project old) call) names) id call (project old) (project new)
 
 -- Of the sources those that are named are gone, and of all sources of the target no others.

@@ -46,5 +46,6 @@ pub record KeepsUntouched (old : Loaded) (c : Command) (new : Loaded) : Type 0 w
 -- Why a command is refused: it means no edits, or what it makes passes a limit.
 pub data MayRefuse (old : Loaded) (c : Command) : Refusal → Type 0 where
   unplanned : (refusal : Refusal) → planned (project old) c ≡ Err refusal → MayRefuse old c refusal
-  deep : (steps : List Step) (trees : List Plain) → planned (project old) c ≡ Ok steps → all_stepped steps (plain_trees old) ≡ Some trees → (AreShallow trees → ⊥) → MayRefuse old c TooDeep
+  deep : (steps : List Step) (trees : List Plain) → planned (project old) c ≡ Ok steps → all_stepped steps (plain_trees old) ≡ Some trees
+      → (AreShallow trees → ⊥) → MayRefuse old c TooDeep
   large : (made : Makes old c) → AreShallow made.trees → (AreSmall made.files → ⊥) → MayRefuse old c TooLarge

@@ -20,7 +20,8 @@ use Rattle.meson_rewrite.specs.declared.request.Step.TheVariants.{UndoChecked}
 -- The history and the files that were left stood for a stack, and the files now have the digests of those. Then so many undos are done on
 -- the files now, and give those that stood before so many runs, to every byte; or two texts have one digest.
 abbrev pub SameSumsUndo : Type 0
-SameSumsUndo = (count : ℕ) (h : History) (left : List File) (s t : Stack) (now : Loaded) → Stands h left s → IsProject now → sums now.files ≡ sums left → undos count s ≡ Some t
+SameSumsUndo = (count : ℕ) (h : History) (left : List File) (s t : Stack) (now : Loaded) → Stands h left s → IsProject now → sums now.files ≡ sums left
+    → undos count s ≡ Some t
     → ((k : History) × (undone_times count h now.files ≡ Ok (k, t.present)) × Stands k t.present t) ⊎ Collision
 
 -- The digests of the files that were left are kept. Then a checked undo that is done, whatever the files were then, gives those that stood

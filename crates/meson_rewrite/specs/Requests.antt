@@ -86,7 +86,8 @@ names_file _ = false
 abbrev pub AsksFor : List ℕ → Action → Option Content → ProgramRequest → Type 0
 AsksFor title (action.Run s) held r = r ≡ request.Step (Run s title)
 AsksFor title (action.Info c) held r = r ≡ request.Step (Tell (script (c ∷ [])))
-AsksFor title (action.ScriptText text) held r = (commands : List Command) × (script_of (read text) ≡ Ok commands) × (r ≡ request.Step (Run (script commands) title))
+AsksFor title (action.ScriptText text) held r = (commands : List Command) × (script_of (read text) ≡ Ok commands)
+    × (r ≡ request.Step (Run (script commands) title))
 AsksFor title (action.ScriptFile name) held r = (commands : List Command) × IsScriptOf held name commands × (r ≡ request.Step (Run (script commands) title))
 AsksFor title action.Undo held r = r ≡ request.Step Undo
 AsksFor title (action.UndoTo count) held r = r ≡ request.Step (UndoTo count)

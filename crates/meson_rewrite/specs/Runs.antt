@@ -56,17 +56,22 @@ module _ (dir : Option (List ℕ)) (step : Step) (dry_run : Bool) (before after 
     -- there is no session
     not_opened : (stop : Stop) → Untouched before after → OpensNone before.content dir before.failures after.failures stop → StepEnds (Err stop)
     -- the step is refused on it
-    refused : (old : Session) (log : List ℕ) (stop : Stop) → Untouched before after → Opens before.content dir old log → MayRefuseStep step old stop → StepEnds (Err stop)
+    refused : (old : Session) (log : List ℕ) (stop : Stop) → Untouched before after → Opens before.content dir old log → MayRefuseStep step old stop
+        → StepEnds (Err stop)
     -- its listings are told, and nothing is written
-    told : (old new : Session) (log : List ℕ) (report : Report) → Untouched before after → Opens before.content dir old log → Does step old report new → only_tells step ≡ true
+    told : (old new : Session) (log : List ℕ) (report : Report) → Untouched before after → Opens before.content dir old log → Does step old report new
+        → only_tells step ≡ true
         → StepEnds (Ok (said_of step report))
     -- what it makes of the files is shown, and nothing is written
-    shown : (old new : Session) (log : List ℕ) (report : Report) (said : Said) → Untouched before after → Opens before.content dir old log → Does step old report new
+    shown : (old new : Session) (log : List ℕ) (report : Report) (said : Said) → Untouched before after → Opens before.content dir old log
+        → Does step old report new
         → only_tells step ≡ false → dry_run ≡ true → Shows old report new said → StepEnds (Ok said)
     -- each file that differs was replaced, then the log, and no other
-    done : (edits : Edits before.content dir step) → only_tells step ≡ false → dry_run ≡ false → AreReplaced (written edits) before after → StepEnds (Ok (said_of step edits.report))
+    done : (edits : Edits before.content dir step) → only_tells step ≡ false → dry_run ≡ false → AreReplaced (written edits) before after
+        → StepEnds (Ok (said_of step edits.report))
     -- one could not be replaced, what was replaced got its old bytes again, and the fault tells of it
-    unwritten : (edits : Edits before.content dir step) (fault : StoreFault) → only_tells step ≡ false → dry_run ≡ false → TakenBack (written edits) before after fault
+    unwritten : (edits : Edits before.content dir step) (fault : StoreFault) → only_tells step ≡ false → dry_run ≡ false
+        → TakenBack (written edits) before after fault
         → StepEnds (Err (Store fault))
     no_memory : (stop : Stop) → Untouched before after → WantsMemory stop → StepEnds (Err stop)
 
@@ -74,7 +79,8 @@ module _ (dir : Option (List ℕ)) (step : Step) (dry_run : Bool) (before after 
 
 pub data ListingEnds (dir : Option (List ℕ)) (listing : Listing) (before after : Seen) : Result Said Stop → Type 0 where
   -- there is no session
-  has_none : (stop : Stop) → Untouched before after → OpensNone before.content dir before.failures after.failures stop → ListingEnds dir listing before after (Err stop)
+  has_none : (stop : Stop) → Untouched before after → OpensNone before.content dir before.failures after.failures stop
+      → ListingEnds dir listing before after (Err stop)
   listed : (session : Session) (log : List ℕ) → Untouched before after → Opens before.content dir session log
       → ListingEnds dir listing before after (Ok (record { out = listed_text listing session; err = [] }))
   wants_memory : (stop : Stop) → Untouched before after → WantsMemory stop → ListingEnds dir listing before after (Err stop)
@@ -83,14 +89,17 @@ pub data ListingEnds (dir : Option (List ℕ)) (listing : Listing) (before after
 
 pub data Ends (asked : Result Asked UsageFault) (before after : Seen) : Result Said Stop → Type 0 where
   misused : (fault : UsageFault) → Untouched before after → asked ≡ Err fault → Ends asked before after (Err (Usage fault))
-  helped : (a : Asked) (text : List ℕ) → Untouched before after → asked ≡ Ok (without_text a) → a.action ≡ Help text → Ends asked before after (Ok (record { out = text; err = [] }))
-  told_version : (a : Asked) → Untouched before after → asked ≡ Ok (without_text a) → a.action ≡ Version → Ends asked before after (Ok (record { out = version_line; err = [] }))
+  helped : (a : Asked) (text : List ℕ) → Untouched before after → asked ≡ Ok (without_text a) → a.action ≡ Help text
+      → Ends asked before after (Ok (record { out = text; err = [] }))
+  told_version : (a : Asked) → Untouched before after → asked ≡ Ok (without_text a) → a.action ≡ Version
+      → Ends asked before after (Ok (record { out = version_line; err = [] }))
   -- the words ask for a script that is none
   asks_for_none : (a : Asked) (stop : Stop) → Untouched before after → asked ≡ Ok (without_text a)
       → AsksForNone a.action before.content before.failures after.failures stop → Ends asked before after (Err stop)
   steps : (a : Asked) (step : Step) (end : Result Said Stop) → asked ≡ Ok (without_text a) → AsksFor a.title a.action before.content (request.Step step)
       → StepEnds a.dir step a.dry_run before after end → Ends asked before after end
-  lists : (a : Asked) (listing : Listing) (end : Result Said Stop) → asked ≡ Ok (without_text a) → AsksFor a.title a.action before.content (request.List listing)
+  lists : (a : Asked) (listing : Listing) (end : Result Said Stop) → asked ≡ Ok (without_text a)
+      → AsksFor a.title a.action before.content (request.List listing)
       → ListingEnds a.dir listing before after end → Ends asked before after end
   memory_ran_out : (stop : Stop) → Untouched before after → WantsMemory stop → Ends asked before after (Err stop)
 

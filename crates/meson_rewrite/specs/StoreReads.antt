@@ -1,5 +1,5 @@
--- How often a run reads the store: once for the file that the words name, where they name one, once for each file of the project that is asked for, and once for the log.
--- The file of which it tells that it could not be read is the last that the store was asked for.
+-- How often a run reads the store: once for the file that the words name, where they name one, once for each file of the project that is
+-- asked for, and once for the log. The file of which it tells that it could not be read is the last that the store was asked for.
 use Rattle.std.specs.Prelude.{◌≡◌, ◌⊎◌, ℕ, List, Option, None, Result, Ok, Err}
 use Rattle.meson_command.specs.declared.asked.Action.{Action}
 use Rattle.meson_command.specs.declared.asked.Action.TheVariants as action

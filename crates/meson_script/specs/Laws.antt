@@ -30,7 +30,8 @@ RunIsAStep = (h : History) (files after : List File) (s : Stack) (c : Change) �
     → Stands (record { past = h.past ++ c ∷ []; future = [] }) after (ran s c.title after)
 
 abbrev pub UndoIsAStep : Type 0
-UndoIsAStep = (h : History) (files : List File) (s t : Stack) → Stands h files s → taken_back s ≡ Some t → (k : History) × (undone h files ≡ Ok (k, t.present)) × Stands k t.present t
+UndoIsAStep = (h : History) (files : List File) (s t : Stack) → Stands h files s → taken_back s ≡ Some t
+    → (k : History) × (undone h files ≡ Ok (k, t.present)) × Stands k t.present t
 
 abbrev pub NothingIsUndone : Type 0
 NothingIsUndone = (h : History) (files : List File) (s : Stack) → Stands h files s → taken_back s ≡ None → undone h files ≡ Err NothingToUndo
@@ -41,7 +42,8 @@ UndosAreSteps = (count : ℕ) (h : History) (files : List File) (s t : Stack) �
     → (k : History) × (undone_times count h files ≡ Ok (k, t.present)) × Stands k t.present t
 
 abbrev pub RedoIsAStep : Type 0
-RedoIsAStep = (h : History) (files : List File) (s t : Stack) → Stands h files s → done_again s ≡ Some t → (k : History) × (redone h files ≡ Ok (k, t.present)) × Stands k t.present t
+RedoIsAStep = (h : History) (files : List File) (s t : Stack) → Stands h files s → done_again s ≡ Some t
+    → (k : History) × (redone h files ≡ Ok (k, t.present)) × Stands k t.present t
 
 abbrev pub NothingIsRedone : Type 0
 NothingIsRedone = (h : History) (files : List File) (s : Stack) → Stands h files s → done_again s ≡ None → redone h files ≡ Err NothingToRedo

@@ -14,7 +14,8 @@ use Rattle.meson_script.specs.Running.{MayStop, Runs}
 
 -- What a command does to a project is one change, with one count; the files and trees are then those alone.
 abbrev pub OneOutcome : Type 0
-OneOutcome = (old : Loaded) (c : Command) (done other : Done) (new next : Loaded) → Performs old c done new → Performs old c other next → (done ≡ other) × (new.files ≡ next.files) × (plain_trees new ≡ plain_trees next)
+OneOutcome = (old : Loaded) (c : Command) (done other : Done) (new next : Loaded) → Performs old c done new → Performs old c other next
+    → (done ≡ other) × (new.files ≡ next.files) × (plain_trees new ≡ plain_trees next)
 
 -- A command that is performed is not refused.
 abbrev pub NotRefused : Type 0

@@ -62,7 +62,8 @@ on_ok (Err e) f = None
 -- the sets met by taking the changes back, newest first
 abbrev pub earlier : List Change → List File → Option (List KeptSet)
 earlier [] files = Some []
-earlier (c ∷ changes) files = on_ok (patched_all files (inverses_of c.splices)) (λ before. option_map (λ sets. kept_set before c.title ∷ sets) (earlier changes before))
+earlier (c ∷ changes) files = on_ok (patched_all files (inverses_of c.splices))
+    (λ before. option_map (λ sets. kept_set before c.title ∷ sets) (earlier changes before))
 
 -- the sets met by doing them, next first
 abbrev pub later : List Change → List File → Option (List KeptSet)

@@ -7,7 +7,7 @@ use Rattle.std.proofs.lemmas.List.Sums.{sum_by-cons}
 use Rattle.meson_syntax.proofs.paths.Every.{Every}
 use Rattle.meson_calls.specs.declared.call.CallRef.{CallRef}
 use Rattle.meson_calls.specs.Project.{child, place}
-use Rattle.meson_sources.specs.Effects.{goes, same_spot, spot_at}
+use Rattle.meson_sources.specs.Effects.{goes, same_spot, element_spot}
 use Rattle.meson_sources.specs.SourceEdits.{Spot, is_before, is_path, number_without, path_without}
 use Rattle.meson_sources.proofs.ListsBut.{apart_not_same}
 use Rattle.meson_sources.proofs.NumbersLeft.{OneMore, as_many, left_same, one_fewer}
@@ -19,7 +19,7 @@ use Rattle.meson_sources.proofs.WithoutPlaces.{before_all, left_before, path_lef
 
 -- ---- one more spot
 
-pub none_goes : (c : CallRef) (n : ℕ) (gone : List Spot) → Every (λ g. same_spot g (spot_at c n) ≡ false) gone → goes gone c n ≡ false
+pub none_goes : (c : CallRef) (n : ℕ) (gone : List Spot) → Every (λ g. same_spot g (element_spot c n) ≡ false) gone → goes gone c n ≡ false
 none_goes c n [] every = refl
 none_goes c n (g ∷ gone) every = ap₂ (λ b d. b || d) every.0 (none_goes c n gone every.1)
 

@@ -16,7 +16,7 @@ use Rattle.meson_variables.specs.Expansion.{Item, Mark, Slot, fixed, in_list}
 use Rattle.meson_variables.specs.TargetSources.{items, opaque_count}
 use Rattle.meson_steps.specs.Names.{distinct, distinct_by}
 use Rattle.meson_steps.proofs.WentWell.{then_was}
-use Rattle.meson_sources.specs.Effects.{has_one_of, is_at, spot_at}
+use Rattle.meson_sources.specs.Effects.{has_one_of, is_at, element_spot}
 use Rattle.meson_sources.specs.SourceEdits.{Spot, has_text, items_of, spot_of, spots_by, spots_named, spots_of}
 use Rattle.meson_sources.proofs.ListsBut.{both_true, same_one}
 use Rattle.meson_sources.proofs.NamedGone.{some_of}
@@ -53,7 +53,7 @@ abbrev OtherSlot : Item Span → Item Span → Type 0
 OtherSlot i j = (s : Spot) → is_at s i.slot ≡ true → is_at s j.slot ≡ true → ⊥
 
 place_of_spot : (s : Spot) (slot : Slot) (q : CallRef) → SlotFits slot q → is_at s slot ≡ true → q ≡ child s.list s.number
-place_of_spot s (in_list c n) q fits at = fits ∙ ap (λ (t : Spot). child t.list t.number) (sym (same_one s (spot_at c n) at))
+place_of_spot s (in_list c n) q fits at = fits ∙ ap (λ (t : Spot). child t.list t.number) (sym (same_one s (element_spot c n) at))
 place_of_spot s fixed q fits at = absurd cc
 
 slots_differ : (is : List (Item Span)) → Every ItemFits is → Pairwise OtherPlace is → Pairwise OtherSlot is

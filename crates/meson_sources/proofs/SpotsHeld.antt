@@ -14,7 +14,7 @@ use Rattle.meson_variables.specs.Expansion.{Item, Mark, known, opaque, empty, Sl
 use Rattle.meson_calls.specs.Roles.{one_of}
 use Rattle.meson_variables.specs.TargetSources.{items}
 use Rattle.meson_steps.specs.Names.{distinct}
-use Rattle.meson_sources.specs.Effects.{AreSpotsOf, goes, has_one_of, is_at, same_spot, spot_at}
+use Rattle.meson_sources.specs.Effects.{AreSpotsOf, goes, has_one_of, is_at, same_spot, element_spot}
 use Rattle.meson_sources.specs.SourceEdits.{Spot}
 use Rattle.meson_sources.proofs.Bares.{bare_mark}
 use Rattle.meson_sources.proofs.ElementsThere.{root}
@@ -72,13 +72,13 @@ module _ (trees : List Plain) (Fine : CallRef → ℕ → Node → Type 0) (fine
         record { text = o.it.text; string_held = go o.it.slot o.it.text both.1 o.holds; is_named = distinct_named o.it.text names both.0 }
       where
         go : (slot : Slot) (text : List ℕ) → is_at s slot ≡ true → TextHeld trees Fine fine slot text → StringHeld trees Fine fine s.list s.number text
-        go (in_list q k) text at holds = subst (λ (u : Spot). StringHeld trees Fine fine u.list u.number text) (sym (same_one s (spot_at q k) at)) holds
+        go (in_list q k) text at holds = subst (λ (u : Spot). StringHeld trees Fine fine u.list u.number text) (sym (same_one s (element_spot q k) at)) holds
         go fixed text at holds = absurd cc
 
     pub gone_held : (c : CallRef) (n : ℕ) → goes spots c n ≡ true → SpotHeld c n
     gone_held c n gone =
-        let o = some_of (λ s. same_spot s (spot_at c n)) Only spots of_names.only gone in
-        subst (λ (u : Spot). SpotHeld u.list u.number) (same_one o.it (spot_at c n) o.is) (spot_held o.it o.holds)
+        let o = some_of (λ s. same_spot s (element_spot c n)) Only spots of_names.only gone in
+        subst (λ (u : Spot). SpotHeld u.list u.number) (same_one o.it (element_spot c n) o.is) (spot_held o.it o.holds)
 
     one_named : (i : Item Span) → Held i → (has_one_of (distinct names) i ≡ true → list_any (λ s. is_at s i.slot) spots ≡ true) → NamedGoes (goes spots) names i
     one_named i holds each = alike (slot_gone (goes spots) i.slot) (one_of names i.text) (forth i.slot i.text holds) (λ named. back i.slot (each (named_distinct i.text names named)))

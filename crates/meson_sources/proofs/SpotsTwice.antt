@@ -5,7 +5,7 @@ use Rattle.std.proofs.lemmas.Bool.{eqb-true, or_right}
 use Rattle.meson_syntax.proofs.paths.Every.{Every}
 use Rattle.meson_calls.specs.declared.call.CallRef.{CallRef}
 use Rattle.meson_calls.specs.Project.{place}
-use Rattle.meson_sources.specs.Effects.{goes, same_spot, spot_at}
+use Rattle.meson_sources.specs.Effects.{goes, same_spot, element_spot}
 use Rattle.meson_sources.specs.SourceEdits.{Spot, is_path, spot_without}
 use Rattle.meson_sources.specs.Without.{Gone, from_child}
 use Rattle.meson_sources.proofs.ListsBut.{apart_not_same, apart_of, or_with_none}
@@ -123,11 +123,11 @@ module _ (gone : List Spot) where
       → goes (more ++ gone) c n ≡ (goes gone c n || goes (map moved_spot more) (place_left (goes gone) c) (left_before (goes gone c) n))
   goes_twice [] every c n passes = sym (or_with_none (goes gone c n))
   goes_twice (s ∷ more) every c n passes =
-      ap (λ b. same_spot s (spot_at c n) || b) (goes_twice more every.1 c n passes) ∙ go (goes gone c n) refl (goes (map moved_spot more) (place_left (goes gone) c) (left_before (goes gone c) n))
+      ap (λ b. same_spot s (element_spot c n) || b) (goes_twice more every.1 c n passes) ∙ go (goes gone c n) refl (goes (map moved_spot more) (place_left (goes gone) c) (left_before (goes gone c) n))
     where
-      go : (b : Bool) → goes gone c n ≡ b → (d : Bool) → (same_spot s (spot_at c n) || (b || d)) ≡ (b || (same_spot (moved_spot s) (moved_spot (spot_at c n)) || d))
-      go true is d = or_right (same_spot s (spot_at c n)) true refl
-      go false is d = ap (λ b. b || d) (sym (same_moved s (spot_at c n) every.0 (passes, is)))
+      go : (b : Bool) → goes gone c n ≡ b → (d : Bool) → (same_spot s (element_spot c n) || (b || d)) ≡ (b || (same_spot (moved_spot s) (moved_spot (element_spot c n)) || d))
+      go true is d = or_right (same_spot s (element_spot c n)) true refl
+      go false is d = ap (λ b. b || d) (sym (same_moved s (element_spot c n) every.0 (passes, is)))
 
   module _ (more : List Spot) (every : Every SpotStays more) where
     composed : (i : ℕ) → Composed (λ path n. goes (map moved_spot more) (place i path) n) (gone_in_file i) (λ path n. goes (more ++ gone) (place i path) n)

@@ -10,7 +10,7 @@ use Rattle.meson_steps.specs.ListSteps.{AreDoable, MayStandBetween, none, one}
 use Rattle.meson_steps.specs.ResultLimits.{plain_trees}
 use Rattle.meson_steps.specs.Steps.{all_stepped, stepped}
 use Rattle.meson_steps.proofs.PlainTrees.{trees_stand}
-use Rattle.meson_sources.specs.Effects.{goes, same_spot, spot_at, trees_without}
+use Rattle.meson_sources.specs.Effects.{goes, same_spot, element_spot, trees_without}
 use Rattle.meson_sources.specs.SourceEdits.{Spot, removal, removal_steps, removals_after, spot_without}
 use Rattle.meson_sources.specs.Without.{each_without}
 use Rattle.meson_sources.proofs.ListsBut.{or_with_none}
@@ -56,7 +56,7 @@ one_of_three false b c = refl
 
 also_goes : (spots gone : List Spot) (c : CallRef) (n : ℕ) → goes (also_gone spots gone) c n ≡ (goes spots c n || goes gone c n)
 also_goes [] gone c n = refl
-also_goes (s ∷ more) gone c n = also_goes more (s ∷ gone) c n ∙ one_of_three (same_spot s (spot_at c n)) (goes more c n) (goes gone c n)
+also_goes (s ∷ more) gone c n = also_goes more (s ∷ gone) c n ∙ one_of_three (same_spot s (element_spot c n)) (goes more c n) (goes gone c n)
 
 pub in_any_order : (spots : List Spot) → goes (also_gone spots []) ≡ goes spots
 in_any_order spots i c n = (also_goes spots [] c n ∙ or_with_none (goes spots c n)) i

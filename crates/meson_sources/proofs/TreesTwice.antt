@@ -12,7 +12,7 @@ use Rattle.meson_edit.specs.Edits.{elements}
 use Rattle.meson_calls.specs.declared.call.CallRef.{CallRef}
 use Rattle.meson_calls.specs.Project.{child, place}
 use Rattle.meson_steps.specs.ListSteps.{MayStandBetween}
-use Rattle.meson_sources.specs.Effects.{goes, same_spot, spot_at, trees_without}
+use Rattle.meson_sources.specs.Effects.{goes, same_spot, element_spot, trees_without}
 use Rattle.meson_sources.specs.SourceEdits.{Spot}
 use Rattle.meson_sources.specs.Without.{Gone, arguments_without, but, each_without, from_child, listing_without, tree_without}
 use Rattle.meson_sources.proofs.ElementsThere.{at_stands, root, stands_at}
@@ -89,8 +89,8 @@ module _ (trees : List Plain) (stand : All MayStandBetween trees) (gone : List S
 
   lost : (c : CallRef) (n : ℕ) → goes gone c n ≡ true → (y : Node) → NodeIn trees c y → LostString y n
   lost c n is y h =
-      let o = some_of (λ s. same_spot s (spot_at c n)) (StringIn trees) gone are is in
-      let there : StringIn trees (spot_at c n) = subst (StringIn trees) (same_one o.it (spot_at c n) o.is) o.holds in
+      let o = some_of (λ s. same_spot s (element_spot c n)) (StringIn trees) gone are is in
+      let there : StringIn trees (element_spot c n) = subst (StringIn trees) (same_one o.it (element_spot c n) o.is) o.holds in
       let same_tree : there.tree ≡ h.tree = some-injective _ _ (sym there.is_tree ∙ h.is_tree) in
       let element = ap (option_and_then (λ z. element_any z n)) (sym h.is_node ∙ ap (λ t. node_at (root t) c.path.steps) (sym same_tree)) ∙ stands_at there.tree c.path.steps n there.it there.stands in
       (there.it, element, there.is_string)

@@ -49,7 +49,8 @@ pub record ListGets (list : CallRef) (names : List (List ℕ)) (before after : L
 
 -- the law: the list where further sources of the target go gets those that are no sources of it yet, each once
 abbrev pub SourcesAreAdded : Type 0
-SourcesAreAdded = (old : Loaded) → IsProject old → (id : List ℕ) (c : Placed (Call Span)) → the_call (project old) role.Target id ≡ Ok c → (names : List (List ℕ)) (steps : List Step) (after : List Plain)
+SourcesAreAdded = (old : Loaded) → IsProject old → (id : List ℕ) (c : Placed (Call Span)) → the_call (project old) role.Target id ≡ Ok c
+    → (names : List (List ℕ)) (steps : List Step) (after : List Plain)
     → sources_added (project old) c names ≡ Ok steps → all_stepped steps (plain_trees old) ≡ Some after
     → ListGets (home c.place (source_marks (project old) c)) (new_names (source_marks (project old) c) names) (plain_trees old) after
 
@@ -98,14 +99,15 @@ extra_home p c = or_option (first_list (extra_marks p c)) (first_empty (extra_ma
 
 -- the law: of extra files that are added those come that are none of the target yet, each once
 abbrev pub ExtraIsAdded : Type 0
-ExtraIsAdded = (old : Loaded) → IsProject old → (id : List ℕ) (c : Placed (Call Span)) → the_call (project old) role.Target id ≡ Ok c → (names : List (List ℕ)) (steps : List Step) (after : List Plain)
+ExtraIsAdded = (old : Loaded) → IsProject old → (id : List ℕ) (c : Placed (Call Span)) → the_call (project old) role.Target id ≡ Ok c
+    → (names : List (List ℕ)) (steps : List Step) (after : List Plain)
     → extra_added (project old) c names ≡ Ok steps → all_stepped steps (plain_trees old) ≡ Some after
     → ExtraComes c (extra_home (project old) c) (new_names (extra_marks (project old) c) names) (plain_trees old) after
 
 -- ---- sources and extra files that are removed
 
-abbrev pub spot_at : CallRef → ℕ → Spot
-spot_at list n = record { list = list; number = n }
+abbrev pub element_spot : CallRef → ℕ → Spot
+element_spot list n = record { list = list; number = n }
 
 -- whether two spots are one
 abbrev pub same_spot : Spot → Spot → Bool
@@ -113,7 +115,7 @@ same_spot s t = nat_eq s.list.file t.list.file && (is_path s.list.path.steps t.l
 
 -- whether the element of this number of the list at a place is one of those that go
 abbrev pub goes : List Spot → CallRef → ℕ → Bool
-goes spots list n = list_any (λ s. same_spot s (spot_at list n)) spots
+goes spots list n = list_any (λ s. same_spot s (element_spot list n)) spots
 
 -- the trees without the elements at these spots
 abbrev pub trees_without : List Spot → List Plain → List Plain
@@ -124,7 +126,7 @@ has_one_of names i = list_any (λ name. has_text name i) names
 
 -- whether what has the slot stands at the spot
 abbrev pub is_at : Spot → Slot → Bool
-is_at s (in_list c n) = same_spot s (spot_at c n)
+is_at s (in_list c n) = same_spot s (element_spot c n)
 is_at s fixed = false
 
 -- Each of the items that has one of these names stands at one of the spots, and at each spot stands such an item.
@@ -141,9 +143,13 @@ pub record NamesGo (marks : List (Mark Span)) (names : List (List ℕ)) (before 
 
 -- the laws: of the target's sources, or of its extra files, those that are named are gone from all lists that held them, and nothing else is
 abbrev pub SourcesAreRemoved : Type 0
-SourcesAreRemoved = (old : Loaded) → IsProject old → (id : List ℕ) (c : Placed (Call Span)) → the_call (project old) role.Target id ≡ Ok c → (names : List (List ℕ)) (steps : List Step) (after : List Plain)
-    → sources_removed (project old) c names ≡ Ok steps → all_stepped steps (plain_trees old) ≡ Some after → NamesGo (source_marks (project old) c) names (plain_trees old) after
+SourcesAreRemoved = (old : Loaded) → IsProject old → (id : List ℕ) (c : Placed (Call Span)) → the_call (project old) role.Target id ≡ Ok c
+    → (names : List (List ℕ)) (steps : List Step) (after : List Plain)
+    → sources_removed (project old) c names ≡ Ok steps → all_stepped steps (plain_trees old) ≡ Some after
+        → NamesGo (source_marks (project old) c) names (plain_trees old) after
 
 abbrev pub ExtraIsRemoved : Type 0
-ExtraIsRemoved = (old : Loaded) → IsProject old → (id : List ℕ) (c : Placed (Call Span)) → the_call (project old) role.Target id ≡ Ok c → (names : List (List ℕ)) (steps : List Step) (after : List Plain)
-    → extra_removed (project old) c names ≡ Ok steps → all_stepped steps (plain_trees old) ≡ Some after → NamesGo (extra_marks (project old) c) names (plain_trees old) after
+ExtraIsRemoved = (old : Loaded) → IsProject old → (id : List ℕ) (c : Placed (Call Span)) → the_call (project old) role.Target id ≡ Ok c
+    → (names : List (List ℕ)) (steps : List Step) (after : List Plain)
+    → extra_removed (project old) c names ≡ Ok steps → all_stepped steps (plain_trees old) ≡ Some after
+        → NamesGo (extra_marks (project old) c) names (plain_trees old) after

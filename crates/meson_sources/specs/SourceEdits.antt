@@ -91,7 +91,8 @@ spots_by unknown (i ∷ more) = ok_or (spots_of (i ∷ more)) NotRemovable
 
 abbrev pub spots_named : {S : Type 0} → List (Mark S) → List (List ℕ) → Result (List Spot) Refusal
 spots_named marks [] = Ok []
-spots_named marks (name ∷ more) = then_ok (spots_by (opaque_count marks) (items_of name marks)) (λ here. then_ok (spots_named marks more) (λ later. Ok (here ++ later)))
+spots_named marks (name ∷ more) = then_ok (spots_by (opaque_count marks) (items_of name marks))
+    (λ here. then_ok (spots_named marks more) (λ later. Ok (here ++ later)))
 
 abbrev pub is_path : List ℕ → List ℕ → Bool
 is_path [] [] = true
@@ -135,11 +136,13 @@ removed_at found = then_ok found (λ spots. Ok (removal_steps spots))
 
 abbrev pub sources_added : {S : Type 0} → Project S → Placed (Call S) → List (List ℕ) → Result (List Step) Refusal
 sources_added p c names =
-    then_ok (checked_names names) (λ _. once sources_key (keyword sources_key c.it) (inserted_in p (home c.place (source_marks p c)) (new_names (source_marks p c) names)))
+    then_ok (checked_names names) (λ _. once sources_key (keyword sources_key c.it)
+        (inserted_in p (home c.place (source_marks p c)) (new_names (source_marks p c) names)))
 
 abbrev pub sources_removed : {S : Type 0} → Project S → Placed (Call S) → List (List ℕ) → Result (List Step) Refusal
 sources_removed p c names =
-    then_ok (checked_names names) (λ _. then_ok (once sources_key (keyword sources_key c.it) (source_marks p c)) (λ marks. removed_at (spots_named marks (distinct names))))
+    then_ok (checked_names names) (λ _. then_ok (once sources_key (keyword sources_key c.it) (source_marks p c))
+        (λ marks. removed_at (spots_named marks (distinct names))))
 
 -- ---- extra files
 
@@ -180,7 +183,8 @@ checked_extra p c names =
     then_ok (checked_names names) (λ _. then_ok (not_hidden (keyword kwargs_key c.it)) (λ _. once extra_key (keyword extra_key c.it) (extra_marks p c)))
 
 abbrev pub extra_added : {S : Type 0} → Project S → Placed (Call S) → List (List ℕ) → Result (List Step) Refusal
-extra_added p c names = then_ok (checked_extra p c names) (λ marks. extra_inserted p c (or_option (first_list marks) (first_empty marks)) (new_names marks names))
+extra_added p c names = then_ok (checked_extra p c names) (λ marks. extra_inserted p c (or_option (first_list marks) (first_empty marks))
+    (new_names marks names))
 
 abbrev pub extra_removed : {S : Type 0} → Project S → Placed (Call S) → List (List ℕ) → Result (List Step) Refusal
 extra_removed p c names = then_ok (checked_extra p c names) (λ marks. removed_at (spots_named marks (distinct names)))

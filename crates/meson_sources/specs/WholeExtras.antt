@@ -18,8 +18,10 @@ ExtrasShrink = FilesShrink extra_files
 
 -- the law: after a removal a target has the extra files that it had, but none of those that are named
 abbrev pub AllExtrasShrink : Type 0
-AllExtrasShrink = (old new : Loaded) → IsProject old → file_names new ≡ file_names old → (id : List ℕ) (c : Placed (Call Span)) → the_call (project old) role.Target id ≡ Ok c
-    → (names : List (List ℕ)) (steps : List Step) → extra_removed (project old) c names ≡ Ok steps → all_stepped steps (plain_trees old) ≡ Some (plain_trees new)
+AllExtrasShrink = (old new : Loaded) → IsProject old → file_names new ≡ file_names old → (id : List ℕ) (c : Placed (Call Span))
+    → the_call (project old) role.Target id ≡ Ok c
+    → (names : List (List ℕ)) (steps : List Step) → extra_removed (project old) c names ≡ Ok steps
+        → all_stepped steps (plain_trees old) ≡ Some (plain_trees new)
     → ExtrasShrink names id c (project old) (project new)
 
 abbrev pub ExtrasGrow : List (List ℕ) → List ℕ → Placed (Call Span) → Project Span → Project Span → Type 0
@@ -27,6 +29,8 @@ ExtrasGrow = FilesGrow extra_files
 
 -- the law: after an addition a target has the extra files that it had and those that are added and were none of it, each once
 abbrev pub AllExtrasGrow : Type 0
-AllExtrasGrow = (old new : Loaded) → IsProject old → file_names new ≡ file_names old → (id : List ℕ) (c : Placed (Call Span)) → the_call (project old) role.Target id ≡ Ok c
-    → (names : List (List ℕ)) → All IsUtf8 names → (steps : List Step) → extra_added (project old) c names ≡ Ok steps → all_stepped steps (plain_trees old) ≡ Some (plain_trees new)
+AllExtrasGrow = (old new : Loaded) → IsProject old → file_names new ≡ file_names old → (id : List ℕ) (c : Placed (Call Span))
+    → the_call (project old) role.Target id ≡ Ok c
+    → (names : List (List ℕ)) → All IsUtf8 names → (steps : List Step) → extra_added (project old) c names ≡ Ok steps
+        → all_stepped steps (plain_trees old) ≡ Some (plain_trees new)
     → ExtrasGrow (new_names (extra_marks (project old) c) names) id c (project old) (project new)

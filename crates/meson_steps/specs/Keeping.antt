@@ -23,8 +23,10 @@ pub record StepKeeps (files : List File) (s : Step) (text : List ℕ) : Type 0 w
 -- Steps one after another change the files to the last ones, and each of them keeps what it does not touch.
 pub data StepsKeep : List File → List Step → List File → Type 0 where
   none : (files : List File) → StepsKeep files [] files
-  step : (files last : List File) (s : Step) (steps : List Step) (text : List ℕ) → StepKeeps files s text → StepsKeep (with_bytes s.file text files) steps last → StepsKeep files (s ∷ steps) last
+  step : (files last : List File) (s : Step) (steps : List Step) (text : List ℕ) → StepKeeps files s text
+      → StepsKeep (with_bytes s.file text files) steps last → StepsKeep files (s ∷ steps) last
 
 -- Steps that make splices keep so.
 abbrev pub MakingKeeps : Type 0
-MakingKeeps = (files : List File) (steps : List Step) (splices : List Splice) (last : List File) (bytes : ℕ) → StepsMake files steps splices last bytes → StepsKeep files steps last
+MakingKeeps = (files : List File) (steps : List Step) (splices : List Splice) (last : List File) (bytes : ℕ) → StepsMake files steps splices last bytes
+    → StepsKeep files steps last

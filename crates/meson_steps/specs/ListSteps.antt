@@ -61,5 +61,6 @@ MayStandBetween t = LevelFile t × (file_depth t ≤ wide_depth)
 -- Each step of the list has its edited tree, with its levels and not too deep, and writes its words.
 pub data AreDoable : List Step → List Plain → Type 0 where
   none : (trees : List Plain) → AreDoable [] trees
-  one : (s : Step) (steps : List Step) (trees between : List Plain) → Writes s.edit → stepped s trees ≡ Some between → All MayStandBetween between → AreDoable steps between
+  one : (s : Step) (steps : List Step) (trees between : List Plain) → Writes s.edit → stepped s trees ≡ Some between → All MayStandBetween between
+      → AreDoable steps between
       → AreDoable (s ∷ steps) trees

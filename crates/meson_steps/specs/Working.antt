@@ -140,7 +140,8 @@ tree_of trees place d = slice_index_or trees place.file d
 
 -- how many bytes are read again for a list of the tree `t`
 abbrev pub list_again : (before after : List File) → CallRef → Parsed → ℕ
-list_again before after place t = bytes_again (list_at (view (bytes_at place.file before) t) place.path.steps) (bytes_at place.file before) (bytes_at place.file after)
+list_again before after place t = bytes_again (list_at (view (bytes_at place.file before) t) place.path.steps) (bytes_at place.file before)
+    (bytes_at place.file after)
 
 -- What is saved may be put back, and that gives these files and trees.
 pub record Restores (w : Work) (first : Loaded) : Type 0 where
@@ -162,7 +163,8 @@ limits_of saved k = if is_saved k saved then wide else of_files
 -- Each file reads as its tree.
 pub record AreKnown (saved : List Saved) (files : List File) (trees : List Parsed) : Type 0 where
   pub as_many : length trees ≡ length files
-  pub each : (k : ℕ) (d : Parsed) → k < length files → IsSpannedWithin (limits_of saved k) (bytes_at k files) (view (bytes_at k files) (slice_index_or trees k d))
+  pub each : (k : ℕ) (d : Parsed) → k < length files → IsSpannedWithin (limits_of saved k) (bytes_at k files)
+      (view (bytes_at k files) (slice_index_or trees k d))
 
 -- Steps make the splices, files and trees so far, and have so many bytes read again.
 pub record AreMade (old : Loaded) (steps : List Step) (now : Standing) : Type 0 where

@@ -43,10 +43,12 @@ OldNewOrHeld = OfTried (λ held left fault p. (get left p.path ≡ Some p.was) �
 
 -- What is told of was tried.
 abbrev pub ToldWasTried : Type 0
-ToldWasTried = (folder : Option (List ℕ)) (old new : List File) (held left : Content) (fault : StoreFault) (f : Failed folder old new held left fault) (name : List ℕ) →
+ToldWasTried = (folder : Option (List ℕ)) (old new : List File) (held left : Content) (fault : StoreFault) (f : Failed folder old new held left fault)
+    (name : List ℕ) →
     Contains (still_new fault) name → (p : Put) × Contains (tried f.fails) p × (p.name ≡ name)
 
 -- At a path there is what there was, unless a file is told of that stands there. A file that was to get other bytes had its old ones.
 abbrev pub UntoldIsAsBefore : Type 0
-UntoldIsAsBefore = (folder : Option (List ℕ)) (old new : List File) (held left : Content) (fault : StoreFault) → Failed folder old new held left fault → (path : List ℕ) →
+UntoldIsAsBefore = (folder : Option (List ℕ)) (old new : List File) (held left : Content) (fault : StoreFault) → Failed folder old new held left fault
+    → (path : List ℕ) →
     ((p : Put) → Contains (puts folder old new) p → path ≡ p.path → (IsTold fault p → ⊥) × (get held path ≡ Some p.was)) → get left path ≡ get held path

@@ -78,7 +78,8 @@ abbrev mutual
   statement_words (evaluate e) = expression_words e
   statement_words (assign s x a e) = (k.Identifier, x.text) ∷ (mark (assignment_kind a) ++ expression_words e)
   statement_words (selection s bs o) = branches_words bs k.WordIf ++ (otherwise_words o ++ mark k.WordEndif)
-  statement_words (iteration s xs e b) = mark k.WordForeach ++ (names_words xs ++ (mark k.Colon ++ (expression_words e ++ ((new_line ∷ block_words b) ++ mark k.WordEndforeach))))
+  statement_words (iteration s xs e b) = mark k.WordForeach ++
+      (names_words xs ++ (mark k.Colon ++ (expression_words e ++ ((new_line ∷ block_words b) ++ mark k.WordEndforeach))))
   statement_words (breaks s) = mark k.WordBreak
   statement_words (continues s) = mark k.WordContinue
 

@@ -25,4 +25,5 @@ OneSpannedTreeWithin = (limits others : Limits) (bytes : List ℕ) (f g : File S
 
 -- And of a text that is one list.
 abbrev pub OneSpannedList : Type 0
-OneSpannedList = (b : Bracket) (bytes : List ℕ) (most other : ℕ) (l m : Listing Span) → IsSpannedListWithin most b bytes l → IsSpannedListWithin other b bytes m → l ≡ m
+OneSpannedList = (b : Bracket) (bytes : List ℕ) (most other : ℕ) (l m : Listing Span) → IsSpannedListWithin most b bytes l
+    → IsSpannedListWithin other b bytes m → l ≡ m

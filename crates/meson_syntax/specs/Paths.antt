@@ -1,8 +1,8 @@
--- Paths into trees: each step is the number of a child, counted from 0 in the order of the source.
--- The children of a block are its statements; of an expression statement or an assignment its expression; of a selection condition, block, condition, block, .., and the block
--- behind `else`; of an iteration its expression and its block; of an array its elements; of a dictionary key, value, key, value, ..; of a call the expressions of its arguments;
--- of a row its operands; of a unary expression or a parenthesis its inside; of a conditional its three parts; of a postfix row its base, and then the argument expressions or the
--- index of each tail. A file is its block.
+-- Paths into trees: each step is the number of a child, counted from 0 in the order of the source. The children of a block are its
+-- statements; of an expression statement or an assignment its expression; of a selection condition, block, condition, block, .., and the
+-- block behind `else`; of an iteration its expression and its block; of an array its elements; of a dictionary key, value, key, value, ..;
+-- of a call the expressions of its arguments; of a row its operands; of a unary expression or a parenthesis its inside; of a conditional
+-- its three parts; of a postfix row its base, and then the argument expressions or the index of each tail. A file is its block.
 use Rattle.std.specs.Prelude.{ℕ, zero, suc, Bool, List, [], ◌∷◌, ◌++◌, map, Option, Some, None, option_map, option_and_then}
 use Rattle.meson_lex.specs.declared.kinds.Kind.TheVariants as k
 use Rattle.meson_lex.specs.Significant.{Word, new_line}
@@ -56,7 +56,8 @@ block_in before b behind make = record { sort = of_block; inside = b; before = b
 abbrev pub argument_children : {S : Type 0} → Argument S → List (Hole S (Argument S))
 argument_children (plain e) = expression_in [] e [] plain ∷ []
 argument_children (named s x e) = expression_in ((k.Identifier, x.text) ∷ mark k.Colon) e [] (named s x) ∷ []
-argument_children (pair s e f) = expression_in [] e (mark k.Colon ++ expression_words f) (λ x. pair s x f) ∷ expression_in (expression_words e ++ mark k.Colon) f [] (pair s e) ∷ []
+argument_children (pair s e f) = expression_in [] e (mark k.Colon ++ expression_words f) (λ x. pair s x f)
+    ∷ expression_in (expression_words e ++ mark k.Colon) f [] (pair s e) ∷ []
 
 abbrev pub arguments_children : {S : Type 0} → Arguments S → Bool → List (Hole S (Arguments S))
 arguments_children no_arguments trailing = []
@@ -70,7 +71,8 @@ listing_children (listing s trailing list) b = all_around (mark (opens b)) (mark
 abbrev pub operands_children : {S : Type 0} → Operands S → List (Hole S (Operands S))
 operands_children no_operands = []
 operands_children (operand o e more) =
-    expression_in (operator_words o) e (operands_words more) (λ x. operand o x more) ∷ all_around (operator_words o ++ expression_words e) [] (operand o e) (operands_children more)
+    expression_in (operator_words o) e (operands_words more) (λ x. operand o x more)
+        ∷ all_around (operator_words o ++ expression_words e) [] (operand o e) (operands_children more)
 
 abbrev pub tail_children : {S : Type 0} → Tail S → List (Hole S (Tail S))
 tail_children (method s x l) = all_around (mark k.Dot ++ (k.Identifier, x.text) ∷ []) [] (method s x) (listing_children l bracket.Round)
@@ -78,7 +80,8 @@ tail_children (index s e) = expression_in (mark k.OpenSquare) e (mark k.CloseSqu
 
 abbrev pub tails_children : {S : Type 0} → Tails S → List (Hole S (Tails S))
 tails_children no_tails = []
-tails_children (tail t more) = all_around [] (tails_words more) (λ x. tail x more) (tail_children t) ++ all_around (tail_words t) [] (tail t) (tails_children more)
+tails_children (tail t more) = all_around [] (tails_words more) (λ x. tail x more) (tail_children t)
+    ++ all_around (tail_words t) [] (tail t) (tails_children more)
 
 abbrev pub expression_children : {S : Type 0} → Expression S → List (Hole S (Expression S))
 expression_children (paren s e) = expression_in (mark k.OpenRound) e (mark k.CloseRound) (paren s) ∷ []
@@ -86,8 +89,10 @@ expression_children (array l) = all_around [] [] array (listing_children l brack
 expression_children (dictionary l) = all_around [] [] dictionary (listing_children l bracket.Curly)
 expression_children (call s x l) = all_around ((k.Identifier, x.text) ∷ []) [] (call s x) (listing_children l bracket.Round)
 expression_children (unary s o e) = expression_in (mark (unary_kind o)) e [] (unary s o) ∷ []
-expression_children (row s e os) = expression_in [] e (operands_words os) (λ x. row s x os) ∷ all_around (expression_words e) [] (row s e) (operands_children os)
-expression_children (postfix s e ts) = expression_in [] e (tails_words ts) (λ x. postfix s x ts) ∷ all_around (expression_words e) [] (postfix s e) (tails_children ts)
+expression_children (row s e os) = expression_in [] e (operands_words os) (λ x. row s x os)
+    ∷ all_around (expression_words e) [] (row s e) (operands_children os)
+expression_children (postfix s e ts) = expression_in [] e (tails_words ts) (λ x. postfix s x ts)
+    ∷ all_around (expression_words e) [] (postfix s e) (tails_children ts)
 expression_children (conditional s c y n) =
     expression_in [] c (mark k.Question ++ (expression_words y ++ (mark k.Colon ++ expression_words n))) (λ x. conditional s x y n)
     ∷ expression_in (expression_words c ++ mark k.Question) y (mark k.Colon ++ expression_words n) (λ x. conditional s c x n)
@@ -217,7 +222,8 @@ abbrev pub elements_at : {S : Type 0} → Arguments S → Bool → List (Element
 elements_at no_arguments trailing = []
 elements_at (argument a more) trailing =
     record { element = a; before = []; behind = comma_words more trailing ++ arguments_words more trailing }
-    ∷ map (λ p. record { element = p.element; before = argument_words a ++ (comma_words more trailing ++ p.before); behind = p.behind }) (elements_at more trailing)
+    ∷ map (λ p. record { element = p.element; before = argument_words a ++ (comma_words more trailing ++ p.before); behind = p.behind })
+        (elements_at more trailing)
 
 abbrev pub element_at : {S : Type 0} → Listing S → ℕ → Option (ElementAt S)
 element_at (listing s trailing list) n = nth (elements_at list trailing) n

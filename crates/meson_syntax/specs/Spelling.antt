@@ -105,7 +105,8 @@ abbrev mutual
   SpellsExpression (postfix s e tails) depth ts = Covers s ts × HasTail tails × (looseness e ≤ 0)
       × Then (SpellsExpression e depth) (SpellsTails tails depth) ts
   SpellsExpression (conditional s c y n) depth ts = Covers s ts × (looseness c ≤ 8)
-      × Then (SpellsExpression c depth) (Then (One k.Question) (Then (Deeper (SpellsExpression y) depth) (Then (One k.Colon) (Deeper (SpellsExpression n) depth)))) ts
+      × Then (SpellsExpression c depth) (Then (One k.Question)
+      (Then (Deeper (SpellsExpression y) depth) (Then (One k.Colon) (Deeper (SpellsExpression n) depth)))) ts
 
   -- each with an operator of the row's level before it
   pub SpellsOperands : Operands Span → ℕ → ℕ → List Token → Type 0
@@ -142,7 +143,8 @@ abbrev mutual
   pub SpellsStatement : Statement Span → ℕ → List Token → Type 0
   SpellsStatement (evaluate e) depth ts = SpellsExpression e depth ts
   SpellsStatement (assign s x a e) depth ts = Covers s ts × Then (SaysName x) (Then (One (assignment_kind a)) (SpellsExpression e depth)) ts
-  SpellsStatement (selection s bs o) depth ts = Covers s ts × HasBranch bs × Deeper (λ inner. Then (SpellsBranches bs k.WordIf inner) (Then (SpellsOtherwise o inner) (One k.WordEndif))) depth ts
+  SpellsStatement (selection s bs o) depth ts = Covers s ts × HasBranch bs
+      × Deeper (λ inner. Then (SpellsBranches bs k.WordIf inner) (Then (SpellsOtherwise o inner) (One k.WordEndif))) depth ts
   SpellsStatement (iteration s xs e b) depth ts = Covers s ts × Then (One k.WordForeach) (Then (SaysNames xs) (Then (One k.Colon)
       (Deeper (λ inner. Then (SpellsExpression e inner) (Then (NewLine (SpellsBlock b inner)) (One k.WordEndforeach))) depth))) ts
   SpellsStatement (breaks s) depth ts = Covers s ts × One k.WordBreak ts

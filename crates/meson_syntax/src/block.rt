@@ -52,7 +52,7 @@ pub(crate) fn read_block(
     tokens: &mut Cursor<'_>,
     depth: usize,
 ) -> Result<Block, ParseFault>
-    ensures { AnswersAs (spec.block_at depth) block_view source.now tokens.old result tokens.new }
+    ensures { AnswersAs (spec.block_within depth) block_view source.now tokens.old result tokens.new }
 {
     if depth == 0 {
         return Err(ParseFault::TooDeep(tokens.place(source)));

@@ -33,7 +33,8 @@ pub record NamesTarget (p : Project Nowhere) (name : List ℕ) (it : Call Nowher
 abbrev pub AddedTargetsAreNamed : Type 0
 AddedTargetsAreNamed = (old : Loaded) (name kind folder : List ℕ) (sources : List (List ℕ)) (steps : List Step) (after : List Plain) → IsUtf8 name
     → target_added (project old) name kind folder sources ≡ Ok steps → all_stepped steps (plain_trees old) ≡ Some after
-    → (file : ℕ) × (number_in (project old) folder ≡ Ok file) × NamesTarget (named_trees old.files after) name (call_with_texts kind (name ∷ distinct sources)) file
+    → (file : ℕ) × (number_in (project old) folder ≡ Ok file)
+        × NamesTarget (named_trees old.files after) name (call_with_texts kind (name ∷ distinct sources)) file
 
 -- ---- a target that is removed
 
@@ -71,8 +72,8 @@ calls_among qs = map (λ (c : Placed (Call Nowhere)). c.it) (all_chosen part_cal
 abbrev pub calls_in : Statement Nowhere → List (Call Nowhere)
 calls_in it = calls_among (parts_of_statement (place 0 []) it)
 
--- The calls in the statement are gone, and all others stay in their order. No target has the name any more; and where none had it before, since the id is that of
--- a variable, the id names none.
+-- The calls in the statement are gone, and all others stay in their order. No target has the name any more; and where none had it before,
+-- since the id is that of a variable, the id names none.
 pub record CallsGone (it : Statement Nowhere) (id : List ℕ) (before after : Project Nowhere) : Type 0 where
   pub front : List (Call Nowhere)
   pub back : List (Call Nowhere)
@@ -91,5 +92,6 @@ pub record TargetRemoved (old : Loaded) (id : List ℕ) (c : CallRef) (after : L
 
 -- the law: a target that is removed is gone with its statement, no target has its name, and all else stays
 abbrev pub RemovedTargetsAreGone : Type 0
-RemovedTargetsAreGone = (old : Loaded) → IsProject old → (id : List ℕ) (c : Placed (Call Span)) → the_call (project old) role.Target id ≡ Ok c → (steps : List Step) (after : List Plain)
+RemovedTargetsAreGone = (old : Loaded) → IsProject old → (id : List ℕ) (c : Placed (Call Span)) → the_call (project old) role.Target id ≡ Ok c
+    → (steps : List Step) (after : List Plain)
     → target_removed (project old) c ≡ Ok steps → all_stepped steps (plain_trees old) ≡ Some after → TargetRemoved old id c.place after

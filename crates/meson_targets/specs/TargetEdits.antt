@@ -92,7 +92,8 @@ statement_of c = option_map (λ statement. record { block = place c.file stateme
 
 abbrev pub statement_there : {S : Type 0} → Project S → StatementPlace → Option (Statement S)
 statement_there {S} p statement =
-    option_and_then (λ (f : BuildFile S). option_and_then (λ b. statement_in b.inside statement.number) (block_at f.tree statement.block.path.steps)) (nth_file p statement.block.file)
+    option_and_then (λ (f : BuildFile S). option_and_then (λ b. statement_in b.inside statement.number) (block_at f.tree statement.block.path.steps))
+        (nth_file p statement.block.file)
 
 -- what is done with the expression of a statement: nothing more, or a variable is set to it
 pub data Held : Type 0 where
@@ -110,7 +111,8 @@ pub record Holder : Type 0 where
   pub held : Held
 
 abbrev pub holder : {S : Type 0} → Project S → CallRef → Option Holder
-holder p c = option_and_then (λ statement. option_map (λ held. record { statement = statement; held = held }) (option_and_then held_by (statement_there p statement))) (statement_of c)
+holder p c = option_and_then (λ statement. option_map (λ held. record { statement = statement; held = held })
+    (option_and_then held_by (statement_there p statement))) (statement_of c)
 
 -- the variable that a statement sets to the call at this place
 abbrev pub name_set : Held → Option (List ℕ)

@@ -165,7 +165,8 @@ module _ {S : Type 0} (is_list : Expression S → Bool) (follow : List ℕ → L
 abbrev pub of_variable : List ℕ → CallRef → Stand
 of_variable x p = record { place = p; slot = fixed; variable = Some x }
 
-abbrev pub follow_single : {S : Type 0} → (Expression S → Stand → List (List ℕ) → Expansion S) → List ℕ → List (List ℕ) → Option (Placed (Expression S)) → Expansion S
+abbrev pub follow_single : {S : Type 0} → (Expression S → Stand → List (List ℕ) → Expansion S) → List ℕ → List (List ℕ) → Option (Placed (Expression S))
+    → Expansion S
 follow_single inner x followed None = met opaque followed
 follow_single inner x followed (Some v) = inner v.it (of_variable x v.place) (x ∷ followed)
 

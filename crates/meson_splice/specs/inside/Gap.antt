@@ -13,7 +13,8 @@ gap_text t = t.front.items ++ reverse t.back.items
 
 -- Where the file of that name has the bytes b, the splices do what the others do where it has the bytes c.
 pub record LeadsTo (file b : List ℕ) (splices : List Splice) (c : List ℕ) (others : List Splice) : Type 0 where
-  pub alike : (files : List File) (i : ℕ) → position_of_file file files ≡ Some i → patched_all (with_bytes i b files) splices ≡ patched_all (with_bytes i c files) others
+  pub alike : (files : List File) (i : ℕ) → position_of_file file files ≡ Some i
+      → patched_all (with_bytes i b files) splices ≡ patched_all (with_bytes i c files) others
 
 -- Where the file of that name has the bytes b, the splices are refused so.
 pub record StopsBy (file b : List ℕ) (splices : List Splice) (e : SpliceFault) : Type 0 where

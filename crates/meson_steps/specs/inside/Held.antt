@@ -63,7 +63,8 @@ pub record IsSettled (old : Work) (h : HeldList) (new : Work) : Type 0 where
   pub relexed : new.relexed ≡ old.relexed
 
 -- Splices are made, and a list is read of its new text, moved to its place; so many bytes it has.
-pub record IsReadAgain (old new : Work) (file : ℕ) (splices : List Splice) (spot : ListSpot) (m : MayReadList old.files file splices spot) (list : rust.List) (bytes : ℕ) : Type 0 where
+pub record IsReadAgain (old new : Work) (file : ℕ) (splices : List Splice) (spot : ListSpot) (m : MayReadList old.files file splices spot) (list : rust.List)
+    (bytes : ℕ) : Type 0 where
   pub are_files : patched_all old.files splices ≡ Ok new.files
   pub are_splices : new.splices.items ≡ old.splices.items ++ splices
   pub is_relexed : new.relexed ≡ saturated (old.relexed + bytes)

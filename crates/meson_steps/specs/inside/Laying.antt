@@ -17,4 +17,5 @@ use Rattle.meson_steps.specs.Working.{placed_edit}
 pub record AreLaid (files : List File) (t : Parsed) (step : ListStep) (splices : List Splice) : Type 0 where
   pub primitive : Primitive
   pub is_primitive : Some primitive ≡ placed_edit (view (bytes_at step.list.file files) t) step.list.path.steps step.edit
-  pub are : (items : List Lexeme) → IsItemList (bytes_at step.list.file files) items → splices ≡ effective (layout_of (name_of_file step.list.file files) items primitive)
+  pub are : (items : List Lexeme) → IsItemList (bytes_at step.list.file files) items
+      → splices ≡ effective (layout_of (name_of_file step.list.file files) items primitive)

@@ -12,7 +12,7 @@ use Rattle.meson_syntax.specs.Tree.{Expression, Statement, evaluate, assign, sel
 use Rattle.meson_syntax.specs.Grammar.{HasBranch}
 use Rattle.meson_syntax.specs.inside.Input.{Input, kind, from, next, sees, sees_two, after_kind, expect, span_from, left}
 use Rattle.meson_syntax.specs.inside.Reading.{room, expression}
-use Rattle.meson_syntax.specs.inside.ReadingFiles.{ends_block, block_span, name, names_from, names, assigned, evaluated, simple, bodied, branched, branches_from, branches, otherwised, selected, iterated, broken, continued, stmt_by, stmt, statement_line, lines_from, statement_lines, blocked, block_at, file_of_block, whole}
+use Rattle.meson_syntax.specs.inside.ReadingFiles.{ends_block, block_span, name, names_from, names, assigned, evaluated, simple, bodied, branched, branches_from, branches, otherwised, selected, iterated, broken, continued, stmt_by, stmt, statement_line, lines_from, statement_lines, blocked, block_within, file_of_block, whole}
 use Rattle.meson_syntax.specs.Spelling.{end_of, Covers, CoversBlock, One, Then, Deeper, NewLine, SaysMoreNames, SaysNames, SpellsExpression, SpellsStatement, SpellsBranches, SpellsOtherwise, SpellsStatements, SpellsBlock, SpellsFile, SaysName}
 use Rattle.meson_syntax.proofs.parsing.Steps.{Passes, part, nothing-same}
 use Rattle.meson_syntax.proofs.parsing.Splits.{bind-is, yes-at, no-at, passes-split, one-read, yes-sees, not-sees, yes-two, not-two, expect-is, after-is, after-not, covered, falls, name-read}
@@ -86,7 +86,7 @@ block-covered s (statement t more) d i j r c = covered s i j r.used (covers r.us
 
 -- ---- the rules, where blocks one level deeper are read as they are spelled
 
-module _ (d : ℕ) (blocks : (b : Block Span) (i j : Input) → Passes (Deeper (λ inner. SpellsBlock b inner i.last) d) i j → ends_block (kind j) ≡ true → block_at d i ≡ Some (b, j)) where
+module _ (d : ℕ) (blocks : (b : Block Span) (i j : Input) → Passes (Deeper (λ inner. SpellsBlock b inner i.last) d) i j → ends_block (kind j) ≡ true → block_within d i ≡ Some (b, j)) where
   -- an expression of the statement, or of a construct one level deeper
   value-is : (e : Expression Span) (i j : Input) → Passes (SpellsExpression e d) i j → Stops (kind j) → expression (suc d) i ≡ Some (e, j)
   value-is e i j r stop = complete-expression (suc d) e i j (part _ _ i j r (record { inner = d; less = refl; spelled = r.fits })) stop
@@ -95,7 +95,7 @@ module _ (d : ℕ) (blocks : (b : Block Span) (i j : Input) → Passes (Deeper (
   inside-is inner less e i j r stop = complete-expression d e i j (part _ _ i j r (record { inner = inner; less = less; spelled = r.fits })) stop
 
   complete-bodied : (inner : ℕ) → d ≡ suc inner → (b : Block Span) (i j : Input) → Passes (NewLine (SpellsBlock b inner)) i j → ends_block (kind j) ≡ true
-      → bodied (room d) (expression (suc d)) (expression d) (block_at d) i ≡ Some (b, j)
+      → bodied (room d) (expression (suc d)) (expression d) (block_within d) i ≡ Some (b, j)
   unfolding bodied
   complete-bodied inner less b i j r ends =
       let p = line-split (SpellsBlock b inner) i j r in
@@ -106,16 +106,16 @@ module _ (d : ℕ) (blocks : (b : Block Span) (i j : Input) → Passes (Deeper (
 
   complete-branched : (inner : ℕ) → d ≡ suc inner → (word : Kind) (e : Expression Span) (b : Block Span) (i a m j : Input)
       → Passes (One word) i a → Passes (SpellsExpression e inner) a m → Passes (NewLine (SpellsBlock b inner)) m j → ends_block (kind j) ≡ true
-      → branched (room d) (expression (suc d)) (expression d) (block_at d) i ≡ Some ((e, b), j)
+      → branched (room d) (expression (suc d)) (expression d) (block_within d) i ≡ Some ((e, b), j)
   unfolding branched
   complete-branched inner less word e b i a m j w r body ends =
       rw (one-read word i a w).goes
       (bind-is (expression d a) _ (e, m) _ (inside-is inner less e a m r (line-stops m (first-line (SpellsBlock b inner) m j body)))
-      (bind-is (bodied (room d) (expression (suc d)) (expression d) (block_at d) m) _ (b, j) _ (complete-bodied inner less b m j body ends) refl))
+      (bind-is (bodied (room d) (expression (suc d)) (expression d) (block_within d) m) _ (b, j) _ (complete-bodied inner less b m j body ends) refl))
 
   complete-branches_from : (inner : ℕ) → d ≡ suc inner → (bs : Branches Span) (n : ℕ) (found : List (Expression Span × Block Span)) (i j : Input)
       → left i ≤ n → Passes (SpellsBranches bs k.WordElif inner) i j → ends_block (kind j) ≡ true → (kind j ≡ Some k.WordElif → ⊥)
-      → branches_from (room d) (expression (suc d)) (expression d) (block_at d) n found i ≡ Some (found ++ branch_list bs, j)
+      → branches_from (room d) (expression (suc d)) (expression d) (block_within d) n found i ≡ Some (found ++ branch_list bs, j)
   unfolding branches_from
   complete-branches_from inner less no_branches zero found i j fuel r ends stop = ap₂ (λ f x. Some (f, x)) (sym (append-nil found)) (nothing-same i j r)
   complete-branches_from inner less no_branches (suc n) found i j fuel r ends stop =
@@ -136,12 +136,12 @@ module _ (d : ℕ) (blocks : (b : Block Span) (i j : Input) → Passes (Deeper (
       let third = passes-left B q.at m.at m.first in
       let rest = complete-branches_from inner less more n (found ++ (e, b) ∷ []) m.at j (omega arith) m.second ends stop in
       yes-at (sees k.WordElif i) _ _ i _ (yes-sees k.WordElif i (one-read k.WordElif i p.at p.first).is)
-      (bind-is (branched (room d) (expression (suc d)) (expression d) (block_at d) i) _ ((e, b), m.at) _
+      (bind-is (branched (room d) (expression (suc d)) (expression d) (block_within d) i) _ ((e, b), m.at) _
       (complete-branched inner less k.WordElif e b i p.at q.at m.at p.first q.first m.first (branches-end more inner m.at j m.second ends))
       (rest ∙ ap (λ f. Some (f, j)) (append_assoc found ((e, b) ∷ []) (branch_list more))))
 
   complete-branches : (inner : ℕ) → d ≡ suc inner → (bs : Branches Span) (i j : Input) → HasBranch bs → Passes (SpellsBranches bs k.WordIf inner) i j → ends_block (kind j) ≡ true → (kind j ≡ Some k.WordElif → ⊥)
-      → branches (room d) (expression (suc d)) (expression d) (block_at d) i ≡ Some (branch_list bs, j)
+      → branches (room d) (expression (suc d)) (expression d) (block_within d) i ≡ Some (branch_list bs, j)
   unfolding branches
   complete-branches inner less no_branches i j some r ends stop = absurd some
   complete-branches inner less (branch e b more) i j some r ends stop =
@@ -151,12 +151,12 @@ module _ (d : ℕ) (blocks : (b : Block Span) (i j : Input) → Passes (Deeper (
       let p = passes-split (One k.WordIf) (Then E (Then B M)) i j r in
       let q = passes-split E (Then B M) p.at j p.second in
       let m = passes-split B M q.at j q.second in
-      bind-is (branched (room d) (expression (suc d)) (expression d) (block_at d) i) _ ((e, b), m.at) _
+      bind-is (branched (room d) (expression (suc d)) (expression d) (block_within d) i) _ ((e, b), m.at) _
       (complete-branched inner less k.WordIf e b i p.at q.at m.at p.first q.first m.first (branches-end more inner m.at j m.second ends))
       (complete-branches_from inner less more (left m.at) ((e, b) ∷ []) m.at j (omega arith) m.second ends stop)
 
   complete-otherwised : (inner : ℕ) → d ≡ suc inner → (o : Otherwise Span) (i j : Input) → Passes (SpellsOtherwise o inner) i j → kind j ≡ Some k.WordEndif
-      → otherwised (room d) (expression (suc d)) (expression d) (block_at d) i ≡ Some (o, j)
+      → otherwised (room d) (expression (suc d)) (expression d) (block_within d) i ≡ Some (o, j)
   unfolding otherwised
   complete-otherwised inner less nothing_else i j r end =
       let no : kind j ≡ Some k.WordElse → ⊥ = λ c. let both : Some k.WordElse ≡ Some k.WordEndif = sym c ∙ end in absurd cc in
@@ -165,10 +165,10 @@ module _ (d : ℕ) (blocks : (b : Block Span) (i j : Input) → Passes (Deeper (
       let p = passes-split (One k.WordElse) (NewLine (SpellsBlock b inner)) i j r in
       yes-at (sees k.WordElse i) _ _ (after_kind k.WordElse i) _ (yes-sees k.WordElse i (one-read k.WordElse i p.at p.first).is)
       (rw (after-is k.WordElse i p.at p.first)
-      (bind-is (bodied (room d) (expression (suc d)) (expression d) (block_at d) p.at) _ (b, j) _ (complete-bodied inner less b p.at j p.second (ap ends_block end)) refl))
+      (bind-is (bodied (room d) (expression (suc d)) (expression d) (block_within d) p.at) _ (b, j) _ (complete-bodied inner less b p.at j p.second (ap ends_block end)) refl))
 
   complete-selected : (s : Span) (bs : Branches Span) (o : Otherwise Span) (i j : Input) → Passes (SpellsStatement (selection s bs o) d) i j
-      → selected (room d) (expression (suc d)) (expression d) (block_at d) i ≡ Some (selection s bs o, j)
+      → selected (room d) (expression (suc d)) (expression d) (block_within d) i ≡ Some (selection s bs o, j)
   unfolding selected
   complete-selected s bs o i j r =
       let inner = r.fits.2.inner in
@@ -179,15 +179,15 @@ module _ (d : ℕ) (blocks : (b : Block Span) (i j : Input) → Passes (Deeper (
       let q = passes-split O (One k.WordEndif) p.at j p.second in
       let ends = otherwise-end o inner p.at q.at q.first (one-read k.WordEndif q.at j q.second).is in
       yes-at (room d) _ _ i _ (room-is d (omega arith))
-      (bind-is (branches (room d) (expression (suc d)) (expression d) (block_at d) i) _ (branch_list bs, p.at) _ (complete-branches inner less bs i p.at r.fits.1 p.first ends.0 ends.1)
-      (bind-is (otherwised (room d) (expression (suc d)) (expression d) (block_at d) p.at) _ (o, q.at) _ (complete-otherwised inner less o p.at q.at q.first (one-read k.WordEndif q.at j q.second).is)
+      (bind-is (branches (room d) (expression (suc d)) (expression d) (block_within d) i) _ (branch_list bs, p.at) _ (complete-branches inner less bs i p.at r.fits.1 p.first ends.0 ends.1)
+      (bind-is (otherwised (room d) (expression (suc d)) (expression d) (block_within d) p.at) _ (o, q.at) _ (complete-otherwised inner less o p.at q.at q.first (one-read k.WordEndif q.at j q.second).is)
       (bind-is (expect k.WordEndif q.at) _ (tt, j) _ (expect-is k.WordEndif q.at j q.second)
       (ap₂ (λ x y. Some (selection x y o, j)) (covered s i j r.used r.fits.0 r.took) (list-of-branches bs)))))
 
   -- ---- `foreach`
 
   complete-iterated : (s : Span) (xs : List (Name Span)) (e : Expression Span) (b : Block Span) (i j : Input) → Passes (SpellsStatement (iteration s xs e b) d) i j
-      → iterated (room d) (expression (suc d)) (expression d) (block_at d) i ≡ Some (iteration s xs e b, j)
+      → iterated (room d) (expression (suc d)) (expression d) (block_within d) i ≡ Some (iteration s xs e b, j)
   unfolding iterated
   complete-iterated s xs e b i j r =
       let D = Deeper (λ inner. Then (SpellsExpression e inner) (Then (NewLine (SpellsBlock b inner)) (One k.WordEndforeach))) d in
@@ -208,14 +208,14 @@ module _ (d : ℕ) (blocks : (b : Block Span) (i j : Input) → Passes (Deeper (
       (bind-is (names p1.at) _ (xs, p2.at) _ (complete-names xs p1.at p2.at p2.first no-comma)
       (bind-is (expect k.Colon p2.at) _ (tt, p3.at) _ (expect-is k.Colon p2.at p3.at p3.first)
       (bind-is (expression d p3.at) _ (e, p4.at) _ (inside-is inner less e p3.at p4.at p4.first (line-stops p4.at (first-line (SpellsBlock b inner) p4.at p5.at p5.first)))
-      (bind-is (bodied (room d) (expression (suc d)) (expression d) (block_at d) p4.at) _ (b, p5.at) _ (complete-bodied inner less b p4.at p5.at p5.first (ap ends_block end.is))
+      (bind-is (bodied (room d) (expression (suc d)) (expression d) (block_within d) p4.at) _ (b, p5.at) _ (complete-bodied inner less b p4.at p5.at p5.first (ap ends_block end.is))
       (bind-is (expect k.WordEndforeach p5.at) _ (tt, j) _ (expect-is k.WordEndforeach p5.at j p5.second)
       (ap (λ x. Some (iteration x xs e b, j)) (covered s i j r.used r.fits.0 r.took))))))))
 
   -- ---- other statements
 
   -- what begins an expression begins no other statement
-  simple-by : (κ : Option Kind) → Starts κ → stmt_by (room d) (expression (suc d)) (expression d) (block_at d) κ ≡ simple (room d) (expression (suc d)) (expression d) (block_at d)
+  simple-by : (κ : Option Kind) → Starts κ → stmt_by (room d) (expression (suc d)) (expression d) (block_within d) κ ≡ simple (room d) (expression (suc d)) (expression d) (block_within d)
   simple-by (Some k.WordIf) h = absurd (omega arith)
   simple-by (Some k.WordForeach) h = absurd (omega arith)
   simple-by (Some k.WordBreak) h = absurd (omega arith)
@@ -223,7 +223,7 @@ module _ (d : ℕ) (blocks : (b : Block Span) (i j : Input) → Passes (Deeper (
   simple-by _ h = refl
 
   complete-evaluated : (e : Expression Span) (i j : Input) → Passes (SpellsExpression e d) i j → kind j ≡ Some k.LineEnd
-      → simple (room d) (expression (suc d)) (expression d) (block_at d) i ≡ Some (evaluate e, j)
+      → simple (room d) (expression (suc d)) (expression d) (block_within d) i ≡ Some (evaluate e, j)
   unfolding simple evaluated
   complete-evaluated e i j r end =
       let alone : kind i ≡ Some k.Identifier → Stops (kind (next i)) → kind (next i) ≡ Some k.LineEnd = λ n free. ap kind (name-alone e d i j r n free) ∙ end in
@@ -240,7 +240,7 @@ module _ (d : ℕ) (blocks : (b : Block Span) (i j : Input) → Passes (Deeper (
       (bind-is (expression (suc d) i) _ (e, j) _ (value-is e i j r (line-stops j end)) refl))
 
   assigned-is : (s : Span) (x : Name Span) (a : Assignment) (e : Expression Span) (i j : Input) → Passes (SpellsStatement (assign s x a e) d) i j → kind j ≡ Some k.LineEnd
-      → (kind i ≡ Some k.Identifier) × (kind (next i) ≡ Some (assignment_kind a)) × (assigned (room d) (expression (suc d)) (expression d) (block_at d) a i ≡ Some (assign s x a e, j))
+      → (kind i ≡ Some k.Identifier) × (kind (next i) ≡ Some (assignment_kind a)) × (assigned (room d) (expression (suc d)) (expression d) (block_within d) a i ≡ Some (assign s x a e, j))
   unfolding assigned
   assigned-is s x a e i j r end =
       let P = SpellsExpression e d in
@@ -254,7 +254,7 @@ module _ (d : ℕ) (blocks : (b : Block Span) (i j : Input) → Passes (Deeper (
       (w.is, ap kind w.goes ∙ mark.is, bind-is (expression (suc d) (next (next i))) _ (e, j) _ value (ap₂ (λ y z. Some (assign y z a e, j)) (covered s i j r.used r.fits.0 r.took) w.says))
 
   complete-assigned : (s : Span) (x : Name Span) (a : Assignment) (e : Expression Span) (i j : Input) → Passes (SpellsStatement (assign s x a e) d) i j → kind j ≡ Some k.LineEnd
-      → simple (room d) (expression (suc d)) (expression d) (block_at d) i ≡ Some (assign s x a e, j)
+      → simple (room d) (expression (suc d)) (expression d) (block_within d) i ≡ Some (assign s x a e, j)
   unfolding simple
   complete-assigned s x assigns.Set e i j r end =
       let w = assigned-is s x assigns.Set e i j r end in
@@ -264,7 +264,7 @@ module _ (d : ℕ) (blocks : (b : Block Span) (i j : Input) → Passes (Deeper (
       no-at (sees_two k.Identifier k.Assign i) _ _ i _ (not-two k.Identifier k.Assign i (λ n c. let both : Some k.Assign ≡ Some k.PlusAssign = sym c ∙ w.1 in absurd cc))
       (yes-at (sees_two k.Identifier k.PlusAssign i) _ _ i _ (yes-two k.Identifier k.PlusAssign i w.0 w.1) w.2)
 
-  complete-stmt : (s : Statement Span) (i j : Input) → Passes (SpellsStatement s d) i j → kind j ≡ Some k.LineEnd → stmt (room d) (expression (suc d)) (expression d) (block_at d) i ≡ Some (s, j)
+  complete-stmt : (s : Statement Span) (i j : Input) → Passes (SpellsStatement s d) i j → kind j ≡ Some k.LineEnd → stmt (room d) (expression (suc d)) (expression d) (block_within d) i ≡ Some (s, j)
   unfolding stmt broken continued
   complete-stmt (evaluate e) i j r end = rw (simple-by (kind i) (first-expression e d i j r)) (complete-evaluated e i j r end)
   complete-stmt (assign s x a e) i j r end = rw (first-name x _ i j (part _ _ i j r r.fits.1)) (complete-assigned s x a e i j r end)
@@ -282,14 +282,14 @@ module _ (d : ℕ) (blocks : (b : Block Span) (i j : Input) → Passes (Deeper (
 
   -- ---- blocks
 
-  complete-line : (s : Statement Span) (i m j : Input) → Passes (SpellsStatement s d) i m → Passes (One k.LineEnd) m j → statement_line (room d) (expression (suc d)) (expression d) (block_at d) i ≡ Some (s, j)
+  complete-line : (s : Statement Span) (i m j : Input) → Passes (SpellsStatement s d) i m → Passes (One k.LineEnd) m j → statement_line (room d) (expression (suc d)) (expression d) (block_within d) i ≡ Some (s, j)
   unfolding statement_line
   complete-line s i m j r ends =
-      bind-is (stmt (room d) (expression (suc d)) (expression d) (block_at d) i) _ (s, m) _ (complete-stmt s i m r (one-read k.LineEnd m j ends).is)
+      bind-is (stmt (room d) (expression (suc d)) (expression d) (block_within d) i) _ (s, m) _ (complete-stmt s i m r (one-read k.LineEnd m j ends).is)
       (bind-is (expect k.LineEnd m) _ (tt, j) _ (expect-is k.LineEnd m j ends) refl)
 
   complete-lines_from : (list : Statements Span) (n : ℕ) (found : List (Statement Span)) (i j : Input) → left i ≤ n → Passes (SpellsStatements list d) i j → ends_block (kind j) ≡ true
-      → lines_from (room d) (expression (suc d)) (expression d) (block_at d) n found i ≡ Some (found ++ statement_list list, j)
+      → lines_from (room d) (expression (suc d)) (expression d) (block_within d) n found i ≡ Some (found ++ statement_list list, j)
   unfolding lines_from
   complete-lines_from no_statements zero found i j fuel r ends = ap₂ (λ f x. Some (f, x)) (sym (append-nil found)) (nothing-same i j r)
   complete-lines_from no_statements (suc n) found i j fuel r ends =
@@ -306,20 +306,20 @@ module _ (d : ℕ) (blocks : (b : Block Span) (i j : Input) → Passes (Deeper (
       let lesser = falls (One k.LineEnd) p.at q.at (one-some k.LineEnd) q.first in
       let rest = complete-lines_from more n (found ++ s ∷ []) q.at j (omega arith) q.second ends in
       no-at (ends_block (kind i)) _ _ i _ (first-statement s d i p.at p.first)
-      (bind-is (statement_line (room d) (expression (suc d)) (expression d) (block_at d) i) _ (s, q.at) _ (complete-line s i p.at q.at p.first q.first)
+      (bind-is (statement_line (room d) (expression (suc d)) (expression d) (block_within d) i) _ (s, q.at) _ (complete-line s i p.at q.at p.first q.first)
       (rest ∙ ap (λ f. Some (f, j)) (append_assoc found (s ∷ []) (statement_list more))))
 
-  complete-blocked : (b : Block Span) (i j : Input) → Passes (SpellsBlock b d i.last) i j → ends_block (kind j) ≡ true → blocked (room d) (expression (suc d)) (expression d) (block_at d) i ≡ Some (b, j)
+  complete-blocked : (b : Block Span) (i j : Input) → Passes (SpellsBlock b d i.last) i j → ends_block (kind j) ≡ true → blocked (room d) (expression (suc d)) (expression d) (block_within d) i ≡ Some (b, j)
   unfolding blocked statement_lines
   complete-blocked (block s list) i j r ends =
       let ss : Passes (SpellsStatements list d) i j = record { used = r.used; fits = r.fits.1; took = r.took } in
-      bind-is (lines_from (room d) (expression (suc d)) (expression d) (block_at d) (left i) [] i) _ (statement_list list, j) _ (complete-lines_from list (left i) [] i j (omega arith) ss ends)
+      bind-is (lines_from (room d) (expression (suc d)) (expression d) (block_within d) (left i) [] i) _ (statement_list list, j) _ (complete-lines_from list (left i) [] i j (omega arith) ss ends)
       (ap₂ (λ x l. Some (block x l, j)) (block-covered s list d i j ss r.fits.0) (list-of-statements list))
 
 -- ---- every depth
 
-pub complete-block : (d : ℕ) (b : Block Span) (i j : Input) → Passes (Deeper (λ inner. SpellsBlock b inner i.last) d) i j → ends_block (kind j) ≡ true → block_at d i ≡ Some (b, j)
-unfolding block_at
+pub complete-block : (d : ℕ) (b : Block Span) (i j : Input) → Passes (Deeper (λ inner. SpellsBlock b inner i.last) d) i j → ends_block (kind j) ≡ true → block_within d i ≡ Some (b, j)
+unfolding block_within
 complete-block zero b i j r ends = let less = r.fits.less in absurd (omega arith)
 complete-block (suc d) b i j r ends =
     let less = r.fits.less in

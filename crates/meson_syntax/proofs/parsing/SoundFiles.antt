@@ -11,7 +11,7 @@ use Rattle.meson_syntax.specs.Operators.{assignment_kind}
 use Rattle.meson_syntax.specs.Tree.{Expression, Statement, branches_of, Otherwise, nothing_else, Block, block, File, file, statements_of, Name}
 use Rattle.meson_syntax.specs.inside.Input.{same_kind, Input, Outcome, Parser, kind, from, next, sees, sees_two, after_kind, expect, span_from, left, name_next}
 use Rattle.meson_syntax.specs.inside.Reading.{room, expression}
-use Rattle.meson_syntax.specs.inside.ReadingFiles.{ends_block, block_span, name, names_from, names, assigned, evaluated, simple, bodied, branched, branches_from, branches, otherwised, selected, iterated, broken, continued, stmt_by, stmt, statement_line, lines_from, statement_lines, blocked, block_at, if_over, file_of_block, whole}
+use Rattle.meson_syntax.specs.inside.ReadingFiles.{ends_block, block_span, name, names_from, names, assigned, evaluated, simple, bodied, branched, branches_from, branches, otherwised, selected, iterated, broken, continued, stmt_by, stmt, statement_line, lines_from, statement_lines, blocked, block_within, if_over, file_of_block, whole}
 use Rattle.meson_syntax.specs.Grammar.{HasBranch}
 use Rattle.meson_syntax.specs.Spelling.{end_of, Covers, CoversBlock, One, Then, Deeper, NewLine, SaysMoreNames, SaysNames, SpellsExpression, SpellsStatement, SpellsBranches, SpellsOtherwise, SpellsStatements, SpellsBlock, SpellsFile, SaysName}
 use Rattle.meson_syntax.proofs.parsing.Steps.{Passes, part, passes-then, passes-nothing, and_then_some, chosen_at, some-injective, passes-at, node, sees-one, expect-one, eat-one, eat-none, two-both, kind-sees, sees-name}
@@ -350,15 +350,15 @@ expression-sound d i q h =
     part _ _ i q.1 r (subst (λ n. SpellsExpression q.0 n r.used) inner r.fits.spelled)
 
 -- a block, which stands behind the token before it
-pub block-sound : (d : ℕ) (i : Input) (q : Block Span × Input) → block_at (suc d) i ≡ Some q → Passes (SpellsBlock q.0 d i.last) i q.1
-unfolding block_at selected iterated
+pub block-sound : (d : ℕ) (i : Input) (q : Block Span × Input) → block_within (suc d) i ≡ Some q → Passes (SpellsBlock q.0 d i.last) i q.1
+unfolding block_within selected iterated
 block-sound zero i q h =
-    sound-blocked (room zero) (expression (suc zero)) (expression zero) (block_at zero) zero (expression-sound zero) (λ i q is h. absurd cc) (λ i q is h. absurd cc) i q h
+    sound-blocked (room zero) (expression (suc zero)) (expression zero) (block_within zero) zero (expression-sound zero) (λ i q is h. absurd cc) (λ i q is h. absurd cc) i q h
 block-sound (suc n) i q h =
     let d = suc n in
     let expr = expression (suc d) in
     let inner = expression d in
-    let body = block_at d in
+    let body = block_within d in
     let selection = sound-selected (room d) expr inner body d n refl (expression-sound n) (block-sound n) in
     let iteration = sound-iterated (room d) expr inner body d n refl (expression-sound n) (block-sound n) in
     sound-blocked (room d) expr inner body d (expression-sound d) selection iteration i q h
@@ -379,7 +379,7 @@ pub whole-sound : (depth len : ℕ) (ts : List Token) (f : File Span) → whole 
 unfolding whole
 whole-sound depth len ts f h =
     let i : Input = record { last = 0; rest = ts } in
-    let a = file_of-some len (block_at (suc depth) i) f h in
+    let a = file_of-some len (block_within (suc depth) i) f h in
     let q = a.0 in
     let r = block-sound depth i q a.1 in
     let all : r.used ≡ ts = sym (r.took.rest ∙ ap (λ x. r.used ++ x) a.2 ∙ append-nil r.used) in

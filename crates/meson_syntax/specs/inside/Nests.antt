@@ -13,7 +13,7 @@ use Rattle.meson_syntax.specs.View.{Bytes, args_view, block_view, expr_view}
 use Rattle.meson_syntax.specs.inside.Cursor.{Cursor, input}
 use Rattle.meson_syntax.specs.inside.Input.{Parser, Gives}
 use Rattle.meson_syntax.specs.inside.Reading.{room, expression}
-use Rattle.meson_syntax.specs.inside.ReadingFiles.{block_at}
+use Rattle.meson_syntax.specs.inside.ReadingFiles.{block_within}
 use Rattle.meson_syntax.specs.Tree.{Argument, Block, Expression}
 
 -- a fault by which a token is refused, or want of memory
@@ -28,12 +28,15 @@ abbrev pub AnswersAs : {X Y : Type 0} → Parser Y → (Bytes → X → Y) → B
 AnswersAs rule view source old result new = Gives (view source) (rule (input source old)) result (input source new) × IfErr result IsGrammatical
 
 -- the same for a rule of expressions, where so many constructs may still stand inside one another
-abbrev pub Follows : {X Y : Type 0} → (Bool → Parser (Expression Span) → Parser Y) → (Bytes → X → Y) → Bytes → ℕ → Cursor → Result X ParseFault → Cursor → Type 0
+abbrev pub Follows : {X Y : Type 0} → (Bool → Parser (Expression Span) → Parser Y) → (Bytes → X → Y) → Bytes → ℕ → Cursor → Result X ParseFault → Cursor
+    → Type 0
 Follows rule view source depth old result new = AnswersAs (rule (room depth) (expression depth)) view source old result new
 
 -- the same for a rule of statements, whose conditions and bodies stand one level deeper
-abbrev pub Proceeds : {X Y : Type 0} → (Bool → Parser (Expression Span) → Parser (Expression Span) → Parser (Block Span) → Parser Y) → (Bytes → X → Y) → Bytes → ℕ → Cursor → Result X ParseFault → Cursor → Type 0
-Proceeds rule view source depth old result new = AnswersAs (rule (room depth) (expression (suc depth)) (expression depth) (block_at depth)) view source old result new
+abbrev pub Proceeds : {X Y : Type 0} → (Bool → Parser (Expression Span) → Parser (Expression Span) → Parser (Block Span) → Parser Y) → (Bytes → X → Y)
+    → Bytes → ℕ → Cursor → Result X ParseFault → Cursor → Type 0
+Proceeds rule view source depth old result new = AnswersAs (rule (room depth) (expression (suc depth)) (expression depth)
+    (block_within depth)) view source old result new
 
 -- A function with this precondition and postcondition reads expressions in which fewer than so many constructs stand inside one another.
 pub record Nests (depth : ℕ) (pre : Global → Bor Bytes → MutBor Cursor → ℕ → Type 0)
@@ -42,13 +45,14 @@ pub record Nests (depth : ℕ) (pre : Global → Bor Bytes → MutBor Cursor →
   pub reads : (alloc : Global) (source : Bor Bytes) (old new : MutBor Cursor) (r : Result Expr ParseFault) → post alloc source old depth r new
       → AnswersAs (expression depth) expr_view source.now old.now r new.now
 
--- A function with this precondition and postcondition reads blocks in which fewer than so many constructs stand inside one another, and one more can be counted.
+-- A function with this precondition and postcondition reads blocks in which fewer than so many constructs stand inside one another, and one
+-- more can be counted.
 pub record NestsBlocks (depth : ℕ) (pre : Global → Bor Bytes → MutBor Cursor → ℕ → Type 0)
     (post : Global → Bor Bytes → MutBor Cursor → ℕ → Result rust.Block ParseFault → MutBor Cursor → Type 0) : Type 0 where
   pub countable : depth + 1 < 2 ^ 64
   pub callable : (alloc : Global) (source : Bor Bytes) (old : MutBor Cursor) → pre alloc source old depth
   pub reads : (alloc : Global) (source : Bor Bytes) (old new : MutBor Cursor) (r : Result rust.Block ParseFault) → post alloc source old depth r new
-      → AnswersAs (block_at depth) block_view source.now old.now r new.now
+      → AnswersAs (block_within depth) block_view source.now old.now r new.now
 
 -- elements, with whether a comma stands behind the last
 abbrev pub elements_view : Bytes → Bool × List Arg → Bool × List (Argument Span)

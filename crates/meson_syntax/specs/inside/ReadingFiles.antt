@@ -173,9 +173,9 @@ module _ (room : Bool) (expr inner : Parser (Expression Span)) (body : Parser (B
     λ i. Some (block (block_span start found i) (statements_of found), i)
 
 -- a block in which fewer than so many constructs stand inside one another
-unfoldable pub block_at : ℕ → Parser (Block Span)
-block_at zero = refuse
-block_at (suc depth) = blocked (room depth) (expression (suc depth)) (expression depth) (block_at depth)
+unfoldable pub block_within : ℕ → Parser (Block Span)
+block_within zero = refuse
+block_within (suc depth) = blocked (room depth) (expression (suc depth)) (expression depth) (block_within depth)
 
 -- ---- files
 
@@ -189,4 +189,4 @@ file_of_block len (Some p) = if_over (file (record { from = 0; to = len }) p.0) 
 
 -- the file of so many bytes whose tokens these are, where at most depth constructs stand inside one another
 unfoldable pub whole : ℕ → ℕ → List Token → Option (File Span)
-whole depth len ts = file_of_block len (block_at (suc depth) (record { last = 0; rest = ts }))
+whole depth len ts = file_of_block len (block_within (suc depth) (record { last = 0; rest = ts }))

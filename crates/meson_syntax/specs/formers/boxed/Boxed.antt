@@ -37,7 +37,8 @@ place_of old = (old.ptr, old.alloc)
 
 -- the one field is such a box
 abbrev the_fields : Former {0}
-the_fields = via (pair this (const (Ptr × Global))) Inside (λ X boxed. (boxed.inner.value, place_of boxed.inner)) (λ X parts. record { inner = box_at parts.1 parts.0 })
+the_fields = via (pair this (const (Ptr × Global))) Inside (λ X boxed. (boxed.inner.value, place_of boxed.inner))
+    (λ X parts. record { inner = box_at parts.1 parts.0 })
     (λ X boxed. refl) (λ X parts. refl)
 
 abbrev box_row : RattleType → RattleType
@@ -61,7 +62,8 @@ module _ (R S : RattleType) (along : R.Denot → S.Denot) where
   }
 
   pub the_places : Alike R S along → Alike (contracts.the_row R) (contracts.the_row S) ((the_former this).map R.Denot S.Denot along)
-  the_places alike = view_places the_fields this view (λ X Y f boxed. refl) (λ X boxed. refl) R.Denot S.Denot along (contracts.the_row R).coded (contracts.the_row S).coded
+  the_places alike = view_places the_fields this view (λ X Y f boxed. refl) (λ X boxed. refl) R.Denot S.Denot along (contracts.the_row R).coded
+      (contracts.the_row S).coded
       (invariant R.Denot) (invariant S.Denot) (λ boxed p q. refl) (λ boxed p q. refl) (λ boxed same. tt) (λ boxed same. tt)
       (over (inside.the_row R)) (over (inside.the_row S))
       (struct_places (inside.the_type R) (inside.the_type S) (mapped, tt) _ (λ boxed. refl) refl (laid _ _ _ (boxes_alike alike), tt))

@@ -40,10 +40,12 @@ the_fields = via (vec.the_former this Global) Inside (λ X many. many.vec) (λ X
 
 module _ (R S : RattleType) (along : R.Denot → S.Denot) where
   pub the_places : Alike R S along → Alike (contracts.the_row R) (contracts.the_row S) ((the_former this).map R.Denot S.Denot along)
-  the_places alike = view_places the_fields (list this) view (λ X Y f many. refl) (λ X many. refl) R.Denot S.Denot along (contracts.the_row R).coded (contracts.the_row S).coded
+  the_places alike = view_places the_fields (list this) view (λ X Y f many. refl) (λ X many. refl) R.Denot S.Denot along (contracts.the_row R).coded
+      (contracts.the_row S).coded
       (invariant R.Denot) (invariant S.Denot) (λ many p q. refl) (λ many p q. refl) (λ many same. tt) (λ many same. tt)
       (over (inside.the_row R)) (over (inside.the_row S))
-      (struct_places (inside.the_type R) (inside.the_type S) (vec.mapped along, tt) _ (λ many. refl) refl (laid _ _ _ (vec.the_places heap.the_row ghosts R S along alike), tt))
+      (struct_places (inside.the_type R) (inside.the_type S) (vec.mapped along, tt) _ (λ many. refl) refl
+      (laid _ _ _ (vec.the_places heap.the_row ghosts R S along alike), tt))
 
   pub the_codes_placed : Recodes R S along → Recodes (contracts.the_row R) (contracts.the_row S) ((the_former this).map R.Denot S.Denot along)
   the_codes_placed recodes elements = sym (code_map R.coded.code S.coded.code along (λ x. sym (recodes x)) elements)
