@@ -37,6 +37,7 @@ Operations:
 
 A KIND is one of executable, static_library, shared_library, shared_module, both_libraries, library, jar.
 A SUBDIR is a folder that a subdir call enters, without a slash at its end.
+A SOURCE is a name as the build file writes it: relative to its folder, not to the working folder.
 
 Examples:
   meson_rewrite target tide add moon.c sun.c
@@ -60,9 +61,10 @@ Operations:
   add     put the value into the key's list
   remove  take the value out of the key's list
   delete  remove each key, whatever value is given
-  info    list the keyword arguments as JSON on standard error
+  info    list the keyword arguments as JSON on standard error; it takes no keys
 
 The id of the project is / or //. No key may be given twice.
+set writes a list anew on one line, without the comments in it; add and remove touch no other value.
 
 Keys of project:
   version, meson_version, subproject_dir (texts)
@@ -103,7 +105,7 @@ pub(crate) const COMMAND: &str = "Do the commands of a script";
 pub(crate) const BELOW_COMMAND: &str = "\
 A word that begins with [ or { is the script, any other word the name of its file; - is standard input.
 A script is an array of objects, one for each command; man meson_rewrite has their members.
-All are done, or none.
+All are done, or none. It is kept as a run even where it only asks; --dry-run leaves the log.
 
 Examples:
   meson_rewrite command changes.json
@@ -118,8 +120,8 @@ A removal wrote no bytes. Where the file was changed since, its undo puts the te
 all the same, which may be a wrong place. So after a checkout remove meson.rewrite-log, and do not undo.
 
 --to N takes back the runs that history lists as undo 1 to undo N, all of them or none. N is a number from 1.
---check FILE undoes only where all build files have the digests that list --sums wrote to FILE: then every byte comes
-back. Else nothing is undone. Let list --sums write FILE after each run; - is standard input.
+--check FILE undoes only where all build files have the digests in FILE, else nothing; - is standard input. Let
+list --sums write FILE right after the run: then every byte comes back. One written after an edit by hand lets it pass.
 
 Examples:
   meson_rewrite undo
