@@ -12,7 +12,7 @@ use Rattle.meson_calls.specs.Calls.{Call, call_of, all_chosen, calls, first_argu
 abbrev pub target_functions : List (List ℕ)
 target_functions =
     codes "executable" ∷ codes "static_library" ∷ codes "shared_library" ∷ codes "shared_module" ∷ codes "both_libraries" ∷ codes "library" ∷ codes "jar"
-        ∷ codes "build_target" ∷ []
+    ∷ codes "build_target" ∷ []
 
 abbrev pub one_of : List (List ℕ) → List ℕ → Bool
 one_of texts x = list_any (λ y. bytes_eq y x) texts

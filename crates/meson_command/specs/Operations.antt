@@ -7,5 +7,5 @@ use Rattle.meson_json.specs.declared.target.TargetOperation.TheVariants as targe
 abbrev pub operation_of_word : List ℕ → Option TargetOperation
 operation_of_word word =
     among ((codes "add", target.SourcesAdd) ∷ (codes "rm", target.SourcesRemove) ∷ (codes "add_target", target.TargetAdd)
-        ∷ (codes "rm_target", target.TargetRemove)
+    ∷ (codes "rm_target", target.TargetRemove)
     ∷ (codes "add_extra_files", target.ExtraAdd) ∷ (codes "rm_extra_files", target.ExtraRemove) ∷ (codes "info", target.Info) ∷ []) word

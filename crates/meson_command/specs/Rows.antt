@@ -54,11 +54,11 @@ Done =
     × asks (codes "target l add_target") (in_place (run (command.TargetAdd (codes "l") (codes "executable") [] [])))
     × asks (codes "target l rm_target a.c") (in_place (run (command.TargetRemove (codes "l"))))
     × asks (codes "kwargs set project / version 1.0.0") (in_place
-        (run (command.KwargsSet role.Project (codes "/") ((codes "version", setting.Text (codes "1.0.0")) ∷ []))))
+    (run (command.KwargsSet role.Project (codes "/") ((codes "version", setting.Text (codes "1.0.0")) ∷ []))))
     × asks (codes "kwargs add dependency zlib version <2") (in_place
-        (run (command.KwargsAdd role.Dependency (codes "zlib") ((codes "version", setting.Text (codes "<2")) ∷ []))))
+    (run (command.KwargsAdd role.Dependency (codes "zlib") ((codes "version", setting.Text (codes "<2")) ∷ []))))
     × asks (codes "kwargs remove target e link_with l") (in_place
-        (run (command.KwargsRemove role.Target (codes "e") ((codes "link_with", setting.Text (codes "l")) ∷ []))))
+    (run (command.KwargsRemove role.Target (codes "e") ((codes "link_with", setting.Text (codes "l")) ∷ []))))
     × asks (codes "kwargs delete target e install true") (in_place (run (command.KwargsDelete role.Target (codes "e") (codes "install" ∷ []))))
     × asks (codes "default-options set cpp_std c++20") (in_place (run (command.OptionsSet ((codes "cpp_std", codes "c++20") ∷ []))))
     × asks (codes "default-options delete cpp_std c++20") (in_place (run (command.OptionsDelete (codes "cpp_std" ∷ []))))

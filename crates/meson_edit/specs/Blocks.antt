@@ -103,7 +103,7 @@ StatementsGo = (limits : Limits) (bytes : List ℕ) (f : File Span) (s : IsSpann
     → block_at f path ≡ Some b
     → (n : ℕ) (x : Statement Span) → statement_in b.inside n ≡ Some x
     → (left own right : List Lexeme) → IsItemList bytes (left ++ (own ++ right)) → length (joined left) ≡ (statement_span x).from
-        → length (joined (left ++ own)) ≡ (statement_span x).to
+    → length (joined (left ++ own)) ≡ (statement_span x).to
     → (front gone back : List Lexeme) → IsTrimmed left front back → right ≡ gone ++ back → IsLineRest gone
     → Spells (joined (front ++ back)) (erase (b.back (block_without b.inside n)))
 
@@ -113,7 +113,7 @@ RemovalsReadAgain = (limits : Limits) (bytes : List ℕ) (f : File Span) (s : Is
     → block_at f path ≡ Some b
     → (n : ℕ) (x : Statement Span) → statement_in b.inside n ≡ Some x
     → (left own right : List Lexeme) → IsItemList bytes (left ++ (own ++ right)) → length (joined left) ≡ (statement_span x).from
-        → length (joined (left ++ own)) ≡ (statement_span x).to
+    → length (joined (left ++ own)) ≡ (statement_span x).to
     → (front gone back : List Lexeme) → IsTrimmed left front back → right ≡ gone ++ back → IsLineRest gone
     → Fits limits.len (length (joined (front ++ back))) → file_depth (b.back (block_without b.inside n)) ≤ limits.depth
     → ReadsWithin limits (joined (front ++ back)) (erase (b.back (block_without b.inside n)))

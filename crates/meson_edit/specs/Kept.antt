@@ -137,6 +137,6 @@ EditKeeps bytes text f items (Append new) = (come : List ℕ) × (text ≡ bytes
 abbrev pub EditsKeep : Type 0
 EditsKeep =
     (e : Edit) (limits : Limits) (bytes : List ℕ) (f : File Span) → IsSpannedWithin limits bytes f → (items : List Lexeme) → IsItemList bytes items
-        → (name : List ℕ)
+    → (name : List ℕ)
     → Writes e → (t : Plain) → edited e (erase f) ≡ Some t → (primitive : Primitive) → primitive_of f e ≡ Some primitive
     → (text : List ℕ) → patched_by bytes (layout_of name items primitive) ≡ Ok text → EditKeeps bytes text f items e

@@ -91,7 +91,7 @@ IsEditOf path (Append new) = ⊥
 abbrev pub ListEditsWrite : Type 0
 ListEditsWrite =
     (e : Edit) (limits : Limits) (bytes : List ℕ) (f : File Span) → IsSpannedWithin limits bytes f → (items : List Lexeme) → IsItemList bytes items
-        → (name : List ℕ)
+    → (name : List ℕ)
     → Writes e → (t : Plain) → edited e (erase f) ≡ Some t → (path : List ℕ) → IsEditOf path e → (p : ListAt Span) → list_at f path ≡ Some p
     → (primitive : Primitive) → primitive_of f e ≡ Some primitive → (text : List ℕ) → patched_by bytes (layout_of name items primitive) ≡ Ok text
     → WritesList bytes text f path p t
@@ -100,7 +100,7 @@ ListEditsWrite =
 abbrev pub ListEditsLook : Type 0
 ListEditsLook =
     (e : Edit) (limits : Limits) (bytes : List ℕ) (f : File Span) → IsSpannedWithin limits bytes f → Writes e → (t : Plain) → edited e (erase f) ≡ Some t
-        → (path : List ℕ) → IsEditOf path e
+    → (path : List ℕ) → IsEditOf path e
     → (p : ListAt Span) → list_at f path ≡ Some p → (primitive : Primitive) → primitive_of f e ≡ Some primitive → IsReadyIn bytes (list_span p.list) primitive
 
 -- What an edit writes in the place of a list reads by itself as the edited list, within the depth of the edited file.

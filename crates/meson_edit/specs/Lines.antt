@@ -46,7 +46,7 @@ StatementsAreTexts = (limits : Limits) (bytes : List ℕ) (f : File Span) (s : I
     → block_at f path ≡ Some b
     → (n : ℕ) (x : Statement Span) → statement_in b.inside n ≡ Some x
     → (left own right : List Lexeme) → IsItemList bytes (left ++ (own ++ right)) → length (joined left) ≡ (statement_span x).from
-        → length (joined (left ++ own)) ≡ (statement_span x).to
+    → length (joined (left ++ own)) ≡ (statement_span x).to
     → IsStatementText (joined own) (statement_words x)
 
 -- no item is a line end

@@ -62,7 +62,7 @@ FirstsStayWithin = (path : List ℕ) (new : Written (Argument Nowhere)) → argu
 abbrev pub InsertionsStayWithin : Type 0
 InsertionsStayWithin =
     (path : List ℕ) (n : ℕ) (new : Written (Argument Nowhere)) → argument_depth new.node ≡ 0 → (t now : Plain) → edited (After path n new) t ≡ Some now
-        → file_depth now ≤ file_depth t
+    → file_depth now ≤ file_depth t
 
 -- An edit that puts in at most one construct, and the array around a value, make the tree at most one deeper.
 abbrev pub EditsDeepenByOne : Type 0

@@ -260,5 +260,5 @@ pub fn gather<S: Store>(
         trees.push(tree)?;
         looked += 1;
     }
-    Ok(Project::of(files.take(), trees))
+    Ok(Project::of(alloc, files.take(), trees))
 }

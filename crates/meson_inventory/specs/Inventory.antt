@@ -22,7 +22,7 @@ spot_data files c = object (member (codes "at") (number (unsigned c.head.at)) (m
 abbrev pub held_data : List File → HeldCall → Data
 held_data files c =
     object (member (codes "at") (number (unsigned c.head.at))
-        (member (codes "file") (string (name_of_file c.file files)) (member (codes "function") (string c.head.function)
+    (member (codes "file") (string (name_of_file c.file files)) (member (codes "function") (string c.head.function)
     (member (codes "name") (text_or_null c.head.name) (member (codes "variable") (text_or_null c.variable) no_members)))))
 
 abbrev pub project_data : Loaded → Data
@@ -58,4 +58,4 @@ file_line f = f.name ++ codes ":1: build file\n"
 abbrev pub project_lines : Loaded → List ℕ
 project_lines l =
     flat_map (call_line l.files []) (holdings l).targets ++ (flat_map file_line l.files
-        ++ flat_map (call_line l.files (codes ", not entered")) (holdings l).not_entered)
+    ++ flat_map (call_line l.files (codes ", not entered")) (holdings l).not_entered)

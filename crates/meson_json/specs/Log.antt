@@ -67,7 +67,7 @@ splice_of_data d =
     if has_members 4 d
     then option_and_then (λ at. option_and_then (λ file. option_and_then (λ now. option_and_then (λ was.
     Some (record { file = file; at = at; was = was; now = now })) (member_text (codes "was") d)) (member_text (codes "now") d))
-        (member_text (codes "file") d)) (whole_at (codes "at") d)
+    (member_text (codes "file") d)) (whole_at (codes "at") d)
     else None
 
 abbrev pub titled : List Splice → List ℕ → Option Change
@@ -78,7 +78,7 @@ unfoldable pub titled_change_of : Data → Option Change
 titled_change_of d =
     if has_members 2 d
     then option_and_then (λ ss. option_and_then (titled ss) (member_text (codes "title") d))
-        (option_and_then (each_of splice_of_data) (option_and_then as_array (get (codes "splices") d)))
+    (option_and_then (each_of splice_of_data) (option_and_then as_array (get (codes "splices") d)))
     else None
 
 abbrev pub version_of : ℕ → Option Version
@@ -98,7 +98,7 @@ history_of d =
     if has_members 3 d
     then option_and_then (λ version. option_and_then (λ future. option_and_then (λ past.
     Some (record { past = past; future = future })) (changes_at version (codes "past") d)) (changes_at version (codes "future") d))
-        (option_and_then version_of (whole_at (codes "version") d))
+    (option_and_then version_of (whole_at (codes "version") d))
     else None
 
 -- the history that a text is the log of

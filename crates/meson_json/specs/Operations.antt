@@ -22,7 +22,7 @@ entry_type s = among ((codes "target", entry.Target) ∷ (codes "kwargs", entry.
 abbrev pub target_operation : List ℕ → Option TargetOperation
 target_operation s =
     among ((codes "src_add", target.SourcesAdd) ∷ (codes "src_rm", target.SourcesRemove) ∷ (codes "target_rm", target.TargetRemove)
-        ∷ (codes "target_add", target.TargetAdd)
+    ∷ (codes "target_add", target.TargetAdd)
     ∷ (codes "extra_files_add", target.ExtraAdd) ∷ (codes "extra_files_rm", target.ExtraRemove) ∷ (codes "info", target.Info) ∷ []) s
 
 -- `remove_regex` is known, and not done here

@@ -49,7 +49,7 @@ add_entry r pair =
 abbrev pub remove_entry : Role → List ℕ × Setting → Result (List Task) Refusal
 remove_entry r pair =
     then_ok (then_ok (key_kind r pair.0) (list_kind pair.0))
-        (λ e. then_ok (list_values e pair.0 pair.1) (λ values. Ok (once pair.0 ∷ map (remove pair.0 e) values)))
+    (λ e. then_ok (list_values e pair.0 pair.1) (λ values. Ok (once pair.0 ∷ map (remove pair.0 e) values)))
 
 -- ---- options: each is one text, NAME=VALUE
 

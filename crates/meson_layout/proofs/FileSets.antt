@@ -1,14 +1,13 @@
 -- The splices of an edit in a set of files: they change the one file alone.
-use Rattle.std.proofs.Common.{◌≡◌, ℕ, zero, suc, ◌+◌, ◌<◌, cond, List, [], ◌∷◌, length, Some, None, Result, Ok, Err, refl, sym, ap, ap₂, ◌∙◌, arith}
-use Rattle.std.specs.Prelude.{bytes_eq, nat_lt, not}
-use Rattle.std.specs.List.{AllByRecursion, position_or_len}
+use Rattle.std.proofs.Common.{◌≡◌, ℕ, zero, suc, ◌+◌, ◌<◌, List, [], ◌∷◌, length, Some, Result, Ok, Err, refl, sym, ap, ◌∙◌, arith}
+use Rattle.std.specs.List.{AllByRecursion}
 use Rattle.meson_lex.specs.Items.{joined}
 use Rattle.meson_splice.specs.declared.fault.SpliceFault.{SpliceFault}
 use Rattle.meson_splice.specs.declared.file_set.File.{File}
 use Rattle.meson_splice.specs.declared.splice.Splice.{Splice}
 use Rattle.meson_splice.specs.Files.{position_of_file, bytes_at, with_bytes}
 use Rattle.meson_splice.specs.Patch.{patched, patched_all, then_ok}
-use Rattle.meson_splice.proofs.Sets.{found-within, patched_in-done}
+use Rattle.meson_splice.proofs.Sets.{found-same, found-within, patched_in-done}
 use Rattle.meson_layout.specs.Pieces.{Piece, Keep, Change, splices}
 use Rattle.meson_layout.specs.Edited.{patched_by}
 use Rattle.meson_layout.specs.Layout.{pieces}
@@ -28,20 +27,6 @@ read-back : (files : List File) (i : ℕ) (b : List ℕ) → i < length files �
 read-back [] i b h = absurd (omega arith)
 read-back (f ∷ files) zero b h = refl
 read-back (f ∷ files) (suc i) b h = read-back files i b (omega arith)
-
-len-same : (files : List File) (i : ℕ) (b : List ℕ) → length (with_bytes i b files) ≡ length files
-len-same [] i b = refl
-len-same (f ∷ files) zero b = refl
-len-same (f ∷ files) (suc i) b = ap suc (len-same files i b)
-
-place-same : (name : List ℕ) (files : List File) (i : ℕ) (b : List ℕ) → position_or_len (λ (f : File). bytes_eq f.name name) (with_bytes i b files) ≡ position_or_len (λ (f : File). bytes_eq f.name name) files
-place-same name [] i b = refl
-place-same name (f ∷ files) zero b = refl
-place-same name (f ∷ files) (suc i) b = ap (λ n. cond (not (bytes_eq f.name name)) (1 + n) 0) (place-same name files i b)
-
--- the file stands where it stood
-found-same : (name : List ℕ) (files : List File) (i : ℕ) (b : List ℕ) → position_of_file name (with_bytes i b files) ≡ position_of_file name files
-found-same name files i b = ap₂ (λ n m. cond (nat_lt n m) (Some n) None) (place-same name files i b) (len-same files i b)
 
 module _ (file text : List ℕ) (i : ℕ) where
   -- what splices of that file do to any set in which the file stands there

@@ -28,7 +28,7 @@ InsertionLaw = (file source : List ℕ) (items : List Lexeme) → IsItemList sou
     → IsBehindElement (spoken p.right)
     → (new : List ℕ) (fresh : List Lexeme) → IsNew new fresh
     → Edited source items l (p.left ++ p.own) p.right (layout_of file items (After s new))
-        (spoken p.left ++ (spoken p.own ++ comma_word ∷ (spoken fresh ++ spoken p.right))) (remarks l.inner)
+    (spoken p.left ++ (spoken p.own ++ comma_word ∷ (spoken fresh ++ spoken p.right))) (remarks l.inner)
 
 -- the words of a list without an element, by those before and behind it: the comma behind it goes, else the one before it
 abbrev pub IsWithout : List Word → List Word → List Word → Type 0
@@ -48,14 +48,14 @@ abbrev pub ReplacementLaw : Type 0
 ReplacementLaw = (file source : List ℕ) (items : List Lexeme) → IsItemList source items → (l : ListOfItems items) (s : Span) (p : PartIn items l s)
     → IsBeforeValue (spoken p.left) → IsBehindElement (spoken p.right) → (new : List ℕ) (fresh : List Lexeme) → IsNew new fresh
     → Edited source items l p.left p.right (layout_of file items (Replace s new)) (spoken p.left ++ (spoken fresh ++ spoken p.right))
-        (remarks p.left ++ remarks p.right)
+    (remarks p.left ++ remarks p.right)
 
 -- A value that becomes the array of it.
 abbrev pub WrapLaw : Type 0
 WrapLaw = (file source : List ℕ) (items : List Lexeme) → IsItemList source items → (l : ListOfItems items) (s : Span) (p : PartIn items l s)
     → IsBeforeValue (spoken p.left) → IsBehindElement (spoken p.right)
     → Edited source items l p.left p.right (layout_of file items (Wrap s))
-        (spoken p.left ++ ((OpenSquare, []) ∷ (spoken p.own ++ (CloseSquare, []) ∷ spoken p.right))) (remarks l.inner)
+    (spoken p.left ++ ((OpenSquare, []) ∷ (spoken p.own ++ (CloseSquare, []) ∷ spoken p.right))) (remarks l.inner)
 
 -- It is one splice, and the value keeps its bytes.
 abbrev pub WrapKeeps : Type 0

@@ -19,7 +19,7 @@ statement_removed left own right =
     let n = one_if is_blank_kind (reverse left) in
     let m = one_if is_blank_kind right in
     if at_line_start (reverse (but_last n left)) && first_is is_line_end (drop m right) then statement_gone n (m + 1) left own right
-        else statement_gone n m left own right
+    else statement_gone n m left own right
 
 -- the first line end of a text, else LF
 abbrev pub line_end_of : List Lexeme → Lexeme

@@ -6,3 +6,5 @@ mod CallsIn
 mod DetailsThere
 mod CommandsLeave
 mod NamesKept
+mod UnchangedFiles
+mod KeptAfter

@@ -17,7 +17,7 @@ use Rattle.meson_steps.proofs.Keeping.{making_keeps}
 pub joined : (files between last : List File) (here later : List Splice) → patched_all files here ≡ Ok between → patched_all between later ≡ Ok last → patched_all files (here ++ later) ≡ Ok last
 joined files between last here later first second = patched_all-append files here later ∙ ap (λ r. then_ok r (λ gs. patched_all gs later)) first ∙ second
 
-steps-patch : (files : List File) (steps : List Step) (splices : List Splice) (after : List File) (bytes : ℕ) → StepsMake files steps splices after bytes → patched_all files splices ≡ Ok after
+pub steps-patch : (files : List File) (steps : List Step) (splices : List Splice) (after : List File) (bytes : ℕ) → StepsMake files steps splices after bytes → patched_all files splices ≡ Ok after
 steps-patch files steps splices after bytes (none fs) = refl
 steps-patch files steps splices after bytes (step fs between last s more here later read laid done rest) = joined fs between last here later done (steps-patch between more later last read rest)
 

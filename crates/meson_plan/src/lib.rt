@@ -3,6 +3,7 @@
 
 mod details;
 mod info;
+mod kept;
 pub mod laws;
 mod order;
 mod planning;

@@ -1,15 +1,17 @@
 //! What steps that are all known at once are, or why there are none.
 
 ghost use Rattle.std.specs.Prelude.{IfOk};
-ghost use Rattle.meson_calls.specs.Loading.{IsProject, loaded_from, project};
+ghost use Rattle.meson_calls.specs.Loading.{AreParsed, IsProject, loaded_from, project};
 ghost use Rattle.meson_calls.specs.NotedProjects.{IsNotedFor, loaded_in, project_in};
 ghost use Rattle.meson_calls.specs.Refusals.{RefusedAs};
+ghost use Rattle.meson_calls.specs.Setters.{AreKept};
 ghost use Rattle.meson_plan.specs.inside.Orders.{plan_steps, sought};
 ghost use Rattle.meson_steps.specs.Plans.{ArePlanned};
 
 use crate::info::{call_info, target_info};
 use crate::order::Plan;
 use meson_calls::Refusal;
+use meson_calls::kept::keep_setters;
 use meson_calls::noted::Noted;
 use meson_calls::notes::notes_for;
 use meson_sources::targeting::on_target;
@@ -18,7 +20,26 @@ use meson_steps::step::ListStep;
 use meson_syntax::Parsed;
 use meson_targets::target_adding::target_added;
 use meson_targets::target_removing::target_removed;
-use std::alloc::Global;
+use std::alloc::{AllocError, Global};
+
+/// Keeps of each file whether a call in it sets variables, where the plan follows variables. Of a project of one file all
+/// notes are taken anyhow.
+fn keep_for(
+    alloc: Global,
+    files: &FileSet,
+    trees: &[Parsed],
+    kept: &mut Vec<Option<bool>>,
+    plan: Plan<'_>,
+) -> Result<(), AllocError>
+    requires parsed { AreParsed files.now trees.now }
+    requires kept { AreKept kept.old.items files.now trees.now }
+    ensures { AreKept kept.new.items files.now trees.now }
+{
+    match plan {
+        Plan::OnTarget(_, _, _) if files.len() > 1 => keep_setters(alloc, files, trees, kept),
+        _ => Ok(()),
+    }
+}
 
 /// The steps of a plan.
 ///
@@ -28,19 +49,24 @@ pub(crate) fn planned(
     alloc: Global,
     files: &FileSet,
     trees: &[Parsed],
+    kept: &mut Vec<Option<bool>>,
     plan: Plan<'_>,
 ) -> Result<Vec<ListStep>, Refusal>
-    requires { IsProject (loaded_from files.now trees.now) }
+    requires project { IsProject (loaded_from files.now trees.now) }
+    requires kept { AreKept kept.old.items files.now trees.now }
+    ensures kept { AreKept kept.new.items files.now trees.now }
     ensures plan { let old = loaded_from files.now trees.now in
         IfOk result (λ steps. ArePlanned old (plan_steps (project old) plan.entry) steps.items) }
     ensures refused { RefusedAs result (plan_steps (project (loaded_from files.now trees.now)) plan.entry) }
 {
+    keep_for(alloc, files, trees, kept, plan)?;
     let (role, id) = plan.sought();
     let taken = notes_for(alloc, role, id, files, trees)?;
     let notes = taken.all(alloc)?;
     let noted = Noted {
         files,
         trees,
+        kept: kept.as_slice(),
         notes: notes.as_slice(),
     };
     steps_of(alloc, &noted, plan)

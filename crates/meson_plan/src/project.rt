@@ -6,6 +6,7 @@ ghost use Rattle.meson_layout.specs.Laws.{AreTexts};
 ghost use Rattle.meson_calls.specs.Loading.{IsProject, Loaded, MayNotLoad, project};
 ghost use Rattle.meson_calls.specs.NotedProjects.{IsNotedFor, loaded_in};
 ghost use Rattle.meson_calls.specs.Notes.{note_views, taken_view};
+ghost use Rattle.meson_calls.specs.Setters.{AreKept};
 ghost use Rattle.meson_calls.specs.Spelling.{AreNotesWith, sought_words};
 ghost use Rattle.meson_steps.specs.Done.{IsDone, MayNotBeDone};
 ghost use Rattle.meson_steps.specs.Working.{IsFresh, Restores, so_far};
@@ -21,6 +22,7 @@ ghost use Rattle.meson_plan.specs.Details.{AreDetails, NoTarget, place_found, ta
 ghost use Rattle.meson_sources.specs.Extras.{extra_files};
 
 use crate::details::{TargetDetails, details_at};
+use crate::kept::forget_changed;
 use crate::order::{Order, order_of};
 use crate::planning::planned;
 use meson_calls::chosen_notes::with_role;
@@ -55,11 +57,14 @@ use std::{fmt, mem};
 pub struct Project {
     files: FileSet,
     trees: Vec<Parsed>,
+    /// Of each file whether a call in it sets variables, as far as a command found that out.
+    kept: Vec<Option<bool>>,
 }
 
 impl Model for Project {
     ghost use Rattle.std.specs.Coded.{codes};
     ghost use Rattle.meson_calls.specs.Loading.{Loaded, IsProject};
+    ghost use Rattle.meson_calls.specs.Setters.{AreKept};
     ghost use Rattle.meson_syntax.specs.contracts.tree.Stmt as statement;
 
     ghost Value = { Loaded };
@@ -68,7 +73,7 @@ impl Model for Project {
 
     ghost view = { λ p. record { files = p.files; parsed = p.trees.items } };
 
-    ghost invariant = { λ p. IsProject (record { files = p.files; parsed = p.trees.items }) };
+    ghost invariant = { λ p. IsProject (record { files = p.files; parsed = p.trees.items }) × AreKept p.kept.items p.files p.trees.items };
 }
 
 /// A project is shown as its files; its trees are those of the files.
@@ -90,17 +95,25 @@ impl Project {
         ensures handed_back { IfErr result (λ u. u.files ≡ files) }
     {
         match loaded(alloc, &files) {
-            Ok(trees) => Ok(Project { files, trees }),
+            Ok(trees) => Ok(Project {
+                files,
+                trees,
+                kept: Vec::new(alloc),
+            }),
             Err(fault) => Err(Unloaded { files, fault }),
         }
     }
 
     /// The project of files of which each has its tree. Takes no memory.
-    pub fn of(files: FileSet, trees: Vec<Parsed>) -> Project
+    pub fn of(alloc: Global, files: FileSet, trees: Vec<Parsed>) -> Project
         requires { IsProject (record { files = files; parsed = trees.items }) }
         ensures { result ≡ record { files = files; parsed = trees.items } }
     {
-        Project { files, trees }
+        Project {
+            files,
+            trees,
+            kept: Vec::new(alloc),
+        }
     }
 
     /// The files.
@@ -131,7 +144,11 @@ impl Project {
     {
         let files = self.files.clone()?;
         let trees = copy_trees(alloc, self.trees.as_slice())?;
-        Ok(Project { files, trees })
+        Ok(Project {
+            files,
+            trees,
+            kept: Vec::new(alloc),
+        })
     }
 
     /// The notes by which an id is found.
@@ -150,6 +167,7 @@ impl Project {
         Noted {
             files: &self.files,
             trees: self.trees.as_slice(),
+            kept: self.kept.as_slice(),
             notes: all,
         }
     }
@@ -207,7 +225,13 @@ impl Project {
         ensures found { IfOk result (λ s. sources (project self.now) call.now ≡ Some (Ok s)) }
         ensures refused { IfRefused result (λ e. sources (project self.now) call.now ≡ Some (Err e)) }
     {
-        let variables = Variables::near(alloc, &self.files, self.trees.as_slice(), call)?;
+        let variables = Variables::near(
+            alloc,
+            &self.files,
+            self.trees.as_slice(),
+            self.kept.as_slice(),
+            call,
+        )?;
         sources_at(&variables, call)
     }
 
@@ -220,7 +244,13 @@ impl Project {
         ensures found { IfOk result (λ s. extra_files (project self.now) call.now ≡ Some (Ok s)) }
         ensures refused { IfRefused result (λ e. extra_files (project self.now) call.now ≡ Some (Err e)) }
     {
-        let variables = Variables::near(alloc, &self.files, self.trees.as_slice(), call)?;
+        let variables = Variables::near(
+            alloc,
+            &self.files,
+            self.trees.as_slice(),
+            self.kept.as_slice(),
+            call,
+        )?;
         let called = call_at(variables.files, variables.trees, call);
         extra_files_of(&variables, call, called.source, called.arguments)
     }
@@ -297,8 +327,9 @@ impl Project {
     {
         let files = mem::replace(&mut self.files, FileSet::new(alloc));
         let trees = mem::replace(&mut self.trees, Vec::new(alloc));
+        let mut kept = mem::replace(&mut self.kept, Vec::new(alloc));
         let mut work = Work::start(alloc, files, trees);
-        let ended = performed(alloc, &mut work, command);
+        let ended = performed(alloc, &mut work, &mut kept, command);
         let Work {
             splices,
             mut files,
@@ -309,8 +340,10 @@ impl Project {
         } = work;
         match ended {
             Ok(()) => {
+                forget_changed(&mut kept, &files, splices.as_slice());
                 self.files = files;
                 self.trees = trees;
+                self.kept = kept;
                 Ok(Done {
                     change: Change::untitled(alloc, Many::of(splices)),
                     relexed,
@@ -321,25 +354,33 @@ impl Project {
                 put_back(&mut trees, saved);
                 self.files = files;
                 self.trees = trees;
+                self.kept = kept;
                 Err(refusal)
             }
         }
     }
 }
 
-/// Does a command.
+/// Does a command. What is kept is said of the files and trees as they were before it.
 ///
 /// # Errors
 /// The first refusal that holds, or want of memory.
-fn performed(alloc: Global, work: &mut Work, command: &Command) -> Result<(), Refusal>
-    requires { IsFresh work.old }
+fn performed(
+    alloc: Global,
+    work: &mut Work,
+    kept: &mut Vec<Option<bool>>,
+    command: &Command,
+) -> Result<(), Refusal>
+    requires fresh { IsFresh work.old }
+    requires kept { AreKept kept.old.items work.old.files work.old.trees.items }
+    ensures kept { AreKept kept.new.items work.old.files work.old.trees.items }
     ensures done { OnOk result (IsDone (so_far work.old) (planned (project (so_far work.old)) command.now) work.new) }
     ensures restores { (first : Loaded) → Restores work.old first → Restores work.new first }
     ensures refused { IfRefused result (MayNotBeDone (so_far work.old) (planned (project (so_far work.old)) command.now)) }
 {
     match order_of(command) {
         Order::Planned(plan) => {
-            let steps = planned(alloc, &work.files, work.trees.as_slice(), plan)?;
+            let steps = planned(alloc, &work.files, work.trees.as_slice(), kept, plan)?;
             done(alloc, work, steps)
         }
         Order::Changed(request) => changed(alloc, work, request),

@@ -28,7 +28,7 @@ title_part (b ∷ title) = codes ", title: " ++ b ∷ title
 abbrev pub change_head : List ℕ → ℕ → List Splice → List ℕ
 change_head word number splices =
     word ++ (codes " " ++ (decimal number ++ (codes ": files: "
-        ++ (decimal (length (edited_files splices)) ++ (codes ", splices: " ++ decimal (length splices))))))
+    ++ (decimal (length (edited_files splices)) ++ (codes ", splices: " ++ decimal (length splices))))))
 
 abbrev pub change_line : List ℕ → ℕ → Change → List ℕ
 change_line word number change = line (change_head word number change.splices ++ title_part change.title)

@@ -146,10 +146,10 @@ abbrev pub SourcesAreRemoved : Type 0
 SourcesAreRemoved = (old : Loaded) → IsProject old → (id : List ℕ) (c : Placed (Call Span)) → the_call (project old) role.Target id ≡ Ok c
     → (names : List (List ℕ)) (steps : List Step) (after : List Plain)
     → sources_removed (project old) c names ≡ Ok steps → all_stepped steps (plain_trees old) ≡ Some after
-        → NamesGo (source_marks (project old) c) names (plain_trees old) after
+    → NamesGo (source_marks (project old) c) names (plain_trees old) after
 
 abbrev pub ExtraIsRemoved : Type 0
 ExtraIsRemoved = (old : Loaded) → IsProject old → (id : List ℕ) (c : Placed (Call Span)) → the_call (project old) role.Target id ≡ Ok c
     → (names : List (List ℕ)) (steps : List Step) (after : List Plain)
     → extra_removed (project old) c names ≡ Ok steps → all_stepped steps (plain_trees old) ≡ Some after
-        → NamesGo (extra_marks (project old) c) names (plain_trees old) after
+    → NamesGo (extra_marks (project old) c) names (plain_trees old) after

@@ -137,12 +137,12 @@ removed_at found = then_ok found (λ spots. Ok (removal_steps spots))
 abbrev pub sources_added : {S : Type 0} → Project S → Placed (Call S) → List (List ℕ) → Result (List Step) Refusal
 sources_added p c names =
     then_ok (checked_names names) (λ _. once sources_key (keyword sources_key c.it)
-        (inserted_in p (home c.place (source_marks p c)) (new_names (source_marks p c) names)))
+    (inserted_in p (home c.place (source_marks p c)) (new_names (source_marks p c) names)))
 
 abbrev pub sources_removed : {S : Type 0} → Project S → Placed (Call S) → List (List ℕ) → Result (List Step) Refusal
 sources_removed p c names =
     then_ok (checked_names names) (λ _. then_ok (once sources_key (keyword sources_key c.it) (source_marks p c))
-        (λ marks. removed_at (spots_named marks (distinct names))))
+    (λ marks. removed_at (spots_named marks (distinct names))))
 
 -- ---- extra files
 

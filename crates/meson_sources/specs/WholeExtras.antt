@@ -21,7 +21,7 @@ abbrev pub AllExtrasShrink : Type 0
 AllExtrasShrink = (old new : Loaded) → IsProject old → file_names new ≡ file_names old → (id : List ℕ) (c : Placed (Call Span))
     → the_call (project old) role.Target id ≡ Ok c
     → (names : List (List ℕ)) (steps : List Step) → extra_removed (project old) c names ≡ Ok steps
-        → all_stepped steps (plain_trees old) ≡ Some (plain_trees new)
+    → all_stepped steps (plain_trees old) ≡ Some (plain_trees new)
     → ExtrasShrink names id c (project old) (project new)
 
 abbrev pub ExtrasGrow : List (List ℕ) → List ℕ → Placed (Call Span) → Project Span → Project Span → Type 0
@@ -32,5 +32,5 @@ abbrev pub AllExtrasGrow : Type 0
 AllExtrasGrow = (old new : Loaded) → IsProject old → file_names new ≡ file_names old → (id : List ℕ) (c : Placed (Call Span))
     → the_call (project old) role.Target id ≡ Ok c
     → (names : List (List ℕ)) → All IsUtf8 names → (steps : List Step) → extra_added (project old) c names ≡ Ok steps
-        → all_stepped steps (plain_trees old) ≡ Some (plain_trees new)
+    → all_stepped steps (plain_trees old) ≡ Some (plain_trees new)
     → ExtrasGrow (new_names (extra_marks (project old) c) names) id c (project old) (project new)

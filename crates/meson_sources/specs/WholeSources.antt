@@ -84,5 +84,5 @@ abbrev pub AllSourcesShrink : Type 0
 AllSourcesShrink = (old new : Loaded) → IsProject old → file_names new ≡ file_names old → (id : List ℕ) (c : Placed (Call Span))
     → the_call (project old) role.Target id ≡ Ok c
     → (names : List (List ℕ)) (steps : List Step) → sources_removed (project old) c names ≡ Ok steps
-        → all_stepped steps (plain_trees old) ≡ Some (plain_trees new)
+    → all_stepped steps (plain_trees old) ≡ Some (plain_trees new)
     → SourcesShrink names id c (project old) (project new)

@@ -1,6 +1,7 @@
 -- Reading and writing one file of a list, and what a splice does at it.
-use Rattle.std.proofs.Common.{◌≡◌, ◌≢◌, ℕ, zero, suc, ◌+◌, ◌<◌, Bool, true, false, not, cond, List, [], ◌∷◌, ◌++◌, length, get_or, Some, None, Result, Ok, Err, refl, ap, ◌∙◌, arith}
+use Rattle.std.proofs.Common.{◌≡◌, ◌≢◌, ℕ, zero, suc, ◌+◌, ◌<◌, Bool, true, false, not, cond, List, [], ◌∷◌, ◌++◌, length, get_or, Some, None, Result, Ok, Err, refl, ap, ap₂, ◌∙◌, arith}
 use Rattle.std.specs.Prelude.{slice_set, bytes_eq, nat_lt}
+use Rattle.std.specs.List.{position_or_len}
 use Rattle.std.proofs.lemmas.Bool.Decides.{nat_tests}
 use Rattle.std.proofs.lemmas.List.Quantifiers.{all_pairs_push, position-Some}
 use Rattle.std.proofs.lemmas.Slice.Eq.{bytes_eq-Decides}
@@ -19,6 +20,22 @@ pub slice_set-bytes : (files : List File) (i : ℕ) (bytes : List ℕ) (d : File
 slice_set-bytes [] i bytes d within = absurd (omega arith)
 slice_set-bytes (f ∷ files) zero bytes d within = refl
 slice_set-bytes (f ∷ files) (suc i) bytes d within = ap (λ more. f ∷ more) (slice_set-bytes files i bytes d (omega arith))
+
+-- ---- files of which one has other bytes
+
+place-same : (name : List ℕ) (files : List File) (i : ℕ) (b : List ℕ) → position_or_len (λ (f : File). bytes_eq f.name name) (with_bytes i b files) ≡ position_or_len (λ (f : File). bytes_eq f.name name) files
+place-same name [] i b = refl
+place-same name (f ∷ files) zero b = refl
+place-same name (f ∷ files) (suc i) b = ap (λ n. cond (not (bytes_eq f.name name)) (1 + n) 0) (place-same name files i b)
+
+pub len-same : (files : List File) (i : ℕ) (b : List ℕ) → length (with_bytes i b files) ≡ length files
+len-same [] i b = refl
+len-same (f ∷ files) zero b = refl
+len-same (f ∷ files) (suc i) b = ap suc (len-same files i b)
+
+-- the file stands where it stood
+pub found-same : (name : List ℕ) (files : List File) (i : ℕ) (b : List ℕ) → position_of_file name (with_bytes i b files) ≡ position_of_file name files
+found-same name files i b = ap₂ (λ n m. cond (nat_lt n m) (Some n) None) (place-same name files i b) (len-same files i b)
 
 -- the first file is not of that name, and none behind it is
 pub not_here : (b : Bool) (n m : ℕ) → cond (nat_lt (cond (not b) (1 + n) 0) (suc m)) (Some (cond (not b) (1 + n) 0)) None ≡ None → (b ≡ false) × (cond (nat_lt n m) (Some n) None ≡ None)

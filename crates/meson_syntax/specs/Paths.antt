@@ -72,7 +72,7 @@ abbrev pub operands_children : {S : Type 0} → Operands S → List (Hole S (Ope
 operands_children no_operands = []
 operands_children (operand o e more) =
     expression_in (operator_words o) e (operands_words more) (λ x. operand o x more)
-        ∷ all_around (operator_words o ++ expression_words e) [] (operand o e) (operands_children more)
+    ∷ all_around (operator_words o ++ expression_words e) [] (operand o e) (operands_children more)
 
 abbrev pub tail_children : {S : Type 0} → Tail S → List (Hole S (Tail S))
 tail_children (method s x l) = all_around (mark k.Dot ++ (k.Identifier, x.text) ∷ []) [] (method s x) (listing_children l bracket.Round)
@@ -223,7 +223,7 @@ elements_at no_arguments trailing = []
 elements_at (argument a more) trailing =
     record { element = a; before = []; behind = comma_words more trailing ++ arguments_words more trailing }
     ∷ map (λ p. record { element = p.element; before = argument_words a ++ (comma_words more trailing ++ p.before); behind = p.behind })
-        (elements_at more trailing)
+    (elements_at more trailing)
 
 abbrev pub element_at : {S : Type 0} → Listing S → ℕ → Option (ElementAt S)
 element_at (listing s trailing list) n = nth (elements_at list trailing) n

@@ -34,7 +34,7 @@ abbrev pub AddedTargetsAreNamed : Type 0
 AddedTargetsAreNamed = (old : Loaded) (name kind folder : List ℕ) (sources : List (List ℕ)) (steps : List Step) (after : List Plain) → IsUtf8 name
     → target_added (project old) name kind folder sources ≡ Ok steps → all_stepped steps (plain_trees old) ≡ Some after
     → (file : ℕ) × (number_in (project old) folder ≡ Ok file)
-        × NamesTarget (named_trees old.files after) name (call_with_texts kind (name ∷ distinct sources)) file
+    × NamesTarget (named_trees old.files after) name (call_with_texts kind (name ∷ distinct sources)) file
 
 -- ---- a target that is removed
 

@@ -93,7 +93,7 @@ statement_of c = option_map (λ statement. record { block = place c.file stateme
 abbrev pub statement_there : {S : Type 0} → Project S → StatementPlace → Option (Statement S)
 statement_there {S} p statement =
     option_and_then (λ (f : BuildFile S). option_and_then (λ b. statement_in b.inside statement.number) (block_at f.tree statement.block.path.steps))
-        (nth_file p statement.block.file)
+    (nth_file p statement.block.file)
 
 -- what is done with the expression of a statement: nothing more, or a variable is set to it
 pub data Held : Type 0 where

@@ -59,8 +59,16 @@ followed_names f = reverse (map (λ x. x.now) f.names.items)
 
 -- what the code's marks stand for
 abbrev pub gathered : Marks → Gathered
-gathered m = record { tally = record { items = m.items.items; numbers = m.numbers.items; unknown = length m.unknown.items; list = m.list;
-    vacant = m.vacant }; followed = followed_names m.followed }
+gathered m = record {
+  tally = record {
+    items = m.items.items;
+    numbers = m.numbers.items;
+    unknown = length m.unknown.items;
+    list = m.list;
+    vacant = m.vacant;
+  };
+  followed = followed_names m.followed;
+}
 
 -- the code's marks get what an expansion meets behind what was followed before
 abbrev pub Meets : Marks → (List (List ℕ) → Expansion Span) → Marks → Type 0

@@ -19,7 +19,7 @@ abbrev pub expand_arguments : {S : Type 0} → Project S → CallRef → (ℕ �
 expand_arguments p c slot [] followed = nothing_met followed
 expand_arguments p c slot (a ∷ more) followed =
     then_expand (expand p max_followed a.value (record { place = child c a.number; slot = slot a.number; variable = None }) followed)
-        (λ now. expand_arguments p c slot more now)
+    (λ now. expand_arguments p c slot more now)
 
 -- a `kwargs:` argument may hold sources that are not known
 abbrev pub hidden : {S : Type 0} → List (Numbered (Expression S)) → List (Mark S)
@@ -30,7 +30,7 @@ hidden (a ∷ more) = opaque ∷ []
 abbrev pub source_marks : {S : Type 0} → Project S → Placed (Call S) → List (Mark S)
 source_marks p c =
     (then_expand (expand_arguments p c.place (in_list c.place) (rest (positional c.it)) [])
-        (λ now. expand_arguments p c.place (λ n. fixed) (keyword sources_key c.it) now)).marks
+    (λ now. expand_arguments p c.place (λ n. fixed) (keyword sources_key c.it) now)).marks
     ++ hidden (keyword kwargs_key c.it)
 
 -- ---- what the marks say

@@ -37,8 +37,12 @@ end_for Other g x = x.span.to
 
 -- with an item that is a token by itself
 abbrev pub pushed : GatheredTokens → Item → GatheredTokens
-pushed g x = record { source = g.source; tokens = g.tokens ++ token_for g.source x ∷ []; state = record { depth = g.state.depth; fresh = false };
-    end = x.span.to }
+pushed g x = record {
+  source = g.source;
+  tokens = g.tokens ++ token_for g.source x ∷ [];
+  state = record { depth = g.state.depth; fresh = false };
+  end = x.span.to;
+}
 
 -- with a line end
 abbrev pub line_ended : GatheredTokens → GatheredTokens

@@ -6,6 +6,7 @@ use Rattle.meson_splice.specs.declared.file_set.File.{File}
 use Rattle.meson_syntax.specs.declared.tree.Parsed.{Parsed}
 use Rattle.meson_calls.specs.Loading.{IsProject, Loaded, project}
 use Rattle.meson_calls.specs.Refusals.{IfRefused}
+use Rattle.meson_calls.specs.Setters.{AreKept}
 use Rattle.meson_steps.specs.Done.{IsDone, MayNotBeDone, Meaning, unmeant}
 use Rattle.meson_steps.specs.declared.step.ListStep.{ListStep}
 use Rattle.meson_steps.specs.Plans.{ArePlanned}
@@ -16,7 +17,13 @@ use Rattle.meson_plan.specs.Planning.{planned}
 use Rattle.meson_plan.proofs.project.performed.Goals as goal
 
 pub planned-requires : goal.planned-requires
-planned-requires c = subst (λ ts. IsProject (record { files = c.args.work.now.files; parsed = ts })) (sym c.as_slice.ensures.value) c.requires.project
+planned-requires c =
+    let files = c.args.work.now.files in
+    let here = sym c.as_slice.ensures.value in
+    record {
+      project = subst (λ ts. IsProject (record { files = files; parsed = ts })) here c.requires.fresh.project;
+      kept = subst (AreKept c.args.kept.now.items files) here c.requires.kept;
+    }
 
 -- the steps of a plan, of the trees that are read in another place
 planned_there : (files : List File) (here there : List Parsed) → here ≡ there → (p : Plan) (meant : Meaning) → plan_steps (project (record { files = files; parsed = there })) p ≡ meant → (steps : List ListStep)

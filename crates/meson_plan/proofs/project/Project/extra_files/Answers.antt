@@ -6,12 +6,19 @@ use Rattle.meson_variables.specs.CodeVariables.{project_of}
 use Rattle.meson_calls.specs.ChosenNotes.{call_with}
 use Rattle.meson_calls.specs.Project.{placed}
 use Rattle.meson_calls.specs.Refusals.{IfRefused}
+use Rattle.meson_calls.specs.Setters.{AreKept}
 use Rattle.meson_sources.specs.Extras.{extra_files, extra_of_call}
 use Rattle.meson_plan.proofs.DetailsThere.{extra_there, found_there, refused_there}
 use Rattle.meson_plan.proofs.project.Project.extra_files.Goals as goal
 
 pub near-requires : goal.near-requires
-near-requires c = subst (λ ts. IsProject (loaded_from c.self.inside.files ts)) (sym c.as_slice.ensures.value) c.self.invariant
+near-requires c =
+    let files = c.self.inside.files in
+    let here = sym c.as_slice.ensures.value in
+    record {
+      whole = subst (λ ts. IsProject (loaded_from files ts)) here c.self.invariant.0;
+      kept = subst (λ ts. AreKept c.as_slice-2.result.now files ts) here (subst (λ ks. AreKept ks files c.self.inside.trees.items) (sym c.as_slice-2.ensures.value) c.self.invariant.1);
+    }
 
 pub call_at-called-requires-clause-parsed : goal.call_at-called-requires-clause-parsed
 call_at-called-requires-clause-parsed c = c.in_ok-variables.ensures.holds.whole.parsed

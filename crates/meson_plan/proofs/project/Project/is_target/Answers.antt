@@ -5,7 +5,7 @@ use Rattle.meson_calls.proofs.Loads.{as_many}
 use Rattle.meson_plan.proofs.project.Project.is_target.Goals as goal
 
 pub is_target-requires : goal.is_target-requires
-is_target-requires c = ap length c.as_slice.ensures.value ∙ as_many _ _ c.self.invariant.parsed
+is_target-requires c = ap length c.as_slice.ensures.value ∙ as_many _ _ c.self.invariant.0.parsed
 
 pub returns : goal.returns
 returns c =

@@ -6,7 +6,7 @@ use Rattle.meson_calls.specs.Spelling.{AreNotesWith, sought_words}
 use Rattle.meson_plan.proofs.project.Project.notes_for.Goals as goal
 
 pub notes_for-requires : goal.notes_for-requires
-notes_for-requires c = subst (AreParsed c.self.inside.files) (sym c.as_slice.ensures.value) c.self.invariant.parsed
+notes_for-requires c = subst (AreParsed c.self.inside.files) (sym c.as_slice.ensures.value) c.self.invariant.0.parsed
 
 pub returns : goal.returns
 returns c =

@@ -8,7 +8,10 @@ use Rattle.meson_steps.specs.declared.work.Work.{Work}
 use Rattle.meson_steps.specs.Journal.{put_back}
 use Rattle.meson_steps.specs.Working.{Restores, so_far}
 use Rattle.meson_calls.specs.Loading.{IsProject, Loaded}
+use Rattle.meson_calls.specs.Setters.{AreKept}
 use Rattle.meson_plan.specs.Performing.{MayRefuse, Performs}
+use Rattle.meson_plan.specs.inside.Kept.{StayKept}
+use Rattle.meson_plan.proofs.KeptAfter.{kept_done}
 use Rattle.meson_plan.proofs.Performed.{may_refuse, performed}
 use Rattle.meson_plan.proofs.SplicesDone.{performs-keep, performs-patch, performs-text}
 use Rattle.meson_plan.proofs.project.Project.perform.Goals as goal
@@ -49,12 +52,22 @@ returns-in-Ok-clause-texts c = performs-text _ _ _ _ (returns-in-Ok-clause-done 
 pub put_back-requires : goal.put_back-requires
 put_back-requires c = (c.performed-ended.ensures.restores _ c.start-work.ensures.restores).trees.may
 
+pub invariant_of-self : goal.invariant_of-self
+invariant_of-self c =
+    let w = c.performed-ended.new.work in
+    let before = c.performed-ended.new.kept.items in
+    let after = c.forget_changed.new.kept.items in
+    let stay = subst (StayKept before after w.files) c.as_slice.ensures.value c.forget_changed.ensures in
+    (c.in-Ok.ensures.done.project, kept_done (so_far c.start-work.result) _ w c.start-work.ensures.fresh.project c.in-Ok.ensures.done before after c.performed-ended.ensures.kept stay)
+
 pub invariant_of-self-in-Err-1 : goal.invariant_of-self-in-Err-1
 invariant_of-self-in-Err-1 c =
     let first = loaded c.replace-files.result c.replace-trees.result.items in
     let restored = c.performed-ended.ensures.restores first c.start-work.ensures.restores in
-    let back = all_back c.performed-ended.new.work first restored c.put_bytes_back.new.files c.put_back.new.trees.items c.put_bytes_back.ensures c.put_back.ensures in
-    subst IsProject (sym (back ∙ ap₂ loaded c.replace-files.ensures.value (ap (λ v. v.items) c.replace-trees.ensures.value))) c.self.invariant
+    let back = all_back c.performed-ended.new.work first restored c.put_bytes_back.new.files c.put_back.new.trees.items c.put_bytes_back.ensures c.put_back.ensures in (
+      subst IsProject (sym (back ∙ ap₂ loaded c.replace-files.ensures.value (ap (λ v. v.items) c.replace-trees.ensures.value))) c.self.invariant.0,
+      subst (λ (l : Loaded). AreKept c.performed-ended.new.kept.items l.files l.parsed) (c.start-work.ensures.is ∙ sym back) c.performed-ended.ensures.kept,
+    )
 
 pub returns-in-Err-clause-kept : goal.returns-in-Err-clause-kept
 returns-in-Err-clause-kept c =
@@ -68,4 +81,4 @@ returns-in-Err-clause-project c =
     let first = loaded c.replace-files.result c.replace-trees.result.items in
     let restored = c.performed-ended.ensures.restores first c.start-work.ensures.restores in
     let back = all_back c.performed-ended.new.work first restored c.put_bytes_back.new.files c.put_back.new.trees.items c.put_bytes_back.ensures c.put_back.ensures in
-    subst IsProject (sym (back ∙ ap₂ loaded c.replace-files.ensures.value (ap (λ v. v.items) c.replace-trees.ensures.value))) c.self.invariant
+    subst IsProject (sym (back ∙ ap₂ loaded c.replace-files.ensures.value (ap (λ v. v.items) c.replace-trees.ensures.value))) c.self.invariant.0

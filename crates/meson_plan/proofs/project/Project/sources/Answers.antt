@@ -4,10 +4,17 @@ use Rattle.meson_calls.specs.Loading.{IsProject, loaded_from, project}
 use Rattle.meson_calls.specs.Roles.{is_target}
 use Rattle.meson_variables.specs.TargetSources.{sources}
 use Rattle.meson_calls.specs.Refusals.{IfRefused}
+use Rattle.meson_calls.specs.Setters.{AreKept}
 use Rattle.meson_plan.proofs.project.Project.sources.Goals as goal
 
 pub near-requires : goal.near-requires
-near-requires c = subst (λ ts. IsProject (loaded_from c.self.inside.files ts)) (sym c.as_slice.ensures.value) c.self.invariant
+near-requires c =
+    let files = c.self.inside.files in
+    let here = sym c.as_slice.ensures.value in
+    record {
+      whole = subst (λ ts. IsProject (loaded_from files ts)) here c.self.invariant.0;
+      kept = subst (λ ts. AreKept c.as_slice-2.result.now files ts) here (subst (λ ks. AreKept ks files c.self.inside.trees.items) (sym c.as_slice-2.ensures.value) c.self.invariant.1);
+    }
 
 pub sources_at-requires-clause-parsed : goal.sources_at-requires-clause-parsed
 sources_at-requires-clause-parsed c = c.in_ok-variables.ensures.holds.whole.parsed

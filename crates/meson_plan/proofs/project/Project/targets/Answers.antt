@@ -7,7 +7,7 @@ use Rattle.meson_calls.proofs.Picked.{role_places}
 use Rattle.meson_plan.proofs.project.Project.targets.Goals as goal
 
 pub notes_of-requires : goal.notes_of-requires
-notes_of-requires c = subst (AreParsed c.self.inside.files) (sym c.as_slice.ensures.value) c.self.invariant.parsed
+notes_of-requires c = subst (AreParsed c.self.inside.files) (sym c.as_slice.ensures.value) c.self.invariant.0.parsed
 
 pub returns-clause-all : goal.returns-clause-all
 returns-clause-all c =
