@@ -102,7 +102,7 @@ pub project-plain : (l : Loaded) → has_float (project_data l) ≡ false
 project-plain l =
     let files = all-plain file_data l.files (λ f. refl) in
     let spots = all-plain (spot_data l.files) (holdings l).not_entered (λ c. refl) in
-    let calls = all-plain (inventory.call_data l.files) (holdings l).targets (λ c. rw (text-plain c.head.name, text-plain c.variable) refl) in
+    let calls = all-plain (inventory.held_data l.files) (holdings l).targets (λ c. rw (text-plain c.head.name, text-plain c.variable) refl) in
     rw (files, spots, calls) refl
 
 -- ---- a listing, if it is made

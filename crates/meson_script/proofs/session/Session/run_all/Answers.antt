@@ -17,7 +17,7 @@ count_differing-requires c =
     ∙ ap names (sym c.files-2.ensures)
 
 pub returns-clause-project : goal.returns-clause-project
-returns-clause-project c = subst IsProject c.project-2.view_is c.project-2.invariant
+returns-clause-project c = subst IsProject c.project-2.view_is c.project-2.invariant.0
 
 pub returns-in-Err-clause-index : goal.returns-in-Err-clause-index
 returns-in-Err-clause-index c = reaches-none c.args.self.now.project c.args.commands.now 0 refl

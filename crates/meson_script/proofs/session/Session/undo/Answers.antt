@@ -49,7 +49,7 @@ returns-clause-text c = λ before.
     undone-text c.args.self.now.history (record { past = c.move_last.new.self; future = c.move_last.new.to }) moved.0 moved.1 moved.2 before
 
 pub returns-clause-project : goal.returns-clause-project
-returns-clause-project c = subst IsProject c.project.view_is c.project.invariant
+returns-clause-project c = subst IsProject c.project.view_is c.project.invariant.0
 
 pub returns-clause-done : goal.returns-clause-done
 returns-clause-done c =
