@@ -3,7 +3,8 @@ use Rattle.std.proofs.Common.{◌≡◌, ℕ, suc, ◌+◌, List, [], ◌∷◌,
 use Rattle.std.specs.Prelude.{option_map}
 use Rattle.std.specs.List.{cons_option}
 use Rattle.meson_lex.specs.declared.kinds.Span.{Span}
-use Rattle.meson_syntax.specs.Children.{a_block, node_at}
+use Rattle.meson_syntax.specs.Children.{a_block}
+use Rattle.meson_syntax.specs.inside.Children.{node_at}
 use Rattle.meson_syntax.specs.Paths.{block_of}
 use Rattle.meson_syntax.proofs.paths.Every.{Every, every-append}
 use Rattle.meson_calls.specs.Calls.{all_chosen}

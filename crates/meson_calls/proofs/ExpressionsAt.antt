@@ -4,7 +4,8 @@ use Rattle.std.specs.Prelude.{option_and_then}
 use Rattle.meson_lex.specs.declared.kinds.Span.{Span}
 use Rattle.meson_syntax.specs.declared.operator.Assignment.{Assignment}
 use Rattle.meson_syntax.specs.Tree.{Name, Expression, assign}
-use Rattle.meson_syntax.specs.Children.{an_expression, a_statement, a_block, expression_parts, node_at, expression_any}
+use Rattle.meson_syntax.specs.Children.{an_expression, a_statement, a_block}
+use Rattle.meson_syntax.specs.inside.Children.{expression_parts, node_at, expression_any}
 use Rattle.meson_syntax.specs.Paths.{nth, ListIn, list_in, block_of}
 use Rattle.meson_syntax.specs.Paths as paths
 use Rattle.meson_syntax.proofs.PathNodes.{expression-reached}

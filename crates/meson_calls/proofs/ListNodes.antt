@@ -7,7 +7,8 @@ use Rattle.meson_syntax.specs.declared.operator.Bracket.TheVariants as bracket
 use Rattle.meson_syntax.specs.Operators.{holds_values, holds_pairs}
 use Rattle.meson_syntax.specs.Tree.{Expression, plain, named, pair, is_named, Arguments, no_arguments, argument, argument_list, Block, File}
 use Rattle.meson_syntax.specs.Grammar.{LevelArguments}
-use Rattle.meson_syntax.specs.Children.{Any, an_expression, a_statement, a_block, expression_parts, expression_any, child_nodes, node_at}
+use Rattle.meson_syntax.specs.Children.{Any, an_expression, a_statement, a_block}
+use Rattle.meson_syntax.specs.inside.Children.{expression_parts, expression_any, child_nodes, node_at}
 use Rattle.meson_syntax.specs.Paths.{Sort, of_expression, of_statement, of_block, Node, Hole, nth, reach, block_of, expression_of, expression_on_path, ListIn, list_in, ListAt, list_within, list_of_node, list_at}
 use Rattle.meson_syntax.proofs.PathNodes.{expression-reached}
 use Rattle.meson_syntax.proofs.parsing.Steps.{some-injective}

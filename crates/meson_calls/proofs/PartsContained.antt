@@ -5,8 +5,10 @@ use Rattle.std.specs.List.{Contains}
 use Rattle.std.proofs.lemmas.List.Elements.{Contains-append_left, Contains-append_right}
 use Rattle.meson_lex.specs.declared.kinds.Span.{Span}
 use Rattle.meson_syntax.specs.Tree.{Expression, identifier, boolean, integer, string, paren, array, dictionary, call, unary, row, postfix, conditional, Operands, no_operands, operand, Tail, method, index, Tails, no_tails, tail, Listing, listing, Argument, plain, named, pair, Arguments, no_arguments, argument, Statement, evaluate, assign, selection, iteration, breaks, continues, Branches, no_branches, branch, Otherwise, nothing_else, otherwise, Statements, no_statements, statement, Block, block, File, file}
-use Rattle.meson_syntax.specs.Children.{Any, an_expression, a_statement, a_block, expression_any, child_nodes, node_at}
+use Rattle.meson_syntax.specs.Children.{Any, an_expression, a_statement, a_block}
+use Rattle.meson_syntax.specs.inside.Children.{expression_any, child_nodes, node_at}
 use Rattle.meson_syntax.specs.Children as syntax
+use Rattle.meson_syntax.specs.inside.Children as tree_nodes
 use Rattle.meson_syntax.specs.Paths.{nth, block_of}
 use Rattle.meson_calls.specs.declared.call.CallRef.{CallRef}
 use Rattle.meson_calls.specs.Project.{BuildFile, Placed, Project, child, expression_at, nth_file, place, placed}
@@ -124,25 +126,25 @@ mutual
   expression_has p (call s x l) = with_children p (part.an_expression (call s x l)) _ (listing_has p 0 l)
   expression_has p (unary s o e) = with_children p (part.an_expression (unary s o e)) _ (last_one p 0 (an_expression e) _ (expression_has (child p 0) e))
   expression_has p (row s e os) =
-      with_children p (part.an_expression (row s e os)) _ (one_more p 0 (an_expression e) (syntax.operands_parts os) _ _ (expression_has (child p 0) e) (operands_has p 1 os))
+      with_children p (part.an_expression (row s e os)) _ (one_more p 0 (an_expression e) (tree_nodes.operands_parts os) _ _ (expression_has (child p 0) e) (operands_has p 1 os))
   expression_has p (postfix s e ts) =
-      with_children p (part.an_expression (postfix s e ts)) _ (one_more p 0 (an_expression e) (syntax.tails_parts ts) _ _ (expression_has (child p 0) e) (tails_has p 1 ts))
+      with_children p (part.an_expression (postfix s e ts)) _ (one_more p 0 (an_expression e) (tree_nodes.tails_parts ts) _ _ (expression_has (child p 0) e) (tails_has p 1 ts))
   expression_has p (conditional s c y n) =
       with_children p (part.an_expression (conditional s c y n)) _
       (one_more p 0 (an_expression c) (an_expression y ∷ an_expression n ∷ []) _ _ (expression_has (child p 0) c)
       (one_more p 1 (an_expression y) (an_expression n ∷ []) _ _ (expression_has (child p 1) y) (last_one p 2 (an_expression n) _ (expression_has (child p 2) n))))
 
-  operands_has : (p : CallRef) (n : ℕ) (os : Operands Span) → HasAll p n (syntax.operands_parts os) (parts_of_operands p n os)
+  operands_has : (p : CallRef) (n : ℕ) (os : Operands Span) → HasAll p n (tree_nodes.operands_parts os) (parts_of_operands p n os)
   operands_has p n no_operands = no_more p n []
-  operands_has p n (operand o e more) = one_more p n (an_expression e) (syntax.operands_parts more) _ _ (expression_has (child p n) e) (operands_has p (n + 1) more)
+  operands_has p n (operand o e more) = one_more p n (an_expression e) (tree_nodes.operands_parts more) _ _ (expression_has (child p n) e) (operands_has p (n + 1) more)
 
   tail_has : (p : CallRef) (n : ℕ) (t : Tail Span) → HasAll p n (syntax.tail_parts t) (parts_of_tail p n t)
   tail_has p n (method s x l) = listing_has p n l
   tail_has p n (index s e) = last_one p n (an_expression e) _ (expression_has (child p n) e)
 
-  tails_has : (p : CallRef) (n : ℕ) (ts : Tails Span) → HasAll p n (syntax.tails_parts ts) (parts_of_tails p n ts)
+  tails_has : (p : CallRef) (n : ℕ) (ts : Tails Span) → HasAll p n (tree_nodes.tails_parts ts) (parts_of_tails p n ts)
   tails_has p n no_tails = no_more p n []
-  tails_has p n (tail t more) = then_all p n (tail_child_count t) (syntax.tail_parts t) (syntax.tails_parts more) _ _ (tail_count t) (tail_has p n t) (tails_has p (n + tail_child_count t) more)
+  tails_has p n (tail t more) = then_all p n (tail_child_count t) (syntax.tail_parts t) (tree_nodes.tails_parts more) _ _ (tail_count t) (tail_has p n t) (tails_has p (n + tail_child_count t) more)
 
   listing_has : (p : CallRef) (n : ℕ) (l : Listing Span) → HasAll p n (syntax.listing_parts l) (parts_of_listing p n l)
   listing_has p n (listing s trailing list) = arguments_has p n list
@@ -165,7 +167,7 @@ mutual
       let m = branches_child_count bs in
       let e : m ≡ 0 + m = omega arith in
       with_children p (part.a_statement (selection s bs o)) _
-      (then_all p 0 m (syntax.branches_parts bs) (syntax.otherwise_parts o) _ _ (branches_count bs) (branches_has p 0 bs) (subst (λ i. HasAll p i (syntax.otherwise_parts o) (parts_of_otherwise p m o)) e (otherwise_has p m o)))
+      (then_all p 0 m (syntax.branches_parts bs) (tree_nodes.otherwise_parts o) _ _ (branches_count bs) (branches_has p 0 bs) (subst (λ i. HasAll p i (tree_nodes.otherwise_parts o) (parts_of_otherwise p m o)) e (otherwise_has p m o)))
   statement_has p (iteration s xs e b) =
       with_children p (part.a_statement (iteration s xs e b)) _ (one_more p 0 (an_expression e) (a_block b ∷ []) _ _ (expression_has (child p 0) e) (last_one p 1 (a_block b) _ (block_has (child p 1) b)))
   statement_has p (breaks s) = with_children p (part.a_statement (breaks s)) [] (no_more p 0 [])
@@ -178,13 +180,13 @@ mutual
       one_more p n (an_expression e) (a_block b ∷ syntax.branches_parts more) _ _ (expression_has (child p n) e)
       (one_more p (n + 1) (a_block b) (syntax.branches_parts more) _ _ (block_has (child p (n + 1)) b) (subst (λ i. HasAll p i (syntax.branches_parts more) (parts_of_branches p (n + 2) more)) q (branches_has p (n + 2) more)))
 
-  otherwise_has : (p : CallRef) (n : ℕ) (o : Otherwise Span) → HasAll p n (syntax.otherwise_parts o) (parts_of_otherwise p n o)
+  otherwise_has : (p : CallRef) (n : ℕ) (o : Otherwise Span) → HasAll p n (tree_nodes.otherwise_parts o) (parts_of_otherwise p n o)
   otherwise_has p n nothing_else = no_more p n []
   otherwise_has p n (otherwise b) = last_one p n (a_block b) _ (block_has (child p n) b)
 
-  statements_has : (p : CallRef) (n : ℕ) (list : Statements Span) → HasAll p n (syntax.statements_parts list) (parts_of_statements p n list)
+  statements_has : (p : CallRef) (n : ℕ) (list : Statements Span) → HasAll p n (tree_nodes.statements_parts list) (parts_of_statements p n list)
   statements_has p n no_statements = no_more p n []
-  statements_has p n (statement s more) = one_more p n (a_statement s) (syntax.statements_parts more) _ _ (statement_has (child p n) s) (statements_has p (n + 1) more)
+  statements_has p n (statement s more) = one_more p n (a_statement s) (tree_nodes.statements_parts more) _ _ (statement_has (child p n) s) (statements_has p (n + 1) more)
 
   block_has : (p : CallRef) (b : Block Span) → Has p (a_block b) (parts_of_block p b)
   block_has p (block s list) = of_block p (block s list) _ (statements_has p 0 list)

@@ -2,8 +2,10 @@
 use Rattle.std.proofs.Common.{◌≡◌, ℕ, zero, suc, ◌+◌, List, [], ◌∷◌, ◌++◌, length, length-append, Some, refl, ap, ◌∙◌, subst, arith}
 use Rattle.meson_lex.specs.declared.kinds.Span.{Span}
 use Rattle.meson_syntax.specs.Tree.{Expression, identifier, boolean, integer, string, paren, array, dictionary, call, unary, row, postfix, conditional, Operands, no_operands, operand, Tail, method, index, Tails, no_tails, tail, Listing, listing, Argument, plain, named, pair, Arguments, no_arguments, argument, Statement, evaluate, assign, selection, iteration, breaks, continues, Branches, no_branches, branch, Otherwise, nothing_else, otherwise, Statements, no_statements, statement, Block, block, File, file}
-use Rattle.meson_syntax.specs.Children.{Any, an_expression, a_statement, a_block, child_nodes, node_at}
+use Rattle.meson_syntax.specs.Children.{Any, an_expression, a_statement, a_block}
+use Rattle.meson_syntax.specs.inside.Children.{child_nodes, node_at}
 use Rattle.meson_syntax.specs.Children as syntax
+use Rattle.meson_syntax.specs.inside.Children as tree_nodes
 use Rattle.meson_syntax.specs.Paths.{nth, block_of}
 use Rattle.meson_calls.specs.declared.call.CallRef.{CallRef}
 use Rattle.meson_calls.specs.Project.{Placed, child, place}
@@ -100,10 +102,10 @@ module _ (k : ℕ) (r : Any Span) where
     expression_each p (unary s o e) at = (at, expression_each (child p 0) e (first p 0 (an_expression e) [] (kids p (an_expression (unary s o e)) at)))
     expression_each p (row s e os) at =
         let all = kids p (an_expression (row s e os)) at in
-        (at, both _ _ (expression_each (child p 0) e (first p 0 (an_expression e) (syntax.operands_parts os) all)) (operands_each p 1 os (rest p 0 (an_expression e) (syntax.operands_parts os) all)))
+        (at, both _ _ (expression_each (child p 0) e (first p 0 (an_expression e) (tree_nodes.operands_parts os) all)) (operands_each p 1 os (rest p 0 (an_expression e) (tree_nodes.operands_parts os) all)))
     expression_each p (postfix s e ts) at =
         let all = kids p (an_expression (postfix s e ts)) at in
-        (at, both _ _ (expression_each (child p 0) e (first p 0 (an_expression e) (syntax.tails_parts ts) all)) (tails_each p 1 ts (rest p 0 (an_expression e) (syntax.tails_parts ts) all)))
+        (at, both _ _ (expression_each (child p 0) e (first p 0 (an_expression e) (tree_nodes.tails_parts ts) all)) (tails_each p 1 ts (rest p 0 (an_expression e) (tree_nodes.tails_parts ts) all)))
     expression_each p (conditional s c y n) at =
         let all = kids p (an_expression (conditional s c y n)) at in
         let second = rest p 0 (an_expression c) (an_expression y ∷ an_expression n ∷ []) all in
@@ -113,20 +115,20 @@ module _ (k : ℕ) (r : Any Span) where
               (both _ _ (expression_each (child p 1) y (first p 1 (an_expression y) (an_expression n ∷ []) second)) (expression_each (child p 2) n (first p 2 (an_expression n) [] third))),
         )
 
-    operands_each : (p : CallRef) (n : ℕ) (os : Operands Span) → AllAt p n (syntax.operands_parts os) → Each (parts_of_operands p n os)
+    operands_each : (p : CallRef) (n : ℕ) (os : Operands Span) → AllAt p n (tree_nodes.operands_parts os) → Each (parts_of_operands p n os)
     operands_each p n no_operands all = tt
     operands_each p n (operand o e more) all =
-        both _ _ (expression_each (child p n) e (first p n (an_expression e) (syntax.operands_parts more) all)) (operands_each p (n + 1) more (rest p n (an_expression e) (syntax.operands_parts more) all))
+        both _ _ (expression_each (child p n) e (first p n (an_expression e) (tree_nodes.operands_parts more) all)) (operands_each p (n + 1) more (rest p n (an_expression e) (tree_nodes.operands_parts more) all))
 
     tail_each : (p : CallRef) (n : ℕ) (t : Tail Span) → AllAt p n (syntax.tail_parts t) → Each (parts_of_tail p n t)
     tail_each p n (method s x l) all = listing_each p n l all
     tail_each p n (index s e) all = expression_each (child p n) e (first p n (an_expression e) [] all)
 
-    tails_each : (p : CallRef) (n : ℕ) (ts : Tails Span) → AllAt p n (syntax.tails_parts ts) → Each (parts_of_tails p n ts)
+    tails_each : (p : CallRef) (n : ℕ) (ts : Tails Span) → AllAt p n (tree_nodes.tails_parts ts) → Each (parts_of_tails p n ts)
     tails_each p n no_tails all = tt
     tails_each p n (tail t more) all =
-        both _ _ (tail_each p n t (left p n (syntax.tail_parts t) (syntax.tails_parts more) all))
-        (tails_each p (n + tail_child_count t) more (right p n (syntax.tail_parts t) (syntax.tails_parts more) (tail_child_count t) (tail_count t) all))
+        both _ _ (tail_each p n t (left p n (syntax.tail_parts t) (tree_nodes.tails_parts more) all))
+        (tails_each p (n + tail_child_count t) more (right p n (syntax.tail_parts t) (tree_nodes.tails_parts more) (tail_child_count t) (tail_count t) all))
 
     listing_each : (p : CallRef) (n : ℕ) (l : Listing Span) → AllAt p n (syntax.listing_parts l) → Each (parts_of_listing p n l)
     listing_each p n (listing s trailing list) all = arguments_each p n list all
@@ -152,8 +154,8 @@ module _ (k : ℕ) (r : Any Span) where
         let all = kids p (a_statement (selection s bs o)) at in
         let m = branches_child_count bs in
         let e : 0 + m ≡ m = omega arith in
-        let last = right p 0 (syntax.branches_parts bs) (syntax.otherwise_parts o) m (branches_count bs) all in
-        (at, both _ _ (branches_each p 0 bs (left p 0 (syntax.branches_parts bs) (syntax.otherwise_parts o) all)) (otherwise_each p m o (subst (λ i. AllAt p i (syntax.otherwise_parts o)) e last)))
+        let last = right p 0 (syntax.branches_parts bs) (tree_nodes.otherwise_parts o) m (branches_count bs) all in
+        (at, both _ _ (branches_each p 0 bs (left p 0 (syntax.branches_parts bs) (tree_nodes.otherwise_parts o) all)) (otherwise_each p m o (subst (λ i. AllAt p i (tree_nodes.otherwise_parts o)) e last)))
     statement_each p (iteration s xs e b) at =
         let all = kids p (a_statement (iteration s xs e b)) at in
         (at, both _ _ (expression_each (child p 0) e (first p 0 (an_expression e) (a_block b ∷ []) all)) (block_each (child p 1) b (first p 1 (a_block b) [] (rest p 0 (an_expression e) (a_block b ∷ []) all))))
@@ -170,14 +172,14 @@ module _ (k : ℕ) (r : Any Span) where
         (both _ _ (block_each (child p (n + 1)) b (first p (n + 1) (a_block b) (syntax.branches_parts more) second))
         (branches_each p (n + 2) more (subst (λ i. AllAt p i (syntax.branches_parts more)) q third)))
 
-    otherwise_each : (p : CallRef) (n : ℕ) (o : Otherwise Span) → AllAt p n (syntax.otherwise_parts o) → Each (parts_of_otherwise p n o)
+    otherwise_each : (p : CallRef) (n : ℕ) (o : Otherwise Span) → AllAt p n (tree_nodes.otherwise_parts o) → Each (parts_of_otherwise p n o)
     otherwise_each p n nothing_else all = tt
     otherwise_each p n (otherwise b) all = block_each (child p n) b (first p n (a_block b) [] all)
 
-    statements_each : (p : CallRef) (n : ℕ) (list : Statements Span) → AllAt p n (syntax.statements_parts list) → Each (parts_of_statements p n list)
+    statements_each : (p : CallRef) (n : ℕ) (list : Statements Span) → AllAt p n (tree_nodes.statements_parts list) → Each (parts_of_statements p n list)
     statements_each p n no_statements all = tt
     statements_each p n (statement s more) all =
-        both _ _ (statement_each (child p n) s (first p n (a_statement s) (syntax.statements_parts more) all)) (statements_each p (n + 1) more (rest p n (a_statement s) (syntax.statements_parts more) all))
+        both _ _ (statement_each (child p n) s (first p n (a_statement s) (tree_nodes.statements_parts more) all)) (statements_each p (n + 1) more (rest p n (a_statement s) (tree_nodes.statements_parts more) all))
 
     block_each : (p : CallRef) (b : Block Span) → At p (a_block b) → Each (parts_of_block p b)
     block_each p (block s list) at = statements_each p 0 list (kids p (a_block (block s list)) at)

@@ -13,7 +13,7 @@ use Rattle.meson_syntax.specs.View.{names_at, expr_view, stmt_view, stmts_view, 
 use Rattle.meson_calls.specs.declared.call.CallRef.{CallRef}
 use Rattle.meson_calls.specs.Project.{Placed, child}
 use Rattle.meson_calls.specs.Parts.{Part, parts_of_statement, parts_of_statements, parts_of_branches, branches_child_count}
-use Rattle.meson_calls.specs.Walks.{else_view, parts_of_branch}
+use Rattle.meson_calls.specs.inside.Walks.{else_view, parts_of_branch}
 
 module _ (source : List ℕ) where
   pub if_view : (s : Span) (bs : List Branch) (o : Option rust_block.Block) → stmt_view source (stmt.If s bs o) ≡ selection s (branches_of (branches_view source bs)) (else_view source o)

@@ -29,7 +29,7 @@ use Rattle.meson_syntax.specs.Reads.{IsSpanned}
 use Rattle.meson_syntax.specs.View.{view, block_view, name_at, names_at, expr_view, arg_view, args_view, tail_view, tails_view, list_view, operand_view, operands_view, stmt_view, stmts_view, branch_view, branches_view}
 use Rattle.meson_calls.proofs.GoodNotes.{call_view}
 use Rattle.meson_calls.proofs.ListTurns.{args_size, tail_size}
-use Rattle.meson_calls.specs.Walks.{else_view}
+use Rattle.meson_calls.specs.inside.Walks.{else_view}
 use Rattle.meson_calls.proofs.StatementParts.{if_view, foreach_view}
 use Rattle.meson_calls.proofs.Parted.{row_view, postfix_view, conditional_view, pair_view, operand_value}
 use Rattle.meson_calls.proofs.WordCounts.{expression_some, argument_some, argument_enough, tail_enough, listing_holds, any_word, file_few}

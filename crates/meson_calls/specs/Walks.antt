@@ -1,19 +1,18 @@
 -- Walks through trees: what is kept of the parts that are visited, one after another.
-use Rattle.std.specs.Prelude.{◌≡◌, ℕ, ◌+◌, Bool, true, false, List, [], ◌∷◌, ◌++◌, if◌then◌else◌, bytes_eq, Option, Some, None}
+use Rattle.std.specs.Prelude.{◌≡◌, ℕ, ◌+◌, Bool, true, false, List, [], ◌∷◌, ◌++◌, bytes_eq, Option, Some, None, if◌then◌else◌}
 use Rattle.std.specs.Borrow.{Bor}
 use Rattle.std.specs.List.{fold, filter_map}
 use Rattle.meson_lex.specs.declared.kinds.Span.{Span}
-use Rattle.meson_syntax.specs.declared.tree.Block as rust_block
-use Rattle.meson_syntax.specs.Tree.{Expression, identifier, Statement, Block, Otherwise, nothing_else, otherwise}
-use Rattle.meson_syntax.specs.View.{expr_view, stmt_view, block_view}
+use Rattle.meson_syntax.specs.Tree.{Expression, identifier}
+use Rattle.meson_syntax.specs.View.{expr_view, stmt_view}
 use Rattle.meson_calls.specs.declared.call.CallRef.{CallRef}
 use Rattle.meson_calls.specs.declared.keeper.Keeper.{Keeper}
 use Rattle.meson_calls.specs.declared.keeper.Keeper.TheVariants as keeper
 use Rattle.meson_calls.specs.declared.part.Part as rust_part
 use Rattle.meson_calls.specs.declared.part.Part.TheVariants as rust
 use Rattle.meson_calls.specs.declared.part.Walk.{Walk}
-use Rattle.meson_calls.specs.Project.{Placed, placed, place, child}
-use Rattle.meson_calls.specs.Parts.{Part, an_expression, a_statement, parts_of_expression, parts_of_statement, parts_of_block}
+use Rattle.meson_calls.specs.Project.{Placed, placed, place}
+use Rattle.meson_calls.specs.Parts.{Part, an_expression, a_statement}
 use Rattle.meson_calls.specs.Notes.{Note, noted, taken_view}
 use Rattle.meson_calls.specs.Setters.{setters_in}
 
@@ -82,23 +81,3 @@ part_view source (rust.Statement s) = a_statement (stmt_view source s.now)
 -- what stands at a path of a file
 abbrev pub part_at : Walk → List ℕ → rust_part.Part → Placed (Part Span)
 part_at walk path part = placed (place walk.file path) (part_view walk.source.now part)
-
--- the parts within an expression or a statement that stands at a place
-abbrev pub behind_first : {X : Type 0} → List X → List X
-behind_first [] = []
-behind_first (x ∷ xs) = xs
-
-abbrev pub parts_within : {S : Type 0} → CallRef → Expression S → List (Placed (Part S))
-parts_within p e = behind_first (parts_of_expression p e)
-
-abbrev pub parts_inside : {S : Type 0} → CallRef → Statement S → List (Placed (Part S))
-parts_inside p s = behind_first (parts_of_statement p s)
-
--- the block behind `else`, if there is one
-abbrev pub else_view : List ℕ → Option rust_block.Block → Otherwise Span
-else_view source None = nothing_else
-else_view source (Some b) = otherwise (block_view source b)
-
--- a condition and the block behind it, from the n-th child on
-abbrev pub parts_of_branch : {S : Type 0} → CallRef → ℕ → Expression S × Block S → List (Placed (Part S))
-parts_of_branch p n b = parts_of_expression (child p n) b.0 ++ parts_of_block (child p (n + 1)) b.1

@@ -8,7 +8,8 @@ ghost use Rattle.meson_syntax.specs.Tree.{arguments_of, operands_of, tails_of};
 ghost use Rattle.meson_syntax.specs.View.{expr_view, arg_view, args_view, tail_view, tails_view, operands_view, list_view};
 ghost use Rattle.meson_calls.specs.Project.{place, child};
 ghost use Rattle.meson_calls.specs.Parts.{parts_of_expression, parts_of_argument, parts_of_arguments, parts_of_operands, parts_of_tail, parts_of_tails, parts_of_listing, argument_child_count, arguments_child_count, tail_child_count};
-ghost use Rattle.meson_calls.specs.Walks.{KeepsParts, parts_within};
+ghost use Rattle.meson_calls.specs.Walks.{KeepsParts};
+ghost use Rattle.meson_calls.specs.inside.Walks.{parts_within};
 
 use crate::keeper::Keeper;
 use crate::part::{Part, Walk};

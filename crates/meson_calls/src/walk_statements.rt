@@ -9,7 +9,8 @@ ghost use Rattle.meson_syntax.specs.View.{stmt_view, stmts_view, block_view, bra
 ghost use Rattle.meson_calls.specs.Loading.{AreParsed, named_trees, views};
 ghost use Rattle.meson_calls.specs.Project.{place, child};
 ghost use Rattle.meson_calls.specs.Parts.{parts_of_statement, parts_of_statements, parts_of_block, parts_of_branches, parts_of_otherwise, parts_of_file, parts};
-ghost use Rattle.meson_calls.specs.Walks.{KeepsParts, else_view, parts_of_branch, parts_inside};
+ghost use Rattle.meson_calls.specs.Walks.{KeepsParts};
+ghost use Rattle.meson_calls.specs.inside.Walks.{else_view, parts_of_branch, parts_inside};
 
 use crate::keeper::Keeper;
 use crate::part::{Part, Walk};

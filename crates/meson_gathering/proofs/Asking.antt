@@ -6,7 +6,7 @@ use Rattle.meson_splice.specs.Files.{position_of_file}
 use Rattle.meson_store.specs.StoreCalls.{one_more}
 use Rattle.meson_store.specs.Content.{Content}
 use Rattle.meson_gathering.specs.Gathering.{Told, file_of, held_bytes, with_more}
-use Rattle.meson_gathering.specs.Gathered.{IsNotAdded, StopsLooking}
+use Rattle.meson_gathering.specs.inside.Gathered.{IsNotAdded, StopsLooking}
 use Rattle.meson_gathering.specs.ReadCounts.{Asks, EntersOne, MayAsk, MayAskIfNew, is_read, is_there, unread_file, unread_name}
 use Rattle.meson_gathering.specs.declared.fault.GatherFault.{GatherFault}
 use Rattle.meson_gathering.specs.declared.fault.GatherFault.TheVariants.{Parse, TooManyFiles, Store}

@@ -10,7 +10,7 @@ use Rattle.meson_calls.specs.Folders.{IsFileName}
 use Rattle.meson_calls.specs.Loading.{max_files, HasFileName}
 use Rattle.meson_store.specs.Content.{Content}
 use Rattle.meson_gathering.specs.Gathering.{file_of, with_more, files_with, held_bytes, files_entered, Ending, IsNextFile}
-use Rattle.meson_gathering.specs.Gathered.{IsNotEntered, past_limit, at_name, Grows}
+use Rattle.meson_gathering.specs.inside.Gathered.{IsNotEntered, past_limit, at_name, Grows}
 
 -- ---- what the files have more
 

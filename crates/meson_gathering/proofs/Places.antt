@@ -11,7 +11,7 @@ use Rattle.meson_calls.specs.Loading.{name_of_file}
 use Rattle.meson_calls.specs.Subdirs.{Enters}
 use Rattle.meson_store.specs.Content.{Content}
 use Rattle.meson_gathering.specs.Gathering.{file_of, files_entered, Ending, whole, unparsed, IsNextFile, Gathers, ended, enters, is_unparsed, is_unread, are_too_many}
-use Rattle.meson_gathering.specs.Gathered.{IsNotEntered, past_limit, at_name, LooksAt}
+use Rattle.meson_gathering.specs.inside.Gathered.{IsNotEntered, past_limit, at_name, LooksAt}
 
 -- the file at a place
 pub record Split (files : List File) (place : ℕ) : Type 0 where

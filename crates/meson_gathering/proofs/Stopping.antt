@@ -8,7 +8,8 @@ use Rattle.meson_syntax.specs.declared.fault.ParseFault.TheVariants as parse
 use Rattle.meson_syntax.specs.Reads.{MayNotRead}
 use Rattle.meson_store.specs.Content.{Rose}
 use Rattle.meson_gathering.specs.Gathering.{Ending, unread, unparsed, rootless, too_many, with_more}
-use Rattle.meson_gathering.specs.Gathered.{IsUnread, StoreStopsAt, StopsAt, StopsLooking, IsNotAdded}
+use Rattle.meson_gathering.specs.Gathered.{IsUnread, StoreStopsAt, StopsAt}
+use Rattle.meson_gathering.specs.inside.Gathered.{StopsLooking, IsNotAdded}
 use Rattle.meson_gathering.specs.declared.fault.GatherFault.{GatherFault}
 use Rattle.meson_gathering.specs.declared.fault.GatherFault.TheVariants.{Parse, TooManyFiles, Store}
 use Rattle.meson_store.specs.declared.store_fault.StoreFault.{StoreFault}

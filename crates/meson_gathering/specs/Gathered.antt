@@ -1,14 +1,8 @@
 -- What the steps of gathering a project's files answer.
-use Rattle.std.specs.Prelude.{◌≡◌, ◌≢◌, ◌≤◌, ⊤, ℕ, List, ◌++◌, length, All, Option, Some, None}
-use Rattle.meson_splice.specs.declared.file_set.File.{File}
-use Rattle.meson_splice.specs.Files.{bytes_at}
-use Rattle.meson_syntax.specs.declared.fault.ParseFault.TheVariants as parse
-use Rattle.meson_syntax.specs.Reads.{MayNotRead}
+use Rattle.std.specs.Prelude.{◌≡◌, ⊤, ℕ, List}
 use Rattle.meson_calls.specs.Folders.{build_file}
-use Rattle.meson_calls.specs.Loading.{max_files, name_of_file, HasFileName}
-use Rattle.meson_calls.specs.Subdirs.{Enters}
-use Rattle.meson_store.specs.Content.{Content, Rose}
-use Rattle.meson_gathering.specs.Gathering.{files_entered, with_more, IsNextFile, Ending, rootless, unparsed, unread, too_many}
+use Rattle.meson_store.specs.Content.{Rose}
+use Rattle.meson_gathering.specs.Gathering.{Ending, rootless, unparsed, unread, too_many}
 use Rattle.meson_gathering.specs.declared.fault.GatherFault.{GatherFault}
 use Rattle.meson_gathering.specs.declared.fault.GatherFault.TheVariants.{Parse, TooManyFiles, Store}
 use Rattle.meson_store.specs.declared.store_fault.StoreFault.{StoreFault}
@@ -31,33 +25,3 @@ abbrev pub StopsAt : ℕ → ℕ → (Ending → Type 0) → GatherFault → Typ
 StopsAt failed failed' P (Parse name fault) = P (unparsed name fault)
 StopsAt failed failed' P TooManyFiles = P too_many
 StopsAt failed failed' P (Store fault) = StoreStopsAt failed failed' P fault
-
--- Why names are not all entered.
-pub data IsNotEntered (content : Content) (folder : Option (List ℕ)) (names : List (List ℕ)) (files : List File) : Ending → Type 0 where
-  past_limit : files_entered content folder names files ≡ None → IsNotEntered content folder names files too_many
-  at_name : (name : List ℕ) → IsNextFile content folder names files name → IsNotEntered content folder names files (unread name)
-
--- the files with more build files behind them, and not too many
-pub record Grows (old new : List File) : Type 0 where
-  pub more : List File
-  pub is_more : new ≡ old ++ more
-  pub named : All HasFileName more
-  pub few : length new ≤ max_files
-
--- why a file is not put behind the others
-abbrev pub IsNotAdded : List File → File → GatherFault → Type 0
-IsNotAdded files f (Parse name fault) = ⊥
-IsNotAdded files f TooManyFiles = with_more files f ≡ None
-IsNotAdded files f (Store fault) = fault ≡ store.OutOfMemory
-
--- why the names that a file enters are not known
-abbrev pub StopsLooking : List ℕ → List ℕ → GatherFault → Type 0
-StopsLooking name bytes (Parse n fault) = (n ≡ name) × MayNotRead bytes fault × (fault ≢ parse.OutOfMemory)
-StopsLooking name bytes TooManyFiles = ⊥
-StopsLooking name bytes (Store fault) = fault ≡ store.OutOfMemory
-
--- the file at that place enters what the new files have more
-pub record LooksAt (content : Content) (folder : Option (List ℕ)) (place : ℕ) (old new : List File) : Type 0 where
-  pub names : List (List ℕ)
-  pub enters : Enters (name_of_file place old) (bytes_at place old) names
-  pub are_entered : files_entered content folder names old ≡ Some new

@@ -8,7 +8,8 @@ ghost use Rattle.meson_calls.specs.Folders.{IsFileName, build_file};
 ghost use Rattle.meson_calls.specs.Loading.{HasFileName, IsProject, max_files, name_of_file};
 ghost use Rattle.meson_calls.specs.Subdirs.{Enters};
 ghost use Rattle.meson_gathering.specs.Gathering.{Collects, Finds, Gathers, Told, files_entered, file_of, held_bytes, named_folder, whole, with_more};
-ghost use Rattle.meson_gathering.specs.Gathered.{Grows, IsNotAdded, IsNotEntered, IsUnread, LooksAt, StopsAt, StopsLooking};
+ghost use Rattle.meson_gathering.specs.Gathered.{IsUnread, StopsAt};
+ghost use Rattle.meson_gathering.specs.inside.Gathered.{Grows, IsNotAdded, IsNotEntered, LooksAt, StopsLooking};
 ghost use Rattle.meson_gathering.specs.ReadCounts.{EntersEach, EntersFor, EntersOne, MayAsk, MayAskIfNew, ReadsFiles, StopsEntering, StopsFor, StopsReading, unread_file, unread_name};
 ghost use Rattle.meson_store.specs.StoreCalls.{one_more};
 

@@ -7,7 +7,8 @@ use Rattle.meson_calls.specs.ChosenNotes.{places_that}
 use Rattle.meson_calls.specs.Project.{Project}
 use Rattle.meson_calls.specs.Calls.{calls_function}
 use Rattle.meson_calls.proofs.Picked.{tested_notes}
-use Rattle.meson_inventory.specs.Holdings.{calls_of, note_calls}
+use Rattle.meson_inventory.specs.Holdings.{calls_of}
+use Rattle.meson_inventory.specs.inside.Holdings.{note_calls}
 
 pub function_places : (f : List ℕ) (p : Project Span) → places_that (note_calls f) (notes p) ≡ calls_of p f
 function_places f p = tested_notes (calls_function f) (parts p)

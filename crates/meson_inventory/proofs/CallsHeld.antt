@@ -17,7 +17,8 @@ use Rattle.meson_calls.specs.Roles.{places, targets, with_role}
 use Rattle.meson_calls.proofs.CallsReached.{InProject, every_chosen, every_part}
 use Rattle.meson_calls.proofs.ExpressionsAt.{expression_stands}
 use Rattle.meson_details.specs.Details.{is_call}
-use Rattle.meson_inventory.specs.Holdings.{IsCall, calls_of, held_call, held_calls, with_function}
+use Rattle.meson_inventory.specs.Holdings.{calls_of, held_call, held_calls, with_function}
+use Rattle.meson_inventory.specs.inside.Holdings.{IsCall}
 use Rattle.meson_inventory.specs.declared.holdings.HeldCall.{HeldCall}
 
 -- ---- places of calls

@@ -1,25 +1,19 @@
 -- What a project holds: the calls that make targets, and the `subdir` calls that enter none of its files.
-use Rattle.std.specs.Prelude.{◌≡◌, ℕ, Bool, false, not, IsTrue, List, filter, if◌then◌else◌, codes, Option, Some, None, option_map}
+use Rattle.std.specs.Prelude.{ℕ, Bool, not, List, filter, codes, Option, Some, None, option_map, if◌then◌else◌}
 use Rattle.std.specs.List.{filter_map}
 use Rattle.meson_splice.specs.declared.file_set.File.{File}
-use Rattle.meson_lex.specs.declared.kinds.Span.{Span}
 use Rattle.meson_calls.specs.declared.call.CallRef.{CallRef}
 use Rattle.meson_calls.specs.Calls.{Call, all_chosen, calls, calls_function}
 use Rattle.meson_calls.specs.FileNames.{is_entered, meant_in}
 use Rattle.meson_calls.specs.Loading.{Loaded, project}
-use Rattle.meson_calls.specs.Notes.{Note, a_call, an_assignment, a_loop, notes}
-use Rattle.meson_calls.specs.Project.{Placed, Project}
+use Rattle.meson_calls.specs.Project.{Project}
 use Rattle.meson_calls.specs.Roles.{places, targets}
-use Rattle.meson_details.specs.Details.{head, is_call}
+use Rattle.meson_details.specs.Details.{head}
 use Rattle.meson_targets.specs.TargetEdits.{variable_of}
 use Rattle.meson_inventory.specs.declared.holdings.HeldCall.{HeldCall}
 use Rattle.meson_inventory.specs.declared.holdings.Holdings.{Holdings}
 
 -- ---- calls
-
--- a call stands at the place
-abbrev pub IsCall : Loaded → CallRef → Type 0
-IsCall l c = IsTrue (is_call (project l) c)
 
 -- the call there: the number of its file, its head, and the variable that a statement sets to it
 abbrev pub held_call : Loaded → CallRef → Option HeldCall
@@ -34,16 +28,6 @@ with_function f c = if calls_function f c then Some c else None
 
 abbrev pub calls_of : {S : Type 0} → Project S → List ℕ → List CallRef
 calls_of p f = places (all_chosen (with_function f) (calls p))
-
--- among notes
-abbrev pub note_calls : {S : Type 0} → List ℕ → Note S → Bool
-note_calls f (a_call c) = calls_function f c
-note_calls f (an_assignment x sets e) = false
-note_calls f (a_loop xs) = false
-
--- these are the notes of the project
-abbrev pub AreAllNotes : Loaded → List (Placed (Note Span)) → Type 0
-AreAllNotes l ns = ns ≡ notes (project l)
 
 -- ---- what a project holds
 

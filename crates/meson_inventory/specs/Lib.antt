@@ -1,3 +1,4 @@
 pub mod Holdings
 pub mod Inventory
 pub mod Laws
+pub mod inside

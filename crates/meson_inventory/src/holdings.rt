@@ -5,7 +5,8 @@ ghost use Rattle.meson_calls.specs.FileNames.{AreFileNames};
 ghost use Rattle.meson_calls.specs.Loading.{HasFileName};
 ghost use Rattle.meson_calls.specs.Notes.{note_view, note_views};
 ghost use Rattle.meson_calls.specs.ChosenNotes.{places_that};
-ghost use Rattle.meson_inventory.specs.Holdings.{AreAllNotes, IsCall, enters_one, held_call, held_calls, holdings, not_entered, note_calls, subdirs_held, targets_held};
+ghost use Rattle.meson_inventory.specs.Holdings.{enters_one, held_call, held_calls, holdings, not_entered, subdirs_held, targets_held};
+ghost use Rattle.meson_inventory.specs.inside.Holdings.{AreAllNotes, IsCall, note_calls};
 
 use meson_calls::chosen_notes::with_role;
 use meson_calls::file_names::{enters, names_of};

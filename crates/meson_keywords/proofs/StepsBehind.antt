@@ -21,7 +21,7 @@ use Rattle.meson_steps.specs.Steps.{step_in, Step}
 use Rattle.meson_keywords.specs.KeywordEdits.{add_to_lone, remove_lone, the_value}
 use Rattle.meson_steps.specs.ListSteps.{bare}
 use Rattle.meson_steps.specs.Meanings.{AreBehind, AreMeant}
-use Rattle.meson_keywords.specs.Tasking.{found_argument}
+use Rattle.meson_keywords.specs.inside.Tasking.{found_argument}
 
 -- ---- steps
 

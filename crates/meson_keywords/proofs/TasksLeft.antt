@@ -14,7 +14,8 @@ use Rattle.meson_steps.specs.ListSteps as doable
 use Rattle.meson_calls.specs.Loading.{Loaded}
 use Rattle.meson_steps.specs.ResultLimits.{plain_trees}
 use Rattle.meson_steps.specs.Steps.{Step}
-use Rattle.meson_keywords.specs.Tasking.{MayBeWritten, TaskIs, TasksAre, none, one}
+use Rattle.meson_keywords.specs.Tasking.{MayBeWritten, TaskIs}
+use Rattle.meson_keywords.specs.inside.Tasking.{TasksAre, none, one}
 use Rattle.meson_keywords.specs.Tasks.{Task}
 use Rattle.meson_keywords.specs.TaskSteps.{elements_in, task_steps, tasks_steps, trees_after}
 use Rattle.meson_steps.specs.Working.{IsFresh, so_far}

@@ -19,7 +19,8 @@ use Rattle.meson_keywords.specs.ValueKinds.{key_kind, list_kind, list_values, wr
 use Rattle.meson_steps.specs.inside.WrittenValues.{WrittenFor, value_written}
 use Rattle.meson_keywords.specs.Options.{option_text}
 use Rattle.meson_keywords.specs.Tasks.{Task, set, delete, add, remove, once, set_option, delete_option, checked_option, each_made, set_entry, delete_entry, add_entry, remove_entry, set_option_entry, delete_option_entry}
-use Rattle.meson_keywords.specs.Tasking.{TaskIs, MayBeWritten, IsValue, TasksAre, none, one, AreTasksBehind}
+use Rattle.meson_keywords.specs.Tasking.{TaskIs, MayBeWritten, IsValue}
+use Rattle.meson_keywords.specs.inside.Tasking.{TasksAre, none, one, AreTasksBehind}
 use Rattle.meson_keywords.specs.inside.Making.{TasksSoFar}
 use Rattle.meson_calls.proofs.Loads.{take_more}
 

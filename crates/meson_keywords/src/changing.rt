@@ -14,7 +14,8 @@ ghost use Rattle.meson_calls.specs.NamedArguments.{not_hidden, kept_args, kwargs
 ghost use Rattle.meson_steps.specs.Steps as meant;
 ghost use Rattle.meson_steps.specs.Meanings.{AreMeant};
 ghost use Rattle.meson_steps.specs.Working.{IsFresh, Restores, so_far};
-ghost use Rattle.meson_keywords.specs.Tasking.{MayBeWritten, TaskIs, TasksAre, args_of, request_view};
+ghost use Rattle.meson_keywords.specs.Tasking.{MayBeWritten, TaskIs, request_view};
+ghost use Rattle.meson_keywords.specs.inside.Tasking.{TasksAre, args_of};
 ghost use Rattle.meson_keywords.specs.Tasks as changes;
 ghost use Rattle.meson_keywords.specs.TaskSteps.{task_steps, tasks_steps};
 

@@ -14,7 +14,7 @@ ghost use Rattle.meson_calls.specs.ChosenNotes.{Source};
 ghost use Rattle.meson_calls.specs.Refusals.{RefusedAs};
 ghost use Rattle.meson_steps.specs.Names.{distinct_by};
 ghost use Rattle.meson_calls.specs.Strings.{AreGood};
-ghost use Rattle.meson_keywords.specs.Tasking.{args_of, found_argument, test_of};
+ghost use Rattle.meson_keywords.specs.inside.Tasking.{args_of, found_argument, test_of};
 
 use crate::tasks::before_equals;
 use crate::value_kinds::ElementKind;

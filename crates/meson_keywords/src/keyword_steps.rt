@@ -14,7 +14,7 @@ ghost use Rattle.meson_steps.specs.ListSteps.{bare};
 ghost use Rattle.meson_steps.specs.inside.WrittenValues.{WrittenFor, value_written};
 ghost use Rattle.meson_calls.specs.Strings.{AreGood};
 ghost use Rattle.meson_steps.specs.Meanings.{AreBehind, AreMeant};
-ghost use Rattle.meson_keywords.specs.Tasking.{args_of, held_value};
+ghost use Rattle.meson_keywords.specs.inside.Tasking.{args_of, held_value};
 ghost use Rattle.meson_keywords.specs.Tasks as changes;
 ghost use Rattle.meson_keywords.specs.TaskSteps.{task_steps};
 

@@ -15,7 +15,7 @@ ghost use Rattle.meson_keywords.specs.Options.{is_entry, is_entry_element, optio
 ghost use Rattle.meson_keywords.specs.Options.{set_by_shape, set_by_value, set_in_dictionary, set_in_list, set_in_lone};
 ghost use Rattle.meson_calls.specs.Strings.{AreGood};
 ghost use Rattle.meson_steps.specs.Meanings.{AreBehind, AreMeant};
-ghost use Rattle.meson_keywords.specs.Tasking.{args_of, held_value, test_of};
+ghost use Rattle.meson_keywords.specs.inside.Tasking.{args_of, held_value, test_of};
 ghost use Rattle.meson_keywords.specs.Tasks as changes;
 ghost use Rattle.meson_keywords.specs.TaskSteps.{task_steps};
 

@@ -6,7 +6,8 @@ ghost use Rattle.meson_calls.specs.Refusals.{RefusedAs};
 ghost use Rattle.meson_splice.specs.Patch.{then_ok};
 ghost use Rattle.meson_keywords.specs.ValueKinds as keys;
 ghost use Rattle.meson_keywords.specs.Tasks.{add_entry, before_equals, checked_option, delete_entry, delete_option_entry, each_made, remove_entry, set_entry, set_option_entry};
-ghost use Rattle.meson_keywords.specs.Tasking.{AreTasks, AreTasksBehind, IsKey, asked, asked_tasks};
+ghost use Rattle.meson_keywords.specs.Tasking.{IsKey, asked, asked_tasks};
+ghost use Rattle.meson_keywords.specs.inside.Tasking.{AreTasks, AreTasksBehind};
 
 use crate::request::AskedWords;
 use crate::value_kinds::{ElementKind, kind_of, list_kind};

@@ -11,7 +11,8 @@ use Rattle.meson_layout.specs.declared.primitive.Primitive.{Primitive}
 use Rattle.meson_layout.specs.declared.primitive.Primitive.TheVariants.{First, After, Remove, Replace, Wrap, RemoveStatement, Append}
 use Rattle.meson_layout.specs.declared.removal.Growth.{Growth}
 use Rattle.meson_layout.specs.Looks.{is_blank_kind, is_comma, is_line_end, first_is, one_if, but_last, last_few, line_before, gap_len, all_white, at_most_blank, note_len, comma_note_len, closing_follows}
-use Rattle.meson_layout.specs.Pieces.{Piece, Keep, Change, old_items, new_items, as_one, comma, space, line_feed, open_square, close_square, splices}
+use Rattle.meson_layout.specs.Pieces.{Piece, Keep, Change, as_one, comma, space, line_feed, open_square, close_square, splices}
+use Rattle.meson_layout.specs.inside.Pieces.{old_items, new_items}
 use Rattle.meson_layout.specs.Insertion.{plain_insertion, with_comma, without_comma, before_bracket, no_comma_on_line, stacked, inserted_by, inserted}
 use Rattle.meson_layout.specs.Removal.{grown, one_gone, two_gone, two_ranges, comma_len, comma_behind, comma_before, no_comma_behind, removed}
 use Rattle.meson_layout.specs.Statements.{at_line_start, statement_gone, statement_removed, line_end_of, appended}

@@ -13,7 +13,8 @@ use Rattle.meson_layout.specs.declared.primitive.Primitive.{Primitive}
 use Rattle.meson_layout.specs.declared.primitive.Primitive.TheVariants.{First, After, Remove, Replace, Wrap, RemoveStatement, Append}
 use Rattle.meson_splice.specs.declared.splice.Splice.{Splice}
 use Rattle.meson_layout.specs.Insertion.{first}
-use Rattle.meson_layout.specs.Layout.{IsPlaced, IsSpanOf, before_len, end_of_look, layout_of, split_at_span, replaced, wrapped}
+use Rattle.meson_layout.specs.Layout.{IsPlaced, IsSpanOf, before_len, layout_of, split_at_span, replaced, wrapped}
+use Rattle.meson_layout.specs.inside.Layout.{end_of_look}
 use Rattle.meson_layout.specs.Pieces.{as_one, splices}
 use Rattle.meson_layout.proofs.Near.{AllGood, good-front}
 use Rattle.meson_layout.proofs.Parts.{before-is, parts-are}

@@ -8,7 +8,8 @@ use Rattle.meson_lex.specs.Significant.{Word}
 use Rattle.meson_layout.specs.Looks as look
 use Rattle.meson_lex.specs.Words.{spoken}
 use Rattle.meson_layout.specs.Words.{IsBehindElement}
-use Rattle.meson_layout.specs.Pieces.{Piece, old_items, new_items, comma, space}
+use Rattle.meson_layout.specs.Pieces.{Piece, comma, space}
+use Rattle.meson_layout.specs.inside.Pieces.{old_items, new_items}
 use Rattle.meson_layout.specs.Insertion.{plain_insertion, with_comma, without_comma, before_bracket, no_comma_on_line, stacked, inserted_by, inserted}
 use Rattle.meson_layout.proofs.Near.{AllGood, good-front, good-rest}
 use Rattle.meson_layout.proofs.Ends.{back-joins, within-left, within-right, AllMild, gap-mild, gap-spoken}

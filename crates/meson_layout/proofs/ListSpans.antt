@@ -10,7 +10,8 @@ use Rattle.meson_lex.proofs.OneList.{one_list}
 use Rattle.meson_lex.proofs.Seams.{joined-append}
 use Rattle.meson_layout.specs.declared.primitive.Primitive.{Primitive}
 use Rattle.meson_layout.specs.declared.primitive.Primitive.TheVariants.{First, After, Remove, Replace, Wrap, RemoveStatement, Append}
-use Rattle.meson_layout.specs.Layout.{FirstFits, layout_of}
+use Rattle.meson_layout.specs.Layout.{layout_of}
+use Rattle.meson_layout.specs.inside.Layout.{FirstFits}
 use Rattle.meson_layout.specs.Local.{IsOfList, IsReadyIn, alone}
 use Rattle.meson_layout.proofs.Alone.{alone-items, source-is}
 use Rattle.meson_layout.proofs.LocalLaws.{laid-behind}

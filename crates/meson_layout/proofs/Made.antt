@@ -8,7 +8,8 @@ use Rattle.meson_lex.proofs.Seams.{joined-append, AreItems-split}
 use Rattle.meson_layout.specs.Looks as look
 use Rattle.meson_lex.specs.Words.{spoken}
 use Rattle.meson_layout.specs.Words.{remarks}
-use Rattle.meson_layout.specs.Pieces.{Piece, old_items, new_items, splices, line_feed}
+use Rattle.meson_layout.specs.Pieces.{Piece, splices, line_feed}
+use Rattle.meson_layout.specs.inside.Pieces.{old_items, new_items}
 use Rattle.meson_layout.specs.Edited.{ListOfItems, Keeps, Edited}
 use Rattle.meson_layout.proofs.Near.{Follow, IsGood, AllGood, items-good, items-follow, good-join, good-front, good-rest}
 use Rattle.meson_layout.proofs.Merge.{merge, merge-joined, merge-spoken, merge-remarks, merge-items, merge-listed}

@@ -6,7 +6,8 @@ use Rattle.meson_lex.proofs.Seams.{joined-append}
 use Rattle.meson_splice.specs.declared.splice.Splice.{Splice}
 use Rattle.meson_splice.specs.Patch.{patched, then_ok}
 use Rattle.meson_splice.proofs.Inverses.{patched-means-patches}
-use Rattle.meson_layout.specs.Pieces.{Piece, Keep, Change, old_items, new_items, splices}
+use Rattle.meson_layout.specs.Pieces.{Piece, Keep, Change, splices}
+use Rattle.meson_layout.specs.inside.Pieces.{old_items, new_items}
 use Rattle.meson_layout.specs.Edited.{patched_by}
 
 regroup : (p x y : List ℕ) → p ++ (x ++ y) ≡ (p ++ x) ++ y

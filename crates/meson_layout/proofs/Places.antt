@@ -5,7 +5,8 @@ use Rattle.meson_lex.specs.Items.{Lexeme, joined}
 use Rattle.meson_lex.proofs.Seams.{joined-append}
 use Rattle.meson_layout.specs.declared.primitive.Primitive.{Primitive}
 use Rattle.meson_layout.specs.declared.primitive.Primitive.TheVariants.{First, After, Remove, Replace, Wrap, RemoveStatement, Append}
-use Rattle.meson_layout.specs.Layout.{FirstFits, IsPlaced}
+use Rattle.meson_layout.specs.Layout.{IsPlaced}
+use Rattle.meson_layout.specs.inside.Layout.{FirstFits}
 
 pub first_fits : (p : Primitive) (items : List Lexeme) → IsPlaced p items → length (joined items) + 1 < 2 ^ 64 → FirstFits p
 first_fits (First at new) items placed fits =

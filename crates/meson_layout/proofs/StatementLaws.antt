@@ -12,7 +12,8 @@ use Rattle.meson_lex.specs.Significant.{Word, Role, Gap, Ends, Opens, Closes, Ot
 use Rattle.meson_lex.proofs.Seams.{joined-append}
 use Rattle.meson_layout.specs.Looks as look
 use Rattle.meson_lex.specs.Words.{IsTight}
-use Rattle.meson_layout.specs.Pieces.{Piece, old_items, new_items, splices, line_feed}
+use Rattle.meson_layout.specs.Pieces.{Piece, splices, line_feed}
+use Rattle.meson_layout.specs.inside.Pieces.{old_items, new_items}
 use Rattle.meson_layout.specs.Layout.{Parts}
 use Rattle.meson_layout.specs.Statements.{at_line_start, statement_gone, statement_removed}
 use Rattle.meson_layout.specs.FileLaws.{line_start, behind_token, StatementIn, EditedFile, IsItsLineEnd, StatementCut, StatementRemovalLaw}

@@ -1,5 +1,5 @@
 -- The splices of an edit, by the items of the source.
-use Rattle.std.specs.Prelude.{◌≡◌, ℕ, suc, ◌+◌, ◌-◌, ◌<◌, ◌^◌, ◌==◌, List, [], ◌∷◌, ◌++◌, length, take, drop, if◌then◌else◌}
+use Rattle.std.specs.Prelude.{◌≡◌, ℕ, suc, ◌+◌, ◌-◌, ◌==◌, List, [], ◌∷◌, ◌++◌, length, take, drop, if◌then◌else◌}
 use Rattle.meson_lex.specs.declared.kinds.Span.{Span}
 use Rattle.meson_lex.specs.Items.{Lexeme, joined, IsItemList}
 use Rattle.meson_lex.specs.Significant.{Opens, role}
@@ -58,13 +58,6 @@ pieces (Append new) items = appended items (as_one new)
 abbrev pub layout_of : List ℕ → List Lexeme → Primitive → List Splice
 layout_of file items primitive = splices file 0 (pieces primitive items)
 
--- The layout looks at no item that begins at this offset or behind it.
-abbrev pub end_of_look : Primitive → ℕ
-end_of_look (First bracket new) = bracket + 1
-end_of_look (Replace value new) = value.to
-end_of_look (Wrap value) = value.to
-end_of_look _ = 2 ^ 64 - 1
-
 -- ---- conditions
 
 -- the span begins and ends at borders of the items, and is not empty
@@ -100,8 +93,3 @@ pub record IsReady (source : List ℕ) (primitive : Primitive) : Type 0 where
   pub items : List Lexeme
   pub are_items : IsItemList source items
   pub placed : IsPlaced primitive items
-
--- the offset behind an opening bracket fits
-abbrev pub FirstFits : Primitive → Type 0
-FirstFits (First bracket new) = bracket + 1 < 2 ^ 64
-FirstFits _ = Unit {0}

@@ -1,5 +1,5 @@
 -- What an edit does to the items of a text, from left to right, and the splices that do it.
-use Rattle.std.specs.Prelude.{ℕ, ◌+◌, List, [], ◌∷◌, ◌++◌, length}
+use Rattle.std.specs.Prelude.{ℕ, ◌+◌, List, [], ◌∷◌, length}
 use Rattle.meson_lex.specs.declared.kinds.Kind.TheVariants.{Blank, Comma, Identifier, LineEnd, OpenSquare, CloseSquare}
 use Rattle.meson_lex.specs.Items.{Lexeme, joined}
 use Rattle.meson_splice.specs.declared.splice.Splice.{Splice}
@@ -8,16 +8,6 @@ use Rattle.meson_splice.specs.declared.splice.Splice.{Splice}
 pub data Piece : Type 0 where
   Keep : List Lexeme → Piece
   Change : List Lexeme → List Lexeme → Piece
-
-abbrev pub old_items : List Piece → List Lexeme
-old_items [] = []
-old_items (Keep xs ∷ ps) = xs ++ old_items ps
-old_items (Change was now ∷ ps) = was ++ old_items ps
-
-abbrev pub new_items : List Piece → List Lexeme
-new_items [] = []
-new_items (Keep xs ∷ ps) = xs ++ new_items ps
-new_items (Change was now ∷ ps) = now ++ new_items ps
 
 -- One splice for each change, where the first piece begins at the offset. Each splice's offset counts in the text that the ones before it left.
 abbrev pub splices : List ℕ → ℕ → List Piece → List Splice

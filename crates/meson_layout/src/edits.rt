@@ -3,7 +3,8 @@
 ghost use Rattle.std.specs.Prelude.{◌≡◌, ◌+◌, ◌<◌, ◌≤◌, ◌^◌, ◌++◌, ◌∷◌, [], IfErr, IfOk, List, drop, length, take};
 ghost use Rattle.meson_lex.specs.Items.{IsItemList, joined};
 ghost use Rattle.meson_lex.specs.Items.{Lexeme};
-ghost use Rattle.meson_layout.specs.Layout.{FirstFits, IsReady, before_len, end_of_look, layout_of, split_at_span, replaced, wrapped};
+ghost use Rattle.meson_layout.specs.Layout.{IsReady, before_len, layout_of, split_at_span, replaced, wrapped};
+ghost use Rattle.meson_layout.specs.inside.Layout.{FirstFits, end_of_look};
 ghost use Rattle.meson_layout.specs.Insertion.{first};
 ghost use Rattle.meson_layout.specs.Pieces.{as_one, splices};
 ghost use Rattle.meson_layout.specs.inside.Places.{PlaceFits, at_place};

@@ -3,7 +3,8 @@ use Rattle.std.proofs.Common.{◌≡◌, ℕ, List, Option, None, false, refl}
 use Rattle.meson_command.specs.declared.asked.Action.{Action}
 use Rattle.meson_command.specs.declared.asked.Action.TheVariants as action
 use Rattle.meson_store.specs.Content.{Content}
-use Rattle.meson_rewrite.specs.Requests.{AsksFor, names_file}
+use Rattle.meson_rewrite.specs.Requests.{AsksFor}
+use Rattle.meson_rewrite.specs.inside.Requests.{names_file}
 use Rattle.meson_rewrite.specs.declared.request.ProgramRequest.{ProgramRequest}
 
 pub names-none : (a : Action) → ((name : List ℕ) → a ≡ action.ScriptFile name → ⊥) → ((count : ℕ) (name : List ℕ) → a ≡ action.UndoChecked count name → ⊥) → names_file a ≡ false

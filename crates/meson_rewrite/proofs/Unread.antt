@@ -23,7 +23,8 @@ use Rattle.meson_store.specs.declared.store_fault.StoreFault.{StoreFault}
 use Rattle.meson_gathering.specs.ReadCounts.{unread_file, unread_name}
 use Rattle.meson_gathering.specs.declared.fault.GatherFault.{GatherFault}
 use Rattle.meson_gathering.specs.declared.fault.GatherFault.TheVariants as gather
-use Rattle.meson_rewrite.specs.Requests.{AsksForNone, IsBad, names_file}
+use Rattle.meson_rewrite.specs.Requests.{AsksForNone, IsBad}
+use Rattle.meson_rewrite.specs.inside.Requests.{names_file}
 use Rattle.meson_rewrite.specs.Steps.{MayRefuseStep, StopsRun, StopsStep, StopsStepsBack}
 use Rattle.meson_rewrite.specs.StoreReads.{unread_in}
 use Rattle.meson_rewrite.specs.Stops.{WantsMemory, gathering_stop, undo_stop, unread_by}

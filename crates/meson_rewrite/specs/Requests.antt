@@ -1,5 +1,5 @@
 -- What the words ask for, and the file that they name.
-use Rattle.std.specs.Prelude.{◌≡◌, ◌⊎◌, ⊤, Bool, true, false, ℕ, List, [], ◌∷◌, if◌then◌else◌, Option, Some, None, Result, Ok, Err}
+use Rattle.std.specs.Prelude.{◌≡◌, ◌⊎◌, Bool, true, false, ℕ, List, [], ◌∷◌, Option, Some, None, Result, Ok, Err, if◌then◌else◌}
 use Rattle.std.specs.FinMap.{get}
 use Rattle.std.specs.Str.{is_utf8}
 use Rattle.serde_json.specs.Read.{read}
@@ -14,7 +14,6 @@ use Rattle.meson_store.specs.Content.{Content, Rose}
 use Rattle.meson_store.specs.declared.store_fault.StoreFault.TheVariants as store
 use Rattle.meson_gathering.specs.Gathering.{Told}
 use Rattle.meson_rewrite.specs.Lines.{version_line}
-use Rattle.meson_rewrite.specs.Steps.{IsTitled}
 use Rattle.meson_rewrite.specs.declared.request.NamedFile.{NamedFile}
 use Rattle.meson_rewrite.specs.declared.request.ProgramRequest.{ProgramRequest}
 use Rattle.meson_rewrite.specs.declared.request.Listing.TheVariants as listing
@@ -75,12 +74,6 @@ only_asks (action.List json) = true
 only_asks action.Sums = true
 only_asks a = only_shows a
 
--- a file is read for it: a script, or digests
-abbrev pub names_file : Action → Bool
-names_file (action.ScriptFile name) = true
-names_file (action.UndoChecked count name) = true
-names_file _ = false
-
 -- ---- the step that an action asks for, a run with this title, and that it is one
 
 abbrev pub AsksFor : List ℕ → Action → Option Content → ProgramRequest → Type 0
@@ -100,12 +93,6 @@ AsksFor title (action.List json) held r = r ≡ request.List (listing.Holdings j
 AsksFor title action.Sums held r = r ≡ request.List listing.Sums
 AsksFor title (action.Help text) held r = r ≡ request.Show text
 AsksFor title action.Version held r = r ≡ request.Show version_line
-
--- a run that is asked for has a title
-abbrev pub StepsTitled : ProgramRequest → Type 0
-StepsTitled (request.Step step) = IsTitled step
-StepsTitled (request.List what) = ⊤
-StepsTitled (request.Show text) = ⊤
 
 -- ---- why there is none, want of memory aside
 

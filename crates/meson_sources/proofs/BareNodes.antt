@@ -2,7 +2,8 @@
 use Rattle.std.specs.Prelude.{option_and_then, option_map}
 use Rattle.std.proofs.Common.{◌≡◌, ℕ, List, [], ◌∷◌, ◌++◌, map, Option, Some, None, refl, sym, ap, ap₂, ◌∙◌}
 use Rattle.std.proofs.lemmas.List.{map-append}
-use Rattle.meson_syntax.specs.Children.{Any, an_expression, a_statement, a_block, child_nodes, node_at, argument_parts, arguments_parts, listing_parts, operands_parts, tail_parts, tails_parts, branches_parts, otherwise_parts, statements_parts}
+use Rattle.meson_syntax.specs.Children.{Any, an_expression, a_statement, a_block, argument_parts, arguments_parts, listing_parts, tail_parts, branches_parts}
+use Rattle.meson_syntax.specs.inside.Children.{child_nodes, node_at, operands_parts, tails_parts, otherwise_parts, statements_parts}
 use Rattle.meson_syntax.specs.Paths.{block_of, nth}
 use Rattle.meson_syntax.specs.Tree.{Nowhere, array, dictionary, call, row, postfix, Operands, no_operands, operand, Tail, method, index, Tails, no_tails, tail, Listing, listing, Argument, plain, named, pair, Arguments, no_arguments, argument, selection, Branches, no_branches, branch, Otherwise, nothing_else, otherwise, Statements, no_statements, statement, block, File, file, erase, erase_argument, erase_arguments, erase_block, erase_branches, erase_expression, erase_listing, erase_operands, erase_otherwise, erase_statement, erase_statements, erase_tail, erase_tails}
 use Rattle.meson_edit.proofs.paths.Mapped.{nth_map}

@@ -4,7 +4,8 @@ use Rattle.std.proofs.Common.{◌≡◌, ℕ, zero, suc, Bool, true, false, List
 use Rattle.meson_lex.specs.declared.kinds.Span.{Span}
 use Rattle.meson_splice.specs.declared.file_set.File.{File}
 use Rattle.meson_syntax.specs.declared.tree.Parsed.{Parsed}
-use Rattle.meson_syntax.specs.Children.{an_expression, a_block, node_at}
+use Rattle.meson_syntax.specs.Children.{an_expression, a_block}
+use Rattle.meson_syntax.specs.inside.Children.{node_at}
 use Rattle.meson_syntax.specs.Paths.{nth, block_of, expression_on_path}
 use Rattle.meson_syntax.specs.Tree.{Nowhere, Plain, Name, Expression, call, listing, Arguments, erase, erase_arguments, erase_expression, erase_name}
 use Rattle.meson_syntax.specs.View.{view}

@@ -7,7 +7,8 @@ use Rattle.meson_syntax.specs.declared.operator.Assignment.TheVariants as assign
 use Rattle.meson_syntax.specs.declared.operator.StringKind.{StringKind}
 use Rattle.meson_syntax.specs.Grammar.{LevelExpression}
 use Rattle.meson_syntax.specs.Operators.{string_kind}
-use Rattle.meson_syntax.specs.Children.{an_expression, a_statement, child_nodes}
+use Rattle.meson_syntax.specs.Children.{an_expression, a_statement}
+use Rattle.meson_syntax.specs.inside.Children.{child_nodes}
 use Rattle.meson_syntax.specs.Paths.{nth}
 use Rattle.meson_syntax.specs.Tree.{Nowhere, Plain, Name, Expression, string, call, assign, listing, plain, named, pair, Arguments, no_arguments, argument, erase_expression}
 use Rattle.meson_syntax.proofs.paths.Every.{Every}

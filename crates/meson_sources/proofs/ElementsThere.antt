@@ -4,7 +4,8 @@ use Rattle.std.proofs.Common.{◌≡◌, ℕ, List, Option, Some, None, refl, sy
 use Rattle.meson_syntax.specs.Tree.{Nowhere, Plain, string, Listing, Argument, plain}
 use Rattle.meson_syntax.specs.declared.operator.StringKind.{StringKind}
 use Rattle.meson_syntax.specs.Paths.{ListIn, list_in, ListAt, list_at, nth, block_of}
-use Rattle.meson_syntax.specs.Children.{Any, an_expression, a_statement, a_block, expression_any, node_at}
+use Rattle.meson_syntax.specs.Children.{Any, an_expression, a_statement, a_block}
+use Rattle.meson_syntax.specs.inside.Children.{expression_any, node_at}
 use Rattle.meson_syntax.proofs.paths.Reaching.{and-then-some}
 use Rattle.meson_syntax.proofs.PathNodes.{expression-reached, list-reached}
 use Rattle.meson_edit.specs.Edits.{elements}

@@ -4,7 +4,8 @@ use Rattle.std.proofs.Common.{◌≡◌, ℕ, List, Option, Some, None, refl, sy
 use Rattle.meson_lex.specs.declared.kinds.Span.{Span}
 use Rattle.meson_lex.specs.Significant.{Word}
 use Rattle.meson_edit.specs.Holes.{words_around, erase_front, WordsAround}
-use Rattle.meson_syntax.specs.Children.{Any, an_expression, a_statement, a_block, expression_any, node_at}
+use Rattle.meson_syntax.specs.Children.{Any, an_expression, a_statement, a_block}
+use Rattle.meson_syntax.specs.inside.Children.{expression_any, node_at}
 use Rattle.meson_syntax.specs.Paths.{Sort, of_expression, of_statement, of_block, Node, Hole, reach, block_of, expression_of, expression_on_path}
 use Rattle.meson_syntax.specs.Tree.{Nowhere, Expression, Block, File, erase, erase_expression}
 use Rattle.meson_syntax.proofs.PathNodes.{expression-reached}

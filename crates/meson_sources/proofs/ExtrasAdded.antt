@@ -22,7 +22,7 @@ use Rattle.meson_calls.specs.Project.{Project, Placed}
 use Rattle.meson_variables.specs.TargetSources.{or_option, first_list, first_empty}
 use Rattle.meson_sources.specs.SourceEdits.{extra_key, checked_extra, extra_added, extra_inserted, without_home, into_new_list, behind_value, insertion_steps, inserted_in, plain_len, elements_there, new_names}
 use Rattle.meson_variables.specs.Tallies.{Tally}
-use Rattle.meson_sources.specs.Targeted.{extra_gathered, lone_or_new, new_list_steps}
+use Rattle.meson_sources.specs.inside.Targeted.{extra_gathered, lone_or_new, new_list_steps}
 use Rattle.meson_steps.specs.Meanings.{AreMeant, AreBehind}
 use Rattle.meson_calls.proofs.KeywordArguments.{keyword_is}
 use Rattle.meson_calls.proofs.FirstValue.{value_is}

@@ -19,7 +19,7 @@ use Rattle.meson_sources.specs.SourceEdits.{extra_key, extra_marks, checked_extr
 use Rattle.meson_steps.specs.Names.{checked_names, distinct}
 use Rattle.meson_steps.specs.Steps.{Step}
 use Rattle.meson_variables.specs.Tallies.{Tally, all_marked, no_marks}
-use Rattle.meson_sources.specs.Targeted.{extra_gathered}
+use Rattle.meson_sources.specs.inside.Targeted.{extra_gathered}
 use Rattle.meson_steps.specs.Meanings.{AreMeant}
 use Rattle.meson_calls.proofs.KeywordArguments.{keyword_is}
 use Rattle.meson_variables.proofs.Answered.{arguments_are}

@@ -16,7 +16,7 @@ use Rattle.meson_variables.specs.TargetSources.{sources_of_marks, first_empty, f
 use Rattle.meson_variables.specs.Tallies.{Tally}
 use Rattle.meson_sources.specs.Extras.{extra_of_call}
 use Rattle.meson_sources.specs.SourceEdits.{extra_key, extra_marks}
-use Rattle.meson_sources.specs.Targeted.{extra_gathered}
+use Rattle.meson_sources.specs.inside.Targeted.{extra_gathered}
 use Rattle.meson_calls.proofs.KeywordArguments.{keyword_is}
 use Rattle.meson_sources.proofs.ExtrasMeant.{extra_fields}
 use Rattle.meson_sources.proofs.Marked.{Told}

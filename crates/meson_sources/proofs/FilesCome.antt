@@ -2,7 +2,8 @@
 use Rattle.std.specs.Prelude.{All}
 use Rattle.std.proofs.Common.{◌≡◌, ℕ, ◌≤◌, Bool, true, false, List, [], ◌∷◌, ◌++◌, length, Some, refl, ◌∙◌, subst, inl, IsUtf8}
 use Rattle.meson_syntax.specs.declared.operator.Bracket.TheVariants as bracket
-use Rattle.meson_syntax.specs.Children.{Any, an_expression, a_block, node_at}
+use Rattle.meson_syntax.specs.Children.{Any, an_expression, a_block}
+use Rattle.meson_syntax.specs.inside.Children.{node_at}
 use Rattle.meson_syntax.specs.Paths.{block_of}
 use Rattle.meson_syntax.specs.Tree.{Nowhere, Name, Expression, array, call, dictionary, Listing, listing, Argument, arguments_of}
 use Rattle.meson_syntax.proofs.paths.Every.{Every}

@@ -2,7 +2,8 @@
 use Rattle.std.specs.Prelude.{◌⊎◌, ◌&&◌}
 use Rattle.std.proofs.Common.{◌≡◌, ℕ, zero, suc, Bool, true, false, List, [], ◌∷◌, Some, None, refl, sym, ap, ap₂, ◌∙◌, subst, inl, inr}
 use Rattle.meson_syntax.specs.Grammar.{LevelExpression}
-use Rattle.meson_syntax.specs.Children.{Any, an_expression, operands_parts}
+use Rattle.meson_syntax.specs.Children.{Any, an_expression}
+use Rattle.meson_syntax.specs.inside.Children.{operands_parts}
 use Rattle.meson_syntax.specs.Tree.{Nowhere, Expression, identifier, string, array, call, row}
 use Rattle.meson_calls.specs.declared.call.CallRef.{CallRef}
 use Rattle.meson_variables.specs.Expansion.{Mark, opaque, Expansion, Stand, met, are_plus, is_operand_by, is_value_by, is_single_by, max_followed, expand_by, follow_single, of_variable}

@@ -6,6 +6,7 @@ use Rattle.meson_lex.specs.declared.kinds.Span.{Span}
 use Rattle.meson_syntax.specs.declared.operator.Assignment.TheVariants as assignment
 use Rattle.meson_syntax.specs.Tree.{Name, Expression, Statement, assign}
 use Rattle.meson_syntax.specs.Children as syntax
+use Rattle.meson_syntax.specs.inside.Children as tree_nodes
 use Rattle.meson_syntax.specs.Paths.{block_of}
 use Rattle.meson_syntax.proofs.parsing.Steps.{some-injective}
 use Rattle.meson_syntax.proofs.paths.Every.{Every}
@@ -186,7 +187,7 @@ pub record SetAt (p : Project Span) (id : List ℕ) (at : CallRef) : Type 0 wher
   pub s : Span
   pub name : Name Span
   pub value : Expression Span
-  pub is_node : syntax.node_at (syntax.a_block (block_of file.tree)) at.path.steps ≡ Some (syntax.a_statement (assign s name assignment.Set value))
+  pub is_node : tree_nodes.node_at (syntax.a_block (block_of file.tree)) at.path.steps ≡ Some (syntax.a_statement (assign s name assignment.Set value))
   pub is_name : bytes_eq name.text id ≡ true
 
 module _ (p : Project Span) (id : List ℕ) where
@@ -270,7 +271,7 @@ pub record Names (p : Project Span) (id : List ℕ) (d : CallRef) (call : Call S
 
 module _ (p q : Project Span) (tells : told (parts q) ≡ told (parts p)) (id : List ℕ) (c : Placed (Call Span)) (found : the_call p role.Target id ≡ Ok c) (is_one : has_role role.Target c.it ≡ true)
     (d : CallRef) (value : Expression Span) (file : BuildFile Span) (is_file : nth_file q d.file ≡ Some file)
-    (is_node : syntax.node_at (syntax.a_block (block_of file.tree)) d.path.steps ≡ Some (syntax.an_expression value)) (own_is : tell_call (call_of value) ≡ tell_call (Some c.it))
+    (is_node : tree_nodes.node_at (syntax.a_block (block_of file.tree)) d.path.steps ≡ Some (syntax.an_expression value)) (own_is : tell_call (call_of value) ≡ tell_call (Some c.it))
     (sets : (at : CallRef) → c.place ≡ child at 0 → SetAt p id at → (b : CallRef) × (d ≡ child b 0) × SetAt q id b) where
   pub again : Names q id d c.it
   again =
@@ -290,7 +291,7 @@ module _ (p q : Project Span) (tells : told (parts q) ≡ told (parts p)) (id : 
         first = k.first;
       }
     where
-      in_parts : (at : CallRef) (y : Part Span) (g : BuildFile Span) → nth_file q at.file ≡ Some g → syntax.node_at (syntax.a_block (block_of g.tree)) at.path.steps ≡ Some (any y) → In (placed at y) (parts q)
+      in_parts : (at : CallRef) (y : Part Span) (g : BuildFile Span) → nth_file q at.file ≡ Some g → tree_nodes.node_at (syntax.a_block (block_of g.tree)) at.path.steps ≡ Some (any y) → In (placed at y) (parts q)
       in_parts at y g is_g node =
           let z : 0 + at.file ≡ at.file = omega arith in
           contained (parts q) (placed at y) (subst (λ m. Contains (parts q) (placed (place m at.path.steps) y)) z (all_has 0 at.file q g at.path.steps y is_g node))
@@ -306,8 +307,8 @@ module _ (p q : Project Span) (tells : told (parts q) ≡ told (parts p)) (id : 
           let same_file : set.file ≡ file = some-injective _ _ (sym set.is_file ∙ ap (nth_file q) (sym (ap (λ (x : CallRef). x.file) w.1)) ∙ is_file) in
           let nodes : syntax.an_expression set.value ≡ syntax.an_expression value =
           some-injective _ _ (sym (node_between w.0.path.steps (0 ∷ []) (syntax.a_block (block_of set.file.tree)) _ set.is_node)
-          ∙ ap (λ (g : BuildFile Span). syntax.node_at (syntax.a_block (block_of g.tree)) (child w.0 0).path.steps) same_file
-          ∙ ap (syntax.node_at (syntax.a_block (block_of file.tree))) (sym (ap (λ (x : CallRef). x.path.steps) w.1)) ∙ is_node) in
+          ∙ ap (λ (g : BuildFile Span). tree_nodes.node_at (syntax.a_block (block_of g.tree)) (child w.0 0).path.steps) same_file
+          ∙ ap (tree_nodes.node_at (syntax.a_block (block_of file.tree))) (sym (ap (λ (x : CallRef). x.path.steps) w.1)) ∙ is_node) in
           let same_value : set.value ≡ value = cc in
           in_chosen (with_role role.Target) d k k with_its_role _
           (in_chosen call_of d value k is_k _ (subst (λ (x : CallRef). In (placed x value) (map value_of_assignment (all_chosen (part_set_to id) (parts q)))) (sym w.1)

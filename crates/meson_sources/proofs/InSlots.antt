@@ -5,7 +5,8 @@ use Rattle.meson_lex.specs.declared.kinds.Span.{Span}
 use Rattle.meson_syntax.specs.declared.operator.StringKind.{StringKind}
 use Rattle.meson_syntax.specs.Operators.{holds_values}
 use Rattle.meson_syntax.specs.Paths.{ListIn, list_in, nth}
-use Rattle.meson_syntax.specs.Children.{an_expression, operands_parts}
+use Rattle.meson_syntax.specs.Children.{an_expression}
+use Rattle.meson_syntax.specs.inside.Children.{operands_parts}
 use Rattle.meson_syntax.specs.Tree.{Expression, string, row, Operands, no_operands, operand, Argument, plain, Arguments, argument, argument_list}
 use Rattle.meson_edit.specs.Edits.{elements}
 use Rattle.meson_calls.specs.declared.call.CallRef.{CallRef}

@@ -8,7 +8,8 @@ use Rattle.meson_syntax.specs.declared.operator.Bracket.TheVariants as bracket
 use Rattle.meson_syntax.specs.declared.operator.StringKind.{StringKind}
 use Rattle.meson_syntax.specs.Grammar.{LevelExpression, LevelListing, LevelArguments, LevelOperands}
 use Rattle.meson_syntax.specs.Operators.{holds_pairs, string_kind}
-use Rattle.meson_syntax.specs.Children.{an_expression, arguments_parts, child_nodes, listing_parts, node_at, operands_parts}
+use Rattle.meson_syntax.specs.Children.{an_expression, arguments_parts, listing_parts}
+use Rattle.meson_syntax.specs.inside.Children.{child_nodes, node_at, operands_parts}
 use Rattle.meson_syntax.specs.Paths.{nth}
 use Rattle.meson_syntax.specs.Tree.{Nowhere, Plain, Name, Expression, identifier, string, array, call, row, Operands, no_operands, operand, Listing, listing, Argument, plain, named, pair, Arguments, no_arguments, argument, argument_list, is_named}
 use Rattle.meson_syntax.proofs.paths.Every.{Every, every-append}

@@ -3,7 +3,8 @@ use Rattle.std.specs.Prelude.{◌⊎◌, All, option_map}
 use Rattle.std.proofs.Common.{◌≡◌, ℕ, zero, suc, Bool, List, [], ◌∷◌, ◌++◌, Option, Some, None, refl, sym, ap, ◌∙◌, subst, inl, inr}
 use Rattle.meson_lex.specs.declared.kinds.Span.{Span}
 use Rattle.meson_syntax.specs.Grammar.{LevelExpression, LevelFile}
-use Rattle.meson_syntax.specs.Children.{Any, an_expression, a_block, child_nodes, node_at, expression_any}
+use Rattle.meson_syntax.specs.Children.{Any, an_expression, a_block}
+use Rattle.meson_syntax.specs.inside.Children.{child_nodes, node_at, expression_any}
 use Rattle.meson_syntax.specs.Paths.{Sort, of_expression, of_statement, of_block, Node, nth, block_of, reach, expression_of, expression_on_path}
 use Rattle.meson_syntax.specs.Tree.{Nowhere, Plain, Expression, file, erase_expression}
 use Rattle.meson_syntax.specs.Tree as tree

@@ -5,7 +5,8 @@ use Rattle.meson_syntax.specs.declared.operator.Bracket.{Bracket}
 use Rattle.meson_syntax.specs.Operators.{holds_pairs}
 use Rattle.meson_syntax.specs.Tree.{Nowhere, array, dictionary, call, Listing, listing, Argument, arguments_of, argument_list}
 use Rattle.meson_syntax.specs.Grammar.{LevelListing}
-use Rattle.meson_syntax.specs.Children.{Any, an_expression, a_statement, a_block, arguments_parts, listing_parts, child_nodes}
+use Rattle.meson_syntax.specs.Children.{Any, an_expression, a_statement, a_block, arguments_parts, listing_parts}
+use Rattle.meson_syntax.specs.inside.Children.{child_nodes}
 use Rattle.meson_syntax.proofs.parsing.Complete.{list-of-arguments}
 use Rattle.meson_syntax.proofs.parsing.Steps.{some-injective}
 use Rattle.meson_syntax.proofs.paths.Every.{Every}

@@ -7,7 +7,8 @@ use Rattle.meson_syntax.specs.declared.operator.Bracket.{Bracket}
 use Rattle.meson_syntax.specs.declared.operator.Bracket.TheVariants as bracket
 use Rattle.meson_syntax.specs.Grammar.{LevelArguments}
 use Rattle.meson_syntax.specs.Operators.{holds_names, holds_pairs, holds_values}
-use Rattle.meson_syntax.specs.Children.{Any, an_expression, a_block, arguments_parts, node_at}
+use Rattle.meson_syntax.specs.Children.{Any, an_expression, a_block, arguments_parts}
+use Rattle.meson_syntax.specs.inside.Children.{node_at}
 use Rattle.meson_syntax.specs.Paths.{ListAt, ListIn, block_of, list_at, list_in, nth}
 use Rattle.meson_syntax.specs.Tree.{Nowhere, Plain, Name, Expression, array, dictionary, call, Listing, listing, Argument, plain, named, pair, arguments_of, erase}
 use Rattle.meson_syntax.proofs.parsing.Complete.{list-of-arguments}

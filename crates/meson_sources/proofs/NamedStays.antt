@@ -4,7 +4,8 @@ use Rattle.std.proofs.Common.{◌≡◌, ℕ, Bool, true, false, List, [], ◌�
 use Rattle.std.proofs.lemmas.Bool.{eqb-true, eq-eqb}
 use Rattle.meson_lex.specs.declared.kinds.Span.{Span}
 use Rattle.meson_syntax.specs.declared.operator.Assignment.TheVariants as assignment
-use Rattle.meson_syntax.specs.Children.{Any, an_expression, a_statement, a_block, node_at}
+use Rattle.meson_syntax.specs.Children.{Any, an_expression, a_statement, a_block}
+use Rattle.meson_syntax.specs.inside.Children.{node_at}
 use Rattle.meson_syntax.specs.Paths.{block_of, nth}
 use Rattle.meson_syntax.specs.Tree.{Nowhere, Plain, Name, Expression, assign, erase_expression}
 use Rattle.meson_syntax.proofs.parsing.Steps.{some-injective}

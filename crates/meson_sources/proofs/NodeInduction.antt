@@ -1,6 +1,7 @@
 -- What holds of a node at a place where it holds of its children holds of every node.
 use Rattle.std.proofs.Common.{◌≡◌, ℕ, suc, ◌+◌, List, length, Some, arith}
-use Rattle.meson_syntax.specs.Children.{an_expression, a_statement, a_block, arguments_parts, branches_parts, child_nodes, listing_parts, operands_parts, otherwise_parts, statements_parts, tail_parts, tails_parts}
+use Rattle.meson_syntax.specs.Children.{an_expression, a_statement, a_block, arguments_parts, branches_parts, listing_parts, tail_parts}
+use Rattle.meson_syntax.specs.inside.Children.{child_nodes, operands_parts, otherwise_parts, statements_parts, tails_parts}
 use Rattle.meson_syntax.specs.Paths.{nth}
 use Rattle.meson_syntax.specs.Tree.{Nowhere, Expression, identifier, boolean, integer, string, paren, array, dictionary, call, unary, row, postfix, conditional, Operands, no_operands, operand, Tail, method, index, Tails, no_tails, tail, Listing, listing, plain, named, pair, Arguments, no_arguments, argument, Statement, evaluate, assign, selection, iteration, breaks, continues, Branches, no_branches, branch, Otherwise, nothing_else, otherwise, Statements, no_statements, statement, Block, block}
 use Rattle.meson_edit.proofs.paths.Positions.{EveryAt, every-at-append, every-at-nth}

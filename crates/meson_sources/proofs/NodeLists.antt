@@ -3,7 +3,8 @@ use Rattle.std.specs.Prelude.{option_map, option_and_then}
 use Rattle.std.proofs.Common.{ℕ, List, Option, None}
 use Rattle.meson_syntax.specs.Tree.{Nowhere, Listing, Argument}
 use Rattle.meson_syntax.specs.Paths.{nth, list_in, ListIn}
-use Rattle.meson_syntax.specs.Children.{Any, an_expression, a_statement, a_block, node_at}
+use Rattle.meson_syntax.specs.Children.{Any, an_expression, a_statement, a_block}
+use Rattle.meson_syntax.specs.inside.Children.{node_at}
 use Rattle.meson_edit.specs.Edits.{elements}
 
 abbrev pub Node : Type 0

@@ -3,7 +3,8 @@ use Rattle.std.specs.Prelude.{All, option_and_then, option_map}
 use Rattle.std.proofs.Common.{◌≡◌, ℕ, zero, suc, Bool, true, false, List, [], ◌∷◌, ◌++◌, append-nil, map, Some, None, refl, sym, ap, ap₂, ◌∙◌, subst, inl, inr}
 use Rattle.meson_syntax.specs.declared.operator.Bracket.TheVariants as bracket
 use Rattle.meson_syntax.specs.Grammar.{LevelListing}
-use Rattle.meson_syntax.specs.Children.{an_expression, child_nodes, node_at}
+use Rattle.meson_syntax.specs.Children.{an_expression}
+use Rattle.meson_syntax.specs.inside.Children.{child_nodes, node_at}
 use Rattle.meson_syntax.specs.Paths.{nth}
 use Rattle.meson_syntax.specs.Tree.{Nowhere, Plain, Expression, array, dictionary, call, string, Listing, listing, Argument, file, named, pair, plain}
 use Rattle.meson_syntax.proofs.parsing.Steps.{some-injective}

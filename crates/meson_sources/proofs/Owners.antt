@@ -3,7 +3,8 @@ use Rattle.std.specs.Prelude.{not, ◌&&◌, if◌then◌else◌, bytes_eq, opti
 use Rattle.std.proofs.Common.{◌≡◌, ℕ, zero, suc, ◌+◌, Bool, true, false, List, [], ◌∷◌, ◌++◌, Option, Some, None, refl, sym, ap, ◌∙◌, subst, arith}
 use Rattle.meson_lex.specs.declared.kinds.Span.{Span}
 use Rattle.meson_syntax.specs.declared.operator.Assignment.{Assignment}
-use Rattle.meson_syntax.specs.Children.{Any, an_expression, a_statement, a_block, child_nodes, node_at, arguments_parts, operands_parts, tail_parts, tails_parts, expression_parts}
+use Rattle.meson_syntax.specs.Children.{Any, an_expression, a_statement, a_block, arguments_parts, tail_parts}
+use Rattle.meson_syntax.specs.inside.Children.{child_nodes, node_at, operands_parts, tails_parts, expression_parts}
 use Rattle.meson_syntax.specs.Paths.{nth, block_of}
 use Rattle.meson_syntax.specs.Tree.{Name, Expression, paren, array, dictionary, call, unary, row, postfix, conditional, Operands, no_operands, operand, Tail, method, index, Tails, no_tails, tail, listing, plain, named, pair, Arguments, no_arguments, argument, Statement, evaluate, assign, selection, iteration, breaks, continues}
 use Rattle.meson_syntax.proofs.parsing.Steps.{some-injective}

@@ -6,7 +6,8 @@ use Rattle.meson_syntax.specs.declared.operator.Bracket.TheVariants as bracket
 use Rattle.meson_syntax.specs.declared.operator.Operator.{Operator}
 use Rattle.meson_syntax.specs.Grammar.{LevelExpression, LevelOperands, LevelArguments}
 use Rattle.meson_syntax.specs.Operators.{holds_pairs}
-use Rattle.meson_syntax.specs.Children.{Any, an_expression, arguments_parts, operands_parts, expression_parts}
+use Rattle.meson_syntax.specs.Children.{Any, an_expression, arguments_parts}
+use Rattle.meson_syntax.specs.inside.Children.{operands_parts, expression_parts}
 use Rattle.meson_syntax.specs.Tree.{Nowhere, Expression, identifier, string, array, call, row, Operands, no_operands, operand, Listing, listing, Argument, plain, named, pair, is_named, Arguments, no_arguments, argument}
 use Rattle.meson_calls.specs.declared.call.CallRef.{CallRef}
 use Rattle.meson_variables.specs.Expansion.{opaque, Expansion, Stand, met, element, operand_at, is_files, has_names, is_plus, are_plus, is_operand_by, expand_by, expand_operands, expand_each}

@@ -2,7 +2,8 @@
 use Rattle.std.proofs.Common.{◌≡◌, ℕ, true, false, List, [], ◌∷◌, ◌++◌, append-nil, append_assoc, Option, Some, None, refl, sym, ap, ap₂, ◌∙◌, subst}
 use Rattle.std.proofs.lemmas.Slice.Eq.{bytes_eq-Decides}
 use Rattle.meson_lex.specs.declared.kinds.Span.{Span}
-use Rattle.meson_syntax.specs.Children.{Any, an_expression, a_block, node_at}
+use Rattle.meson_syntax.specs.Children.{Any, an_expression, a_block}
+use Rattle.meson_syntax.specs.inside.Children.{node_at}
 use Rattle.meson_syntax.specs.Paths.{block_of}
 use Rattle.meson_syntax.specs.Paths as paths
 use Rattle.meson_syntax.specs.Tree.{Expression, call, listing}

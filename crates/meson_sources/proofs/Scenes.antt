@@ -4,7 +4,8 @@ use Rattle.std.proofs.Common.{◌≡◌, ℕ, suc, ◌+◌, Bool, true, false, L
 use Rattle.std.proofs.lemmas.Bool.{eqb-true, eq-eqb}
 use Rattle.meson_lex.specs.declared.kinds.Span.{Span}
 use Rattle.meson_splice.specs.declared.file_set.File.{File}
-use Rattle.meson_syntax.specs.Children.{Any, an_expression, a_block, child_nodes, node_at}
+use Rattle.meson_syntax.specs.Children.{Any, an_expression, a_block}
+use Rattle.meson_syntax.specs.inside.Children.{child_nodes, node_at}
 use Rattle.meson_syntax.specs.Paths.{nth, block_of}
 use Rattle.meson_syntax.specs.Paths as paths
 use Rattle.meson_syntax.specs.Tree.{Nowhere, Plain, Expression, file, erase, erase_expression}

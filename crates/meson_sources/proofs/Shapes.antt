@@ -11,7 +11,8 @@ use Rattle.meson_syntax.specs.Operators.{opens, closes}
 use Rattle.meson_syntax.specs.Grammar.{mark, comma_words, argument_words, arguments_words, expression_words, operator_words, otherwise_words, branches_words}
 use Rattle.meson_syntax.specs.Tree.{Nowhere, Plain, Name, Expression, boolean, identifier, integer, string, paren, array, dictionary, call, unary, row, postfix, conditional, Operands, no_operands, operand, Listing, listing, Argument, plain, named, pair, Arguments, no_arguments, argument, Statement, evaluate, assign, selection, iteration, breaks, continues, Block, file}
 use Rattle.meson_syntax.specs.Paths.{Sort, of_expression, of_statement, of_block, Node, Hole, around, all_around, children, nth_hole, reach, block_of, ListIn, list_in, ListAt, list_at, list_within, list_of_node, argument_children, arguments_children, listing_children, operands_children, tails_children, expression_children, branches_children, otherwise_children, statement_children}
-use Rattle.meson_syntax.specs.Children.{Any, an_expression, a_statement, a_block, any_of, child_nodes, node_at, arguments_parts, operands_parts}
+use Rattle.meson_syntax.specs.Children.{Any, an_expression, a_statement, a_block, arguments_parts}
+use Rattle.meson_syntax.specs.inside.Children.{any_of, child_nodes, node_at, operands_parts}
 use Rattle.meson_syntax.proofs.parsing.Steps.{some-injective}
 use Rattle.meson_syntax.proofs.paths.Every.{Every, every-append, every-around, every-nth}
 use Rattle.meson_syntax.proofs.paths.Reaching.{map-some, and-then-some}

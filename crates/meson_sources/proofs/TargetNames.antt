@@ -4,8 +4,10 @@ use Rattle.std.specs.Prelude.{◌&&◌, if◌then◌else◌, is_some, option_and
 use Rattle.std.specs.List.{cons_option, filter_map}
 use Rattle.std.proofs.lemmas.List.Elements.{filter_map-append}
 use Rattle.meson_syntax.specs.declared.operator.Assignment.TheVariants as assignment
-use Rattle.meson_syntax.specs.Children.{Any, an_expression, a_statement, a_block, child_nodes}
+use Rattle.meson_syntax.specs.Children.{Any, an_expression, a_statement, a_block}
+use Rattle.meson_syntax.specs.inside.Children.{child_nodes}
 use Rattle.meson_syntax.specs.Children as syntax
+use Rattle.meson_syntax.specs.inside.Children as tree_nodes
 use Rattle.meson_syntax.specs.Tree.{Nowhere, Plain, Expression, identifier, boolean, integer, string, paren, array, dictionary, call, unary, row, postfix, conditional, Operands, no_operands, operand, Tail, method, index, Tails, no_tails, tail, Listing, listing, Argument, plain, named, pair, Arguments, no_arguments, argument, Statement, evaluate, assign, selection, iteration, breaks, continues, Branches, no_branches, branch, Otherwise, nothing_else, otherwise, Statements, no_statements, statement, Block, block, file, erase, erase_argument, erase_arguments, erase_block, erase_branches, erase_expression, erase_listing, erase_operands, erase_otherwise, erase_statement, erase_statements, erase_tail, erase_tails}
 use Rattle.meson_syntax.specs.Tree as tree
 use Rattle.meson_calls.specs.declared.call.CallRef.{CallRef}
@@ -129,7 +131,7 @@ arguments_all (argument a more) = ap₂ (λ l m. l ++ m) (argument_all a) (argum
 pub listing_all : (l : Listing Nowhere) → in_listing l ≡ in_all (syntax.listing_parts l)
 listing_all (listing s trailing list) = arguments_all list
 
-operands_all : (os : Operands Nowhere) → in_operands os ≡ in_all (syntax.operands_parts os)
+operands_all : (os : Operands Nowhere) → in_operands os ≡ in_all (tree_nodes.operands_parts os)
 operands_all no_operands = refl
 operands_all (operand o e more) = ap (λ l. in_expression e ++ l) (operands_all more)
 
@@ -137,19 +139,19 @@ tail_all : (t : Tail Nowhere) → in_tail t ≡ in_all (syntax.tail_parts t)
 tail_all (method s x l) = listing_all l
 tail_all (index s e) = refl
 
-tails_all : (ts : Tails Nowhere) → in_tails ts ≡ in_all (syntax.tails_parts ts)
+tails_all : (ts : Tails Nowhere) → in_tails ts ≡ in_all (tree_nodes.tails_parts ts)
 tails_all no_tails = refl
-tails_all (tail t more) = ap₂ (λ l m. l ++ m) (tail_all t) (tails_all more) ∙ sym (all_both (syntax.tail_parts t) (syntax.tails_parts more))
+tails_all (tail t more) = ap₂ (λ l m. l ++ m) (tail_all t) (tails_all more) ∙ sym (all_both (syntax.tail_parts t) (tree_nodes.tails_parts more))
 
 branches_all : (bs : Branches Nowhere) → in_branches bs ≡ in_all (syntax.branches_parts bs)
 branches_all no_branches = refl
 branches_all (branch e b more) = ap (λ l. in_expression e ++ (in_block b ++ l)) (branches_all more)
 
-otherwise_all : (o : Otherwise Nowhere) → in_otherwise o ≡ in_all (syntax.otherwise_parts o)
+otherwise_all : (o : Otherwise Nowhere) → in_otherwise o ≡ in_all (tree_nodes.otherwise_parts o)
 otherwise_all nothing_else = refl
 otherwise_all (otherwise b) = refl
 
-statements_all : (list : Statements Nowhere) → in_statements list ≡ in_all (syntax.statements_parts list)
+statements_all : (list : Statements Nowhere) → in_statements list ≡ in_all (tree_nodes.statements_parts list)
 statements_all no_statements = refl
 statements_all (statement s more) = ap (λ l. in_statement s ++ l) (statements_all more)
 
@@ -160,7 +162,7 @@ node_tells (an_expression (call s f l)) = ap (cons_option (tell_call (call_of (c
 node_tells (an_expression (row s e os)) = ap (λ l. in_expression e ++ l) (operands_all os)
 node_tells (an_expression (postfix s e ts)) = ap (λ l. in_expression e ++ l) (tails_all ts)
 node_tells (an_expression _) = refl
-node_tells (a_statement (selection s bs o)) = ap₂ (λ l m. l ++ m) (branches_all bs) (otherwise_all o) ∙ sym (all_both (syntax.branches_parts bs) (syntax.otherwise_parts o))
+node_tells (a_statement (selection s bs o)) = ap₂ (λ l m. l ++ m) (branches_all bs) (otherwise_all o) ∙ sym (all_both (syntax.branches_parts bs) (tree_nodes.otherwise_parts o))
 node_tells (a_statement _) = refl
 node_tells (a_block (block s list)) = statements_all list
 

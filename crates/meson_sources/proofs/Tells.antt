@@ -5,8 +5,10 @@ use Rattle.std.specs.List.{cons_option, filter_map}
 use Rattle.std.proofs.lemmas.List.Elements.{filter_map-append}
 use Rattle.meson_syntax.specs.declared.operator.Assignment.{Assignment}
 use Rattle.meson_syntax.specs.Tree.{Name, Expression, identifier, boolean, integer, string, paren, array, dictionary, call, unary, row, postfix, conditional, Operands, no_operands, operand, Tail, method, index, Tails, no_tails, tail, Listing, listing, plain, named, pair, Arguments, no_arguments, argument, Statement, evaluate, assign, selection, iteration, breaks, continues, Branches, no_branches, branch, Otherwise, nothing_else, otherwise, Statements, no_statements, statement, Block, block}
-use Rattle.meson_syntax.specs.Children.{Any, an_expression, a_statement, a_block, child_nodes}
+use Rattle.meson_syntax.specs.Children.{Any, an_expression, a_statement, a_block}
+use Rattle.meson_syntax.specs.inside.Children.{child_nodes}
 use Rattle.meson_syntax.specs.Children as syntax
+use Rattle.meson_syntax.specs.inside.Children as tree_nodes
 use Rattle.meson_calls.specs.declared.call.CallRef.{CallRef}
 use Rattle.meson_calls.specs.Calls.{Call, call_of, first_literal}
 use Rattle.meson_calls.specs.Parts.{Part, parts_of_arguments, parts_of_block, branches_child_count, parts_of_branches, parts_of_expression, parts_of_listing, parts_of_operands, parts_of_otherwise, parts_of_statement, parts_of_statements, tail_child_count, parts_of_tail, parts_of_tails}
@@ -86,7 +88,7 @@ module _ {S : Type 0} where
   listing_told : (p : CallRef) (n : ℕ) (l : Listing S) → told (parts_of_listing p n l) ≡ of_children p n (syntax.listing_parts l)
   listing_told p n (listing s trailing list) = arguments_told p n list
 
-  operands_told : (p : CallRef) (n : ℕ) (os : Operands S) → told (parts_of_operands p n os) ≡ of_children p n (syntax.operands_parts os)
+  operands_told : (p : CallRef) (n : ℕ) (os : Operands S) → told (parts_of_operands p n os) ≡ of_children p n (tree_nodes.operands_parts os)
   operands_told p n no_operands = refl
   operands_told p n (operand o e more) = then_told (parts_of_expression (child p n) e) (parts_of_operands p (n + 1) more) refl (operands_told p (n + 1) more)
 
@@ -104,11 +106,11 @@ module _ {S : Type 0} where
   tail_told p n (method s x l) = listing_told p n l
   tail_told p n (index s e) = sym (append-nil _)
 
-  tails_told : (p : CallRef) (n : ℕ) (ts : Tails S) → told (parts_of_tails p n ts) ≡ of_children p n (syntax.tails_parts ts)
+  tails_told : (p : CallRef) (n : ℕ) (ts : Tails S) → told (parts_of_tails p n ts) ≡ of_children p n (tree_nodes.tails_parts ts)
   tails_told p n no_tails = refl
   tails_told p n (tail t more) =
       then_told (parts_of_tail p n t) (parts_of_tails p (n + tail_child_count t) more) (tail_told p n t) (tails_told p (n + tail_child_count t) more)
-      ∙ sym (children_both p n (n + tail_child_count t) (syntax.tail_parts t) (syntax.tails_parts more) (ap (λ k. n + k) (tail_count t)))
+      ∙ sym (children_both p n (n + tail_child_count t) (syntax.tail_parts t) (tree_nodes.tails_parts more) (ap (λ k. n + k) (tail_count t)))
 
   branches_count : (bs : Branches S) → branches_child_count bs ≡ length (syntax.branches_parts bs)
   branches_count no_branches = refl
@@ -121,15 +123,15 @@ module _ {S : Type 0} where
       then_told (parts_of_expression (child p n) e) (parts_of_block (child p (n + 1)) b ++ parts_of_branches p (n + 2) more) refl
       (then_told (parts_of_block (child p (n + 1)) b) (parts_of_branches p (n + 2) more) refl (ap (λ k. told (parts_of_branches p k more)) two ∙ branches_told p (n + 1 + 1) more))
 
-  otherwise_told : (p : CallRef) (n : ℕ) (o : Otherwise S) → told (parts_of_otherwise p n o) ≡ of_children p n (syntax.otherwise_parts o)
+  otherwise_told : (p : CallRef) (n : ℕ) (o : Otherwise S) → told (parts_of_otherwise p n o) ≡ of_children p n (tree_nodes.otherwise_parts o)
   otherwise_told p n nothing_else = refl
   otherwise_told p n (otherwise b) = sym (append-nil _)
 
-  statements_told : (p : CallRef) (n : ℕ) (list : Statements S) → told (parts_of_statements p n list) ≡ of_children p n (syntax.statements_parts list)
+  statements_told : (p : CallRef) (n : ℕ) (list : Statements S) → told (parts_of_statements p n list) ≡ of_children p n (tree_nodes.statements_parts list)
   statements_told p n no_statements = refl
   statements_told p n (statement s more) = then_told (parts_of_statement (child p n) s) (parts_of_statements p (n + 1) more) refl (statements_told p (n + 1) more)
 
-  expression_told : (p : CallRef) (e : Expression S) → told (parts_of_expression p e) ≡ cons_option (tell_call p.file (call_of e)) (of_children p 0 (syntax.expression_parts e))
+  expression_told : (p : CallRef) (e : Expression S) → told (parts_of_expression p e) ≡ cons_option (tell_call p.file (call_of e)) (of_children p 0 (tree_nodes.expression_parts e))
   expression_told p (identifier s x) = refl
   expression_told p (boolean s b) = refl
   expression_told p (integer s x) = refl
@@ -145,18 +147,18 @@ module _ {S : Type 0} where
       then_told (parts_of_expression (child p 0) c) (parts_of_expression (child p 1) y ++ parts_of_expression (child p 2) n) refl
       (then_told (parts_of_expression (child p 1) y) (parts_of_expression (child p 2) n) refl (sym (append-nil _)))
 
-  statement_told : (p : CallRef) (s : Statement S) → told (parts_of_statement p s) ≡ cons_option (tell_statement p s) (of_children p 0 (syntax.statement_parts s))
+  statement_told : (p : CallRef) (s : Statement S) → told (parts_of_statement p s) ≡ cons_option (tell_statement p s) (of_children p 0 (tree_nodes.statement_parts s))
   statement_told p (evaluate e) = sym (append-nil _)
   statement_told p (assign s x a e) = with_own (tell_statement p (assign s x a e)) (sym (append-nil _))
   statement_told p (selection s bs o) =
       then_told (parts_of_branches p 0 bs) (parts_of_otherwise p (branches_child_count bs) o) (branches_told p 0 bs) (otherwise_told p (branches_child_count bs) o)
-      ∙ sym (children_both p 0 (branches_child_count bs) (syntax.branches_parts bs) (syntax.otherwise_parts o) (let many = branches_count bs in omega (arith, many)))
+      ∙ sym (children_both p 0 (branches_child_count bs) (syntax.branches_parts bs) (tree_nodes.otherwise_parts o) (let many = branches_count bs in omega (arith, many)))
   statement_told p (iteration s xs e b) =
       with_own (tell_statement p (iteration s xs e b)) (then_told (parts_of_expression (child p 0) e) (parts_of_block (child p 1) b) refl (sym (append-nil _)))
   statement_told p (breaks s) = refl
   statement_told p (continues s) = refl
 
-  block_told : (p : CallRef) (b : Block S) → told (parts_of_block p b) ≡ of_children p 0 (syntax.block_parts b)
+  block_told : (p : CallRef) (b : Block S) → told (parts_of_block p b) ≡ of_children p 0 (tree_nodes.block_parts b)
   block_told p (block s list) = statements_told p 0 list
 
   -- what is told of a node is its own and what is told of its children

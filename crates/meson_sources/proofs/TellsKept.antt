@@ -3,7 +3,8 @@ use Rattle.std.specs.Prelude.{All, ◌&&◌, if◌then◌else◌, is_some, optio
 use Rattle.std.specs.List.{cons_option}
 use Rattle.std.proofs.Common.{◌≡◌, ℕ, suc, ◌+◌, Bool, true, false, List, [], ◌∷◌, ◌++◌, append-nil, Option, Some, None, refl, sym, ap, ap₂, ◌∙◌, subst, arith, inl, inr}
 use Rattle.meson_syntax.specs.declared.operator.Assignment.TheVariants as assignment
-use Rattle.meson_syntax.specs.Children.{an_expression, a_statement, a_block, child_nodes}
+use Rattle.meson_syntax.specs.Children.{an_expression, a_statement, a_block}
+use Rattle.meson_syntax.specs.inside.Children.{child_nodes}
 use Rattle.meson_syntax.specs.Paths.{nth}
 use Rattle.meson_syntax.specs.Tree.{Nowhere, Plain, Name, Expression, array, call, listing, plain, named, pair, Arguments, no_arguments, argument, arguments_of, Listing, Statement, assign, iteration}
 use Rattle.meson_calls.specs.declared.call.CallRef.{CallRef}

@@ -2,7 +2,8 @@
 use Rattle.std.proofs.Common.{◌≡◌, ℕ, zero, suc, ◌+◌, Bool, true, false, List, [], ◌∷◌, ◌++◌, Option, Some, None, refl, sym, ap, ap₂, ◌∙◌}
 use Rattle.std.specs.Prelude.{if◌then◌else◌, option_and_then}
 use Rattle.std.specs.List.{cons_option}
-use Rattle.meson_syntax.specs.Children.{Any, an_expression, a_statement, a_block, child_nodes, arguments_parts}
+use Rattle.meson_syntax.specs.Children.{Any, an_expression, a_statement, a_block, arguments_parts}
+use Rattle.meson_syntax.specs.inside.Children.{child_nodes}
 use Rattle.meson_syntax.specs.Tree.{Nowhere, Name, identifier, string, array, call, listing, Argument, plain, named, pair, Arguments, no_arguments, argument, arguments_of, assign, iteration}
 use Rattle.meson_calls.specs.declared.call.CallRef.{CallRef}
 use Rattle.meson_calls.specs.Calls.{first_literal, literal_of}

@@ -1,7 +1,8 @@
 -- Strings go from trees, and then others from where they stand then: what is left is the trees without all of them.
 use Rattle.std.specs.Prelude.{All, ◌||◌, option_and_then}
 use Rattle.std.proofs.Common.{◌≡◌, ℕ, zero, suc, Bool, true, false, List, [], ◌∷◌, ◌++◌, map, Some, None, refl, sym, ap, ap₂, ◌∙◌, subst}
-use Rattle.meson_syntax.specs.Children.{an_expression, a_block, child_nodes, node_at}
+use Rattle.meson_syntax.specs.Children.{an_expression, a_block}
+use Rattle.meson_syntax.specs.inside.Children.{child_nodes, node_at}
 use Rattle.meson_syntax.specs.Paths.{nth}
 use Rattle.meson_syntax.specs.Tree.{Nowhere, Plain, array, dictionary, call, string, Listing, listing, plain, named, pair, Arguments, no_arguments, argument, argument_list, Block, file}
 use Rattle.meson_syntax.specs.declared.operator.StringKind.{StringKind}

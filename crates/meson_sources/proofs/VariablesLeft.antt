@@ -3,7 +3,8 @@ use Rattle.std.specs.Prelude.{◌&&◌, All, if◌then◌else◌, not, option_an
 use Rattle.std.proofs.Common.{◌≡◌, ℕ, zero, suc, ◌+◌, Bool, true, false, List, [], ◌∷◌, ◌++◌, Option, Some, None, refl, sym, ap, ap₂, ◌∙◌, subst, inl, inr}
 use Rattle.meson_lex.specs.declared.kinds.Span.{Span}
 use Rattle.meson_syntax.specs.Grammar.{LevelExpression}
-use Rattle.meson_syntax.specs.Children.{an_expression, a_statement, a_block, child_nodes, node_at, statements_parts}
+use Rattle.meson_syntax.specs.Children.{an_expression, a_statement, a_block}
+use Rattle.meson_syntax.specs.inside.Children.{child_nodes, node_at, statements_parts}
 use Rattle.meson_syntax.specs.Paths.{nth, block_of}
 use Rattle.meson_syntax.specs.Tree.{Nowhere, Plain, Expression, Statement, Statements, no_statements, statement, Block, block, erase_expression}
 use Rattle.meson_syntax.proofs.parsing.Steps.{some-injective}

@@ -5,7 +5,8 @@ use Rattle.meson_syntax.specs.declared.operator.Bracket.{Bracket}
 use Rattle.meson_syntax.specs.declared.operator.Bracket.TheVariants as bracket
 use Rattle.meson_syntax.specs.Grammar.{LevelArguments, LevelExpression, LevelListing, LevelOperands}
 use Rattle.meson_syntax.specs.Operators.{holds_pairs}
-use Rattle.meson_syntax.specs.Children.{an_expression, arguments_parts, child_nodes, listing_parts, node_at, operands_parts}
+use Rattle.meson_syntax.specs.Children.{an_expression, arguments_parts, listing_parts}
+use Rattle.meson_syntax.specs.inside.Children.{child_nodes, node_at, operands_parts}
 use Rattle.meson_syntax.specs.Paths.{nth}
 use Rattle.meson_syntax.specs.Tree.{Nowhere, Plain, Expression, identifier, string, array, call, row, Operands, no_operands, operand, Listing, listing, Argument, plain, named, pair, Arguments, no_arguments, argument, argument_list, arguments_of, Name}
 use Rattle.meson_syntax.proofs.parsing.Steps.{some-injective}

@@ -2,7 +2,8 @@
 use Rattle.std.specs.Prelude.{◌⊎◌, if◌then◌else◌, option_and_then}
 use Rattle.std.proofs.Common.{◌≡◌, ℕ, zero, suc, ◌+◌, Bool, true, false, List, [], ◌∷◌, ◌++◌, length, Some, None, refl, sym, ap, ap₂, ◌∙◌, subst, arith, inl, inr}
 use Rattle.meson_syntax.specs.Tree.{Nowhere, identifier, boolean, integer, string, paren, array, dictionary, call, unary, row, postfix, conditional, Operands, no_operands, operand, Tail, method, index, Tails, no_tails, tail, Listing, listing, plain, named, pair, Arguments, no_arguments, argument, argument_list, arguments_of, evaluate, assign, selection, iteration, breaks, continues, Branches, no_branches, branch, Otherwise, nothing_else, otherwise, Statements, no_statements, statement, block}
-use Rattle.meson_syntax.specs.Children.{an_expression, a_statement, a_block, child_nodes, node_at, arguments_parts, branches_parts, listing_parts, operands_parts, otherwise_parts, statements_parts, tail_parts, tails_parts}
+use Rattle.meson_syntax.specs.Children.{an_expression, a_statement, a_block, arguments_parts, branches_parts, listing_parts, tail_parts}
+use Rattle.meson_syntax.specs.inside.Children.{child_nodes, node_at, operands_parts, otherwise_parts, statements_parts, tails_parts}
 use Rattle.meson_syntax.specs.Paths.{nth}
 use Rattle.meson_syntax.proofs.parsing.Steps.{some-injective}
 use Rattle.meson_syntax.proofs.paths.Every.{Every}

@@ -1,2 +1,3 @@
 pub mod CodeSpots
 pub mod Naming
+pub mod Targeted

@@ -18,7 +18,7 @@ ghost use Rattle.meson_calls.specs.NamedArguments.{kept_args};
 ghost use Rattle.meson_variables.specs.TargetSources.{or_option};
 ghost use Rattle.meson_calls.specs.Strings.{AreGood};
 ghost use Rattle.meson_variables.specs.Tallies.{gathered};
-ghost use Rattle.meson_sources.specs.Targeted.{extra_gathered, lone_or_new, new_list_steps};
+ghost use Rattle.meson_sources.specs.inside.Targeted.{extra_gathered, lone_or_new, new_list_steps};
 ghost use Rattle.meson_steps.specs.Meanings.{AreBehind, AreMeant};
 
 use crate::editing::insertions;

@@ -4,7 +4,8 @@ use Rattle.std.proofs.Common.{◌≡◌, ℕ, zero, suc, List, [], ◌∷◌, �
 use Rattle.meson_syntax.specs.Tree.{Expression, identifier, boolean, integer, string, paren, array, dictionary, call, unary, row, postfix, conditional, Operands, no_operands, operand, Tail, method, index, Tails, no_tails, tail, Listing, listing, Argument, plain, named, pair, Arguments, no_arguments, argument, Statement, evaluate, assign, selection, iteration, breaks, continues, Branches, no_branches, branch, Otherwise, nothing_else, otherwise, Statements, no_statements, statement, statement_list, Block, block, File}
 use Rattle.meson_syntax.specs.Paths.{Sort, of_expression, of_statement, of_block, Node, Hole, nth, reach, block_of}
 use Rattle.meson_edit.specs.Blocks.{BlockAt, block_of_node, block_at}
-use Rattle.meson_syntax.specs.Children.{Any, an_expression, a_statement, a_block, any_of, argument_parts, arguments_parts, listing_parts, operands_parts, tail_parts, tails_parts, expression_parts, branches_parts, otherwise_parts, statement_parts, statements_parts, node_at}
+use Rattle.meson_syntax.specs.Children.{Any, an_expression, a_statement, a_block, argument_parts, arguments_parts, listing_parts, tail_parts, branches_parts}
+use Rattle.meson_syntax.specs.inside.Children.{any_of, operands_parts, tails_parts, expression_parts, otherwise_parts, statement_parts, statements_parts, node_at}
 use Rattle.meson_steps.specs.inside.Layers.{block_any, next_layer}
 use Rattle.meson_syntax.proofs.PathNodes.{inside_of, reached}
 

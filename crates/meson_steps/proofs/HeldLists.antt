@@ -25,10 +25,11 @@ use Rattle.meson_steps.specs.declared.journal.SavedList.{SavedList}
 use Rattle.meson_steps.specs.declared.spans.ListSpot.{ListSpot}
 use Rattle.meson_steps.specs.declared.work.Work.{Work}
 use Rattle.meson_steps.specs.inside.Held.{IsHeldOf, IsReadAgain}
-use Rattle.meson_steps.specs.Journal.{MayTakeMoved, settled_tree}
+use Rattle.meson_steps.specs.inside.Journal.{MayTakeMoved, settled_tree}
 use Rattle.meson_steps.specs.ListSteps.{wide_depth}
 use Rattle.meson_steps.specs.Steps.{bytes_again}
-use Rattle.meson_steps.specs.Working.{MayChangeList, MayReadList, list_again, spot_at}
+use Rattle.meson_steps.specs.Working.{MayChangeList, MayReadList, spot_at}
+use Rattle.meson_steps.specs.inside.Working.{list_again}
 use Rattle.meson_steps.proofs.ListChanged.{at_spot}
 use Rattle.meson_steps.proofs.ListTaken.{settled_is, settled_spanned, taken_is, unmoved}
 use Rattle.meson_steps.proofs.PatchedFiles.{same_files}

@@ -21,11 +21,13 @@ use Rattle.meson_steps.specs.declared.step.ListEdit.{ListEdit}
 use Rattle.meson_steps.specs.declared.step.ListStep.{ListStep}
 use Rattle.meson_steps.specs.declared.work.Work.{Work}
 use Rattle.meson_steps.specs.inside.Held.{IsHeld, settled}
-use Rattle.meson_steps.specs.Journal.{settled_tree}
+use Rattle.meson_steps.specs.inside.Journal.{settled_tree}
 use Rattle.meson_steps.specs.inside.Laying.{AreLaid}
-use Rattle.meson_steps.specs.ListSteps.{bare, edits_list}
+use Rattle.meson_steps.specs.ListSteps.{bare}
+use Rattle.meson_steps.specs.inside.ListSteps.{edits_list}
 use Rattle.meson_steps.specs.Steps.{Step, effective}
-use Rattle.meson_steps.specs.Working.{HasReached, IsChanged, MayChangeList, Standing, list_again, looked_at, placed_edit, placed_in}
+use Rattle.meson_steps.specs.Working.{HasReached, MayChangeList, Standing}
+use Rattle.meson_steps.specs.inside.Working.{IsChanged, list_again, looked_at, placed_edit, placed_in}
 use Rattle.meson_steps.proofs.HeldLists.{held_found, held_spot_is}
 use Rattle.meson_steps.proofs.ListTaken.{no_tree}
 use Rattle.meson_steps.proofs.PlacedEdits.{placed_at}

@@ -19,11 +19,13 @@ use Rattle.meson_steps.specs.declared.journal.Saved.TheVariants as saved
 use Rattle.meson_steps.specs.declared.spans.ListSpot.{ListSpot}
 use Rattle.meson_steps.specs.declared.work.Work.{Work}
 use Rattle.meson_steps.specs.inside.Held.{IsHeldOf, IsReadAgain, IsSettled, settled}
-use Rattle.meson_steps.specs.Journal.{IsSavedToo, changed_tree, saved_file, is_saved, settled_tree}
+use Rattle.meson_steps.specs.Journal.{changed_tree, saved_file, is_saved}
+use Rattle.meson_steps.specs.inside.Journal.{IsSavedToo, settled_tree}
 use Rattle.meson_steps.specs.ListSteps.{AreDoable}
 use Rattle.meson_steps.specs.ResultLimits.{plain_trees, saturated}
 use Rattle.meson_steps.specs.Steps.{Step, StepsMake}
-use Rattle.meson_steps.specs.Working.{AreKnown, HasReached, IsChanged, MayChangeList, Reached, list_again, so_far, spot_at, standing, stood}
+use Rattle.meson_steps.specs.Working.{AreKnown, HasReached, MayChangeList, Reached, so_far, spot_at, standing, stood}
+use Rattle.meson_steps.specs.inside.Working.{IsChanged, list_again}
 use Rattle.meson_steps.proofs.HeldLists.{again_again, again_held, again_read, again_spot, first_again, first_held, first_read, held_spot}
 use Rattle.meson_steps.proofs.ListChanged.{at_spot}
 use Rattle.meson_steps.proofs.Restoring.{changed_is}

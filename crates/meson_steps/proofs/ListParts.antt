@@ -5,7 +5,8 @@ use Rattle.meson_syntax.specs.declared.operator.Bracket.TheVariants as bracket
 use Rattle.meson_syntax.specs.Operators.{holds_pairs}
 use Rattle.meson_syntax.specs.Tree.{Expression, array, dictionary, call, Listing, listing, Argument, plain, named, pair, Arguments, no_arguments, argument, argument_list, File}
 use Rattle.meson_syntax.specs.Grammar.{LevelArguments, LevelListing, LevelFile}
-use Rattle.meson_syntax.specs.Children.{an_expression, arguments_parts, expression_parts}
+use Rattle.meson_syntax.specs.Children.{an_expression, arguments_parts}
+use Rattle.meson_syntax.specs.inside.Children.{expression_parts}
 use Rattle.meson_syntax.specs.Paths.{nth, ListIn, list_in, ListAt, list_at, value_of}
 use Rattle.meson_syntax.proofs.parsing.Steps.{some-injective}
 use Rattle.meson_syntax.proofs.paths.Reaching.{list-fits}

@@ -27,7 +27,8 @@ use Rattle.meson_edit.proofs.kept.Tokens.{open-long}
 use Rattle.meson_edit.specs.ExchangedTrees.{tree_with}
 use Rattle.meson_edit.proofs.paths.ExchangedTrees.{old-lists-look, trees-exchange, trees-exchange-back}
 use Rattle.meson_steps.specs.declared.journal.SavedList.{SavedList}
-use Rattle.meson_steps.specs.Journal.{MayShift, MayTake, MayTakeMoved, settled_tree}
+use Rattle.meson_steps.specs.Journal.{MayShift, MayTake}
+use Rattle.meson_steps.specs.inside.Journal.{MayTakeMoved, settled_tree}
 
 -- a tree of nothing
 pub no_tree : Parsed

@@ -39,7 +39,8 @@ use Rattle.meson_steps.specs.ListSteps.{AreDoable, MayStandBetween, bare, wide_d
 use Rattle.meson_calls.specs.Loading.{HasFileName, Loaded, max_files, name_of_file}
 use Rattle.meson_steps.specs.ResultLimits.{plain_trees, saturated}
 use Rattle.meson_steps.specs.Steps.{Step, StepsMake, Laid, bytes_again, effective, list_of, read_again}
-use Rattle.meson_steps.specs.Working.{AreKnown, HasReached, IsChanged, MayChange, MayChangeList, Standing, limits_of, placed_edit, stood}
+use Rattle.meson_steps.specs.Working.{AreKnown, HasReached, MayChangeList, Standing, limits_of, stood}
+use Rattle.meson_steps.specs.inside.Working.{IsChanged, MayChange, placed_edit}
 use Rattle.meson_steps.proofs.PatchedFiles.{OfFile, all_patched, distinct_with, effective_of_file, effective_patches, effective_texts, of_file}
 use Rattle.meson_steps.proofs.StepPlaces.{every_edit, list_there, next_doable, step_code, NextDoable, IsCode}
 use Rattle.meson_steps.proofs.OneMoreStep.{saturated_more, stepped_more, steps_more}

@@ -10,8 +10,8 @@ use Rattle.meson_syntax.specs.Tree.{File, Listing}
 use Rattle.meson_edit.specs.Places.{element_there}
 use Rattle.meson_steps.specs.declared.step.ListEdit.{ListEdit}
 use Rattle.meson_steps.specs.declared.step.ListEdit.TheVariants as code
-use Rattle.meson_steps.specs.ListSteps.{edits_list}
-use Rattle.meson_steps.specs.Working.{placed_edit, placed_in}
+use Rattle.meson_steps.specs.inside.ListSteps.{edits_list}
+use Rattle.meson_steps.specs.inside.Working.{placed_edit, placed_in}
 
 -- by what the path names
 abbrev placed_by : Option (ListAt Span) → ListEdit → Option Primitive

@@ -11,7 +11,8 @@ use Rattle.meson_syntax.specs.declared.tree.Stmt.TheVariants as stmt
 use Rattle.meson_syntax.specs.declared.tree.Stmt.TheFolds.{the_lemmas}
 use Rattle.meson_syntax.specs.Tree.{Statement, evaluate, Block, statement_list, statements_of}
 use Rattle.meson_edit.specs.Blocks.{BlockAt, statement_in}
-use Rattle.meson_syntax.specs.Children.{Any, rust_branches_parts}
+use Rattle.meson_syntax.specs.Children.{Any}
+use Rattle.meson_syntax.specs.inside.Children.{rust_branches_parts}
 use Rattle.meson_syntax.specs.Paths.{nth}
 use Rattle.meson_syntax.specs.View.{expr_view, stmt_view, stmts_view, block_view}
 use Rattle.meson_syntax.proofs.PartsOf.{view-block}

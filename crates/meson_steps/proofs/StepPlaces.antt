@@ -12,10 +12,11 @@ use Rattle.meson_edit.proofs.statements.Appended as appended
 use Rattle.meson_edit.proofs.statements.Removed as removed
 use Rattle.meson_steps.specs.declared.step.ListEdit.{ListEdit}
 use Rattle.meson_steps.specs.declared.step.ListStep.{ListStep}
-use Rattle.meson_steps.specs.ListSteps.{AreDoable, MayStandBetween, one, bare, bare_edit, edits_list, path_of}
+use Rattle.meson_steps.specs.ListSteps.{AreDoable, MayStandBetween, one, bare, bare_edit, path_of}
+use Rattle.meson_steps.specs.inside.ListSteps.{edits_list}
 use Rattle.meson_calls.specs.Project.{place}
 use Rattle.meson_steps.specs.Steps.{Step, list_of, stepped}
-use Rattle.meson_steps.specs.Working.{placed_edit}
+use Rattle.meson_steps.specs.inside.Working.{placed_edit}
 
 -- ---- the code of a step
 

@@ -15,12 +15,14 @@ use Rattle.meson_syntax.specs.Paths.{ListAt, list_at, list_span}
 use Rattle.meson_syntax.specs.View.{view}
 use Rattle.meson_steps.specs.declared.step.ListEdit.{ListEdit}
 use Rattle.meson_steps.specs.declared.step.ListStep.{ListStep}
-use Rattle.meson_steps.specs.ListSteps.{bare, bare_edit, edits_list, path_of}
+use Rattle.meson_steps.specs.ListSteps.{bare, bare_edit, path_of}
+use Rattle.meson_steps.specs.inside.ListSteps.{edits_list}
 use Rattle.meson_calls.specs.Loading.{Loaded, name_of_file}
 use Rattle.meson_calls.specs.Project.{place}
 use Rattle.meson_steps.specs.inside.Laying.{AreLaid}
 use Rattle.meson_steps.specs.Steps.{Step, bytes_again, effective}
-use Rattle.meson_steps.specs.Working.{HasReached, IsChanged, MayBeLaid, MayChange, MayChangeList, Standing, list_again, looked_at, placed_edit}
+use Rattle.meson_steps.specs.Working.{HasReached, MayChangeList, Standing}
+use Rattle.meson_steps.specs.inside.Working.{IsChanged, MayBeLaid, MayChange, list_again, looked_at, placed_edit}
 use Rattle.meson_steps.proofs.SameRead.{same_read}
 use Rattle.meson_steps.proofs.StepPlaces.{step_list, step_none}
 use Rattle.meson_calls.proofs.Loads.{nth_name}

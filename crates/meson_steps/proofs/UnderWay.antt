@@ -15,7 +15,8 @@ use Rattle.meson_steps.specs.ListSteps.{AreBare, AreDoable, bare}
 use Rattle.meson_steps.specs.Plans.{Doable}
 use Rattle.meson_steps.specs.ResultLimits.{AreShallow, plain_trees}
 use Rattle.meson_steps.specs.Steps.{Step, StepsMake, none}
-use Rattle.meson_steps.specs.Working.{AreKnown, AreShallowSoFar, HasDeep, HasLarge, IsFresh, IsNext, IsUnderWay, Reached, Standing, AreUnderWay, HasReached, so_far}
+use Rattle.meson_steps.specs.Working.{AreKnown, HasDeep, HasLarge, IsFresh, IsUnderWay, Reached, Standing, AreUnderWay, HasReached, so_far}
+use Rattle.meson_steps.specs.inside.Working.{AreShallowSoFar, IsNext}
 use Rattle.meson_steps.proofs.WorkKnown.{known_first}
 use Rattle.meson_steps.proofs.WorkLimits.{all_small, known_parsed, known_shallow, not_shallow, not_small}
 

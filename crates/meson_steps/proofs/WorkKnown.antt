@@ -13,7 +13,8 @@ use Rattle.meson_calls.specs.Loading.{AreParsed}
 use Rattle.meson_calls.proofs.CallsAt.{spanned_at}
 use Rattle.meson_calls.proofs.Loads.{as_many}
 use Rattle.meson_steps.specs.declared.journal.Saved.{Saved}
-use Rattle.meson_steps.specs.Journal.{IsSavedToo, is_saved}
+use Rattle.meson_steps.specs.Journal.{is_saved}
+use Rattle.meson_steps.specs.inside.Journal.{IsSavedToo}
 use Rattle.meson_steps.specs.Working.{AreKnown, limits_of}
 use Rattle.meson_steps.proofs.OtherBytes.{as_many_files, bytes_elsewhere, bytes_there}
 

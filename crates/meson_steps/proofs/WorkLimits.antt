@@ -18,7 +18,8 @@ use Rattle.meson_calls.proofs.Loads.{nth_bytes}
 use Rattle.meson_steps.specs.declared.journal.Saved.{Saved}
 use Rattle.meson_steps.specs.Journal.{is_saved}
 use Rattle.meson_steps.specs.ResultLimits.{AreShallow, AreSmall}
-use Rattle.meson_steps.specs.Working.{AreKnown, AreShallowSoFar, HasDeep, HasLarge}
+use Rattle.meson_steps.specs.Working.{AreKnown, HasDeep, HasLarge}
+use Rattle.meson_steps.specs.inside.Working.{AreShallowSoFar}
 use Rattle.meson_steps.proofs.OtherBytes.{as_many_plain, plain_at}
 
 -- ---- from each file to all

@@ -1,12 +1,10 @@
 -- What steps exchanged, and the trees once it is put back.
 use Rattle.std.specs.List.{list_any}
-use Rattle.std.specs.Prelude.{◌≡◌, ◌≢◌, ℕ, zero, suc, ◌+◌, ◌-◌, ◌^◌, ◌<◌, ◌≤◌, Bool, true, List, [], ◌∷◌, ◌++◌, ◌==◌, length, slice_index_or, slice_set, ⊤}
+use Rattle.std.specs.Prelude.{◌≡◌, ℕ, zero, suc, ◌+◌, ◌-◌, ◌^◌, ◌<◌, ◌≤◌, Bool, List, [], ◌∷◌, ◌++◌, ◌==◌, length, slice_index_or, slice_set, ⊤}
 use Rattle.meson_lex.specs.declared.kinds.Span.{Span}
-use Rattle.meson_syntax.specs.declared.tree.List as rust
 use Rattle.meson_syntax.specs.declared.tree.Parsed.{Parsed}
 use Rattle.meson_syntax.specs.Furthest.{furthest}
 use Rattle.meson_syntax.specs.ListPut.{list_exchanged}
-use Rattle.meson_syntax.specs.MovedCode.{moved_list}
 use Rattle.meson_syntax.specs.Paths.{ListAt}
 use Rattle.meson_syntax.specs.Reads.{wide}
 use Rattle.meson_edit.specs.ExchangedTrees.{IsExchange}
@@ -15,9 +13,6 @@ use Rattle.meson_steps.specs.declared.journal.Saved.TheVariants as saved
 use Rattle.meson_steps.specs.declared.journal.SavedList.{SavedList}
 
 -- ---- trees
-
-abbrev pub Trees : Type 0
-Trees = List Parsed
 
 -- the trees with the i-th one changed; where there are no more than i, they stay
 abbrev pub changed_tree : ℕ → (Parsed → Parsed) → List Parsed → List Parsed
@@ -68,11 +63,6 @@ saved_file (saved.List s) = s.place.file
 abbrev pub is_saved : ℕ → List Saved → Bool
 is_saved file saved = list_any (λ s. saved_file s == file) saved
 
--- Something of this file is saved, and of the others where it was.
-pub record IsSavedToo (file : ℕ) (before after : List Saved) : Type 0 where
-  pub here : is_saved file after ≡ true
-  pub others : (k : ℕ) → k ≢ file → is_saved k after ≡ is_saved k before
-
 -- ---- lists
 
 -- What is read of the text `now`, the list of `new`, may take the place of the list that stands there in the tree.
@@ -89,13 +79,3 @@ pub record MayTake (t : Parsed) (new : SavedList) : Type 0 where
   pub now_is : new.now ≡ length now
   pub before_fits : length bytes < 2 ^ 64
   pub after_fits : length (front ++ (now ++ back)) < 2 ^ 64
-
--- the tree with a list, in its place, for the one that stands there
-abbrev pub settled_tree : SavedList → Parsed → Parsed
-settled_tree new = list_exchanged new.place.path.steps new.from new.was new.now new.list
-
--- A list that was read, and moved to its place, may take the place of the list that stands there.
-pub record MayTakeMoved (t : Parsed) (new : SavedList) : Type 0 where
-  pub own : rust.List
-  pub moved : new.list ≡ moved_list (λ n. n + new.from) own
-  pub takes : MayTake t (record new { list = own })

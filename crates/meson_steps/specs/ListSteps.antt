@@ -1,5 +1,5 @@
 -- The steps of the code, and which of them may be done one after another.
-use Rattle.std.specs.Prelude.{◌≡◌, ◌≤◌, ℕ, Bool, true, false, List, [], ◌∷◌, map, All, Option, Some, option_map}
+use Rattle.std.specs.Prelude.{◌≡◌, ◌≤◌, ℕ, List, [], ◌∷◌, map, All, Option, Some, option_map}
 use Rattle.meson_syntax.specs.Tree.{Plain}
 use Rattle.meson_syntax.specs.Grammar.{LevelFile, file_depth}
 use Rattle.meson_edit.specs.Edits.{Edit, First, After, Remove, Replace, Wrap, RemoveStatement, Append}
@@ -31,16 +31,6 @@ path_of (Replace path n new) = path
 path_of (Wrap path n) = path
 path_of (RemoveStatement path n) = path
 path_of (Append new) = []
-
--- whether an edit is one of a list
-abbrev pub edits_list : ListEdit → Bool
-edits_list (code.First new) = true
-edits_list (code.After n new) = true
-edits_list (code.Remove n) = true
-edits_list (code.Replace n new) = true
-edits_list (code.Wrap n) = true
-edits_list (code.RemoveStatement n) = false
-edits_list (code.Append new) = false
 
 abbrev pub bare : Step → Option ListStep
 bare s = option_map (λ e. record { list = place s.file (path_of s.edit); edit = e }) (bare_edit s.edit)

@@ -5,10 +5,11 @@ ghost use Rattle.meson_splice.specs.Saved.{bytes_put_back};
 ghost use Rattle.meson_syntax.specs.declared.tree.Parsed.{Parsed};
 ghost use Rattle.meson_calls.specs.Loading.{Loaded};
 ghost use Rattle.meson_steps.specs.inside.Held.{DoesStep, IsHeld, IsHeldThen, IsReadAgain, IsSettled, MayHold, settled};
-ghost use Rattle.meson_steps.specs.Journal.{settled_tree};
+ghost use Rattle.meson_steps.specs.inside.Journal.{settled_tree};
 ghost use Rattle.meson_steps.specs.inside.Laying.{AreLaid};
-ghost use Rattle.meson_steps.specs.ListSteps.{edits_list};
-ghost use Rattle.meson_steps.specs.Working.{IsNext, MayChangeList, MayReadList, Restores, standing, tree_of};
+ghost use Rattle.meson_steps.specs.inside.ListSteps.{edits_list};
+ghost use Rattle.meson_steps.specs.Working.{MayChangeList, MayReadList, Restores, standing};
+ghost use Rattle.meson_steps.specs.inside.Working.{IsNext, tree_of};
 
 use crate::journal::{SavedList, exchange_list};
 use crate::layouts::{laid, list_primitive};

@@ -8,7 +8,8 @@ ghost use Rattle.meson_syntax.specs.Moving.{moved};
 ghost use Rattle.meson_syntax.specs.Paths.{ListAt, list_at};
 ghost use Rattle.meson_syntax.specs.View.{list_view, view};
 ghost use Rattle.meson_calls.specs.ChosenNotes.{Source};
-ghost use Rattle.meson_steps.specs.Journal.{IsSavedToo, MayPut, MayPutBack, MayShift, MayTakeMoved, PutsBack, Trees, changed_tree, saved_file, is_saved, put_back, put_one, settled_tree};
+ghost use Rattle.meson_steps.specs.Journal.{MayPut, MayPutBack, MayShift, PutsBack, changed_tree, saved_file, is_saved, put_back, put_one};
+ghost use Rattle.meson_steps.specs.inside.Journal.{IsSavedToo, MayTakeMoved, Trees, settled_tree};
 
 use meson_calls::CallRef;
 use meson_lex::Span;

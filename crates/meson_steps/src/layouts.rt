@@ -5,9 +5,9 @@ ghost use Rattle.meson_layout.specs.Layout.{layout_of};
 ghost use Rattle.meson_lex.specs.Items.{IsItemList, Lexeme};
 ghost use Rattle.meson_syntax.specs.View.{list_view, view};
 ghost use Rattle.meson_calls.specs.ChosenNotes.{Source};
-ghost use Rattle.meson_steps.specs.ListSteps.{edits_list};
+ghost use Rattle.meson_steps.specs.inside.ListSteps.{edits_list};
 ghost use Rattle.meson_steps.specs.Steps.{effective};
-ghost use Rattle.meson_steps.specs.Working.{MayBeLaid, looked_at, placed_edit, placed_in};
+ghost use Rattle.meson_steps.specs.inside.Working.{MayBeLaid, looked_at, placed_edit, placed_in};
 
 use crate::spans::{element_span, list_spot, value_span};
 use crate::statements::statement_span;

@@ -6,7 +6,8 @@ ghost use Rattle.meson_edit.specs.Standing.{argument_span, expression_span};
 ghost use Rattle.meson_syntax.specs.View.{arg_view, expr_view, list_view, view};
 ghost use Rattle.meson_edit.specs.Edits.{elements};
 ghost use Rattle.meson_calls.specs.ChosenNotes.{Source};
-ghost use Rattle.meson_steps.specs.Working.{spot_at, spot_in};
+ghost use Rattle.meson_steps.specs.Working.{spot_at};
+ghost use Rattle.meson_steps.specs.inside.Working.{spot_in};
 
 use meson_edit::span_of;
 use meson_lex::Span;

@@ -2,7 +2,7 @@
 
 ghost use Rattle.std.specs.Prelude.{◌≡◌, ◌++◌, option_and_then, option_map};
 ghost use Rattle.meson_edit.specs.Blocks.{block_at, statement_in};
-ghost use Rattle.meson_syntax.specs.Children.{otherwise_parts, rust_branches_parts, statement_parts};
+ghost use Rattle.meson_syntax.specs.inside.Children.{otherwise_parts, rust_branches_parts, statement_parts};
 ghost use Rattle.meson_syntax.specs.Paths.{nth};
 ghost use Rattle.meson_edit.specs.Standing.{statement_span};
 ghost use Rattle.meson_syntax.specs.View.{block_view, otherwise_view, stmt_view, view};

@@ -1,7 +1,7 @@
 //! The steps of a command: edits of lists and of whole statements, one after another.
 
 ghost use Rattle.std.specs.Prelude.{◌≡◌, ◌++◌, ◌∷◌, [], OnErr, OnOk};
-ghost use Rattle.meson_steps.specs.ListSteps.{edits_list};
+ghost use Rattle.meson_steps.specs.inside.ListSteps.{edits_list};
 
 use meson_calls::CallRef;
 use meson_splice::Bytes;

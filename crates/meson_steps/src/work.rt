@@ -11,7 +11,8 @@ ghost use Rattle.meson_calls.specs.Refusals.{IfRefused};
 ghost use Rattle.meson_steps.specs.inside.Laying.{AreLaid};
 ghost use Rattle.meson_steps.specs.Plans.{ArePlanned};
 ghost use Rattle.meson_steps.specs.Steps as meant;
-ghost use Rattle.meson_steps.specs.Working.{AreShallowSoFar, HasDeep, HasLarge, IsChanged, IsFresh, IsNext, IsUnderWay, MayChange, Reached, Restores, so_far, standing, tree_of};
+ghost use Rattle.meson_steps.specs.Working.{HasDeep, HasLarge, IsFresh, IsUnderWay, Reached, Restores, so_far, standing};
+ghost use Rattle.meson_steps.specs.inside.Working.{AreShallowSoFar, IsChanged, IsNext, MayChange, tree_of};
 ghost use Rattle.meson_steps.specs.inside.Held.{DoesStep, MayHold, settled};
 
 use crate::held::HeldList;

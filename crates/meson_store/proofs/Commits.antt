@@ -6,7 +6,8 @@ use Rattle.meson_splice.specs.declared.file_set.File.{File}
 use Rattle.meson_store.specs.StoreCalls.{counted, one_more}
 use Rattle.meson_store.specs.Content.{Content, content_with}
 use Rattle.meson_store.specs.declared.committing.Planned.{Planned}
-use Rattle.meson_store.specs.Commit.{Put, path_in, put_at, puts, put_all, names_of}
+use Rattle.meson_store.specs.Commit.{Put, path_in, put_at, puts, put_all}
+use Rattle.meson_store.specs.inside.Commit.{names_of}
 use Rattle.meson_store.specs.inside.Planned.{put_of}
 
 -- the bytes that a file gets at that path, and those that it held

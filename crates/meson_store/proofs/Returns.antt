@@ -3,7 +3,8 @@ use Rattle.std.proofs.Common.{◌≡◌, ℕ, zero, suc, ◌+◌, ◌-◌, ◌<�
 use Rattle.std.proofs.lemmas.List.{length-map, map-append, reverse-append, take-map}
 use Rattle.std.proofs.Math.Seq.{get_or-append_seam, take-append-add, take-append_seam}
 use Rattle.std.specs.Prelude.{slice_index_or, string_bytes}
-use Rattle.meson_store.specs.Commit.{GoBack, Put, Stops, all_back, is_back, is_lost, names_of, to_go_back, tries}
+use Rattle.meson_store.specs.Commit.{GoBack, Put, Stops, all_back, is_back, is_lost, to_go_back}
+use Rattle.meson_store.specs.inside.Commit.{names_of, tries}
 use Rattle.meson_store.specs.inside.Planned.{put_of}
 use Rattle.meson_store.specs.Seen.{IsNotReplaced, IsReplaced, Seen}
 use Rattle.meson_store.specs.declared.committing.Planned.{Planned}

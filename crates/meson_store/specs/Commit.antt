@@ -1,5 +1,5 @@
 -- What a commit of a project's files does to a store.
-use Rattle.std.specs.Prelude.{◌≡◌, ◌≤◌, ◌⊎◌, ℕ, List, [], ◌∷◌, ◌++◌, length, map, reverse, codes, bytes_eq, if◌then◌else◌, Option, Some, None}
+use Rattle.std.specs.Prelude.{◌≡◌, ◌≤◌, ◌⊎◌, ℕ, List, [], ◌∷◌, ◌++◌, length, reverse, codes, bytes_eq, Option, Some, None, if◌then◌else◌}
 use Rattle.meson_splice.specs.declared.file_set.File.{File}
 use Rattle.meson_store.specs.StoreCalls.{counted}
 use Rattle.meson_store.specs.Content.{Content, content_with}
@@ -35,9 +35,6 @@ abbrev pub put_all : List Put → Option Content → Option Content
 put_all [] content = content
 put_all (p ∷ more) content = put_all more (content_with content p.path p.bytes)
 
-abbrev pub names_of : List Put → List (List ℕ)
-names_of files = map (λ p. p.name) files
-
 -- the files that a fault lists: those that may have their new bytes
 abbrev pub still_new : StoreFault → List (List ℕ)
 still_new (WriteFailed name files) = files
@@ -71,11 +68,6 @@ pub data GoBack : List Put → Seen → Seen → List (List ℕ) → Type 0 wher
   is_lost : (file : Put) (files : List Put) (s t u : Seen) (names : List (List ℕ)) (why : StoreError) → IsNotReplaced why file.path file.was s t
       → GoBack files t u names → GoBack (file ∷ files) s u (file.name ∷ names)
 
--- whether the file that could not be replaced gets its old bytes again, as a number: not where the store knows that it is as it was
-abbrev pub tries : StoreError → ℕ
-tries error.Device = 1
-tries _ = 0
-
 -- the files that get their old bytes again: that one, and those that were replaced before it, the last first
 abbrev pub to_go_back : StoreError → Put → List Put → List Put
 to_go_back error.Device failed done = failed ∷ reverse done
@@ -86,11 +78,6 @@ to_go_back _ failed done = reverse done
 abbrev pub fault_of : List ℕ → StoreError → List (List ℕ) → StoreFault
 fault_of name error.OutOfMemory [] = OutOfMemory
 fault_of name why still = WriteFailed name still
-
--- so many of the files were replaced, and the replace of the next one failed: these get their old bytes again, and the fault tells of it
-abbrev pub TakesBack : List Put → ℕ → StoreError → Seen → Seen → StoreFault → Type 0
-TakesBack files many why before after fault = (done rest : List Put) (failed : Put) → files ≡ done ++ (failed ∷ rest) → length done ≡ many
-    → (still : List (List ℕ)) × GoBack (to_go_back why failed done) before after still × (fault ≡ fault_of failed.name why still)
 
 -- a replace failed, what was replaced got its old bytes again, and the fault tells of it
 pub record TakenBack (files : List Put) (before after : Seen) (fault : StoreFault) : Type 0 where

@@ -2,7 +2,8 @@
 
 ghost use Rattle.std.specs.Prelude.{◌≡◌, ◌≤◌, ◌<◌, ◌+◌, ◌^◌, ◌++◌, [], ◌∷◌, ℕ, List, length, map, option_map, reverse, vec_capacity, vec_len};
 ghost use Rattle.std.specs.Prelude.{IfOk, IfErr, OnOk, string_bytes};
-ghost use Rattle.meson_store.specs.Commit.{AreReplaced, CommitFails, GoBack, Stops, TakesBack, fault_of, names_of, path_in, puts, tries};
+ghost use Rattle.meson_store.specs.Commit.{AreReplaced, CommitFails, GoBack, Stops, fault_of, path_in, puts};
+ghost use Rattle.meson_store.specs.inside.Commit.{TakesBack, names_of, tries};
 ghost use Rattle.meson_store.specs.Seen.{seen_by};
 ghost use Rattle.meson_store.specs.inside.Planned.{put_of};
 

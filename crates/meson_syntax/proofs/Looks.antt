@@ -4,7 +4,7 @@ use Rattle.std.specs.Prelude.{get_or}
 use Rattle.std.proofs.lemmas.List.{at_drop_more, drop_all}
 use Rattle.std.proofs.lemmas.List.{append-nil}
 use Rattle.meson_syntax.specs.Paths.{nth}
-use Rattle.meson_syntax.specs.Children.{Found, found, left, look, option_of}
+use Rattle.meson_syntax.specs.inside.Children.{Found, found, left, look, option_of}
 
 -- what is left behind the first nodes looks in the others
 abbrev pub then_look : {X : Type 0} → Found X → List X → Found X

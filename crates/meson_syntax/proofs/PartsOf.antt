@@ -5,7 +5,8 @@ use Rattle.meson_syntax.specs.declared.tree.Stmt.{Stmt}
 use Rattle.meson_syntax.specs.declared.tree.Block as rust_block
 use Rattle.meson_syntax.specs.declared.tree.Stmt.TheFolds.{the_lemmas}
 use Rattle.meson_syntax.specs.Tree.{block, statements_of}
-use Rattle.meson_syntax.specs.Children.{Any, a_statement, statements_parts}
+use Rattle.meson_syntax.specs.Children.{Any, a_statement}
+use Rattle.meson_syntax.specs.inside.Children.{statements_parts}
 use Rattle.meson_syntax.specs.View.{stmt_view, stmts_view, block_view}
 
 abbrev pub stmt_part : List ℕ → Stmt → Any Span

@@ -4,7 +4,7 @@ use Rattle.meson_lex.specs.Significant.{Word}
 use Rattle.meson_syntax.specs.Tree.{Listing, Expression}
 use Rattle.meson_syntax.specs.Paths.{Hole, all_around, expression_in}
 use Rattle.meson_values.specs.LendsItems.{with_all}
-use Rattle.meson_syntax.specs.Children.{Found, found, left, look}
+use Rattle.meson_syntax.specs.inside.Children.{Found, found, left, look}
 use Rattle.meson_syntax.specs.inside.Putting.{put_among, ahead, only_child}
 
 -- the answer in a part, with the part in its place

@@ -9,3 +9,4 @@ pub mod ReadingFiles
 pub mod ReadingLists
 pub mod Rows
 pub mod Tokens
+pub mod Children

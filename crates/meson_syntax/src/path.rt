@@ -2,7 +2,8 @@
 
 ghost use Rattle.std.specs.Prelude.{◌≡◌, ◌∷◌, ◌++◌, [], option_map};
 ghost use Rattle.meson_syntax.specs.View.{Bytes, arg_view, block_view, branch_view, expr_view, list_view, operand_view, otherwise_view, stmt_view, tail_view, view};
-ghost use Rattle.meson_syntax.specs.Children.{Any, a_block, an_expression, argument_parts, args_parts, block_parts, branch_parts, expression_any, expression_parts, found_view, look, node_at, node_view, operand_parts, child_nodes, option_of, otherwise_parts, rust_branches_parts, rust_operands_parts, rust_statements_parts, rust_tails_parts, statement_parts, tail_parts};
+ghost use Rattle.meson_syntax.specs.Children.{Any, a_block, an_expression, argument_parts, tail_parts};
+ghost use Rattle.meson_syntax.specs.inside.Children.{args_parts, block_parts, branch_parts, expression_any, expression_parts, found_view, look, node_at, node_view, operand_parts, child_nodes, option_of, otherwise_parts, rust_branches_parts, rust_operands_parts, rust_statements_parts, rust_tails_parts, statement_parts};
 ghost use Rattle.meson_syntax.specs.Paths.{expression_on_path, list_at, list_in, nth};
 
 use crate::tree::{Arg, Block, Branch, Expr, List, Operand, Parsed, Stmt, Tail};

@@ -26,7 +26,7 @@ use Rattle.meson_targets.specs.declared.holder.Held as code_held
 use Rattle.meson_targets.specs.declared.holder.Held.TheVariants as code
 use Rattle.meson_targets.specs.declared.holder.Holder as code_holder
 use Rattle.meson_targets.specs.TargetEdits.{StatementPlace, Held, Holder, set_to, held_by, holder, statement_of, statement_there}
-use Rattle.meson_targets.specs.TargetViews.{held_view, holder_view, IsNamed}
+use Rattle.meson_targets.specs.inside.TargetViews.{held_view, holder_view, IsNamed}
 use Rattle.meson_targets.proofs.StatementsRemoved.{in_build_file}
 
 -- ---- words that are of their kinds

@@ -6,6 +6,7 @@ use Rattle.meson_lex.specs.declared.kinds.Span.{Span}
 use Rattle.meson_syntax.specs.declared.operator.Assignment.TheVariants as assignment
 use Rattle.meson_edit.specs.Blocks.{BlockAt, block_at, statement_in}
 use Rattle.meson_syntax.specs.Children as syntax
+use Rattle.meson_syntax.specs.inside.Children as tree_nodes
 use Rattle.meson_syntax.specs.Paths.{block_of}
 use Rattle.meson_syntax.specs.Tree.{Nowhere, Name, Expression, call, Statement, assign, erase_expression, erase_statement}
 use Rattle.meson_syntax.proofs.parsing.Steps.{some-injective}
@@ -170,5 +171,5 @@ module _ (id : List ℕ) where
       let path : at.part.place.path.steps ≡ line.block.path.steps ++ line.number ∷ [] =
       front_of at.part.place.path.steps line.block.path.steps 0 line.number l.last (sym (ap (λ (q : CallRef). q.path.steps) at.is_place) ∙ l.path) in
       let node : any at.part.it ≡ syntax.a_statement s =
-      some-injective _ _ (sym i.is_node ∙ ap₂ (λ (g : BuildFile Span) q. syntax.node_at (syntax.a_block (block_of g.tree)) q) (sym same_file) path ∙ statement_node f.tree line.block.path.steps line.number s is) in
+      some-injective _ _ (sym i.is_node ∙ ap₂ (λ (g : BuildFile Span) q. tree_nodes.node_at (syntax.a_block (block_of g.tree)) q) (sym same_file) path ∙ statement_node f.tree line.block.path.steps line.number s is) in
       of_sets at.value c.it at.is_call has at.part.it (sets_it at.part.it at.value at.is_set) s node

@@ -4,7 +4,8 @@ use Rattle.std.specs.Prelude.{option_and_then, option_map}
 use Rattle.meson_lex.specs.declared.kinds.Span.{Span}
 use Rattle.meson_syntax.specs.declared.operator.Assignment.TheVariants as assignment
 use Rattle.meson_edit.specs.Blocks.{BlockAt, block_at, statement_in}
-use Rattle.meson_syntax.specs.Children.{Any, an_expression, a_statement, a_block, expression_any, node_at, child_nodes, statement_parts, statements_parts}
+use Rattle.meson_syntax.specs.Children.{Any, an_expression, a_statement, a_block}
+use Rattle.meson_syntax.specs.inside.Children.{expression_any, node_at, child_nodes, statement_parts, statements_parts}
 use Rattle.meson_syntax.specs.Paths.{block_of, nth}
 use Rattle.meson_syntax.specs.Paths as paths
 use Rattle.meson_syntax.specs.Tree.{Name, Expression, Statement, evaluate, assign, Statements, no_statements, statement, statement_list, Block, block, File}

@@ -8,7 +8,7 @@ use Rattle.meson_lex.specs.declared.kinds.Kind.TheVariants as k
 use Rattle.meson_splice.specs.declared.file_set.File.{File}
 use Rattle.meson_edit.specs.Blocks.{BlockAt, all_but, block_at, block_of_node, block_without, statement_in}
 use Rattle.meson_syntax.specs.Grammar.{mark, expression_words, statement_words, otherwise_words, branches_words, block_words}
-use Rattle.meson_syntax.specs.Children as syntax
+use Rattle.meson_syntax.specs.inside.Children as tree_nodes
 use Rattle.meson_syntax.specs.Paths.{Sort, of_expression, of_statement, of_block, Node, Hole, around, reach}
 use Rattle.meson_syntax.specs.Paths as paths
 use Rattle.meson_syntax.specs.Tree.{Nowhere, Plain, Name, Expression, Statement, evaluate, assign, selection, iteration, breaks, continues, Branches, no_branches, branch, Otherwise, nothing_else, otherwise, Statements, no_statements, statement, statement_list, Block, block, file}
@@ -200,7 +200,7 @@ module _ {Y : Type 0} (tell : Part Nowhere → Option Y) where
     ToBlock whole of_block back = Between whole of_block back
 
     -- none stands in an expression
-    none_in : {T : Type 0} (whole : T → List Y) (sort : Sort) (x : Node sort Nowhere) (back : Node sort Nowhere → T) → block_any (syntax.any_of Nowhere sort x) ≡ None → ToBlock whole sort back
+    none_in : {T : Type 0} (whole : T → List Y) (sort : Sort) (x : Node sort Nowhere) (back : Node sort Nowhere → T) → block_any (tree_nodes.any_of Nowhere sort x) ≡ None → ToBlock whole sort back
     none_in whole of_expression x back none = tt
     none_in whole of_statement x back none = tt
     none_in whole of_block x back none = absurd cc

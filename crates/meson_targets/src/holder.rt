@@ -4,7 +4,7 @@ ghost use Rattle.std.specs.Prelude.{◌≡◌, IfOk, option_and_then, option_map
 ghost use Rattle.meson_syntax.specs.View.{stmt_view};
 ghost use Rattle.meson_calls.specs.Loading.{AreParsed, named_trees, views};
 ghost use Rattle.meson_targets.specs.TargetEdits.{held_by, holder, statement_of, statement_there};
-ghost use Rattle.meson_targets.specs.TargetViews.{held_view, holder_view, place_view};
+ghost use Rattle.meson_targets.specs.inside.TargetViews.{held_view, holder_view, place_view};
 
 use crate::uses::StatementPlace;
 use meson_calls::CallRef;

@@ -6,7 +6,7 @@ ghost use Rattle.meson_calls.specs.NotedProjects.{IsNotedFor, loaded_in, project
 ghost use Rattle.meson_calls.specs.Refusals.{RefusedAs};
 ghost use Rattle.meson_steps.specs.Meanings.{AreMeant};
 ghost use Rattle.meson_targets.specs.TargetEdits.{named_removed, not_in_use, call_removed};
-ghost use Rattle.meson_targets.specs.TargetViews.{IsNamed, held_view, place_view};
+ghost use Rattle.meson_targets.specs.inside.TargetViews.{IsNamed, held_view, place_view};
 
 use crate::holder::{Held, Holder, holder_of};
 use crate::uses::{StatementPlace, is_used_outside};

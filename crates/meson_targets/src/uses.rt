@@ -14,7 +14,7 @@ ghost use Rattle.meson_calls.specs.Roles.{one_of};
 ghost use Rattle.meson_calls.specs.Strings.{AreGood, NotesGood, note_words};
 ghost use Rattle.meson_calls.specs.Walks.{read_in};
 ghost use Rattle.meson_targets.specs.TargetEdits.{call_uses, goes_through, is_used_outside, variable_functions};
-ghost use Rattle.meson_targets.specs.TargetViews.{place_view};
+ghost use Rattle.meson_targets.specs.inside.TargetViews.{place_view};
 ghost use Rattle.meson_targets.specs.inside.Uses.{is_noted_outside, is_outside, is_read_outside, note_uses};
 
 use meson_calls::keeper::Keeper;

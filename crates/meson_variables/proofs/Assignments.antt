@@ -12,7 +12,8 @@ use Rattle.meson_variables.specs.Variables.{Assigned, only_value}
 use Rattle.meson_calls.specs.Calls.{chosen}
 use Rattle.meson_calls.specs.Notes.{an_assignment}
 use Rattle.meson_variables.specs.Noted.{note_assigned}
-use Rattle.meson_variables.specs.CodeValues.{value_view, assignment, taken, merged, with_assigned, looked_up}
+use Rattle.meson_variables.specs.CodeValues.{value_view, taken, looked_up}
+use Rattle.meson_variables.specs.inside.CodeValues.{assignment, merged, with_assigned}
 
 abbrev Found : Type 0
 Found = Option (Option (Placed (Expression Span)))

@@ -15,7 +15,8 @@ use Rattle.meson_calls.specs.Project.{Project, Placed}
 use Rattle.meson_calls.specs.Roles.{one_of}
 use Rattle.meson_variables.specs.Variables.{single}
 use Rattle.meson_variables.specs.Expansion.{fixed, Mark, opaque, empty, Expansion, Stand, met, then_expand, element, operand_at, or_empty, within, is_files, are_plus, is_list_operand, literal_item, expand_by, expand_operands, expand_listing, follow_single, of_variable, expand}
-use Rattle.meson_variables.specs.Tallies.{Tally, tally_and, all_marked, Gathered, expanded, with_mark, follow_of, expand_left, listing_left, each_left, argument_left, operands_left, sum_left}
+use Rattle.meson_variables.specs.Tallies.{Tally, tally_and, all_marked, Gathered, expanded, with_mark, follow_of, expand_left}
+use Rattle.meson_variables.specs.inside.Tallies.{listing_left, each_left, argument_left, operands_left, sum_left}
 use Rattle.meson_calls.proofs.Parted.{operand_value}
 
 pub all_marked-append : (t : Tally) (xs ys : List (Mark Span)) → all_marked t (xs ++ ys) ≡ all_marked (all_marked t xs) ys

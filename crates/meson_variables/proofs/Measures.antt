@@ -2,7 +2,7 @@
 use Rattle.std.proofs.Common.{◌≡◌, ℕ, zero, suc, ◌+◌, ◌-◌, ◌*◌, ◌<◌, ◌≤◌, arith, sym, subst, suc-mul}
 use Rattle.meson_variables.specs.declared.variables.Variables.{Variables}
 use Rattle.meson_calls.specs.Notes.{notes}
-use Rattle.meson_variables.specs.Noted.{notes_rank}
+use Rattle.meson_variables.specs.inside.Noted.{notes_rank}
 use Rattle.meson_variables.specs.CodeVariables.{project_of}
 
 abbrev pub values_rank : Variables → ℕ

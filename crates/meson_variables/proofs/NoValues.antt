@@ -4,7 +4,8 @@ use Rattle.std.specs.Prelude.{◌&&◌, ◌||◌, not, bytes_eq, if◌then◌els
 use Rattle.std.proofs.lemmas.Slice.Eq.{bytes_eq-Decides}
 use Rattle.meson_calls.specs.Setters.{is_among}
 use Rattle.meson_variables.specs.declared.values.Values.{Values}
-use Rattle.meson_variables.specs.CodeValues.{has_any, value_in}
+use Rattle.meson_variables.specs.CodeValues.{value_in}
+use Rattle.meson_variables.specs.inside.CodeValues.{has_any}
 
 is_none : {V : Type 0} (o : Option V) → is_some o ≡ false → o ≡ None
 is_none None is = refl

@@ -11,7 +11,8 @@ use Rattle.meson_calls.specs.Parts.{Part, an_expression, a_statement, parts}
 use Rattle.meson_calls.specs.Calls.{Call, call_of, part_call, all_chosen}
 use Rattle.meson_variables.specs.Variables.{Assigned, part_assigned, assignments, is_outermost, only_value, is_iterated, sets_variable, all_known, single, one_of_names}
 use Rattle.meson_calls.specs.Notes.{Note, a_call, an_assignment, a_loop, note_of, noted, notes}
-use Rattle.meson_variables.specs.Noted.{assigned_notes, is_set_by, by_notes, rank, note_rank, notes_rank}
+use Rattle.meson_variables.specs.Noted.{assigned_notes, is_set_by}
+use Rattle.meson_variables.specs.inside.Noted.{by_notes, rank, note_rank, notes_rank}
 use Rattle.meson_calls.specs.Strings.{AreGood, NotesGood}
 
 module _ (x : List ℕ) where

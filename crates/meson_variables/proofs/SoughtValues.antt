@@ -6,7 +6,8 @@ use Rattle.meson_syntax.specs.declared.tree.Parsed.{Parsed}
 use Rattle.meson_syntax.specs.View.{view}
 use Rattle.meson_variables.specs.UnknownSetters.{has_unknown}
 use Rattle.meson_calls.specs.Loading.{AreParsed, named_trees, views}
-use Rattle.meson_variables.specs.Noted.{assigned_notes, by_notes, is_set_by}
+use Rattle.meson_variables.specs.Noted.{assigned_notes, is_set_by}
+use Rattle.meson_variables.specs.inside.Noted.{by_notes}
 use Rattle.meson_calls.specs.declared.note.Note as code
 use Rattle.meson_calls.specs.Notes.{note_views, noted, notes}
 use Rattle.meson_calls.specs.Parts.{parts_of_file}

@@ -8,7 +8,8 @@ use Rattle.meson_syntax.specs.declared.tree.List as rust
 use Rattle.meson_syntax.specs.View.{list_view}
 use Rattle.meson_calls.specs.Project.{Project}
 use Rattle.meson_variables.specs.Expansion.{Stand, empty, within}
-use Rattle.meson_variables.specs.Tallies.{Gathered, all_marked, expanded, with_mark, listing_left}
+use Rattle.meson_variables.specs.Tallies.{Gathered, all_marked, expanded, with_mark}
+use Rattle.meson_variables.specs.inside.Tallies.{listing_left}
 use Rattle.meson_calls.proofs.Listed.{list_is}
 use Rattle.meson_variables.proofs.Gathers.{args_left, no_element, some_element}
 

@@ -1,40 +1,23 @@
 -- What the code's values of variables stand for.
-use Rattle.std.specs.Prelude.{ℕ, Bool, List, [], ◌∷◌, bytes_eq, Option, Some, None, is_some, option_map}
-use Rattle.std.specs.Borrow.{Bor}
-use Rattle.std.specs.List.{list_any}
+use Rattle.std.specs.Prelude.{ℕ, List, [], ◌∷◌, bytes_eq, Option, Some, None, option_map}
 use Rattle.std.specs.Option.{option_flatten}
 use Rattle.std.specs.HashMap.{get_by}
 use Rattle.meson_lex.specs.declared.kinds.Span.{Span}
 use Rattle.meson_syntax.specs.Tree.{Expression}
 use Rattle.meson_syntax.specs.View.{expr_view}
-use Rattle.meson_calls.specs.declared.note.Note as code
 use Rattle.meson_variables.specs.declared.values.Value.{Value}
 use Rattle.meson_variables.specs.declared.values.Values.{Values}
-use Rattle.meson_calls.specs.Project.{child, Placed, place, place_at, placed}
+use Rattle.meson_calls.specs.Project.{child, Placed, place, placed}
 use Rattle.meson_variables.specs.Variables.{Assigned, only_value}
 
 abbrev pub value_view : Value → Placed (Expression Span)
 value_view v = placed (child (place v.file (v.statement ∷ [])) 0) (expr_view v.source.now v.value.now)
-
--- an assignment of this value at the place of a note
-abbrev pub assignment : code.Note → Bool → Expression Span → Placed (Assigned Span)
-assignment n sets e = placed (place_at n.place) (record { value = e; sets = sets })
 
 -- ---- assignments that were met: nothing where there was none, else the value of the only one, or that it has none
 
 abbrev pub taken : List (Placed (Assigned Span)) → Option (Option (Placed (Expression Span)))
 taken [] = None
 taken (a ∷ more) = Some (only_value (a ∷ more))
-
--- the value of the first, none of a further one
-abbrev pub merged : {V : Type 0} → Option (Option V) → Option V → Option V
-merged None value = value
-merged (Some before) value = None
-
--- one more, if there is one
-abbrev pub with_assigned : Option (Option (Placed (Expression Span))) → Option (Placed (Assigned Span)) → Option (Option (Placed (Expression Span)))
-with_assigned before None = before
-with_assigned before (Some a) = Some (merged before (only_value (a ∷ [])))
 
 -- ---- the values by name
 
@@ -48,7 +31,3 @@ met_in v x = looked_up (get_by (λ k. bytes_eq x k.now) v.by_name)
 -- its value
 abbrev pub value_in : Values → List ℕ → Option (Placed (Expression Span))
 value_in v x = option_flatten (met_in v x)
-
--- whether one of the code's names has one
-abbrev pub has_any : Values → List (Bor (List ℕ)) → Bool
-has_any v names = list_any (λ name. is_some (value_in v name.now)) names

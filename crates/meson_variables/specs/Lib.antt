@@ -7,3 +7,4 @@ pub mod Tallies
 pub mod CodeValues
 pub mod Variables
 pub mod UnknownSetters
+pub mod inside

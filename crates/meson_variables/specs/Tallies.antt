@@ -1,15 +1,14 @@
 -- What marks say, gathered mark by mark, and the variables that were followed.
-use Rattle.std.specs.Prelude.{◌≡◌, ℕ, zero, suc, ◌+◌, ◌&&◌, if◌then◌else◌, List, [], ◌∷◌, ◌++◌, length, map, reverse, Option, Some, None, option_map}
+use Rattle.std.specs.Prelude.{◌≡◌, ℕ, zero, suc, ◌+◌, List, [], ◌∷◌, ◌++◌, length, map, reverse, Option, Some, None, option_map}
 use Rattle.meson_lex.specs.declared.kinds.Span.{Span}
-use Rattle.meson_syntax.specs.Tree.{Expression, Operands, Listing, Argument, Arguments}
+use Rattle.meson_syntax.specs.Tree.{Expression}
 use Rattle.meson_calls.specs.declared.call.CallRef.{CallRef}
 use Rattle.meson_variables.specs.declared.source.SourceItem.{SourceItem}
 use Rattle.meson_variables.specs.declared.followed.Followed.{Followed}
 use Rattle.meson_variables.specs.declared.marks.Marks.{Marks}
 use Rattle.meson_variables.specs.declared.marks.Site.{Site}
 use Rattle.meson_calls.specs.Project.{Project, child, place}
-use Rattle.meson_variables.specs.Expansion.{Slot, in_list, fixed, Mark, known, opaque, empty, Expansion, Stand, met, then_expand, within, operand_at, are_plus, is_list_operand, expand_by, expand_operands, expand_listing, expand_each, expand_argument, follow_single, expand}
-use Rattle.meson_calls.specs.Roles.{one_of}
+use Rattle.meson_variables.specs.Expansion.{Slot, in_list, fixed, Mark, known, opaque, empty, Expansion, Stand, met, is_list_operand, expand_by, follow_single, expand}
 use Rattle.meson_variables.specs.TargetSources.{or_option, source_item}
 use Rattle.meson_variables.specs.Variables.{single}
 
@@ -89,35 +88,7 @@ abbrev pub follow_of : {S : Type 0} → Project S → ℕ → List ℕ → List 
 follow_of p zero x followed = met opaque followed
 follow_of p (suc left) x followed = follow_single (expand p left) x followed (single p x)
 
--- what it gives where it is followed once at most
-abbrev pub variable_left : Project Span → ℕ → List ℕ → List (List ℕ) → Expansion Span
-variable_left p left x followed = if one_of followed x then met opaque followed else follow_of p left x followed
-
 -- ---- expansions where so many variables may still be followed inside one another
 
 abbrev pub expand_left : Project Span → ℕ → Expression Span → Stand → List (List ℕ) → Expansion Span
 expand_left p left = expand_by (is_list_operand p) (follow_of p left)
-
-abbrev pub listing_left : Project Span → ℕ → Listing Span → Stand → List (List ℕ) → Expansion Span
-listing_left p left = expand_listing (is_list_operand p) (follow_of p left)
-
--- the list of an array or a call, in which nothing may be met
-abbrev pub list_left : Project Span → ℕ → Listing Span → Stand → List (List ℕ) → Expansion Span
-list_left p left l s followed = within s.place (listing_left p left l s followed)
-
-abbrev pub each_left : Project Span → ℕ → Arguments Span → ℕ → Stand → List (List ℕ) → Expansion Span
-each_left p left = expand_each (is_list_operand p) (follow_of p left)
-
-abbrev pub argument_left : Project Span → ℕ → Argument Span → Stand → List (List ℕ) → Expansion Span
-argument_left p left = expand_argument (is_list_operand p) (follow_of p left)
-
-abbrev pub operands_left : Project Span → ℕ → Operands Span → ℕ → Stand → List (List ℕ) → Expansion Span
-operands_left p left = expand_operands (is_list_operand p) (follow_of p left)
-
--- a sum, by its first operand and the others
-abbrev pub sum_left : Project Span → ℕ → Expression Span → Operands Span → Stand → List (List ℕ) → Expansion Span
-sum_left p left e os s followed = then_expand (expand_left p left e (operand_at s 0) followed) (λ now. operands_left p left os 1 s now)
-
--- a row, which may be one
-abbrev pub row_left : Project Span → ℕ → Expression Span → Operands Span → Stand → List (List ℕ) → Expansion Span
-row_left p left e os s followed = if are_plus os && is_list_operand p e then sum_left p left e os s followed else met opaque followed

@@ -9,7 +9,8 @@ ghost use Rattle.meson_variables.specs.Expansion.{element, operand_at};
 ghost use Rattle.meson_variables.specs.CodeVariables.{AreVariables, project_of};
 ghost use Rattle.meson_calls.specs.Strings.{AreGood};
 ghost use Rattle.meson_calls.specs.GoodLists.{GoodArgs, GoodListing, GoodRow};
-ghost use Rattle.meson_variables.specs.Tallies.{Meets, stand_at, variable_left, expand_left, list_left, each_left, argument_left, sum_left, row_left};
+ghost use Rattle.meson_variables.specs.Tallies.{Meets, stand_at, expand_left};
+ghost use Rattle.meson_variables.specs.inside.Tallies.{variable_left, list_left, each_left, argument_left, sum_left, row_left};
 
 use crate::marks::{Marks, Site};
 use crate::meeting::{is_files, meet_string};

@@ -6,7 +6,8 @@ ghost use Rattle.meson_calls.specs.Calls.{chosen};
 ghost use Rattle.meson_variables.specs.Variables.{is_outermost, only_value};
 ghost use Rattle.meson_calls.specs.Notes.{note_view, note_views};
 ghost use Rattle.meson_variables.specs.Noted.{note_assigned, assigned_notes};
-ghost use Rattle.meson_variables.specs.CodeValues.{value_view, assignment, merged, met_in, taken, value_in, with_assigned};
+ghost use Rattle.meson_variables.specs.CodeValues.{value_view, met_in, taken, value_in};
+ghost use Rattle.meson_variables.specs.inside.CodeValues.{assignment, merged, with_assigned};
 
 use meson_calls::call::BorrowedPlace;
 use meson_calls::note::{Note, What};

@@ -5,11 +5,12 @@ ghost use Rattle.meson_variables.specs.CodeVariables.{AreVariables, is_sought, p
 ghost use Rattle.meson_calls.specs.Setters.{AreKept, is_among};
 ghost use Rattle.meson_variables.specs.UnknownSetters.{has_unknown};
 ghost use Rattle.meson_calls.specs.Loading.{HasFileName, IsProject, loaded_from, project};
-ghost use Rattle.meson_variables.specs.Noted.{by_notes};
+ghost use Rattle.meson_variables.specs.inside.Noted.{by_notes};
 ghost use Rattle.meson_calls.specs.NotedProjects.{IsNotedFor, project_in};
 ghost use Rattle.meson_calls.specs.Notes.{note_views};
 ghost use Rattle.meson_calls.specs.Strings.{NotesGood};
-ghost use Rattle.meson_variables.specs.CodeValues.{has_any, value_in, value_view};
+ghost use Rattle.meson_variables.specs.CodeValues.{value_in, value_view};
+ghost use Rattle.meson_variables.specs.inside.CodeValues.{has_any};
 ghost use Rattle.meson_variables.specs.Variables.{single};
 ghost use Rattle.meson_calls.specs.declared.call.Role.{Role};
 

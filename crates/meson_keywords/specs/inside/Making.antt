@@ -3,7 +3,7 @@ use Rattle.std.specs.Prelude.{◌≡◌, List, ◌++◌, Result, Ok}
 use Rattle.meson_splice.specs.Patch.{then_ok}
 use Rattle.meson_calls.specs.declared.refusal.Refusal.{Refusal}
 use Rattle.meson_keywords.specs.declared.tasks.Task as code
-use Rattle.meson_keywords.specs.Tasking.{TasksAre}
+use Rattle.meson_keywords.specs.inside.Tasking.{TasksAre}
 use Rattle.meson_keywords.specs.Tasks.{Task}
 
 -- Those that are meant are these of the code, and then the rest.

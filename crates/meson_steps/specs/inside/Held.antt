@@ -13,7 +13,8 @@ use Rattle.meson_steps.specs.declared.held.HeldList.{HeldList}
 use Rattle.meson_steps.specs.declared.journal.Saved.TheVariants as saved
 use Rattle.meson_steps.specs.declared.spans.ListSpot.{ListSpot}
 use Rattle.meson_steps.specs.declared.work.Work.{Work}
-use Rattle.meson_steps.specs.Journal.{IsSavedToo, MayTakeMoved, changed_tree, settled_tree}
+use Rattle.meson_steps.specs.Journal.{changed_tree}
+use Rattle.meson_steps.specs.inside.Journal.{IsSavedToo, MayTakeMoved, settled_tree}
 use Rattle.meson_steps.specs.declared.step.ListStep.{ListStep}
 use Rattle.meson_calls.specs.declared.call.CallRef.{CallRef}
 use Rattle.meson_calls.specs.declared.refusal.Refusal.{Refusal}
@@ -21,7 +22,8 @@ use Rattle.meson_calls.specs.Loading.{Loaded}
 use Rattle.meson_steps.specs.ListSteps.{bare, wide_depth}
 use Rattle.meson_steps.specs.ResultLimits.{saturated}
 use Rattle.meson_steps.specs.Steps.{Step}
-use Rattle.meson_steps.specs.Working.{HasReached, IsChanged, MayReadList, Standing, list_again, standing}
+use Rattle.meson_steps.specs.Working.{HasReached, MayReadList, Standing, standing}
+use Rattle.meson_steps.specs.inside.Working.{IsChanged, list_again}
 
 -- what is made once a list that is held back is in its tree; of the tree's file something is saved then
 abbrev pub settled : Option HeldList → Work → Standing

@@ -2,7 +2,8 @@
 use Rattle.std.specs.Prelude.{ℕ, List, Option, Some, None, option_map, option_and_then}
 use Rattle.meson_lex.specs.declared.kinds.Span.{Span}
 use Rattle.meson_edit.specs.Blocks.{statement_in}
-use Rattle.meson_syntax.specs.Children.{Any, an_expression, a_statement, a_block, statement_parts}
+use Rattle.meson_syntax.specs.Children.{Any, an_expression, a_statement, a_block}
+use Rattle.meson_syntax.specs.inside.Children.{statement_parts}
 use Rattle.meson_syntax.specs.Paths.{nth}
 use Rattle.meson_syntax.specs.Tree.{Block}
 use Rattle.meson_syntax.specs.View.{block_view, stmt_view}

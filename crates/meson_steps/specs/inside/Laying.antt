@@ -11,7 +11,7 @@ use Rattle.meson_syntax.specs.View.{view}
 use Rattle.meson_calls.specs.Loading.{name_of_file}
 use Rattle.meson_steps.specs.declared.step.ListStep.{ListStep}
 use Rattle.meson_steps.specs.Steps.{effective}
-use Rattle.meson_steps.specs.Working.{placed_edit}
+use Rattle.meson_steps.specs.inside.Working.{placed_edit}
 
 -- Splices lay out the edit of a step in the tree `t` of its file, but for those that change nothing.
 pub record AreLaid (files : List File) (t : Parsed) (step : ListStep) (splices : List Splice) : Type 0 where

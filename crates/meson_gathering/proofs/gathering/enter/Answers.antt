@@ -2,7 +2,8 @@ use Rattle.std.proofs.Common.{◌∷◌, [], None, inr, refl, sym, option_map}
 use Rattle.meson_splice.specs.Files.{position_of_file}
 use Rattle.meson_gathering.specs.Gathering.{Told, file_of, Ending}
 use Rattle.meson_gathering.specs.ReadCounts.{MayAskIfNew, unread_file}
-use Rattle.meson_gathering.specs.Gathered.{IsNotEntered, past_limit, at_name, IsNotAdded, StopsAt}
+use Rattle.meson_gathering.specs.Gathered.{StopsAt}
+use Rattle.meson_gathering.specs.inside.Gathered.{IsNotEntered, past_limit, at_name, IsNotAdded}
 use Rattle.meson_gathering.proofs.Asking.{asks_and_reads, asks_for_file, asks_for_none, asks_nothing, is_new, may_ask_new, unadded_reads}
 use Rattle.meson_gathering.proofs.EnteredFiles.{enter_new, next_name}
 use Rattle.meson_gathering.proofs.Stopping.{if_err, unadded_stops, unread_stops}

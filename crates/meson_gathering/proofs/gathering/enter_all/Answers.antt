@@ -2,7 +2,7 @@ use Rattle.std.proofs.Common.{◌≤◌, ◌+◌, ◌∷◌, [], ◌∙◌, Some
 use Rattle.std.proofs.lemmas.List.{take_all}
 use Rattle.std.proofs.lemmas.Result.{err_from_is_err_and}
 use Rattle.meson_gathering.specs.Gathering.{Told, Ending, files_entered}
-use Rattle.meson_gathering.specs.Gathered.{IsNotEntered}
+use Rattle.meson_gathering.specs.inside.Gathered.{IsNotEntered}
 use Rattle.meson_gathering.specs.ReadCounts.{EntersEach, EntersOne, next_name, no_name}
 use Rattle.meson_gathering.proofs.EnteredFiles.{name_in, names_cut, names_more, stop_within, entered_then, grows_none, grows_then}
 use Rattle.meson_gathering.proofs.Stopping.{stops_within}

@@ -1,7 +1,7 @@
 use Rattle.std.proofs.Common.{◌≡◌, ◌≤◌, map, take, option_map}
 use Rattle.std.specs.Prelude.{Some, string_bytes}
 use Rattle.meson_gathering.specs.Gathering.{Told, files_entered}
-use Rattle.meson_gathering.specs.Gathered.{Grows}
+use Rattle.meson_gathering.specs.inside.Gathered.{Grows}
 use Rattle.meson_gathering.specs.ReadCounts.{EntersEach}
 use Rattle.meson_gathering.proofs.gathering.enter_all.Given as goal
 

@@ -5,7 +5,7 @@ use Rattle.meson_syntax.specs.Reads.{IsSpanned, MayNotRead}
 use Rattle.meson_syntax.specs.View.{view}
 use Rattle.meson_calls.specs.Folders.{IsFileName}
 use Rattle.meson_calls.specs.Subdirs.{Enters}
-use Rattle.meson_gathering.specs.Gathered.{StopsLooking}
+use Rattle.meson_gathering.specs.inside.Gathered.{StopsLooking}
 use Rattle.meson_gathering.proofs.EnteredNames.{names_named}
 use Rattle.meson_gathering.proofs.FileNames.{name_of, named_at}
 use Rattle.meson_gathering.proofs.gathering.entry_at.Goals as goal

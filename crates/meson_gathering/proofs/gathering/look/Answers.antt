@@ -3,7 +3,7 @@ use Rattle.std.proofs.lemmas.Result.{err_from_is_err_and}
 use Rattle.meson_splice.specs.Files.{bytes_at}
 use Rattle.meson_calls.specs.Loading.{name_of_file}
 use Rattle.meson_gathering.specs.Gathering.{Told, Ending, Gathers, files_entered}
-use Rattle.meson_gathering.specs.Gathered.{IsNotEntered}
+use Rattle.meson_gathering.specs.inside.Gathered.{IsNotEntered}
 use Rattle.meson_gathering.specs.ReadCounts.{EntersEach, StopsEntering, unread_file}
 use Rattle.meson_gathering.proofs.Asking.{looking_reads}
 use Rattle.meson_gathering.proofs.Places.{not_entered, not_parsed}

@@ -3,7 +3,7 @@ use Rattle.meson_calls.specs.Notes.{note_view, note_views}
 use Rattle.meson_calls.specs.ChosenNotes.{places_that}
 use Rattle.meson_calls.specs.Project.{place_at}
 use Rattle.meson_calls.proofs.Picked.{skipped, picked}
-use Rattle.meson_inventory.specs.Holdings.{note_calls}
+use Rattle.meson_inventory.specs.inside.Holdings.{note_calls}
 use Rattle.meson_inventory.proofs.holdings.calls_of.Goals as goal
 use Rattle.meson_inventory.proofs.holdings.calls_of.Goals.{then-is_call_of+in_ok-place+in_ok-push, else-is_call_of}
 

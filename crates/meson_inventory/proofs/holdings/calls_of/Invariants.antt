@@ -1,7 +1,7 @@
 use Rattle.std.proofs.Common.{◌≡◌, ◌++◌, drop}
 use Rattle.meson_calls.specs.Notes.{note_views}
 use Rattle.meson_calls.specs.ChosenNotes.{places_that}
-use Rattle.meson_inventory.specs.Holdings.{note_calls}
+use Rattle.meson_inventory.specs.inside.Holdings.{note_calls}
 use Rattle.meson_inventory.proofs.holdings.calls_of.Given as goal
 
 abbrev pub invariant-loop-i : goal.invariant-loop-i

@@ -1,7 +1,7 @@
 use Rattle.std.proofs.Common.{◌∙◌, sym, ap}
 use Rattle.std.specs.Prelude.{bytes_eq}
 use Rattle.meson_calls.specs.Notes.{what_view}
-use Rattle.meson_inventory.specs.Holdings.{note_calls}
+use Rattle.meson_inventory.specs.inside.Holdings.{note_calls}
 use Rattle.meson_inventory.proofs.holdings.is_call_of.Goals as goal
 
 pub returns-in-Call : goal.returns-in-Call

@@ -4,7 +4,8 @@ use Rattle.std.proofs.lemmas.Result.{IfOk-weaker}
 use Rattle.meson_calls.specs.Loading.{project}
 use Rattle.meson_calls.specs.Notes.{note_views}
 use Rattle.meson_calls.specs.ChosenNotes.{places_that}
-use Rattle.meson_inventory.specs.Holdings.{IsCall, held_calls, not_entered, note_calls}
+use Rattle.meson_inventory.specs.Holdings.{held_calls, not_entered}
+use Rattle.meson_inventory.specs.inside.Holdings.{IsCall, note_calls}
 use Rattle.meson_inventory.proofs.CallPlacesListed.{function_places}
 use Rattle.meson_inventory.proofs.CallsHeld.{calls_called}
 use Rattle.meson_inventory.proofs.holdings.subdirs_held.Goals as goal

@@ -5,7 +5,8 @@ use Rattle.meson_calls.specs.declared.call.Role.TheVariants as role
 use Rattle.meson_calls.specs.Loading.{project}
 use Rattle.meson_calls.specs.ChosenNotes.{places_with_role}
 use Rattle.meson_calls.proofs.Picked.{role_places}
-use Rattle.meson_inventory.specs.Holdings.{IsCall, held_calls}
+use Rattle.meson_inventory.specs.Holdings.{held_calls}
+use Rattle.meson_inventory.specs.inside.Holdings.{IsCall}
 use Rattle.meson_inventory.proofs.CallsHeld.{targets_called}
 use Rattle.meson_inventory.proofs.holdings.targets_held.Goals as goal
 

@@ -7,7 +7,7 @@ use Rattle.meson_calls.specs.declared.refusal.Refusal.TheVariants.{OutOfMemory}
 use Rattle.meson_steps.specs.Done.{MayNotBeDone}
 use Rattle.meson_steps.specs.ResultLimits.{plain_trees}
 use Rattle.meson_steps.specs.Working.{so_far}
-use Rattle.meson_keywords.specs.Tasking.{TasksAre}
+use Rattle.meson_keywords.specs.inside.Tasking.{TasksAre}
 use Rattle.meson_keywords.specs.TaskSteps.{tasks_steps}
 use Rattle.meson_steps.proofs.UnderWay.{refused_anyway}
 use Rattle.meson_keywords.proofs.TasksLeft.{TasksLeft, next_task, task_refused, tasks_first, tasks_more, whole_done}

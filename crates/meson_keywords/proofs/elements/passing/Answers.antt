@@ -5,7 +5,7 @@ use Rattle.meson_syntax.specs.Tree.{Argument}
 use Rattle.meson_syntax.specs.Grammar.{argument_words}
 use Rattle.meson_syntax.specs.View.{arg_view, args_view}
 use Rattle.meson_calls.specs.Strings.{AreGood}
-use Rattle.meson_keywords.specs.Tasking.{test_of}
+use Rattle.meson_keywords.specs.inside.Tasking.{test_of}
 use Rattle.meson_keywords.specs.KeywordEdits.{passing}
 use Rattle.meson_keywords.proofs.ElementsSay.{passing_here, passing_more}
 use Rattle.meson_calls.proofs.Nested.{good_arg}

@@ -4,7 +4,7 @@ use Rattle.std.specs.Prelude.{Ok}
 use Rattle.std.proofs.lemmas.List.{get_or-map, length-map, take_all}
 use Rattle.std.proofs.lemmas.Result.{err_from_is_err_and}
 use Rattle.meson_keywords.specs.Tasks.{once, remove}
-use Rattle.meson_keywords.specs.Tasking.{AreTasksBehind}
+use Rattle.meson_keywords.specs.inside.Tasking.{AreTasksBehind}
 use Rattle.meson_keywords.proofs.TasksSoFar.{behind_one, behind_more, more_removed, remove_made, remove_no_list, remove_no_values}
 use Rattle.meson_keywords.proofs.tasks.remove_one.Goals as goal
 

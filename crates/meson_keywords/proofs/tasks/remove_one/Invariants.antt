@@ -1,7 +1,7 @@
 use Rattle.std.proofs.Common.{◌∷◌, map}
 use Rattle.std.specs.Prelude.{Ok, take}
 use Rattle.meson_keywords.specs.Tasks.{once, remove}
-use Rattle.meson_keywords.specs.Tasking.{AreTasksBehind}
+use Rattle.meson_keywords.specs.inside.Tasking.{AreTasksBehind}
 use Rattle.meson_keywords.proofs.tasks.remove_one.Given as goal
 
 abbrev pub invariant-loop-i : goal.invariant-loop-i

@@ -8,7 +8,7 @@ use Rattle.meson_variables.specs.TargetSources.{or_option}
 use Rattle.meson_calls.specs.NamedArguments.{kept_args}
 use Rattle.meson_sources.specs.SourceEdits.{extra_key, insertion_steps, plain_len}
 use Rattle.meson_variables.specs.Tallies.{gathered}
-use Rattle.meson_sources.specs.Targeted.{lone_or_new}
+use Rattle.meson_sources.specs.inside.Targeted.{lone_or_new}
 use Rattle.meson_steps.specs.Meanings.{AreBehind}
 use Rattle.meson_sources.proofs.ExtrasAdded.{added_unchecked, home_meant, call_meant, call_refused}
 use Rattle.meson_sources.proofs.extra_edits.extra_added.Goals as goal

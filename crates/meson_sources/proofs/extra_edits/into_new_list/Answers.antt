@@ -8,7 +8,7 @@ use Rattle.meson_steps.specs.declared.step.ListEdit.TheVariants as code
 use Rattle.meson_steps.specs.ListSteps.{bare}
 use Rattle.meson_steps.specs.Steps.{step_in}
 use Rattle.meson_sources.specs.SourceEdits.{insertion_steps, written_keyword}
-use Rattle.meson_sources.specs.Targeted.{new_list_steps}
+use Rattle.meson_sources.specs.inside.Targeted.{new_list_steps}
 use Rattle.meson_sources.proofs.extra_edits.into_new_list.Goals as goal
 
 pub returns-clause-done : goal.returns-clause-done

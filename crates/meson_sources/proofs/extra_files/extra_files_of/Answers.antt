@@ -10,7 +10,7 @@ use Rattle.meson_variables.specs.CodeVariables.{project_of}
 use Rattle.meson_calls.specs.NamedArguments.{kept_args}
 use Rattle.meson_variables.specs.TargetSources.{or_call, or_option}
 use Rattle.meson_variables.specs.Tallies.{gathered}
-use Rattle.meson_sources.specs.Targeted.{extra_gathered}
+use Rattle.meson_sources.specs.inside.Targeted.{extra_gathered}
 use Rattle.meson_sources.proofs.ExtrasTold.{told_once, told_twice}
 use Rattle.meson_sources.proofs.KeyTexts.{extra_text}
 use Rattle.meson_sources.proofs.extra_files.extra_files_of.Goals as goal

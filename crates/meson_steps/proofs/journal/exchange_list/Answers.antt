@@ -8,7 +8,8 @@ use Rattle.meson_syntax.specs.Moving.{moved}
 use Rattle.meson_syntax.specs.Paths.{ListAt, list_at}
 use Rattle.meson_syntax.specs.View.{list_view, view}
 use Rattle.meson_steps.specs.declared.journal.Saved.TheVariants as saved
-use Rattle.meson_steps.specs.Journal.{MayPut, MayShift, PutsBack, changed_tree, settled_tree}
+use Rattle.meson_steps.specs.Journal.{MayPut, MayShift, PutsBack, changed_tree}
+use Rattle.meson_steps.specs.inside.Journal.{settled_tree}
 use Rattle.meson_steps.proofs.ListTaken.{goes_back, kept, may_go_back, may_shift, settled_is, unmoved}
 use Rattle.meson_steps.proofs.Restoring.{changed_back, changed_is, changed_there, puts_back_more}
 use Rattle.meson_steps.proofs.SameRead.{same_read}

@@ -2,7 +2,8 @@ use Rattle.std.proofs.Common.{◌∙◌, ◌+◌, ap, sym, drop, get_or}
 use Rattle.std.specs.Prelude.{option_and_then}
 use Rattle.std.proofs.lemmas.List.{at_drop_more, at_drop_all}
 use Rattle.meson_lex.specs.declared.kinds.Span.{Span}
-use Rattle.meson_syntax.specs.Children.{a_block, node_at}
+use Rattle.meson_syntax.specs.Children.{a_block}
+use Rattle.meson_syntax.specs.inside.Children.{node_at}
 use Rattle.meson_syntax.specs.View.{block_view, view}
 use Rattle.meson_steps.specs.inside.Layers.{block_any, layer_view}
 use Rattle.meson_steps.proofs.BlockNodes.{block_reached, next_below}

@@ -1,5 +1,5 @@
 use Rattle.std.proofs.Common.{◌≡◌, List, ℕ, drop}
-use Rattle.meson_syntax.specs.Children.{otherwise_parts}
+use Rattle.meson_syntax.specs.inside.Children.{otherwise_parts}
 use Rattle.meson_syntax.specs.View.{otherwise_view}
 use Rattle.meson_steps.proofs.StatementsThere.{look_block}
 use Rattle.meson_steps.proofs.statements.block_of_selection.Given as goal

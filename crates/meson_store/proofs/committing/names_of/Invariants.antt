@@ -1,5 +1,5 @@
 use Rattle.std.proofs.Common.{◌≡◌, ◌++◌, map, drop}
-use Rattle.meson_store.specs.Commit.{names_of}
+use Rattle.meson_store.specs.inside.Commit.{names_of}
 use Rattle.meson_store.specs.inside.Planned.{put_of}
 use Rattle.meson_store.proofs.committing.names_of.Given as goal
 

@@ -1,7 +1,8 @@
 use Rattle.std.proofs.Common.{◌≡◌, ◌∙◌, refl, ◌<◌, ◌≤◌, ◌+◌, [], ◌∷◌, ◌++◌, List, ℕ, Some, sym, ap, subst, length, map, take, drop, reverse, vec_len, arith, append_assoc, append-nil}
 use Rattle.std.proofs.lemmas.List.{length-map, take_all, drop_all}
 use Rattle.std.specs.Prelude.{slice_index_or}
-use Rattle.meson_store.specs.Commit.{GoBack, all_back, names_of}
+use Rattle.meson_store.specs.Commit.{GoBack, all_back}
+use Rattle.meson_store.specs.inside.Commit.{names_of}
 use Rattle.meson_store.specs.inside.Planned.{put_of}
 use Rattle.meson_store.specs.Seen.{Seen, seen}
 use Rattle.meson_store.specs.declared.committing.Planned.{Planned}

@@ -1,6 +1,7 @@
 use Rattle.std.proofs.Common.{◌≡◌, ◌≤◌, ◌+◌, ◌++◌, ℕ, List, length, map, take, drop, reverse, vec_len}
 use Rattle.std.specs.Prelude.{vec_capacity}
-use Rattle.meson_store.specs.Commit.{GoBack, names_of}
+use Rattle.meson_store.specs.Commit.{GoBack}
+use Rattle.meson_store.specs.inside.Commit.{names_of}
 use Rattle.meson_store.specs.inside.Planned.{put_of}
 use Rattle.meson_store.specs.Seen.{seen}
 use Rattle.meson_store.proofs.committing.put_back.Given as goal

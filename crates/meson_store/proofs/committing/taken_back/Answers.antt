@@ -1,6 +1,7 @@
 use Rattle.std.proofs.Common.{◌∙◌, ◌++◌, map, take, reverse, ap, subst}
 use Rattle.std.proofs.lemmas.List.{take-map}
-use Rattle.meson_store.specs.Commit.{GoBack, fault_of, names_of}
+use Rattle.meson_store.specs.Commit.{GoBack, fault_of}
+use Rattle.meson_store.specs.inside.Commit.{names_of}
 use Rattle.meson_store.specs.inside.Planned.{put_of}
 use Rattle.meson_store.specs.Seen.{seen}
 use Rattle.meson_store.proofs.Returns.{failed-name, gone-back}

@@ -1,6 +1,7 @@
 use Rattle.std.proofs.Common.{◌+◌, ◌∙◌, length, refl, ap, arith}
 use Rattle.std.proofs.lemmas.List.{get_or_default}
-use Rattle.meson_syntax.specs.Children.{tail_parts, look}
+use Rattle.meson_syntax.specs.Children.{tail_parts}
+use Rattle.meson_syntax.specs.inside.Children.{look}
 use Rattle.meson_syntax.specs.View.{tail_view}
 use Rattle.meson_syntax.proofs.Putting.{ahead-more, ahead-past, look-found, look-left}
 use Rattle.meson_syntax.proofs.list_mut.tail_spot.Goals as goal

@@ -1,5 +1,6 @@
 use Rattle.std.proofs.Common.{◌∙◌, ap, refl}
-use Rattle.meson_syntax.specs.Children.{argument_parts, args_parts, look}
+use Rattle.meson_syntax.specs.Children.{argument_parts}
+use Rattle.meson_syntax.specs.inside.Children.{args_parts, look}
 use Rattle.meson_syntax.specs.View.{arg_view}
 use Rattle.meson_syntax.proofs.Looks.{look-here, look-past, look-end}
 use Rattle.meson_syntax.proofs.path.in_args.Goals as goal

@@ -1,5 +1,5 @@
 use Rattle.std.proofs.Common.{◌∙◌, ap, sym}
-use Rattle.meson_syntax.specs.Children.{block_parts, rust_statements_parts}
+use Rattle.meson_syntax.specs.inside.Children.{block_parts, rust_statements_parts}
 use Rattle.meson_syntax.specs.Paths.{nth}
 use Rattle.meson_syntax.proofs.PartsOf.{view-block}
 use Rattle.meson_syntax.proofs.path.in_block.Goals as goal

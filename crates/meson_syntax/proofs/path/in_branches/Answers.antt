@@ -1,5 +1,5 @@
 use Rattle.std.proofs.Common.{◌∙◌, ap, refl}
-use Rattle.meson_syntax.specs.Children.{branch_parts, rust_branches_parts, look}
+use Rattle.meson_syntax.specs.inside.Children.{branch_parts, rust_branches_parts, look}
 use Rattle.meson_syntax.specs.View.{branch_view}
 use Rattle.meson_syntax.proofs.Looks.{look-here, look-past, look-end}
 use Rattle.meson_syntax.proofs.path.in_branches.Goals as goal

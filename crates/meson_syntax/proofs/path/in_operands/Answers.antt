@@ -1,5 +1,5 @@
 use Rattle.std.proofs.Common.{◌∙◌, ap, refl}
-use Rattle.meson_syntax.specs.Children.{operand_parts, rust_operands_parts, look}
+use Rattle.meson_syntax.specs.inside.Children.{operand_parts, rust_operands_parts, look}
 use Rattle.meson_syntax.specs.View.{operand_view}
 use Rattle.meson_syntax.proofs.Looks.{look-here, look-past, look-end}
 use Rattle.meson_syntax.proofs.path.in_operands.Goals as goal

@@ -1,5 +1,5 @@
 use Rattle.std.proofs.Common.{◌≡◌, List, ℕ, drop}
-use Rattle.meson_syntax.specs.Children.{rust_operands_parts, look}
+use Rattle.meson_syntax.specs.inside.Children.{rust_operands_parts, look}
 use Rattle.meson_syntax.proofs.path.in_operands.Given as goal
 
 -- what is left of the number looks in the elements that are left

@@ -1,5 +1,6 @@
 use Rattle.std.proofs.Common.{[], ◌∷◌}
-use Rattle.meson_syntax.specs.Children.{an_expression, rust_operands_parts}
+use Rattle.meson_syntax.specs.Children.{an_expression}
+use Rattle.meson_syntax.specs.inside.Children.{rust_operands_parts}
 use Rattle.meson_syntax.specs.View.{expr_view}
 use Rattle.meson_syntax.proofs.Looks.{among-first, among-others}
 use Rattle.meson_syntax.proofs.path.in_row.Goals as goal

@@ -1,5 +1,5 @@
 use Rattle.std.proofs.Common.{◌∙◌, ap, sym, ◌++◌}
-use Rattle.meson_syntax.specs.Children.{look, otherwise_parts, rust_branches_parts}
+use Rattle.meson_syntax.specs.inside.Children.{look, otherwise_parts, rust_branches_parts}
 use Rattle.meson_syntax.specs.View.{otherwise_view}
 use Rattle.meson_syntax.proofs.Looks.{among-first, among-others, none-others}
 use Rattle.meson_syntax.proofs.path.in_selection.Goals as goal

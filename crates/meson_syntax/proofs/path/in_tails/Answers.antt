@@ -1,5 +1,6 @@
 use Rattle.std.proofs.Common.{◌∙◌, ap, refl}
-use Rattle.meson_syntax.specs.Children.{tail_parts, rust_tails_parts, look}
+use Rattle.meson_syntax.specs.Children.{tail_parts}
+use Rattle.meson_syntax.specs.inside.Children.{rust_tails_parts, look}
 use Rattle.meson_syntax.specs.View.{tail_view}
 use Rattle.meson_syntax.proofs.Looks.{look-here, look-past, look-end}
 use Rattle.meson_syntax.proofs.path.in_tails.Goals as goal

@@ -4,7 +4,7 @@ use Rattle.meson_splice.specs.Files.{bytes_at}
 use Rattle.meson_edit.specs.Blocks.{block_at, statement_in}
 use Rattle.meson_syntax.specs.View.{stmt_view, view}
 use Rattle.meson_calls.proofs.Loads.{as_many}
-use Rattle.meson_targets.specs.TargetViews.{place_view}
+use Rattle.meson_targets.specs.inside.TargetViews.{place_view}
 use Rattle.meson_targets.specs.TargetEdits.{held_by}
 use Rattle.meson_targets.proofs.StatementsRemoved.{no_statement, statement_is}
 use Rattle.meson_targets.proofs.holder.held_at.Goals as goal

@@ -1,6 +1,6 @@
 use Rattle.std.proofs.Common.{◌≡◌, ◌∙◌, sym, ap, ap₂, subst, true}
 use Rattle.std.specs.Prelude.{◌&&◌}
-use Rattle.meson_targets.specs.TargetViews.{place_view}
+use Rattle.meson_targets.specs.inside.TargetViews.{place_view}
 use Rattle.meson_calls.specs.Notes.{note_view}
 use Rattle.meson_calls.specs.Strings.{AreGood, note_words}
 use Rattle.meson_targets.specs.inside.Uses.{is_outside, note_uses}

@@ -1,6 +1,6 @@
 use Rattle.std.proofs.Common.{◌≡◌, take}
 use Rattle.std.specs.Prelude.{false}
-use Rattle.meson_targets.specs.TargetViews.{place_view}
+use Rattle.meson_targets.specs.inside.TargetViews.{place_view}
 use Rattle.meson_targets.specs.inside.Uses.{is_read_outside}
 use Rattle.meson_targets.proofs.uses.is_read_outside.Given as goal
 

@@ -1,5 +1,5 @@
 use Rattle.std.proofs.Common.{◌∙◌, sym, ap}
-use Rattle.meson_targets.specs.TargetViews.{place_view}
+use Rattle.meson_targets.specs.inside.TargetViews.{place_view}
 use Rattle.meson_calls.specs.NotedProjects.{project_in}
 use Rattle.meson_calls.specs.Notes.{note_views}
 use Rattle.meson_targets.specs.inside.Uses.{is_noted_outside, is_read_outside}

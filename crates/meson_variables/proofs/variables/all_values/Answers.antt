@@ -3,7 +3,7 @@ use Rattle.std.specs.Prelude.{not}
 use Rattle.std.proofs.lemmas.Result.{IfOk-weaker}
 use Rattle.meson_variables.specs.UnknownSetters.{has_unknown}
 use Rattle.meson_calls.specs.Loading.{named_trees, views}
-use Rattle.meson_variables.specs.Noted.{by_notes}
+use Rattle.meson_variables.specs.inside.Noted.{by_notes}
 use Rattle.meson_calls.specs.Notes.{note_views, notes}
 use Rattle.meson_calls.specs.Strings.{NotesGood}
 use Rattle.meson_calls.proofs.GoodNotes.{project_good}

@@ -2,7 +2,8 @@ use Rattle.std.proofs.Common.{◌≡◌, ◌∙◌, refl, sym, ap}
 use Rattle.std.specs.Prelude.{Bool, true, false, not, ◌&&◌, if◌then◌else◌, Option, None}
 use Rattle.std.specs.Option.{option_flatten}
 use Rattle.meson_calls.specs.Notes.{note_views}
-use Rattle.meson_variables.specs.Noted.{assigned_notes, is_set_by, by_notes}
+use Rattle.meson_variables.specs.Noted.{assigned_notes, is_set_by}
+use Rattle.meson_variables.specs.inside.Noted.{by_notes}
 use Rattle.meson_variables.specs.Variables.{only_value}
 use Rattle.meson_variables.proofs.variables.known_values.Goals as goal
 

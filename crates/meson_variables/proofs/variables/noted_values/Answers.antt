@@ -1,7 +1,7 @@
 use Rattle.std.proofs.Common.{◌≡◌, ◌∙◌, length, ap, arith}
 use Rattle.std.specs.Prelude.{not}
 use Rattle.meson_variables.specs.UnknownSetters.{has_unknown}
-use Rattle.meson_variables.specs.Noted.{by_notes}
+use Rattle.meson_variables.specs.inside.Noted.{by_notes}
 use Rattle.meson_calls.specs.NotedProjects.{project_in}
 use Rattle.meson_calls.specs.Notes.{note_views, notes}
 use Rattle.meson_calls.specs.Spelling.{sought_words}

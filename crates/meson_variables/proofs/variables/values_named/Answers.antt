@@ -2,7 +2,7 @@ use Rattle.std.proofs.Common.{rules, ◌≡◌, ◌∙◌, sym}
 use Rattle.std.specs.Prelude.{false, not}
 use Rattle.meson_calls.specs.Notes.{note_views}
 use Rattle.meson_variables.specs.Noted.{assigned_notes, is_set_by}
-use Rattle.meson_variables.specs.CodeValues.{has_any}
+use Rattle.meson_variables.specs.inside.CodeValues.{has_any}
 use Rattle.meson_variables.specs.UnknownSetters.{has_unknown}
 use Rattle.meson_variables.specs.Variables.{only_value}
 use Rattle.meson_variables.proofs.NoValues.{known_or_not, none_has}

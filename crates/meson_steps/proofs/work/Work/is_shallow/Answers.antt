@@ -5,7 +5,7 @@ use Rattle.meson_syntax.specs.Grammar.{file_depth}
 use Rattle.meson_syntax.specs.Reads.{max_depth}
 use Rattle.meson_syntax.specs.View.{view}
 use Rattle.meson_steps.specs.Journal.{is_saved}
-use Rattle.meson_steps.specs.Working.{IsShallow}
+use Rattle.meson_steps.specs.inside.Working.{IsShallow}
 use Rattle.meson_steps.proofs.SameRead.{same_read}
 use Rattle.meson_steps.proofs.WorkLimits.{fits, passes}
 use Rattle.meson_steps.proofs.work.Work.is_shallow.Goals as goal

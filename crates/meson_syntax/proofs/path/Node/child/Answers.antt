@@ -1,5 +1,5 @@
 use Rattle.std.proofs.Common.{◌∙◌, ap, sym}
-use Rattle.meson_syntax.specs.Children.{option_of, expression_parts, statement_parts, node_view, child_nodes}
+use Rattle.meson_syntax.specs.inside.Children.{option_of, expression_parts, statement_parts, node_view, child_nodes}
 use Rattle.meson_syntax.specs.Paths.{nth}
 use Rattle.meson_syntax.specs.View.{expr_view, stmt_view}
 use Rattle.meson_syntax.proofs.Looks.{look-nth}

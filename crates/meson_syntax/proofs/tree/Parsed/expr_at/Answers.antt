@@ -1,7 +1,7 @@
 use Rattle.std.proofs.Common.{◌∙◌, ap, sym}
 use Rattle.std.specs.Prelude.{option_and_then}
 use Rattle.meson_lex.specs.declared.kinds.Span.{Span}
-use Rattle.meson_syntax.specs.Children.{expression_any}
+use Rattle.meson_syntax.specs.inside.Children.{expression_any}
 use Rattle.meson_syntax.specs.View.{view}
 use Rattle.meson_syntax.proofs.PathNodes.{expression-reached}
 use Rattle.meson_syntax.proofs.tree.Parsed.expr_at.Goals as goal

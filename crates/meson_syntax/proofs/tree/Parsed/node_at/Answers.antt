@@ -1,7 +1,8 @@
 use Rattle.std.proofs.Common.{◌∙◌, ◌+◌, ap, sym, drop}
 use Rattle.std.specs.Prelude.{option_and_then}
 use Rattle.std.proofs.lemmas.List.{at_drop_more}
-use Rattle.meson_syntax.specs.Children.{a_block, node_at, node_view}
+use Rattle.meson_syntax.specs.Children.{a_block}
+use Rattle.meson_syntax.specs.inside.Children.{node_at, node_view}
 use Rattle.meson_syntax.specs.View.{block_view}
 use Rattle.meson_syntax.proofs.tree.Parsed.node_at.Goals as goal
 

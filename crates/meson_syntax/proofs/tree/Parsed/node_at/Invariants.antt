@@ -1,5 +1,6 @@
 use Rattle.std.proofs.Common.{◌≡◌, List, ℕ, drop}
-use Rattle.meson_syntax.specs.Children.{a_block, node_at, node_view}
+use Rattle.meson_syntax.specs.Children.{a_block}
+use Rattle.meson_syntax.specs.inside.Children.{node_at, node_view}
 use Rattle.meson_syntax.specs.View.{block_view}
 use Rattle.meson_syntax.proofs.tree.Parsed.node_at.Given as goal
 

@@ -3,7 +3,8 @@ use Rattle.std.proofs.lemmas.List.{at_drop_more, at_drop_all}
 use Rattle.meson_calls.specs.Calls.{chosen}
 use Rattle.meson_calls.specs.Notes.{note_view, note_views}
 use Rattle.meson_variables.specs.Noted.{note_assigned, assigned_notes}
-use Rattle.meson_variables.specs.CodeValues.{met_in, with_assigned}
+use Rattle.meson_variables.specs.CodeValues.{met_in}
+use Rattle.meson_variables.specs.inside.CodeValues.{with_assigned}
 use Rattle.meson_variables.proofs.Assignments.{resumed, next_met, all_met}
 use Rattle.meson_variables.proofs.values.Values.assigned.Goals as goal
 

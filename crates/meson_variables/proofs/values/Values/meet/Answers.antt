@@ -6,7 +6,8 @@ use Rattle.meson_calls.specs.Calls.{chosen}
 use Rattle.meson_calls.specs.Project.{placed, place_at}
 use Rattle.meson_calls.specs.Notes.{what_view}
 use Rattle.meson_variables.specs.Noted.{note_assigned}
-use Rattle.meson_variables.specs.CodeValues.{value_view, merged, met_in, with_assigned}
+use Rattle.meson_variables.specs.CodeValues.{value_view, met_in}
+use Rattle.meson_variables.specs.inside.CodeValues.{merged, with_assigned}
 use Rattle.meson_variables.proofs.Assignments.{met_by_name}
 use Rattle.meson_variables.proofs.values.Values.meet.Goals as goal
 

@@ -12,9 +12,10 @@ use Rattle.meson_calls.specs.Strings.{AreGood}
 use Rattle.meson_calls.specs.GoodLists.{GoodArgs}
 use Rattle.meson_variables.specs.Expansion.{Stand, fixed, met, opaque, empty, within, element, operand_at, is_files, are_plus, is_list_operand}
 use Rattle.meson_variables.specs.CodeVariables.{project_of}
-use Rattle.meson_variables.specs.Noted.{rank, operands_rank, listing_rank, argument_rank, arguments_rank}
+use Rattle.meson_variables.specs.inside.Noted.{rank, operands_rank, listing_rank, argument_rank, arguments_rank}
 use Rattle.meson_variables.specs.CodeValues.{value_view}
-use Rattle.meson_variables.specs.Tallies.{Gathered, all_marked, gathered, expanded, with_mark, stand_at, follow_of, expand_left, listing_left, argument_left, sum_left, row_left}
+use Rattle.meson_variables.specs.Tallies.{Gathered, all_marked, gathered, expanded, with_mark, stand_at, follow_of, expand_left}
+use Rattle.meson_variables.specs.inside.Tallies.{listing_left, argument_left, sum_left, row_left}
 use Rattle.meson_variables.proofs.Singles.{single_fine}
 use Rattle.meson_variables.proofs.Measures.{values_rank, lower_step, inner_step, variable_step}
 use Rattle.meson_calls.proofs.GoodParts.{good_left, good_right}

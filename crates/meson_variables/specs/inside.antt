@@ -1,0 +1,3 @@
+pub mod CodeValues
+pub mod Tallies
+pub mod Noted
