@@ -8,3 +8,6 @@ mod CommandsLeave
 mod NamesKept
 mod UnchangedFiles
 mod KeptAfter
+pub mod Agreeing
+mod Unlisted
+mod Answered

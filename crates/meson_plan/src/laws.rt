@@ -1,6 +1,7 @@
-//! Laws of commands. The functions do nothing: what they ensure is the law.
+//! Laws of commands and of what they tell. The functions do nothing: what they ensure is the law.
 
 ghost use Rattle.meson_plan.specs.Effects.{CommandsLeave};
+ghost use Rattle.meson_plan.specs.ListingLaws.{CallsAgree, CallsListed, TargetsAgree, TargetsListed};
 
 /// What is there after a command that is performed. Of the one call that it names a command on keyword arguments or options leaves what it says, and nothing
 /// else: a key that is set has the new value alone, one that is deleted has none, values that are added stand behind the old ones, and those that are removed
@@ -10,4 +11,24 @@ ghost use Rattle.meson_plan.specs.Effects.{CommandsLeave};
 /// removed is gone with its statement, and no target has its name.
 pub fn commands_leave()
     ensures { CommandsLeave }
+{}
+
+/// The listing of a target is made where its info command is planned, and refused with the same refusal.
+pub fn targets_agree()
+    ensures { TargetsAgree }
+{}
+
+/// The same of keyword arguments.
+pub fn calls_agree()
+    ensures { CallsAgree }
+{}
+
+/// The listing of a target is made where its info command is performed, and refused with the same refusal.
+pub fn targets_listed()
+    ensures { TargetsListed }
+{}
+
+/// The same of keyword arguments.
+pub fn calls_listed()
+    ensures { CallsListed }
 {}

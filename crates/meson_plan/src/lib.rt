@@ -1,15 +1,19 @@
 //! A project of many build files, and what commands do to it.
 #![tactic(auto)]
 
+pub mod answer;
 mod details;
 mod info;
 mod kept;
 pub mod laws;
+pub mod listing;
 mod order;
 mod planning;
 mod project;
 
+pub use answer::Answer;
 pub use details::TargetDetails;
+pub use listing::{info_kwargs, info_target};
 pub use meson_calls::{CallRef, LoadFault, MAX_FILES, Refusal, Role, Unloaded, subdirs};
 pub use meson_details::{Head, Shown};
 pub use meson_steps::command::{Command, Done, Setting};

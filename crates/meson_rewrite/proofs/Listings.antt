@@ -28,8 +28,8 @@ use Rattle.meson_listing.specs.Entries.{call_data, id_data, item_data, put_each,
 use Rattle.meson_inventory.specs.Holdings.{holdings}
 use Rattle.meson_inventory.specs.Inventory.{file_data, project_data, spot_data}
 use Rattle.meson_inventory.specs.Inventory as inventory
-use Rattle.meson_script.specs.Listing.{call_listing, kwargs_listing, or_not_found, target_at, target_listing}
-use Rattle.meson_script.specs.Running.{Runs, nothing_ran, ran_more, told}
+use Rattle.meson_plan.specs.Listing.{call_listing, kwargs_listing, or_not_found, target_at, target_listing, told}
+use Rattle.meson_script.specs.Running.{Runs, nothing_ran, ran_more}
 use Rattle.meson_script.specs.declared.session.Report.{Report}
 use Rattle.meson_script.specs.declared.session.Session.{Session}
 use Rattle.meson_rewrite.specs.Steps.{Does}

@@ -17,7 +17,7 @@ use Rattle.meson_variables.specs.TargetSources.{sources}
 use Rattle.meson_sources.specs.Extras.{extra_files}
 use Rattle.meson_details.specs.Details.{head, keywords_of_call}
 use Rattle.meson_listing.specs.Entries.{target_data, call_data}
-use Rattle.meson_script.specs.Listing.{kwargs_listing, or_not_found, target_listing}
+use Rattle.meson_plan.specs.Listing.{kwargs_listing, or_not_found, target_listing}
 
 -- the listing of a target of these files and this project
 abbrev pub target_of : List File → Project Span → List ℕ → Result Data Refusal

@@ -1,5 +1,3 @@
-pub mod Agreeing
-mod TargetsTold
 pub mod ByTrees
 pub mod ReadTexts
 pub mod OnTexts
@@ -9,7 +7,6 @@ pub mod RunFacts
 pub mod TextFacts
 pub mod StepFacts
 pub mod Keeping
-pub mod Counts
 pub mod Outcomes
 pub mod SameTrees
 pub mod Scripts

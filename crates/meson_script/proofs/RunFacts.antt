@@ -12,16 +12,13 @@ use Rattle.meson_splice.specs.declared.splice.Splice.{Splice}
 use Rattle.meson_splice.specs.Patch.{patched, patched_in, patched_all, then_ok}
 use Rattle.meson_calls.specs.Loading.{IsProject, Loaded}
 use Rattle.meson_steps.specs.declared.command.Command.{Command}
-use Rattle.meson_steps.specs.declared.command.Command.TheVariants as command
 use Rattle.meson_steps.specs.declared.command.Done.{Done}
 use Rattle.meson_steps.specs.ResultLimits.{saturated}
 use Rattle.meson_calls.specs.declared.refusal.Refusal.{Refusal}
-use Rattle.meson_plan.specs.Performing.{MayRefuse, Performs, unplanned}
+use Rattle.meson_plan.specs.Performing.{MayRefuse, Performs}
 use Rattle.meson_plan.proofs.SplicesDone.{joined, performs-patch, performs-text, texts-append}
-use Rattle.meson_script.specs.ListingLaws.{DoesNothing, no_steps}
-use Rattle.meson_script.specs.Listing.{kwargs_listing, target_listing}
-use Rattle.meson_script.proofs.Agreeing.{calls_agree, calls_listed, targets_agree, targets_listed}
-use Rattle.meson_script.specs.Running.{MayStop, Reaches, Runs, nothing_ran, ran_more, told}
+use Rattle.meson_plan.specs.Listing.{told}
+use Rattle.meson_script.specs.Running.{MayStop, Reaches, Runs, nothing_ran, ran_more}
 use Rattle.meson_script.specs.Laws.{RunsPatch, RunsText}
 
 pub runs-patch : RunsPatch
@@ -147,52 +144,3 @@ one-stops old c e reads refuses = record {
   reads = reads;
   refuses = refuses;
 }
-
--- ---- what is told is refused as the command is
-
-no_more : (listing : Result Data Refusal) (e : Refusal) → then_ok listing (λ d. Ok (d ∷ [])) ≡ Err e → no_steps listing ≡ Err e
-no_more (Ok d) e is = let bad : ⊥ = cc in absurd bad
-no_more (Err f) e is = cc
-
-untold : (more : List Data) (e : Refusal) → ◌≡◌ {A = Result (List Data) Refusal} (Ok more) (Err e) → ⊥
-untold more e is = cc
-
-pub told-refused : (l : Loaded) (c : Command) (e : Refusal) → told l c ≡ Err e → MayRefuse l c e
-told-refused l (command.TargetInfo target) e is = unplanned e (sym (targets_agree l target) ∙ no_more (target_listing l target) e is)
-told-refused l (command.KwargsInfo role id) e is = unplanned e (sym (calls_agree l role id) ∙ no_more (kwargs_listing l role id) e is)
-told-refused l (command.SourcesAdd target sources) e is = absurd (untold [] e is)
-told-refused l (command.SourcesRemove target sources) e is = absurd (untold [] e is)
-told-refused l (command.ExtraAdd target sources) e is = absurd (untold [] e is)
-told-refused l (command.ExtraRemove target sources) e is = absurd (untold [] e is)
-told-refused l (command.TargetAdd target kind subdir sources) e is = absurd (untold [] e is)
-told-refused l (command.TargetRemove target) e is = absurd (untold [] e is)
-told-refused l (command.KwargsSet role id pairs) e is = absurd (untold [] e is)
-told-refused l (command.KwargsAdd role id pairs) e is = absurd (untold [] e is)
-told-refused l (command.KwargsRemove role id pairs) e is = absurd (untold [] e is)
-told-refused l (command.KwargsDelete role id keys) e is = absurd (untold [] e is)
-told-refused l (command.OptionsSet pairs) e is = absurd (untold [] e is)
-told-refused l (command.OptionsDelete names) e is = absurd (untold [] e is)
-
--- a command that tells something is done, and changes nothing
-one_told : (listing : Result Data Refusal) (more : List Data) → then_ok listing (λ d. Ok (d ∷ [])) ≡ Ok more → (d : Data) × (listing ≡ Ok d)
-one_told (Ok d) more is = (d, refl)
-one_told (Err e) more is = let bad : ⊥ = cc in absurd bad
-
-silent : {X : Type 0} (more : List Data) → (more ≡ [] → ⊥) → ◌≡◌ {A = Result (List Data) Refusal} (Ok []) (Ok more) → X
-silent more some is = absurd (some (let same : [] ≡ more = cc in sym same))
-
-pub told-done : (l : Loaded) (c : Command) (more : List Data) (done : Done) → told l c ≡ Ok more → (more ≡ [] → ⊥) → IsProject l → DoesNothing done → Performs l c done l
-told-done l (command.TargetInfo target) more done is some = let one = one_told (target_listing l target) more is in (targets_listed l target).done one.0 done one.1
-told-done l (command.KwargsInfo role id) more done is some = let one = one_told (kwargs_listing l role id) more is in (calls_listed l role id).done one.0 done one.1
-told-done l (command.SourcesAdd target sources) more done is some = silent more some is
-told-done l (command.SourcesRemove target sources) more done is some = silent more some is
-told-done l (command.ExtraAdd target sources) more done is some = silent more some is
-told-done l (command.ExtraRemove target sources) more done is some = silent more some is
-told-done l (command.TargetAdd target kind subdir sources) more done is some = silent more some is
-told-done l (command.TargetRemove target) more done is some = silent more some is
-told-done l (command.KwargsSet role id pairs) more done is some = silent more some is
-told-done l (command.KwargsAdd role id pairs) more done is some = silent more some is
-told-done l (command.KwargsRemove role id pairs) more done is some = silent more some is
-told-done l (command.KwargsDelete role id keys) more done is some = silent more some is
-told-done l (command.OptionsSet pairs) more done is some = silent more some is
-told-done l (command.OptionsDelete names) more done is some = silent more some is

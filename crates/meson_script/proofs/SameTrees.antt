@@ -17,7 +17,7 @@ use Rattle.meson_steps.specs.ResultLimits.{plain_trees}
 use Rattle.meson_steps.specs.Steps.{StepsMake, all_stepped}
 use Rattle.meson_plan.specs.Planning.{planned}
 use Rattle.meson_plan.specs.Performing.{Makes, MayRefuse, Performs, unplanned, deep, large}
-use Rattle.meson_script.specs.Running.{told}
+use Rattle.meson_plan.specs.Listing.{told}
 use Rattle.meson_script.specs.Outcomes.{OneProject}
 
 -- ---- a file has one tree with its places

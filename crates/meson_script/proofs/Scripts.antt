@@ -8,7 +8,8 @@ use Rattle.meson_steps.specs.declared.command.Command.{Command}
 use Rattle.meson_steps.specs.declared.command.Done.{Done}
 use Rattle.meson_steps.specs.ResultLimits.{plain_trees, saturated}
 use Rattle.meson_plan.specs.Performing.{MayRefuse, Performs}
-use Rattle.meson_script.specs.Running.{MayStop, Runs, nothing_ran, ran_more, told}
+use Rattle.meson_plan.specs.Listing.{told}
+use Rattle.meson_script.specs.Running.{MayStop, Runs, nothing_ran, ran_more}
 use Rattle.meson_script.specs.Outcomes.{NotStopped, OneResult, OneStop}
 use Rattle.meson_script.proofs.Outcomes.{not-refused, one-outcome, one-refusal}
 use Rattle.meson_script.proofs.SameTrees.{Same, one-project, performs-same, refuses-same, told-same}

@@ -1,5 +1,6 @@
 -- The last change of a history, moved.
 use Rattle.std.proofs.Common.{◌≡◌, ◌≢◌, ℕ, List, [], ◌∷◌, ◌++◌, reverse, Option, Some, None, Result, Ok, Err, refl, sym, ap, ap₂, ◌∙◌, subst}
+use Rattle.std.specs.Prelude.{IfErr, IfOk}
 use Rattle.std.proofs.lemmas.List.{reverse-append, reverse-reverse}
 use Rattle.serde_json.specs.Data.{Data}
 use Rattle.meson_splice.specs.declared.change.Change.{Change}
@@ -41,6 +42,26 @@ redone-last front c h files is =
     let turned : reverse h.future ≡ c ∷ reverse front = ap reverse is ∙ reverse-append front (c ∷ []) in
     ap (λ cs. redone_from cs h.past files) turned
     ∙ ap (λ p. then_ok (patched_all files c.splices) (λ after. let r : Stepped = Ok (record { past = h.past ++ c ∷ []; future = p }, after) in r)) (reverse-reverse front)
+
+-- files that splices gave, or why they gave none
+abbrev Files : Type 0
+Files = Result (List File) SpliceFault
+
+module _ (given : Files) (by : List File → Files) (seen files : List File) (same : seen ≡ files) (held : IfOk given (λ fs. by seen ≡ Ok fs)) where
+  given-by : (r : Files) (after : List File) → IfOk r (λ fs. by seen ≡ Ok fs) → r ≡ Ok after → by seen ≡ Ok after
+  given-by (Ok fs) after here is = here ∙ is
+  given-by (Err e) after here is = let bad : ⊥ = cc in absurd bad
+
+  refused-by : (r : Files) (e : SpliceFault) → IfErr r (λ f. f ≢ splice.OutOfMemory → by seen ≡ Err f) → r ≡ Err e → e ≢ splice.OutOfMemory → by seen ≡ Err e
+  refused-by (Ok fs) e none is told = let bad : ⊥ = cc in absurd bad
+  refused-by (Err f) e none is told = let one : f ≡ e = cc in subst (λ x. by seen ≡ Err x) one (none (λ other. told (sym one ∙ other)))
+
+  pub files-given : (after : List File) → given ≡ Ok after → by files ≡ Ok after
+  files-given after is = ap by (sym same) ∙ given-by given after held is
+
+  pub fault-given : (fault : UndoFault) → IfErr given (λ f. f ≢ splice.OutOfMemory → by seen ≡ Err f) → MayNotChange given fault → MayNotChange (by files) fault
+  fault-given (Splice e) none why = λ told. ap by (sym same) ∙ refused-by given e none (why told) told
+  fault-given (Load f) none why = (why.0, files-given why.0 why.1, why.2)
 
 -- a change that is refused refuses the step
 pub refused-change : (r : Result (List File) SpliceFault) (k : List File → History) (f : UndoFault) → MayNotChange r f → MayNotStep (then_ok r (λ files. let s : Stepped = Ok (k files, files) in s)) f

@@ -1,6 +1,3 @@
-pub mod Reports
-pub mod Listing
-pub mod ListingLaws
 pub mod ListingRows
 pub mod Running
 pub mod Stack

@@ -9,7 +9,7 @@ use Rattle.meson_calls.specs.declared.refusal.Refusal.{Refusal}
 use Rattle.meson_calls.specs.declared.refusal.Refusal.TheVariants.{DuplicateKeyword, NotFound}
 use Rattle.meson_calls.specs.Loading.{IsProject, Loaded}
 use Rattle.meson_json.specs.Rows.{double_quoted}
-use Rattle.meson_script.specs.Listing.{kwargs_listing, target_listing}
+use Rattle.meson_plan.specs.Listing.{kwargs_listing, target_listing}
 
 abbrev one_file : List ℕ → List File
 one_file text = record { name = codes "meson.build"; bytes = text } ∷ []

@@ -3,24 +3,16 @@ use Rattle.std.specs.Prelude.{◌≡◌, ◌≤◌, ℕ, ◌+◌, List, [], ◌�
 use Rattle.serde_json.specs.Data.{Data, array}
 use Rattle.serde_json.specs.View.{items_of, view}
 use Rattle.meson_splice.specs.declared.splice.Splice.{Splice}
-use Rattle.meson_splice.specs.Patch.{then_ok}
+use Rattle.meson_splice.specs.Files.{differing}
 use Rattle.meson_calls.specs.declared.refusal.Refusal.{Refusal}
 use Rattle.meson_calls.specs.Loading.{IsProject, Loaded}
 use Rattle.meson_script.specs.declared.session.Report.{Report}
 use Rattle.meson_script.specs.declared.session.Session.{Session}
-use Rattle.meson_script.specs.Reports.{differing}
 use Rattle.meson_steps.specs.declared.command.Command.{Command}
-use Rattle.meson_steps.specs.declared.command.Command.TheVariants as command
 use Rattle.meson_steps.specs.declared.command.Done.{Done}
 use Rattle.meson_steps.specs.ResultLimits.{saturated}
 use Rattle.meson_plan.specs.Performing.{MayRefuse, Performs}
-use Rattle.meson_script.specs.Listing.{kwargs_listing, target_listing}
-
--- what a command tells of the files and trees as they stand: an info command its listing, the others nothing
-abbrev pub told : Loaded → Command → Result (List Data) Refusal
-told l (command.TargetInfo target) = then_ok (target_listing l target) (λ d. Ok (d ∷ []))
-told l (command.KwargsInfo role id) = then_ok (kwargs_listing l role id) (λ d. Ok (d ∷ []))
-told l _ = Ok []
+use Rattle.meson_plan.specs.Listing.{told}
 
 -- Each command is performed on what the ones before it left, a project whose trees are those of its files, and tells of that; the splices and
 -- listings are those of all, in order.

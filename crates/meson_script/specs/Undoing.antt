@@ -8,6 +8,7 @@ use Rattle.meson_splice.specs.declared.fault.SpliceFault.{SpliceFault}
 use Rattle.meson_splice.specs.declared.fault.SpliceFault.TheVariants.{OutOfMemory}
 use Rattle.meson_splice.specs.declared.file_set.File.{File}
 use Rattle.meson_splice.specs.declared.history.History.{History}
+use Rattle.meson_splice.specs.Files.{differing}
 use Rattle.meson_splice.specs.Past.{undone, undone_times}
 use Rattle.meson_calls.specs.Loading.{MayNotLoad}
 use Rattle.meson_steps.specs.ResultLimits.{saturated}
@@ -15,7 +16,6 @@ use Rattle.meson_script.specs.declared.fault.UndoFault.{UndoFault}
 use Rattle.meson_script.specs.declared.fault.UndoFault.TheVariants.{Splice, Load}
 use Rattle.meson_script.specs.declared.session.Report.{Report}
 use Rattle.meson_script.specs.declared.session.Session.{Session}
-use Rattle.meson_script.specs.Reports.{differing}
 
 -- the splices are refused, or the files that they give do not load
 abbrev pub MayNotChange : Result (List File) SpliceFault → UndoFault → Type 0

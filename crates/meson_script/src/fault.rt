@@ -23,6 +23,21 @@ pub struct RunFault {
     pub refusal: Refusal,
 }
 
+impl RunFault {
+    ghost use Rattle.std.specs.Prelude.{◌≡◌};
+    ghost use Rattle.meson_calls.specs.declared.refusal.Refusal.TheVariants.{OutOfMemory};
+
+    /// Want of memory before any command was done.
+    pub(crate) fn unmade(refused: AllocError) -> RunFault
+        ensures { result ≡ record { index = 0; refusal = OutOfMemory } }
+    {
+        RunFault {
+            index: 0,
+            refusal: Refusal::from(refused),
+        }
+    }
+}
+
 impl fmt::Display for RunFault {
     ghost use Rattle.std.specs.Prelude.{Some};
     ghost use Rattle.meson_script.specs.Messages.{refused_text};

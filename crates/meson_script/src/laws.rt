@@ -1,29 +1,8 @@
 //! Laws of listings, runs, undos and redos. The functions do nothing: what they ensure is the law.
 
 ghost use Rattle.meson_script.specs.Laws.{BeginsAStack, LoadsOrWantsMemory, NothingIsRedone, NothingIsUndone, RedoIsAStep, RunIsAStep, RunsPatch, RunsText, RunsThenUndosRestore, UndoIsAStep, UndosAreSteps};
-ghost use Rattle.meson_script.specs.ListingLaws.{CallsAgree, CallsListed, TargetsAgree, TargetsListed};
 ghost use Rattle.meson_script.specs.ListingRows.{DependencyRow, ProjectRow, RefusedRows, TargetRow};
 ghost use Rattle.meson_script.specs.Outcomes.{NotRefused, NotStopped, OneOutcome, OneProject, OneRefusal, OneResult, OneStop};
-
-/// The listing of a target is made where its info command is planned, and refused with the same refusal.
-pub fn targets_agree()
-    ensures { TargetsAgree }
-{}
-
-/// The same of keyword arguments.
-pub fn calls_agree()
-    ensures { CallsAgree }
-{}
-
-/// The listing of a target is made where its info command is performed, and refused with the same refusal.
-pub fn targets_listed()
-    ensures { TargetsListed }
-{}
-
-/// The same of keyword arguments.
-pub fn calls_listed()
-    ensures { CallsListed }
-{}
 
 /// What is listed of some build files.
 pub fn rows()

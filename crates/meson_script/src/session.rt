@@ -12,13 +12,12 @@ ghost use Rattle.meson_script.specs.Stack.{RefusesRedo, RefusesUndo, RefusesUndo
 ghost use Rattle.meson_script.specs.Undoing.{MayNotStep, Steps, StepsBack, StopsBack};
 ghost use Rattle.meson_splice.specs.Past.{redone, undone};
 
-use crate::counting::count_differing;
 use crate::fault::{RunFault, UndoFault, Unstarted};
 use crate::performing::{counted, perform_all};
-use crate::preparing::{Prepared, prepare, titles, unmade};
-use crate::stepping::{done_again, taken_back};
+use crate::stepping::{files_after, files_before, loaded};
+use crate::titles::{titled, titles};
 use meson_json::Script;
-use meson_plan::{Command, Done, Project, Refusal};
+use meson_plan::{Answer, Command, Done, Project, Refusal};
 use meson_splice::{Change, FileSet, History, Many, SpliceFault, Text};
 use serde_json::Value;
 use std::alloc::{AllocError, Global};
@@ -44,14 +43,6 @@ pub struct Report {
     pub info: Value,
     /// What the change is for that was made, taken back or done again.
     pub title: Text,
-}
-
-/// The same change with this title.
-fn titled(change: Change, title: Text) -> Change
-    ensures { result ≡ record { splices = change.splices; title = title } }
-{
-    let Change { splices, title: _ } = change;
-    Change { splices, title }
 }
 
 /// What is reported of steps of the history: they lex nothing again, and list nothing.
@@ -180,22 +171,18 @@ impl Session {
         ensures kept { OnErr result (self.new ≡ self.old) }
         ensures project { OnOk result (IsProject self.new.project) }
     {
-        let prepared = match prepare(alloc, &self.project, command, title) {
-            Ok(prepared) => prepared,
-            Err(fault) => return Err(fault),
+        let (kept, told) = match titles(alloc, title) {
+            Ok(both) => both,
+            Err(refused) => return Err(RunFault::unmade(refused)),
         };
-        let Prepared {
-            listings,
-            kept,
-            told,
-        } = prepared;
         let mut past = mem::replace(&mut self.history.past, Many::new(alloc)).take();
         if let Err(refused) = past.reserve(1) {
             self.history.past = Many::of(past);
-            return Err(unmade(refused));
+            return Err(RunFault::unmade(refused));
         }
-        match counted(alloc, &mut self.project, command, listings.as_slice()) {
-            Ok((done, files)) => {
+        match counted(alloc, &mut self.project, command) {
+            Ok((answer, files)) => {
+                let Answer { done, listings } = answer;
                 let Done { change, relexed } = done;
                 let report = Report {
                     files,
@@ -235,11 +222,11 @@ impl Session {
         };
         let (kept, told) = match titles(alloc, title) {
             Ok(both) => both,
-            Err(refused) => return Err(unmade(refused)),
+            Err(refused) => return Err(RunFault::unmade(refused)),
         };
         let performed = perform_all(alloc, &mut project, commands)?;
         let report = Report {
-            files: count_differing(self.project.files(), project.files()),
+            files: self.project.files().count_differing(project.files()),
             splices: performed.splices.len(),
             relexed: performed.relexed,
             info: Value::Array(performed.listings),
@@ -281,9 +268,9 @@ impl Session {
         };
         let splices = change.splices.get().len();
         let title = change.title.clone()?;
-        let project = taken_back(alloc, &self.project, change)?;
+        let project = loaded(alloc, files_before(alloc, self.project.files(), change))?;
         self.history.past.move_last(&mut self.history.future)?;
-        let files = count_differing(self.project.files(), project.files());
+        let files = self.project.files().count_differing(project.files());
         self.project = project;
         Ok(stepped(alloc, files, splices, title))
     }
@@ -304,7 +291,7 @@ impl Session {
         // The new files read as the new trees.
         ensures project { OnOk result (IsProject self.new.project) }
     {
-        let before = self.project.files().clone()?;
+        let first = self.project.files().clone()?;
         let mut splices: usize = 0;
         let mut title = Text::of(String::new(alloc));
         for _ in 0..count {
@@ -313,7 +300,7 @@ impl Session {
             title = last;
         }
         self.project.reads();
-        let files = count_differing(&before, self.project.files());
+        let files = first.count_differing(self.project.files());
         Ok(stepped(alloc, files, splices, title))
     }
 
@@ -338,9 +325,9 @@ impl Session {
         };
         let splices = change.splices.get().len();
         let title = change.title.clone()?;
-        let project = done_again(alloc, &self.project, change)?;
+        let project = loaded(alloc, files_after(alloc, self.project.files(), change))?;
         self.history.future.move_last(&mut self.history.past)?;
-        let files = count_differing(self.project.files(), project.files());
+        let files = self.project.files().count_differing(project.files());
         self.project = project;
         Ok(stepped(alloc, files, splices, title))
     }

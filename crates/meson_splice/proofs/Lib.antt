@@ -4,3 +4,4 @@ pub mod Inverses
 pub mod Ways
 pub mod Leading
 pub mod Times
+pub mod Counts

@@ -1,5 +1,5 @@
 -- Lists of files.
-use Rattle.std.specs.Prelude.{◌≢◌, ℕ, zero, suc, List, [], ◌∷◌, Option, bytes_eq, position}
+use Rattle.std.specs.Prelude.{◌≢◌, ℕ, zero, suc, if◌then◌else◌, List, [], ◌∷◌, Option, bytes_eq, position}
 use Rattle.std.specs.List.{AllPairs}
 use Rattle.meson_splice.specs.declared.file_set.File.{File}
 
@@ -22,3 +22,8 @@ abbrev pub with_bytes : ℕ → List ℕ → List File → List File
 with_bytes i bytes [] = []
 with_bytes zero bytes (f ∷ files) = record f { bytes = bytes } ∷ files
 with_bytes (suc i) bytes (f ∷ files) = f ∷ with_bytes i bytes files
+
+-- how many files have other bytes than those of the same place
+abbrev pub differing : List File → List File → ℕ
+differing (f ∷ before) (g ∷ after) = if bytes_eq f.bytes g.bytes then differing before after else suc (differing before after)
+differing _ _ = 0

@@ -1,7 +1,7 @@
 //! A project's files: names and bytes in order, each name once.
 
-ghost use Rattle.std.specs.Prelude.{◌≡◌, ◌↔◌, ◌<◌, ◌++◌, ◌∷◌, [], IfErr, IfOk, IsNone, IsSome, IsTrue, OnErr, OnOk, length, slice_index_or, string_bytes};
-ghost use Rattle.meson_splice.specs.Files.{IsDistinct, bytes_at, position_of_file, with_bytes};
+ghost use Rattle.std.specs.Prelude.{◌≡◌, ◌↔◌, ◌<◌, ◌++◌, ◌∷◌, [], IfErr, IfOk, IsNone, IsSome, IsTrue, OnErr, OnOk, length, map, slice_index_or, string_bytes};
+ghost use Rattle.meson_splice.specs.Files.{IsDistinct, bytes_at, differing, position_of_file, with_bytes};
 ghost use Rattle.meson_splice.specs.declared.file_set.File.{File};
 
 use crate::fault::SpliceFault;
@@ -187,6 +187,20 @@ impl FileSet {
     {
         let files = Vec::from_clones(alloc, self.files.as_slice())?;
         Ok(FileSet { files })
+    }
+
+    /// How many files have other bytes in `after`, which has the same names in the same order.
+    pub fn count_differing(&self, after: &FileSet) -> usize
+        requires { map (λ f. f.name) self.now ≡ map (λ f. f.name) after.now }
+        ensures { result ≡ differing self.now after.now }
+    {
+        let mut count = 0;
+        for i in 0..after.len() {
+            if self.bytes(i) != after.bytes(i) {
+                count += 1;
+            }
+        }
+        count
     }
 
     /// Puts other bytes into file `i`, and gives those that it had.

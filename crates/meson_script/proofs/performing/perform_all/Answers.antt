@@ -1,8 +1,8 @@
-use Rattle.std.proofs.Common.{map, subst, arith}
+use Rattle.std.proofs.Common.{◌++◌, map, subst, ap, ◌∙◌, arith}
 use Rattle.std.proofs.lemmas.List.{take_all}
 use Rattle.serde_json.specs.View.{view}
 use Rattle.meson_script.specs.Running.{Runs}
-use Rattle.meson_script.proofs.RunFacts.{nothing-run, one-more, reaches, stops-there, told-refused}
+use Rattle.meson_script.proofs.RunFacts.{nothing-run, one-more, reaches, stops-there}
 use Rattle.meson_script.proofs.performing.perform_all.Goals as goal
 
 pub loop-index-init : goal.loop-index-init
@@ -11,21 +11,17 @@ loop-index-init c = nothing-run c.args.project.now c.new.result.items c.new-2.re
 pub loop-index-preserved : goal.loop-index-preserved
 loop-index-preserved c =
     let l = c.loop-index in
-    one-more c.args.project.now l.project c.performed.new.project c.args.commands.now l.index l.ran.splices.items c.add.new.self.splices.items l.ran.relexed c.add.new.self.relexed
-    l.ran.listings.items c.add.new.self.listings.items c.in-Ok.listings.items c.index-commands-index.result c.in-Ok-performed.done
-    l.invariant c.reads.ensures c.loop-index-test.true c.index-commands-index.is c.in-Ok.ensures.told c.in-Ok-performed.ensures.done c.in_default.ensures.splices c.in_default.ensures.relexed c.in_default.ensures.listings
+    let answer = c.in-Ok.answer in
+    one-more c.args.project.now l.project c.answer.new.self c.args.commands.now l.index l.ran.splices.items c.append.new.self.items l.ran.relexed c.saturating_add.result
+    l.ran.listings.items c.append-in-loop-index.new.self.items answer.listings.items c.index-commands-index.result answer.done
+    l.invariant c.reads.ensures c.loop-index-test.true c.index-commands-index.is c.in-Ok.ensures.told c.in-Ok.ensures.done
+    (c.in_default.ensures.items ∙ ap (λ ss. l.ran.splices.items ++ ss) c.take-splices.ensures) c.saturating_add.ensures c.in_default-append.ensures.items
 
 pub returns-in-Err-clause-refused : goal.returns-in-Err-clause-refused
 returns-in-Err-clause-refused c = λ told.
     let l = c.loop-index in
     stops-there c.args.project.now l.project c.args.commands.now l.index l.ran.splices.items l.ran.relexed (map view l.ran.listings.items) c.index-commands-index.result c.in-Err.refusal
-    l.invariant c.reads.ensures c.loop-index-test.true c.index-commands-index.is (told-refused l.project c.index-commands-index.result c.in-Err.refusal (c.in-Err.ensures.refused told))
-
-pub returns-in-Err-performed-clause-refused : goal.returns-in-Err-performed-clause-refused
-returns-in-Err-performed-clause-refused c = λ told.
-    let l = c.loop-index in
-    stops-there c.args.project.now l.project c.args.commands.now l.index l.ran.splices.items l.ran.relexed (map view l.ran.listings.items) c.index-commands-index.result c.in-Err-performed.refusal
-    l.invariant c.reads.ensures c.loop-index-test.true c.index-commands-index.is (c.in-Err-performed.ensures.refused told)
+    l.invariant c.reads.ensures c.loop-index-test.true c.index-commands-index.is (c.in-Err.ensures.refused told)
 
 pub returns-clause-done : goal.returns-clause-done
 returns-clause-done c =
@@ -34,15 +30,5 @@ returns-clause-done c =
 
 pub returns-in-Err-clause-index : goal.returns-in-Err-clause-index
 returns-in-Err-clause-index c =
-    let l = c.loop-index in
-    reaches c.args.project.now l.project c.args.commands.now l.index l.ran.splices.items l.ran.relexed (map view l.ran.listings.items) l.invariant (omega (arith, c.loop-index-test.true))
-
-pub returns-in-Err-performed-clause-index : goal.returns-in-Err-performed-clause-index
-returns-in-Err-performed-clause-index c =
-    let l = c.loop-index in
-    reaches c.args.project.now l.project c.args.commands.now l.index l.ran.splices.items l.ran.relexed (map view l.ran.listings.items) l.invariant (omega (arith, c.loop-index-test.true))
-
-pub returns-in-Err-add-clause-index : goal.returns-in-Err-add-clause-index
-returns-in-Err-add-clause-index c =
     let l = c.loop-index in
     reaches c.args.project.now l.project c.args.commands.now l.index l.ran.splices.items l.ran.relexed (map view l.ran.listings.items) l.invariant (omega (arith, c.loop-index-test.true))

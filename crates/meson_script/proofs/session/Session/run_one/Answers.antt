@@ -9,22 +9,22 @@ use Rattle.meson_script.proofs.session.Session.run_one.Goals as goal
 pub returns-in-Ok-counted-clause-done : goal.returns-in-Ok-counted-clause-done
 returns-in-Ok-counted-clause-done c =
     let old = c.args.self.now in
-    let done = c.in-Ok-counted.done in
+    let done = c.in-Ok-counted.answer.done in
     let made : Change = record { splices = done.change.splices; title = c.args.title.now } in
     let pushed = c.titled.result in
-    let is : pushed ≡ made = c.titled.ensures ∙ ap (λ t. let x : Change = record { splices = done.change.splices; title = t } in x) c.in-Ok.ensures.titles.0 in
+    let is : pushed ≡ made = c.titled.ensures ∙ ap (λ t. let x : Change = record { splices = done.change.splices; title = t } in x) (ap (λ b. b.0) c.in-Ok.ensures) in
     let past : c.of-in-Ok-counted.result ≡ old.history.past ++ made ∷ [] =
     c.of-in-Ok-counted.ensures ∙ c.push_reserved.ensures.items ∙ ap (λ cs. cs ++ pushed ∷ []) (c.reserve.ensures.items ∙ c.take-past.ensures ∙ c.replace.ensures.value) ∙ ap (λ x. old.history.past ++ x ∷ []) is in
     record {
       splices = done.change.splices;
-      listings = map view c.in-Ok.prepared.listings.items;
-      runs = one-run old.project c.counted.new.project c.args.command.now done (map view c.in-Ok.prepared.listings.items) c.prepare.ensures.project c.in-Ok.ensures.told c.in-Ok-counted.ensures.done;
+      listings = map view c.in-Ok-counted.answer.listings.items;
+      runs = one-run old.project c.counted.new.project c.args.command.now done (map view c.in-Ok-counted.answer.listings.items) c.counted.ensures.reads c.in-Ok-counted.ensures.told c.in-Ok-counted.ensures.done;
       kept = ap₂ (λ before behind. let h : History = record { past = before; future = behind } in h) past c.clear.ensures;
       files = c.in-Ok-counted.ensures.files;
       count = ap length c.get.ensures;
-      info = view-Array c.in-Ok.prepared.listings;
-      is_title = c.in-Ok.ensures.titles.1;
+      info = view-Array c.in-Ok-counted.answer.listings;
+      is_title = ap (λ b. b.1) c.in-Ok.ensures;
     }
 
 pub returns-in-Err-counted-clause-refused : goal.returns-in-Err-counted-clause-refused
-returns-in-Err-counted-clause-refused c = λ other. one-stops c.args.self.now.project c.args.command.now c.in-Err-counted.refusal c.prepare.ensures.project (c.in-Err-counted.ensures.refused other)
+returns-in-Err-counted-clause-refused c = λ other. one-stops c.args.self.now.project c.args.command.now c.in-Err-counted.refusal c.counted.ensures.reads (c.in-Err-counted.ensures.refused other)

@@ -19,13 +19,13 @@ loop-preserved c =
     l.invariant c.in_ok-undo.ensures.done c.in_ok-undo.ensures.step c.in_ok-undo.ensures.text
     (c.saturating_add-splices.ensures ∙ ap (λ both. saturated (l.splices + both.0)) c.splices_and_title-more.ensures) (ap (λ both. both.1) c.splices_and_title-more.ensures)
 
-pub returns-in_err-before-clause-refused : goal.returns-in_err-before-clause-refused
-returns-in_err-before-clause-refused c =
+pub returns-in_err-first-clause-refused : goal.returns-in_err-first-clause-refused
+returns-in_err-first-clause-refused c =
     let error = err_from_is_err_and c.from_residual.result c.from_residual.ensures.1 in
     rw (error.1, error.2) (no-memory-back c.args.count c.args.self.now (Splice OutOfMemory) refl)
 
-pub returns-in_err-before-clause-fits : goal.returns-in_err-before-clause-fits
-returns-in_err-before-clause-fits c =
+pub returns-in_err-first-clause-fits : goal.returns-in_err-first-clause-fits
+returns-in_err-first-clause-fits c =
     let error = err_from_is_err_and c.from_residual.result c.from_residual.ensures.1 in
     rw (error.1, error.2) (λ s stands. no-memory-stops c.args.count s (Splice OutOfMemory) refl)
 
@@ -45,7 +45,7 @@ returns-in_err-undo-clause-fits c =
 pub count_differing-files-requires : goal.count_differing-files-requires
 count_differing-files-requires c =
     let l = c.loop in
-    ap names (c.in_ok-before.ensures.cases ∙ c.files.ensures)
+    ap names (c.in_ok-first.ensures.cases ∙ c.files.ensures)
     ∙ times-names l.counter c.args.self.now.history l.self.history c.args.self.now.project.files l.self.project.files l.invariant.are_steps
     ∙ ap names (sym c.files-2.ensures)
 

@@ -1,5 +1,5 @@
 -- What an info command lists of the call that an id names, by the files and trees of the project. Meson manual, Rewriter.
-use Rattle.std.specs.Prelude.{ℕ, List, Option, Some, None, option_map, option_and_then, Result, Ok, Err}
+use Rattle.std.specs.Prelude.{ℕ, Bool, true, false, List, [], ◌∷◌, Option, Some, None, option_map, option_and_then, Result, Ok, Err}
 use Rattle.serde_json.specs.Data.{Data}
 use Rattle.meson_splice.specs.Patch.{then_ok}
 use Rattle.meson_calls.specs.declared.call.CallRef.{CallRef}
@@ -9,6 +9,8 @@ use Rattle.meson_calls.specs.declared.refusal.Refusal.{Refusal}
 use Rattle.meson_calls.specs.declared.refusal.Refusal.TheVariants.{NotFound}
 use Rattle.meson_calls.specs.Finding.{the_call}
 use Rattle.meson_calls.specs.Loading.{Loaded, project}
+use Rattle.meson_steps.specs.declared.command.Command.{Command}
+use Rattle.meson_steps.specs.declared.command.Command.TheVariants as command
 use Rattle.meson_variables.specs.TargetSources.{sources}
 use Rattle.meson_sources.specs.Extras.{extra_files}
 use Rattle.meson_details.specs.Details.{head, keywords}
@@ -35,3 +37,16 @@ target_listing l id = then_ok (the_call (project l) role.Target id) (λ c. or_no
 -- of the call of this role that the id names
 abbrev pub kwargs_listing : Loaded → Role → List ℕ → Result Data Refusal
 kwargs_listing l r id = then_ok (the_call (project l) r id) (λ c. or_not_found (call_listing l r c.place))
+
+-- ---- what a command tells of the files and trees as they stand: an info command its listing, the others nothing
+
+abbrev pub told : Loaded → Command → Result (List Data) Refusal
+told l (command.TargetInfo target) = then_ok (target_listing l target) (λ d. Ok (d ∷ []))
+told l (command.KwargsInfo role id) = then_ok (kwargs_listing l role id) (λ d. Ok (d ∷ []))
+told l _ = Ok []
+
+-- whether a command asks, and changes nothing
+abbrev pub asks : Command → Bool
+asks (command.TargetInfo target) = true
+asks (command.KwargsInfo role id) = true
+asks _ = false

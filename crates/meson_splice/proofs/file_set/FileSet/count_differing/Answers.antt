@@ -1,9 +1,9 @@
 use Rattle.std.proofs.Common.{◌≡◌, ◌<◌, ◌≤◌, ◌+◌, length, drop, ap, sym, ◌∙◌, arith}
 use Rattle.std.proofs.lemmas.List.{length-map}
-use Rattle.meson_script.specs.Reports.{differing}
-use Rattle.meson_script.proofs.Counts.{count_more, count_kept, count_ended}
-use Rattle.meson_script.proofs.counting.count_differing.Goals.{then-ne, else-ne}
-use Rattle.meson_script.proofs.counting.count_differing.Goals as goal
+use Rattle.meson_splice.specs.Files.{differing}
+use Rattle.meson_splice.proofs.Counts.{count_more, count_kept, count_ended}
+use Rattle.meson_splice.proofs.file_set.FileSet.count_differing.Goals.{then-ne, else-ne}
+use Rattle.meson_splice.proofs.file_set.FileSet.count_differing.Goals as goal
 
 pub loop-i-init : goal.loop-i-init
 loop-i-init c = record { fits = omega arith; counted = omega arith }
@@ -11,7 +11,7 @@ loop-i-init c = record { fits = omega arith; counted = omega arith }
 pub loop-i-preserved : goal.loop-i-preserved
 loop-i-preserved c =
     let l = c.loop-i in
-    let before = c.args.before.now in
+    let before = c.args.self.now in
     let after = c.args.after.now in
     let after_has : l.i < length after = omega (arith, c.loop-i-test.true, c.len-i-end.ensures) in
     let as_many : length before ≡ length after = sym (length-map before (λ f. f.name)) ∙ ap length c.requires ∙ length-map after (λ f. f.name) in
@@ -35,7 +35,7 @@ loop-i-preserved c =
 pub returns : goal.returns
 returns c =
     let l = c.loop-i in
-    let before = c.args.before.now in
+    let before = c.args.self.now in
     let after = c.args.after.now in
     let past : length after ≤ l.i = omega arith in
     let as_many : length before ≡ length after = sym (length-map before (λ f. f.name)) ∙ ap length c.requires ∙ length-map after (λ f. f.name) in

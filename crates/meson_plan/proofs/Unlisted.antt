@@ -20,8 +20,8 @@ use Rattle.meson_details.specs.declared.details.Head.{Head}
 use Rattle.meson_details.specs.Details.{head, keywords}
 use Rattle.meson_plan.specs.Details.{NoTarget, no_extra, no_sources, not_found, place_found, target_place, untold}
 use Rattle.meson_listing.specs.Entries.{call_data, target_data}
-use Rattle.meson_script.specs.Listing.{call_listing, kwargs_listing, or_not_found, target_at, target_listing}
-use Rattle.meson_script.proofs.Agreeing.{extras_are, head_is, its_head}
+use Rattle.meson_plan.specs.Listing.{call_listing, kwargs_listing, or_not_found, target_at, target_listing}
+use Rattle.meson_plan.proofs.Agreeing.{extras_are, head_is, its_head}
 use Rattle.meson_plan.proofs.PlacesFound.{at_place}
 
 -- ---- the listing of a call with this head, these sources and these extra files

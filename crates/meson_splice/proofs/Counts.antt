@@ -3,9 +3,8 @@ use Rattle.std.proofs.Common.{◌≡◌, ◌<◌, ◌≤◌, ◌+◌, ℕ, zero,
 use Rattle.std.specs.Prelude.{bytes_eq}
 use Rattle.std.proofs.lemmas.List.{at_drop_all}
 use Rattle.std.proofs.lemmas.Slice.Eq.{bytes_eq-Decides}
-use Rattle.meson_splice.specs.Files.{bytes_at}
+use Rattle.meson_splice.specs.Files.{bytes_at, differing}
 use Rattle.meson_splice.specs.declared.file_set.File.{File}
-use Rattle.meson_script.specs.Reports.{differing}
 
 differing-more : (before after : List File) (i : ℕ) → i < length before → i < length after
     → differing (drop i before) (drop i after) ≡ cond (bytes_eq (bytes_at i before) (bytes_at i after)) (differing (drop (suc i) before) (drop (suc i) after)) (suc (differing (drop (suc i) before) (drop (suc i) after)))

@@ -1,6 +1,6 @@
 use Rattle.std.proofs.lemmas.Result.{err_from_is_err_and}
-use Rattle.meson_script.proofs.TargetsTold.{target_unlisted}
-use Rattle.meson_script.proofs.listing.info_target.Goals as goal
+use Rattle.meson_plan.proofs.Unlisted.{target_unlisted}
+use Rattle.meson_plan.proofs.listing.info_target.Goals as goal
 
 pub returns-in_err-place-clause-refused : goal.returns-in_err-place-clause-refused
 returns-in_err-place-clause-refused c =

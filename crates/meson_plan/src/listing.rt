@@ -3,10 +3,12 @@
 ghost use Rattle.std.specs.Prelude.{◌≡◌, IfOk, Ok};
 ghost use Rattle.serde_json.specs.View.{view};
 ghost use Rattle.meson_calls.specs.Refusals.{RefusedAs};
-ghost use Rattle.meson_script.specs.Listing.{kwargs_listing, target_listing};
+ghost use Rattle.meson_plan.specs.Listing.{kwargs_listing, target_listing};
 
+use crate::details::TargetDetails;
+use crate::project::Project;
+use meson_calls::{Refusal, Role};
 use meson_listing::{call_object, target_object};
-use meson_plan::{Project, Refusal, Role, TargetDetails};
 use serde_json::Value;
 use std::alloc::Global;
 

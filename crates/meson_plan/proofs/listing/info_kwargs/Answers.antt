@@ -1,7 +1,7 @@
 use Rattle.std.proofs.lemmas.Result.{err_from_is_err_and}
 use Rattle.meson_plan.proofs.PlacesFound.{call_found}
-use Rattle.meson_script.proofs.TargetsTold.{call_unlisted}
-use Rattle.meson_script.proofs.listing.info_kwargs.Goals as goal
+use Rattle.meson_plan.proofs.Unlisted.{call_unlisted}
+use Rattle.meson_plan.proofs.listing.info_kwargs.Goals as goal
 
 pub head-requires : goal.head-requires
 head-requires c = call_found c.args.project.now c.args.role c.args.id.now c.in_ok-call.call c.in_ok-call.ensures.found

@@ -11,7 +11,7 @@ use Rattle.meson_steps.specs.declared.command.Done.{Done}
 use Rattle.meson_steps.specs.Steps.{Step}
 use Rattle.meson_plan.specs.Performing.{MayRefuse, Performs}
 use Rattle.meson_plan.specs.Planning.{planned}
-use Rattle.meson_script.specs.Listing.{target_listing, kwargs_listing}
+use Rattle.meson_plan.specs.Listing.{target_listing, kwargs_listing}
 
 -- ---- A listing is made where its info command is planned, which has no steps, and refused as that is.
 

@@ -37,9 +37,9 @@ use Rattle.meson_plan.specs.Performing.{MayRefuse, Performs, unplanned, deep, la
 use Rattle.meson_details.specs.Once.{call_told}
 use Rattle.meson_plan.specs.Planning.{call_asked, planned, target_told}
 use Rattle.meson_listing.specs.Entries.{call_data, target_data}
-use Rattle.meson_script.specs.ListingLaws.{CallsAgree, CallsListed, DoesNothing, IsListedAs, TargetsAgree, TargetsListed, no_steps}
-use Rattle.meson_script.specs.Listing as listing
-use Rattle.meson_script.specs.Listing.{kwargs_listing, or_not_found, target_at, target_listing}
+use Rattle.meson_plan.specs.ListingLaws.{CallsAgree, CallsListed, DoesNothing, IsListedAs, TargetsAgree, TargetsListed, no_steps}
+use Rattle.meson_plan.specs.Listing as listing
+use Rattle.meson_plan.specs.Listing.{kwargs_listing, or_not_found, target_at, target_listing}
 
 -- ---- the call that is found has a head
 

@@ -1,0 +1,37 @@
+use Rattle.std.proofs.Common.{Ok, sym, ap, ◌∙◌}
+use Rattle.std.proofs.lemmas.Result.{err_from_is_err_and}
+use Rattle.serde_json.specs.View.{view}
+use Rattle.meson_plan.specs.Listing.{kwargs_listing, target_listing}
+use Rattle.meson_plan.proofs.Agreeing.{calls_listed, targets_listed}
+use Rattle.meson_plan.proofs.Answered.{call-refused, target-refused, target-told}
+use Rattle.meson_plan.proofs.project.Project.answer.Goals as goal
+
+pub returns-in_err-listing-in-TargetInfo-clause-refused : goal.returns-in_err-listing-in-TargetInfo-clause-refused
+returns-in_err-listing-in-TargetInfo-clause-refused c =
+    let l = c.args.self.now in
+    let p = err_from_is_err_and c.from_residual.result c.from_residual.ensures.1 in
+    rw (p.1, p.2) (λ other. rw c.in-TargetInfo.is (target-refused l _ _ (ap (target_listing l) (sym c.get.ensures) ∙ c.in_err-listing-in-TargetInfo.ensures.refused other)))
+
+pub returns-in_err-listing-in-KwargsInfo-clause-refused : goal.returns-in_err-listing-in-KwargsInfo-clause-refused
+returns-in_err-listing-in-KwargsInfo-clause-refused c =
+    let l = c.args.self.now in
+    let p = err_from_is_err_and c.from_residual-in_err-listing-in-KwargsInfo.result c.from_residual-in_err-listing-in-KwargsInfo.ensures.1 in
+    rw (p.1, p.2) (λ other. rw c.in-KwargsInfo.is (call-refused l _ _ _ (ap (kwargs_listing l _) (sym c.get-in-KwargsInfo.ensures) ∙ c.in_err-listing-in-KwargsInfo.ensures.refused other)))
+
+pub returns-in_ok-answer-in-TargetInfo-clause-done : goal.returns-in_ok-answer-in-TargetInfo-clause-done
+returns-in_ok-answer-in-TargetInfo-clause-done c =
+    let l = c.args.self.now in
+    let is = ap (target_listing l) (sym c.get.ensures) ∙ c.in_ok-listing-in-TargetInfo.ensures.listed in
+    rw c.in-TargetInfo.is ((targets_listed l _).done (view c.in_ok-listing-in-TargetInfo.listing) c.in_ok-answer-in-TargetInfo.answer.done is c.reads.ensures c.in_ok-answer-in-TargetInfo.ensures.0)
+
+pub returns-in_ok-answer-in-TargetInfo-clause-told : goal.returns-in_ok-answer-in-TargetInfo-clause-told
+returns-in_ok-answer-in-TargetInfo-clause-told c =
+    let l = c.args.self.now in
+    let is = ap (target_listing l) (sym c.get.ensures) ∙ c.in_ok-listing-in-TargetInfo.ensures.listed in
+    rw c.in-TargetInfo.is (target-told l _ (view c.in_ok-listing-in-TargetInfo.listing) is ∙ ap Ok (sym c.in_ok-answer-in-TargetInfo.ensures.1))
+
+pub returns-in_ok-answer-in-KwargsInfo-clause-done : goal.returns-in_ok-answer-in-KwargsInfo-clause-done
+returns-in_ok-answer-in-KwargsInfo-clause-done c =
+    let l = c.args.self.now in
+    let is = ap (kwargs_listing l _) (sym c.get-in-KwargsInfo.ensures) ∙ c.in_ok-listing-in-KwargsInfo.ensures.listed in
+    rw c.in-KwargsInfo.is ((calls_listed l _ _).done (view c.in_ok-listing-in-KwargsInfo.listing) c.in_ok-answer-in-KwargsInfo.answer.done is c.reads.ensures c.in_ok-answer-in-KwargsInfo.ensures.0)

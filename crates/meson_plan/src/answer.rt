@@ -1,0 +1,88 @@
+//! What a command did, and what it told.
+
+ghost use Rattle.std.specs.Prelude.{◌≡◌, ◌∷◌, [], IfOk, IsTrue, Ok, OnErr, map};
+ghost use Rattle.serde_json.specs.View.{view};
+ghost use Rattle.meson_calls.specs.Loading.{IsProject};
+ghost use Rattle.meson_calls.specs.Refusals.{IfRefused};
+ghost use Rattle.meson_plan.specs.Listing.{asks, told};
+ghost use Rattle.meson_plan.specs.ListingLaws.{DoesNothing};
+ghost use Rattle.meson_plan.specs.Performing.{MayRefuse, Performs};
+ghost use Rattle.meson_splice.specs.Patch.{patched_all};
+
+use crate::listing::{info_kwargs, info_target};
+use crate::project::Project;
+use meson_calls::Refusal;
+use meson_splice::{Change, Many};
+use meson_steps::command::{Command, Done};
+use serde_json::Value;
+use std::alloc::{AllocError, Global};
+
+/// What a command did, and what it told.
+#[derive(Debug, Drop)]
+pub struct Answer {
+    pub done: Done,
+    /// The listing of an info command; of the others none.
+    pub listings: Vec<Value>,
+}
+
+/// Whether a command asks, and changes nothing.
+pub fn asks(command: &Command) -> bool
+    ensures { result ≡ asks command.now }
+{
+    matches!(
+        command,
+        Command::TargetInfo { .. } | Command::KwargsInfo { .. }
+    )
+}
+
+/// A listing, and nothing done.
+fn listed(alloc: Global, listing: Value) -> Result<Answer, AllocError>
+    ensures { IfOk result (λ a. DoesNothing a.done × (map view a.listings.items ≡ view listing ∷ [])) }
+{
+    let mut listings = Vec::new(alloc);
+    listings.push(listing)?;
+    Ok(Answer {
+        done: Done {
+            change: Change::untitled(alloc, Many::new(alloc)),
+            relexed: 0,
+        },
+        listings,
+    })
+}
+
+impl Project {
+    /// Does a command, or tells what one asks, which changes nothing.
+    ///
+    /// # Errors
+    /// The first refusal that holds, or want of memory.
+    pub fn answer(&mut self, alloc: Global, command: &Command) -> Result<Answer, Refusal>
+        ensures done { IfOk result (λ a. Performs self.old command.now a.done self.new) }
+        ensures told { IfOk result (λ a. told self.old command.now ≡ Ok (map view a.listings.items)) }
+        ensures patched { IfOk result (λ a. patched_all self.old.files a.done.change.splices ≡ Ok self.new.files) }
+        ensures untouched { IsTrue (asks command.now) → self.new ≡ self.old }
+        ensures refused { IfRefused result (MayRefuse self.old command.now) }
+        ensures kept { OnErr result (self.new ≡ self.old) }
+        ensures project { IsProject self.new }
+    {
+        self.reads();
+        match command {
+            Command::TargetInfo { target } => {
+                let listing = info_target(alloc, self, target.get())?;
+                let answer = listed(alloc, listing)?;
+                Ok(answer)
+            }
+            Command::KwargsInfo { role, id } => {
+                let listing = info_kwargs(alloc, self, *role, id.get())?;
+                let answer = listed(alloc, listing)?;
+                Ok(answer)
+            }
+            _ => {
+                let done = self.perform(alloc, command)?;
+                Ok(Answer {
+                    done,
+                    listings: Vec::new(alloc),
+                })
+            }
+        }
+    }
+}

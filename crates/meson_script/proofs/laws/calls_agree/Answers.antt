@@ -1,5 +1,0 @@
-use Rattle.meson_script.proofs.Agreeing.{calls_agree}
-use Rattle.meson_script.proofs.laws.calls_agree.Goals as goal
-
-pub returns : goal.returns
-returns c = calls_agree
