@@ -1,8 +1,6 @@
 mod Performed
 pub mod SplicesDone
 pub mod PlacesFound
-mod TargetsTold
-mod CallsIn
 mod DetailsThere
 mod CommandsLeave
 mod NamesKept

@@ -3,10 +3,11 @@
 ghost use Rattle.std.specs.Prelude.{◌≡◌, ◌∷◌, [], IfOk, IsTrue, Ok, OnErr, map};
 ghost use Rattle.serde_json.specs.View.{view};
 ghost use Rattle.meson_calls.specs.Loading.{IsProject};
+ghost use Rattle.meson_layout.specs.Laws.{AreTexts};
 ghost use Rattle.meson_calls.specs.Refusals.{IfRefused};
 ghost use Rattle.meson_plan.specs.Listing.{asks, told};
 ghost use Rattle.meson_plan.specs.ListingLaws.{DoesNothing};
-ghost use Rattle.meson_plan.specs.Performing.{MayRefuse, Performs};
+ghost use Rattle.meson_plan.specs.Performing.{KeepsUntouched, MayRefuse, Performs};
 ghost use Rattle.meson_splice.specs.Patch.{patched_all};
 
 use crate::listing::{info_kwargs, info_target};
@@ -58,7 +59,6 @@ impl Project {
     pub fn answer(&mut self, alloc: Global, command: &Command) -> Result<Answer, Refusal>
         ensures done { IfOk result (λ a. Performs self.old command.now a.done self.new) }
         ensures told { IfOk result (λ a. told self.old command.now ≡ Ok (map view a.listings.items)) }
-        ensures patched { IfOk result (λ a. patched_all self.old.files a.done.change.splices ≡ Ok self.new.files) }
         ensures untouched { IsTrue (asks command.now) → self.new ≡ self.old }
         ensures refused { IfRefused result (MayRefuse self.old command.now) }
         ensures kept { OnErr result (self.new ≡ self.old) }
@@ -77,12 +77,30 @@ impl Project {
                 Ok(answer)
             }
             _ => {
-                let done = self.perform(alloc, command)?;
+                let done = self.edit(alloc, command)?;
                 Ok(Answer {
                     done,
                     listings: Vec::new(alloc),
                 })
             }
         }
+    }
+
+    /// Does a command, or nothing. What one tells that asks is let go.
+    ///
+    /// # Errors
+    /// The first refusal that holds, or want of memory.
+    pub fn perform(&mut self, alloc: Global, command: &Command) -> Result<Done, Refusal>
+        ensures done { IfOk result (λ done. Performs self.old command.now done self.new) }
+        ensures untouched { IfOk result (λ done. KeepsUntouched self.old command.now self.new) }
+        ensures patched { IfOk result (λ done. patched_all self.old.files done.change.splices ≡ Ok self.new.files) }
+        ensures texts { IfOk result (λ done. AreTexts done.change.splices) }
+        ensures refused { IfRefused result (MayRefuse self.old command.now) }
+        ensures kept { OnErr result (self.new ≡ self.old) }
+        // Each tree is that of its file, whatever came of the command.
+        ensures project { IsProject self.new }
+    {
+        let Answer { done, listings: _ } = self.answer(alloc, command)?;
+        Ok(done)
     }
 }

@@ -3,7 +3,6 @@
 
 pub mod answer;
 mod details;
-mod info;
 mod kept;
 pub mod laws;
 pub mod listing;

@@ -1,10 +1,11 @@
 //! What a command orders: steps that are all known at once, or changes of one call, each made after the one before it.
 
-ghost use Rattle.std.specs.Prelude.{◌≡◌, codes};
+ghost use Rattle.std.specs.Prelude.{◌≡◌, codes, false};
 ghost use Rattle.meson_lex.specs.declared.kinds.Span as lex;
 ghost use Rattle.meson_calls.specs.Project.{Project};
 ghost use Rattle.meson_keywords.specs.Changing.{request_steps};
 ghost use Rattle.meson_keywords.specs.Tasking.{asked};
+ghost use Rattle.meson_plan.specs.Listing.{asks};
 ghost use Rattle.meson_plan.specs.inside.Orders.{order_steps, sought};
 ghost use Rattle.meson_plan.specs.Planning.{planned};
 ghost use Rattle.meson_sources.specs.Targeted.{target_steps};
@@ -28,10 +29,6 @@ pub(crate) enum Plan<'c> {
     AddTarget(NewTarget<'c>),
     /// A target goes, with its statement.
     RemoveTarget(&'c str),
-    /// Nothing: a target is asked for.
-    AskTarget(&'c str),
-    /// Nothing: a call is asked for.
-    AskCall(Role, &'c str),
 }
 
 impl<'c> Plan<'c> {
@@ -43,8 +40,6 @@ impl<'c> Plan<'c> {
             Plan::OnTarget(target, _, _) => (Role::Target, target.get()),
             Plan::AddTarget(new) => (Role::Target, new.name.get()),
             Plan::RemoveTarget(target) => (Role::Target, target),
-            Plan::AskTarget(target) => (Role::Target, target),
-            Plan::AskCall(role, id) => (role, id),
         }
     }
 }
@@ -85,8 +80,9 @@ fn on_project(words: AskedWords<'_>) -> Order<'_>
     })
 }
 
-/// What a command orders: the steps that it means, or the reason why it is refused, are those of the order.
+/// What a command orders that does not ask: the steps that it means, or the reason why it is refused, are those of the order.
 pub(crate) fn order_of(command: &Command) -> Order<'_>
+    requires { asks command.now ≡ false }
     ensures { (p : Project lex.Span) → order_steps p result ≡ planned p command.now }
 {
     match command {
@@ -106,8 +102,8 @@ pub(crate) fn order_of(command: &Command) -> Order<'_>
             sources: sources.get(),
         })),
         Command::TargetRemove { target } => Order::Planned(Plan::RemoveTarget(target.get())),
-        Command::TargetInfo { target } => Order::Planned(Plan::AskTarget(target.get())),
-        Command::KwargsInfo { role, id } => Order::Planned(Plan::AskCall(*role, id.get())),
+        Command::TargetInfo { .. } => unreachable!(),
+        Command::KwargsInfo { .. } => unreachable!(),
         Command::KwargsSet { role, id, pairs } => on_call(*role, id, AskedWords::Set(pairs.get())),
         Command::KwargsAdd { role, id, pairs } => on_call(*role, id, AskedWords::Add(pairs.get())),
         Command::KwargsRemove { role, id, pairs } => on_call(

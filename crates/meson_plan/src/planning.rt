@@ -8,7 +8,6 @@ ghost use Rattle.meson_calls.specs.Setters.{AreKept};
 ghost use Rattle.meson_plan.specs.inside.Orders.{plan_steps, sought};
 ghost use Rattle.meson_steps.specs.Plans.{ArePlanned};
 
-use crate::info::{call_info, target_info};
 use crate::order::Plan;
 use meson_calls::Refusal;
 use meson_calls::kept::keep_setters;
@@ -85,7 +84,5 @@ fn steps_of(alloc: Global, noted: &Noted<'_>, plan: Plan<'_>) -> Result<Vec<List
         Plan::OnTarget(target, change, names) => on_target(alloc, noted, target, change, names),
         Plan::AddTarget(new) => target_added(alloc, noted, new),
         Plan::RemoveTarget(target) => target_removed(alloc, noted, target),
-        Plan::AskTarget(target) => target_info(alloc, noted, target),
-        Plan::AskCall(role, id) => call_info(alloc, noted, role, id),
     }
 }

@@ -1,8 +1,6 @@
 //! A project: its files, and the tree of each.
 
-ghost use Rattle.std.specs.Prelude.{◌≡◌, List, ℕ, Some, Ok, Err, IfErr, IfOk, IsTrue, OnErr, OnOk};
-ghost use Rattle.meson_splice.specs.Patch.{patched_all};
-ghost use Rattle.meson_layout.specs.Laws.{AreTexts};
+ghost use Rattle.std.specs.Prelude.{◌≡◌, List, ℕ, Some, Ok, Err, false, IfErr, IfOk, IsTrue, OnErr, OnOk};
 ghost use Rattle.meson_calls.specs.Loading.{IsProject, Loaded, MayNotLoad, project};
 ghost use Rattle.meson_calls.specs.NotedProjects.{IsNotedFor, loaded_in};
 ghost use Rattle.meson_calls.specs.Notes.{note_views, taken_view};
@@ -10,7 +8,8 @@ ghost use Rattle.meson_calls.specs.Setters.{AreKept};
 ghost use Rattle.meson_calls.specs.Spelling.{AreNotesWith, sought_words};
 ghost use Rattle.meson_steps.specs.Done.{IsDone, MayNotBeDone};
 ghost use Rattle.meson_steps.specs.Working.{IsFresh, Restores, so_far};
-ghost use Rattle.meson_plan.specs.Performing.{KeepsUntouched, MayRefuse, Performs};
+ghost use Rattle.meson_plan.specs.Listing.{asks};
+ghost use Rattle.meson_plan.specs.Performing.{MayRefuse, Performs};
 ghost use Rattle.meson_plan.specs.Planning.{planned};
 ghost use Rattle.meson_calls.specs.Roles.{targets, is_target, places};
 ghost use Rattle.meson_calls.specs.Naming.{found};
@@ -311,18 +310,15 @@ impl Project {
         keywords_of(alloc, role, called.source, called.arguments)
     }
 
-    /// Does a command, or nothing.
+    /// Does a command that does not ask, or nothing.
     ///
     /// # Errors
     /// The first refusal that holds, or want of memory.
-    pub fn perform(&mut self, alloc: Global, command: &Command) -> Result<Done, Refusal>
+    pub(crate) fn edit(&mut self, alloc: Global, command: &Command) -> Result<Done, Refusal>
+        requires { asks command.now ≡ false }
         ensures done { IfOk result (λ done. Performs self.old command.now done self.new) }
-        ensures untouched { IfOk result (λ done. KeepsUntouched self.old command.now self.new) }
-        ensures patched { IfOk result (λ done. patched_all self.old.files done.change.splices ≡ Ok self.new.files) }
-        ensures texts { IfOk result (λ done. AreTexts done.change.splices) }
         ensures refused { IfRefused result (MayRefuse self.old command.now) }
         ensures kept { OnErr result (self.new ≡ self.old) }
-        // Each tree is that of its file, whatever came of the command.
         ensures project { IsProject self.new }
     {
         let files = mem::replace(&mut self.files, FileSet::new(alloc));
@@ -361,7 +357,7 @@ impl Project {
     }
 }
 
-/// Does a command. What is kept is said of the files and trees as they were before it.
+/// Does a command that does not ask. What is kept is said of the files and trees as they were before it.
 ///
 /// # Errors
 /// The first refusal that holds, or want of memory.
@@ -371,6 +367,7 @@ fn performed(
     kept: &mut Vec<Option<bool>>,
     command: &Command,
 ) -> Result<(), Refusal>
+    requires changes { asks command.now ≡ false }
     requires fresh { IsFresh work.old }
     requires kept { AreKept kept.old.items work.old.files work.old.trees.items }
     ensures kept { AreKept kept.new.items work.old.files work.old.trees.items }

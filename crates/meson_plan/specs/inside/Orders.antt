@@ -5,7 +5,6 @@ use Rattle.meson_calls.specs.declared.call.Role.TheVariants as role
 use Rattle.meson_calls.specs.Project.{Project}
 use Rattle.meson_lex.specs.declared.kinds.Span.{Span}
 use Rattle.meson_steps.specs.Done.{Meaning}
-use Rattle.meson_steps.specs.declared.command.Command.TheVariants as command
 use Rattle.meson_sources.specs.Targeted.{target_steps}
 use Rattle.meson_targets.specs.TargetEdits.{named_removed}
 use Rattle.meson_targets.specs.TargetViews.{new_target}
@@ -15,22 +14,17 @@ use Rattle.meson_plan.specs.declared.order.Order.{Order}
 use Rattle.meson_plan.specs.declared.order.Order.TheVariants as order
 use Rattle.meson_plan.specs.declared.order.Plan.{Plan}
 use Rattle.meson_plan.specs.declared.order.Plan.TheVariants as plan
-use Rattle.meson_plan.specs.Planning.{planned}
 
 -- the role and the name or variable of the call that is looked for
 abbrev pub sought : Plan → Role × List ℕ
 sought (plan.OnTarget target change names) = (role.Target, target.now)
 sought (plan.AddTarget new) = (role.Target, new.name.now)
 sought (plan.RemoveTarget target) = (role.Target, target.now)
-sought (plan.AskTarget target) = (role.Target, target.now)
-sought (plan.AskCall r id) = (r, id.now)
 
 abbrev pub plan_steps : Project Span → Plan → Meaning
 plan_steps p (plan.OnTarget target change names) = target_steps p target.now change names.now
 plan_steps p (plan.AddTarget new) = new_target p new
 plan_steps p (plan.RemoveTarget target) = named_removed p target.now
-plan_steps p (plan.AskTarget target) = planned p (command.TargetInfo target.now)
-plan_steps p (plan.AskCall r id) = planned p (command.KwargsInfo r id.now)
 
 abbrev pub order_steps : Project Span → Order → Meaning
 order_steps p (order.Planned q) = plan_steps p q

@@ -5,6 +5,3 @@ use Rattle.meson_plan.proofs.order.order_of.Goals as goal
 
 pub returns-in-TargetRemove : goal.returns-in-TargetRemove
 returns-in-TargetRemove c = λ p. sym (ap (planned p) (c.in-TargetRemove.is ∙ ap command.TargetRemove (sym c.get-in-TargetRemove.ensures)))
-
-pub returns-in-TargetInfo : goal.returns-in-TargetInfo
-returns-in-TargetInfo c = λ p. sym (ap (planned p) (c.in-TargetInfo.is ∙ ap command.TargetInfo (sym c.get-in-TargetInfo.ensures)))

@@ -1,7 +1,6 @@
 -- What each plan means.
-use Rattle.std.proofs.Common.{sym, ap, subst}
+use Rattle.std.proofs.Common.{ap}
 use Rattle.meson_calls.specs.NotedProjects.{loaded_in, project_in}
-use Rattle.meson_calls.specs.Refusals.{RefusedAs}
 use Rattle.meson_plan.specs.inside.Orders.{plan_steps}
 use Rattle.meson_targets.proofs.TargetsDoable.{addition_means, removal_means}
 use Rattle.meson_plan.proofs.planning.steps_of.Goals as goal
@@ -18,7 +17,3 @@ returns-in-RemoveTarget-clause-plan c =
     let n = c.args.noted.now in
     removal_means (loaded_in n) c.requires.whole (λ v. v.items) (plan_steps (project_in n) c.args.plan) c.in-RemoveTarget.target.now
     (ap (plan_steps (project_in n)) c.in-RemoveTarget.is) c.target_removed.result c.target_removed.ensures.meant
-
-pub returns-in-AskCall-clause-refused : goal.returns-in-AskCall-clause-refused
-returns-in-AskCall-clause-refused c =
-    subst (λ meant. RefusedAs c.call_info.result meant) (sym (ap (plan_steps (project_in c.args.noted.now)) c.in-AskCall.is)) c.call_info.ensures.refused

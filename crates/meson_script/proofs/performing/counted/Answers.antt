@@ -1,6 +1,7 @@
 use Rattle.std.proofs.Common.{sym, ap, ◌∙◌}
 use Rattle.meson_splice.specs.Files.{differing}
 use Rattle.meson_splice.proofs.Counts.{differing-same}
+use Rattle.meson_plan.proofs.SplicesDone.{performs-patch}
 use Rattle.meson_script.proofs.RunFacts.{change-names, names}
 use Rattle.meson_script.proofs.performing.counted.Goals as goal
 
@@ -13,5 +14,5 @@ returns-then-asks-clause-files c =
 pub count_differing-files-requires : goal.count_differing-files-requires
 count_differing-files-requires c =
     ap names (c.in_ok-before.ensures.cases ∙ c.files.ensures)
-    ∙ change-names c.args.project.now.files c.in_ok-answer-2.answer.done.change.splices c.answer-2.new.self.files c.in_ok-answer-2.ensures.patched
+    ∙ change-names c.args.project.now.files c.in_ok-answer-2.answer.done.change.splices c.answer-2.new.self.files (performs-patch _ _ _ _ c.in_ok-answer-2.ensures.done)
     ∙ ap names (sym c.files-2.ensures)
