@@ -48,6 +48,7 @@ pub mod NoteReadings
 pub mod NotesWith
 pub mod SetterReadings
 pub mod SettersKept
+mod AssignmentsKept
 mod NoSubdirs
 pub mod KeywordArguments
 pub mod AtMostOnce

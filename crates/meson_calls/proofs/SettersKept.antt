@@ -1,19 +1,21 @@
--- What is kept of files: whether a call in them sets variables.
-use Rattle.std.proofs.Common.{◌≡◌, ℕ, ◌+◌, ◌<◌, List, [], ◌∷◌, length, get_or, refl, sym, ap, ◌∙◌, subst, inl, inr, arith}
-use Rattle.std.specs.declared.alloc.AllocError.{AllocError}
-use Rattle.std.specs.Prelude.{Bool, false, ◌||◌, bytes_eq, codes, set, Option, Some, None, is_some, IsSome, MatchOption, Result, Ok}
+-- What is kept of files: whether a call in them sets variables, and else their assignments.
+use Rattle.std.proofs.Common.{◌≡◌, ℕ, ◌+◌, ◌<◌, ◌≤◌, List, [], ◌∷◌, length, get_or, refl, sym, ap, ◌∙◌, subst, inl, inr, arith}
+use Rattle.std.specs.Prelude.{false, ◌||◌, bytes_eq, codes, set, Option, Some, None, IsTrue, MatchOption, ⊤}
+use Rattle.std.specs.Borrow.{Bor}
 use Rattle.std.proofs.lemmas.Bool.{cases_eq}
-use Rattle.std.proofs.lemmas.List.{get_or-set_same, get_or-set_other}
+use Rattle.std.proofs.lemmas.List.{get_or_default, get_or-set_same, get_or-set_other, length-set}
 use Rattle.meson_lex.specs.declared.kinds.Span.{Span}
 use Rattle.meson_splice.specs.declared.file_set.File.{File}
 use Rattle.meson_splice.specs.Files.{bytes_at}
 use Rattle.meson_syntax.specs.declared.tree.Parsed.{Parsed}
 use Rattle.meson_syntax.specs.Reads.{IsSpanned}
 use Rattle.meson_syntax.specs.View.{view}
+use Rattle.meson_calls.specs.declared.kept.Kept.{Kept}
+use Rattle.meson_calls.specs.declared.kept.Kept.TheVariants.{Unknown}
 use Rattle.meson_calls.specs.Notes.{Note, a_call, an_assignment, a_loop, noted}
 use Rattle.meson_calls.specs.Parts.{parts_of_file}
 use Rattle.meson_calls.specs.Project.{Placed}
-use Rattle.meson_calls.specs.Setters.{AreKept, NoCallSets, any_sets_by_call, file_sets_by_call, sets_by_call}
+use Rattle.meson_calls.specs.Setters.{AreKept, IsKept, NoCallSets, any_sets_by_call, is_known, sets_by_call}
 use Rattle.meson_calls.specs.Spelling.{HasNoneOf, setter_words}
 use Rattle.meson_calls.proofs.NotesWith.{first_word, further_words}
 use Rattle.meson_calls.proofs.Spelled.{differs}
@@ -36,52 +38,53 @@ module _ (bytes : List ℕ) (none : HasNoneOf setter_words bytes) where
 pub no_call_sets : (n : ℕ) (bytes : List ℕ) (t : Parsed) → IsSpanned bytes (view bytes t) → HasNoneOf setter_words bytes → NoCallSets n bytes t
 no_call_sets n bytes t spanned none = none_sets bytes none (noted (parts_of_file n (view bytes t))) (notes_stand n bytes (view bytes t) spanned)
 
--- what is kept of a file, or else its bytes, tell it
-pub few_set : (n : ℕ) (bytes : List ℕ) (t : Parsed) → IsSpanned bytes (view bytes t) → (known : Option Bool) (all : Bool) → (known ≡ Some false → NoCallSets n bytes t)
-    → MatchOption known (all ≡ false → HasNoneOf setter_words bytes) (λ sets. all ≡ sets) → all ≡ false → NoCallSets n bytes t
-few_set n bytes t spanned None all kept said few = no_call_sets n bytes t spanned (said few)
-few_set n bytes t spanned (Some sets) all kept said few = kept (ap Some (sym said ∙ few))
-
--- what is kept of a file, or else its notes, tell it
-pub none_told : (n : ℕ) (bytes : List ℕ) (t : Parsed) (known : Option Bool) (sets : Bool) → (known ≡ Some false → NoCallSets n bytes t)
-    → MatchOption known (sets ≡ file_sets_by_call n bytes t) (λ s. let told : Result Bool AllocError = Ok sets in told ≡ Ok s) → sets ≡ false → NoCallSets n bytes t
-none_told n bytes t None sets kept said none = sym said ∙ none
-none_told n bytes t (Some s) sets kept said none = let same : s ≡ sets = cc in kept (ap Some (same ∙ none))
-
 -- ---- entries
 
--- nothing is kept
-pub none_kept : (files : List File) (trees : List Parsed) → AreKept [] files trees
-none_kept files trees = λ i is d. absurd cc
+pub entry_kept : (kept : List Kept) (files : List File) (trees : List Parsed) (i : ℕ) (d : Parsed) → AreKept kept files trees → (e : Option (Bor Kept)) → MatchOption e ⊤ (λ k. get_or kept i Unknown ≡ k.now)
+    → MatchOption e ⊤ (λ k. IsKept k.now (parts_of_file i (view (bytes_at i files) (get_or trees i d))))
+entry_kept kept files trees i d are None is = is
+entry_kept kept files trees i d are (Some k) is = subst (λ x. IsKept x (parts_of_file i (view (bytes_at i files) (get_or trees i d)))) is (are i d)
 
--- what an entry says that none does, it said before, of the same bytes and the same tree
-pub record StaysAt (before : List (Option Bool)) (files those : List File) (trees others : List Parsed) (i : ℕ) : Type 0 where
-  pub known : get_or before i None ≡ Some false
-  pub bytes : bytes_at i files ≡ bytes_at i those
-  pub tree : (d : Parsed) → get_or trees i d ≡ get_or others i d
-
--- so it is kept of other files and trees
-pub kept_over : (before after : List (Option Bool)) (files those : List File) (trees others : List Parsed) → AreKept before files trees
-    → ((i : ℕ) → get_or after i None ≡ Some false → StaysAt before files those trees others i) → AreKept after those others
-kept_over before after files those trees others are stays = λ i is d.
-    let s = stays i is in
-    subst (λ b. NoCallSets i b (get_or others i d)) s.bytes (subst (NoCallSets i (bytes_at i files)) (s.tree d) (are i s.known d))
-
-module _ (kept : List (Option Bool)) (i : ℕ) (sets : Bool) (within : i < length kept) where
+module _ (kept : List Kept) (i : ℕ) (e : Kept) (within : i < length kept) where
   -- one more is kept
-  pub kept_more : (files : List File) (trees : List Parsed) → AreKept kept files trees → ((d : Parsed) → sets ≡ false → NoCallSets i (bytes_at i files) (get_or trees i d))
-      → AreKept (set kept i (Some sets)) files trees
-  kept_more files trees are here = λ j is d. elim (cases_eq j i) [
+  kept_more : (files : List File) (trees : List Parsed) → AreKept kept files trees → ((d : Parsed) → IsKept e (parts_of_file i (view (bytes_at i files) (get_or trees i d)))) → AreKept (set kept i e) files trees
+  kept_more files trees are here = λ j d. elim (cases_eq j i) [
     | inl same ↦
-        let what : Some sets ≡ Some false = sym (get_or-set_same kept i (Some sets) None within) ∙ ap (λ k. get_or (set kept i (Some sets)) k None) (sym same) ∙ is in
-        let no : sets ≡ false = cc in
-        subst (λ k. NoCallSets k (bytes_at k files) (get_or trees k d)) (sym same) (here d no)
-    | inr other ↦ are j (sym (get_or-set_other kept i j (Some sets) None other) ∙ is) d
+        subst (λ k. IsKept (get_or (set kept i e) k Unknown) (parts_of_file k (view (bytes_at k files) (get_or trees k d)))) (sym same)
+        (subst (λ x. IsKept x (parts_of_file i (view (bytes_at i files) (get_or trees i d)))) (sym (get_or-set_same kept i e Unknown within)) (here d))
+    | inr other ↦ subst (λ x. IsKept x (parts_of_file j (view (bytes_at j files) (get_or trees j d)))) (sym (get_or-set_other kept i j e Unknown other)) (are j d)
   ]
 
   -- one more is known
-  pub known_more : ((k : ℕ) → k < i → IsSome (get_or kept k None)) → (k : ℕ) → k < i + 1 → IsSome (get_or (set kept i (Some sets)) k None)
-  known_more before k below = elim (cases_eq k i) [
-    | inl same ↦ ap is_some (ap (λ j. get_or (set kept i (Some sets)) j None) same ∙ get_or-set_same kept i (Some sets) None within)
-    | inr other ↦ let less : k < i = omega arith in ap is_some (get_or-set_other kept i k (Some sets) None other) ∙ before k less
+  known_more : ((k : ℕ) → k < i → IsTrue (is_known (get_or kept k Unknown))) → IsTrue (is_known e) → (k : ℕ) → k < i + 1 → IsTrue (is_known (get_or (set kept i e) k Unknown))
+  known_more before here k below = elim (cases_eq k i) [
+    | inl same ↦ subst (λ x. IsTrue (is_known x)) (sym (ap (λ j. get_or (set kept i e) j Unknown) same ∙ get_or-set_same kept i e Unknown within)) here
+    | inr other ↦ let less : k < i = omega arith in subst (λ x. IsTrue (is_known x)) (sym (get_or-set_other kept i k e Unknown other)) (before k less)
   ]
+
+-- what is kept of files is so, and it is known of the first n
+pub record KeptUpTo (n : ℕ) (files : List File) (trees : List Parsed) (kept : List Kept) : Type 0 where
+  pub are : AreKept kept files trees
+  pub known : (k : ℕ) → k < n → IsTrue (is_known (get_or kept k Unknown))
+  pub room : length trees ≤ length kept
+
+module _ (files : List File) (trees : List Parsed) (i : ℕ) (kept : List Kept) (within : i < length trees) (before : KeptUpTo i files trees kept) where
+  inside : i < length kept
+  inside = omega (arith, within, before.room)
+
+  pub next_read : (t : Parsed) → t ≡ get_or trees i t → (e : Kept) → IsTrue (is_known e) → IsKept e (parts_of_file i (view (bytes_at i files) t)) → KeptUpTo (i + 1) files trees (set kept i e)
+  next_read t is e known here = record {
+    are = kept_more kept i e inside files trees before.are (λ d. subst (λ u. IsKept e (parts_of_file i (view (bytes_at i files) u))) (is ∙ get_or_default trees i t d within) here);
+    known = known_more kept i e inside before.known known;
+    room = omega (arith, length-set kept i e, before.room);
+  }
+
+  pub next_known : (e : Kept) → e ≡ get_or kept i e → IsTrue (is_known e) → KeptUpTo (i + 1) files trees kept
+  next_known e same known = record {
+    are = before.are;
+    known = λ k below. elim (cases_eq k i) [
+      | inl here ↦ subst (λ x. IsTrue (is_known x)) (same ∙ get_or_default kept i e Unknown inside ∙ ap (λ j. get_or kept j Unknown) (sym here)) known
+      | inr other ↦ let less : k < i = omega arith in before.known k less
+    ];
+    room = before.room;
+  }

@@ -1,19 +1,21 @@
 -- Parts that are visited one after another.
-use Rattle.std.specs.Prelude.{Bool, true, false, if◌then◌else◌}
-use Rattle.std.proofs.Common.{◌≡◌, ℕ, ◌+◌, ◌<◌, ◌≤◌, List, [], ◌∷◌, ◌++◌, length, drop, get_or, Option, Some, sym, ap, ◌∙◌, arith}
+use Rattle.std.specs.Prelude.{Bool, true, false, ◌||◌, if◌then◌else◌}
+use Rattle.std.proofs.Common.{◌≡◌, ℕ, ◌+◌, ◌<◌, ◌≤◌, List, [], ◌∷◌, ◌++◌, length, drop, get_or, Option, Some, refl, sym, ap, ap₂, ◌∙◌, arith}
 use Rattle.std.specs.Borrow.{Bor}
 use Rattle.std.proofs.lemmas.List.{append_assoc, append-nil, at_drop_more, at_drop_all}
 use Rattle.std.proofs.lemmas.List.Elements.{filter_map-append}
 use Rattle.std.proofs.lemmas.List.Sums.{fold-append}
 use Rattle.meson_lex.specs.declared.kinds.Span.{Span}
-use Rattle.meson_syntax.specs.Tree.{Expression}
-use Rattle.meson_calls.specs.Parts.{Part, parts_of_expression}
-use Rattle.meson_calls.specs.Project.{Placed}
+use Rattle.meson_syntax.specs.Tree.{Expression, call}
+use Rattle.meson_calls.specs.declared.kept.KeptAssignment.{KeptAssignment}
+use Rattle.meson_calls.specs.Parts.{Part, an_expression, parts_of_expression}
+use Rattle.meson_calls.specs.Project.{Placed, placed}
 use Rattle.meson_calls.specs.declared.call.CallRef.{CallRef}
 use Rattle.meson_calls.specs.Calls.{chosen}
 use Rattle.meson_calls.specs.Notes.{Note, note_of, noted}
-use Rattle.meson_calls.specs.Walks.{KeptParts, notes_kept, setters_kept, reads_kept, kept_so_far, with_part, with_parts, notes_of_kept, reads_of_kept, read_at, read_in}
-use Rattle.meson_calls.proofs.SettersApart.{none_within, setters_append, setters_of}
+use Rattle.meson_calls.specs.Walks.{KeptParts, notes_kept, setters_kept, assignments_kept, reads_kept, kept_so_far, with_part, with_parts, notes_of_kept, reads_of_kept, read_at, read_in}
+use Rattle.meson_calls.specs.Setters.{AreAssignments, any_sets_by_call, assignment_at, assignments_in, has_loop, is_loop}
+use Rattle.meson_calls.proofs.SettersApart.{setters_append, setters_of, stays_within}
 
 pub two_parts : (before middle after : KeptParts) (a b : List (Placed (Part Span))) → middle ≡ with_parts before a → after ≡ with_parts middle b → after ≡ with_parts before (a ++ b)
 two_parts before middle after a b first last = last ∙ ap (λ m. with_parts m b) first ∙ sym (fold-append with_part before a b)
@@ -75,8 +77,40 @@ setters_come names ns (q ∷ ps) =
 
 pub setters_stay : (names : List (Bor (List ℕ))) (ns : List (Placed (Note Span))) (p : CallRef) (e : Expression Span) → setters_kept names ns ≡ with_parts (setters_kept names ns) (parts_of_expression p e)
 setters_stay names ns p e =
-    let ps = parts_of_expression p e in
-    sym (setters_come names ns ps ∙ ap (λ l. setters_kept names (ns ++ l)) (none_within names p e) ∙ ap (setters_kept names) (append-nil ns))
+    sym (stays_within (setters_kept names ns) alone p e)
+  where
+    alone : (p : CallRef) (e : Expression Span) → with_part (setters_kept names ns) (placed p (an_expression e)) ≡ setters_kept names ns
+    alone p (call s x l) = ap (setters_kept names) (append-nil ns)
+    alone p e = ap (setters_kept names) (append-nil ns)
+
+-- assignments, and whether there is a loop
+pub assignments_stay : (loops : Bool) (ks : List KeptAssignment) (p : CallRef) (e : Expression Span) → assignments_kept loops ks ≡ with_parts (assignments_kept loops ks) (parts_of_expression p e)
+assignments_stay loops ks p e = sym (stays_within (assignments_kept loops ks) (λ p e. ap (assignments_kept loops) (append-nil ks)) p e)
+
+either : (a b c : Bool) → (a || (b || c)) ≡ ((b || a) || c)
+either true true c = refl
+either true false c = refl
+either false true c = refl
+either false false c = refl
+
+assignments_come : (loops : Bool) (ks : List KeptAssignment) (ps : List (Placed (Part Span))) → with_parts (assignments_kept loops ks) ps ≡ assignments_kept (has_loop ps || loops) (ks ++ assignments_in ps)
+assignments_come loops ks [] = ap (assignments_kept loops) (sym (append-nil ks))
+assignments_come loops ks (q ∷ ps) =
+    assignments_come (is_loop q.it || loops) (ks ++ assignments_in (q ∷ [])) ps
+    ∙ ap₂ assignments_kept (either (has_loop ps) (is_loop q.it) loops)
+    (append_assoc ks (assignments_in (q ∷ [])) (assignments_in ps) ∙ ap (λ l. ks ++ l) (sym (filter_map-append (λ r. assignment_at r.place r.it) (q ∷ []) ps)))
+
+neither : (a : Bool) → (a || false) ≡ false → a ≡ false
+neither true is = is
+neither false is = refl
+
+pub all_gathered : (loops : Bool) (ks : List KeptAssignment) (ps : List (Placed (Part Span))) → any_sets_by_call (noted ps) ≡ false → assignments_kept loops ks ≡ with_parts (assignments_kept false []) ps → loops ≡ false
+    → AreAssignments ps ks
+all_gathered loops ks ps no_call comes none =
+    let all = comes ∙ assignments_come false [] ps in
+    let loop : loops ≡ (has_loop ps || false) = cc in
+    let own : ks ≡ assignments_in ps = cc in
+    record { no_call = no_call; no_loop = neither (has_loop ps) (sym loop ∙ none); are = own }
 
 -- all of a file, or those of setters
 pub more_asked : (names : List (Bor (List ℕ))) (all : Bool) (ns : List (Placed (Note Span))) (found : Option (List (Placed (Note Span)))) (kept : KeptParts) (ps : List (Placed (Part Span))) → found ≡ notes_of_kept kept

@@ -1,16 +1,21 @@
--- Notes by which the values of some variables are known: all of a file in which a call may set one, and of the others the setters alone.
-use Rattle.std.specs.Prelude.{◌≡◌, ℕ, ◌+◌, ◌<◌, Bool, true, false, ◌||◌, List, [], ◌∷◌, ◌++◌, length, get_or, bytes_eq, codes, if◌then◌else◌, Option, Some, None, IsSome}
+-- Notes by which the values of some variables are known: all of a file in which a call may set one, and of the others the setters alone. What is kept of files.
+use Rattle.std.specs.Prelude.{◌≡◌, ℕ, ◌+◌, ◌<◌, Bool, true, false, ◌||◌, List, [], ◌∷◌, ◌++◌, length, get_or, bytes_eq, codes, if◌then◌else◌, Option, Some, None, IsTrue}
 use Rattle.std.specs.Borrow.{Bor}
-use Rattle.std.specs.List.{filter, list_any}
+use Rattle.std.specs.List.{filter, filter_map, list_any}
 use Rattle.meson_lex.specs.declared.kinds.Span.{Span}
 use Rattle.meson_splice.specs.declared.file_set.File.{File}
 use Rattle.meson_splice.specs.Files.{bytes_at}
 use Rattle.meson_syntax.specs.declared.tree.Parsed.{Parsed}
+use Rattle.meson_syntax.specs.Tree.{assign, iteration}
 use Rattle.meson_syntax.specs.View.{view}
+use Rattle.meson_calls.specs.declared.call.CallRef.{CallRef}
+use Rattle.meson_calls.specs.declared.kept.Kept.{Kept}
+use Rattle.meson_calls.specs.declared.kept.Kept.TheVariants as entry
+use Rattle.meson_calls.specs.declared.kept.KeptAssignment.{KeptAssignment}
 use Rattle.meson_calls.specs.Calls.{calls_function}
-use Rattle.meson_calls.specs.Notes.{Note, a_call, an_assignment, a_loop, noted}
-use Rattle.meson_calls.specs.Parts.{parts_of_file}
-use Rattle.meson_calls.specs.Project.{Placed}
+use Rattle.meson_calls.specs.Notes.{Note, a_call, an_assignment, a_loop, is_set, noted}
+use Rattle.meson_calls.specs.Parts.{Part, a_statement, parts_of_file}
+use Rattle.meson_calls.specs.Project.{Placed, child}
 
 -- whether a name is among the code's names
 abbrev pub is_among : List (Bor (List ℕ)) → List ℕ → Bool
@@ -49,13 +54,48 @@ file_sets_by_call n bytes t = any_sets_by_call (noted (parts_of_file n (view byt
 abbrev pub NoCallSets : ℕ → List ℕ → Parsed → Type 0
 NoCallSets n bytes t = file_sets_by_call n bytes t ≡ false
 
--- What is kept of files, whether a call in them sets a variable, is so where it says that none does. An entry that is not known, or is not there, says nothing.
-abbrev pub AreKept : List (Option Bool) → List File → List Parsed → Type 0
-AreKept kept files trees = (i : ℕ) → get_or kept i None ≡ Some false → (d : Parsed) → NoCallSets i (bytes_at i files) (get_or trees i d)
+-- ---- what is kept of files
+
+-- whether a loop is among the parts
+abbrev pub is_loop : Part Span → Bool
+is_loop (a_statement (iteration s xs e b)) = true
+is_loop _ = false
+
+abbrev pub has_loop : List (Placed (Part Span)) → Bool
+has_loop ps = list_any (λ q. is_loop q.it) ps
+
+-- The assignments among the parts: of each where the name of the variable stands, whether it is set, and the path of the value.
+abbrev pub assignment_at : CallRef → Part Span → Option KeptAssignment
+assignment_at p (a_statement (assign s x a e)) = Some (record { name = x.place; sets = is_set a; value = (child p 0).path })
+assignment_at p _ = None
+
+abbrev pub assignments_in : List (Placed (Part Span)) → List KeptAssignment
+assignments_in ps = filter_map (λ q. assignment_at q.place q.it) ps
+
+-- In a file that has these parts no call sets a variable, and no loop does: these are its assignments.
+pub record AreAssignments (ps : List (Placed (Part Span))) (ks : List KeptAssignment) : Type 0 where
+  pub no_call : any_sets_by_call (noted ps) ≡ false
+  pub no_loop : has_loop ps ≡ false
+  pub are : ks ≡ assignments_in ps
+
+-- What is kept of a file that has these parts is so. Where it is not known, and where a call may set variables, nothing is said.
+abbrev pub IsKept : Kept → List (Placed (Part Span)) → Type 0
+IsKept entry.Unknown ps = Unit {0}
+IsKept entry.Calls ps = Unit {0}
+IsKept entry.Loops ps = any_sets_by_call (noted ps) ≡ false
+IsKept (entry.Assignments ks) ps = AreAssignments ps ks.items
+
+-- What is kept of files is so. An entry that is not there is not known.
+abbrev pub AreKept : List Kept → List File → List Parsed → Type 0
+AreKept kept files trees = (i : ℕ) (d : Parsed) → IsKept (get_or kept i entry.Unknown) (parts_of_file i (view (bytes_at i files) (get_or trees i d)))
+
+abbrev pub is_known : Kept → Bool
+is_known entry.Unknown = false
+is_known _ = true
 
 -- it is known of each of the files
-abbrev pub AllKnown : List (Option Bool) → List File → Type 0
-AllKnown kept files = (i : ℕ) → i < length files → IsSome (get_or kept i None)
+abbrev pub AllKnown : List Kept → List File → Type 0
+AllKnown kept files = (i : ℕ) → i < length files → IsTrue (is_known (get_or kept i entry.Unknown))
 
 -- ---- notes of files
 

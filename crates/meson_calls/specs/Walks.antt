@@ -1,5 +1,5 @@
 -- Walks through trees: what is kept of the parts that are visited, one after another.
-use Rattle.std.specs.Prelude.{◌≡◌, ℕ, ◌+◌, Bool, true, false, List, [], ◌∷◌, ◌++◌, bytes_eq, Option, Some, None, if◌then◌else◌}
+use Rattle.std.specs.Prelude.{◌≡◌, ℕ, Bool, true, false, List, [], ◌∷◌, ◌++◌, ◌||◌, bytes_eq, Option, Some, None, if◌then◌else◌}
 use Rattle.std.specs.Borrow.{Bor}
 use Rattle.std.specs.List.{fold, filter_map}
 use Rattle.meson_lex.specs.declared.kinds.Span.{Span}
@@ -8,13 +8,14 @@ use Rattle.meson_syntax.specs.View.{expr_view, stmt_view}
 use Rattle.meson_calls.specs.declared.call.CallRef.{CallRef}
 use Rattle.meson_calls.specs.declared.keeper.Keeper.{Keeper}
 use Rattle.meson_calls.specs.declared.keeper.Keeper.TheVariants as keeper
+use Rattle.meson_calls.specs.declared.kept.KeptAssignment.{KeptAssignment}
 use Rattle.meson_calls.specs.declared.part.Part as rust_part
 use Rattle.meson_calls.specs.declared.part.Part.TheVariants as rust
 use Rattle.meson_calls.specs.declared.part.Walk.{Walk}
 use Rattle.meson_calls.specs.Project.{Placed, placed, place}
 use Rattle.meson_calls.specs.Parts.{Part, an_expression, a_statement}
 use Rattle.meson_calls.specs.Notes.{Note, noted, taken_view}
-use Rattle.meson_calls.specs.Setters.{setters_in}
+use Rattle.meson_calls.specs.Setters.{assignments_in, is_loop, setters_in}
 
 -- ---- where a variable is read
 
@@ -33,16 +34,18 @@ read_at x q = if part_reads x q.it then Some q.place else None
 abbrev pub read_in : {S : Type 0} → List ℕ → List (Placed (Part S)) → List CallRef
 read_in x ps = filter_map (read_at x) ps
 
--- ---- what is kept: the notes, those of setters alone, or the places where a variable is read
+-- ---- what is kept: the notes, those of setters alone, whether there is a loop and the assignments, or the places where a variable is read
 
 pub data KeptParts : Type 0 where
   notes_kept : List (Placed (Note Span)) → KeptParts
   setters_kept : List (Bor (List ℕ)) → List (Placed (Note Span)) → KeptParts
+  assignments_kept : Bool → List KeptAssignment → KeptParts
   reads_kept : List ℕ → List CallRef → KeptParts
 
 abbrev pub keeper_view : Keeper → KeptParts
 keeper_view (keeper.Notes found) = notes_kept (taken_view found)
 keeper_view (keeper.Setters s) = setters_kept s.names.now (taken_view s.found)
+keeper_view (keeper.Assignments a) = assignments_kept a.loops a.found.items
 keeper_view (keeper.Reads name found) = reads_kept name.now found.items
 
 -- where all notes are asked for, or those of setters
@@ -53,6 +56,7 @@ kept_so_far names false ns = setters_kept names ns
 abbrev pub with_part : KeptParts → Placed (Part Span) → KeptParts
 with_part (notes_kept ns) q = notes_kept (ns ++ noted (q ∷ []))
 with_part (setters_kept names ns) q = setters_kept names (ns ++ setters_in names (noted (q ∷ [])))
+with_part (assignments_kept loops ks) q = assignments_kept (is_loop q.it || loops) (ks ++ assignments_in (q ∷ []))
 with_part (reads_kept x cs) q = reads_kept x (cs ++ read_in x (q ∷ []))
 
 abbrev pub with_parts : KeptParts → List (Placed (Part Span)) → KeptParts
@@ -61,11 +65,13 @@ with_parts kept ps = fold with_part kept ps
 abbrev pub notes_of_kept : KeptParts → Option (List (Placed (Note Span)))
 notes_of_kept (notes_kept ns) = Some ns
 notes_of_kept (setters_kept names ns) = Some ns
+notes_of_kept (assignments_kept loops ks) = None
 notes_of_kept (reads_kept x cs) = None
 
 abbrev pub reads_of_kept : KeptParts → Option (List CallRef)
 reads_of_kept (notes_kept ns) = None
 reads_of_kept (setters_kept names ns) = None
+reads_of_kept (assignments_kept loops ks) = None
 reads_of_kept (reads_kept x cs) = Some cs
 
 -- the parts come to what a keeper has

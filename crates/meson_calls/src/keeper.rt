@@ -1,6 +1,7 @@
 //! What is kept of the parts of trees.
 
 use crate::call::CallRef;
+use crate::kept::KeptAssignment;
 use crate::taken::Taken;
 
 /// Notes of what sets some variables, while they are taken.
@@ -10,6 +11,13 @@ pub struct Setters<'n, 't> {
     pub found: Taken<'t>,
 }
 
+/// Assignments, while they are gathered, and whether there is a loop.
+#[derive(Drop)]
+pub struct Assignments {
+    pub loops: bool,
+    pub found: Vec<KeptAssignment>,
+}
+
 /// What a walk keeps of the parts that it visits.
 #[derive(Drop)]
 pub enum Keeper<'n, 't> {
@@ -17,6 +25,8 @@ pub enum Keeper<'n, 't> {
     Notes(Taken<'t>),
     /// Of these the assignments to some variables and the loops.
     Setters(Setters<'n, 't>),
+    /// Where the assignments stand, to whatever variables, and whether there is a loop.
+    Assignments(Assignments),
     /// The places of the identifiers that are this variable.
     Reads { name: &'t [u8], found: Vec<CallRef> },
 }

@@ -1,19 +1,20 @@
 //! What a walk does with each part that it visits.
 
-ghost use Rattle.std.specs.Prelude.{◌≡◌, ◌∷◌, [], ◌++◌, IsTrue, OnOk, option_map};
+ghost use Rattle.std.specs.Prelude.{◌≡◌, ◌∷◌, [], ◌++◌, ◌||◌, IsTrue, OnOk, option_map};
 ghost use Rattle.meson_syntax.specs.View.{expr_view};
 ghost use Rattle.meson_calls.specs.declared.call.CallRef.{CallRef};
 ghost use Rattle.meson_calls.specs.Notes.{note_of, noted, taken_view, what_view, is_set};
 ghost use Rattle.meson_calls.specs.Parts.{parts_of_expression};
 ghost use Rattle.meson_calls.specs.ChosenNotes.{Source};
-ghost use Rattle.meson_calls.specs.Setters.{is_setter, setters_in};
+ghost use Rattle.meson_calls.specs.Setters.{assignments_in, is_loop, is_setter, setters_in};
 ghost use Rattle.meson_calls.specs.Walks.{KeepsParts, keeper_view, kept_so_far, notes_of_kept, part_at, part_reads, part_view, read_in, reads_of_kept};
 
-use crate::call::CallRef;
-use crate::keeper::{Keeper, Setters};
+use crate::call::{BorrowedPlace, CallRef};
+use crate::keeper::{Assignments, Keeper, Setters};
+use crate::kept::KeptAssignment;
 use crate::note::What;
 use crate::part::{Part, Walk};
-use crate::place::place_of;
+use crate::place::{child_place, place_of};
 use crate::roles::{is_among, text_of};
 use crate::taken::Taken;
 use meson_syntax::{Assignment, Expr, Stmt};
@@ -111,6 +112,7 @@ impl<'n, 't> Keeper<'n, 't> {
         match self {
             Keeper::Notes(_) => is_plain(expr),
             Keeper::Setters(_) => true,
+            Keeper::Assignments(_) => true,
             Keeper::Reads { name: _, found: _ } => false,
         }
     }
@@ -124,7 +126,8 @@ impl<'n, 't> Keeper<'n, 't> {
             Keeper::Setters(setters) => {
                 let Setters { names: _, found } = setters;
                 Some(found)
-            },
+            }
+            Keeper::Assignments(_) => None,
             Keeper::Reads { name: _, found: _ } => None,
         }
     }
@@ -136,6 +139,7 @@ impl<'n, 't> Keeper<'n, 't> {
         match self {
             Keeper::Notes(_) => None,
             Keeper::Setters(_) => None,
+            Keeper::Assignments(_) => None,
             Keeper::Reads { name: _, found } => Some(found),
         }
     }
@@ -201,6 +205,45 @@ impl<'t> Walk<'t> {
         Ok(())
     }
 
+    /// Keeps where the assignment at the path has its variable and its value, if it is one, and whether it is a loop.
+    fn keep_assignment(
+        &self,
+        path: &[usize],
+        part: Part<'t>,
+        assignments: &mut Assignments,
+    ) -> Result<(), AllocError>
+        ensures loops { OnOk result (assignments.new.loops ≡ (is_loop (part_at self.now path.now part.entry).it || assignments.old.loops)) }
+        ensures found { OnOk result (assignments.new.found.items
+            ≡ assignments.old.found.items ++ assignments_in (part_at self.now path.now part.entry ∷ [])) }
+    {
+        match part {
+            Part::Statement(
+                Stmt::Assign {
+                    name,
+                    assignment,
+                    ..
+                },
+            ) => {
+                let place = BorrowedPlace {
+                    file: self.file,
+                    path,
+                };
+                let CallRef { file: _, path } = child_place(self.alloc, place, 0)?;
+                assignments.found.push(KeptAssignment {
+                    name: *name,
+                    sets: sets(*assignment),
+                    value: path,
+                })?;
+                Ok(())
+            }
+            Part::Statement(Stmt::Foreach { .. }) => {
+                assignments.loops = true;
+                Ok(())
+            }
+            _ => Ok(()),
+        }
+    }
+
     /// Keeps the place of the part at the path, if it is the variable.
     fn keep_read(
         &self,
@@ -230,6 +273,7 @@ impl<'t> Walk<'t> {
         match keeper {
             Keeper::Notes(found) => self.keep_note(path, part, found),
             Keeper::Setters(setters) => self.keep_setter(path, part, setters),
+            Keeper::Assignments(assignments) => self.keep_assignment(path, part, assignments),
             Keeper::Reads { name, found } => self.keep_read(path, part, name, found),
         }
     }

@@ -1,35 +1,68 @@
-//! What is kept of files: whether a call in them sets variables.
+//! What is kept of files: whether a call in them sets variables, and else their assignments.
 
-ghost use Rattle.std.specs.Prelude.{◌≡◌, ℕ, ◌≤◌, Some, None, Ok, false, length, get_or, IfOk, OnOk, MatchOption};
+ghost use Rattle.std.specs.Prelude.{◌≡◌, ℕ, ◌≤◌, ◌∷◌, [], List, false, get_or, length, IfOk, IsTrue, MatchOption, OnOk, ⊤};
+ghost use Rattle.meson_lex.specs.declared.kinds.Span.{Span};
 ghost use Rattle.meson_syntax.specs.Reads.{IsSpanned};
 ghost use Rattle.meson_syntax.specs.View.{view};
+ghost use Rattle.meson_calls.specs.declared.kept.Kept.TheVariants.{Unknown};
 ghost use Rattle.meson_calls.specs.Loading.{AreParsed};
-ghost use Rattle.meson_calls.specs.Notes.{note_views, what_view};
-ghost use Rattle.meson_calls.specs.Setters.{AllKnown, AreKept, any_sets_by_call, file_sets_by_call, sets_by_call};
-ghost use Rattle.meson_calls.specs.Spelling.{HasNoneOf, setter_words};
+ghost use Rattle.meson_calls.specs.Notes.{note_views, noted, what_view};
+ghost use Rattle.meson_calls.specs.Parts.{Part, parts_of_file};
+ghost use Rattle.meson_calls.specs.Project.{Placed};
+ghost use Rattle.meson_calls.specs.Setters.{AllKnown, AreKept, IsKept, any_sets_by_call, file_sets_by_call, is_known, sets_by_call};
+ghost use Rattle.meson_calls.specs.Spelling.{setter_words};
+ghost use Rattle.meson_calls.specs.Walks.{assignments_kept, keeper_view, with_parts};
 
+use crate::keeper::{Assignments, Keeper};
 use crate::note::{Note, What};
 use crate::notes::notes_in;
 use crate::roles::text_of;
 use crate::spelling::Words;
+use crate::walk_statements::walk_file;
+use meson_lex::Span;
 use meson_splice::FileSet;
-use meson_syntax::Parsed;
+use meson_syntax::{Parsed, Path};
 use std::alloc::{AllocError, Global};
 
-/// What is kept of a file: nothing where it is not known, or not there.
-pub(crate) fn entry(kept: &[Option<bool>], file: usize) -> Option<bool>
-    ensures { result ≡ get_or kept.now file None }
-{
-    if file < kept.len() { kept[file] } else { None }
+/// An assignment: where the name of the variable stands, whether it is set and not added to, and the path of the value.
+#[derive(Drop)]
+pub struct KeptAssignment {
+    pub name: Span,
+    pub sets: bool,
+    pub value: Path,
 }
 
-/// Whether a call may set variables in a file of which this is kept. Where it is not known, the bytes tell.
-pub(crate) fn may_set(words: &Words<'_>, known: Option<bool>, bytes: &[u8]) -> bool
-    ensures { MatchOption known (result ≡ false → HasNoneOf words.now.words.items bytes.now) (λ sets. result ≡ sets) }
+/// What is kept of a file.
+#[derive(Drop)]
+pub enum Kept {
+    /// It is not known.
+    Unknown,
+    /// A call in it sets variables: all its notes are looked at.
+    Calls,
+    /// No call does, but a loop: its statements are looked at.
+    Loops,
+    /// Neither does: these are its assignments.
+    Assignments(Vec<KeptAssignment>),
+}
+
+/// What is kept of a file, if there is an entry for it.
+pub(crate) fn entry(kept: &[Kept], file: usize) -> Option<&Kept>
+    ensures { MatchOption result ⊤ (λ entry. get_or kept.now file Unknown ≡ entry.now) }
 {
-    match known {
-        Some(sets) => sets,
-        None => words.may_stand_in(bytes),
+    if file < kept.len() {
+        Some(&kept[file])
+    } else {
+        None
+    }
+}
+
+/// Whether anything is known.
+fn is_known(kept: &Kept) -> bool
+    ensures { result ≡ is_known kept.now }
+{
+    match kept {
+        Kept::Unknown => false,
+        _ => true,
     }
 }
 
@@ -79,37 +112,61 @@ fn file_sets_by_call(
     Ok(any_sets_by_call(notes.as_slice()))
 }
 
-/// What is kept of the file, or else whether a call in it sets variables.
-fn known_or_read(
-    alloc: Global,
-    words: &Words<'_>,
-    known: Option<bool>,
-    file: usize,
-    source: &[u8],
-    parsed: &Parsed,
-) -> Result<bool, AllocError>
-    requires spanned { IsSpanned source.now (view source.now parsed.now) }
-    requires words { words.now.words.items ≡ setter_words }
-    ensures { MatchOption known (IfOk result (λ sets. sets ≡ file_sets_by_call file source.now parsed.now)) (λ sets. result ≡ Ok sets) }
+/// What is kept of a file in which no call sets variables and whose parts were visited.
+fn kept_by(keeper: Keeper<'_, '_>) -> Kept
+    ensures known { IsTrue (is_known result) }
+    ensures kept { (ps : List (Placed (Part Span))) → any_sets_by_call (noted ps) ≡ false
+        → keeper_view keeper.entry ≡ with_parts (assignments_kept false []) ps → IsKept result ps }
 {
-    match known {
-        Some(sets) => Ok(sets),
-        None => file_sets_by_call(alloc, words, file, source, parsed),
+    match keeper {
+        Keeper::Assignments(assignments) => {
+            let Assignments { loops, found } = assignments;
+            if loops {
+                Kept::Loops
+            } else {
+                Kept::Assignments(found)
+            }
+        }
+        _ => Kept::Calls,
     }
 }
 
+/// What is to be kept of a file.
+fn read(
+    alloc: Global,
+    words: &Words<'_>,
+    file: usize,
+    source: &[u8],
+    parsed: &Parsed,
+) -> Result<Kept, AllocError>
+    requires spanned { IsSpanned source.now (view source.now parsed.now) }
+    requires words { words.now.words.items ≡ setter_words }
+    ensures known { IfOk result (λ kept. IsTrue (is_known kept)) }
+    ensures kept { IfOk result (λ kept. IsKept kept (parts_of_file file (view source.now parsed.now))) }
+{
+    if file_sets_by_call(alloc, words, file, source, parsed)? {
+        return Ok(Kept::Calls);
+    }
+    let mut keeper = Keeper::Assignments(Assignments {
+        loops: false,
+        found: Vec::new(alloc),
+    });
+    walk_file(alloc, file, source, parsed, &mut keeper)?;
+    Ok(kept_by(keeper))
+}
+
 /// Makes room for so many entries: the further ones are not known.
-fn make_room(kept: &mut Vec<Option<bool>>, count: usize) -> Result<(), AllocError>
-    ensures same { (i : ℕ) → get_or kept.new.items i None ≡ get_or kept.old.items i None }
+fn make_room(kept: &mut Vec<Kept>, count: usize) -> Result<(), AllocError>
+    ensures same { (i : ℕ) → get_or kept.new.items i Unknown ≡ get_or kept.old.items i Unknown }
     ensures room { OnOk result (count ≤ length kept.new.items) }
 {
     while kept.len() < count {
-        kept.push(None)?;
+        kept.push(Kept::Unknown)?;
     }
     Ok(())
 }
 
-/// Keeps of each file whether a call in it sets variables, where that is not known yet.
+/// Keeps of each file whether a call in it sets variables, and else its assignments, where that is not known yet.
 ///
 /// # Errors
 /// Memory was refused.
@@ -117,7 +174,7 @@ pub fn keep_setters(
     alloc: Global,
     files: &FileSet,
     trees: &[Parsed],
-    kept: &mut Vec<Option<bool>>,
+    kept: &mut Vec<Kept>,
 ) -> Result<(), AllocError>
     requires parsed { AreParsed files.now trees.now }
     requires kept { AreKept kept.old.items files.now trees.now }
@@ -127,8 +184,9 @@ pub fn keep_setters(
     let words = Words::of_setters(alloc)?;
     make_room(kept, trees.len())?;
     for i in 0..trees.len() {
-        let sets = known_or_read(alloc, &words, kept[i], i, files.bytes(i), &trees[i])?;
-        kept[i] = Some(sets);
+        if !is_known(&kept[i]) {
+            kept[i] = read(alloc, &words, i, files.bytes(i), &trees[i])?;
+        }
     }
     Ok(())
 }

@@ -1,17 +1,21 @@
 //! The notes of a project.
 
-ghost use Rattle.std.specs.Prelude.{◌≡◌, ◌++◌, if◌then◌else◌, IfOk};
+ghost use Rattle.std.specs.Prelude.{◌≡◌, ◌∷◌, ◌++◌, [], false, if◌then◌else◌, IfOk, MatchOption, OnOk, ⊤};
+ghost use Rattle.std.specs.List.{filter_map};
 ghost use Rattle.meson_syntax.specs.Reads.{IsSpanned};
 ghost use Rattle.meson_syntax.specs.View.{view};
 ghost use Rattle.meson_calls.specs.Parts.{parts_of_file};
 ghost use Rattle.meson_calls.specs.Loading.{AreParsed, named_trees, views};
 ghost use Rattle.meson_calls.specs.Notes.{noted, notes, taken_view};
-ghost use Rattle.meson_calls.specs.Setters.{AreKept, AreSetters, notes_asked};
-ghost use Rattle.meson_calls.specs.Spelling.{AreNotesWith, sought_words};
+ghost use Rattle.meson_calls.specs.Setters.{AreAssignments, AreKept, AreSetters, IsKept, notes_asked};
+ghost use Rattle.meson_calls.specs.Spelling.{AreNotesWith, setter_words, sought_words};
+ghost use Rattle.meson_calls.specs.inside.Setters.{ComeBehind, kept_note};
 
 use crate::call::Role;
 use crate::keeper::Keeper;
-use crate::kept::{entry, may_set};
+use crate::kept::{Kept, KeptAssignment, entry};
+use crate::note::What;
+use crate::roles::{is_among, text_of};
 use crate::spelling::Words;
 use crate::taken::Taken;
 use crate::walk_statements::{walk_file, walk_files};
@@ -143,6 +147,85 @@ fn with_setters<'t>(
     }
 }
 
+/// Takes a note of an assignment that is kept of a file, if it is to one of these variables.
+fn take_kept<'t>(
+    file: usize,
+    source: &'t [u8],
+    parsed: &'t Parsed,
+    names: &[&[u8]],
+    assignment: &KeptAssignment,
+    taken: &mut Taken<'t>,
+) -> Result<(), AllocError>
+    ensures { OnOk result (taken_view taken.new
+        ≡ taken_view taken.old ++ filter_map (kept_note names.now file source.now parsed.now) (assignment.now ∷ [])) }
+{
+    if !is_among(names, text_of(source, assignment.name)) {
+        return Ok(());
+    }
+    match parsed.expr_at(&assignment.value) {
+        Some(value) => {
+            let path = assignment.value.steps.get();
+            let what = What::Assign {
+                name: assignment.name,
+                sets: assignment.sets,
+                value,
+            };
+            taken.take(file, &path[..path.len() - 1], source, what)
+        }
+        None => Ok(()),
+    }
+}
+
+/// The notes so far, and behind them those of assignments to these variables, of all that are kept of a file.
+fn with_assignments<'t>(
+    file: usize,
+    source: &'t [u8],
+    parsed: &'t Parsed,
+    names: &[&[u8]],
+    assignments: &[KeptAssignment],
+    taken: Taken<'t>,
+) -> Result<Taken<'t>, AllocError>
+    requires spanned { IsSpanned source.now (view source.now parsed.now) }
+    requires are { AreAssignments (parts_of_file file (view source.now parsed.now)) assignments.now }
+    ensures { IfOk result (λ found. taken_view found
+        ≡ taken_view taken.entry ++ notes_asked names.now false file source.entry.now parsed.entry.now) }
+{
+    let mut taken = taken;
+    for i in 0..assignments.len() {
+        take_kept(file, source, parsed, names, &assignments[i], &mut taken)?;
+    }
+    Ok(taken)
+}
+
+/// The notes so far, and behind them those of a file: what is kept of it tells which. Where nothing is, its bytes do.
+fn with_kept<'t>(
+    alloc: Global,
+    words: &Words<'_>,
+    file: usize,
+    source: &'t [u8],
+    parsed: &'t Parsed,
+    names: &[&[u8]],
+    kept: Option<&Kept>,
+    taken: Taken<'t>,
+) -> Result<Taken<'t>, AllocError>
+    requires words { words.now.words.items ≡ setter_words }
+    requires spanned { IsSpanned source.now (view source.now parsed.now) }
+    requires kept { MatchOption kept ⊤ (λ k. IsKept k.now (parts_of_file file (view source.now parsed.now))) }
+    ensures { IfOk result (λ found. ComeBehind names.now file source.entry.now parsed.entry.now (taken_view taken.entry) (taken_view found)) }
+{
+    match kept {
+        Some(Kept::Calls) => with_setters(alloc, file, source, parsed, names, true, taken),
+        Some(Kept::Loops) => with_setters(alloc, file, source, parsed, names, false, taken),
+        Some(Kept::Assignments(assignments)) => {
+            with_assignments(file, source, parsed, names, assignments.as_slice(), taken)
+        }
+        _ => {
+            let all = words.may_stand_in(source);
+            with_setters(alloc, file, source, parsed, names, all, taken)
+        }
+    }
+}
+
 /// The notes by which these variables stand for something: of a file in which no call sets one, its assignments to them and
 /// its loops are enough. What is not kept of a file is told by its bytes.
 ///
@@ -153,7 +236,7 @@ pub fn notes_naming<'t>(
     names: &[&[u8]],
     files: &'t FileSet,
     trees: &'t [Parsed],
-    kept: &[Option<bool>],
+    kept: &[Kept],
 ) -> Result<Taken<'t>, AllocError>
     requires parsed { AreParsed files.now trees.now }
     requires kept { AreKept kept.now files.now trees.now }
@@ -163,8 +246,16 @@ pub fn notes_naming<'t>(
     let mut taken = Taken::new(alloc);
     for i in 0..trees.len() {
         let source = files.bytes(i);
-        let all = may_set(&words, entry(kept, i), source);
-        taken = with_setters(alloc, i, source, &trees[i], names, all, taken)?;
+        taken = with_kept(
+            alloc,
+            &words,
+            i,
+            source,
+            &trees[i],
+            names,
+            entry(kept, i),
+            taken,
+        )?;
     }
     Ok(taken)
 }

@@ -10,7 +10,7 @@ ghost use Rattle.meson_steps.specs.Plans.{ArePlanned};
 
 use crate::order::Plan;
 use meson_calls::Refusal;
-use meson_calls::kept::keep_setters;
+use meson_calls::kept::{Kept, keep_setters};
 use meson_calls::noted::Noted;
 use meson_calls::notes::notes_for;
 use meson_sources::targeting::on_target;
@@ -21,13 +21,13 @@ use meson_targets::target_adding::target_added;
 use meson_targets::target_removing::target_removed;
 use std::alloc::{AllocError, Global};
 
-/// Keeps of each file whether a call in it sets variables, where the plan follows variables. Of a project of one file all
-/// notes are taken anyhow.
+/// Keeps of each file what sets variables in it, where the plan follows variables. Of a project of one file all notes are
+/// taken anyhow.
 fn keep_for(
     alloc: Global,
     files: &FileSet,
     trees: &[Parsed],
-    kept: &mut Vec<Option<bool>>,
+    kept: &mut Vec<Kept>,
     plan: Plan<'_>,
 ) -> Result<(), AllocError>
     requires parsed { AreParsed files.now trees.now }
@@ -48,7 +48,7 @@ pub(crate) fn planned(
     alloc: Global,
     files: &FileSet,
     trees: &[Parsed],
-    kept: &mut Vec<Option<bool>>,
+    kept: &mut Vec<Kept>,
     plan: Plan<'_>,
 ) -> Result<Vec<ListStep>, Refusal>
     requires project { IsProject (loaded_from files.now trees.now) }

@@ -26,6 +26,7 @@ use crate::order::{Order, order_of};
 use crate::planning::planned;
 use meson_calls::chosen_notes::with_role;
 use meson_calls::finding::the_call;
+use meson_calls::kept::Kept;
 use meson_calls::loading::{copy_trees, loaded};
 use meson_calls::looking::is_target;
 use meson_calls::naming::found;
@@ -56,8 +57,8 @@ use std::{fmt, mem};
 pub struct Project {
     files: FileSet,
     trees: Vec<Parsed>,
-    /// Of each file whether a call in it sets variables, as far as a command found that out.
-    kept: Vec<Option<bool>>,
+    /// Of each file what sets variables in it, as far as a command found that out.
+    kept: Vec<Kept>,
 }
 
 impl Model for Project {
@@ -364,7 +365,7 @@ impl Project {
 fn performed(
     alloc: Global,
     work: &mut Work,
-    kept: &mut Vec<Option<bool>>,
+    kept: &mut Vec<Kept>,
     command: &Command,
 ) -> Result<(), Refusal>
     requires changes { asks command.now ≡ false }

@@ -19,6 +19,7 @@ use crate::target_sources::arguments_of;
 use crate::unknown_setters::all_known;
 use crate::values::{Value, Values};
 use meson_calls::call::CallRef;
+use meson_calls::kept::Kept;
 use meson_calls::note::Note;
 use meson_calls::noted::Noted;
 use meson_calls::notes::{notes_naming, notes_of};
@@ -52,8 +53,8 @@ pub struct Variables<'t> {
     pub alloc: Global,
     pub files: &'t FileSet,
     pub trees: &'t [Parsed],
-    /// Of each file, where it is known, whether a call in it sets variables.
-    pub kept: &'t [Option<bool>],
+    /// What is kept of each file, where that is known.
+    pub kept: &'t [Kept],
     sought: Sought<'t>,
     values: Values<'t>,
 }
@@ -144,7 +145,7 @@ fn some_values<'t>(
     alloc: Global,
     files: &'t FileSet,
     trees: &'t [Parsed],
-    kept: &[Option<bool>],
+    kept: &[Kept],
     names: &[&[u8]],
 ) -> Result<Values<'t>, AllocError>
     requires whole { IsProject (loaded_from files.now trees.now) }
@@ -183,7 +184,7 @@ impl<'t> Variables<'t> {
         alloc: Global,
         files: &'t FileSet,
         trees: &'t [Parsed],
-        kept: &'t [Option<bool>],
+        kept: &'t [Kept],
         mentions: &Mentions<'t>,
     ) -> Result<Option<Variables<'t>>, AllocError>
         requires whole { IsProject (loaded_from files.now trees.now) }
@@ -218,7 +219,7 @@ impl<'t> Variables<'t> {
         alloc: Global,
         files: &'t FileSet,
         trees: &'t [Parsed],
-        kept: &'t [Option<bool>],
+        kept: &'t [Kept],
         mentions: &Mentions<'t>,
     ) -> Result<Variables<'t>, AllocError>
         requires whole { IsProject (loaded_from files.now trees.now) }
@@ -251,7 +252,7 @@ impl<'t> Variables<'t> {
         alloc: Global,
         files: &'t FileSet,
         trees: &'t [Parsed],
-        kept: &'t [Option<bool>],
+        kept: &'t [Kept],
         call: &CallRef,
     ) -> Result<Variables<'t>, AllocError>
         requires whole { IsProject (loaded_from files.now trees.now) }

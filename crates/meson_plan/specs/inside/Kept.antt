@@ -1,10 +1,14 @@
 -- What stays kept of files where splices change some of them.
-use Rattle.std.specs.Prelude.{◌≡◌, ◌≢◌, ℕ, Bool, false, List, All, Option, Some, None, get_or}
+use Rattle.std.specs.Prelude.{◌≡◌, ◌≢◌, ℕ, List, All, Some, IsTrue, get_or}
 use Rattle.meson_splice.specs.declared.file_set.File.{File}
 use Rattle.meson_splice.specs.declared.splice.Splice.{Splice}
 use Rattle.meson_splice.specs.Files.{position_of_file}
+use Rattle.meson_calls.specs.declared.kept.Kept.{Kept}
+use Rattle.meson_calls.specs.declared.kept.Kept.TheVariants.{Unknown}
+use Rattle.meson_calls.specs.Setters.{is_known}
 
--- An entry that says afterwards that no call sets a variable said so before, and none of the splices is of its file.
-abbrev pub StayKept : List (Option Bool) → List (Option Bool) → List File → List Splice → Type 0
+-- An entry of which something is known afterwards was the same before, and none of the splices is of its file.
+abbrev pub StayKept : List Kept → List Kept → List File → List Splice → Type 0
 StayKept before after files splices =
-    (i : ℕ) → get_or after i None ≡ Some false → (get_or before i None ≡ Some false) × All (λ s. position_of_file s.file files ≢ Some i) splices
+    (i : ℕ) → IsTrue (is_known (get_or after i Unknown))
+    → (get_or after i Unknown ≡ get_or before i Unknown) × All (λ s. position_of_file s.file files ≢ Some i) splices

@@ -1,20 +1,20 @@
-use Rattle.std.proofs.Common.{◌≡◌, ◌<◌, ◌∙◌, length, sym, subst, arith}
-use Rattle.std.specs.Prelude.{false, Some, None, Ok, MatchOption}
-use Rattle.std.proofs.lemmas.List.{get_or_default, length-set}
+use Rattle.std.proofs.Common.{◌+◌, ◌<◌, ◌∙◌, length, sym, subst, arith}
 use Rattle.meson_splice.specs.Files.{bytes_at}
 use Rattle.meson_syntax.specs.Reads.{IsSpanned}
 use Rattle.meson_syntax.specs.View.{view}
-use Rattle.meson_calls.specs.Setters.{NoCallSets, file_sets_by_call}
+use Rattle.meson_calls.specs.Parts.{parts_of_file}
+use Rattle.meson_calls.specs.Setters.{IsKept}
 use Rattle.meson_calls.proofs.CallsAt.{spanned_at}
 use Rattle.meson_calls.proofs.Loads.{as_many}
-use Rattle.meson_calls.proofs.SettersKept.{kept_more, known_more, none_told}
+use Rattle.meson_calls.proofs.SettersKept.{KeptUpTo, next_known, next_read}
+use Rattle.meson_calls.proofs.kept.keep_setters.Goals.{then-not-is_known+in_ok-kept+in-Assignments-1, then-not-is_known+in_ok-kept+in-Unknown-1, else-not-is_known}
 use Rattle.meson_calls.proofs.kept.keep_setters.Goals as goal
 
 pub bytes-requires : goal.bytes-requires
 bytes-requires c = omega (arith, c.loop-i-test.true, as_many c.args.files.now c.args.trees.now c.requires.parsed)
 
-pub known_or_read-requires-clause-spanned : goal.known_or_read-requires-clause-spanned
-known_or_read-requires-clause-spanned c =
+pub read-requires-clause-spanned : goal.read-requires-clause-spanned
+read-requires-clause-spanned c =
     let files = c.args.files.now in
     let i = c.loop-i.i in
     let t = c.index-trees-i.result in
@@ -25,22 +25,26 @@ pub loop-i-preserved : goal.loop-i-preserved
 loop-i-preserved c =
     let files = c.args.files.now in
     let trees = c.args.trees.now in
-    let kept = c.loop-i.kept.items in
     let i = c.loop-i.i in
-    let known = c.index.result.now in
-    let sets = c.in_ok-sets.sets in
-    let within : i < length kept = omega (arith, c.loop-i-test.true, c.loop-i.invariant.room) in
-    let bytes = bytes_at i files in
-    let t = c.index-trees-i.result in
-    let before : known ≡ Some false → NoCallSets i bytes t = λ is.
-    subst (NoCallSets i bytes) (sym c.index-trees-i.is) (c.loop-i.invariant.kept i (get_or_default kept i None known within ∙ sym c.index.ensures ∙ is) t) in
-    let told = subst (λ b. MatchOption known (sets ≡ file_sets_by_call i b t) (λ s. Ok sets ≡ Ok s)) c.bytes.ensures c.in_ok-sets.ensures in
-    record {
-      kept = kept_more kept i sets within files trees c.loop-i.invariant.kept
-          (λ d none. subst (NoCallSets i bytes) (c.index-trees-i.is ∙ get_or_default trees i t d c.loop-i-test.true) (none_told i bytes t known sets before told none));
-      known = known_more kept i sets within c.loop-i.invariant.known;
-      room = omega (arith, length-set kept i (Some sets), c.loop-i.invariant.room);
-    }
+    let so_far = c.loop-i.invariant in
+    let inside : i < length trees = c.loop-i-test.true in
+    elim c.if-not-is_known.branch [
+      | then-not-is_known+in_ok-kept+in-Assignments-1 w ↦
+          let t = w.index-trees-i.result in
+          let e = w.in_ok-kept.field-0 in
+          let here = subst (λ bytes. IsKept e (parts_of_file i (view bytes t))) w.bytes.ensures w.in_ok-kept.ensures.kept in
+          subst (λ ks. KeptUpTo (i + 1) files trees ks.items) (sym w.kept-is)
+          (next_read files trees i c.loop-i.kept.items inside so_far t w.index-trees-i.is e w.in_ok-kept.ensures.known here)
+      | then-not-is_known+in_ok-kept+in-Unknown-1 w ↦
+          let t = w.index-trees-i.result in
+          let e = w.in_ok-kept.field-0 in
+          let here = subst (λ bytes. IsKept e (parts_of_file i (view bytes t))) w.bytes.ensures w.in_ok-kept.ensures.kept in
+          subst (λ ks. KeptUpTo (i + 1) files trees ks.items) (sym w.kept-is)
+          (next_read files trees i c.loop-i.kept.items inside so_far t w.index-trees-i.is e w.in_ok-kept.ensures.known here)
+      | else-not-is_known w ↦
+          subst (λ ks. KeptUpTo (i + 1) files trees ks.items) (sym w.kept-is)
+          (next_known files trees i c.loop-i.kept.items inside so_far c.index.result.now c.index.ensures (sym c.is_known.ensures ∙ w.if-not-is_known.false))
+    ]
 
 pub returns-clause-known : goal.returns-clause-known
 returns-clause-known c = λ k within.

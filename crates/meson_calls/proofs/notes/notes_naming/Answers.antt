@@ -1,26 +1,37 @@
-use Rattle.std.proofs.Common.{◌≡◌, ◌<◌, ◌≤◌, ◌++◌, [], length, get_or, ◌∙◌, sym, ap, subst, arith}
-use Rattle.std.specs.Prelude.{false, MatchOption}
+use Rattle.std.proofs.Common.{◌<◌, ◌≤◌, [], length, sym, subst, arith}
+use Rattle.std.specs.Prelude.{MatchOption, ⊤}
 use Rattle.meson_splice.specs.Files.{bytes_at}
 use Rattle.meson_syntax.specs.Reads.{IsSpanned}
 use Rattle.meson_syntax.specs.View.{view}
 use Rattle.meson_calls.specs.Notes.{taken_view}
-use Rattle.meson_calls.specs.Setters.{notes_asked}
-use Rattle.meson_calls.specs.Spelling.{HasNoneOf, setter_words}
+use Rattle.meson_calls.specs.Parts.{parts_of_file}
+use Rattle.meson_calls.specs.Setters.{IsKept}
+use Rattle.meson_calls.specs.inside.Setters.{ComeBehind}
 use Rattle.meson_calls.proofs.CallsAt.{spanned_at}
 use Rattle.meson_calls.proofs.Loads.{as_many}
 use Rattle.meson_calls.proofs.SetterTurns.{SettersGoOn, all_setters, setters_go_on, next_setters}
-use Rattle.meson_calls.proofs.SettersKept.{few_set}
+use Rattle.meson_calls.proofs.SettersKept.{entry_kept}
 use Rattle.meson_calls.proofs.notes.notes_naming.Goals as goal
 
 pub bytes-source-requires : goal.bytes-source-requires
 bytes-source-requires c = omega (arith, c.loop-i-test.true, as_many c.args.files.now c.args.trees.now c.requires.parsed)
 
-pub with_setters-requires : goal.with_setters-requires
-with_setters-requires c =
+pub with_kept-requires-clause-spanned : goal.with_kept-requires-clause-spanned
+with_kept-requires-clause-spanned c =
     let files = c.args.files.now in
     let i = c.loop-i.i in
     subst (λ bytes. IsSpanned bytes (view bytes c.index-trees-i.result)) (sym c.bytes-source.ensures)
     (subst (λ t. IsSpanned (bytes_at i files) (view (bytes_at i files) t)) (sym c.index-trees-i.is) (spanned_at files c.args.trees.now i c.index-trees-i.result c.loop-i-test.true c.requires.parsed))
+
+pub with_kept-requires-clause-kept : goal.with_kept-requires-clause-kept
+with_kept-requires-clause-kept c =
+    let files = c.args.files.now in
+    let i = c.loop-i.i in
+    let t = c.index-trees-i.result in
+    let e = c.entry.result in
+    subst (λ bytes. MatchOption e ⊤ (λ k. IsKept k.now (parts_of_file i (view bytes t)))) (sym c.bytes-source.ensures)
+    (subst (λ u. MatchOption e ⊤ (λ k. IsKept k.now (parts_of_file i (view (bytes_at i files) u)))) (sym c.index-trees-i.is)
+    (entry_kept c.args.kept.now files c.args.trees.now i t c.requires.kept e c.entry.ensures))
 
 pub loop-i-init : goal.loop-i-init
 loop-i-init c = subst (SettersGoOn c.args.names.now c.args.files.now c.args.trees.now 0) (sym c.new-taken.ensures) (setters_go_on c.args.names.now c.args.files.now c.args.trees.now)
@@ -31,18 +42,12 @@ loop-i-preserved c =
     let files = c.args.files.now in
     let i = c.loop-i.i in
     let within : i < length files = omega (arith, as_many files c.args.trees.now c.requires.parsed) in
-    let all = c.may_set-all.result in
     let before = taken_view c.loop-i.taken in
+    let after = taken_view c.in_ok-taken.taken in
     let t = c.index-trees-i.result in
-    let known = c.entry.result in
-    let said = subst (λ ws. MatchOption known (all ≡ false → HasNoneOf ws c.bytes-source.result.now) (λ sets. all ≡ sets)) c.in_ok-words.ensures c.may_set-all.ensures in
-    next_setters names files c.args.trees.now i (record { name = []; bytes = [] }) t before within c.loop-i-test.true c.loop-i.invariant all _
-    (few_set i (bytes_at i files) (get_or c.args.trees.now i t) (spanned_at files c.args.trees.now i t c.loop-i-test.true c.requires.parsed) known all
-    (λ is. c.requires.kept i (sym c.entry.ensures ∙ is) t)
-    (subst (λ b. MatchOption known (all ≡ false → HasNoneOf setter_words b) (λ sets. all ≡ sets)) c.bytes-source.ensures said))
-    (c.in_ok-taken.ensures
-    ∙ ap (λ b. before ++ notes_asked names all i b c.index-trees-i.result) c.bytes-source.ensures
-    ∙ ap (λ t. before ++ notes_asked names all i (bytes_at i files) t) c.index-trees-i.is)
+    let come = subst (λ u. ComeBehind names i (bytes_at i files) u before after) c.index-trees-i.is
+    (subst (λ bytes. ComeBehind names i bytes t before after) c.bytes-source.ensures c.in_ok-taken.ensures) in
+    next_setters names files c.args.trees.now i (record { name = []; bytes = [] }) t before within c.loop-i-test.true c.loop-i.invariant come.all after come.few come.are
 
 pub returns : goal.returns
 returns c =

@@ -3,7 +3,7 @@ use Rattle.meson_syntax.specs.View.{expr_view}
 use Rattle.meson_calls.specs.Notes.{taken_view}
 use Rattle.meson_calls.specs.Parts.{parts_of_expression}
 use Rattle.meson_calls.specs.Walks.{keeper_view, with_parts}
-use Rattle.meson_calls.proofs.Visits.{notes_stay, setters_stay}
+use Rattle.meson_calls.proofs.Visits.{assignments_stay, notes_stay, setters_stay}
 use Rattle.meson_calls.proofs.keeper.Keeper.passes.Goals as goal
 
 pub returns-in-Notes : goal.returns-in-Notes
@@ -15,3 +15,8 @@ pub returns-in-Setters : goal.returns-in-Setters
 returns-in-Setters c = λ plain source p.
     subst (λ k. keeper_view k ≡ with_parts (keeper_view k) (parts_of_expression p (expr_view source c.args.expr.now))) (sym c.in-Setters.is)
     (setters_stay c.in-Setters.field-0.names.now (taken_view c.in-Setters.field-0.found) p (expr_view source c.args.expr.now))
+
+pub returns-in-Assignments : goal.returns-in-Assignments
+returns-in-Assignments c = λ plain source p.
+    subst (λ k. keeper_view k ≡ with_parts (keeper_view k) (parts_of_expression p (expr_view source c.args.expr.now))) (sym c.in-Assignments.is)
+    (assignments_stay c.in-Assignments.field-0.loops c.in-Assignments.field-0.found.items p (expr_view source c.args.expr.now))
