@@ -25,4 +25,6 @@ abbrev pub kept_note : List (Bor (List ℕ)) → ℕ → List ℕ → Parsed →
 kept_note names n bytes t k =
     let x = text_at bytes k.name in
     let path = k.value.steps in
-    if is_among names x then option_map (λ e. placed (place n (without_last path)) (an_assignment x k.sets e)) (expression_on_path (view bytes t) path) else None
+    if is_among names x
+    then option_map (λ e. placed (place n (without_last path)) (an_assignment x k.sets e)) (expression_on_path (view bytes t) path)
+    else None
