@@ -59,7 +59,8 @@ impl Project {
     pub fn answer(&mut self, alloc: Global, command: &Command) -> Result<Answer, Refusal>
         ensures done { IfOk result (λ a. Performs self.old command.now a.done self.new) }
         ensures told { IfOk result (λ a. told self.old command.now ≡ Ok (map view a.listings.items)) }
-        ensures untouched { IsTrue (asks command.now) → self.new ≡ self.old }
+        ensures untouched { IfOk result (λ a. KeepsUntouched self.old command.now self.new) }
+        ensures asking { IsTrue (asks command.now) → self.new ≡ self.old }
         ensures refused { IfRefused result (MayRefuse self.old command.now) }
         ensures kept { OnErr result (self.new ≡ self.old) }
         ensures project { IsProject self.new }

@@ -8,7 +8,7 @@ use Rattle.meson_script.proofs.performing.counted.Goals as goal
 pub returns-then-asks-clause-files : goal.returns-then-asks-clause-files
 returns-then-asks-clause-files c =
     let old = c.args.project.now.files in
-    let same = c.answer.ensures.untouched (sym c.asks.ensures ∙ c.if-asks.true) in
+    let same = c.answer.ensures.asking (sym c.asks.ensures ∙ c.if-asks.true) in
     sym (ap (λ p. differing old p.files) same ∙ differing-same old)
 
 pub count_differing-files-requires : goal.count_differing-files-requires

@@ -4,6 +4,7 @@ use Rattle.serde_json.specs.View.{view}
 use Rattle.meson_plan.specs.Listing.{kwargs_listing, target_listing}
 use Rattle.meson_plan.proofs.Agreeing.{calls_listed, targets_listed}
 use Rattle.meson_plan.proofs.Answered.{call-refused, target-refused, target-told}
+use Rattle.meson_plan.proofs.SplicesDone.{performs-keep}
 use Rattle.meson_plan.proofs.project.Project.answer.Goals as goal
 
 pub returns-in_err-listing-in-TargetInfo-clause-refused : goal.returns-in_err-listing-in-TargetInfo-clause-refused
@@ -35,3 +36,12 @@ returns-in_ok-answer-in-KwargsInfo-clause-done c =
     let l = c.args.self.now in
     let is = ap (kwargs_listing l _) (sym c.get-in-KwargsInfo.ensures) ∙ c.in_ok-listing-in-KwargsInfo.ensures.listed in
     rw c.in-KwargsInfo.is ((calls_listed l _ _).done (view c.in_ok-listing-in-KwargsInfo.listing) c.in_ok-answer-in-KwargsInfo.answer.done is c.reads.ensures c.in_ok-answer-in-KwargsInfo.ensures.0)
+
+pub returns-in_ok-answer-in-TargetInfo-clause-untouched : goal.returns-in_ok-answer-in-TargetInfo-clause-untouched
+returns-in_ok-answer-in-TargetInfo-clause-untouched c = performs-keep _ _ _ _ (returns-in_ok-answer-in-TargetInfo-clause-done c)
+
+pub returns-in_ok-answer-in-KwargsInfo-clause-untouched : goal.returns-in_ok-answer-in-KwargsInfo-clause-untouched
+returns-in_ok-answer-in-KwargsInfo-clause-untouched c = performs-keep _ _ _ _ (returns-in_ok-answer-in-KwargsInfo-clause-done c)
+
+pub returns-in_ok-done-in_default-clause-untouched : goal.returns-in_ok-done-in_default-clause-untouched
+returns-in_ok-done-in_default-clause-untouched c = performs-keep _ _ _ _ c.in_ok-done-in_default.ensures.done
