@@ -68,6 +68,7 @@ impl Project {
         self.reads();
         match command {
             Command::TargetInfo { target } => {
+                self.keep(alloc)?;
                 let listing = info_target(alloc, self, target.get())?;
                 let answer = listed(alloc, listing)?;
                 Ok(answer)

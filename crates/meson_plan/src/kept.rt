@@ -1,12 +1,40 @@
-//! What stays kept of a project's files where a command changed some of them.
+//! What is kept of a project's files for commands on targets, and what stays of it where a command changed some of them.
 
 ghost use Rattle.std.specs.Prelude.{◌≡◌, ◌≢◌, ℕ, Some, IsTrue, get_or};
 ghost use Rattle.meson_calls.specs.declared.kept.Kept.TheVariants.{Unknown};
-ghost use Rattle.meson_calls.specs.Setters.{is_known};
+ghost use Rattle.meson_calls.specs.Loading.{AreParsed};
+ghost use Rattle.meson_calls.specs.Setters.{AreKept, is_known};
 ghost use Rattle.meson_plan.specs.inside.Kept.{StayKept};
 
-use meson_calls::kept::Kept;
+use meson_calls::kept::{Kept, keep_setters};
 use meson_splice::{FileSet, Splice};
+use meson_syntax::Parsed;
+use std::alloc::{AllocError, Global};
+
+/// Keeps of each file what sets variables in it, from the second time on that this is asked for: for one command alone it takes
+/// more than it spares. An entry that says nothing tells of the first time. Of a project of one file all notes are taken anyhow.
+///
+/// # Errors
+/// Memory was refused.
+pub(crate) fn keep(
+    alloc: Global,
+    files: &FileSet,
+    trees: &[Parsed],
+    kept: &mut Vec<Kept>,
+) -> Result<(), AllocError>
+    requires parsed { AreParsed files.now trees.now }
+    requires kept { AreKept kept.old.items files.now trees.now }
+    ensures { AreKept kept.new.items files.now trees.now }
+{
+    if files.len() < 2 {
+        return Ok(());
+    }
+    if kept.is_empty() {
+        kept.push(Kept::Unknown)?;
+        return Ok(());
+    }
+    keep_setters(alloc, files, trees, kept)
+}
 
 /// Forgets what is kept of a file.
 fn forget(kept: &mut Vec<Kept>, file: Option<usize>)

@@ -8,9 +8,10 @@ ghost use Rattle.meson_calls.specs.Setters.{AreKept};
 ghost use Rattle.meson_plan.specs.inside.Orders.{plan_steps, sought};
 ghost use Rattle.meson_steps.specs.Plans.{ArePlanned};
 
+use crate::kept::keep;
 use crate::order::Plan;
 use meson_calls::Refusal;
-use meson_calls::kept::{Kept, keep_setters};
+use meson_calls::kept::Kept;
 use meson_calls::noted::Noted;
 use meson_calls::notes::notes_for;
 use meson_sources::targeting::on_target;
@@ -21,8 +22,7 @@ use meson_targets::target_adding::target_added;
 use meson_targets::target_removing::target_removed;
 use std::alloc::{AllocError, Global};
 
-/// Keeps of each file what sets variables in it, where the plan follows variables. Of a project of one file all notes are
-/// taken anyhow.
+/// Keeps of each file what sets variables in it, where the plan follows variables.
 fn keep_for(
     alloc: Global,
     files: &FileSet,
@@ -35,7 +35,7 @@ fn keep_for(
     ensures { AreKept kept.new.items files.now trees.now }
 {
     match plan {
-        Plan::OnTarget(_, _, _) if files.len() > 1 => keep_setters(alloc, files, trees, kept),
+        Plan::OnTarget(_, _, _) => keep(alloc, files, trees, kept),
         _ => Ok(()),
     }
 }

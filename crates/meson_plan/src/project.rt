@@ -21,7 +21,7 @@ ghost use Rattle.meson_plan.specs.Details.{AreDetails, NoTarget, place_found, ta
 ghost use Rattle.meson_sources.specs.Extras.{extra_files};
 
 use crate::details::{TargetDetails, details_at};
-use crate::kept::forget_changed;
+use crate::kept::{forget_changed, keep};
 use crate::order::{Order, order_of};
 use crate::planning::planned;
 use meson_calls::chosen_notes::with_role;
@@ -309,6 +309,16 @@ impl Project {
     {
         let called = call_at(&self.files, self.trees.as_slice(), call);
         keywords_of(alloc, role, called.source, called.arguments)
+    }
+
+    /// Keeps what commands on targets look at.
+    ///
+    /// # Errors
+    /// Memory was refused.
+    pub(crate) fn keep(&mut self, alloc: Global) -> Result<(), AllocError>
+        ensures { self.new ≡ self.old }
+    {
+        keep(alloc, &self.files, self.trees.as_slice(), &mut self.kept)
     }
 
     /// Does a command that does not ask, or nothing.

@@ -1,7 +1,8 @@
-use Rattle.std.proofs.Common.{Ok, sym, ap, ◌∙◌}
+use Rattle.std.proofs.Common.{Ok, sym, ap, ◌∙◌, subst}
 use Rattle.std.proofs.lemmas.Result.{err_from_is_err_and}
 use Rattle.serde_json.specs.View.{view}
 use Rattle.meson_plan.specs.Listing.{kwargs_listing, target_listing}
+use Rattle.meson_plan.specs.Performing.{Performs}
 use Rattle.meson_plan.proofs.Agreeing.{calls_listed, targets_listed}
 use Rattle.meson_plan.proofs.Answered.{call-refused, target-refused, target-told}
 use Rattle.meson_plan.proofs.SplicesDone.{performs-keep}
@@ -10,8 +11,9 @@ use Rattle.meson_plan.proofs.project.Project.answer.Goals as goal
 pub returns-in_err-listing-in-TargetInfo-clause-refused : goal.returns-in_err-listing-in-TargetInfo-clause-refused
 returns-in_err-listing-in-TargetInfo-clause-refused c =
     let l = c.args.self.now in
-    let p = err_from_is_err_and c.from_residual.result c.from_residual.ensures.1 in
-    rw (p.1, p.2) (λ other. rw c.in-TargetInfo.is (target-refused l _ _ (ap (target_listing l) (sym c.get.ensures) ∙ c.in_err-listing-in-TargetInfo.ensures.refused other)))
+    let p = err_from_is_err_and c.from_residual-in_err-listing-in-TargetInfo.result c.from_residual-in_err-listing-in-TargetInfo.ensures.1 in
+    let same = ap (target_listing l) (sym c.get.ensures) ∙ ap (λ k. target_listing k c.get.result.now) (sym c.keep.ensures) in
+    rw (p.1, p.2) (λ other. rw c.in-TargetInfo.is (target-refused l _ _ (same ∙ c.in_err-listing-in-TargetInfo.ensures.refused other)))
 
 pub returns-in_err-listing-in-KwargsInfo-clause-refused : goal.returns-in_err-listing-in-KwargsInfo-clause-refused
 returns-in_err-listing-in-KwargsInfo-clause-refused c =
@@ -22,13 +24,15 @@ returns-in_err-listing-in-KwargsInfo-clause-refused c =
 pub returns-in_ok-answer-in-TargetInfo-clause-done : goal.returns-in_ok-answer-in-TargetInfo-clause-done
 returns-in_ok-answer-in-TargetInfo-clause-done c =
     let l = c.args.self.now in
-    let is = ap (target_listing l) (sym c.get.ensures) ∙ c.in_ok-listing-in-TargetInfo.ensures.listed in
-    rw c.in-TargetInfo.is ((targets_listed l _).done (view c.in_ok-listing-in-TargetInfo.listing) c.in_ok-answer-in-TargetInfo.answer.done is c.reads.ensures c.in_ok-answer-in-TargetInfo.ensures.0)
+    let done = c.in_ok-answer-in-TargetInfo.answer.done in
+    let is = ap (target_listing l) (sym c.get.ensures) ∙ ap (λ k. target_listing k c.get.result.now) (sym c.keep.ensures) ∙ c.in_ok-listing-in-TargetInfo.ensures.listed in
+    subst (Performs l c.args.command.now done) (sym c.keep.ensures)
+    (rw c.in-TargetInfo.is ((targets_listed l _).done (view c.in_ok-listing-in-TargetInfo.listing) done is c.reads.ensures c.in_ok-answer-in-TargetInfo.ensures.0))
 
 pub returns-in_ok-answer-in-TargetInfo-clause-told : goal.returns-in_ok-answer-in-TargetInfo-clause-told
 returns-in_ok-answer-in-TargetInfo-clause-told c =
     let l = c.args.self.now in
-    let is = ap (target_listing l) (sym c.get.ensures) ∙ c.in_ok-listing-in-TargetInfo.ensures.listed in
+    let is = ap (target_listing l) (sym c.get.ensures) ∙ ap (λ k. target_listing k c.get.result.now) (sym c.keep.ensures) ∙ c.in_ok-listing-in-TargetInfo.ensures.listed in
     rw c.in-TargetInfo.is (target-told l _ (view c.in_ok-listing-in-TargetInfo.listing) is ∙ ap Ok (sym c.in_ok-answer-in-TargetInfo.ensures.1))
 
 pub returns-in_ok-answer-in-KwargsInfo-clause-done : goal.returns-in_ok-answer-in-KwargsInfo-clause-done
